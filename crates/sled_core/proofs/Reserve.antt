@@ -1,9 +1,12 @@
+pub mod Batches
 pub mod CompletesLemmas
 pub mod Entries
 pub mod Filled
 pub mod Heads
+pub mod MarksLemmas
 pub mod OpenCounts
 pub mod Parts
 pub mod Ranges
 pub mod RecordEnds
 pub mod ReserveLemmas
+pub mod WrittenOver

@@ -46,7 +46,7 @@ placeholder_head head = replicate 5 0 ++ drop 5 head
 abbrev pub placeholder : List ℕ → List ℕ
 placeholder whole = replicate 5 0 ++ drop 5 whole
 
--- What a reservation of this page and kind is to hold, with this body: while it is open a placeholder, then its record, and once it was aborted one that is passed over. (A padding is none.)
+-- What a reservation of this page and kind is to hold, with this body: while it is open a placeholder, then its record, and once it was aborted one that is passed over. The body of a manifest is known once it has ended. (A padding is none.)
 abbrev pub text_as : (List ℕ → ℕ) → MessageKind → ℕ → ℕ → List ℕ → ReservationState → List ℕ
 text_as sum k page number body Open = placeholder (short_record sum k page number body)
 text_as sum k page number body Completed = short_record sum k page number body
@@ -119,9 +119,17 @@ ending sum k = low_bytes 4 (flipped sum) ++ code_of k ∷ []
 abbrev pub completing : Reserved → List ℕ
 completing r = ending r.sum r.kind
 
--- those that make its record one that is passed over: the sum is over the body, and the header behind the sum with that kind
+-- those that make its record one of a kind: the sum is over the body, and the header behind the sum with that kind
+abbrev pub ending_as : (List ℕ → ℕ) → List ℕ → Reserved → MessageKind → List ℕ
+ending_as sum bytes r k = ending (sum (body_in bytes r ++ code_of k ∷ part bytes (r.from + 5) (r.header_len - 5))) k
+
+-- those that make it one that is passed over
 abbrev pub canceling : (List ℕ → ℕ) → List ℕ → Reserved → List ℕ
-canceling sum bytes r = ending (sum (body_in bytes r ++ code_of kind.Canceled ∷ part bytes (r.from + 5) (r.header_len - 5))) kind.Canceled
+canceling sum bytes r = ending_as sum bytes r kind.Canceled
+
+-- the record with which the manifest of a batch ends, from the sum on to the body, which is the peg
+abbrev pub marking : (List ℕ → ℕ) → List ℕ → Reserved → ℕ → List ℕ
+marking sum bytes r peg = ending (sum (low_bytes 8 peg ++ code_of r.kind ∷ part bytes (r.from + 5) (r.header_len - 5))) r.kind ++ part bytes (r.from + 5) (r.header_len - 5) ++ low_bytes 8 peg
 
 -- the reservation once it has ended so
 abbrev pub ended : ReservationState → Reserved → Reserved

@@ -5,7 +5,7 @@ ghost use Rattle.std.specs.VecDeque.{deque_len, deque_capacity};
 ghost use Rattle.sled_codec.specs.Written.{written};
 ghost use Rattle.sled_store.specs.Words.{writers_of};
 ghost use Rattle.sled_core.specs.declared.iobuf.Reserved.{Reserved};
-ghost use Rattle.sled_core.specs.Buffers.{IsChain, IsHeaded, canceling, completing, ended, ending, first_open_in, most_open, open_in, open_state, placeholder_head, reserved_for};
+ghost use Rattle.sled_core.specs.Buffers.{IsChain, IsHeaded, canceling, completing, ended, ending, ending_as, first_open_in, marking, most_open, open_in, open_state, placeholder_head, reserved_for};
 ghost use Rattle.sled_core.specs.SealedBuffers.{AreSealed, FirstUnwritten, one_ended, sealed_count, sealed_end};
 ghost use Rattle.sled_core.specs.SealedProps.{IsChain-prop, AreSealed-prop, FirstUnwritten-prop};
 
@@ -301,19 +301,57 @@ impl IoBuf {
         ensures gone { self.new.gone ≡ self.old.gone }
         ensures len { length self.new.bytes.items ≡ length self.old.bytes.items }
     {
-        let r = self.reserved[index];
-        put(
-            &mut self.bytes,
-            r.from + 4,
-            &[u8::from(MessageKind::Canceled)],
-        );
-        let sum = sum_around(checksum, &mut self.bytes, r.from, r.header_len, r.len);
-        self.end(
+        self.end_as(
+            checksum,
             index,
-            sum,
             MessageKind::Canceled,
             ReservationState::Canceled,
         );
+    }
+
+    /// Ends the reservation of a manifest: stores the peg of its batch as the body, and completes the record, with a sum of its own.
+    pub(crate) fn mark_batch<C: Checksum>(&mut self, checksum: &C, index: usize, peg: u64)
+        requires within { index < deque_len self.old.reserved }
+        requires awaited { (r : Reserved) → slice_get self.old.reserved.items index ≡ Some r → r.state ≡ ReservationState.Open }
+        requires body { (r : Reserved) → slice_get self.old.reserved.items index ≡ Some r → r.len ≡ r.header_len + 8 }
+        ensures bytes { (r : Reserved) → slice_get self.old.reserved.items index ≡ Some r
+            → self.new.bytes.items ≡ written self.old.bytes.items r.from (marking C.sum_of self.old.bytes.items r peg) }
+        ensures reserved { (r : Reserved) → slice_get self.old.reserved.items index ≡ Some r
+            → self.new.reserved.items ≡ set self.old.reserved.items index (ended ReservationState.Manifest r) }
+        ensures sealed { self.new.sealed.items ≡ one_ended index self.old.sealed.items }
+        ensures from { self.new.written_len ≡ self.old.written_len }
+        ensures gone { self.new.gone ≡ self.old.gone }
+        ensures len { length self.new.bytes.items ≡ length self.old.bytes.items }
+    {
+        let r = self.reserved[index];
+        put(&mut self.bytes, r.from + r.header_len, &peg.to_le_bytes());
+        self.end_as(checksum, index, r.kind, ReservationState::Manifest);
+    }
+
+    /// Ends an open reservation with a record of a kind, whose sum is taken anew.
+    fn end_as<C: Checksum>(
+        &mut self,
+        checksum: &C,
+        index: usize,
+        kind: MessageKind,
+        state: ReservationState,
+    )
+        requires within { index < deque_len self.old.reserved }
+        requires awaited { (r : Reserved) → slice_get self.old.reserved.items index ≡ Some r → r.state ≡ ReservationState.Open }
+        requires ends { open_state state ≡ false }
+        ensures bytes { (r : Reserved) → slice_get self.old.reserved.items index ≡ Some r
+            → self.new.bytes.items ≡ written self.old.bytes.items r.from (ending_as C.sum_of self.old.bytes.items r kind) }
+        ensures reserved { (r : Reserved) → slice_get self.old.reserved.items index ≡ Some r
+            → self.new.reserved.items ≡ set self.old.reserved.items index (ended state r) }
+        ensures sealed { self.new.sealed.items ≡ one_ended index self.old.sealed.items }
+        ensures from { self.new.written_len ≡ self.old.written_len }
+        ensures gone { self.new.gone ≡ self.old.gone }
+        ensures len { length self.new.bytes.items ≡ length self.old.bytes.items }
+    {
+        let r = self.reserved[index];
+        put(&mut self.bytes, r.from + 4, &[u8::from(kind)]);
+        let sum = sum_around(checksum, &mut self.bytes, r.from, r.header_len, r.len);
+        self.end(index, sum, kind, state);
     }
 
     /// Ends an open reservation: stores a sum, flipped, and a kind in its header.

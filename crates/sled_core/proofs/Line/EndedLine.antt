@@ -14,7 +14,7 @@ use Rattle.sled_core.specs.declared.iobuf.SegmentPosition.{SegmentPosition}
 use Rattle.sled_core.specs.declared.logger.Log.{Log}
 use Rattle.sled_core.specs.declared.logger.segments.SegmentBuffer.{SegmentBuffer}
 use Rattle.sled_core.specs.Begun.{AreEntered, AreFilled, SegmentView, line_at, segment_view, view_at}
-use Rattle.sled_core.specs.Buffers.{IsHeaded, ended, ending}
+use Rattle.sled_core.specs.Buffers.{IsHeaded, ended, ending, marking}
 use Rattle.sled_core.specs.Fits.{line_of}
 use Rattle.sled_core.specs.SealedBuffers.{one_ended, one_fewer}
 use Rattle.sled_core.specs.Turned.{HasOpenIn, ended_now}
@@ -22,18 +22,35 @@ use Rattle.sled_core.proofs.Line.Facts.{IsSegment}
 use Rattle.sled_core.proofs.Line.Marks.{line_set}
 use Rattle.sled_core.proofs.Line.Nth.{get_map}
 use Rattle.sled_core.proofs.Line.Segments.{filled_set}
+use Rattle.sled_core.proofs.Reserve.MarksLemmas.{marking_long}
 use Rattle.sled_core.proofs.Reserve.Parts.{there_is}
 use Rattle.sled_core.proofs.Reserve.Ranges.{at_there, length-written}
 use Rattle.sled_core.proofs.Sealed.InBuffer.{end_ended}
 
--- the bytes of a segment are as many
+-- The bytes of a segment are as many, whatever is written over one of its reservations,
+over_bytes : {size place : ℕ} (v : SegmentView) (i : ℕ) (r : Reserved) (text : List ℕ) → IsSegment size place v → slice_get v.parts.reserved i ≡ Some r → length text ≤ r.len
+    → length (written v.parts.bytes r.from text) ≡ length v.parts.bytes
+over_bytes v i r text facts there short =
+    let inside = at_there (λ (x : Reserved). x.from + x.len ≤ length v.parts.bytes) v.parts.reserved i r there facts.within in
+    length-written v.parts.bytes text r.from (omega (arith, inside, short))
+
+ending_short : {size place : ℕ} (v : SegmentView) (i : ℕ) (r : Reserved) (word : ℕ) (k : MessageKind) → IsSegment size place v → slice_get v.parts.reserved i ≡ Some r → r.state ≡ Open → length (ending word k) ≤ r.len
+ending_short v i r word k facts there is_open =
+    let own = (at_there IsHeaded v.parts.reserved i r there facts.headed).1 is_open in
+    omega (arith, own.0, own.1)
+
+pub marking_short : (sum : List ℕ → ℕ) {size place : ℕ} (v : SegmentView) (i : ℕ) (r : Reserved) (peg : ℕ) → IsSegment size place v → slice_get v.parts.reserved i ≡ Some r → r.state ≡ Open → r.len ≡ r.header_len + 8
+    → length (marking sum v.parts.bytes r peg) ≤ r.len
+marking_short sum v i r peg facts there is_open long =
+    let inside = at_there (λ (x : Reserved). x.from + x.len ≤ length v.parts.bytes) v.parts.reserved i r there facts.within in
+    let own = (at_there IsHeaded v.parts.reserved i r there facts.headed).1 is_open in
+    let is = marking_long sum v.parts.bytes r peg own.0 long inside in
+    omega (arith, is)
+
+-- and so with a sum and a kind.
 pub ended_bytes : {size place : ℕ} (v : SegmentView) (i : ℕ) (r : Reserved) (word : ℕ) (k : MessageKind) → IsSegment size place v → slice_get v.parts.reserved i ≡ Some r → r.state ≡ Open
     → length (written v.parts.bytes r.from (ending word k)) ≡ length v.parts.bytes
-ended_bytes v i r word k facts there is_open =
-    let inside = at_there (λ (x : Reserved). x.from + x.len ≤ length v.parts.bytes) v.parts.reserved i r there facts.within in
-    let headed = at_there IsHeaded v.parts.reserved i r there facts.headed in
-    let own = headed.1 is_open in
-    length-written v.parts.bytes (ending word k) r.from (omega (arith, inside, own.0, own.1))
+ended_bytes v i r word k facts there is_open = over_bytes v i r (ending word k) facts there (ending_short v i r word k facts there is_open)
 
 -- Its buffers have entries as they had.
 entered_same : (to place from : ℕ) (bs : List Sealed) (rs rs' : List Reserved) → length rs' ≡ length rs → AreEntered to place from bs rs → AreEntered to place from bs rs'
@@ -50,11 +67,16 @@ entered_ended to place from i (b ∷ bs) rs rs' long are = by_test (entered_ende
   by_test rest true = (are.0, entered_same to place b.end bs (drop b.count rs) (drop b.count rs') fewer are.1)
   by_test rest false = (are.0, rest)
 
+-- Its segments are filled as they were, whatever is written over it.
+pub filled_over : (size to : ℕ) (line : List SegmentView) (n : ℕ) {place : ℕ} (v : SegmentView) (i : ℕ) (r : Reserved) (text : List ℕ) (state : ReservationState) → slice_get line n ≡ Some v → IsSegment size place v
+    → slice_get v.parts.reserved i ≡ Some r → length text ≤ r.len → AreFilled size to line → AreFilled size to (set line n (ended_now i r text state v))
+filled_over size to line n v i r text state among facts there short filled =
+    filled_set size to line n v (ended_now i r text state v) among refl (end_ended v.parts.written_len i v.parts.sealed) (over_bytes v i r text facts there short)
+    (entered_ended to v.parts.site.place v.parts.written_len i v.parts.sealed v.parts.reserved (set v.parts.reserved i (ended state r)) (length-set v.parts.reserved i (ended state r))) filled
+
 pub filled_ended : (size to : ℕ) (line : List SegmentView) (n : ℕ) {place : ℕ} (v : SegmentView) (i : ℕ) (r : Reserved) (word : ℕ) (k : MessageKind) (state : ReservationState) → slice_get line n ≡ Some v → IsSegment size place v
     → slice_get v.parts.reserved i ≡ Some r → r.state ≡ Open → AreFilled size to line → AreFilled size to (set line n (ended_now i r (ending word k) state v))
-filled_ended size to line n v i r word k state among facts there is_open filled =
-    filled_set size to line n v (ended_now i r (ending word k) state v) among refl (end_ended v.parts.written_len i v.parts.sealed) (ended_bytes v i r word k facts there is_open)
-    (entered_ended to v.parts.site.place v.parts.written_len i v.parts.sealed v.parts.reserved (set v.parts.reserved i (ended state r)) (length-set v.parts.reserved i (ended state r))) filled
+filled_ended size to line n v i r word k state among facts there is_open filled = filled_over size to line n v i r (ending word k) state among facts there (ending_short v i r word k facts there is_open) filled
 
 -- What code makes of a buffer is the segment with that reservation ended.
 pub ended_view : (site : SegmentPosition) (old new : IoBuf) (i : ℕ) (r : Reserved) (how : List ℕ) (state : ReservationState) → new.bytes.items ≡ written old.bytes.items r.from how → new.reserved.items ≡ set old.reserved.items i (ended state r)

@@ -18,9 +18,9 @@ use Rattle.sled_core.specs.declared.iobuf.ReservationState.TheVariants.{Open, Co
 use Rattle.sled_core.specs.declared.iobuf.Reserved.{Reserved}
 use Rattle.sled_core.specs.Manifests.{is_manifest, kind_for}
 use Rattle.sled_core.specs.Buffers.{text_in, body_in, text_as, placeholder, ending, completing, canceling, ended, HasText, Stands, StandsAs}
-use Rattle.sled_core.proofs.Reserve.Entries.{stands-same}
 use Rattle.sled_core.proofs.Reserve.Parts.{mid_is}
-use Rattle.sled_core.proofs.Reserve.Ranges.{part-written_before, part-written_behind, part-written_at}
+use Rattle.sled_core.proofs.Reserve.Ranges.{part-written_behind, part-written_at}
+use Rattle.sled_core.proofs.Reserve.WrittenOver as over
 
 -- what is no manifest is written under the kind of its message
 pub kind_of_message : (does : LogKind) (page n : ℕ) (k : MessageKind) → kind_for does page n ≡ Some k → is_manifest does page ≡ false → kind_written does page false ≡ Some k
@@ -72,27 +72,25 @@ module _ (sum : List ℕ → ℕ) (number : ℕ) (bytes : List ℕ) (r : Reserve
     abbrev new : List ℕ
     new = written bytes r.from (ending word k)
 
+    short : length (ending word k) ≤ r.len
+    short = let a = stands.headed in let b = stands.long in omega (arith, a, b)
+
     pub fits : r.from + length (ending word k) ≤ length bytes
-    fits = let a = stands.headed in let b = stands.long in omega (arith, a, b, within)
+    fits = let le = short in omega (arith, le, within)
 
     -- one before it
     pub body_before : (x : Reserved) → x.from + x.len ≤ r.from → x.header_len ≤ x.len → body_in new x ≡ body_in bytes x
-    body_before x before long = part-written_before bytes (ending word k) r.from (x.from + x.header_len) (x.len - x.header_len) (omega arith) fits
+    body_before = over.body_before sum number bytes (ending word k) r short within
 
     pub same_before : (size : ℕ) (x : Reserved) → x.from + x.len ≤ r.from → Stands sum size number bytes x → Stands sum size number new x
-    same_before size x before at_x =
-        stands-same sum size number bytes new x (part-written_before bytes (ending word k) r.from x.from x.len before fits) (body_before x before) at_x
+    same_before = over.same_before sum number bytes (ending word k) r short within
 
     -- one behind it
     pub body_behind : (x : Reserved) → r.from + r.len ≤ x.from → body_in new x ≡ body_in bytes x
-    body_behind x behind =
-        let a = stands.headed in let b = stands.long in
-        part-written_behind bytes (ending word k) r.from (x.from + x.header_len) (x.len - x.header_len) (omega (arith, a, b)) fits
+    body_behind = over.body_behind sum number bytes (ending word k) r short within
 
     pub same_behind : (size : ℕ) (x : Reserved) → r.from + r.len ≤ x.from → Stands sum size number bytes x → Stands sum size number new x
-    same_behind size x behind at_x =
-        let a = stands.headed in let b = stands.long in
-        stands-same sum size number bytes new x (part-written_behind bytes (ending word k) r.from x.from x.len (omega (arith, a, b)) fits) (λ long. body_behind x behind) at_x
+    same_behind = over.same_behind sum number bytes (ending word k) r short within
 
     -- its own body
     pub body_own : body_in new r ≡ body
@@ -134,14 +132,14 @@ module _ (sum : List ℕ → ℕ) (number : ℕ) (bytes : List ℕ) (r : Reserve
     completed_stands none = ended_stands r.sum r.kind Completed (λ is. none) (λ is. cc) (text_own r.sum r.kind (stands.summed is_open))
 
     -- between its kind and its body stands what the header has there, whatever its kind
-    tail_there : code_of kind.Canceled ∷ part bytes (r.from + 5) (r.header_len - 5) ≡ short_header_tail kind.Canceled (length body) number r.page
+    pub tail_there : (k : MessageKind) → code_of k ∷ part bytes (r.from + 5) (r.header_len - 5) ≡ short_header_tail k (length body) number r.page
     unfolding short_record short_header_tail
-    tail_there =
+    tail_there k =
         let rest : List ℕ = short_number (length body) ++ short_number number ++ short_number r.page in
         let a = stands.headed in let b = stands.long in
         let count : r.header_len - 5 ≡ length rest = let is = stands.counted in omega (arith, is) in
         let behind : List ℕ = drop r.from bytes in
-        ap (λ (l : List ℕ). code_of kind.Canceled ∷ l) (
+        ap (λ (l : List ℕ). code_of k ∷ l) (
         ap (take (r.header_len - 5)) (sym (drop-drop 5 r.from bytes))
         ∙ sym (take-take (r.header_len - 5) (r.len - 5) (drop 5 behind) (omega (arith, b)))
         ∙ ap (take (r.header_len - 5)) (mid_is behind 5 r.len (omega (arith, a, b)))
@@ -151,7 +149,7 @@ module _ (sum : List ℕ → ℕ) (number : ℕ) (bytes : List ℕ) (r : Reserve
 
     pub text_canceled : text_in (written bytes r.from (canceling sum bytes r)) r ≡ short_record sum kind.Canceled r.page number body
     unfolding record_sum
-    text_canceled = text_own (sum (body ++ code_of kind.Canceled ∷ part bytes (r.from + 5) (r.header_len - 5))) kind.Canceled (ap (λ (l : List ℕ). flipped (sum (body ++ l))) tail_there)
+    text_canceled = text_own (sum (body ++ code_of kind.Canceled ∷ part bytes (r.from + 5) (r.header_len - 5))) kind.Canceled (ap (λ (l : List ℕ). flipped (sum (body ++ l))) (tail_there kind.Canceled))
 
     -- And once it is aborted it is one that is passed over.
     pub canceled_stands : HasText sum number (written bytes r.from (canceling sum bytes r)) (ended Canceled r)

@@ -2,7 +2,7 @@
 ghost use Rattle.std.specs.Prelude.{◌≡◌, ◌+◌, ◌-◌, ◌≤◌, ◌<◌, ◌^◌, ◌↔◌, ℕ, true, All, Some, IsTrue, length, set, slice_get};
 ghost use Rattle.sled_core.specs.declared.iobuf.Reserved.{Reserved};
 ghost use Rattle.sled_core.specs.Begun.{SegmentView};
-ghost use Rattle.sled_core.specs.Buffers.{canceling, completing, none_open};
+ghost use Rattle.sled_core.specs.Buffers.{canceling, completing, marking, none_open};
 ghost use Rattle.sled_core.specs.Fits.{IsOpen, NoneOpen, line_of};
 ghost use Rattle.sled_core.specs.Tickets.{IsFor};
 ghost use Rattle.sled_core.specs.Turned.{ChangesLine, HasOpenIn, IsOpenIn, ended_now};
@@ -48,6 +48,27 @@ impl<D: Device, C: Checksum> Log<D, C> {
         } else {
             let gone = self.behind[n - 1].buffer.gone;
             self.behind[n - 1].buffer.abort(checksum, index - gone);
+        }
+    }
+
+    /// Ends one that is the manifest of a batch, with the peg of this.
+    pub(crate) fn mark_batch_in(&mut self, n: usize, index: usize, peg: u64)
+        requires awaited { HasOpenIn (line_of self.old) n index }
+        requires body { (v : SegmentView) (r : Reserved) → slice_get (line_of self.old) n ≡ Some v → slice_get v.parts.reserved (index - v.gone) ≡ Some r
+            → r.len ≡ r.header_len + 8 }
+        ensures line { (v : SegmentView) (r : Reserved) → slice_get (line_of self.old) n ≡ Some v → slice_get v.parts.reserved (index - v.gone) ≡ Some r
+            → line_of self.new ≡ set (line_of self.old) n (ended_now (index - v.gone) r (marking C.sum_of v.parts.bytes r peg) ReservationState.Manifest v) }
+        ensures rest { ChangesLine self.old self.new }
+    {
+        let checksum = &self.config.checksum;
+        if n == 0 {
+            let gone = self.buffer.gone;
+            self.buffer.mark_batch(checksum, index - gone, peg);
+        } else {
+            let gone = self.behind[n - 1].buffer.gone;
+            self.behind[n - 1]
+                .buffer
+                .mark_batch(checksum, index - gone, peg);
         }
     }
 
