@@ -1,12 +1,14 @@
 -- Where bytes are written over a reservation, the others stand as they stood, with the same messages and batches.
-use Rattle.std.proofs.Common.{◌≡◌, ◌≤◌, ◌<◌, ◌+◌, ◌-◌, ℕ, List, ◌∷◌, ◌++◌, length, get_or, arith}
+use Rattle.std.proofs.Common.{◌≡◌, ◌≤◌, ◌<◌, ◌+◌, ◌-◌, ℕ, List, ◌∷◌, ◌++◌, length, get_or, arith, sym, ◌∙◌}
 use Rattle.std.specs.List.{All}
 use Rattle.sled_codec.specs.History.{Batch, Message}
 use Rattle.sled_codec.specs.Written.{written}
+use Rattle.sled_core.specs.declared.iobuf.ReservationState.{ReservationState}
+use Rattle.sled_core.specs.declared.iobuf.ReservationState.TheVariants.{Manifest}
 use Rattle.sled_core.specs.declared.iobuf.Reserved.{Reserved}
 use Rattle.sled_core.specs.declared.iobuf.SegmentPosition.{SegmentPosition}
-use Rattle.sled_core.specs.Buffers.{IsChain, NoPadding, Stands, batches_in, body_in, completed_in}
-use Rattle.sled_core.proofs.Reserve.Batches.{batches-same}
+use Rattle.sled_core.specs.Buffers.{IsChain, NoPadding, Stands, batches_in, body_in, completed_in, ended}
+use Rattle.sled_core.proofs.Reserve.Batches.{batches-append, batches-same, batches_without}
 use Rattle.sled_core.proofs.Reserve.Entries.{completed_plain, manifest_plain, reserved_in, stands-same}
 use Rattle.sled_core.proofs.Reserve.Ranges.{all_split, chain-split, chain_within, completed-same, part-written_before, part-written_behind}
 
@@ -64,3 +66,10 @@ module _ (sum : List ℕ → ℕ) (number : ℕ) (bytes text : List ℕ) (r : Re
 
       pub batches_behind : batches_in site new ys ≡ batches_in site bytes ys
       batches_behind = batches-same site bytes new ys (λ j d lt is. bodies_behind j d lt)
+
+      -- The batches are the same where it was no ended manifest, and is none.
+      pub batches_ended : (state : ReservationState) → (r.state ≡ Manifest → ⊥) → (state ≡ Manifest → ⊥) → batches_in site new (xs ++ ended state r ∷ ys) ≡ batches_in site bytes (xs ++ r ∷ ys)
+      batches_ended state was is =
+          batches-append site new xs (ended state r ∷ ys)
+          ∙ (λ i. batches_before i ++ (batches_without site new (ended state r) ys is ∙ batches_behind ∙ sym (batches_without site bytes r ys was)) i)
+          ∙ sym (batches-append site bytes xs (r ∷ ys))
