@@ -1,4 +1,5 @@
 -- Where the messages lie of a segment that holds a history: what was written one behind another, below what was completed since, which is in the buffer.
+use Rattle.sled_core.proofs.Reserve.Batches.{batches-append, batches_between}
 use Rattle.std.proofs.Common.{◌≡◌, ◌⊎◌, ◌≤◌, ◌<◌, ◌+◌, ◌/◌, ℕ, max, List, [], ◌∷◌, ◌++◌, length, Option, sym, subst, arith, refl, inl, inr, ◌∙◌, take, drop, ap}
 use Rattle.std.specs.List.{All, Contains}
 use Rattle.std.specs.declared.io.Error.{Error as IoError}
@@ -15,7 +16,7 @@ use Rattle.sled_core.specs.declared.iobuf.SegmentPosition.{SegmentPosition}
 use Rattle.sled_core.specs.Buffers.{IsChain, batches_in, completed_in, message_in, with_own}
 use Rattle.sled_core.specs.Fits.{log_parts, HoldsSegment, EndBelow, HasInline}
 use Rattle.sled_core.proofs.Reached.BufferPath.{HasOnly}
-use Rattle.sled_core.proofs.Reserve.Ranges.{all_own, batches-append, batches_between, chain_grows, completed_between, completed-append}
+use Rattle.sled_core.proofs.Reserve.Ranges.{all_own, chain_grows, completed_between, completed-append}
 use Rattle.sled_core.proofs.Reserve.Entries.{some_long}
 use Rattle.sled_core.proofs.Flush.Settled.{InlineFrom}
 

@@ -1,4 +1,5 @@
 -- The first sealed buffer of the first segment is written: the segment holds the same, what a crash leaves of the write stands as before, and all of it up to where those end that are written then, or behind the segment where these fill it.
+use Rattle.sled_core.proofs.Reserve.Batches.{batches-append, batches_between}
 use Rattle.sled_core.proofs.Reserve.RecordEnds.{no_end_up, records_fewer}
 use Rattle.std.proofs.Common.{append-nil, ◌≡◌, ◌⊎◌, ◌≤◌, ◌<◌, ◌+◌, ◌/◌, ◌^◌, ◌∙◌, ℕ, max, false, List, [], ◌∷◌, ◌++◌, length, take, drop, sym, ap, arith, refl, subst, inl, inr, Option, None, append_assoc}
 use Rattle.std.specs.List.{All, Contains}
@@ -26,7 +27,7 @@ use Rattle.sled_core.specs.Recoverable.{NoBatchBegins, NoBatchEnds, NoHeaderOfZe
 use Rattle.sled_core.specs.SealedBuffers.{AreSealed, Laid, now_written, run_end, run_count, behind_run, bytes_between}
 use Rattle.sled_core.proofs.Behind.FullHead.{first_full, plain_run, torn_head_any}
 use Rattle.sled_core.proofs.Reserve.Entries.{some_long}
-use Rattle.sled_core.proofs.Reserve.Ranges.{batches-append, batches_between, chain_grows, completed-append, completed_between}
+use Rattle.sled_core.proofs.Reserve.Ranges.{chain_grows, completed-append, completed_between}
 use Rattle.sled_core.proofs.Flush.Completed.{all_apart, has_only, front_only}
 use Rattle.sled_core.proofs.Flush.FlushLemmas.{on_file}
 use Rattle.sled_core.proofs.Flush.SealedFile.{chain_done, first_file, stop_up}

@@ -1,4 +1,6 @@
 -- A reservation that is completed becomes a message of the history that a log holds, at its place; one that is aborted leaves the history as it was. No other one is touched.
+use Rattle.sled_core.proofs.Reserve.WrittenOver.{batches_ended}
+use Rattle.sled_core.proofs.Reserve.Batches.{batches-append, batches-same}
 use Rattle.sled_core.specs.Recoverable.{NoBatchEnds}
 use Rattle.sled_core.proofs.Reserve.RecordEnds.{no_end_in, records_ended}
 use Rattle.std.proofs.Common.{◌≡◌, ◌≢◌, ◌≤◌, ◌<◌, ◌+◌, ◌/◌, inl, inr, ℕ, suc, max, List, ◌∷◌, ◌++◌, length, take, drop, set, sym, ◌∙◌, ap, arith, refl, subst, false, append_assoc, Option, None, Some, get_or, ◌-◌}
@@ -23,7 +25,7 @@ use Rattle.sled_core.specs.declared.iobuf.SegmentPosition.{SegmentPosition}
 use Rattle.sled_core.specs.Buffers.{records_end, batch_in, batches_in, with_batch, body_in, message_in, IsChain, completed_in, with_own, ending, completing, canceling, ended, open_state, HasText, Stands, StandsReserved}
 use Rattle.sled_core.specs.Fits.{log_parts, HoldsSegment, IsOnDevice}
 use Rattle.sled_core.proofs.Reached.BufferPath.{mark_same}
-use Rattle.sled_core.proofs.Reserve.Ranges.{batches-append, batches-same, part-written_before, length-written, completed-same, completed-append, completed_between, chain-split, chain-joined, chain_grows, chain_within, there_split, all_split, all_joined, at_there, there-set_other, chain_apart}
+use Rattle.sled_core.proofs.Reserve.Ranges.{part-written_before, length-written, completed-same, completed-append, completed_between, chain-split, chain-joined, chain_grows, chain_within, there_split, all_split, all_joined, at_there, there-set_other, chain_apart}
 use Rattle.sled_core.specs.Manifests.{is_manifest}
 use Rattle.sled_core.proofs.Reserve.CompletesLemmas.{changes_page, kind_of_message, body_before, same_before, body_behind, same_behind, body_own, completed_stands, canceled_stands, fits}
 use Rattle.sled_core.proofs.Reserve.Entries.{completed_plain, manifest_plain, in_reserved, open_plain, reserved_in, some_long}
@@ -63,9 +65,6 @@ module _ (sum : List ℕ → ℕ) (size : ℕ) (site : SegmentPosition) (device 
       holds.messages
       ∙ ap (λ (ms : List Message). holds.earlier ++ ms) (completed-append site bytes xs (r ∷ ys) ∙ ap (λ (ms : List Message). completed_in site bytes xs ++ ms) (completed_open site bytes r ys is_open))
 
-  old_batches : batches_in site bytes (xs ++ r ∷ ys) ≡ batches_in site bytes xs ++ batches_in site bytes ys
-  old_batches = batches-append site bytes xs (r ∷ ys) ∙ ap (λ (bs : List Batch). batches_in site bytes xs ++ bs) (batches_open site bytes r ys is_open)
-
   -- It has ended with a sum and a kind.
   module _ (word : ℕ) (k : MessageKind) (state : ReservationState) (plain : state ≢ Padding) (own : HasText sum number (written bytes r.from (ending word k)) (ended state r)) where
     abbrev new : List ℕ
@@ -93,35 +92,21 @@ module _ (sum : List ℕ → ℕ) (size : ℕ) (site : SegmentPosition) (device 
         let own_is : message_in site new (ended state r) ≡ message_in site bytes r = ap (λ (l : List ℕ). record (message_in site bytes r) { bytes = l }) (body_own sum number bytes r ends its.text word k) in
         completed-append site new xs (ended state r ∷ ys) ∙ (λ i. front i ++ with_own state (own_is i) (back i))
 
-    -- and so are the batches of the ended manifests among them
-    manifest_same : (j : ℕ) (d : Reserved) → j < length xs → (get_or xs j d).state ≡ Manifest → body_in new (get_or xs j d) ≡ body_in bytes (get_or xs j d)
-    manifest_same j d lt done =
-        let x : Reserved = get_or xs j d in
-        let b = in_front j d lt in
-        let stands = reserved_in sum size number bytes x (manifest_plain x.state done) (stand_all.0 j d lt) in
-        body_before sum number bytes r ends its.text word k x b.1 stands.text.long
-
-    batches_new : batches_in site new (xs ++ ended state r ∷ ys) ≡ batches_in site bytes xs ++ with_batch state (batch_in site bytes r) (batches_in site bytes ys)
-    batches_new =
-        let front : batches_in site new xs ≡ batches_in site bytes xs = batches-same site bytes new xs manifest_same in
-        let back : batches_in site new ys ≡ batches_in site bytes ys = batches-same site bytes new ys (λ j d lt done. let b = after_it j d lt in body_behind sum number bytes r ends its.text word k (get_or ys j d) b.0) in
-        let own_is : batch_in site new (ended state r) ≡ batch_in site bytes r = ap (λ (l : List ℕ). record { low = site.place + r.from; peg = low_first l }) (body_own sum number bytes r ends its.text word k) in
-        batches-append site new xs (ended state r ∷ ys) ∙ (λ i. front i ++ with_batch state (own_is i) (back i))
-
     -- A history is held that has them, and its own message where it was completed.
-    holds_new : (bs' : List Sealed) (H' : History) → H'.messages ≡ holds.earlier ++ (completed_in site bytes xs ++ with_own state (message_in site bytes r) (completed_in site bytes ys)) → H'.batches ≡ H.batches → with_batch state (batch_in site bytes r) (batches_in site bytes ys) ≡ batches_in site bytes ys
+    holds_new : (bs' : List Sealed) (H' : History) → H'.messages ≡ holds.earlier ++ (completed_in site bytes xs ++ with_own state (message_in site bytes r) (completed_in site bytes ys)) → H'.batches ≡ H.batches → (state ≡ Manifest → ⊥)
         → {stays' : Message → Type 0} → (fault ≡ None → IsOnDevice sum size device.log site from holds.earlier stays')
         → (fault ≡ None → Laid device.log.bytes site.slot new from bs' size) → HoldsSegment sum (log_parts size site device fault new from bs' (xs ++ ended state r ∷ ys)) stays' H'
     holds_new bs' H' messages same no_batch on_device laid =
         let fit = fits sum number bytes r ends its.text word k in
         let long : length new ≡ length bytes = length-written bytes (ending word k) r.from fit in
+        let short_end : length (ending word k) ≤ r.len = (let h = its.text.headed in let l = its.text.long in omega (arith, h, l)) in
         record {
           earlier = holds.earlier;
           messages = messages ∙ ap (λ (ms : List Message). holds.earlier ++ ms) (sym messages_new);
           below = holds.below;
           apart = holds.apart;
           batched = same_batched size site from (batches_in site bytes (xs ++ r ∷ ys)) (batches_in site new (xs ++ ended state r ∷ ys)) H.batches H'.batches
-              (batches_new ∙ ap (λ (l : List Batch). batches_in site bytes xs ++ l) no_batch ∙ sym old_batches) same holds.batched;
+              (batches_ended sum number bytes (ending word k) r short_end ends size (max 20 from) (length bytes) xs ys holds.chain holds.stand site state (λ was. let both : Open ≡ Manifest = sym is_open ∙ was in cc) no_batch) same holds.batched;
           no_end = no_end_in H H' (site.place + records_end (xs ++ ended state r ∷ ys) (length new)) (site.place + size) same
               (subst (λ n. NoBatchEnds H (site.place + n) (site.place + size)) (sym (ap (records_end (xs ++ ended state r ∷ ys)) long ∙ records_ended xs ys r state (length bytes) is_open plain)) holds.no_end);
           place_begins = holds.place_begins;
@@ -166,7 +151,7 @@ module _ (sum : List ℕ → ℕ) (size : ℕ) (site : SegmentPosition) (device 
       → (stays' : Message → Type 0) → (fault ≡ None → IsOnDevice sum size device.log site from holds.earlier stays')
       → HoldsSegment sum (log_parts size site device fault (written bytes r.from (completing r)) from bs' (xs ++ ended Completed r ∷ ys)) stays' history
   holds_completed none bs' laid stays' on = holds_new r.sum r.kind Completed (λ same. cc) (completed_stands sum number bytes r ends its.text is_open none) bs' history
-      (append_assoc holds.earlier (completed_in site bytes xs) (message_in site bytes r ∷ completed_in site bytes ys)) refl refl on laid
+      (append_assoc holds.earlier (completed_in site bytes xs) (message_in site bytes r ∷ completed_in site bytes ys)) refl (λ is. cc) on laid
 
   -- Aborted, nothing is.
 
@@ -175,7 +160,7 @@ module _ (sum : List ℕ → ℕ) (size : ℕ) (site : SegmentPosition) (device 
 
   holds_canceled : (bs' : List Sealed) → (fault ≡ None → Laid device.log.bytes site.slot (written bytes r.from (canceling sum bytes r)) from bs' size)
       → HoldsSegment sum (log_parts size site device fault (written bytes r.from (canceling sum bytes r)) from bs' (xs ++ ended Canceled r ∷ ys)) stays H
-  holds_canceled bs' laid = holds_new (sum (body_in bytes r ++ code_of kind.Canceled ∷ part bytes (r.from + 5) (r.header_len - 5))) kind.Canceled Canceled (λ same. cc) canceled_there bs' H old_messages refl refl holds.written laid
+  holds_canceled bs' laid = holds_new (sum (body_in bytes r ++ code_of kind.Canceled ∷ part bytes (r.from + 5) (r.header_len - 5))) kind.Canceled Canceled (λ same. cc) canceled_there bs' H old_messages refl (λ is. cc) holds.written laid
 
 -- What is on the device stands there beside messages of earlier segments of which each stayed before.
 fewer_stay : (sum : List ℕ → ℕ) (size : ℕ) (device : LogState) (site : SegmentPosition) (from : ℕ) (earlier : List Message) (stays stays' : Message → Type 0) → ((x : Message) → x.place < site.place → stays' x → stays x)

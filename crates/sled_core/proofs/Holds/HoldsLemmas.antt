@@ -1,4 +1,5 @@
 -- How a segment of a log goes on holding a history when a place is reserved.
+use Rattle.sled_core.proofs.Reserve.Batches.{batches-append, batches-same}
 use Rattle.sled_core.proofs.Reserve.RecordEnds.{behind_open, no_end_up, records_more}
 use Rattle.std.proofs.Common.{◌≡◌, ◌≤◌, ◌+◌, ◌-◌, ◌/◌, ℕ, zero, suc, max, List, [], ◌∷◌, ◌++◌, length, sym, ◌∙◌, ap, arith, refl, subst, length-append, Option, get_or}
 use Rattle.std.specs.List.{All}
@@ -18,7 +19,7 @@ use Rattle.sled_core.proofs.Holds.BatchLemmas.{same_batched}
 use Rattle.sled_core.proofs.Sealed.LaidCalls.{laid_append}
 use Rattle.sled_core.proofs.Sealed.LaidLemmas.{EndsRise}
 use Rattle.sled_core.proofs.Reserve.Entries.{completed_plain, manifest_plain, in_reserved, open_plain, reserved_in, stands-same}
-use Rattle.sled_core.proofs.Reserve.Ranges.{batches-append, batches-same, part-append, completed-same, completed-append, chain-append}
+use Rattle.sled_core.proofs.Reserve.Ranges.{part-append, completed-same, completed-append, chain-append}
 
 -- Bytes behind the text leave each reservation in it as it was.
 

@@ -1,4 +1,5 @@
 -- A buffer in which all reservations have ended is a path of records of the history, some of them passed over, and nothing comes behind it; where it begins a segment, the header is there, with a mark that no batch crosses.
+use Rattle.sled_core.proofs.Reserve.Batches.{batch_cases, batch_rest, batches_between}
 use Rattle.std.proofs.Common.{◌≡◌, ◌≢◌, ◌⊎◌, ◌≤◌, ◌<◌, ◌≤ℤ◌, ◌<ℤ◌, ◌+◌, ◌/◌, ◌%◌, ◌^◌, ◌∙◌, ◌-ℤ◌, ℕ, ℤ, zero, suc, pos, negsuc, max, Bool, true, false, nat_lt, if◌then◌else◌, List, [], ◌∷◌, take, get_or, sym, ap, arith, lt→ltb, le→leb, refl, subst, inl, inr}
 use Rattle.std.proofs.Math.IntN.{ -ℤ_one}
 use Rattle.std.specs.List.{All, Contains}
@@ -26,7 +27,7 @@ use Rattle.sled_core.specs.Scan.{IsPath, IsEnd, EndsThere}
 use Rattle.sled_core.proofs.Holds.OpenTickets.{by_first}
 use Rattle.sled_core.proofs.Read.PathLemmas.{zeros_empty}
 use Rattle.sled_core.proofs.Reserve.Entries.{completed_plain, reserved_in, some_in, some_long}
-use Rattle.sled_core.proofs.Reserve.Ranges.{batch_cases, batch_rest, batches_between, chain_grows, completed_between, own_cases, own_rest}
+use Rattle.sled_core.proofs.Reserve.Ranges.{chain_grows, completed_between, own_cases, own_rest}
 use Rattle.sled_core.specs.SealedBuffers.{Agrees}
 use Rattle.sled_core.proofs.Reached.BufferStands.{met_as, met_in, one_inline, path_in}
 

@@ -29,7 +29,8 @@ use Rattle.sled_core.specs.SealedBuffers.{Agrees}
 use Rattle.sled_core.specs.LogFile.{MessageStands, StandsHere}
 use Rattle.sled_core.specs.Reading.{StandsAt}
 use Rattle.sled_core.specs.Scan.{IsMet, IsPath}
-use Rattle.sled_core.proofs.Reserve.CompletesLemmas.{kind_of_message, manifest_kind}
+use Rattle.sled_core.proofs.Reserve.CompletesLemmas.{kind_of_message}
+use Rattle.sled_core.proofs.Reserve.MarksLemmas.{kind_of_manifest}
 use Rattle.sled_core.proofs.Holds.OpenTickets.{by_first}
 use Rattle.sled_core.proofs.Read.PathLemmas.{met_of, is_met}
 use Rattle.sled_core.proofs.Read.ScanLemmas.{aligned_number, aligned_offset}
@@ -154,11 +155,11 @@ module _ (sum : List ℕ → ℕ) (size : ℕ) (site : SegmentPosition) (log byt
     one_batch : r.state ≡ Manifest → IsMet sum size log (site.slot + r.from) number (met_as Manifest (message_in site bytes r))
     unfolding IsMet
     one_batch is =
-        let its = manifest_kind r.log_kind r.page (length body) r.kind stands.known (stands.manifest is) in
+        let its = kind_of_manifest r.log_kind r.page (length body) r.kind stands.known (stands.manifest is) in
         let peg : ℕ = low_first body in
         let small = stands.pegged is in
-        (header_as (as_record r.kind stands.valid).header r.kind, body, record_stands r.kind stands.valid (text_there ∙ ap (text_as sum r.kind r.page number body) is), (its.0,
-        record { unsigned = record { long = its.1; value = refl; small = omega (arith, small) }; in_range = omega (arith, ints, small) }))
+        (header_as (as_record r.kind stands.valid).header r.kind, body, record_stands r.kind stands.valid (text_there ∙ ap (text_as sum r.kind r.page number body) is), (its.1,
+        record { unsigned = record { long = its.0; value = refl; small = omega (arith, small) }; in_range = omega (arith, ints, small) }))
 
     met_by : (s : ReservationState) → r.state ≡ s → (s ≡ Open → ⊥) → s ≢ Padding → IsMet sum size log (site.slot + r.from) number (met_as s (message_in site bytes r))
     met_by Open is not_open plain = absurd (not_open refl)

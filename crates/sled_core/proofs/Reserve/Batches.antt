@@ -1,6 +1,6 @@
 -- The batches of the manifests that have ended, entry by entry.
-use Rattle.std.proofs.Common.{◌≡◌, ◌+◌, ℕ, List, [], ◌∷◌, ◌++◌, ◌∙◌, ap, arith, refl}
-use Rattle.std.specs.List.{All}
+use Rattle.std.proofs.Common.{◌≡◌, ◌⊎◌, ◌≤◌, ◌<◌, ◌+◌, inl, inr, ℕ, List, [], ◌∷◌, ◌++◌, ◌∙◌, ap, arith, refl}
+use Rattle.std.specs.List.{All, Contains}
 use Rattle.std.proofs.lemmas.List.Elements.{All-tail}
 use Rattle.sled_codec.specs.History.{Batch}
 use Rattle.sled_codec.specs.Spelling.{low_first}
@@ -8,7 +8,9 @@ use Rattle.sled_core.specs.declared.iobuf.ReservationState.{ReservationState}
 use Rattle.sled_core.specs.declared.iobuf.ReservationState.TheVariants.{Open, Completed, Canceled, Manifest, Padding}
 use Rattle.sled_core.specs.declared.iobuf.Reserved.{Reserved}
 use Rattle.sled_core.specs.declared.iobuf.SegmentPosition.{SegmentPosition}
-use Rattle.sled_core.specs.Buffers.{batch_in, batches_in, body_in, with_batch}
+use Rattle.sled_store.proofs.Segments.Elements.{in_cases, in_nothing, in_rest}
+use Rattle.sled_core.specs.Buffers.{IsChain, batch_in, batches_in, body_in, with_batch}
+use Rattle.sled_core.proofs.Reserve.Ranges.{chain_grows}
 
 -- One before those of two parts is one before those of the first.
 batch-append : (s : ReservationState) (b : Batch) (xs ys : List Batch) → with_batch s b (xs ++ ys) ≡ with_batch s b xs ++ ys
@@ -48,3 +50,32 @@ batches_without site bytes r rs = by r.state where
   by Canceled not = refl
   by Manifest not = absurd (not refl)
   by Padding not = refl
+
+-- one of all is it, and then it is of an ended manifest, or one of the others
+pub batch_cases : (s : ReservationState) (b : Batch) (bs : List Batch) (x : Batch) → Contains (with_batch s b bs) x → ((s ≡ Manifest) × (b ≡ x)) ⊎ Contains bs x
+batch_cases Open b bs x there = inr there
+batch_cases Completed b bs x there = inr there
+batch_cases Canceled b bs x there = inr there
+batch_cases Manifest b bs x there = elim (in_cases b x bs there) [ inl is ↦ inl (refl, is) | inr later ↦ inr later ]
+batch_cases Padding b bs x there = inr there
+
+-- the others are among all
+pub batch_rest : (s : ReservationState) (b : Batch) (bs : List Batch) (x : Batch) → Contains bs x → Contains (with_batch s b bs) x
+batch_rest Open b bs x there = there
+batch_rest Completed b bs x there = there
+batch_rest Canceled b bs x there = there
+batch_rest Manifest b bs x there = in_rest b x bs there
+batch_rest Padding b bs x there = there
+
+-- Those of a chain begin between its ends.
+pub batches_between : (site : SegmentPosition) (bytes : List ℕ) (from end : ℕ) (rs : List Reserved) → IsChain from rs end → All (λ r. 0 < r.len) rs
+    → (b : Batch) → Contains (batches_in site bytes rs) b → (site.place + from ≤ b.low) × (b.low < site.place + end)
+batches_between site bytes from end [] is some b there = absurd (in_nothing b there)
+batches_between site bytes from end (r ∷ rs) is some b there =
+    let here : r.from ≡ from = is.0 in
+    let long : 0 < r.len = some 0 r (omega arith) in
+    let grows : from + r.len ≤ end = chain_grows (from + r.len) end rs is.1 in
+    elim (batch_cases r.state (batch_in site bytes r) (batches_in site bytes rs) b there) [
+      | inl own ↦ (let at = ap (λ (x : Batch). x.low) own.1 in (omega (arith, at, here), omega (arith, at, here, long, grows)))
+      | inr later ↦ (let lies = batches_between site bytes (from + r.len) end rs is.1 (All-tail (λ x. 0 < x.len) r rs some) b later in (omega (arith, lies.0), lies.1))
+    ]

@@ -26,13 +26,6 @@ use Rattle.sled_core.proofs.Reserve.WrittenOver as over
 pub kind_of_message : (does : LogKind) (page n : ℕ) (k : MessageKind) → kind_for does page n ≡ Some k → is_manifest does page ≡ false → kind_written does page false ≡ Some k
 kind_of_message does page n k is none = sym (ap (λ (o : Bool). if o then (if n == 8 then Some kind.BatchManifest else None) else kind_written does page false) none) ∙ is
 
--- and a manifest under its own, with a body of eight bytes
-pub manifest_kind : (does : LogKind) (page n : ℕ) (k : MessageKind) → kind_for does page n ≡ Some k → is_manifest does page ≡ true → (k ≡ kind.BatchManifest) × (n ≡ 8)
-manifest_kind does page n k is batch = by (n == 8) refl (sym (ap (λ (o : Bool). if o then (if n == 8 then Some kind.BatchManifest else None) else kind_written does page false) batch) ∙ is) where
-  by : (o : Bool) → (n == 8) ≡ o → (if o then Some kind.BatchManifest else None) ≡ Some k → (k ≡ kind.BatchManifest) × (n ≡ 8)
-  by false eight same = cc
-  by true eight same = (cc, grind (arith, nat_tests, eight))
-
 -- a message that has a kind to be written under changes a page
 pub changes_page : (does : LogKind) (page : ℕ) (kind : MessageKind) → kind_written does page false ≡ Some kind → ChangesPage does
 changes_page Replace page kind is = inl refl

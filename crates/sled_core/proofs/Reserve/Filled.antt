@@ -1,4 +1,5 @@
 -- A segment is filled to its end: the entry of what fills it stands behind the others, which are as they were, and is no message.
+use Rattle.sled_core.proofs.Reserve.Batches.{batches-append}
 use Rattle.std.proofs.Common.{◌≡◌, ◌≤◌, ◌<◌, ◌+◌, ◌-◌, ◌^◌, ◌∙◌, ℕ, List, [], ◌∷◌, ◌++◌, length, take, ap, subst, arith, refl, get_or, length-append}
 use Rattle.std.specs.List.{All}
 use Rattle.std.proofs.lemmas.List.{append-nil, drop_at, take_all}
@@ -9,7 +10,7 @@ use Rattle.sled_core.specs.Buffers.{IsChain, Stands, batches_in, completed_in, p
 use Rattle.sled_core.specs.Caps.{segment_rest}
 use Rattle.sled_core.proofs.Holds.HoldsLemmas.{batches-behind, completed-behind, one, stands-append}
 use Rattle.sled_core.proofs.Reached.CapStands.{length-segment_rest}
-use Rattle.sled_core.proofs.Reserve.Ranges.{batches-append, chain-append, chain_within, completed-append}
+use Rattle.sled_core.proofs.Reserve.Ranges.{chain-append, chain_within, completed-append}
 
 module _ (sum : List ℕ → ℕ) (size number : ℕ) (bytes : List ℕ) (from : ℕ) (rs : List Reserved) (small : number < 2 ^ 64) (less : length bytes < size)
     (chain : IsChain from rs (length bytes)) (stand : All (Stands sum size number bytes) rs) where

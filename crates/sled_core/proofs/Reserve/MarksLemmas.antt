@@ -148,14 +148,15 @@ module _ (sum : List ℕ → ℕ) (number : ℕ) (bytes : List ℕ) (r : Reserve
     body_ends : body_in new r ≡ body
     body_ends = body_written sum bytes r body stands.headed long within
 
-    ends_stands : HasText sum number new (ended Manifest r)
-    ends_stands =
+    ends_stands : low_first body < 2 ^ 63 → HasText sum number new (ended Manifest r)
+    ends_stands small =
         let as_new : StandsAs sum number (text_in new r) body (ended Manifest r) = record {
           headed = stands.headed;
           long = stands.long;
           known = ap (kind_for r.log_kind r.page) (sym same_long) ∙ stands.known;
           whole = λ is. cc;
           manifest = λ is. manifest;
+          pegged = λ is. small;
           valid = stands.valid;
           page = stands.page;
           summed = λ is. cc;
@@ -189,8 +190,8 @@ module _ (sum : List ℕ → ℕ) (number : ℕ) (bytes : List ℕ) (r : Reserve
     peg_marked small = ap low_first body_marked ∙ low_first-low_bytes 8 peg (omega arith) (omega (arith, small))
 
     -- What stands in it is the record of a manifest that has ended.
-    pub marked_stands : HasText sum number marked (ended Manifest r)
-    marked_stands = ends_stands (low_bytes 8 peg) low_long
+    pub marked_stands : peg < 2 ^ 63 → HasText sum number marked (ended Manifest r)
+    marked_stands small = ends_stands (low_bytes 8 peg) low_long (let is = low_first-low_bytes 8 peg (omega arith) (omega (arith, small)) in omega (arith, is, small))
 
     -- It lies among others.
     module _ (size from end : ℕ) (xs ys : List Reserved) (chain : IsChain from (xs ++ r ∷ ys) end) (stand : All (Stands sum size number bytes) (xs ++ r ∷ ys)) where
@@ -198,10 +199,10 @@ module _ (sum : List ℕ → ℕ) (number : ℕ) (bytes : List ℕ) (r : Reserve
       its_room = (reserved_in sum size number bytes r (open_plain r.state is_open) (all_split (Stands sum size number bytes) xs ys r stand).1).room
 
       -- Each of them stands as it has to.
-      pub stand_marked : All (Stands sum size number marked) (xs ++ ended Manifest r ∷ ys)
-      stand_marked = all_joined (Stands sum size number marked) xs ys (ended Manifest r)
+      pub stand_marked : peg < 2 ^ 63 → All (Stands sum size number marked) (xs ++ ended Manifest r ∷ ys)
+      stand_marked small = all_joined (Stands sum size number marked) xs ys (ended Manifest r)
           (stand_before sum number bytes (marking sum bytes r peg) r marks_short within size from end xs ys chain stand)
-          (record { room = its_room; text = marked_stands })
+          (record { room = its_room; text = marked_stands small })
           (stand_behind sum number bytes (marking sum bytes r peg) r marks_short within size from end xs ys chain stand)
 
       module _ (site : SegmentPosition) where

@@ -1,4 +1,5 @@
 -- The first buffer behind what was written of a segment is written: behind it come those that were written before. A reader meets their records, which are of the history, and ends behind the last one, for want of a record or of room, or at what fills the segment.
+use Rattle.sled_core.proofs.Reserve.Batches.{batches_between}
 use Rattle.std.proofs.Common.{◌≡◌, ◌≢◌, ◌≤◌, ◌<◌, ◌+◌, ◌-◌, ◌/◌, ◌%◌, ◌^◌, ◌∙◌, ℕ, max, Bool, true, false, nat_lt, if◌then◌else◌, List, [], ◌∷◌, ◌++◌, length, take, drop, get_or, sym, ap, refl, subst, arith, inl, inr}
 use Rattle.std.specs.List.{All, Contains}
 use Rattle.std.proofs.Math.Nat.{div-le_self}
@@ -23,7 +24,7 @@ use Rattle.sled_core.proofs.Reached.BufferPath.{HasOnly, ending_at, never_capped
 use Rattle.sled_core.proofs.Reached.BufferStands.{met_as, met_in, same_part}
 use Rattle.sled_core.proofs.Reached.CapStands.{rest_ends}
 use Rattle.sled_core.proofs.Reserve.Entries.{IsLong, all_long, some_long}
-use Rattle.sled_core.proofs.Reserve.Ranges.{batches_between, chain_grows, completed_between}
+use Rattle.sled_core.proofs.Reserve.Ranges.{chain_grows, completed_between}
 use Rattle.sled_core.proofs.Sealed.BehindUnwritten.{head_headed}
 use Rattle.sled_core.proofs.Sealed.Clear.{clear_behind, clear_on, run_ends}
 use Rattle.sled_core.proofs.Sealed.LaidLemmas.{EndsRise, ends_below}
