@@ -11,7 +11,7 @@ use Rattle.sled_core.specs.declared.iterator.scan.ScanEnd.TheVariants.{Capped, B
 use Rattle.sled_core.specs.OpenBatches.{stable_below}
 use Rattle.sled_core.specs.Scan.{IsFoundSegment}
 use Rattle.sled_core.specs.Tail.{IsOrdering, IsScanned, Scanned, AreScanned, least_place}
-use Rattle.sled_core.specs.Recoverable.{NoMessageBegins, NoBatchBegins, NoBatchEnds, StandsInline, IsOfHistory, IsSegmentOf, IsMarkOf, IsMarkBelow, LiesInSegment, IsPlacedBatch}
+use Rattle.sled_core.specs.Recoverable.{NothingBehind, NoMessageBegins, NoBatchBegins, NoBatchEnds, StandsInline, IsOfHistory, IsSegmentOf, IsMarkOf, IsMarkBelow, LiesInSegment, IsPlacedBatch}
 
 -- The segments that are found from that of the snapshot on are of the history, and up to a place that the log has reached they are read without a gap. What is found beyond is of the history too, however much of it there is.
 -- A is the stable place: the log has reached it, and no batch is open there. Behind it one may be.
@@ -22,7 +22,7 @@ pub record StandsTo (sum : List ℕ → ℕ) (size : ℕ) (log : List ℕ) (H : 
   pub reads : AreScanned sum size log ordering scanned
   pub marks : (s : Segment) → Contains ordering s → IsMarkOf H s
   pub truth : (s : Scanned) (x : ScannedRecord) → Contains scanned s → Contains s.met x → IsOfHistory sum size log H x
-  pub caps : (s : Scanned) → Contains scanned s → s.why ≡ Capped → NoMessageBegins H (s.segment.place + s.stop) (s.segment.place + size) × NoBatchBegins H (s.segment.place + s.stop) (s.segment.place + size)
+  pub caps : (s : Scanned) → Contains scanned s → NothingBehind size H s.segment.place s.stop s.why
   pub not_below : stable_place first.stable ≤ A
   pub passes : A ≤ reach
   pub marks_below : (s : Segment) → Contains ordering s → IsMarkBelow size H A s.mark

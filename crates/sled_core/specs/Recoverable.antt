@@ -1,6 +1,6 @@
 -- When a recovery can go on from a content without losing what was acknowledged: the invariant behind the headline.
 -- Its parts, over snapshots, the log file and blobs, share only the history, the end of what was acknowledged, the floor and the cuts.
-use Rattle.std.specs.Prelude.{◌≡◌, ◌⊎◌, ◌+◌, ◌*◌, ◌/◌, ◌%◌, ◌≤◌, ◌<◌, ◌≤ℤ◌, ◌<ℤ◌, ◌-ℤ◌, ℕ, ℤ, pos, nat_lt, true, List, [], ◌∷◌, replicate, if◌then◌else◌, Option, Some, None, Contains}
+use Rattle.std.specs.Prelude.{◌≡◌, ◌≢◌, ◌⊎◌, ◌+◌, ◌*◌, ◌/◌, ◌%◌, ◌≤◌, ◌<◌, ◌≤ℤ◌, ◌<ℤ◌, ◌-ℤ◌, ℕ, ℤ, pos, nat_lt, true, List, [], ◌∷◌, replicate, if◌then◌else◌, Option, Some, None, Contains}
 use Rattle.sled_codec.specs.declared.result.DiskPtr.{DiskPtr}
 use Rattle.sled_codec.specs.declared.result.DiskPtr.TheVariants.{Inline, Blob}
 use Rattle.sled_codec.specs.declared.serialization.message.MessageKind.{MessageKind}
@@ -19,7 +19,8 @@ use Rattle.sled_store.specs.SnapshotFiles.{IsSnapshotFile, BeginsFrom}
 use Rattle.sled_core.specs.declared.iterator.scan.ScannedRecord.{ScannedRecord}
 use Rattle.sled_core.specs.declared.iterator.scan.RecordContent.{RecordContent}
 use Rattle.sled_core.specs.declared.iterator.scan.RecordContent.TheVariants.{Gives, NamesBlob, Skipped, BatchStart}
-use Rattle.sled_core.specs.declared.iterator.scan.ScanEnd.TheVariants.{Capped}
+use Rattle.sled_core.specs.declared.iterator.scan.ScanEnd.{ScanEnd}
+use Rattle.sled_core.specs.declared.iterator.scan.ScanEnd.TheVariants.{Capped, Broken}
 use Rattle.sled_core.specs.declared.iterator.Segment.{Segment}
 use Rattle.sled_core.specs.Scan.{IsFoundSegment, IsMet, IsPath}
 use Rattle.sled_core.specs.Tail.{IsOrdering, Scanned, AreScanned, IsTail, tail_begins, tail_end, open_at, stops_in, cut_of, least_place}
@@ -84,6 +85,11 @@ pub record MeetsMessage (x : ScannedRecord) (m : Message) : Type 0 where
 -- no batch of a history ends from one place up to another
 abbrev pub NoBatchEnds : History → ℕ → ℕ → Type 0
 NoBatchEnds H from to = (b : Batch) → Contains H.batches b → (b.peg < from) ⊎ (to ≤ b.peg)
+
+-- Behind where the reading of a segment ends for a Cap nothing of a history begins in the segment; and where it ends for that, or for want of room, no batch ends there.
+abbrev pub NothingBehind : ℕ → History → ℕ → ℕ → ScanEnd → Type 0
+NothingBehind size H place stop why =
+    (why ≡ Capped → NoMessageBegins H (place + stop) (place + size) × NoBatchBegins H (place + stop) (place + size)) × (why ≢ Broken → NoBatchEnds H (place + stop) (place + size))
 
 -- the record of a message stands at its pointer, where it has the item
 abbrev pub StandsInline : (List ℕ → ℕ) → ℕ → List ℕ → Message → DiskPtr → Type 0
@@ -175,7 +181,7 @@ pub record IsRecoverableLog (sum : List ℕ → ℕ) (size : ℕ) (log : List �
   pub is_tail : IsTail sum size log ordering (tail_begins size (least_place size first) ordering) tail
   pub marks : (s : Segment) → Contains ordering s → IsMarkOf H s
   pub truth : (s : Scanned) (x : ScannedRecord) → Contains scanned s → Contains s.met x → IsOfHistory sum size log H x
-  pub caps : (s : Scanned) → Contains scanned s → s.why ≡ Capped → NoMessageBegins H (s.segment.place + s.stop) (s.segment.place + size) × NoBatchBegins H (s.segment.place + s.stop) (s.segment.place + size)
+  pub caps : (s : Scanned) → Contains scanned s → NothingBehind size H s.segment.place s.stop s.why
   pub tail_there : ((s : Segment) × Contains ordering s × (s.place ≡ tail_begins size (least_place size first) ordering)) ⊎ (tail_begins size (least_place size first) ordering ≡ stable_place first.stable)
   pub is_cut : cut ≡ cut_from size first scanned (tail_end tail)
   pub not_below : stable_place first.stable ≤ cut.0

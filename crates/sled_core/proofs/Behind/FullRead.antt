@@ -74,7 +74,7 @@ module _ (sum : List ℕ → ℕ) (size : ℕ) (log : List ℕ) (some : 256 ≤ 
   unfolding IsScan
   none_behind = by y.why refl goes known.1 where
     by : (why : ScanEnd) → y.why ≡ why → why ≢ Broken → IsEnd sum size log y.segment.slot y.segment.place y.stop y.why → NoMessageBegins H (y.segment.place + y.stop) (y.segment.place + size)
-    by Capped at on end m known_m = (is.caps y there at).0 m known_m
+    by Capped at on end m known_m = ((is.caps y there).0 at).0 m known_m
     by Broken at on end m known_m = absurd (on refl)
     by Full at on end m known_m = elim (cases_lt m.place (y.segment.place + y.stop)) [
       | inl under ↦ inl under

@@ -1,5 +1,8 @@
 -- A sealed buffer of a segment behind the first one is written, the first one that isn't or another: what a crash leaves of it stands as before, and so does the file behind it, with that segment as far as it is written then.
-use Rattle.std.proofs.Common.{◌≡◌, ◌⊎◌, ◌≤◌, ◌<◌, ◌<ℤ◌, ◌+◌, ◌/◌, ◌^◌, ℕ, pos, max, Bool, true, false, if◌then◌else◌, List, [], ◌∷◌, ◌++◌, length, map, take, drop, Option, None, refl, sym, subst, arith, inl, inr}
+use Rattle.sled_core.proofs.Reserve.RecordEnds.{no_end_up}
+use Rattle.sled_core.specs.declared.iterator.scan.ScanEnd.TheVariants.{Broken}
+use Rattle.sled_core.proofs.Sealed.RecordsEnd.{records_covered, records_why}
+use Rattle.std.proofs.Common.{◌≢◌, ◌≡◌, ◌⊎◌, ◌≤◌, ◌<◌, ◌<ℤ◌, ◌+◌, ◌/◌, ◌^◌, ℕ, pos, max, Bool, true, false, if◌then◌else◌, List, [], ◌∷◌, ◌++◌, length, map, take, drop, Option, None, refl, sym, subst, arith, inl, inr}
 use Rattle.std.specs.List.{Contains}
 use Rattle.std.specs.declared.io.Error.{Error as IoError}
 use Rattle.std.proofs.lemmas.Bool.{cases_lt}
@@ -13,12 +16,12 @@ use Rattle.sled_core.specs.OpenBatches.{stable_below}
 use Rattle.sled_core.specs.declared.iobuf.Reserved.{Reserved}
 use Rattle.sled_core.specs.declared.iobuf.Sealed.{Sealed}
 use Rattle.sled_core.specs.declared.iobuf.SegmentPosition.{SegmentPosition}
-use Rattle.sled_core.specs.Buffers.{IsChain, batches_in, completed_in}
+use Rattle.sled_core.specs.Buffers.{records_end, IsChain, batches_in, completed_in}
 use Rattle.sled_core.specs.Begun.{SegmentParts}
 use Rattle.sled_core.specs.Fits.{HasMark, HoldsIn, HoldsNext, begun_segment, log_parts}
 use Rattle.sled_core.specs.LogFile.{padded}
 use Rattle.sled_core.specs.Reached.{BegunSegment, StandsAmong}
-use Rattle.sled_core.specs.Recoverable.{NoHeaderOfZeros}
+use Rattle.sled_core.specs.Recoverable.{NoBatchEnds, NoHeaderOfZeros}
 use Rattle.sled_core.specs.SealedBuffers.{AreSealed, FirstUnwritten, Laid, bytes_between, now_written, run_count, run_end, sealed_end}
 use Rattle.sled_core.specs.Tail.{least_place}
 use Rattle.sled_core.proofs.Behind.Around.{HoldAround, behind_place, held_around, stays_below}
@@ -158,12 +161,23 @@ module _ (sum : List ℕ → ℕ) (size : ℕ) (site : SegmentPosition) (device 
       (All-drop (λ (r : Reserved). 0 < r.len) count s.reserved (some_long sum size (s.site.place / size) s.bytes s.reserved here.segment.stand))
       (has_only sum size s.site device fault s.bytes s.written_len s.sealed s.reserved own_history here.segment here.inside))
 
+  -- and where the reading ends there, but for want of a record, no batch ends behind that
+  no_end_first : s.sealed ≡ b ∷ rest → records_why size (take (b.count + run_count rest) s.reserved) (run_end b.end rest) ≢ Broken
+      → NoBatchEnds H (s.site.place + records_end (take (b.count + run_count rest) s.reserved) (run_end b.end rest)) (s.site.place + size)
+  no_end_first split goes =
+      let are = are_split [] split in
+      let count : ℕ = b.count + run_count rest in
+      let chain = chain_done s.written_len s.reserved b rest closed are in
+      no_end_up H s.site.place (records_end s.reserved (length s.bytes)) (records_end (take count s.reserved) (run_end b.end rest)) (s.site.place + size)
+      (records_covered sum size (s.site.place / size) s.bytes (max 20 s.written_len) s.reserved count (run_end b.end rest) (length s.bytes) chain
+      (chain_rest (max 20 s.written_len) (length s.bytes) s.reserved count (run_end b.end rest) here.segment.chain chain) here.segment.stand goes) here.segment.no_end
+
   -- What a crash leaves of the write.
   pub torn_one : (front : List Sealed) → s.sealed ≡ front ++ b ∷ rest → NoHeaderOfZeros sum → (reach : ℕ) (first : SnapshotModel) → StandsAmong sum size old site from (before ++ y ∷ after) reach H first → (now left : List ℕ) → length now ≤ length (asked front)
       → LeavesLog (after_write old (s.site.slot + at front) (asked front) now) left → (placed : List (ℕ × List ℕ)) → NoForeignLog sum size (after_write old (s.site.slot + at front) (asked front) now) placed left → StandsTo sum size left H (stable_below reach H.batches) first reach
   torn_one [] split none reach first among now left no_more leaves placed only_own =
       torn_other_sealed sum none size big old site from before y after here.segment.place_begins here.segment.slot_begins place_small slot_small s.bytes begins s.reserved b rest (fresh_split [] split) closed (are_split [] split) (rise_split [] split)
-      (lies [] split).2 here.segment.stand header (laid_old [] split) reach first among (has_first split) now left no_more leaves {placed = placed} only_own
+      (lies [] split).2 here.segment.stand header (laid_old [] split) reach first among (has_first split) (no_end_first split) now left no_more leaves {placed = placed} only_own
   torn_one (x ∷ xs) split none reach first among now left no_more leaves placed only_own =
       torn_other_behind sum none size big old site from (before ++ y ∷ after) y (Contains-append_right before (y ∷ after) y (in_first y after)) here.segment.slot_begins s.bytes begins s.reserved x xs b rest (fresh_split (x ∷ xs) split)
       (are_split (x ∷ xs) split) (rise_split (x ∷ xs) split) (lies (x ∷ xs) split).2 (s.site.place / size) here.segment.stand (laid_old (x ∷ xs) split) reach H first among now left no_more leaves {placed = placed} only_own
@@ -174,7 +188,7 @@ module _ (sum : List ℕ → ℕ) (size : ℕ) (site : SegmentPosition) (device 
       → StandsAmong sum size (overwritten (padded to old) (s.site.slot + at front) (asked front)) site from (before ++ grown_one y (stop front) ∷ after) reach H first
   whole_one [] split none reach first least to there among =
       other_sealed_written sum none size big (padded to old) site from before y after here.segment.place_begins here.segment.slot_begins place_small slot_small s.bytes begins s.reserved b rest (fresh_split [] split) closed (are_split [] split) (rise_split [] split)
-      (lies [] split).2 here.segment.stand header (laid_split [] split to) reach first among (has_first split) (whole_ascends sum size site device fault bytes from bs rs H holds short) there
+      (lies [] split).2 here.segment.stand header (laid_split [] split to) reach first among (has_first split) (no_end_first split) (whole_ascends sum size site device fault bytes from bs rs H holds short) there
       (let up = (front_low sum size site device fault bytes from bs rs H pre s post holds short).0 in omega (arith, least, up))
   whole_one (x ∷ xs) split none reach first least to there among =
       by x.is_written (fresh_split (x ∷ xs) split)

@@ -1,7 +1,8 @@
 -- The first sealed buffer of the first segment is written: the segment holds the same, what a crash leaves of the write stands as before, and all of it up to where those end that are written then, or behind the segment where these fill it.
+use Rattle.sled_core.specs.declared.iterator.scan.ScanEnd.TheVariants.{Broken}
 use Rattle.sled_core.proofs.Reserve.Batches.{batches-append, batches_between}
 use Rattle.sled_core.proofs.Reserve.RecordEnds.{no_end_up, records_fewer}
-use Rattle.std.proofs.Common.{append-nil, ◌≡◌, ◌⊎◌, ◌≤◌, ◌<◌, ◌+◌, ◌/◌, ◌^◌, ◌∙◌, ℕ, max, false, List, [], ◌∷◌, ◌++◌, length, take, drop, sym, ap, arith, refl, subst, inl, inr, Option, None, append_assoc}
+use Rattle.std.proofs.Common.{◌≢◌, append-nil, ◌≡◌, ◌⊎◌, ◌≤◌, ◌<◌, ◌+◌, ◌/◌, ◌^◌, ◌∙◌, ℕ, max, false, List, [], ◌∷◌, ◌++◌, length, take, drop, sym, ap, arith, refl, subst, inl, inr, Option, None, append_assoc}
 use Rattle.std.specs.List.{All, Contains}
 use Rattle.std.specs.declared.io.Error.{Error as IoError}
 use Rattle.std.proofs.lemmas.Bool.{cases_lt}
@@ -41,7 +42,7 @@ use Rattle.sled_core.proofs.Sealed.Ended.{chain_rest, ends_rise}
 use Rattle.sled_core.proofs.Sealed.HeadSealed.{run_below}
 use Rattle.sled_core.proofs.Sealed.LaidLemmas.{EndsRise, ends_below}
 use Rattle.sled_core.proofs.Sealed.OneWritten.{has_written, laid_new}
-use Rattle.sled_core.proofs.Sealed.RecordsEnd.{none_behind, AreRecords, records_in, records_why}
+use Rattle.sled_core.proofs.Sealed.RecordsEnd.{records_covered, none_behind, AreRecords, records_in, records_why}
 use Rattle.sled_core.proofs.Sealed.Runs.{run_laid}
 use Rattle.sled_core.proofs.Sealed.SealedCalls.{first_alone}
 use Rattle.sled_core.proofs.Torn.TornLemmas.{after_write}
@@ -215,6 +216,13 @@ module _ (sum : List ℕ → ℕ) (size : ℕ) (site : SegmentPosition) (device 
   pub last_low : last_whole ≤ stop_whole
   last_low = records_whole.low
 
+  -- where the reading ends there, but for want of a record, no batch ends behind that
+  no_end_whole : records_why size done_whole stop_whole ≢ Broken → NoBatchEnds H (site.place + last_whole) (site.place + size)
+  no_end_whole goes =
+      no_end_up H site.place (records_end rs (length bytes)) last_whole (site.place + size)
+      (records_covered sum size (site.place / size) bytes (max 20 from) rs (b.count + run_count rest) stop_whole (length bytes) (chain_done from rs b rest closed are)
+      (chain_rest (max 20 from) (length bytes) rs (b.count + run_count rest) stop_whole holds.own.chain (chain_done from rs b rest closed are)) holds.own.stand goes) holds.own.no_end
+
   -- Where the segment is filled then, no batch begins or ends in what fills it.
   pub rest_batches : stop_whole ≡ size → NoBatchBegins H (site.place + last_whole) (site.place + stop_whole) × NoBatchEnds H (site.place + last_whole) (site.place + stop_whole)
   rest_batches filled = (
@@ -284,21 +292,21 @@ module _ (sum : List ℕ → ℕ) (size : ℕ) (site : SegmentPosition) (device 
       → NoForeignLog sum size (after_write old_whole (site.slot + from) asked_whole now) placed left → StandsTo sum size left H (stable_below reach H.batches) holds.begun.first reach
   torn_first reach zeros alone now left no_more leaves placed only_own =
       torn_head_any sum zeros size big old_whole site holds.own.place_begins holds.own.slot_begins place_small slot_small bytes from begins_whole rs b rest fresh closed are rise_whole inside_whole holds.own.stand
-      header_whole (holds.own.laid whole) reach holds.begun.first alone has_whole now left no_more leaves {placed = placed} only_own
+      header_whole (holds.own.laid whole) reach holds.begun.first alone has_whole no_end_whole now left no_more leaves {placed = placed} only_own
 
   -- All of it, where nothing fills the segment.
   pub alone_first : All NoPadding done_whole → (reach : ℕ) → NoHeaderOfZeros sum → (end : ℕ) → site.slot ≤ end → {others : List BegunSegment} → StandsAmong sum size (padded end old_whole) site from others reach H holds.begun.first
       → StandsAmong sum size (padded end (overwritten old_whole (site.slot + from) asked_whole)) site stop_whole others (site.place + stop_whole) H holds.begun.first
   alone_first plain reach zeros end far {others} =
       first_alone sum size big old_whole site holds.own.place_begins holds.own.slot_begins place_small slot_small bytes from begins_whole rs b rest fresh closed are rise_whole inside_whole header_whole file_whole.header (holds.own.laid whole)
-      holds.own.stand (plain_room sum size (site.place / size) bytes from big begins_whole rs b rest are holds.own.stand (run_count rest) plain) plain zeros reach holds.begun.first has_whole (whole_ascends sum size site device fault bytes from (b ∷ rest) rs H holds short) (let least = holds.begun.least in omega (arith, least)) end far {others = others}
+      holds.own.stand (plain_room sum size (site.place / size) bytes from big begins_whole rs b rest are holds.own.stand (run_count rest) plain) plain zeros reach holds.begun.first has_whole no_end_whole (whole_ascends sum size site device fault bytes from (b ∷ rest) rs H holds short) (let least = holds.begun.least in omega (arith, least)) end far {others = others}
 
   -- where it is filled
   pub full_first : stop_whole ≡ size → (reach : ℕ) → NoHeaderOfZeros sum → (end : ℕ) → site.slot ≤ end → {others : List BegunSegment} → StandsAmong sum size (padded end old_whole) site from others reach H holds.begun.first
       → StandsFull sum size (padded end (overwritten old_whole (site.slot + from) asked_whole)) (site.place + size) others (site.place + last_whole) H holds.begun.first
   full_first filled reach zeros end far {others} among =
       first_full sum size big old_whole site holds.own.place_begins holds.own.slot_begins place_small slot_small bytes from begins_whole rs b rest fresh closed are rise_whole inside_whole {H = H} header_whole file_whole.header (holds.own.laid whole)
-      holds.own.stand zeros reach holds.begun.first has_whole (whole_ascends sum size site device fault bytes from (b ∷ rest) rs H holds short) (let least = holds.begun.least in omega (arith, least)) (subst (λ n. NoBatchEnds H (site.place + last_whole) (site.place + n)) filled (rest_batches filled).1) filled end far {others = others} among
+      holds.own.stand zeros reach holds.begun.first has_whole no_end_whole (whole_ascends sum size site device fault bytes from (b ∷ rest) rs H holds short) (let least = holds.begun.least in omega (arith, least)) filled end far {others = others} among
 
   -- so the file reaches its slot
   pub reaches_first : site.slot ≤ length (overwritten old_whole (site.slot + from) asked_whole)

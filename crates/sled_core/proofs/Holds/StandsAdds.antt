@@ -13,7 +13,7 @@ use Rattle.sled_core.specs.declared.iterator.Segment.{Segment}
 use Rattle.sled_core.specs.declared.iterator.scan.ScannedRecord.{ScannedRecord}
 use Rattle.sled_core.specs.declared.iterator.scan.ScanEnd.TheVariants.{Capped, Broken}
 use Rattle.sled_core.specs.Reached.{BegunSegment, GoesOnIn, ReachesIn, StandsAmong, StandsIn, StandsTo}
-use Rattle.sled_core.specs.Recoverable.{NoHeaderOfZeros, NoMessageBegins, NoBatchBegins, StandsInline, IsMarkBelow, IsOfHistory, IsSegmentOf, LiesInSegment}
+use Rattle.sled_core.specs.Recoverable.{NothingBehind, NoHeaderOfZeros, NoMessageBegins, NoBatchBegins, StandsInline, IsMarkBelow, IsOfHistory, IsSegmentOf, LiesInSegment}
 use Rattle.sled_core.specs.Scan.{IsFoundSegment, IsScan}
 use Rattle.sled_core.specs.SealedBuffers.{AreZeros}
 use Rattle.sled_core.specs.Tail.{Scanned, IsScanned, least_place}
@@ -96,9 +96,9 @@ module _ (sum : List ℕ → ℕ) (size : ℕ) (log : List ℕ) (some : 256 ≤ 
       inr (inr (given_up.0, none_begins x.place (x.place + x.len) (met_beside s x here there x.place (omega arith)) given_up.1, no_batch x.place (x.place + x.len) given_up.2))
 
   -- where a segment ended in a Cap, the message lies in another one
-  caps_new : (s : Scanned) → Contains is.scanned s → s.why ≡ Capped → NoMessageBegins H' (s.segment.place + s.stop) (s.segment.place + size) × NoBatchBegins H' (s.segment.place + s.stop) (s.segment.place + size)
-  caps_new s here capped =
-      let had = is.caps s here capped in
+  capped_new : (s : Scanned) → Contains is.scanned s → s.why ≡ Capped → NoMessageBegins H' (s.segment.place + s.stop) (s.segment.place + size) × NoBatchBegins H' (s.segment.place + s.stop) (s.segment.place + size)
+  capped_new s here capped =
+      let had = (is.caps s here).0 capped in
       let other : (m.place < s.segment.place + s.stop) ⊎ (s.segment.place + size ≤ m.place) = elim (beside s here) [
         | inl before ↦ inl (omega (arith, before))
         | inr (inl behind) ↦ inr behind
@@ -108,6 +108,9 @@ module _ (sum : List ℕ → ℕ) (size : ℕ) (log : List ℕ) (some : 256 ≤ 
     where
       not_both : Broken ≡ Capped → ⊥
       not_both same = cc
+
+  caps_new : (s : Scanned) → Contains is.scanned s → NothingBehind size H' s.segment.place s.stop s.why
+  caps_new s here = ((λ capped. capped_new s here capped), (λ goes b there. (is.caps s here).1 goes b (batch_was b there)))
 
   -- a mark that lay below the place does so still
   mark_new : (s : Segment) → Contains is.ordering s → IsMarkBelow size H' A s.mark

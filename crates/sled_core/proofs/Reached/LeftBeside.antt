@@ -15,7 +15,7 @@ use Rattle.sled_store.proofs.Segments.Elements.{in_first, in_rest, in_cases, in_
 use Rattle.sled_core.specs.declared.iterator.Segment.{Segment}
 use Rattle.sled_core.specs.declared.iterator.scan.ScannedRecord.{ScannedRecord}
 use Rattle.sled_core.specs.declared.iterator.scan.ScanEnd.TheVariants.{Capped}
-use Rattle.sled_core.specs.Recoverable.{NoMessageBegins, NoBatchBegins, StandsInline, IsOfHistory, IsReachedIn, IsSegmentOf}
+use Rattle.sled_core.specs.Recoverable.{NothingBehind, NoMessageBegins, NoBatchBegins, StandsInline, IsOfHistory, IsReachedIn, IsSegmentOf}
 use Rattle.sled_core.specs.Scan.{IsFoundSegment, IsMet, IsPath, IsScan}
 use Rattle.sled_core.proofs.Read.ScanLemmas.{met_fits, aligned_offset}
 use Rattle.sled_core.proofs.Torn.TornLemmas.{after_write, left_grows, part_left}
@@ -156,7 +156,7 @@ module _ (sum : List ℕ → ℕ) (size : ℕ) (some : 256 ≤ size) (old : List
   -- The reading of a segment in another slot is that of before.
   module _ (same : IsSameBeside sum size old left (slot * size)) (least : ℕ) (t : Scanned) (found : IsFoundSegment sum size old least t.segment) (other : t.segment.slot ≢ slot * size) (scan : IsScanned sum size old t) where
     pub reading_beside : (H : History) → ((x : ScannedRecord) → Contains t.met x → IsOfHistory sum size old H x)
-        → (t.why ≡ Capped → NoMessageBegins H (t.segment.place + t.stop) (t.segment.place + size) × NoBatchBegins H (t.segment.place + t.stop) (t.segment.place + size)) → IsReading sum size left H t.segment
+        → (NothingBehind size H t.segment.place t.stop t.why) → IsReading sum size left H t.segment
     unfolding IsScan
     reading_beside H truth caps =
         let lies : (t.segment.slot + min t.stop size ≤ at) ⊎ (at + length asked ≤ t.segment.slot) = elim (beside t.segment.slot found.slot other) [ inl before ↦ inl (omega (arith, before)) | inr past ↦ inr past ] in

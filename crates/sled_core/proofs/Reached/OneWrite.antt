@@ -11,7 +11,7 @@ use Rattle.sled_core.specs.declared.iterator.scan.ScannedRecord.{ScannedRecord}
 use Rattle.sled_core.specs.declared.iterator.scan.ScanEnd.{ScanEnd}
 use Rattle.sled_core.specs.declared.iterator.scan.ScanEnd.TheVariants.{Capped}
 use Rattle.sled_core.specs.OpenBatches.{stable_below}
-use Rattle.sled_core.specs.Recoverable.{NoHeaderOfZeros, NoMessageBegins, NoBatchBegins, IsOfHistory, IsMarkOf, IsMarkBelow}
+use Rattle.sled_core.specs.Recoverable.{NothingBehind, NoHeaderOfZeros, NoMessageBegins, NoBatchBegins, IsOfHistory, IsMarkOf, IsMarkBelow}
 use Rattle.sled_core.specs.Scan.{IsPath, IsEnd, IsScan}
 use Rattle.sled_core.proofs.Torn.TornLemmas.{after_write}
 use Rattle.sled_core.proofs.Torn.WrittenParts.{path_rises}
@@ -43,7 +43,7 @@ module _ (sum : List ℕ → ℕ) (none : NoHeaderOfZeros sum) (size : ℕ) (som
     (how : GoesOnIn is.scanned (slot * size) from place ⊎ BeginsSegment sum size H is.ordering A (slot * size) from asked place) (more : List ScannedRecord) (stop : ℕ) (why : ScanEnd) (clear : AreClear size until (max 20 from) more)
     (path : IsPath sum size (overwritten old (slot * size + from) asked) (slot * size) place (max 20 from) more stop) (end : IsEnd sum size (overwritten old (slot * size + from) asked) (slot * size) place stop why)
     (truth : (x : ScannedRecord) → Contains more x → IsOfHistory sum size (overwritten old (slot * size + from) asked) H x)
-    (caps : why ≡ Capped → NoMessageBegins H (place + stop) (place + size) × NoBatchBegins H (place + stop) (place + size)) where
+    (caps : NothingBehind size H place stop why) where
   abbrev new : List ℕ
   new = overwritten old (slot * size + from) asked
 
@@ -72,8 +72,8 @@ module _ (sum : List ℕ → ℕ) (none : NoHeaderOfZeros sum) (size : ℕ) (som
   pub end_on : (g : GoesOnIn is.scanned (slot * size) from place) → IsEnd sum size new (slot * size) g.scan.segment.place stop why
   end_on g = subst (λ n. IsEnd sum size new (slot * size) n stop why) (sym g.at_place) end
 
-  pub caps_on : (g : GoesOnIn is.scanned (slot * size) from place) → why ≡ Capped → NoMessageBegins H (g.scan.segment.place + stop) (g.scan.segment.place + size) × NoBatchBegins H (g.scan.segment.place + stop) (g.scan.segment.place + size)
-  caps_on g capped = subst (λ n. NoMessageBegins H (n + stop) (n + size) × NoBatchBegins H (n + stop) (n + size)) (sym g.at_place) (caps capped)
+  pub caps_on : (g : GoesOnIn is.scanned (slot * size) from place) → NothingBehind size H g.scan.segment.place stop why
+  caps_on g = subst (λ n. NothingBehind size H n stop why) (sym g.at_place) caps
 
   pub path_first : from ≡ 0 → IsPath sum size new (slot * size) place 20 more stop
   path_first begins = let at : max 20 from ≡ 20 = omega (arith, begins) in subst (λ n. IsPath sum size new (slot * size) place n more stop) at path

@@ -78,7 +78,7 @@ module _ (sum : List ℕ → ℕ) (size : ℕ) (log : List ℕ) (some : 256 ≤ 
         let its = message_of sum size log H ordered x (is.truth t x known met) m there low high in
         let scan = (segment_there sum size log is.ordering is.scanned is.reads t known).1 in
         (t, (known, place, reached_of sum size log t scan x met m its.0, its.1))
-    by (t, known, place, inr (capped, past, within)) = ⊎_elim (λ under. absurd (omega (arith, under, past))) (λ over. absurd (omega (arith, over, within))) ((is.caps t known capped).0 m there)
+    by (t, known, place, inr (capped, past, within)) = ⊎_elim (λ under. absurd (omega (arith, under, past))) (λ over. absurd (omega (arith, over, within))) (((is.caps t known).0 capped).0 m there)
 
   -- a message in a segment of one that lies at the place that was reached or above it lies in the tail
   high_there : (m n : Message) → reach ≤ m.place → n.place / size ≡ m.place / size → begin ≤ n.place

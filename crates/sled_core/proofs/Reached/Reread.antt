@@ -7,7 +7,7 @@ use Rattle.sled_store.proofs.Segments.Elements.{in_first, in_rest}
 use Rattle.sled_core.specs.declared.iterator.Segment.{Segment}
 use Rattle.sled_core.specs.declared.iterator.scan.ScannedRecord.{ScannedRecord}
 use Rattle.sled_core.specs.declared.iterator.scan.ScanEnd.TheVariants.{Capped, Broken}
-use Rattle.sled_core.specs.Recoverable.{NoMessageBegins, NoBatchBegins, StandsInline, IsOfHistory, IsSegmentOf, IsMarkOf, IsMarkBelow}
+use Rattle.sled_core.specs.Recoverable.{NothingBehind, NoMessageBegins, NoBatchBegins, StandsInline, IsOfHistory, IsSegmentOf, IsMarkOf, IsMarkBelow}
 use Rattle.sled_core.specs.Tail.{Scanned, IsScanned, IsOrdering, AreScanned, least_place}
 use Rattle.sled_core.proofs.Tail.OneReading.{one_scan}
 use Rattle.sled_core.proofs.Tail.OneTail.{scan_there, segment_there, reading_there}
@@ -19,7 +19,7 @@ pub record IsReading (sum : List ℕ → ℕ) (size : ℕ) (log : List ℕ) (H :
   pub segment : scan.segment ≡ s
   pub read : IsScanned sum size log scan
   pub truth : (x : ScannedRecord) → Contains scan.met x → IsOfHistory sum size log H x
-  pub caps : scan.why ≡ Capped → NoMessageBegins H (scan.segment.place + scan.stop) (scan.segment.place + size) × NoBatchBegins H (scan.segment.place + scan.stop) (scan.segment.place + size)
+  pub caps : NothingBehind size H scan.segment.place scan.stop scan.why
 
 -- A segment that was read before is read at least as far, and leads on where it did.
 pub record IsAsFar (sum : List ℕ → ℕ) (size : ℕ) (log : List ℕ) (ordering : List Segment) (t : Scanned) : Type 0 where
@@ -50,10 +50,10 @@ module _ (sum : List ℕ → ℕ) (size : ℕ) (log : List ℕ) (H : History) wh
     read_truth : (t : Scanned) (x : ScannedRecord) → Contains xs t → Contains t.met x → IsOfHistory sum size log H x
     read_truth t x there met = let r = the_reading t there in r.0.truth x (subst (λ (u : Scanned). Contains u.met x) (sym r.1) met)
 
-    read_caps : (t : Scanned) → Contains xs t → t.why ≡ Capped → NoMessageBegins H (t.segment.place + t.stop) (t.segment.place + size) × NoBatchBegins H (t.segment.place + t.stop) (t.segment.place + size)
+    read_caps : (t : Scanned) → Contains xs t → NothingBehind size H t.segment.place t.stop t.why
     read_caps t there =
         let r = the_reading t there in
-        subst (λ (u : Scanned). u.why ≡ Capped → NoMessageBegins H (u.segment.place + u.stop) (u.segment.place + size) × NoBatchBegins H (u.segment.place + u.stop) (u.segment.place + size)) r.1 r.0.caps
+        subst (λ (u : Scanned). NothingBehind size H u.segment.place u.stop u.why) r.1 r.0.caps
 
 module _ (sum : List ℕ → ℕ) (size : ℕ) (old log : List ℕ) (H : History) (A : ℕ) (first : SnapshotModel) (reach : ℕ) (is : StandsTo sum size old H A first reach)
     (ordering : List Segment) (numbers : IsOrdering sum size log (least_place size first) ordering) (each : (s : Segment) → Contains ordering s → IsReading sum size log H s)

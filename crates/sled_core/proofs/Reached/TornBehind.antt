@@ -15,7 +15,7 @@ use Rattle.sled_core.specs.declared.iterator.Segment.{Segment}
 use Rattle.sled_core.specs.declared.iterator.scan.ScannedRecord.{ScannedRecord}
 use Rattle.sled_core.specs.declared.iterator.scan.ScanEnd.{ScanEnd}
 use Rattle.sled_core.specs.declared.iterator.scan.ScanEnd.TheVariants.{Capped, Broken}
-use Rattle.sled_core.specs.Recoverable.{NoMessageBegins, NoBatchBegins, IsOfHistory, IsReachedIn}
+use Rattle.sled_core.specs.Recoverable.{NoBatchEnds, NothingBehind, NoMessageBegins, NoBatchBegins, IsOfHistory, IsReachedIn}
 use Rattle.sled_core.specs.Scan.{IsFoundSegment, IsPath, IsEnd, IsScan}
 use Rattle.sled_core.proofs.Read.ScanLemmas.{one_more}
 use Rattle.sled_core.proofs.Torn.TornLemmas.{after_write}
@@ -37,13 +37,20 @@ in_taken n xs x there = subst (λ l. Contains l x) (take-append-drop n xs) (Cont
 
 -- What a torn write leaves ends with a Cap where that was written, and not before.
 pub caps_met : (sum : List ℕ → ℕ) (size : ℕ) (new left : List ℕ) (H : History) (slot place from : ℕ) (more : List ScannedRecord) (stop : ℕ) (why : ScanEnd) (w : MeetsFirst sum size new left slot place from more stop why)
-    → (why ≡ Capped → NoMessageBegins H (place + stop) (place + size) × NoBatchBegins H (place + stop) (place + size))
-    → w.ending ≡ Capped → NoMessageBegins H (place + w.end) (place + size) × NoBatchBegins H (place + w.end) (place + size)
-caps_met sum size new left H slot place from more stop why w caps capped = elim w.how [
-  | inl (all, stops, inl same) ↦ subst (λ n. NoMessageBegins H (place + n) (place + size) × NoBatchBegins H (place + n) (place + size)) (sym stops) (caps (sym same ∙ capped))
-  | inl (all, stops, inr (was, broken)) ↦ (let no : Broken ≡ Capped = sym broken ∙ capped in cc)
-  | inr (few, broken) ↦ (let no : Broken ≡ Capped = sym broken ∙ capped in cc)
-]
+    → (NothingBehind size H place stop why)
+    → NothingBehind size H place w.end w.ending
+caps_met sum size new left H slot place from more stop why w caps = (
+  (λ capped. elim w.how [
+    | inl (all, stops, inl same) ↦ subst (λ n. NoMessageBegins H (place + n) (place + size) × NoBatchBegins H (place + n) (place + size)) (sym stops) (caps.0 (sym same ∙ capped))
+    | inl (all, stops, inr (was, broken)) ↦ (let no : Broken ≡ Capped = sym broken ∙ capped in cc)
+    | inr (few, broken) ↦ (let no : Broken ≡ Capped = sym broken ∙ capped in cc)
+  ]),
+  (λ goes. elim w.how [
+    | inl (all, stops, inl same) ↦ subst (λ n. NoBatchEnds H (place + n) (place + size)) (sym stops) (caps.1 (λ is. goes (same ∙ is)))
+    | inl (all, stops, inr (was, broken)) ↦ absurd (goes broken)
+    | inr (few, broken) ↦ absurd (goes broken)
+  ]),
+)
 
 module _ (sum : List ℕ → ℕ) (size : ℕ) (some : 256 ≤ size) (old : List ℕ) (slot from : ℕ) (asked now left : List ℕ) (inside : from + length asked ≤ size) (no_more : length now ≤ length asked)
     (leaves : LeavesLog (after_write old (slot * size + from) asked now) left) (same : IsSameBeside sum size old left (slot * size))
@@ -139,7 +146,7 @@ module _ (sum : List ℕ → ℕ) (size : ℕ) (some : 256 ≤ size) (old : List
 
   -- What is met of the write. The segment leads on where it did.
   module _ (more : List ScannedRecord) (stop : ℕ) (why : ScanEnd) (truth : (x : ScannedRecord) → Contains more x → IsOfHistory sum size new H x)
-      (caps : why ≡ Capped → NoMessageBegins H (place + stop) (place + size) × NoBatchBegins H (place + stop) (place + size)) (w : MeetsFirst sum size new left (slot * size) place e more stop why) (goes : z.why ≢ Broken → w.ending ≢ Broken) where
+      (caps : NothingBehind size H place stop why) (w : MeetsFirst sum size new left (slot * size) place e more stop why) (goes : z.why ≢ Broken → w.ending ≢ Broken) where
     abbrev y : Scanned
     y = record { segment = z.segment; met = z.met ++ take w.count more; stop = w.end; why = w.ending }
 
@@ -203,7 +210,7 @@ pub torn_behind : (sum : List ℕ → ℕ) (size : ℕ) (some : 256 ≤ size) (o
     (z : Scanned) → Contains is.scanned z → z.segment.slot ≡ slot * size → z.stop ≡ from → z.why ≡ Broken → (more : List ScannedRecord) (stop : ℕ) (why : ScanEnd) → AreClear size until from more
     → IsPath sum size (overwritten old (slot * size + from) asked) (slot * size) z.segment.place from more stop → IsEnd sum size (overwritten old (slot * size + from) asked) (slot * size) z.segment.place stop why
     → ((x : ScannedRecord) → Contains more x → IsOfHistory sum size (overwritten old (slot * size + from) asked) H x)
-    → (why ≡ Capped → NoMessageBegins H (z.segment.place + stop) (z.segment.place + size) × NoBatchBegins H (z.segment.place + stop) (z.segment.place + size)) → StandsTo sum size left H A first reach
+    → (NothingBehind size H z.segment.place stop why) → StandsTo sum size left H A first reach
 torn_behind sum size some old slot from asked now left inside no_more leaves until covers clean only_own H A first reach is z known in_slot ended broken more stop why clear path end truth caps =
     let same = same_beside sum size some old slot from asked now left inside no_more leaves only_own in
     let far = behind sum size some old slot from asked now left inside no_more leaves same H A first reach is z known in_slot from (omega arith) ended in

@@ -9,7 +9,7 @@ use Rattle.sled_core.specs.declared.iterator.scan.ScannedRecord.{ScannedRecord}
 use Rattle.sled_core.specs.declared.iterator.scan.ScanEnd.{ScanEnd}
 use Rattle.sled_core.specs.declared.iterator.scan.ScanEnd.TheVariants.{Capped}
 use Rattle.sled_core.specs.Reached.{GoesOnIn, IsReadTo}
-use Rattle.sled_core.specs.Recoverable.{NoHeaderOfZeros, NoMessageBegins, NoBatchBegins, IsOfHistory}
+use Rattle.sled_core.specs.Recoverable.{NothingBehind, NoHeaderOfZeros, NoMessageBegins, NoBatchBegins, IsOfHistory}
 use Rattle.sled_core.specs.Scan.{IsPath, IsEnd}
 use Rattle.sled_core.specs.Tail.{least_place}
 use Rattle.sled_core.proofs.Reached.OneWrite as one
@@ -24,7 +24,7 @@ module _ (sum : List ℕ → ℕ) (none : NoHeaderOfZeros sum) (size : ℕ) (som
     (is : StandsTo sum size old H A first reach) (place : ℕ) (low : least_place size first ≤ place) (how : GoesOnIn is.scanned (slot * size) from place ⊎ BeginsSegment sum size H is.ordering A (slot * size) from asked place)
     (more : List ScannedRecord) (stop : ℕ) (why : ScanEnd) (clear : AreClear size until (max 20 from) more) (path : IsPath sum size (overwritten old (slot * size + from) asked) (slot * size) place (max 20 from) more stop)
     (end : IsEnd sum size (overwritten old (slot * size + from) asked) (slot * size) place stop why) (truth : (x : ScannedRecord) → Contains more x → IsOfHistory sum size (overwritten old (slot * size + from) asked) H x)
-    (caps : why ≡ Capped → NoMessageBegins H (place + stop) (place + size) × NoBatchBegins H (place + stop) (place + size)) where
+    (caps : NothingBehind size H place stop why) where
   abbrev new : List ℕ
   new = overwritten old (slot * size + from) asked
 

@@ -12,7 +12,7 @@ use Rattle.sled_core.specs.declared.iterator.scan.ScannedRecord.{ScannedRecord}
 use Rattle.sled_core.specs.declared.iterator.scan.ScanEnd.{ScanEnd}
 use Rattle.sled_core.specs.declared.iterator.scan.ScanEnd.TheVariants.{Capped, Broken}
 use Rattle.sled_core.specs.OpenBatches.{stable_below}
-use Rattle.sled_core.specs.Recoverable.{NoHeaderOfZeros, NoMessageBegins, NoBatchBegins, IsOfHistory, IsMarkOf, IsMarkBelow}
+use Rattle.sled_core.specs.Recoverable.{NothingBehind, NoHeaderOfZeros, NoMessageBegins, NoBatchBegins, IsOfHistory, IsMarkOf, IsMarkBelow}
 use Rattle.sled_core.specs.Scan.{IsPath, IsEnd, IsScan}
 use Rattle.sled_core.proofs.Torn.TornLemmas.{after_write}
 use Rattle.sled_core.proofs.Torn.WrittenBegun.{none_stood, header_new}
@@ -37,7 +37,7 @@ module _ (sum : List ℕ → ℕ) (size : ℕ) (some : 256 ≤ size) (old : List
       (place : ℕ) (mark : ℤ) (header : IsHeader sum (take 20 asked) (pos place) mark) (low : least ≤ place) (whole : place % size ≡ 0) (fits : place + size < 2 ^ 63)
       (its_mark : IsMarkOf H (record { place = place; slot = slot * size; mark = mark })) (mark_below : IsMarkBelow size H A mark) (alone : (s : Segment) → Contains is.ordering s → s.place ≢ place)
       (more : List ScannedRecord) (stop : ℕ) (why : ScanEnd) (path : IsPath sum size new (slot * size) place 20 more stop) (end : IsEnd sum size new (slot * size) place stop why)
-      (truth : (x : ScannedRecord) → Contains more x → IsOfHistory sum size new H x) (caps : why ≡ Capped → NoMessageBegins H (place + stop) (place + size) × NoBatchBegins H (place + stop) (place + size)) where
+      (truth : (x : ScannedRecord) → Contains more x → IsOfHistory sum size new H x) (caps : NothingBehind size H place stop why) where
     done : length asked ≤ length asked
     done = all_done sum size some old slot from asked inside there
 

@@ -9,7 +9,7 @@ use Rattle.sled_core.specs.declared.iterator.scan.ScannedRecord.{ScannedRecord}
 use Rattle.sled_core.specs.declared.iterator.scan.ScanEnd.{ScanEnd}
 use Rattle.sled_core.specs.declared.iterator.scan.ScanEnd.TheVariants.{Capped, Broken}
 use Rattle.sled_core.specs.OpenBatches.{stable_below}
-use Rattle.sled_core.specs.Recoverable.{NoMessageBegins, NoBatchBegins, IsOfHistory}
+use Rattle.sled_core.specs.Recoverable.{NothingBehind, NoMessageBegins, NoBatchBegins, IsOfHistory}
 use Rattle.sled_core.specs.Scan.{IsFoundSegment, IsPath, IsEnd, IsScan}
 use Rattle.sled_core.proofs.Read.FoundLemmas.{found_there}
 use Rattle.sled_core.proofs.Torn.TornLemmas.{after_write}
@@ -35,7 +35,7 @@ module _ (sum : List ℕ → ℕ) (size : ℕ) (some : 256 ≤ size) (old : List
   module _ (z : Scanned) (known : Contains is.scanned z) (in_slot : z.segment.slot ≡ slot * size) (ended : z.stop ≡ from) (broken : z.why ≡ Broken)
       (more : List ScannedRecord) (stop : ℕ) (why : ScanEnd) (path : IsPath sum size new (slot * size) z.segment.place from more stop) (end : IsEnd sum size new (slot * size) z.segment.place stop why)
       (truth : (x : ScannedRecord) → Contains more x → IsOfHistory sum size new H x)
-      (caps : why ≡ Capped → NoMessageBegins H (z.segment.place + stop) (z.segment.place + size) × NoBatchBegins H (z.segment.place + stop) (z.segment.place + size)) where
+      (caps : NothingBehind size H z.segment.place stop why) where
     z_found : IsFoundSegment sum size old least z.segment
     z_found = (is.numbers.found z.segment).0 (segment_there sum size old is.ordering is.scanned is.reads z known).0
 

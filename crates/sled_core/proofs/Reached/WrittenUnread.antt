@@ -1,5 +1,5 @@
 -- A write that no reader comes to, behind a gap of its segment, behind the end of a full one, or in a slot without a header, changes nothing of what stands in a log file, torn or whole.
-use Rattle.std.proofs.Common.{◌≡◌, ◌≤◌, ◌<◌, ◌+◌, ◌-◌, ◌*◌, ◌/◌, ◌∙◌, ℕ, ℤ, pos, List, [], ◌∷◌, ◌++◌, length, take, drop, replicate, get_or, refl, sym, subst, arith, inl, inr, length-append, length-take}
+use Rattle.std.proofs.Common.{◌≢◌, ◌≡◌, ◌≤◌, ◌<◌, ◌+◌, ◌-◌, ◌*◌, ◌/◌, ◌∙◌, ℕ, ℤ, pos, List, [], ◌∷◌, ◌++◌, length, take, drop, replicate, get_or, refl, sym, subst, arith, inl, inr, length-append, length-take}
 use Rattle.std.specs.List.{Contains}
 use Rattle.std.proofs.Math.Nat.{mul-mod_left}
 use Rattle.std.proofs.lemmas.Bool.{cases_lt}
@@ -72,7 +72,7 @@ module _ (sum : List ℕ → ℕ) (size : ℕ) (some : 256 ≤ size) (old : List
       stands_unread : StandsTo sum size left H A first reach
       stands_unread =
           behind.stands_behind sum size some old slot from asked now left inside no_more leaves same H A first reach is z known in_slot z.stop (omega (arith, before)) refl
-          [] z.stop Broken (λ x none. absurd (in_nothing x none)) (λ capped. absurd (let never : Broken ≡ Capped = capped in cc)) (none_met new left sum size (slot * size) place z.stop Broken ends) (λ other. absurd (other broken))
+          [] z.stop Broken (λ x none. absurd (in_nothing x none)) ((λ capped. absurd (let never : Broken ≡ Capped = capped in cc)), (λ goes. absurd (goes refl))) (none_met new left sum size (slot * size) place z.stop Broken ends) (λ other. absurd (other broken))
 
     -- What a crash leaves of it.
     pub torn_unread : (now left : List ℕ) → length now ≤ length asked → LeavesLog (after_write old (slot * size + from) asked now) left → {placed : List (ℕ × List ℕ)}
@@ -111,10 +111,16 @@ module _ (sum : List ℕ → ℕ) (size : ℕ) (some : 256 ≤ size) (old : List
 
   -- Behind the end of a segment in which no header has room any more: the reading ended in front of the write, whatever that is.
   module _ (z : Scanned) (known : Contains is.scanned z) (in_slot : z.segment.slot ≡ slot * size) (before : z.stop ≤ from) (full : size < z.stop + 32) where
+    ended : z.why ≢ Broken
+    unfolding IsScan
+    ended broken =
+        let end : IsEnd sum size old z.segment.slot z.segment.place z.stop Broken = subst (λ w. IsEnd sum size old z.segment.slot z.segment.place z.stop w) broken (segment_there sum size old is.ordering is.scanned is.reads z known).1.1 in
+        absurd (let room = end.0 in omega (arith, room, full))
+
     stands_full : (now left : List ℕ) → length now ≤ length asked → LeavesLog (after_write old (slot * size + from) asked now) left → IsSameBeside sum size old left (slot * size) → StandsTo sum size left H A first reach
     stands_full now left no_more leaves same =
         behind.stands_behind sum size some old slot from asked now left inside no_more leaves same H A first reach is z known in_slot z.stop before refl
-        [] z.stop Full (λ x none. absurd (in_nothing x none)) (λ capped. absurd (let never : Full ≡ Capped = capped in cc)) (none_met new left sum size (slot * size) z.segment.place z.stop Full full) (λ goes broken. cc)
+        [] z.stop Full (λ x none. absurd (in_nothing x none)) ((λ capped. absurd (let never : Full ≡ Capped = capped in cc)), (λ goes. (is.caps z known).1 ended)) (none_met new left sum size (slot * size) z.segment.place z.stop Full full) (λ goes broken. cc)
 
     -- What a crash leaves of it.
     pub torn_full : (now left : List ℕ) → length now ≤ length asked → LeavesLog (after_write old (slot * size + from) asked now) left → {placed : List (ℕ × List ℕ)}

@@ -1,5 +1,5 @@
 -- The first sealed buffer is written, behind what was written of its segment or at the beginning of it: what a crash leaves of it stands as before, and all of it up to the end of those behind it that were written before it. Where the last of these fills the segment, the next one begins.
-use Rattle.std.proofs.Common.{◌≡◌, ◌≤◌, ◌<◌, ◌+◌, ◌/◌, ◌%◌, ◌^◌, ◌⊎◌, ◌∙◌, ℕ, max, Bool, true, false, nat_lt, if◌then◌else◌, List, [], ◌∷◌, length, take, get_or, sym, ap, subst, arith, inl, inr}
+use Rattle.std.proofs.Common.{◌≢◌, ◌≡◌, ◌≤◌, ◌<◌, ◌+◌, ◌/◌, ◌%◌, ◌^◌, ◌⊎◌, ◌∙◌, ℕ, max, Bool, true, false, nat_lt, if◌then◌else◌, List, [], ◌∷◌, length, take, get_or, sym, ap, subst, arith, inl, inr}
 use Rattle.std.specs.List.{All}
 use Rattle.std.proofs.lemmas.Bool.{cases_lt}
 use Rattle.std.proofs.lemmas.Bool.Decides.{nat_tests}
@@ -72,13 +72,13 @@ module _ (sum : List ℕ → ℕ) (none : NoHeaderOfZeros sum) (size : ℕ) (som
   its_mark : from ≡ 0 → HasMark sum site asked H
   its_mark none_yet = front_mark sum site bytes H from b.end none_yet (run.headed none_yet) (header none_yet)
 
-  module _ (has : HasOnly H (completed_in site bytes done) (batches_in site bytes done) (site.place + max 20 from) (site.place + stop)) where
+  module _ (has : HasOnly H (completed_in site bytes done) (batches_in site bytes done) (site.place + max 20 from) (site.place + stop)) (no_end : why ≢ Broken → NoBatchEnds H (site.place + last) (site.place + size)) where
     -- What a crash leaves of it.
     pub torn_head_sealed : (now left : List ℕ) → length now ≤ length asked → LeavesLog (after_write file (site.slot + from) asked now) left → {placed : List (ℕ × List ℕ)}
         → NoForeignLog sum size (after_write file (site.slot + from) asked now) placed left → StandsTo sum size left H (stable_below reach H.batches) first reach
     torn_head_sealed now left no_more leaves {placed} only_own =
         torn_head sum none size some file site from asked b.end run.covers run.reaches run.headed has_room place_begins slot_begins place_small its_mark run.clean
-        reach first alone (met_in site bytes records) last why run.clear run.path run.ends (run.truth H has) (run.caps H has) now left no_more leaves {placed = placed} only_own
+        reach first alone (met_in site bytes records) last why run.clear run.path run.ends (run.truth H has) (run.caps H has no_end) now left no_more leaves {placed = placed} only_own
 
     -- All of it, where the file reaches up to the slot.
     module _ (ordered : Ascends H.messages) (there : site.slot ≤ length file) (low_enough : least_place size first ≤ site.place) (has_header : HasHeader sum new site) where
@@ -89,32 +89,25 @@ module _ (sum : List ℕ → ℕ) (none : NoHeaderOfZeros sum) (size : ℕ) (som
           let reason : why ≡ ending_at size stop = elim run.records.last [ inl l ↦ l.2 | inr f ↦ absurd (f.unlike plain) ] in
           subst (λ n. StandsAmong sum size new site n others (site.place + n) H first) at
           (head_written sum none size some file site from asked b.end run.covers run.reaches run.headed has_room place_begins slot_begins place_small its_mark run.clean
-          reach first alone (met_in site bytes records) last why run.clear run.path run.ends (run.truth H has) (run.caps H has) ordered there low_enough has_header
+          reach first alone (met_in site bytes records) last why run.clear run.path run.ends (run.truth H has) (run.caps H has no_end) ordered there low_enough has_header
           (λ more. let test : nat_lt size (stop + 32) ≡ false = grind (arith, nat_tests, more, at) in reason ∙ ap (λ (o : Bool). if o then Full else Broken) test))
 
       -- Where the last of them ends with the segment, the reading goes on in the next one: what was reached ends with the records.
-      pub head_sealed_filled : stop ≡ size → NoBatchEnds H (site.place + last) (site.place + size)
-          → StandsFull sum size new (site.place + size) others (site.place + last) H first
-      head_sealed_filled full no_end =
+      pub head_sealed_filled : stop ≡ size → StandsFull sum size new (site.place + size) others (site.place + last) H first
+      head_sealed_filled full =
           let within : last ≤ size = let end = run.records.low in let low = run.low in omega (arith, end, low) in
           head_filled sum none size some file site from asked b.end run.covers run.reaches run.headed has_room place_begins slot_begins place_small its_mark run.clean
-          reach first alone (met_in site bytes records) last why run.clear run.path run.ends (run.truth H has) (run.caps H has) ordered there low_enough has_header
-          (elim run.records.last [ inl l ↦ λ broken. never_broken size stop (sym (full_ending l.2) ∙ broken) | inr f ↦ λ broken. never_broken size last (sym f.reason ∙ broken) ]) within
+          reach first alone (met_in site bytes records) last why run.clear run.path run.ends (run.truth H has) (run.caps H has no_end) ordered there low_enough has_header
+          goes within
           (elim run.records.last [ inl l ↦ λ m at_m. none_between l.1 m.place | inr f ↦ (run.none_filled H has f).0 ])
           (elim run.records.last [ inl l ↦ λ c at_c. none_between l.1 c.low | inr f ↦ (run.none_filled H has f).1 ])
-          no_end
+          (no_end goes)
         where
           full_ending : why ≡ ending_at size stop → why ≡ rest_why size stop
           full_ending is = let test : nat_lt size (stop + 32) ≡ true = grind (arith, nat_tests, full) in is ∙ ap (λ (o : Bool). if o then Full else Broken) test ∙ sym (ap (λ (o : Bool). if o then Full else Capped) test)
 
+          goes : why ≢ Broken
+          goes = elim run.records.last [ inl l ↦ λ broken. never_broken size stop (sym (full_ending l.2) ∙ broken) | inr f ↦ λ broken. never_broken size last (sym f.reason ∙ broken) ]
+
           none_between : last ≡ stop → (n : ℕ) → (n < site.place + last) ⊎ (site.place + size ≤ n)
           none_between at n = elim (cases_lt n (site.place + last)) [ inl below ↦ inl below | inr above ↦ inr (omega (arith, above, at, full)) ]
-
-      -- Where no other one was begun, the next one is to begin behind what fills the segment, in a slot of zeros.
-      pub head_sealed_full : others ≡ [] → last < stop → NoBatchEnds H (site.place + last) (site.place + size)
-          → (slot' : ℕ) → ((i : ℕ) → slot' ≤ i → i < slot' + 20 → get_or new i 0 ≡ 0) → StandsAlone sum size new (record { place = site.place + size; slot = slot' }) 0 (site.place + last) H first
-      head_sealed_full no_others filled no_end slot' zeros = elim run.records.last [
-        | inl l ↦ absurd (let at = l.1 in omega (arith, at, filled))
-        | inr f ↦ begins_alone sum none size new (site.place + size) (site.place + last) H first slot' zeros
-            (subst (λ (xs : List BegunSegment). StandsFull sum size new (site.place + size) xs (site.place + last) H first) no_others (head_sealed_filled f.full no_end))
-      ]

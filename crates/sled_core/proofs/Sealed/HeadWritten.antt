@@ -19,7 +19,7 @@ use Rattle.sled_core.specs.declared.iterator.scan.ScanEnd.TheVariants.{Capped, B
 use Rattle.sled_core.specs.Fits.{HasMark}
 use Rattle.sled_core.specs.LogFile.{HasHeader}
 use Rattle.sled_core.specs.Reached.{BeginsNext, BeginsOne, BegunSegment, GoesOnIn, IsReadTo, IsSoFar, ReachesIn, StandsAmong, StandsIn}
-use Rattle.sled_core.specs.Recoverable.{NoHeaderOfZeros, NoMessageBegins, NoBatchBegins, NoBatchEnds, IsOfHistory}
+use Rattle.sled_core.specs.Recoverable.{NothingBehind, NoHeaderOfZeros, NoMessageBegins, NoBatchBegins, NoBatchEnds, IsOfHistory}
 use Rattle.sled_core.specs.Scan.{IsFoundSegment, IsPath, IsEnd, IsScan}
 use Rattle.sled_core.specs.Tail.{Scanned, IsScanned, least_place}
 use Rattle.sled_core.proofs.Read.FoundLemmas.{pos_injective}
@@ -91,7 +91,7 @@ module _ (sum : List ℕ → ℕ) (none : NoHeaderOfZeros sum) (size : ℕ) (som
     (more : List ScannedRecord) (stop : ℕ) (why : ScanEnd) (clear : AreClear size until (max 20 from) more)
     (path : IsPath sum size (overwritten old (site.slot + from) asked) site.slot site.place (max 20 from) more stop) (end : IsEnd sum size (overwritten old (site.slot + from) asked) site.slot site.place stop why)
     (truth : (x : ScannedRecord) → Contains more x → IsOfHistory sum size (overwritten old (site.slot + from) asked) H x)
-    (caps : why ≡ Capped → NoMessageBegins H (site.place + stop) (site.place + size) × NoBatchBegins H (site.place + stop) (site.place + size)) where
+    (caps : NothingBehind size H site.place stop why) where
   abbrev new : List ℕ
   new = overwritten old (site.slot + from) asked
 

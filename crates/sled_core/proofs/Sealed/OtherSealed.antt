@@ -1,5 +1,5 @@
 -- The first buffer that isn't written of a segment behind the first one is written, at its beginning or behind what is written of it: what a crash leaves of it stands as before, and all of it too, with that segment up to the end of those behind it that were written before it.
-use Rattle.std.proofs.Common.{◌≡◌, ◌⊎◌, ◌≤◌, ◌<◌, ◌<ℤ◌, ◌+◌, ◌/◌, ◌%◌, ◌^◌, ◌∙◌, ℕ, pos, max, Bool, false, nat_lt, if◌then◌else◌, List, [], ◌∷◌, ◌++◌, length, take, sym, ap, subst, arith, inl, inr}
+use Rattle.std.proofs.Common.{◌≢◌, ◌≡◌, ◌⊎◌, ◌≤◌, ◌<◌, ◌<ℤ◌, ◌+◌, ◌/◌, ◌%◌, ◌^◌, ◌∙◌, ℕ, pos, max, Bool, false, nat_lt, if◌then◌else◌, List, [], ◌∷◌, ◌++◌, length, take, sym, ap, subst, arith, inl, inr}
 use Rattle.std.specs.List.{All}
 use Rattle.std.proofs.lemmas.Bool.{cases_lt}
 use Rattle.std.proofs.lemmas.Bool.Decides.{nat_tests}
@@ -23,7 +23,7 @@ use Rattle.sled_core.specs.Buffers.{batches_in, completed_in, records_end, recor
 use Rattle.sled_core.specs.Fits.{HasMark}
 use Rattle.sled_core.specs.LogFile.{HasHeader}
 use Rattle.sled_core.specs.Reached.{BegunSegment, IsSoFar, StandsAmong, StandsIn}
-use Rattle.sled_core.specs.Recoverable.{NoHeaderOfZeros}
+use Rattle.sled_core.specs.Recoverable.{NoBatchEnds, NoHeaderOfZeros}
 use Rattle.sled_core.specs.Scan.{IsFoundSegment}
 use Rattle.sled_core.specs.SealedBuffers.{Agrees, AreSealed, Laid, run_end, run_count, bytes_between}
 use Rattle.sled_core.specs.Tail.{least_place}
@@ -145,14 +145,14 @@ module _ (sum : List ℕ → ℕ) (none : NoHeaderOfZeros sum) (size : ℕ) (som
     | inr f ↦ inr (f.full, λ broken. never_broken size last (sym f.reason ∙ broken))
   ]
 
-  module _ (has : HasOnly H (completed_in y.site bytes done) (batches_in y.site bytes done) (y.site.place + max 20 y.from) (y.site.place + stop)) where
+  module _ (has : HasOnly H (completed_in y.site bytes done) (batches_in y.site bytes done) (y.site.place + max 20 y.from) (y.site.place + stop)) (no_end : why ≢ Broken → NoBatchEnds H (y.site.place + last) (y.site.place + size)) where
     -- What a crash leaves of it.
     pub torn_other_sealed : (now left : List ℕ) → length now ≤ length asked → LeavesLog (after_write file (y.site.slot + y.from) asked now) left → {placed : List (ℕ × List ℕ)}
         → NoForeignLog sum size (after_write file (y.site.slot + y.from) asked now) placed left → StandsTo sum size left H (stable_below reach H.batches) first reach
     torn_other_sealed now left no_more leaves {placed} only_own = elim (cases_lt size (y.from + 32)) [
       | inl full ↦ torn_rest sum size some file y.site y.from y.from asked fits slot_begins (omega arith) left_over full reach H first among.stands its_stands now left no_more leaves {placed = placed} only_own
       | inr room ↦ torn_other sum none size some file site from pre y post asked b.end run.covers run.reaches run.headed room place_begins slot_begins place_small its_mark run.clean
-          reach first among (met_in y.site bytes records) last why run.clear run.path run.ends (run.truth H has) (run.caps H has) now left no_more leaves {placed = placed} only_own
+          reach first among (met_in y.site bytes records) last why run.clear run.path run.ends (run.truth H has) (run.caps H has no_end) now left no_more leaves {placed = placed} only_own
     ]
 
     -- All of it, where the file reaches up to the slot: the segment stands as far as the buffers that are written now.
@@ -163,5 +163,5 @@ module _ (sum : List ℕ → ℕ) (none : NoHeaderOfZeros sum) (size : ℕ) (som
       | inr room ↦ (
           let h = header_new room in
           other_written sum none size some file site from pre y post asked b.end run.covers run.reaches run.headed room place_begins slot_begins place_small its_mark run.clean
-          reach first among (met_in y.site bytes records) last why run.clear run.path run.ends (run.truth H has) (run.caps H has) ordered there low h.0 h.1 stop so_far)
+          reach first among (met_in y.site bytes records) last why run.clear run.path run.ends (run.truth H has) (run.caps H has no_end) ordered there low h.0 h.1 stop so_far)
     ]

@@ -21,7 +21,7 @@ use Rattle.sled_core.specs.declared.iterator.scan.ScanEnd.TheVariants.{Capped}
 use Rattle.sled_core.specs.Fits.{HasMark}
 use Rattle.sled_core.specs.LogFile.{HasHeader}
 use Rattle.sled_core.specs.Reached.{BeginsOne, BegunSegment, GoesOnIn, IsLed, IsReadTo, IsSoFar, ReachesIn, StandsAmong, StandsIn}
-use Rattle.sled_core.specs.Recoverable.{NoHeaderOfZeros, NoMessageBegins, NoBatchBegins, IsOfHistory, IsMarkBelow}
+use Rattle.sled_core.specs.Recoverable.{NothingBehind, NoHeaderOfZeros, NoMessageBegins, NoBatchBegins, IsOfHistory, IsMarkBelow}
 use Rattle.sled_core.specs.Scan.{IsFoundSegment, IsPath, IsEnd}
 use Rattle.sled_core.specs.Tail.{least_place}
 use Rattle.sled_core.proofs.Reached.BufferPath.{buffer_header, buffer_mark_below}
@@ -51,7 +51,7 @@ module _ (sum : List ℕ → ℕ) (none : NoHeaderOfZeros sum) (size : ℕ) (som
     (path : IsPath sum size (overwritten old (y.site.slot + y.from) asked) y.site.slot y.site.place (max 20 y.from) more stop)
     (end : IsEnd sum size (overwritten old (y.site.slot + y.from) asked) y.site.slot y.site.place stop why)
     (truth : (x : ScannedRecord) → Contains more x → IsOfHistory sum size (overwritten old (y.site.slot + y.from) asked) H x)
-    (caps : why ≡ Capped → NoMessageBegins H (y.site.place + stop) (y.site.place + size) × NoBatchBegins H (y.site.place + stop) (y.site.place + size)) where
+    (caps : NothingBehind size H y.site.place stop why) where
   abbrev new : List ℕ
   new = overwritten old (y.site.slot + y.from) asked
 

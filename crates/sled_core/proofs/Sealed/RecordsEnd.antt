@@ -1,5 +1,7 @@
 -- Where the records end of entries of which the last one may fill the segment, and why the reading ends there.
-use Rattle.std.proofs.Common.{◌≡◌, ◌≢◌, ◌⊎◌, ◌≤◌, ◌<◌, ◌+◌, ◌∙◌, ℕ, Bool, true, false, if◌then◌else◌, List, [], ◌∷◌, ◌++◌, sym, ap, arith, refl, inl, inr}
+use Rattle.std.proofs.lemmas.Bool.Decides.{nat_tests}
+use Rattle.sled_core.specs.declared.iterator.scan.ScanEnd.TheVariants.{Full, Broken}
+use Rattle.std.proofs.Common.{zero, suc, nat_lt, take, drop, ◌-◌, ◌≡◌, ◌≢◌, ◌⊎◌, ◌≤◌, ◌<◌, ◌+◌, ◌∙◌, ℕ, Bool, true, false, if◌then◌else◌, List, [], ◌∷◌, ◌++◌, sym, ap, arith, refl, inl, inr}
 use Rattle.std.specs.List.{All}
 use Rattle.std.proofs.lemmas.List.Elements.{All-cons, All-tail}
 use Rattle.sled_core.specs.declared.iobuf.ReservationState.{ReservationState}
@@ -11,7 +13,7 @@ use Rattle.sled_core.specs.Buffers.{IsChain, IsPadding, NoPadding, Stands, batch
 use Rattle.sled_core.specs.Caps.{rest_why}
 use Rattle.sled_core.proofs.Holds.OpenTickets.{both_ended, by_first}
 use Rattle.sled_core.proofs.Reached.BufferPath.{ending_at}
-use Rattle.sled_core.proofs.Reserve.Entries.{padding_in, some_long}
+use Rattle.sled_core.proofs.Reserve.Entries.{reserved_in, padding_in, some_long}
 use Rattle.sled_core.proofs.Reserve.Ranges.{chain_grows}
 
 -- why the reading ends where these records end: for what fills the segment, or as behind any last record
@@ -124,3 +126,31 @@ records_on (x ∷ xs) ys end plain =
       ap (λ (o : Bool). if o then [] else x ∷ records_of (xs ++ ys)) is ∙ ap (λ (l : List Reserved). x ∷ l) rest.0,
       ap (λ (o : Bool). if o then x.from else records_end (xs ++ ys) end) is ∙ rest.1,
     )
+
+-- Where the reading ends behind the records of the first entries, but for want of a record, it ends behind those of all.
+module _ (sum : List ℕ → ℕ) (size number : ℕ) (bytes : List ℕ) where
+  no_room : (stop : ℕ) → ending_at size stop ≢ Broken → size < stop + 32
+  no_room stop goes = by (nat_lt size (stop + 32)) refl goes where
+    by : (o : Bool) → nat_lt size (stop + 32) ≡ o → (if o then Full else Broken) ≢ Broken → size < stop + 32
+    by true test on = grind (arith, nat_tests, test)
+    by false test on = absurd (on refl)
+
+  -- behind an offset where no header has room there is at most what fills the segment
+  covered_behind : (rs : List Reserved) (stop end : ℕ) → IsChain stop rs end → All (Stands sum size number bytes) rs → size < stop + 32 → records_end rs end ≤ stop
+  covered_behind [] stop end chain stand full = omega (arith, chain)
+  covered_behind (r ∷ rs) stop end chain stand full = by (padding_state r.state) refl where
+    by : (o : Bool) → padding_state r.state ≡ o → (if o then r.from else records_end rs end) ≤ stop
+    by true is = let at = chain.0 in omega (arith, at)
+    by false is = absurd (let room = (reserved_in sum size number bytes r (plain_is r.state is) (stand 0 r (omega arith))).room in let at = chain.0 in omega (arith, room, at, full))
+
+  pub records_covered : (from : ℕ) (rs : List Reserved) (n stop end : ℕ) → IsChain from (take n rs) stop → IsChain stop (drop n rs) end → All (Stands sum size number bytes) rs
+      → records_why size (take n rs) stop ≢ Broken → records_end rs end ≤ records_end (take n rs) stop
+  records_covered from rs zero stop end chain rest stand goes = covered_behind rs stop end rest stand (no_room stop goes)
+  records_covered from [] (suc n) stop end chain rest stand goes = covered_behind [] stop end rest stand (no_room stop goes)
+  records_covered from (r ∷ rs) (suc n) stop end chain rest stand goes =
+      by (padding_state r.state) (records_covered (from + r.len) rs n stop end chain.1 rest (All-tail (Stands sum size number bytes) r rs stand)) goes
+    where
+      by : (o : Bool) → (records_why size (take n rs) stop ≢ Broken → records_end rs end ≤ records_end (take n rs) stop) → (if o then rest_why size r.from else records_why size (take n rs) stop) ≢ Broken
+          → (if o then r.from else records_end rs end) ≤ (if o then r.from else records_end (take n rs) stop)
+      by true later on = omega arith
+      by false later on = later on

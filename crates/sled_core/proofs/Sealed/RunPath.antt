@@ -17,7 +17,7 @@ use Rattle.sled_core.specs.declared.iterator.scan.ScanEnd.TheVariants.{Full, Cap
 use Rattle.sled_core.specs.Buffers.{IsChain, batches_in, completed_in, message_in, none_open, records_end, records_of, NoPadding, Stands}
 use Rattle.sled_core.specs.Caps.{rest_why, segment_rest}
 use Rattle.sled_core.specs.Fits.{HasMark}
-use Rattle.sled_core.specs.Recoverable.{NoBatchBegins, NoMessageBegins, IsOfHistory}
+use Rattle.sled_core.specs.Recoverable.{NoBatchEnds, NothingBehind, NoBatchBegins, NoMessageBegins, IsOfHistory}
 use Rattle.sled_core.specs.Scan.{IsPath, IsEnd}
 use Rattle.sled_core.specs.SealedBuffers.{Agrees, AreSealed, AreZeros, sealed_end, LaidOne, Laid, now_written, run_end, run_count, behind_run, bytes_between}
 use Rattle.sled_core.proofs.Reached.BufferPath.{HasOnly, ending_at, never_capped, path_to, truth_to}
@@ -81,8 +81,8 @@ pub record MeetsRun (sum : List ℕ → ℕ) (size : ℕ) (file new : List ℕ) 
   -- in what fills the segment nothing of the history begins
   pub none_filled : (H : History) → HasOnly H (completed_in site bytes done) (batches_in site bytes done) (site.place + max 20 from) (site.place + stop) → IsFilled sum size (site.place / size) bytes done stop (records_end done stop) (records_why size done stop)
       → NoMessageBegins H (site.place + records_end done stop) (site.place + size) × NoBatchBegins H (site.place + records_end done stop) (site.place + size)
-  pub caps : (H : History) → HasOnly H (completed_in site bytes done) (batches_in site bytes done) (site.place + max 20 from) (site.place + stop) → records_why size done stop ≡ Capped
-      → NoMessageBegins H (site.place + records_end done stop) (site.place + size) × NoBatchBegins H (site.place + records_end done stop) (site.place + size)
+  pub caps : (H : History) → HasOnly H (completed_in site bytes done) (batches_in site bytes done) (site.place + max 20 from) (site.place + stop)
+      → (records_why size done stop ≢ Broken → NoBatchEnds H (site.place + records_end done stop) (site.place + size)) → NothingBehind size H site.place (records_end done stop) (records_why size done stop)
 
 module _ (sum : List ℕ → ℕ) (size : ℕ) (file : List ℕ) (site : SegmentPosition)
     (place_begins : site.place % size ≡ 0) (slot_begins : site.slot % size ≡ 0) (place_small : site.place + size < 2 ^ 63) (slot_small : site.slot + size < 2 ^ 63)
@@ -278,8 +278,8 @@ module _ (sum : List ℕ → ℕ) (size : ℕ) (file : List ℕ) (site : Segment
           ]),
         )
 
-    caps : why ≡ Capped → NoMessageBegins H (site.place + last) (site.place + size) × NoBatchBegins H (site.place + last) (site.place + size)
-    caps capped = elim its.last [ inl l ↦ absurd (never_capped size stop (sym l.2 ∙ capped)) | inr f ↦ none_filled f ]
+    caps : (why ≢ Broken → NoBatchEnds H (site.place + last) (site.place + size)) → NothingBehind size H site.place last why
+    caps no_end = ((λ capped. elim its.last [ inl l ↦ absurd (never_capped size stop (sym l.2 ∙ capped)) | inr f ↦ none_filled f ]), no_end)
 
   pub meets_run : MeetsRun sum size file new site bytes from b.end done stop
   meets_run = record {

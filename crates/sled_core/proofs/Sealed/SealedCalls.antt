@@ -1,5 +1,7 @@
 -- One of the sealed buffers of the current segment is written, the first one or another: what a crash leaves of it stands as before, and behind it the log file stands up to where the run at the front ends, with what the buffers have laid in it.
-use Rattle.std.proofs.Common.{◌≡◌, ◌≤◌, ◌<◌, ◌+◌, ◌/◌, ◌%◌, ◌^◌, ◌-◌, ◌⊎◌, replicate, ℕ, pos, max, false, List, [], ◌∷◌, ◌++◌, length, take, sym, subst, arith, inl, inr}
+use Rattle.sled_core.specs.declared.iterator.scan.ScanEnd.TheVariants.{Broken}
+use Rattle.sled_core.proofs.Sealed.RecordsEnd.{records_why}
+use Rattle.std.proofs.Common.{◌≢◌, ◌≡◌, ◌≤◌, ◌<◌, ◌+◌, ◌/◌, ◌%◌, ◌^◌, ◌-◌, ◌⊎◌, replicate, ℕ, pos, max, false, List, [], ◌∷◌, ◌++◌, length, take, sym, subst, arith, inl, inr}
 use Rattle.std.specs.List.{All}
 use Rattle.std.proofs.lemmas.Bool.{cases_lt}
 use Rattle.sled_codec.specs.History.{History}
@@ -9,11 +11,11 @@ use Rattle.sled_store.proofs.Histories.Ascending.{Ascends}
 use Rattle.sled_core.specs.declared.iobuf.Reserved.{Reserved}
 use Rattle.sled_core.specs.declared.iobuf.Sealed.{Sealed}
 use Rattle.sled_core.specs.declared.iobuf.SegmentPosition.{SegmentPosition}
-use Rattle.sled_core.specs.Buffers.{NoPadding, Stands, batches_in, completed_in}
+use Rattle.sled_core.specs.Buffers.{records_end, NoPadding, Stands, batches_in, completed_in}
 use Rattle.sled_core.specs.Fits.{HasMark}
 use Rattle.sled_core.specs.LogFile.{HasHeader, padded}
 use Rattle.sled_core.specs.Reached.{BegunSegment, StandsAmong}
-use Rattle.sled_core.specs.Recoverable.{NoHeaderOfZeros}
+use Rattle.sled_core.specs.Recoverable.{NoBatchEnds, NoHeaderOfZeros}
 use Rattle.sled_core.specs.SealedBuffers.{Agrees, AreSealed, Laid, run_count, run_end, sealed_end, bytes_between}
 use Rattle.sled_core.specs.Tail.{least_place}
 use Rattle.sled_core.proofs.Flush.LogFileLemmas.{header_kept}
@@ -80,10 +82,10 @@ module _ (sum : List ℕ → ℕ) (size : ℕ) (some : 256 ≤ size) (old : List
 
     -- A reader reads up to the end of those that are written now, where nothing fills the segment.
     pub first_alone : All (Stands sum size (site.place / size) bytes) rs → from + 32 ≤ size → All NoPadding (take (b.count + run_count rest) rs) → NoHeaderOfZeros sum → (reach : ℕ) (first : SnapshotModel) → HasOnly H (completed_in site bytes (take (b.count + run_count rest) rs)) (batches_in site bytes (take (b.count + run_count rest) rs)) (site.place + max 20 from) (site.place + run_end b.end rest)
-        → Ascends H.messages → least_place size first ≤ site.place
+        → (records_why size (take (b.count + run_count rest) rs) (run_end b.end rest) ≢ Broken → NoBatchEnds H (site.place + records_end (take (b.count + run_count rest) rs) (run_end b.end rest)) (site.place + size)) → Ascends H.messages → least_place size first ≤ site.place
         → (to : ℕ) → site.slot ≤ to → {others : List BegunSegment} → StandsAmong sum size (filled to) site from others reach H first → StandsAmong sum size (padded to new) site (run_end b.end rest) others (site.place + run_end b.end rest) H first
-    first_alone stand room plain zeros reach first has ordered low to far {others} alone = subst (λ (l : List ℕ). StandsAmong sum size l site (run_end b.end rest) others (site.place + run_end b.end rest) H first) (same_file to)
-        (head_sealed_written sum zeros size some (filled to) site place_begins slot_begins place_small slot_small bytes from begins rs b rest fresh closed are rise inside stand room header (laid_filled to) reach first alone has
+    first_alone stand room plain zeros reach first has no_end ordered low to far {others} alone = subst (λ (l : List ℕ). StandsAmong sum size l site (run_end b.end rest) others (site.place + run_end b.end rest) H first) (same_file to)
+        (head_sealed_written sum zeros size some (filled to) site place_begins slot_begins place_small slot_small bytes from begins rs b rest fresh closed are rise inside stand room header (laid_filled to) reach first alone has no_end
         ordered (omega (arith, padded_long to old, far)) low (subst (λ (l : List ℕ). HasHeader sum l site) (sym (same_file to)) (padded_header to)) plain)
 
   -- Another one, behind a first one that isn't written.

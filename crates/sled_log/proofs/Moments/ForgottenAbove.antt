@@ -98,9 +98,12 @@ log_forgets sum size log H A first cut is lower = record {
   is_tail = is.is_tail;
   marks = λ s there. mark_of H cut.0 s (is.marks s there);
   truth = λ s x there met. of_kept H cut.0 sum size log x (lower s x there met) (is.truth s x there met);
-  caps = λ s there capped. let none = is.caps s there capped in (
-    no_message H cut.0 (s.segment.place + s.stop) (s.segment.place + size) none.0,
-    no_batch H cut.0 (s.segment.place + s.stop) (s.segment.place + size) none.1,
+  caps = λ s there. (
+    (λ capped. let none = (is.caps s there).0 capped in (
+      no_message H cut.0 (s.segment.place + s.stop) (s.segment.place + size) none.0,
+      no_batch H cut.0 (s.segment.place + s.stop) (s.segment.place + size) none.1,
+    )),
+    (λ goes b at_b. (is.caps s there).1 goes b (batch_from H cut.0 b at_b).0),
   );
   tail_there = is.tail_there;
   is_cut = is.is_cut;

@@ -10,7 +10,7 @@ use Rattle.sled_core.specs.declared.iterator.scan.ScannedRecord.{ScannedRecord}
 use Rattle.sled_core.specs.declared.iterator.scan.ScanEnd.{ScanEnd}
 use Rattle.sled_core.specs.declared.iterator.scan.ScanEnd.TheVariants.{Capped, Broken}
 use Rattle.sled_core.specs.Scan.{IsEnd}
-use Rattle.sled_core.specs.Recoverable.{NoMessageBegins, NoBatchBegins, StandsInline, IsOfHistory, IsSegmentOf, IsMarkOf, IsMarkBelow, LiesInSegment, IsPlacedBatch, IsRecoverableLog, scanned_below, cut_over, cut_from}
+use Rattle.sled_core.specs.Recoverable.{NothingBehind, NoMessageBegins, NoBatchBegins, StandsInline, IsOfHistory, IsSegmentOf, IsMarkOf, IsMarkBelow, LiesInSegment, IsPlacedBatch, IsRecoverableLog, scanned_below, cut_over, cut_from}
 use Rattle.sled_log.specs.Recovery.{Scanned, IsOrdering, AreScanned, GoesOn, IsTail, tail_begins, tail_end, opens, open_at, stops_in, cut_of, least_place}
 use Rattle.sled_core.proofs.Tail.Multiples.{apart, put_down}
 use Rattle.sled_core.proofs.Tail.OneReading.{one_scan}
@@ -27,7 +27,7 @@ pub record IsOfCut (sum : List ℕ → ℕ) (size : ℕ) (log : List ℕ) (H : H
   pub reads : AreScanned sum size log ordering scanned
   pub marks : (s : Segment) → Contains ordering s → IsMarkOf H s
   pub truth : (s : Scanned) (x : ScannedRecord) → Contains scanned s → Contains s.met x → IsOfHistory sum size log H x
-  pub caps : (s : Scanned) → Contains scanned s → s.why ≡ Capped → NoMessageBegins H (s.segment.place + s.stop) (s.segment.place + size) × NoBatchBegins H (s.segment.place + s.stop) (s.segment.place + size)
+  pub caps : (s : Scanned) → Contains scanned s → NothingBehind size H s.segment.place s.stop s.why
   pub passes : A ≤ cut.0
   pub marks_below : (s : Segment) → Contains ordering s → IsMarkBelow size H cut.0 s.mark
   pub placed : (m : Message) → Contains H.messages m → m.place < cut.0 → LiesInSegment size m

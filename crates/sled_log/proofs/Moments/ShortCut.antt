@@ -256,9 +256,12 @@ module _ (sum : List ℕ → ℕ) (size : ℕ) (log left : List ℕ) (some : 256
       is_tail = tail_left.1;
       marks = is.marks;
       truth = truth_left;
-      caps = λ t there capped. ⊎_elim
-          (λ same. let no : Broken ≡ Capped = sym short.broken ∙ sym (ap (λ (u : Scanned). u.why) same) ∙ capped in cc)
-          (λ other. is.caps t other.0 capped)
+      caps = λ t there. ⊎_elim
+          (λ same. let broken : t.why ≡ Broken = ap (λ (u : Scanned). u.why) same ∙ short.broken in (
+            (λ capped. let no : Broken ≡ Capped = sym broken ∙ capped in cc),
+            (λ goes. absurd (goes broken)),
+          ))
+          (λ other. is.caps t other.0)
           (read.2 t there);
       tail_there = is.tail_there;
       is_cut = sym same_cut ∙ sym (ap (cut_from size first ys) tail_left.2);

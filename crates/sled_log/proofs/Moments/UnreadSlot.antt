@@ -166,11 +166,14 @@ module _ (sum : List ℕ → ℕ) (size : ℕ) (old : List ℕ) (some : 256 ≤ 
           let from = read.2 y there in
           let found = (numbers.found y.segment).0 (segment_there sum size left standing read.0 read.1 y there).0 in
           scan_truth sum size old at count now left no_more leaves only_own none H begins y found from.2.scan (λ u at_u. o.truth from.0 u from.1 (from.2.met u at_u)) x met;
-      caps = λ y there capped.
+      caps = λ y there.
           let from = read.2 y there in
           ⊎_elim
-          (λ same. o.caps y (subst (Contains o.scanned) (sym same) from.1) capped)
-          (λ broken. let no : Broken ≡ Capped = sym broken ∙ capped in cc)
+          (λ same. o.caps y (subst (Contains o.scanned) (sym same) from.1))
+          (λ broken. (
+            (λ capped. let no : Broken ≡ Capped = sym broken ∙ capped in cc),
+            (λ goes. absurd (goes broken)),
+          ))
           from.2.or_broken;
       passes = o.passes;
       marks_below = λ s there. o.marks_below s (from_filter stands o.ordering s there).0;

@@ -114,7 +114,7 @@ module _ (sum : List ℕ → ℕ) (size : ℕ) (log : List ℕ) (some : 256 ≤ 
           let stands = stand_in s.segment.place (passed sum size log some H A first cut is end s ss ends below) _ (passed_stands sum size log some H A first cut is end s ss ends below) x passes in
           let bound = bounds.0 in
           omega (arith, stands.2, place, len, bound)
-      in_tail (t, known_t, place_t, inr (capped, past, within)) = ⊎_elim (λ under. absurd (omega (arith, under, past))) (λ over. absurd (omega (arith, over, within))) ((is.caps t known_t capped).0 m there)
+      in_tail (t, known_t, place_t, inr (capped, past, within)) = ⊎_elim (λ under. absurd (omega (arith, under, past))) (λ over. absurd (omega (arith, over, within))) (((is.caps t known_t).0 capped).0 m there)
 
     -- Batches.
 
@@ -162,7 +162,7 @@ module _ (sum : List ℕ → ℕ) (size : ℕ) (log : List ℕ) (some : 256 ≤ 
           let bound = bounds.0 in
           omega (arith, ended, far, bound))
           stops.why
-      in_tail (t, known_t, place_t, inr (capped, past, within)) = ⊎_elim (λ under. absurd (omega (arith, under, past))) (λ over. absurd (omega (arith, over, within))) ((is.caps t known_t capped).1 b there)
+      in_tail (t, known_t, place_t, inr (capped, past, within)) = ⊎_elim (λ under. absurd (omega (arith, under, past))) (λ over. absurd (omega (arith, over, within))) (((is.caps t known_t).0 capped).1 b there)
 
     -- The cut splits neither.
     pub cut_fits : CutFits H cut.0
