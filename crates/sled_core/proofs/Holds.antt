@@ -9,6 +9,7 @@ pub mod CompletedLemmas
 pub mod HoldsLemmas
 pub mod KeptCalls
 pub mod LastEnds
+pub mod MarkedSegments
 pub mod OpenTickets
 pub mod ReachLemmas
 pub mod RunningLemmas

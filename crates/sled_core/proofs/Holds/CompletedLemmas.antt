@@ -198,7 +198,7 @@ laid_ends sum size site device fault bytes from bs rs i r H holds there is_open 
     let stands : HasText sum (site.place / size) bytes r = (reserved_in sum size (site.place / size) bytes r (open_plain r.state is_open) (at_there (Stands sum size (site.place / size) bytes) rs i r there holds.stand)).text in
     let inside = at_there (λ z. (max 20 from ≤ z.from) × (z.from + z.len ≤ length bytes)) rs i r there (chain_within (max 20 from) (length bytes) rs holds.chain) in
     let headed = stands.headed in let long = stands.long in
-    laid_over device.log.bytes site.slot bytes from bs size rs i r word k state closed there is_open (omega (arith, headed, long)) inside.1 holds.chain are laid
+    laid_over device.log.bytes site.slot bytes from bs size rs i r (ending word k) state closed there is_open (omega (arith, headed, long)) inside.1 holds.chain are laid
 
 -- The message of a reservation lies behind what was written.
 pub behind_written : (sum : List ℕ → ℕ) (size : ℕ) (site : SegmentPosition) (device : State) (fault : Option IoError) (bytes : List ℕ) (from : ℕ) (bs : List Sealed) (rs : List Reserved) (i : ℕ) (r : Reserved) (H : History)

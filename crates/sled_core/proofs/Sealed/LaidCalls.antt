@@ -40,16 +40,16 @@ written_beside bytes at xs i fits beside = sym (one_byte (written bytes at xs) i
     same (inr behind) = part-written_behind bytes xs at i 1 behind fits
 
 -- A reservation ends, which is open.
-pub laid_over : (log : List ℕ) (slot : ℕ) (bytes : List ℕ) (from : ℕ) (bs : List Sealed) (to : ℕ) (rs : List Reserved) (i : ℕ) (r : Reserved) (word : ℕ) (k : MessageKind) (state : ReservationState) → open_state state ≡ false
-    → slice_get rs i ≡ Some r → r.state ≡ Open → r.from + length (ending word k) ≤ r.from + r.len → r.from + r.len ≤ length bytes → IsChain (max 20 from) rs (length bytes) → AreSealed from rs bs
-    → Laid log slot bytes from bs to → Laid log slot (written bytes r.from (ending word k)) from (one_ended i bs) to
-laid_over log slot bytes from bs to rs i r word k state closed there is_open own within chain are laid =
-    let new : List ℕ = written bytes r.from (ending word k) in
-    let fits : r.from + length (ending word k) ≤ length bytes = omega (arith, own, within) in
+pub laid_over : (log : List ℕ) (slot : ℕ) (bytes : List ℕ) (from : ℕ) (bs : List Sealed) (to : ℕ) (rs : List Reserved) (i : ℕ) (r : Reserved) (text : List ℕ) (state : ReservationState) → open_state state ≡ false
+    → slice_get rs i ≡ Some r → r.state ≡ Open → length text ≤ r.len → r.from + r.len ≤ length bytes → IsChain (max 20 from) rs (length bytes) → AreSealed from rs bs
+    → Laid log slot bytes from bs to → Laid log slot (written bytes r.from text) from (one_ended i bs) to
+laid_over log slot bytes from bs to rs i r text state closed there is_open own within chain are laid =
+    let new : List ℕ = written bytes r.from text in
+    let fits : r.from + length text ≤ length bytes = omega (arith, own, within) in
     laid_ended log slot new from i bs to
-    (laid_other log slot bytes new from bs to (omega (arith, length-written bytes (ending word k) r.from fits))
-    (ended_same r (ended state r) refl refl (λ xs j at. open_fewer xs j r (ended state r) at is_open closed) bytes new (λ j beside. written_beside bytes r.from (ending word k) j fits (away j beside)) from (length bytes) rs bs i there chain are) laid)
+    (laid_other log slot bytes new from bs to (omega (arith, length-written bytes text r.from fits))
+    (ended_same r (ended state r) refl refl (λ xs j at. open_fewer xs j r (ended state r) at is_open closed) bytes new (λ j beside. written_beside bytes r.from text j fits (away j beside)) from (length bytes) rs bs i there chain are) laid)
   where
-    away : (j : ℕ) → (j < r.from) ⊎ (r.from + r.len ≤ j) → (j < r.from) ⊎ (r.from + length (ending word k) ≤ j)
+    away : (j : ℕ) → (j < r.from) ⊎ (r.from + r.len ≤ j) → (j < r.from) ⊎ (r.from + length text ≤ j)
     away j (inl before) = inl before
     away j (inr behind) = inr (omega (arith, behind, own))
