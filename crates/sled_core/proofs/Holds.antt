@@ -1,4 +1,5 @@
 pub mod Added
+pub mod AddedBatch
 pub mod BatchLemmas
 pub mod BegunLemmas
 pub mod BehindKept
@@ -10,9 +11,11 @@ pub mod HoldsLemmas
 pub mod KeptCalls
 pub mod LastEnds
 pub mod OpenTickets
+pub mod PlacesBeside
 pub mod ReachLemmas
 pub mod RunningLemmas
 pub mod SealedCalls
 pub mod StandsAdds
+pub mod StandsBatch
 pub mod WholeHistory
 pub mod WholeLemmas

@@ -1,0 +1,171 @@
+-- A log file that stands up to a place does so for the history with one more batch, which is to begin behind what is written of one of the segments that were begun.
+use Rattle.std.proofs.Common.{⊎_elim, ◌≡◌, ◌⊎◌, ◌∙◌, ◌+◌, ◌<◌, ◌<ℤ◌, ◌%◌, ◌≤◌, ℕ, pos, List, sym, ap, subst, arith, inl, inr}
+use Rattle.std.specs.List.{Contains}
+use Rattle.sled_codec.specs.History.{AddsBatch, Batch, History, Message, table}
+use Rattle.sled_codec.specs.Snapshots.{SnapshotModel}
+use Rattle.sled_core.specs.OpenBatches.{stable_below}
+use Rattle.sled_core.specs.declared.iobuf.SegmentPosition.{SegmentPosition}
+use Rattle.sled_core.specs.declared.iterator.Segment.{Segment}
+use Rattle.sled_core.specs.declared.iterator.scan.ScannedRecord.{ScannedRecord}
+use Rattle.sled_core.specs.declared.iterator.scan.ScanEnd.TheVariants.{Capped}
+use Rattle.sled_core.specs.Reached.{BegunSegment, ReachesIn, StandsAmong, StandsTo}
+use Rattle.sled_core.specs.Recoverable.{IsMarkBelow, IsMarkOf, IsOfHistory, IsPlacedBatch, IsSegmentOf, NoBatchBegins, NoHeaderOfZeros, NoMessageBegins, StandsInline}
+use Rattle.sled_core.specs.SealedBuffers.{AreZeros}
+use Rattle.sled_core.specs.Tail.{Scanned}
+use Rattle.sled_core.proofs.Holds.AddedBatch.{batch_stays, entry_was, message_stays, message_was, no_batch, no_end, no_message, was_or_batch}
+use Rattle.sled_core.proofs.Holds.PlacesBeside.{LiesBeside, cap_beside, first_below, lies_beside, met_beside}
+use Rattle.sled_core.proofs.Reached.Marks.{less_than}
+use Rattle.sled_core.proofs.Reached.SegmentsBeside.{follows}
+use Rattle.sled_core.proofs.Reached.StableBelow.{stable_one_more}
+use Rattle.sled_core.proofs.Sealed.HeadWritten.{reached_near}
+use Rattle.sled_core.proofs.Tail.GreatestMark.{mark_below}
+
+module _ (sum : List ℕ → ℕ) (size : ℕ) (log : List ℕ) (some : 256 ≤ size) (H H' : History) (A : ℕ) (first : SnapshotModel) (reach : ℕ) (is : StandsTo sum size log H A first reach)
+    (b : Batch) (beside : (t : Scanned) → Contains is.scanned t → LiesBeside size t b.low) (marks : (s : Segment) → Contains is.ordering s → s.mark <ℤ pos b.low)
+    (adds : AddsBatch H b H') (above : reach ≤ b.low) (placed : (c : Batch) → Contains H'.batches c → IsPlacedBatch size H' c) where
+  met_apart : (s : Scanned) (x : ScannedRecord) → Contains is.scanned s → Contains s.met x → (low : ℕ) → x.place ≤ low → (b.low < low) ⊎ (x.place + x.len ≤ b.low)
+  met_apart = met_beside sum size log some H A first reach is b.low beside
+
+  -- the batch begins in no record that is met
+  of_new : (s : Scanned) (x : ScannedRecord) → Contains is.scanned s → Contains s.met x → IsOfHistory sum size log H x → IsOfHistory sum size log H' x
+  of_new s x here there (inl own) =
+      inl (
+        own.0,
+        message_stays H H' b adds own.0 own.1,
+        own.2,
+        own.3,
+        no_message H H' b adds (x.place + 1) (x.place + x.len) own.4,
+        no_batch H H' b adds x.place (x.place + x.len) (met_apart s x here there x.place (omega arith)) own.5,
+      )
+  of_new s x here there (inr (inl batch)) =
+      inr (inl (
+        batch.0,
+        batch_stays H H' b adds batch.0 batch.1,
+        batch.2,
+        batch.3,
+        no_message H H' b adds x.place (x.place + x.len) batch.4,
+        no_batch H H' b adds (x.place + 1) (x.place + x.len) (met_apart s x here there (x.place + 1) (omega arith)) batch.5,
+      ))
+  of_new s x here there (inr (inr given_up)) =
+      inr (inr (
+        given_up.0,
+        no_message H H' b adds x.place (x.place + x.len) given_up.1,
+        no_batch H H' b adds x.place (x.place + x.len) (met_apart s x here there x.place (omega arith)) given_up.2,
+      ))
+
+  -- where a segment ended in a Cap, the batch begins in another one
+  caps_new : (s : Scanned) → Contains is.scanned s → s.why ≡ Capped → NoMessageBegins H' (s.segment.place + s.stop) (s.segment.place + size) × NoBatchBegins H' (s.segment.place + s.stop) (s.segment.place + size)
+  caps_new s here capped =
+      let had = is.caps s here capped in
+      let other = cap_beside sum size log some H A first reach is b.low beside s here capped in
+      (no_message H H' b adds (s.segment.place + s.stop) (s.segment.place + size) had.0, no_batch H H' b adds (s.segment.place + s.stop) (s.segment.place + size) other had.1)
+
+  -- a mark lies below the batch
+  mark_of_new : (s : Segment) → Contains is.ordering s → IsMarkOf H' s
+  mark_of_new s there =
+      let mark = is.marks s there in
+      record {
+        least = mark.least;
+        below = mark.below;
+        apart = λ c at. ⊎_elim (mark.apart c) (λ own. inl (subst (λ (d : Batch). s.mark <ℤ pos d.low) own (marks s there))) (was_or_batch H H' b adds c at);
+      }
+
+  -- and so one that lay below the place does so still
+  mark_new : (s : Segment) → Contains is.ordering s → IsMarkBelow size H' A s.mark
+  mark_new s there = elim (is.marks_below s there) [
+    | inl below ↦ inl below
+    | inr (n, at, under, message, batch, ended) ↦ (
+        let low : n < b.low = mark_below s.mark n b.low at (marks s there) in
+        inr (
+          n,
+          at,
+          under,
+          no_message H H' b adds A (n + 1) message,
+          no_batch H H' b adds A (n + 1) (inr (omega (arith, low))) batch,
+          no_end H H' b adds A (n + 1) (omega (arith, low)) ended,
+        ))
+  ]
+
+  segment_of_new : (cut : ℕ) (n : Message) → IsSegmentOf sum size log H cut n → IsSegmentOf sum size log H' cut n
+  segment_of_new cut n of = record { segment = of.segment; found = of.found; place = of.place; reached = of.reached; whole = λ x there same under. of.whole x (message_was H H' b adds x there) same under }
+
+  needed_new : (cut : ℕ) → A ≤ cut → cut ≤ reach → (page : ℕ) (n : Message) → Contains (table H' cut page) n → IsSegmentOf sum size log H' cut n × StandsInline sum size log n n.pointer
+  needed_new cut low high page n entry = let had = is.needed cut low high page n (entry_was H H' b adds cut page n entry) in (segment_of_new cut n had.0, had.1)
+
+  -- no other batch begins below the place than did
+  closed_new : (c : Batch) → Contains H'.batches c → c.low < A → c.peg < A
+  closed_new c there low = elim (was_or_batch H H' b adds c there) [
+    | inl was ↦ is.closed c was low
+    | inr own ↦ absurd (let passes = is.passes in let same = ap (λ (d : Batch). d.low) own in omega (arith, same, low, passes, above))
+  ]
+
+  -- It stands so for the history with the batch.
+  pub stands-marks : (A' : ℕ) → A' ≡ A → StandsTo sum size log H' A' first reach
+  stands-marks A' same = record {
+    ordering = is.ordering;
+    numbers = is.numbers;
+    scanned = is.scanned;
+    reads = is.reads;
+    marks = mark_of_new;
+    truth = λ s x here there. of_new s x here there (is.truth s x here there);
+    caps = caps_new;
+    not_below = let low = is.not_below in omega (arith, low, same);
+    passes = let passes = is.passes in omega (arith, passes, same);
+    marks_below = λ s there. subst (λ n. IsMarkBelow size H' n s.mark) (sym same) (mark_new s there);
+    placed = λ x there. is.placed x (message_was H H' b adds x there);
+    batched = placed;
+    closed = λ c there low. let under = closed_new c there (omega (arith, low, same)) in omega (arith, under, same);
+    gapless = is.gapless;
+    needed = λ cut low high. needed_new cut (omega (arith, low, same)) high;
+  }
+
+-- And a write goes on in each segment that was begun where it did, where the batch is to begin behind what is written of the first one, and beside all that is found.
+among-marks : (sum : List ℕ → ℕ) (size : ℕ) (log : List ℕ) (site : SegmentPosition) (from reach : ℕ) (H H' : History) (first : SnapshotModel) → 256 ≤ size → (b : Batch) → AddsBatch H b H' → site.place + from ≤ b.low
+    → ((c : Batch) → Contains H'.batches c → IsPlacedBatch size H' c)
+    → {others : List BegunSegment} (had : StandsAmong sum size log site from others reach H first) → ((t : Scanned) → Contains had.stands.scanned t → LiesBeside size t b.low) → StandsAmong sum size log site from others reach H' first
+unfolding stands-marks
+among-marks sum size log site from reach H H' first some b adds above placed had beside =
+    let near : reach ≤ site.place + from = reached_near size H site.place from reach had.reached in
+    let past : reach ≤ b.low = omega (arith, near, above) in
+    let marks : (s : Segment) → Contains had.stands.ordering s → s.mark <ℤ pos b.low = λ s there. less_than s.mark (site.place + from) b.low above (had.below s ((had.stands.numbers.found s).0 there)) in
+    record {
+      stands = stands-marks sum size log some H H' (stable_below reach H.batches) first reach had.stands b beside marks adds past placed (stable_below reach H'.batches) (ap (stable_below reach) adds.batches ∙ stable_one_more reach H.batches b past);
+      reached = reached_marks had.reached;
+      led = had.led;
+      here = had.here;
+      behind = had.behind;
+      apart = had.apart;
+      last = had.last;
+      below = had.below;
+    }
+  where
+    reached_marks : ReachesIn size H site.place from reach → ReachesIn size H' site.place from reach
+    reached_marks (inl at) = inl at
+    reached_marks (inr (begins, next)) =
+        let past : site.place ≤ b.low = omega (arith, above, begins) in
+        inr (
+          begins,
+          record {
+            above = next.above;
+            next = next.next;
+            no_message = no_message H H' b adds reach site.place next.no_message;
+            no_batch = no_batch H H' b adds reach site.place (inr past) next.no_batch;
+            no_end = no_end H H' b adds reach site.place past next.no_end;
+          },
+        )
+
+-- So it is where the batch is to begin in the first one,
+pub alone-marks : (sum : List ℕ → ℕ) (size : ℕ) (log : List ℕ) (site : SegmentPosition) (from reach : ℕ) (H H' : History) (first : SnapshotModel) → 256 ≤ size → NoHeaderOfZeros sum → site.place % size ≡ 0
+    → (from ≡ 0 → AreZeros log site.slot (site.slot + 20)) → (b : Batch) → AddsBatch H b H' → site.place + from ≤ b.low → b.low < site.place + size → from + 32 ≤ size → ((c : Batch) → Contains H'.batches c → IsPlacedBatch size H' c)
+    → {others : List BegunSegment} → StandsAmong sum size log site from others reach H first → StandsAmong sum size log site from others reach H' first
+alone-marks sum size log site from reach H H' first some none place_begins clean b adds above inside room placed alone =
+    among-marks sum size log site from reach H H' first some b adds above placed alone (lies_beside sum size log H (stable_below reach H.batches) first reach alone.stands site from some none place_begins clean alone.here room b.low above inside)
+
+-- and where it is to begin in one behind it, behind what is written of that.
+pub other-marks : (sum : List ℕ → ℕ) (size : ℕ) (log : List ℕ) (site : SegmentPosition) (from reach : ℕ) (H H' : History) (first : SnapshotModel) → 256 ≤ size → NoHeaderOfZeros sum → {others : List BegunSegment} (y : BegunSegment) → Contains others y → y.site.place % size ≡ 0
+    → (y.from ≡ 0 → AreZeros log y.site.slot (y.site.slot + 20)) → (b : Batch) → AddsBatch H b H' → y.site.place + y.from ≤ b.low → b.low < y.site.place + size → y.from + 32 ≤ size → ((c : Batch) → Contains H'.batches c → IsPlacedBatch size H' c)
+    → StandsAmong sum size log site from others reach H first → StandsAmong sum size log site from others reach H' first
+other-marks sum size log site from reach H H' first some none {others} y known place_begins clean b adds above inside room placed had =
+    let under = first_below sum size log site from others reach H first some had y.site.place place_begins (follows site others had.apart y known).0 in
+    among-marks sum size log site from reach H H' first some b adds (omega (arith, under, above)) placed had
+    (lies_beside sum size log H (stable_below reach H.batches) first reach had.stands y.site y.from some none place_begins clean (had.behind y known) room b.low above inside)
