@@ -2,6 +2,7 @@ pub mod Added
 pub mod AddedBatch
 pub mod BatchLemmas
 pub mod BegunLemmas
+pub mod BegunMarks
 pub mod BehindKept
 pub mod BufferEnds
 pub mod CallMoments
