@@ -11,6 +11,7 @@ pub mod CompletedLemmas
 pub mod HoldsLemmas
 pub mod KeptCalls
 pub mod LastEnds
+pub mod MarkedLemmas
 pub mod OpenTickets
 pub mod PlacesBeside
 pub mod ReachLemmas

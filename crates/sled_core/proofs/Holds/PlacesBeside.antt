@@ -50,7 +50,7 @@ lies_beside sum size log H A first reach is site from some none place_begins cle
 
 module _ (sum : List ℕ → ℕ) (size : ℕ) (log : List ℕ) (some : 256 ≤ size) (H : History) (A : ℕ) (first : SnapshotModel) (reach : ℕ) (is : StandsTo sum size log H A first reach)
     (place : ℕ) (beside : (t : Scanned) → Contains is.scanned t → LiesBeside size t place) where
-  -- what is met in a segment lies in it, in front of where it was read to, and so not about that place
+  -- what is met in a segment lies in front of where it was read to, and so beside that place
   pub met_beside : (s : Scanned) (x : ScannedRecord) → Contains is.scanned s → Contains s.met x → (low : ℕ) → x.place ≤ low → (place < low) ⊎ (x.place + x.len ≤ place)
   unfolding IsScan
   met_beside s x here there low up =

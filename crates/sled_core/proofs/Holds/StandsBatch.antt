@@ -9,16 +9,17 @@ use Rattle.sled_core.specs.declared.iterator.Segment.{Segment}
 use Rattle.sled_core.specs.declared.iterator.scan.ScannedRecord.{ScannedRecord}
 use Rattle.sled_core.specs.declared.iterator.scan.ScanEnd.TheVariants.{Capped}
 use Rattle.sled_core.specs.Reached.{BegunSegment, ReachesIn, StandsAmong, StandsTo}
-use Rattle.sled_core.specs.Recoverable.{IsMarkBelow, IsMarkOf, IsOfHistory, IsPlacedBatch, IsSegmentOf, NoBatchBegins, NoHeaderOfZeros, NoMessageBegins, StandsInline}
+use Rattle.sled_core.specs.Recoverable.{BeginsInSegment, IsMarkBelow, IsMarkOf, IsOfHistory, IsPlacedBatch, IsSegmentOf, NoBatchBegins, NoHeaderOfZeros, NoMessageBegins, StandsInline}
 use Rattle.sled_core.specs.SealedBuffers.{AreZeros}
 use Rattle.sled_core.specs.Tail.{Scanned}
-use Rattle.sled_core.proofs.Holds.AddedBatch.{batch_stays, entry_was, message_stays, message_was, no_batch, no_end, no_message, was_or_batch}
+use Rattle.sled_core.proofs.Holds.AddedBatch.{batch_stays, batch_there, entry_was, message_stays, message_was, no_batch, no_end, no_message, was_or_batch}
 use Rattle.sled_core.proofs.Holds.PlacesBeside.{LiesBeside, cap_beside, first_below, lies_beside, met_beside}
 use Rattle.sled_core.proofs.Reached.Marks.{less_than}
 use Rattle.sled_core.proofs.Reached.SegmentsBeside.{follows}
 use Rattle.sled_core.proofs.Reached.StableBelow.{stable_one_more}
 use Rattle.sled_core.proofs.Sealed.HeadWritten.{reached_near}
 use Rattle.sled_core.proofs.Tail.GreatestMark.{mark_below}
+use Rattle.sled_core.proofs.Tail.Multiples.{one_multiple, put_down}
 
 module _ (sum : List ℕ → ℕ) (size : ℕ) (log : List ℕ) (some : 256 ≤ size) (H H' : History) (A : ℕ) (first : SnapshotModel) (reach : ℕ) (is : StandsTo sum size log H A first reach)
     (b : Batch) (beside : (t : Scanned) → Contains is.scanned t → LiesBeside size t b.low) (marks : (s : Segment) → Contains is.ordering s → s.mark <ℤ pos b.low)
@@ -154,18 +155,28 @@ among-marks sum size log site from reach H H' first some b adds above placed had
           },
         )
 
+-- Where a batch is to begin in a segment, a record has room behind what is written of it.
+room_before : (size : ℕ) → 256 ≤ size → (place from low : ℕ) → place % size ≡ 0 → BeginsInSegment size low → place + from ≤ low → low < place + size → from + 32 ≤ size
+room_before size some place from low aligned begins above inside =
+    let whole = (put_down size low).0 in
+    let at = one_multiple size some place low aligned (omega (arith, above)) inside in
+    let room = begins.room in
+    omega (arith, whole, at, room, above)
+
 -- So it is where the batch is to begin in the first one,
 pub alone-marks : (sum : List ℕ → ℕ) (size : ℕ) (log : List ℕ) (site : SegmentPosition) (from reach : ℕ) (H H' : History) (first : SnapshotModel) → 256 ≤ size → NoHeaderOfZeros sum → site.place % size ≡ 0
-    → (from ≡ 0 → AreZeros log site.slot (site.slot + 20)) → (b : Batch) → AddsBatch H b H' → site.place + from ≤ b.low → b.low < site.place + size → from + 32 ≤ size → ((c : Batch) → Contains H'.batches c → IsPlacedBatch size H' c)
+    → (from ≡ 0 → AreZeros log site.slot (site.slot + 20)) → (b : Batch) → AddsBatch H b H' → site.place + from ≤ b.low → b.low < site.place + size → ((c : Batch) → Contains H'.batches c → IsPlacedBatch size H' c)
     → {others : List BegunSegment} → StandsAmong sum size log site from others reach H first → StandsAmong sum size log site from others reach H' first
-alone-marks sum size log site from reach H H' first some none place_begins clean b adds above inside room placed alone =
+alone-marks sum size log site from reach H H' first some none place_begins clean b adds above inside placed alone =
+    let room = room_before size some site.place from b.low place_begins (placed b (batch_there H H' b adds)).begins above inside in
     among-marks sum size log site from reach H H' first some b adds above placed alone (lies_beside sum size log H (stable_below reach H.batches) first reach alone.stands site from some none place_begins clean alone.here room b.low above inside)
 
 -- and where it is to begin in one behind it, behind what is written of that.
 pub other-marks : (sum : List ℕ → ℕ) (size : ℕ) (log : List ℕ) (site : SegmentPosition) (from reach : ℕ) (H H' : History) (first : SnapshotModel) → 256 ≤ size → NoHeaderOfZeros sum → {others : List BegunSegment} (y : BegunSegment) → Contains others y → y.site.place % size ≡ 0
-    → (y.from ≡ 0 → AreZeros log y.site.slot (y.site.slot + 20)) → (b : Batch) → AddsBatch H b H' → y.site.place + y.from ≤ b.low → b.low < y.site.place + size → y.from + 32 ≤ size → ((c : Batch) → Contains H'.batches c → IsPlacedBatch size H' c)
+    → (y.from ≡ 0 → AreZeros log y.site.slot (y.site.slot + 20)) → (b : Batch) → AddsBatch H b H' → y.site.place + y.from ≤ b.low → b.low < y.site.place + size → ((c : Batch) → Contains H'.batches c → IsPlacedBatch size H' c)
     → StandsAmong sum size log site from others reach H first → StandsAmong sum size log site from others reach H' first
-other-marks sum size log site from reach H H' first some none {others} y known place_begins clean b adds above inside room placed had =
+other-marks sum size log site from reach H H' first some none {others} y known place_begins clean b adds above inside placed had =
+    let room = room_before size some y.site.place y.from b.low place_begins (placed b (batch_there H H' b adds)).begins above inside in
     let under = first_below sum size log site from others reach H first some had y.site.place place_begins (follows site others had.apart y known).0 in
     among-marks sum size log site from reach H H' first some b adds (omega (arith, under, above)) placed had
     (lies_beside sum size log H (stable_below reach H.batches) first reach had.stands y.site y.from some none place_begins clean (had.behind y known) room b.low above inside)
