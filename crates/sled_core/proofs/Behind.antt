@@ -5,6 +5,7 @@ pub mod Completes
 pub mod FitsBegun
 pub mod FitsCalls
 pub mod FitsCompleted
+pub mod FitsMarked
 pub mod FitsMoved
 pub mod FitsWritten
 pub mod FullFurther

@@ -1,6 +1,8 @@
 pub mod Added
+pub mod AddedBatch
 pub mod BatchLemmas
 pub mod BegunLemmas
+pub mod BegunMarks
 pub mod BehindKept
 pub mod BufferEnds
 pub mod CallMoments
@@ -9,11 +11,14 @@ pub mod CompletedLemmas
 pub mod HoldsLemmas
 pub mod KeptCalls
 pub mod LastEnds
+pub mod MarkedLemmas
 pub mod MarkedSegments
 pub mod OpenTickets
+pub mod PlacesBeside
 pub mod ReachLemmas
 pub mod RunningLemmas
 pub mod SealedCalls
 pub mod StandsAdds
+pub mod StandsBatch
 pub mod WholeHistory
 pub mod WholeLemmas

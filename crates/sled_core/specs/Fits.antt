@@ -241,6 +241,13 @@ EndBelow place = All (λ m. (m.place < place) × (m.place + m.size ≤ place))
 abbrev pub CloseBelow : ℕ → List Batch → Type 0
 CloseBelow place = All (λ b. (b.low < place) × (b.peg < place))
 
+-- A place lies in the record of one of these messages.
+pub record IsInRecord (ms : List Message) (place : ℕ) : Type 0 where
+  pub message : Message
+  pub there : Contains ms message
+  pub begins : message.place ≤ place
+  pub ends : place < message.place + message.size
+
 -- Of the batches of a history these begin behind what is written of a segment that lies there, and no others.
 pub record HasBatches (size : ℕ) (site : SegmentPosition) (from : ℕ) (own bs : List Batch) : Type 0 where
   pub noted : (b : Batch) → Contains own b → Contains bs b

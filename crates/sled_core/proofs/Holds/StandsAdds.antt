@@ -1,63 +1,28 @@
 -- A log file that stands up to a place does so for the history with one more message, which is to lie behind what is written of one of the segments that were begun.
-use Rattle.std.proofs.Common.{⊎_elim, ◌≡◌, ◌⊎◌, ◌∙◌, ◌+◌, ◌<◌, ◌<ℤ◌, ◌%◌, ◌≤◌, ℕ, pos, List, sym, ap, subst, arith, inl, inr}
+use Rattle.std.proofs.Common.{⊎_elim, ◌≡◌, ◌⊎◌, ◌+◌, ◌<◌, ◌<ℤ◌, ◌%◌, ◌≤◌, ℕ, pos, List, sym, ap, subst, arith, inl, inr}
 use Rattle.std.specs.List.{Contains}
-use Rattle.std.proofs.lemmas.Bool.{cases_lt, cases_order}
 use Rattle.sled_codec.specs.History.{Message, Batch, History, AddsMessage, table}
-use Rattle.sled_codec.specs.Places.{part}
-use Rattle.sled_codec.specs.Record.{IsHeader}
 use Rattle.sled_codec.specs.Snapshots.{SnapshotModel}
 use Rattle.sled_codec.proofs.Histories.{among}
 use Rattle.sled_core.specs.OpenBatches.{stable_below}
 use Rattle.sled_core.specs.declared.iobuf.SegmentPosition.{SegmentPosition}
 use Rattle.sled_core.specs.declared.iterator.Segment.{Segment}
 use Rattle.sled_core.specs.declared.iterator.scan.ScannedRecord.{ScannedRecord}
-use Rattle.sled_core.specs.declared.iterator.scan.ScanEnd.TheVariants.{Capped, Broken}
-use Rattle.sled_core.specs.Reached.{BegunSegment, GoesOnIn, ReachesIn, StandsAmong, StandsIn, StandsTo}
+use Rattle.sled_core.specs.declared.iterator.scan.ScanEnd.TheVariants.{Capped}
+use Rattle.sled_core.specs.Reached.{BegunSegment, ReachesIn, StandsAmong, StandsTo}
 use Rattle.sled_core.specs.Recoverable.{NothingBehind, NoHeaderOfZeros, NoMessageBegins, NoBatchBegins, StandsInline, IsMarkBelow, IsOfHistory, IsSegmentOf, LiesInSegment}
-use Rattle.sled_core.specs.Scan.{IsFoundSegment, IsScan}
 use Rattle.sled_core.specs.SealedBuffers.{AreZeros}
-use Rattle.sled_core.specs.Tail.{Scanned, IsScanned, least_place}
+use Rattle.sled_core.specs.Tail.{Scanned}
 use Rattle.sled_core.proofs.Reached.Marks.{less_than}
-use Rattle.sled_core.proofs.Reached.SegmentsBeside.{follows, going_in}
-use Rattle.sled_core.proofs.Tail.OneTail.{place_aligned, segment_there}
+use Rattle.sled_core.proofs.Reached.SegmentsBeside.{follows}
 use Rattle.sled_core.proofs.Sealed.HeadWritten.{reached_near}
 use Rattle.sled_core.proofs.Tail.GreatestMark.{mark_below}
-use Rattle.sled_core.proofs.Tail.Multiples.{apart}
-use Rattle.sled_core.proofs.Tail.Rows.{path_stands, path_within, stand_in}
-use Rattle.sled_core.proofs.Tail.Tails.{one_reading}
-use Rattle.sled_core.proofs.Torn.WrittenBegun.{none_in_zeros}
 use Rattle.sled_core.proofs.Holds.Added.{was_or_added, stays_there}
 use Rattle.sled_core.proofs.Holds.BegunLemmas.{entry_stays}
-
--- A message lies in another segment than this one, or behind where this was read for want of a record.
-abbrev LiesBeside : ℕ → Scanned → Message → Type 0
-LiesBeside size t m = (m.place < t.segment.place) ⊎ (t.segment.place + size ≤ m.place) ⊎ ((t.segment.place + t.stop ≤ m.place) × (t.why ≡ Broken))
-
--- One that is to lie behind what is written of a segment that was begun, where this has room, lies beside all that is found.
-lies_beside : (sum : List ℕ → ℕ) (size : ℕ) (log : List ℕ) (H : History) (A : ℕ) (first : SnapshotModel) (reach : ℕ) (is : StandsTo sum size log H A first reach) (site : SegmentPosition) (from : ℕ) → 256 ≤ size → NoHeaderOfZeros sum → site.place % size ≡ 0
-    → (from ≡ 0 → AreZeros log site.slot (site.slot + 20)) → StandsIn sum size log (least_place size first) is.scanned site from → from + 32 ≤ size → (m : Message) → site.place + from ≤ m.place → m.place < site.place + size
-    → (t : Scanned) → Contains is.scanned t → LiesBeside size t m
-lies_beside sum size log H A first reach is site from some none place_begins clean its room m above inside t there =
-    let least : ℕ = least_place size first in
-    let known = segment_there sum size log is.ordering is.scanned is.reads t there in
-    let found : IsFoundSegment sum size log least t.segment = (is.numbers.found t.segment).0 known.0 in
-    let aligned : t.segment.place % size ≡ 0 = place_aligned sum size log least is.ordering is.numbers t.segment known.0 in
-    elim (cases_order t.segment.place site.place) [
-      | inl same ↦ elim (cases_lt 0 from) [
-        | inl begun ↦ (
-            let going : GoesOnIn is.scanned site.slot from site.place = going_in sum size log least is.scanned site from its begun room in
-            let one : t ≡ going.scan = one_reading sum size log some least is.ordering is.numbers is.scanned is.reads t going.scan there going.there (same ∙ sym going.at_place) in
-            let stop = going.ended in
-            inr (inr (omega (arith, same, stop, ap (λ (y : Scanned). y.stop) one, above), ap (λ (y : Scanned). y.why) one ∙ going.broken)))
-        | inr begins ↦ absurd (none_in_zeros sum 20 none (omega arith) log site.slot (clean (omega (arith, begins))) (pos t.segment.place) t.segment.mark
-            (subst (λ n. IsHeader sum (part log n 20) (pos t.segment.place) t.segment.mark) (its.only t.segment found same) found.header))
-      ]
-      | inr (inl lower) ↦ (let far = apart size (omega (arith, some)) t.segment.place site.place aligned place_begins lower in inr (inl (omega (arith, far, above))))
-      | inr (inr higher) ↦ (let far = apart size (omega (arith, some)) site.place t.segment.place place_begins aligned higher in inl (omega (arith, far, inside)))
-    ]
+use Rattle.sled_core.proofs.Holds.PlacesBeside.{LiesBeside, cap_beside, first_below, lies_beside, met_beside}
 
 module _ (sum : List ℕ → ℕ) (size : ℕ) (log : List ℕ) (some : 256 ≤ size) (H H' : History) (A : ℕ) (first : SnapshotModel) (reach : ℕ) (is : StandsTo sum size log H A first reach)
-    (m : Message) (beside : (t : Scanned) → Contains is.scanned t → LiesBeside size t m) (marks : (s : Segment) → Contains is.ordering s → s.mark <ℤ pos m.place)
+    (m : Message) (beside : (t : Scanned) → Contains is.scanned t → LiesBeside size t m.place) (marks : (s : Segment) → Contains is.ordering s → s.mark <ℤ pos m.place)
     (adds : AddsMessage H m H') (above : reach ≤ m.place) (lies : LiesInSegment size m) where
   -- No message of the new history begins where none of the old one did, and the new one doesn't.
   none_begins : (low high : ℕ) → (m.place < low) ⊎ (high ≤ m.place) → NoMessageBegins H low high → NoMessageBegins H' low high
@@ -72,42 +37,23 @@ module _ (sum : List ℕ → ℕ) (size : ℕ) (log : List ℕ) (some : 256 ≤ 
   no_batch : (low high : ℕ) → NoBatchBegins H low high → NoBatchBegins H' low high
   no_batch low high none b there = none b (batch_was b there)
 
-  -- what is met in a segment lies in it, in front of where it was read to
-  met_beside : (s : Scanned) (x : ScannedRecord) → Contains is.scanned s → Contains s.met x → (low : ℕ) → x.place ≤ low → (m.place < low) ⊎ (x.place + x.len ≤ m.place)
-  unfolding IsScan
-  met_beside s x here there low up =
-      let known = segment_there sum size log is.ordering is.scanned is.reads s here in
-      let scan : IsScanned sum size log s = known.1 in
-      let slot = ((is.numbers.found s.segment).0 known.0).slot in
-      let within = path_within sum size log s.segment.slot s.segment.place slot 20 s.met s.stop (omega (arith, some)) scan.0 in
-      let lies_there = stand_in (s.segment.place + 20) s.met (s.segment.place + s.stop) (path_stands sum size log s.segment.slot s.segment.place 20 s.met s.stop scan.0) x there in
-      elim (beside s here) [
-        | inl before ↦ inl (omega (arith, before, lies_there.0, up))
-        | inr (inl behind) ↦ inr (omega (arith, behind, lies_there.2, within))
-        | inr (inr past) ↦ inr (omega (arith, past.0, lies_there.2))
-      ]
+  met_apart : (s : Scanned) (x : ScannedRecord) → Contains is.scanned s → Contains s.met x → (low : ℕ) → x.place ≤ low → (m.place < low) ⊎ (x.place + x.len ≤ m.place)
+  met_apart = met_beside sum size log some H A first reach is m.place beside
 
   of_new : (s : Scanned) (x : ScannedRecord) → Contains is.scanned s → Contains s.met x → IsOfHistory sum size log H x → IsOfHistory sum size log H' x
   of_new s x here there (inl own) =
-      inl (own.0, stays_there H H' m adds own.0 own.1, own.2, own.3, none_begins (x.place + 1) (x.place + x.len) (met_beside s x here there (x.place + 1) (omega arith)) own.4, no_batch x.place (x.place + x.len) own.5)
+      inl (own.0, stays_there H H' m adds own.0 own.1, own.2, own.3, none_begins (x.place + 1) (x.place + x.len) (met_apart s x here there (x.place + 1) (omega arith)) own.4, no_batch x.place (x.place + x.len) own.5)
   of_new s x here there (inr (inl batch)) =
-      inr (inl (batch.0, batch_stays batch.0 batch.1, batch.2, batch.3, none_begins x.place (x.place + x.len) (met_beside s x here there x.place (omega arith)) batch.4, no_batch (x.place + 1) (x.place + x.len) batch.5))
+      inr (inl (batch.0, batch_stays batch.0 batch.1, batch.2, batch.3, none_begins x.place (x.place + x.len) (met_apart s x here there x.place (omega arith)) batch.4, no_batch (x.place + 1) (x.place + x.len) batch.5))
   of_new s x here there (inr (inr given_up)) =
-      inr (inr (given_up.0, none_begins x.place (x.place + x.len) (met_beside s x here there x.place (omega arith)) given_up.1, no_batch x.place (x.place + x.len) given_up.2))
+      inr (inr (given_up.0, none_begins x.place (x.place + x.len) (met_apart s x here there x.place (omega arith)) given_up.1, no_batch x.place (x.place + x.len) given_up.2))
 
   -- where a segment ended in a Cap, the message lies in another one
   capped_new : (s : Scanned) → Contains is.scanned s → s.why ≡ Capped → NoMessageBegins H' (s.segment.place + s.stop) (s.segment.place + size) × NoBatchBegins H' (s.segment.place + s.stop) (s.segment.place + size)
   capped_new s here capped =
       let had = (is.caps s here).0 capped in
-      let other : (m.place < s.segment.place + s.stop) ⊎ (s.segment.place + size ≤ m.place) = elim (beside s here) [
-        | inl before ↦ inl (omega (arith, before))
-        | inr (inl behind) ↦ inr behind
-        | inr (inr past) ↦ absurd (not_both (sym past.1 ∙ capped))
-      ] in
+      let other = cap_beside sum size log some H A first reach is m.place beside s here capped in
       (none_begins (s.segment.place + s.stop) (s.segment.place + size) other had.0, no_batch (s.segment.place + s.stop) (s.segment.place + size) had.1)
-    where
-      not_both : Broken ≡ Capped → ⊥
-      not_both same = cc
 
   caps_new : (s : Scanned) → Contains is.scanned s → NothingBehind size H' s.segment.place s.stop s.why
   caps_new s here = ((λ capped. capped_new s here capped), (λ goes b there. (is.caps s here).1 goes b (batch_was b there)))
@@ -155,28 +101,9 @@ module _ (sum : List ℕ → ℕ) (size : ℕ) (log : List ℕ) (some : 256 ≤ 
     needed = λ cut low high. needed_new cut (omega (arith, low, same)) high;
   }
 
--- A segment that begins behind the first one begins behind all that is written of that.
-first_below : (sum : List ℕ → ℕ) (size : ℕ) (log : List ℕ) (site : SegmentPosition) (from : ℕ) (others : List BegunSegment) (reach : ℕ) (H : History) (first : SnapshotModel) → 256 ≤ size → StandsAmong sum size log site from others reach H first
-    → (place : ℕ) → place % size ≡ 0 → site.place < place → site.place + from ≤ place
-unfolding IsScan
-first_below sum size log site from others reach H first some had place begins higher = elim (cases_lt 0 from) [
-  | inl later ↦ (
-      let is = had.stands in
-      let r = had.here.read later in
-      let t : Scanned = r.2.scan in
-      let at = r.2.at_place in
-      let ended = r.2.ended in
-      let known = segment_there sum size log is.ordering is.scanned is.reads t r.2.there in
-      let aligned : t.segment.place % size ≡ 0 = place_aligned sum size log (least_place size first) is.ordering is.numbers t.segment known.0 in
-      let far = apart size (omega (arith, some)) t.segment.place place aligned begins (omega (arith, at, higher)) in
-      let within = path_within sum size log t.segment.slot t.segment.place ((is.numbers.found t.segment).0 known.0).slot 20 t.met t.stop (omega (arith, some)) known.1.0 in
-      elim r.3 [ inl (stops, broken) ↦ omega (arith, far, at, within, ended, stops) | inr (whole, goes) ↦ omega (arith, far, at, whole) ])
-  | inr none ↦ omega (arith, none, higher)
-]
-
 -- And a write goes on in each segment that was begun where it did, where the message is to lie behind what is written of the first one, and beside all that is found.
 among-adds : (sum : List ℕ → ℕ) (size : ℕ) (log : List ℕ) (site : SegmentPosition) (from reach : ℕ) (H H' : History) (first : SnapshotModel) → 256 ≤ size → (m : Message) → AddsMessage H m H' → site.place + from ≤ m.place → LiesInSegment size m
-    → {others : List BegunSegment} (had : StandsAmong sum size log site from others reach H first) → ((t : Scanned) → Contains had.stands.scanned t → LiesBeside size t m) → StandsAmong sum size log site from others reach H' first
+    → {others : List BegunSegment} (had : StandsAmong sum size log site from others reach H first) → ((t : Scanned) → Contains had.stands.scanned t → LiesBeside size t m.place) → StandsAmong sum size log site from others reach H' first
 unfolding stands-adds
 among-adds sum size log site from reach H H' first some m adds above lies had beside =
     let near : reach ≤ site.place + from = reached_near size H site.place from reach had.reached in
@@ -210,7 +137,7 @@ pub alone-adds : (sum : List ℕ → ℕ) (size : ℕ) (log : List ℕ) (site : 
     → (from ≡ 0 → AreZeros log site.slot (site.slot + 20)) → (m : Message) → AddsMessage H m H' → site.place + from ≤ m.place → m.place < site.place + size → from + 32 ≤ size → LiesInSegment size m
     → {others : List BegunSegment} → StandsAmong sum size log site from others reach H first → StandsAmong sum size log site from others reach H' first
 alone-adds sum size log site from reach H H' first some none place_begins clean m adds above inside room lies alone =
-    among-adds sum size log site from reach H H' first some m adds above lies alone (lies_beside sum size log H (stable_below reach H.batches) first reach alone.stands site from some none place_begins clean alone.here room m above inside)
+    among-adds sum size log site from reach H H' first some m adds above lies alone (lies_beside sum size log H (stable_below reach H.batches) first reach alone.stands site from some none place_begins clean alone.here room m.place above inside)
 
 -- and where it is to lie in one behind it, behind what is written of that.
 pub other_adds : (sum : List ℕ → ℕ) (size : ℕ) (log : List ℕ) (site : SegmentPosition) (from reach : ℕ) (H H' : History) (first : SnapshotModel) → 256 ≤ size → NoHeaderOfZeros sum → {others : List BegunSegment} (y : BegunSegment) → Contains others y → y.site.place % size ≡ 0
@@ -219,4 +146,4 @@ pub other_adds : (sum : List ℕ → ℕ) (size : ℕ) (log : List ℕ) (site : 
 other_adds sum size log site from reach H H' first some none {others} y known place_begins clean m adds above inside room lies had =
     let under = first_below sum size log site from others reach H first some had y.site.place place_begins (follows site others had.apart y known).0 in
     among-adds sum size log site from reach H H' first some m adds (omega (arith, under, above)) lies had
-    (lies_beside sum size log H (stable_below reach H.batches) first reach had.stands y.site y.from some none place_begins clean (had.behind y known) room m above inside)
+    (lies_beside sum size log H (stable_below reach H.batches) first reach had.stands y.site y.from some none place_begins clean (had.behind y known) room m.place above inside)

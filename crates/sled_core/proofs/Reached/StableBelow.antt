@@ -1,5 +1,5 @@
 -- The stable place of what is read: no batch is open there, and it rises with what is read.
-use Rattle.std.proofs.Common.{⊎_elim, ◌≡◌, ◌⊎◌, ◌∙◌, ◌<◌, ◌≤◌, ℕ, Bool, true, false, List, [], ◌∷◌, refl, ap, arith, inl, inr}
+use Rattle.std.proofs.Common.{⊎_elim, ◌≡◌, ◌⊎◌, ◌∙◌, ◌<◌, ◌≤◌, ℕ, Bool, true, false, List, [], ◌∷◌, ◌++◌, refl, ap, arith, inl, inr}
 use Rattle.std.specs.Prelude.{nat_lt, min, if◌then◌else◌}
 use Rattle.std.specs.List.{Contains}
 use Rattle.std.proofs.lemmas.Bool.{cases_lt}
@@ -74,3 +74,10 @@ stable_rises low high up bs =
 -- where no batch is open, it is that place
 pub stable_all : (reach : ℕ) (bs : List Batch) → ((b : Batch) → Contains bs b → b.low < reach → b.peg < reach) → stable_below reach bs ≡ reach
 stable_all reach bs closed = elim (stable_is reach bs) [ inl all ↦ all | inr (c, known, at, is_open) ↦ absurd (let ended = closed c known is_open.0 in let high = is_open.1 in omega (arith, ended, high)) ]
+
+-- It is the same with one more batch, which begins at that place or behind it.
+pub stable_one_more : (reach : ℕ) (bs : List Batch) (b : Batch) → reach ≤ b.low → stable_below reach (bs ++ b ∷ []) ≡ stable_below reach bs
+stable_one_more reach [] b past =
+    let above : nat_lt b.low reach ≡ false = grind (arith, nat_tests, past) in
+    ap (λ (o : Bool). if o then (if nat_lt b.peg reach then reach else min b.low reach) else reach) above
+stable_one_more reach (c ∷ cs) b past = ap (λ n. if nat_lt c.low reach then (if nat_lt c.peg reach then n else min c.low n) else n) (stable_one_more reach cs b past)

@@ -1,0 +1,124 @@
+-- A batch is marked whose manifest lies in a segment behind the first one: the log fits the history with it, and a reader finds what he found.
+use Rattle.sled_store.proofs.Histories.Ascending.{Ascends}
+use Rattle.std.proofs.Common.{◌≡◌, ◌∙◌, ◌≤◌, ◌<◌, ◌+◌, ℕ, List, ◌∷◌, ◌++◌, length, map, take, Option, None, sym, ap, subst, arith, inr}
+use Rattle.std.specs.List.{Contains}
+use Rattle.std.specs.declared.io.Error.{Error as IoError}
+use Rattle.std.proofs.lemmas.List.Elements.{Contains-append_right}
+use Rattle.sled_codec.specs.History.{AddsBatch, Batch, History, Message}
+use Rattle.sled_codec.specs.Snapshots.{SnapshotModel}
+use Rattle.sled_store.specs.Device.{State}
+use Rattle.sled_store.proofs.Names.OneBegin.{one_begin}
+use Rattle.sled_store.proofs.Segments.Elements.{in_first}
+use Rattle.sled_core.specs.declared.iobuf.Reserved.{Reserved}
+use Rattle.sled_core.specs.declared.iobuf.Sealed.{Sealed}
+use Rattle.sled_core.specs.declared.iobuf.SegmentPosition.{SegmentPosition}
+use Rattle.sled_core.specs.Begun.{SegmentParts}
+use Rattle.sled_core.specs.Fits.{IsInRecord, HoldsIn, HoldsNext, begun_segment, log_parts}
+use Rattle.sled_core.specs.LogFile.{padded}
+use Rattle.sled_core.specs.OpenBatches.{stable_below}
+use Rattle.sled_core.specs.Reached.{BegunSegment, StandsAmong}
+use Rattle.sled_core.specs.Recoverable.{IsPlacedBatch, LeavesRecoverable, NoHeaderOfZeros}
+use Rattle.sled_core.specs.Running.{BlobsFit, FitsIn, NamesFit}
+use Rattle.sled_core.specs.SealedBuffers.{AreZeros, FirstUnwritten}
+use Rattle.sled_core.proofs.Behind.Around.{begun_is, behind_place, held_around, stays_below}
+use Rattle.sled_core.proofs.Behind.Calls.{held_here}
+use Rattle.sled_core.proofs.Behind.FitsCompleted.{front_low}
+use Rattle.sled_core.proofs.Behind.FitsMoved.{begun_same, marks_same}
+use Rattle.sled_core.proofs.Flush.Completed.{grows}
+use Rattle.sled_core.proofs.Flush.Padded.{padded_get}
+use Rattle.sled_core.proofs.Flush.Settled.{InlineFrom, rests, settled_recoverable}
+use Rattle.sled_core.proofs.Holds.AddedBatch.{message_was, no_batch, no_end}
+use Rattle.sled_core.proofs.Holds.BegunMarks.{blobs-marks, names-marks}
+use Rattle.sled_core.proofs.Holds.StandsBatch.{other-marks}
+use Rattle.sled_core.proofs.Holds.WholeHistory.{whole_ascends}
+use Rattle.sled_core.proofs.Reached.StableBelow.{stable_one_more}
+use Rattle.sled_core.proofs.Sealed.Zeros.{begin_zeros}
+
+module _ (sum : List ℕ → ℕ) (size : ℕ) (site : SegmentPosition) (device : State) (fault : Option IoError) (bytes : List ℕ) (from : ℕ) (bs : List Sealed) (rs : List Reserved) (pins : ℕ) (H : History) (A f : ℕ) (U : List Message)
+    (pre : List SegmentParts) (s : SegmentParts) (post : List SegmentParts) {reach : ℕ} (fits : FitsIn sum (log_parts size site device fault bytes from bs rs) (pre ++ s ∷ post) reach pins H A f U)
+    (s' : SegmentParts) (its_site : s'.site ≡ s.site) (so_far : s'.written_len ≡ s.written_len) (head : s.written_len ≡ 0 → take 20 s'.bytes ≡ take 20 s.bytes)
+    (H' : History) (b : Batch) (least : 256 ≤ size) (short : length bytes ≤ size) (ok : fault ≡ None) (holds : HoldsIn sum (log_parts size site device fault bytes from bs rs) (pre ++ s' ∷ post) H') (adds : AddsBatch H b H')
+    (placed : (c : Batch) → Contains H'.batches c → IsPlacedBatch size H' c) (pegged : IsInRecord H.messages b.peg) (above : s.site.place + s.written_len ≤ b.low) (inside : b.low < s.site.place + size) (fresh : FirstUnwritten s.sealed) where
+  abbrev first : SnapshotModel
+  first = fits.holds.begun.first
+
+  -- the messages are in order, which are the same in both
+  ordered : Ascends H.messages
+  ordered = subst Ascends adds.messages (whole_ascends sum size site device fault bytes from bs rs H' holds short)
+
+  abbrev others : List BegunSegment
+  others = map begun_segment (pre ++ s ∷ post)
+
+  abbrev others' : List BegunSegment
+  others' = map begun_segment (pre ++ s' ∷ post)
+
+  -- the segment as it was
+  abbrev had : HoldsNext sum size device fault (behind_place size (site.place + size) pre) s (stays_below sum size site device fault bytes from bs rs H pre s post fits.holds) H.batches (held_around sum size site device fault bytes from bs rs H pre s post fits.holds).own
+  had = held_here sum size site device fault bytes from bs rs H pre s post fits.holds
+
+  -- The batch begins behind what is written of the first segment, and so behind what a reader comes to.
+  past : site.place + from ≤ b.low
+  past =
+      let up = (front_low sum size site device fault bytes from bs rs H pre s post fits.holds short).0 in
+      let grown = grows sum size site device fault bytes from bs rs (record { messages = fits.holds.head; batches = H.batches }) fits.holds.own in
+      omega (arith, up, grown, short, above)
+
+  reached : reach ≤ b.low
+  reached = let near = fits.near in let at = past in omega (arith, near, at)
+
+  -- where nothing was written of its segment, the beginning of the slot has zeros
+  clean : s.written_len ≡ 0 → AreZeros device.log.bytes s.site.slot (s.site.slot + 20)
+  clean none = begin_zeros device.log.bytes s.site.slot s.bytes s.written_len s.sealed s.reserved size fresh had.are (omega (arith, least)) (had.segment.laid ok) none
+
+  among_others : Contains others (begun_segment s)
+  among_others = subst (λ (l : List BegunSegment). Contains l (begun_segment s)) (sym (begun_is pre s post)) (Contains-append_right (map begun_segment pre) (begun_segment s ∷ map begun_segment post) (begun_segment s) (in_first (begun_segment s) (map begun_segment post)))
+
+  -- A reader finds the same of a file that has these zeros.
+  stands_new : NoHeaderOfZeros sum → (log : List ℕ) → (s.written_len ≡ 0 → AreZeros log s.site.slot (s.site.slot + 20)) → StandsAmong sum size log site from others reach H first → StandsAmong sum size log site from others' reach H' first
+  stands_new none log zeros among = subst (λ (l : List BegunSegment). StandsAmong sum size log site from l reach H' first) (sym (begun_same pre s s' post its_site so_far))
+      (other-marks sum size log site from reach H H' first least none (begun_segment s) among_others had.segment.place_begins zeros b adds above inside placed ordered pegged among)
+
+  alone_new : NoHeaderOfZeros sum → StandsAmong sum size device.log.bytes site from others' reach H' first
+  alone_new none = stands_new none device.log.bytes clean (fits.among ok none)
+
+  beyond_new : (to : ℕ) → site.slot ≤ to → NoHeaderOfZeros sum → StandsAmong sum size (padded to device.log.bytes) site from others' reach H' first
+  beyond_new to far none = stands_new none (padded to device.log.bytes) (λ first_one i low high. padded_get to device.log.bytes i ∙ clean first_one i low high) (fits.beyond to far ok none)
+
+  names_new : NamesFit sum size device.snapshots H' f first
+  names_new = let begun = fits.holds.begun.reached in let at = past in names-marks H H' b adds sum size device.snapshots f first (omega (arith, begun, at)) fits.names
+
+  -- the batch begins behind what is read, so the stable place is the same
+  same_stable : stable_below reach H'.batches ≡ stable_below reach H.batches
+  same_stable = ap (stable_below reach) adds.batches ∙ stable_one_more reach H.batches b reached
+
+  blobs_new : BlobsFit sum device.blobs H' (stable_below reach H'.batches)
+  blobs_new = subst (λ n. BlobsFit sum device.blobs H' n) (sym same_stable) (blobs-marks H H' b adds sum device.blobs (stable_below reach H.batches) fits.blobs)
+
+  inline_behind : InlineFrom H' (stable_below reach H'.batches)
+  inline_behind x there beyond = let same = same_stable in fits.inline x (message_was H H' b adds x there) (omega (arith, beyond, same))
+
+  left_new : LeavesRecoverable sum size H' (stable_below reach H'.batches) f device
+  left_new =
+      let on = fits.holds.own.written ok in
+      settled_recoverable sum size least device H' (stable_below reach H'.batches) f first reach (whole_ascends sum size site device fault bytes from bs rs H' holds short) inline_behind (rests device.log on.log on.settled) names_new blobs_new (λ none. (alone_new none).stands)
+
+  -- The log fits the history with the batch, with no other message to be marked.
+  pub behind-fits-marked : FitsIn sum (log_parts size site device fault bytes from bs rs) (pre ++ s' ∷ post) reach pins H' A f U
+  behind-fits-marked =
+      let same : first ≡ holds.begun.first = one_begin sum device.snapshots.file first holds.begun.first fits.holds.begun.begins holds.begun.begins in
+      record {
+        holds = holds;
+        near = fits.near;
+        ends = λ x there below. fits.ends x (message_was H H' b adds x there) below;
+        no_batch = no_batch H H' b adds reach (site.place + from) (inr past) fits.no_batch;
+        no_end = no_end H H' b adds reach (site.place + from) past fits.no_end;
+        marked = marks_same sum (site.place + from) pre s s' post its_site (λ none. let was : s.written_len ≡ 0 = sym so_far ∙ none in (was, head was)) fits.marked;
+        among = λ fine none. subst (λ (z : SnapshotModel). StandsAmong sum size device.log.bytes site from others' reach H' z) same (alone_new none);
+        beyond = λ to far fine none. subst (λ (z : SnapshotModel). StandsAmong sum size (padded to device.log.bytes) site from others' reach H' z) same (beyond_new to far none);
+        blobs = blobs_new;
+        inline = inline_behind;
+        names = subst (λ (z : SnapshotModel). NamesFit sum size device.snapshots H' f z) same names_new;
+        passes = let passes = fits.passes in let same = same_stable in omega (arith, passes, same);
+        pinned = fits.pinned;
+        left = left_new;
+      }

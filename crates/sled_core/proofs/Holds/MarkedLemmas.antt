@@ -1,0 +1,96 @@
+-- A log goes on fitting its history at the mark of a batch whose manifest lies in the first segment: it fits the history with the batch.
+use Rattle.sled_store.proofs.Histories.Ascending.{Ascends}
+use Rattle.std.proofs.Common.{◌≡◌, ◌∙◌, ◌≤◌, ◌<◌, ◌<ℤ◌, pos, ◌+◌, ℕ, List, length, map, Option, None, sym, ap, arith, subst, inr}
+use Rattle.std.specs.List.{Contains}
+use Rattle.std.specs.declared.io.Error.{Error as IoError}
+use Rattle.sled_codec.specs.History.{AddsBatch, Batch, History, Message}
+use Rattle.sled_codec.specs.Snapshots.{SnapshotModel}
+use Rattle.sled_store.specs.Device.{State}
+use Rattle.sled_store.proofs.Names.OneBegin.{one_begin}
+use Rattle.sled_core.specs.declared.iobuf.Reserved.{Reserved}
+use Rattle.sled_core.specs.declared.iobuf.Sealed.{Sealed}
+use Rattle.sled_core.specs.declared.iobuf.SegmentPosition.{SegmentPosition}
+use Rattle.sled_core.specs.Begun.{SegmentParts}
+use Rattle.sled_core.specs.Fits.{IsInRecord, HoldsIn, begun_segment, log_parts}
+use Rattle.sled_core.specs.LogFile.{padded}
+use Rattle.sled_core.specs.OpenBatches.{stable_below}
+use Rattle.sled_core.specs.Reached.{BegunSegment, StandsAmong}
+use Rattle.sled_core.specs.Recoverable.{IsPlacedBatch, LeavesRecoverable, NoBatchBegins, NoBatchEnds, NoHeaderOfZeros}
+use Rattle.sled_core.specs.Running.{BlobsFit, FitsIn, NamesFit}
+use Rattle.sled_core.specs.SealedBuffers.{AreSealed, AreZeros, FirstUnwritten}
+use Rattle.sled_core.proofs.Flush.Padded.{padded_get}
+use Rattle.sled_core.proofs.Flush.Settled.{InlineFrom, rests, settled_recoverable}
+use Rattle.sled_core.proofs.Holds.AddedBatch.{message_was, no_batch, no_end}
+use Rattle.sled_core.proofs.Holds.BegunMarks.{blobs-marks, names-marks}
+use Rattle.sled_core.proofs.Holds.StandsBatch.{alone-marks}
+use Rattle.sled_core.proofs.Holds.WholeHistory.{whole_ascends}
+use Rattle.sled_core.proofs.Reached.StableBelow.{stable_one_more}
+use Rattle.sled_core.proofs.Sealed.Zeros.{begin_zeros}
+
+module _ (sum : List ℕ → ℕ) (size : ℕ) (site : SegmentPosition) (device : State) (fault : Option IoError) (bytes : List ℕ) (from : ℕ) (bs : List Sealed) (rs : List Reserved) (pins : ℕ) (H : History) (A f : ℕ) (U : List Message)
+    {behind : List SegmentParts} {reach : ℕ} (fits : FitsIn sum (log_parts size site device fault bytes from bs rs) behind reach pins H A f U)
+    (bytes' : List ℕ) (from' : ℕ) (bs' : List Sealed) (rs' : List Reserved) (H' : History) (b : Batch) (is : from' ≡ from) (least : 256 ≤ size) (in_segment : length bytes' ≤ size) (ok : fault ≡ None)
+    (holds : HoldsIn sum (log_parts size site device fault bytes' from' bs' rs') behind H') (adds : AddsBatch H b H') (placed : (c : Batch) → Contains H'.batches c → IsPlacedBatch size H' c) (pegged : IsInRecord H.messages b.peg)
+    (above : site.place + from ≤ b.low) (inside : b.low < site.place + size) (fresh : FirstUnwritten bs) (are : AreSealed from rs bs) where
+  abbrev first : SnapshotModel
+  first = fits.holds.begun.first
+
+  abbrev others : List BegunSegment
+  others = map begun_segment behind
+
+  -- the messages are in order, which are the same in both
+  ordered : Ascends H.messages
+  ordered = subst Ascends adds.messages (whole_ascends sum size site device fault bytes' from' bs' rs' H' holds in_segment)
+
+  reached : reach ≤ b.low
+  reached = let near = fits.near in omega (arith, near, above)
+
+  -- where nothing was written of the segment, the beginning of its slot has zeros
+  clean : from ≡ 0 → AreZeros device.log.bytes site.slot (site.slot + 20)
+  clean none = begin_zeros device.log.bytes site.slot bytes from bs rs size fresh are (omega (arith, least)) (fits.holds.own.laid ok) none
+
+  alone_new : NoHeaderOfZeros sum → StandsAmong sum size device.log.bytes site from others reach H' first
+  alone_new none = alone-marks sum size device.log.bytes site from reach H H' first least none holds.own.place_begins clean b adds above inside placed ordered pegged (fits.among ok none)
+
+  beyond_new : (to : ℕ) → site.slot ≤ to → NoHeaderOfZeros sum → StandsAmong sum size (padded to device.log.bytes) site from others reach H' first
+  beyond_new to far none = alone-marks sum size (padded to device.log.bytes) site from reach H H' first least none holds.own.place_begins (λ first_one i low high. padded_get to device.log.bytes i ∙ clean first_one i low high) b adds above inside placed ordered pegged (fits.beyond to far ok none)
+
+  names_new : NamesFit sum size device.snapshots H' f first
+  names_new = let begun = fits.holds.begun.reached in names-marks H H' b adds sum size device.snapshots f first (omega (arith, begun, above)) fits.names
+
+  -- the batch begins behind what is read, so the stable place is the same
+  same_stable : stable_below reach H'.batches ≡ stable_below reach H.batches
+  same_stable = ap (stable_below reach) adds.batches ∙ stable_one_more reach H.batches b reached
+
+  blobs_new : BlobsFit sum device.blobs H' (stable_below reach H'.batches)
+  blobs_new = subst (λ n. BlobsFit sum device.blobs H' n) (sym same_stable) (blobs-marks H H' b adds sum device.blobs (stable_below reach H.batches) fits.blobs)
+
+  inline_behind : InlineFrom H' (stable_below reach H'.batches)
+  inline_behind x there past = let same = same_stable in fits.inline x (message_was H H' b adds x there) (omega (arith, past, same))
+
+  left_new : LeavesRecoverable sum size H' (stable_below reach H'.batches) f device
+  left_new =
+      let on = fits.holds.own.written ok in
+      settled_recoverable sum size least device H' (stable_below reach H'.batches) f first reach (whole_ascends sum size site device fault bytes' from' bs' rs' H' holds in_segment) inline_behind (rests device.log on.log on.settled) names_new blobs_new (λ none. (alone_new none).stands)
+
+  -- It fits the history with the batch, with no other message to be marked.
+  pub fits-marked : FitsIn sum (log_parts size site device fault bytes' from' bs' rs') behind reach pins H' A f U
+  fits-marked =
+      let same : first ≡ holds.begun.first = one_begin sum device.snapshots.file first holds.begun.first fits.holds.begun.begins holds.begun.begins in
+      record {
+        holds = holds;
+        near = let near = fits.near in omega (arith, near, is);
+        ends = λ x there below. fits.ends x (message_was H H' b adds x there) (omega (arith, below, is));
+        no_batch = subst (λ n. NoBatchBegins H' reach (site.place + n)) (sym is) (no_batch H H' b adds reach (site.place + from) (inr above) fits.no_batch);
+        no_end = subst (λ n. NoBatchEnds H' reach (site.place + n)) (sym is) (no_end H H' b adds reach (site.place + from) above fits.no_end);
+        marked = λ s there none mark header. subst (λ n. mark <ℤ pos (site.place + n)) (sym is) (fits.marked s there none mark header);
+        among = λ fine none. subst (λ (s : SnapshotModel). StandsAmong sum size device.log.bytes site from' others reach H' s) same (subst (λ n. StandsAmong sum size device.log.bytes site n others reach H' first) (sym is) (alone_new none));
+        beyond = λ to far fine none. subst (λ (s : SnapshotModel). StandsAmong sum size (padded to device.log.bytes) site from' others reach H' s) same
+            (subst (λ n. StandsAmong sum size (padded to device.log.bytes) site n others reach H' first) (sym is) (beyond_new to far none));
+        blobs = blobs_new;
+        inline = inline_behind;
+        names = subst (λ (s : SnapshotModel). NamesFit sum size device.snapshots H' f s) same names_new;
+        passes = let passes = fits.passes in let same = same_stable in omega (arith, passes, same);
+        pinned = fits.pinned;
+        left = left_new;
+      }
