@@ -22,7 +22,7 @@ ghost use Rattle.sled_store.specs.Begin.{IsStartable, IsInReach};
 ghost use Rattle.sled_store.specs.Started.{started};
 ghost use Rattle.sled_core.specs.Recoverable.{LeavesRecoverable, RecoverableIfOwn};
 ghost use Rattle.sled_core.specs.AccountProps.{IsAccountant-prop};
-ghost use Rattle.sled_core.specs.Begun.{AreFilled, AreFilled-prop, FollowOn, FollowOn-prop, line_at};
+ghost use Rattle.sled_core.specs.Begun.{FollowOn, FollowOn-prop, IsFilledLine, IsFilledLine-prop};
 ghost use Rattle.sled_core.specs.Causes.{FaultAnswers, RecordAnswers, ReserveAnswers, failure_in};
 
 mod abort;
@@ -71,7 +71,7 @@ pub struct Log<D, C> {
     ghost slot_in_reach: { site.slot + config.config.segment_size < 2 ^ 63 },
     ghost waits: { 0 < length behind.items → buffer.written_len < config.config.segment_size },
     ghost follow: { FollowOn config.config.segment_size (site.place + config.config.segment_size) behind.items } by { FollowOn-prop _ _ _ },
-    ghost filled: { AreFilled config.config.segment_size reserved_to (line_at site buffer behind.items) } by { AreFilled-prop config.config.segment_size reserved_to (line_at site buffer behind.items) },
+    ghost filled: { IsFilledLine config.config.segment_size reserved_to site buffer behind.items } by { IsFilledLine-prop _ _ site buffer behind.items },
     ghost account: { IsAccountant config.config.segment_size accountant } by { IsAccountant-prop config.config.segment_size accountant },
 }
 
