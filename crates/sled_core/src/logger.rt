@@ -10,7 +10,7 @@ ghost use Rattle.std.specs.declared.io.ErrorKind.TheVariants.{OutOfMemory};
 ghost use Rattle.sled_codec.specs.Errors.{IsErrorOf, IsCorrupt, IsCorruption};
 ghost use Rattle.sled_store.specs.Device.{state_of, Wrote, Synced};
 ghost use Rattle.sled_store.specs.Answers.{Counts, FailsOr};
-ghost use Rattle.sled_core.specs.Tickets.{place_of, pointer_of, is_manifest_of};
+ghost use Rattle.sled_core.specs.Tickets.{IsPlaceOf, is_manifest_of};
 ghost use Rattle.sled_core.specs.Reading.{GivesMessage, IsInline, IsReading, IsUnreadable, IsNoPlace};
 ghost use Rattle.sled_codec.specs.Places.{MayBegin};
 ghost use Rattle.sled_codec.specs.Pointers.{lid_of};
@@ -78,8 +78,8 @@ pub struct Log<D, C> {
 impl<D: Device, C: Checksum> Log<D, C> {
     ghost use Rattle.sled_core.specs.Fits.{Holds, open_places, Awaits, IsOpen, FitsInline, IsUnchanged, IsUsedUpFor, fault_of, open_for, IsLeastOpen, synced_end, reserved_end, pins_of, config_of, device_of, HasRecordOf, line_of, message_for, position_behind, position_of, segment_size_of, size_for, target_of, waiting_behind, waiting_of, current_begin, FirstWaits, KeepsBuffers, start_behind, start_of, KeepsAll, KeepsTickets};
     ghost use Rattle.sled_core.specs.Manifests.{is_manifest, kind_for};
-    ghost use Rattle.sled_core.specs.OpenPlaces.{TakesOut};
-    ghost use Rattle.sled_core.specs.Keeps.{ConfigKept, GoesOn, Preserves, SamePosition};
+    ghost use Rattle.sled_core.specs.OpenPlaces.{TakesOutPlaceOf};
+    ghost use Rattle.sled_core.specs.Keeps.{ConfigKept, GoesOn, KeepsOthers, Preserves, SamePosition};
     ghost use Rattle.sled_core.specs.ReadBuffer.{IsUsedUpAt, ReadAnswers, RefusesPlace, SealsAround, Settles, WritesAround, held_at};
     ghost use Rattle.sled_core.specs.Ready.{IsReady};
     ghost use Rattle.sled_core.specs.Running.{Fits, Ready, end_below};
@@ -256,12 +256,11 @@ impl<D: Device, C: Checksum> Log<D, C> {
     pub fn complete(&mut self, ticket: Reservation) -> Result<(Lsn, DiskPtr)>
         requires awaited { IsOpen self.old ticket }
         requires message { is_manifest_of ticket ≡ false }
-        ensures place { IfOk result (λ at. (at.0 ≡ place_of ticket) × (at.1 ≡ pointer_of ticket)) }
+        ensures place { IfOk result (IsPlaceOf ticket) }
         ensures history { (H : History) (m : Message) → Holds D.trace C.sum_of self.old H → Awaits self.old ticket m
             → OnOk result ((H' : History) × Step H (Completed m) H' × Holds D.trace C.sum_of self.new H') }
-        ensures others { (H : History) (other : Reservation) (m : Message) → Holds D.trace C.sum_of self.old H
-            → Awaits self.old other m → place_of other ≢ place_of ticket → Awaits self.new other m }
-        ensures opens { (place : ℕ) → pos place ≡ place_of ticket → OnOk result (TakesOut place (open_places self.old) (open_places self.new)) }
+        ensures others { KeepsOthers D.trace C.sum_of ticket self.old self.new }
+        ensures opens { TakesOutPlaceOf result ticket (open_places self.old) (open_places self.new) }
         ensures answers { FaultAnswers result (fault_of self.old) }
         ensures fits { (H : History) (A f : ℕ) (U : List Message) (m : Message)
             → Fits D.trace C.sum_of self.old H A f U → Awaits self.old ticket m → 0 < pins_of self.old
