@@ -70,6 +70,10 @@ AreFilled size to [] = Unit {0}
 AreFilled size to (v ∷ []) = (begin_of v < size) × (to ≤ v.parts.site.place + length v.parts.bytes) × AreEntered to v.parts.site.place v.parts.written_len v.parts.sealed v.parts.reserved
 AreFilled size to (v ∷ w ∷ vs) = (begin_of v ≡ size) × AreEntered to v.parts.site.place v.parts.written_len v.parts.sealed v.parts.reserved × AreFilled size to (w ∷ vs)
 
+-- The segments that a log has are filled so: the first one, and those behind it.
+abbrev pub IsFilledLine : ℕ → ℕ → SegmentPosition → IoBuf → List SegmentBuffer → Type 0
+IsFilledLine size to site b behind = AreFilled size to (line_at site b behind)
+
 AreEntered-prop : (to place from : ℕ) (bs : List Sealed) (rs : List Reserved) → IsProp (AreEntered to place from bs rs)
 AreEntered-prop to place from [] rs = λ p q i some. le_prop (p some) (q some) i
 AreEntered-prop to place from (b ∷ bs) rs = λ p q i. (λ some. le_prop (p.0 some) (q.0 some) i, AreEntered-prop to place b.end bs (drop b.count rs) p.1 q.1 i)
@@ -78,3 +82,6 @@ pub AreFilled-prop : (size to : ℕ) (vs : List SegmentView) → IsProp (AreFill
 AreFilled-prop size to [] = λ p q. refl
 AreFilled-prop size to (v ∷ []) = λ p q i. (le_prop p.0 q.0 i, le_prop p.1 q.1 i, AreEntered-prop to v.parts.site.place v.parts.written_len v.parts.sealed v.parts.reserved p.2 q.2 i)
 AreFilled-prop size to (v ∷ w ∷ vs) = λ p q i. (ℕ_set _ _ p.0 q.0 i, AreEntered-prop to v.parts.site.place v.parts.written_len v.parts.sealed v.parts.reserved p.1 q.1 i, AreFilled-prop size to (w ∷ vs) p.2 q.2 i)
+
+pub IsFilledLine-prop : (size to : ℕ) (site : SegmentPosition) (b : IoBuf) (behind : List SegmentBuffer) → IsProp (IsFilledLine size to site b behind)
+IsFilledLine-prop size to site b behind = AreFilled-prop size to (line_at site b behind)

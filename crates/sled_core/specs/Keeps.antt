@@ -1,5 +1,5 @@
 -- What a call keeps of a log, and of what it runs on, said once for all of them.
-use Rattle.std.specs.Prelude.{◌≡◌, ◌⊎◌, ◌≤◌, ◌+◌, ◌*◌, nat_lt, if◌then◌else◌, ℕ, List, length, drop, Result, OnErr, OnOk}
+use Rattle.std.specs.Prelude.{◌≡◌, ◌≢◌, ◌⊎◌, ◌≤◌, ◌+◌, ◌*◌, nat_lt, if◌then◌else◌, ℕ, List, length, drop, Result, OnErr, OnOk}
 use Rattle.sled_codec.specs.declared.result.Error.{Error}
 use Rattle.sled_core.specs.Causes.{IsHeld}
 use Rattle.sled_codec.specs.History.{Message, History}
@@ -7,9 +7,11 @@ use Rattle.sled_store.specs.declared.config.RunningConfig.{RunningConfig}
 use Rattle.sled_store.specs.Device.{Trace}
 use Rattle.sled_store.specs.Moments.{IsLater, LeavesOnly}
 use Rattle.sled_core.specs.declared.logger.Log.{Log}
-use Rattle.sled_core.specs.Fits.{Holds, NoneSealed, buffers_of, config_of, current_begin, current_of, device_of, fault_of, line_of, machine_at, pins_of, position_of, reserved_end, segment_size_of, start_of, synced_end, waiting_of}
+use Rattle.sled_core.specs.declared.reservation.Reservation.{Reservation}
+use Rattle.sled_core.specs.Fits.{Awaits, Holds, NoneSealed, buffers_of, config_of, current_begin, current_of, device_of, fault_of, line_of, machine_at, pins_of, position_of, reserved_end, segment_size_of, start_of, synced_end, waiting_of}
 use Rattle.sled_store.specs.SegmentStates.{next_slot}
 use Rattle.sled_core.specs.Positions.{is_short}
+use Rattle.sled_core.specs.Tickets.{place_of}
 use Rattle.sled_core.specs.Waiting.{BufferAt, BufferStart, not_below}
 use Rattle.sled_core.specs.Recoverable.{RecoverableIfOwn}
 use Rattle.sled_core.specs.Running.{Fits}
@@ -38,6 +40,11 @@ pub record Preserves {D C : Type 0} (trace : D → Trace) (sum : List ℕ → �
   pub goes_on : GoesOn trace sum old new
   pub history : (H : History) → Holds trace sum old H → Holds trace sum new H
   pub fits : (H : History) (A f : ℕ) (U : List Message) → Fits trace sum old H A f U → Fits trace sum new H A f U
+
+-- Where a log holds a history, the tickets of other places than this one's await what they awaited.
+abbrev pub KeepsOthers : {D C : Type 0} → (D → Trace) → (List ℕ → ℕ) → Reservation → Log D C → Log D C → Type 0
+KeepsOthers trace sum ticket old new =
+    (H : History) (other : Reservation) (m : Message) → Holds trace sum old H → Awaits old other m → place_of other ≢ place_of ticket → Awaits new other m
 
 -- What a call that writes up to a place seals: what begins below it, where it is held, and nothing where it succeeds and no reservation is open. Where no buffer was sealed, nothing is written by one that fails.
 pub record SealsBelow {T D C : Type 0} (result : Result T Error) (to : ℕ) (old new : Log D C) : Type 0 where

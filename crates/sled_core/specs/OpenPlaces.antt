@@ -1,8 +1,11 @@
 -- Which reservations of a log are open or abandoned, as a list of their places.
-use Rattle.std.specs.Prelude.{◌≡◌, ◌+◌, ◌&&◌, nat_lt, nat_le, ℕ, if◌then◌else◌, List, [], ◌∷◌, ◌++◌, Option, None, Some}
+use Rattle.std.specs.Prelude.{◌≡◌, ◌+◌, ◌&&◌, nat_lt, nat_le, ℕ, pos, if◌then◌else◌, List, [], ◌∷◌, ◌++◌, Option, None, Some, Result, OnOk}
+use Rattle.sled_codec.specs.declared.result.Error.{Error}
 use Rattle.sled_core.specs.declared.iobuf.Reserved.{Reserved}
+use Rattle.sled_core.specs.declared.reservation.Reservation.{Reservation}
 use Rattle.sled_core.specs.Begun.{SegmentView}
 use Rattle.sled_core.specs.Buffers.{open_state}
+use Rattle.sled_core.specs.Tickets.{place_of}
 
 -- the places of those of a segment that begins there
 abbrev pub open_places_in : ℕ → List Reserved → List ℕ
@@ -30,3 +33,7 @@ pub record TakesOut (place : ℕ) (old new : List ℕ) : Type 0 where
   pub after : List ℕ
   pub was : old ≡ before ++ place ∷ after
   pub is : new ≡ before ++ after
+
+-- At Ok the place of this ticket is taken out of a list.
+abbrev pub TakesOutPlaceOf : {T : Type 0} → Result T Error → Reservation → List ℕ → List ℕ → Type 0
+TakesOutPlaceOf result ticket old new = (place : ℕ) → pos place ≡ place_of ticket → OnOk result (TakesOut place old new)

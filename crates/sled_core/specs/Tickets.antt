@@ -28,6 +28,10 @@ len_of ticket = ticket.len
 abbrev pub is_manifest_of : Reservation → Bool
 is_manifest_of ticket = ticket.is_manifest
 
+-- a place and a pointer are those that a ticket says
+abbrev pub IsPlaceOf : Reservation → ℤ × DiskPtr → Type 0
+IsPlaceOf ticket at = (at.0 ≡ place_of ticket) × (at.1 ≡ pointer_of ticket)
+
 -- a ticket is for this reservation in the segment that lies there, and that is open
 pub record IsFor (site : SegmentPosition) (r : Reserved) (ticket : Reservation) : Type 0 where
   pub open_yet : r.state ≡ Open

@@ -10,19 +10,17 @@ ghost use Rattle.std.specs.declared.io.ErrorKind.TheVariants.{OutOfMemory};
 ghost use Rattle.sled_codec.specs.Errors.{IsErrorOf, IsCorrupt, IsCorruption};
 ghost use Rattle.sled_store.specs.Device.{state_of, Wrote, Synced};
 ghost use Rattle.sled_store.specs.Answers.{Counts, FailsOr};
-ghost use Rattle.sled_core.specs.Tickets.{place_of, pointer_of, is_manifest_of};
+ghost use Rattle.sled_core.specs.Tickets.{IsPlaceOf, is_manifest_of};
 ghost use Rattle.sled_core.specs.Reading.{GivesMessage, IsInline, IsReading, IsUnreadable, IsNoPlace};
 ghost use Rattle.sled_codec.specs.Places.{MayBegin};
 ghost use Rattle.sled_codec.specs.Pointers.{lid_of};
 ghost use Rattle.sled_codec.specs.Snapshots.{model_of};
-ghost use Rattle.sled_store.specs.Script.{after_all, Performs};
 ghost use Rattle.sled_store.specs.Moments.{IsLater, LeavesOnly};
 ghost use Rattle.sled_store.specs.Accounts.{IsAccountant};
 ghost use Rattle.sled_store.specs.Begin.{IsStartable, IsInReach};
-ghost use Rattle.sled_store.specs.Started.{started};
 ghost use Rattle.sled_core.specs.Recoverable.{LeavesRecoverable, RecoverableIfOwn};
 ghost use Rattle.sled_core.specs.AccountProps.{IsAccountant-prop};
-ghost use Rattle.sled_core.specs.Begun.{AreFilled, AreFilled-prop, FollowOn, FollowOn-prop, line_at};
+ghost use Rattle.sled_core.specs.Begun.{FollowOn, FollowOn-prop, IsFilledLine, IsFilledLine-prop};
 ghost use Rattle.sled_core.specs.Causes.{FaultAnswers, RecordAnswers, ReserveAnswers, failure_in};
 
 mod abort;
@@ -71,19 +69,19 @@ pub struct Log<D, C> {
     ghost slot_in_reach: { site.slot + config.config.segment_size < 2 ^ 63 },
     ghost waits: { 0 < length behind.items → buffer.written_len < config.config.segment_size },
     ghost follow: { FollowOn config.config.segment_size (site.place + config.config.segment_size) behind.items } by { FollowOn-prop _ _ _ },
-    ghost filled: { AreFilled config.config.segment_size reserved_to (line_at site buffer behind.items) } by { AreFilled-prop config.config.segment_size reserved_to (line_at site buffer behind.items) },
+    ghost filled: { IsFilledLine config.config.segment_size reserved_to site buffer behind.items } by { IsFilledLine-prop _ _ site buffer behind.items },
     ghost account: { IsAccountant config.config.segment_size accountant } by { IsAccountant-prop config.config.segment_size accountant },
 }
 
 impl<D: Device, C: Checksum> Log<D, C> {
     ghost use Rattle.sled_core.specs.Fits.{Holds, open_places, Awaits, IsOpen, FitsInline, IsUnchanged, IsUsedUpFor, fault_of, open_for, IsLeastOpen, synced_end, reserved_end, pins_of, config_of, device_of, HasRecordOf, line_of, message_for, position_behind, position_of, segment_size_of, size_for, target_of, waiting_behind, waiting_of, current_begin, FirstWaits, KeepsBuffers, start_behind, start_of, KeepsAll, KeepsTickets};
     ghost use Rattle.sled_core.specs.Manifests.{is_manifest, kind_for};
-    ghost use Rattle.sled_core.specs.OpenPlaces.{TakesOut};
-    ghost use Rattle.sled_core.specs.Keeps.{ConfigKept, GoesOn, Preserves, SamePosition};
+    ghost use Rattle.sled_core.specs.OpenPlaces.{TakesOutPlaceOf};
+    ghost use Rattle.sled_core.specs.Keeps.{ConfigKept, GoesOn, KeepsOthers, Preserves, SamePosition};
     ghost use Rattle.sled_core.specs.ReadBuffer.{IsUsedUpAt, ReadAnswers, RefusesPlace, SealsAround, Settles, WritesAround, held_at};
     ghost use Rattle.sled_core.specs.Ready.{IsReady};
     ghost use Rattle.sled_core.specs.Running.{Fits, Ready, end_below};
-    ghost use Rattle.sled_core.specs.Starts.{BeginsBehind, StartsOrRefuses, config_left};
+    ghost use Rattle.sled_core.specs.Starts.{BeginsBehind, HasStarted, StartCalls, StartsOrRefuses, config_left};
 
     /// Begins a log on what a recovery left: it goes on at the snapshot's stable place. First it fills the
     /// slots of the file that the snapshot does not use with zeros, in ascending order, and syncs the file
@@ -110,10 +108,8 @@ impl<D: Device, C: Checksum> Log<D, C> {
             IfOk result (λ log. BeginsBehind config.config.segment_size len (model_of snapshot.now) log) }
         ensures config { ConfigKept config (config_left result) }
         ensures later { IsLater (D.trace config.device) (D.trace (config_left result).device) }
-        ensures made { let size = config.config.segment_size in let s = model_of snapshot.now in let old = D.trace config.device in
-            OnOk result (D.trace (config_left result).device ≡ after_all (started size (length (state_of old).log.bytes) s).calls old) }
-        ensures calls { let size = config.config.segment_size in let s = model_of snapshot.now in let old = D.trace config.device in
-            Performs (started size (length (state_of old).log.bytes) s).calls old (D.trace (config_left result).device) }
+        ensures made { OnOk result (HasStarted config.config.segment_size (model_of snapshot.now) (D.trace config.device) (D.trace (config_left result).device)) }
+        ensures calls { StartCalls config.config.segment_size (model_of snapshot.now) (D.trace config.device) (D.trace (config_left result).device) }
         ensures answers { let size = config.config.segment_size in let s = model_of snapshot.now in
             let len = length (state_of (D.trace config.device)).log.bytes in let device = (config_left result).device in
             StartsOrRefuses result (IsStartable size len s) (IsInReach size len s) (D.trace device ≡ D.trace config.device)
@@ -256,12 +252,11 @@ impl<D: Device, C: Checksum> Log<D, C> {
     pub fn complete(&mut self, ticket: Reservation) -> Result<(Lsn, DiskPtr)>
         requires awaited { IsOpen self.old ticket }
         requires message { is_manifest_of ticket ≡ false }
-        ensures place { IfOk result (λ at. (at.0 ≡ place_of ticket) × (at.1 ≡ pointer_of ticket)) }
+        ensures place { IfOk result (IsPlaceOf ticket) }
         ensures history { (H : History) (m : Message) → Holds D.trace C.sum_of self.old H → Awaits self.old ticket m
             → OnOk result ((H' : History) × Step H (Completed m) H' × Holds D.trace C.sum_of self.new H') }
-        ensures others { (H : History) (other : Reservation) (m : Message) → Holds D.trace C.sum_of self.old H
-            → Awaits self.old other m → place_of other ≢ place_of ticket → Awaits self.new other m }
-        ensures opens { (place : ℕ) → pos place ≡ place_of ticket → OnOk result (TakesOut place (open_places self.old) (open_places self.new)) }
+        ensures others { KeepsOthers D.trace C.sum_of ticket self.old self.new }
+        ensures opens { TakesOutPlaceOf result ticket (open_places self.old) (open_places self.new) }
         ensures answers { FaultAnswers result (fault_of self.old) }
         ensures fits { (H : History) (A f : ℕ) (U : List Message) (m : Message)
             → Fits D.trace C.sum_of self.old H A f U → Awaits self.old ticket m → 0 < pins_of self.old

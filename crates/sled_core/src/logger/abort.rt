@@ -1,14 +1,14 @@
 //! Giving a reservation up.
 //!
 //! Its record is written all the same, as one that every reader passes over (`specs/Canceled.antt`).
-ghost use Rattle.std.specs.Prelude.{◌≡◌, ◌≢◌, ℕ, pos, IfOk, OnOk, OnErr};
+ghost use Rattle.std.specs.Prelude.{◌≡◌, IfOk, OnOk, OnErr};
 ghost use Rattle.sled_codec.specs.History.{History, Message};
 ghost use Rattle.sled_core.specs.Canceled.{WritesCanceled};
 ghost use Rattle.sled_core.specs.Causes.{FaultAnswers};
 ghost use Rattle.sled_core.specs.Fits.{Awaits, Holds, IsOpen, KeepsAll, KeepsBuffers, fault_of, open_places};
-ghost use Rattle.sled_core.specs.Keeps.{Preserves, SamePosition};
-ghost use Rattle.sled_core.specs.OpenPlaces.{TakesOut};
-ghost use Rattle.sled_core.specs.Tickets.{place_of, pointer_of};
+ghost use Rattle.sled_core.specs.Keeps.{KeepsOthers, Preserves, SamePosition};
+ghost use Rattle.sled_core.specs.OpenPlaces.{TakesOutPlaceOf};
+ghost use Rattle.sled_core.specs.Tickets.{IsPlaceOf};
 
 use crate::logger::Log;
 use crate::reservation::Reservation;
@@ -26,12 +26,11 @@ impl<D: Device, C: Checksum> Log<D, C> {
     /// it was.
     pub fn abort(&mut self, ticket: Reservation) -> Result<(Lsn, DiskPtr)>
         requires { IsOpen self.old ticket }
-        ensures place { IfOk result (λ at. (at.0 ≡ place_of ticket) × (at.1 ≡ pointer_of ticket)) }
+        ensures place { IfOk result (IsPlaceOf ticket) }
         ensures canceled { (H : History) (m : Message) → Holds D.trace C.sum_of self.old H → Awaits self.old ticket m
             → OnOk result (WritesCanceled C.sum_of self.new m) }
-        ensures others { (H : History) (other : Reservation) (m : Message) → Holds D.trace C.sum_of self.old H
-            → Awaits self.old other m → place_of other ≢ place_of ticket → Awaits self.new other m }
-        ensures opens { (place : ℕ) → pos place ≡ place_of ticket → OnOk result (TakesOut place (open_places self.old) (open_places self.new)) }
+        ensures others { KeepsOthers D.trace C.sum_of ticket self.old self.new }
+        ensures opens { TakesOutPlaceOf result ticket (open_places self.old) (open_places self.new) }
         ensures answers { FaultAnswers result (fault_of self.old) }
         ensures keeps { Preserves D.trace C.sum_of self.old self.new }
         ensures same { KeepsAll self.old self.new }

@@ -9,7 +9,7 @@ ghost use Rattle.sled_core.specs.Turned.{ChangesLine, HasOpenIn, IsOpenIn, ended
 
 use crate::iobuf::{IoBuf, ReservationState, Reserved, SegmentPosition};
 use crate::logger::Log;
-use crate::logger::reserving::begins_batch;
+use crate::logger::reserving::is_manifest;
 use crate::logger::segments::SegmentBuffer;
 use crate::reservation::Reservation;
 use sled_codec::result::DiskPtr;
@@ -132,6 +132,6 @@ fn is_for(site: &SegmentPosition, r: &Reserved, ticket: &Reservation) -> bool
     };
     let same_place = ticket.lsn() >= 0 && ticket.lsn() as u64 == site.place + r.from as u64;
     let same_len = ticket.reservation_len() == r.len;
-    let same_batch = ticket.is_manifest() == begins_batch(r.log_kind, r.page);
+    let same_batch = ticket.is_manifest() == is_manifest(r.log_kind, r.page);
     r.state.is_open() && same_place && same_pointer && same_len && same_batch
 }

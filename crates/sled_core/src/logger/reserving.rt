@@ -108,9 +108,9 @@ impl<D: Device, C: Checksum> Log<D, C> {
         let place = (site.place + at) as i64;
         let to = site.place + at + (head.len + item_len) as u64;
         self.lay_out(head, purpose, item, item_len, to);
-        let is_manifest = begins_batch(purpose.log_kind, purpose.page);
+        let manifest = is_manifest(purpose.log_kind, purpose.page);
         let pointer = DiskPtr::Inline(site.slot + at);
-        Reservation::new(place, pointer, index, head.len + item_len, is_manifest)
+        Reservation::new(place, pointer, index, head.len + item_len, manifest)
     }
 
     /// Lays out the placeholder. What is reserved ends there then.
@@ -152,7 +152,7 @@ impl<D: Device, C: Checksum> Log<D, C> {
 const MANIFEST_LEN: usize = 8;
 
 /// Whether a message of this kind and page is the manifest of a batch.
-pub(crate) fn begins_batch(kind: LogKind, pid: PageId) -> bool
+pub(crate) fn is_manifest(kind: LogKind, pid: PageId) -> bool
     ensures { result ≡ is_manifest kind pid }
 {
     match kind {
@@ -165,7 +165,7 @@ pub(crate) fn begins_batch(kind: LogKind, pid: PageId) -> bool
 pub(crate) fn kind_for(kind: LogKind, pid: PageId, item_len: usize) -> Option<MessageKind>
     ensures { result ≡ kind_for kind pid item_len }
 {
-    if !begins_batch(kind, pid) {
+    if !is_manifest(kind, pid) {
         return message_kind(kind, pid, false);
     }
     if item_len == MANIFEST_LEN {
