@@ -19,7 +19,6 @@ use Rattle.sled_core.specs.Reached.{BegunSegment, FollowApart}
 use Rattle.sled_core.specs.SealedBuffers.{AreZeros}
 use Rattle.sled_core.proofs.Holds.BatchLemmas.{none_batched}
 use Rattle.sled_core.proofs.Behind.Around.{behind_below, behind_place, together}
-use Rattle.sled_core.proofs.Flush.Completed.{grows}
 use Rattle.sled_core.proofs.Flush.FlushLemmas.{on_file}
 use Rattle.sled_core.proofs.Flush.LogFileLemmas.{stands_some}
 use Rattle.sled_core.proofs.Flush.Settled.{rests}

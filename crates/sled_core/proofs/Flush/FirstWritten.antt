@@ -226,14 +226,14 @@ module _ (sum : List ℕ → ℕ) (size : ℕ) (site : SegmentPosition) (device 
   -- Where the segment is filled then, no batch begins or ends in what fills it.
   pub rest_batches : stop_whole ≡ size → NoBatchBegins H (site.place + last_whole) (site.place + stop_whole) × NoBatchEnds H (site.place + last_whole) (site.place + stop_whole)
   rest_batches filled = (
-      (λ x among. elim (has_whole.begun x among) [
-        | inl own ↦ inl (batches_between site bytes (max 20 from) last_whole (records_of done_whole) records_whole.chain (some_long sum size (site.place / size) bytes (records_of done_whole) records_whole.stand) x
-            (subst (λ (l : List Batch). Contains l x) (sym (records_whole.batches site)) own)).1
-        | inr (inl before) ↦ (let up = chain_grows (max 20 from) last_whole (records_of done_whole) records_whole.chain in inl (omega (arith, before, up)))
-        | inr (inr after) ↦ inr after
-      ]),
-      (λ x among. elim (holds.own.no_end x among) [ inl low ↦ inl (omega (arith, low, same_end)) | inr far ↦ inr (omega (arith, far, filled)) ]),
-    )
+    (λ x among. elim (has_whole.begun x among) [
+      | inl own ↦ inl (batches_between site bytes (max 20 from) last_whole (records_of done_whole) records_whole.chain (some_long sum size (site.place / size) bytes (records_of done_whole) records_whole.stand) x
+          (subst (λ (l : List Batch). Contains l x) (sym (records_whole.batches site)) own)).1
+      | inr (inl before) ↦ (let up = chain_grows (max 20 from) last_whole (records_of done_whole) records_whole.chain in inl (omega (arith, before, up)))
+      | inr (inr after) ↦ inr after
+    ]),
+    (λ x among. elim (holds.own.no_end x among) [ inl low ↦ inl (omega (arith, low, same_end)) | inr far ↦ inr (omega (arith, far, filled)) ]),
+  )
     where
       others : List Reserved
       others = drop (b.count + run_count rest) rs

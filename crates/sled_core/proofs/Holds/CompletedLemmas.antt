@@ -1,6 +1,5 @@
 -- A reservation that is completed becomes a message of the history that a log holds, at its place; one that is aborted leaves the history as it was. No other one is touched.
 use Rattle.sled_core.proofs.Reserve.WrittenOver.{batches_ended}
-use Rattle.sled_core.proofs.Reserve.Batches.{batches-append, batches-same}
 use Rattle.sled_core.specs.Recoverable.{NoBatchEnds}
 use Rattle.sled_core.proofs.Reserve.RecordEnds.{no_end_in, records_ended}
 use Rattle.std.proofs.Common.{◌≡◌, ◌≢◌, ◌≤◌, ◌<◌, ◌+◌, ◌/◌, inl, inr, ℕ, suc, max, List, ◌∷◌, ◌++◌, length, take, drop, set, sym, ◌∙◌, ap, arith, refl, subst, false, append_assoc, Option, None, Some, get_or, ◌-◌}
@@ -12,8 +11,7 @@ use Rattle.std.proofs.lemmas.List.Elements.{Contains-append_cases, All-contains}
 use Rattle.sled_codec.specs.Written.{written}
 use Rattle.sled_codec.specs.declared.serialization.message.MessageKind.{MessageKind}
 use Rattle.sled_codec.specs.declared.serialization.message.MessageKind.TheVariants as kind
-use Rattle.sled_codec.specs.Spelling.{low_first}
-use Rattle.sled_codec.specs.History.{Message, Batch, History, AddsMessage}
+use Rattle.sled_codec.specs.History.{Message, History, AddsMessage}
 use Rattle.sled_codec.specs.Kinds.{code_of}
 use Rattle.sled_codec.specs.Places.{part}
 use Rattle.sled_store.specs.Device.{LogState, State}
@@ -22,14 +20,14 @@ use Rattle.sled_core.specs.declared.iobuf.ReservationState.TheVariants.{Open, Co
 use Rattle.sled_core.specs.declared.iobuf.Reserved.{Reserved}
 use Rattle.sled_core.specs.declared.iobuf.Sealed.{Sealed}
 use Rattle.sled_core.specs.declared.iobuf.SegmentPosition.{SegmentPosition}
-use Rattle.sled_core.specs.Buffers.{records_end, batch_in, batches_in, with_batch, body_in, message_in, IsChain, completed_in, with_own, ending, completing, canceling, ended, open_state, HasText, Stands, StandsReserved}
+use Rattle.sled_core.specs.Buffers.{records_end, batches_in, body_in, message_in, IsChain, completed_in, with_own, ending, completing, canceling, ended, open_state, HasText, Stands, StandsReserved}
 use Rattle.sled_core.specs.Fits.{log_parts, HoldsSegment, IsOnDevice}
 use Rattle.sled_core.proofs.Reached.BufferPath.{mark_same}
 use Rattle.sled_core.proofs.Reserve.Ranges.{part-written_before, length-written, completed-same, completed-append, completed_between, chain-split, chain-joined, chain_grows, chain_within, there_split, all_split, all_joined, at_there, there-set_other, chain_apart}
 use Rattle.sled_core.specs.Manifests.{is_manifest}
 use Rattle.sled_core.proofs.Reserve.CompletesLemmas.{changes_page, kind_of_message, body_before, same_before, body_behind, same_behind, body_own, completed_stands, canceled_stands, fits}
-use Rattle.sled_core.proofs.Reserve.Entries.{completed_plain, manifest_plain, in_reserved, open_plain, reserved_in, some_long}
-use Rattle.sled_core.proofs.Holds.HoldsLemmas.{batches_open, completed_open}
+use Rattle.sled_core.proofs.Reserve.Entries.{completed_plain, in_reserved, open_plain, reserved_in, some_long}
+use Rattle.sled_core.proofs.Holds.HoldsLemmas.{completed_open}
 use Rattle.sled_core.proofs.Holds.BatchLemmas.{same_batched}
 use Rattle.sled_core.specs.SealedBuffers.{AreSealed, Laid, one_ended}
 use Rattle.sled_core.proofs.Sealed.LaidCalls.{laid_over}

@@ -1,29 +1,28 @@
 -- The manifest of a batch ends with its peg: its segment holds the history with that batch, and the other segments do, in which it doesn't begin.
 use Rattle.sled_core.proofs.Reached.Marks.{less_than}
-use Rattle.std.proofs.Common.{◌≡◌, ◌⊎◌, ◌≤◌, ◌<◌, ◌≤ℤ◌, ◌<ℤ◌, ◌+◌, ◌/◌, ◌^◌, ◌∙◌, ℕ, ℤ, suc, pos, max, true, List, [], ◌∷◌, ◌++◌, length, take, drop, set, Option, None, Some, refl, sym, ap, subst, arith, inl, inr, append_assoc}
+use Rattle.std.proofs.Common.{◌≡◌, ◌⊎◌, ◌≤◌, ◌<◌, ◌<ℤ◌, ◌+◌, ◌/◌, ◌^◌, ◌∙◌, ℕ, suc, pos, max, true, List, [], ◌∷◌, ◌++◌, length, take, drop, set, Option, Some, refl, sym, ap, subst, arith, inl, inr}
 use Rattle.std.specs.List.{All, Contains, slice_get}
 use Rattle.std.specs.declared.io.Error.{Error as IoError}
 use Rattle.std.proofs.lemmas.List.{set_split}
 use Rattle.std.proofs.lemmas.Option.{slice_get_within}
 use Rattle.std.proofs.lemmas.List.Elements.{Contains-append_cases, Contains-append_left, Contains-append_right}
 use Rattle.sled_codec.specs.Written.{written}
-use Rattle.sled_codec.specs.History.{Batch, History, Message}
+use Rattle.sled_codec.specs.History.{Batch, Message}
 use Rattle.sled_store.specs.Device.{State}
 use Rattle.sled_store.proofs.Segments.Elements.{in_cases, in_first, in_nothing, in_rest}
-use Rattle.sled_core.specs.declared.iobuf.ReservationState.TheVariants.{Manifest, Open, Padding}
+use Rattle.sled_core.specs.declared.iobuf.ReservationState.TheVariants.{Manifest, Open}
 use Rattle.sled_core.specs.declared.iobuf.Reserved.{Reserved}
 use Rattle.sled_core.specs.declared.iobuf.Sealed.{Sealed}
 use Rattle.sled_core.specs.declared.iobuf.SegmentPosition.{SegmentPosition}
 use Rattle.sled_core.specs.declared.iterator.Segment.{Segment}
-use Rattle.sled_core.specs.Begun.{SegmentParts}
-use Rattle.sled_core.specs.Buffers.{HasText, IsChain, Stands, StandsReserved, batches_in, completed_in, ended, marking, records_end}
-use Rattle.sled_core.specs.Fits.{HasBatches, HasMark, HoldBehind, HoldsNext, HoldsSegment, log_parts}
+use Rattle.sled_core.specs.Buffers.{IsChain, Stands, StandsReserved, batches_in, completed_in, ended, marking, records_end}
+use Rattle.sled_core.specs.Fits.{HasBatches, HoldsSegment, log_parts}
 use Rattle.sled_core.specs.Manifests.{is_manifest}
 use Rattle.sled_core.specs.Recoverable.{IsMarkOf, NoBatchEnds}
-use Rattle.sled_core.specs.SealedBuffers.{AreSealed, Laid, one_ended}
+use Rattle.sled_core.specs.SealedBuffers.{AreSealed, one_ended}
 use Rattle.sled_core.proofs.Reserve.Entries.{open_plain, reserved_in}
 use Rattle.sled_core.proofs.Reserve.MarksLemmas.{batches_marked, batches_unmarked, completed_marked, manifest_long, marked_long, marking_long, stand_marked}
-use Rattle.sled_core.proofs.Reserve.Ranges.{all_split, at_there, chain-joined, chain-split, chain_grows, chain_within, part-written_before, there_split}
+use Rattle.sled_core.proofs.Reserve.Ranges.{at_there, chain-joined, chain-split, chain_within, part-written_before, there_split}
 use Rattle.sled_core.proofs.Reserve.RecordEnds.{records_ended}
 use Rattle.sled_core.proofs.Sealed.LaidCalls.{laid_over}
 

@@ -1,5 +1,5 @@
 -- A log whose segments are these, over the same device, holds and fits what these do.
-use Rattle.std.proofs.Common.{◌≡◌, ◌+◌, sym, subst, ℕ, List, [], ◌∷◌, Option}
+use Rattle.std.proofs.Common.{◌≡◌, sym, subst, ℕ, List, Option}
 use Rattle.std.specs.declared.io.Error.{Error as IoError}
 use Rattle.sled_codec.specs.History.{History, Message}
 use Rattle.sled_store.specs.declared.config.RunningConfig.{RunningConfig}

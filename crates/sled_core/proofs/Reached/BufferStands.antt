@@ -157,9 +157,15 @@ module _ (sum : List ℕ → ℕ) (size : ℕ) (site : SegmentPosition) (log byt
     one_batch is =
         let its = kind_of_manifest r.log_kind r.page (length body) r.kind stands.known (stands.manifest is) in
         let peg : ℕ = low_first body in
-        let small = stands.pegged is in
-        (header_as (as_record r.kind stands.valid).header r.kind, body, record_stands r.kind stands.valid (text_there ∙ ap (text_as sum r.kind r.page number body) is), (its.1,
-        record { unsigned = record { long = its.0; value = refl; small = omega (arith, small) }; in_range = omega (arith, ints, small) }))
+        let small = stands.pegged is in (
+          header_as (as_record r.kind stands.valid).header r.kind,
+          body,
+          record_stands r.kind stands.valid (text_there ∙ ap (text_as sum r.kind r.page number body) is),
+          (
+            its.1,
+            record { unsigned = record { long = its.0; value = refl; small = omega (arith, small) }; in_range = omega (arith, ints, small) },
+          ),
+        )
 
     met_by : (s : ReservationState) → r.state ≡ s → (s ≡ Open → ⊥) → s ≢ Padding → IsMet sum size log (site.slot + r.from) number (met_as s (message_in site bytes r))
     met_by Open is not_open plain = absurd (not_open refl)

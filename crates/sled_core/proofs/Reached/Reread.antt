@@ -6,8 +6,8 @@ use Rattle.sled_codec.specs.Snapshots.{SnapshotModel}
 use Rattle.sled_store.proofs.Segments.Elements.{in_first, in_rest}
 use Rattle.sled_core.specs.declared.iterator.Segment.{Segment}
 use Rattle.sled_core.specs.declared.iterator.scan.ScannedRecord.{ScannedRecord}
-use Rattle.sled_core.specs.declared.iterator.scan.ScanEnd.TheVariants.{Capped, Broken}
-use Rattle.sled_core.specs.Recoverable.{NothingBehind, NoMessageBegins, NoBatchBegins, StandsInline, IsOfHistory, IsSegmentOf, IsMarkOf, IsMarkBelow}
+use Rattle.sled_core.specs.declared.iterator.scan.ScanEnd.TheVariants.{Broken}
+use Rattle.sled_core.specs.Recoverable.{NothingBehind, StandsInline, IsOfHistory, IsSegmentOf, IsMarkOf, IsMarkBelow}
 use Rattle.sled_core.specs.Tail.{Scanned, IsScanned, IsOrdering, AreScanned, least_place}
 use Rattle.sled_core.proofs.Tail.OneReading.{one_scan}
 use Rattle.sled_core.proofs.Tail.OneTail.{scan_there, segment_there, reading_there}

@@ -13,8 +13,7 @@ use Rattle.sled_store.specs.Foreign.{NoForeignLog}
 use Rattle.sled_core.specs.declared.iterator.Segment.{Segment}
 use Rattle.sled_core.specs.declared.iterator.scan.ScannedRecord.{ScannedRecord}
 use Rattle.sled_core.specs.declared.iterator.scan.ScanEnd.{ScanEnd}
-use Rattle.sled_core.specs.declared.iterator.scan.ScanEnd.TheVariants.{Capped}
-use Rattle.sled_core.specs.Recoverable.{NothingBehind, NoHeaderOfZeros, NoMessageBegins, NoBatchBegins, StandsInline, IsOfHistory, IsReachedIn, IsSegmentOf, IsMarkOf, IsMarkBelow}
+use Rattle.sled_core.specs.Recoverable.{NothingBehind, NoHeaderOfZeros, StandsInline, IsOfHistory, IsReachedIn, IsSegmentOf, IsMarkOf, IsMarkBelow}
 use Rattle.sled_core.specs.Scan.{IsFoundSegment, IsMisplaced, IsPath, IsEnd, IsScan}
 use Rattle.sled_core.proofs.Read.FoundLemmas.{pos_injective}
 use Rattle.sled_core.proofs.Torn.TornLemmas.{after_write}

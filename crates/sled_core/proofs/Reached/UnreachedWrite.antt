@@ -7,9 +7,8 @@ use Rattle.sled_store.specs.Device.{overwritten}
 use Rattle.sled_store.proofs.Histories.Ascending.{Ascends}
 use Rattle.sled_core.specs.declared.iterator.scan.ScannedRecord.{ScannedRecord}
 use Rattle.sled_core.specs.declared.iterator.scan.ScanEnd.{ScanEnd}
-use Rattle.sled_core.specs.declared.iterator.scan.ScanEnd.TheVariants.{Capped}
 use Rattle.sled_core.specs.Reached.{GoesOnIn, IsReadTo}
-use Rattle.sled_core.specs.Recoverable.{NothingBehind, NoHeaderOfZeros, NoMessageBegins, NoBatchBegins, IsOfHistory}
+use Rattle.sled_core.specs.Recoverable.{NothingBehind, NoHeaderOfZeros, IsOfHistory}
 use Rattle.sled_core.specs.Scan.{IsPath, IsEnd}
 use Rattle.sled_core.specs.Tail.{least_place}
 use Rattle.sled_core.proofs.Reached.OneWrite as one

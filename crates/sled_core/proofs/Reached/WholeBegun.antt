@@ -10,9 +10,9 @@ use Rattle.sled_store.specs.Device.{overwritten, LeavesLog}
 use Rattle.sled_core.specs.declared.iterator.Segment.{Segment}
 use Rattle.sled_core.specs.declared.iterator.scan.ScannedRecord.{ScannedRecord}
 use Rattle.sled_core.specs.declared.iterator.scan.ScanEnd.{ScanEnd}
-use Rattle.sled_core.specs.declared.iterator.scan.ScanEnd.TheVariants.{Capped, Broken}
+use Rattle.sled_core.specs.declared.iterator.scan.ScanEnd.TheVariants.{Broken}
 use Rattle.sled_core.specs.OpenBatches.{stable_below}
-use Rattle.sled_core.specs.Recoverable.{NothingBehind, NoHeaderOfZeros, NoMessageBegins, NoBatchBegins, IsOfHistory, IsMarkOf, IsMarkBelow}
+use Rattle.sled_core.specs.Recoverable.{NothingBehind, NoHeaderOfZeros, NoMessageBegins, IsOfHistory, IsMarkOf, IsMarkBelow}
 use Rattle.sled_core.specs.Scan.{IsPath, IsEnd, IsScan}
 use Rattle.sled_core.proofs.Torn.TornLemmas.{after_write}
 use Rattle.sled_core.proofs.Torn.WrittenBegun.{none_stood, header_new}

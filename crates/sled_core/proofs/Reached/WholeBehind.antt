@@ -7,9 +7,9 @@ use Rattle.sled_store.specs.Device.{overwritten, LeavesLog}
 use Rattle.sled_core.specs.declared.iterator.Segment.{Segment}
 use Rattle.sled_core.specs.declared.iterator.scan.ScannedRecord.{ScannedRecord}
 use Rattle.sled_core.specs.declared.iterator.scan.ScanEnd.{ScanEnd}
-use Rattle.sled_core.specs.declared.iterator.scan.ScanEnd.TheVariants.{Capped, Broken}
+use Rattle.sled_core.specs.declared.iterator.scan.ScanEnd.TheVariants.{Broken}
 use Rattle.sled_core.specs.OpenBatches.{stable_below}
-use Rattle.sled_core.specs.Recoverable.{NothingBehind, NoMessageBegins, NoBatchBegins, IsOfHistory}
+use Rattle.sled_core.specs.Recoverable.{NothingBehind, NoMessageBegins, IsOfHistory}
 use Rattle.sled_core.specs.Scan.{IsFoundSegment, IsPath, IsEnd, IsScan}
 use Rattle.sled_core.proofs.Read.FoundLemmas.{found_there}
 use Rattle.sled_core.proofs.Torn.TornLemmas.{after_write}

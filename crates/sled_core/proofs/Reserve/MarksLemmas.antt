@@ -1,5 +1,5 @@
 -- The manifest of a batch that ends has its record at its place, with the peg as its body, and no other reservation is touched.
-use Rattle.std.proofs.Common.{◌≡◌, ◌≤◌, ◌<◌, ◌+◌, ◌-◌, ◌^◌, ◌==◌, ℕ, Bool, true, false, if◌then◌else◌, Option, None, Some, List, [], ◌∷◌, ◌++◌, length, drop, sym, ◌∙◌, ap, arith, refl, subst, rules, append_assoc, length-append, length-take, length-drop}
+use Rattle.std.proofs.Common.{◌≡◌, ◌≤◌, ◌<◌, ◌+◌, ◌-◌, ◌^◌, ◌==◌, ℕ, Bool, true, false, if◌then◌else◌, None, Some, List, [], ◌∷◌, ◌++◌, length, drop, sym, ◌∙◌, ap, arith, refl, subst, rules, append_assoc, length-append, length-take, length-drop}
 use Rattle.std.specs.List.{All}
 use Rattle.std.proofs.lemmas.Bool.Decides.{nat_tests}
 use Rattle.std.proofs.lemmas.List.{append-nil, drop_all, same_lists, places}
@@ -15,14 +15,14 @@ use Rattle.sled_codec.specs.Spelling.{low_bytes, low_first, short_header_tail}
 use Rattle.sled_codec.specs.SpellingLaws.{length-low_bytes, low_first-low_bytes}
 use Rattle.sled_codec.specs.Sums.{flipped}
 use Rattle.sled_core.specs.declared.iobuf.ReservationState.{ReservationState}
-use Rattle.sled_core.specs.declared.iobuf.ReservationState.TheVariants.{Open, Completed, Manifest}
+use Rattle.sled_core.specs.declared.iobuf.ReservationState.TheVariants.{Open, Manifest}
 use Rattle.sled_core.specs.declared.iobuf.Reserved.{Reserved}
 use Rattle.sled_core.specs.declared.iobuf.SegmentPosition.{SegmentPosition}
 use Rattle.sled_core.specs.Buffers.{HasText, IsChain, Stands, StandsAs, batches_in, body_in, completed_in, ended, ending, ending_as, marking, message_in, text_in, with_own}
 use Rattle.sled_core.specs.Manifests.{is_manifest, kind_for}
 use Rattle.sled_core.proofs.Reserve.Batches.{batches-append, batches_without}
 use Rattle.sled_core.proofs.Reserve.CompletesLemmas.{tail_there}
-use Rattle.sled_core.proofs.Reserve.Entries.{in_reserved, open_plain, reserved_in}
+use Rattle.sled_core.proofs.Reserve.Entries.{open_plain, reserved_in}
 use Rattle.sled_core.proofs.Reserve.Ranges.{all_joined, all_split, completed-append, length-written, part-written_before, part-written_at}
 use Rattle.sled_core.proofs.Reserve.WrittenOver.{batches_before, batches_behind, completed_before, completed_behind, stand_before, stand_behind}
 

@@ -1,7 +1,6 @@
 -- Where bytes are written over a reservation, the others stand as they stood, with the same messages and batches.
 use Rattle.std.proofs.Common.{◌≡◌, ◌≤◌, ◌<◌, ◌+◌, ◌-◌, ℕ, List, ◌∷◌, ◌++◌, length, get_or, arith, sym, ◌∙◌}
 use Rattle.std.specs.List.{All}
-use Rattle.sled_codec.specs.History.{Batch, Message}
 use Rattle.sled_codec.specs.Written.{written}
 use Rattle.sled_core.specs.declared.iobuf.ReservationState.{ReservationState}
 use Rattle.sled_core.specs.declared.iobuf.ReservationState.TheVariants.{Manifest}

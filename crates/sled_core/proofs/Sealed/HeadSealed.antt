@@ -1,5 +1,5 @@
 -- The first sealed buffer is written, behind what was written of its segment or at the beginning of it: what a crash leaves of it stands as before, and all of it up to the end of those behind it that were written before it. Where the last of these fills the segment, the next one begins.
-use Rattle.std.proofs.Common.{◌≢◌, ◌≡◌, ◌≤◌, ◌<◌, ◌+◌, ◌/◌, ◌%◌, ◌^◌, ◌⊎◌, ◌∙◌, ℕ, max, Bool, true, false, nat_lt, if◌then◌else◌, List, [], ◌∷◌, length, take, get_or, sym, ap, subst, arith, inl, inr}
+use Rattle.std.proofs.Common.{◌≢◌, ◌≡◌, ◌≤◌, ◌<◌, ◌+◌, ◌/◌, ◌%◌, ◌^◌, ◌⊎◌, ◌∙◌, ℕ, max, Bool, true, false, nat_lt, if◌then◌else◌, List, ◌∷◌, length, take, sym, ap, subst, arith, inl, inr}
 use Rattle.std.specs.List.{All}
 use Rattle.std.proofs.lemmas.Bool.{cases_lt}
 use Rattle.std.proofs.lemmas.Bool.Decides.{nat_tests}
@@ -18,14 +18,13 @@ use Rattle.sled_core.specs.Caps.{rest_why}
 use Rattle.sled_core.specs.Buffers.{batches_in, completed_in, records_end, records_of, NoPadding, Stands}
 use Rattle.sled_core.specs.Fits.{HasMark}
 use Rattle.sled_core.specs.LogFile.{HasHeader}
-use Rattle.sled_core.specs.Reached.{BegunSegment, StandsAlone, StandsAmong}
+use Rattle.sled_core.specs.Reached.{BegunSegment, StandsAmong}
 use Rattle.sled_core.specs.Recoverable.{NoBatchEnds, NoHeaderOfZeros}
 use Rattle.sled_core.specs.SealedBuffers.{AreSealed, Laid, run_end, run_count, bytes_between}
 use Rattle.sled_core.specs.Tail.{least_place}
 use Rattle.sled_core.proofs.Reached.BufferPath.{HasOnly, ending_at}
 use Rattle.sled_core.proofs.Reached.BufferStands.{met_in}
 use Rattle.sled_core.specs.Full.{StandsFull}
-use Rattle.sled_core.proofs.Reached.NextSegment.{begins_alone}
 use Rattle.sled_core.proofs.Reached.StandsTo.{StandsTo}
 use Rattle.sled_core.proofs.Sealed.HeadWritten.{head_filled, head_written, torn_head}
 use Rattle.sled_core.proofs.Sealed.LaidLemmas.{EndsRise}
