@@ -24,7 +24,7 @@ use Rattle.sled_core.specs.Scan.{IsScan}
 use Rattle.sled_core.specs.Tail.{Scanned}
 use Rattle.sled_core.proofs.Behind.FullHolds.{emptied, none_reserved, none_sealed}
 use Rattle.sled_core.proofs.Behind.FullNext.{at_place, follow, full_file, full_here, here, holds_now, ordered, rest}
-use Rattle.sled_core.proofs.Behind.FullRead.{ends_read, inside, none_behind, same_stop}
+use Rattle.sled_core.proofs.Behind.FullRead.{ends_read, inside, no_batch_behind, no_end_behind, none_behind, same_stop}
 use Rattle.sled_core.proofs.Behind.FullZeros.{zeros_or_not}
 use Rattle.sled_core.proofs.Flush.Padded.{padded_none}
 use Rattle.sled_core.proofs.Flush.Settled.{InlineFrom, blobs_higher, settled_recoverable}
@@ -40,7 +40,7 @@ use Rattle.sled_core.proofs.Tail.OneTail.{segment_there}
 use Rattle.sled_core.proofs.Torn.WrittenParts.{path_rises}
 
 module _ (sum : List ℕ → ℕ) (size : ℕ) (device : State) (fault : Option IoError) (place : ℕ) (s : SegmentParts) (ss : List SegmentParts) {reach pins : ℕ} {H : History} {A f : ℕ} {U : List Message}
-    (fits : FitsFull sum size device fault place (s ∷ ss) reach pins H A f U) (big : 256 ≤ size) (whole : fault ≡ None) (full : s.written_len ≡ size) (closed : CloseBelow place H.batches) where
+    (fits : FitsFull sum size device fault place (s ∷ ss) reach pins H A f U) (big : 256 ≤ size) (whole : fault ≡ None) (full : s.written_len ≡ size) where
   begins : s.site.place ≡ place
   begins = at_place sum size device fault place s ss fits big whole
 
@@ -155,9 +155,6 @@ module _ (sum : List ℕ → ℕ) (size : ℕ) (device : State) (fault : Option 
           (omega (arith, low.0, at, ended), omega (arith, low.1, at, ended)))
     ]
 
-    closed_low : (b : Batch) → Contains H.batches b → (b.low < place) × (b.peg < place)
-    closed_low b there = All-contains (λ (c : Batch). (c.low < place) × (c.peg < place)) H.batches b closed there
-
     -- The next one begins behind it, with nothing of the history between.
     begins_next : BeginsNext size H (s.site.place + stop) (s.site.place + size)
     begins_next =
@@ -173,8 +170,8 @@ module _ (sum : List ℕ → ℕ) (size : ℕ) (device : State) (fault : Option 
           above = omega (arith, short);
           next = omega (arith, further);
           no_message = λ m there. elim (none_behind sum size log big H (stable_below reach H.batches) fits.holds.begun.first reach full_now.stands ascends r.scan r.there scan_goes m there) [ inl low ↦ inl (omega (arith, low, at, ended)) | inr past ↦ inr (omega (arith, past, at)) ];
-          no_batch = λ c there. let low = closed_low c there in inl (omega (arith, low.0, b));
-          no_end = λ c there. let low = closed_low c there in inl (omega (arith, low.1, b));
+          no_batch = λ c there. elim (no_batch_behind sum size log big H (stable_below reach H.batches) fits.holds.begun.first reach full_now.stands ascends r.scan r.there scan_goes c there) [ inl low ↦ inl (omega (arith, low, at, ended)) | inr past ↦ inr (omega (arith, past, at)) ];
+          no_end = λ c there. elim (no_end_behind sum size log big H (stable_below reach H.batches) fits.holds.begun.first reach full_now.stands ascends r.scan r.there scan_goes c there) [ inl low ↦ inl (omega (arith, low, at, ended)) | inr past ↦ inr (omega (arith, past, at)) ];
         }
 
     stands_further : StandsFull sum size log (s.site.place + size) (map begun_segment ss) (s.site.place + stop) H fits.holds.begun.first

@@ -1,5 +1,5 @@
 -- The reading of a segment of a log file that doesn't end for want of a record: it ends there too with more behind the end of the file, the messages of the history that begin in it end there, and none begins behind it.
-use Rattle.std.proofs.Common.{◌≡◌, ◌≢◌, ◌≤◌, ◌<◌, ◌+◌, ◌/◌, ◌%◌, ℕ, pos, length-append, List, [], ◌∷◌, ◌++◌, refl, ap, subst, arith, inl, inr}
+use Rattle.std.proofs.Common.{◌⊎◌, ◌≡◌, ◌≢◌, ◌≤◌, ◌<◌, ◌+◌, ◌/◌, ◌%◌, ℕ, pos, length-append, List, [], ◌∷◌, ◌++◌, refl, ap, subst, arith, inl, inr}
 use Rattle.std.specs.List.{Contains}
 use Rattle.std.proofs.lemmas.Bool.{cases_lt}
 use Rattle.sled_codec.specs.History.{History, Message}
@@ -10,7 +10,7 @@ use Rattle.sled_core.specs.declared.iterator.Segment.{Segment}
 use Rattle.sled_core.specs.declared.iterator.scan.ScannedRecord.{ScannedRecord}
 use Rattle.sled_core.specs.declared.iterator.scan.ScanEnd.{ScanEnd}
 use Rattle.sled_core.specs.declared.iterator.scan.ScanEnd.TheVariants.{Full, Capped, Broken}
-use Rattle.sled_core.specs.Recoverable.{NoMessageBegins}
+use Rattle.sled_core.specs.Recoverable.{BeginsInSegment, NoBatchBegins, NoBatchEnds, NoMessageBegins}
 use Rattle.sled_core.specs.Scan.{EndsThere, IsEnd, IsPath, IsScan}
 use Rattle.sled_core.specs.Tail.{IsScanned, Scanned, least_place}
 use Rattle.sled_core.proofs.Flush.LogFileLemmas.{record_moved}
@@ -69,25 +69,39 @@ module _ (sum : List ℕ → ℕ) (size : ℕ) (log : List ℕ) (some : 256 ≤ 
   pub inside : y.stop ≤ size
   inside = stop_inside sum size log some y (whole sum size log some (least_place size first) is.ordering is.numbers is.scanned is.reads y there)
 
-  -- No message begins behind the end of the reading.
-  pub none_behind : NoMessageBegins H (y.segment.place + y.stop) (y.segment.place + size)
+  -- Nothing begins behind the end of the reading: no message,
+  none_short : y.why ≡ Full → (n : ℕ) → BeginsInSegment size n → (n < y.segment.place + y.stop) ⊎ (y.segment.place + size ≤ n)
   unfolding IsScan
-  none_behind = by y.why refl goes known.1 where
-    by : (why : ScanEnd) → y.why ≡ why → why ≢ Broken → IsEnd sum size log y.segment.slot y.segment.place y.stop y.why → NoMessageBegins H (y.segment.place + y.stop) (y.segment.place + size)
-    by Capped at on end m known_m = ((is.caps y there).0 at).0 m known_m
-    by Broken at on end m known_m = absurd (on refl)
-    by Full at on end m known_m = elim (cases_lt m.place (y.segment.place + y.stop)) [
-      | inl under ↦ inl under
-      | inr above ↦ elim (cases_lt m.place (y.segment.place + size)) [
-        | inr past ↦ inr past
-        | inl under ↦ (
-            let full : size < y.stop + 32 = subst (λ (w : ScanEnd). IsEnd sum size log y.segment.slot y.segment.place y.stop w) at end in
-            let room = (is.placed m known_m).begins.room in
-            let multiple = one_multiple size some y.segment.place m.place aligned (omega (arith, above)) under in
-            let parts = put_down size m.place in
-            absurd (omega (arith, full, room, multiple, parts.0, above)))
-      ]
+  none_short at n begins = elim (cases_lt n (y.segment.place + y.stop)) [
+    | inl under ↦ inl under
+    | inr above ↦ elim (cases_lt n (y.segment.place + size)) [
+      | inr past ↦ inr past
+      | inl under ↦ (
+          let full : size < y.stop + 32 = subst (λ (w : ScanEnd). IsEnd sum size log y.segment.slot y.segment.place y.stop w) at known.1 in
+          let room = begins.room in
+          let multiple = one_multiple size some y.segment.place n aligned (omega (arith, above)) under in
+          let parts = put_down size n in
+          absurd (omega (arith, full, room, multiple, parts.0, above)))
     ]
+  ]
+
+  pub none_behind : NoMessageBegins H (y.segment.place + y.stop) (y.segment.place + size)
+  none_behind = by y.why refl goes where
+    by : (why : ScanEnd) → y.why ≡ why → why ≢ Broken → NoMessageBegins H (y.segment.place + y.stop) (y.segment.place + size)
+    by Capped at on m known_m = ((is.caps y there).0 at).0 m known_m
+    by Broken at on m known_m = absurd (on refl)
+    by Full at on m known_m = none_short at m.place (is.placed m known_m).begins
+
+  -- and no batch, and none ends there.
+  pub no_batch_behind : NoBatchBegins H (y.segment.place + y.stop) (y.segment.place + size)
+  no_batch_behind = by y.why refl goes where
+    by : (why : ScanEnd) → y.why ≡ why → why ≢ Broken → NoBatchBegins H (y.segment.place + y.stop) (y.segment.place + size)
+    by Capped at on b known_b = ((is.caps y there).0 at).1 b known_b
+    by Broken at on b known_b = absurd (on refl)
+    by Full at on b known_b = none_short at b.low (is.batched b known_b).begins
+
+  pub no_end_behind : NoBatchEnds H (y.segment.place + y.stop) (y.segment.place + size)
+  no_end_behind = (is.caps y there).1 goes
 
   -- One that begins in the segment ends before it.
   pub ends_read : (m : Message) → Contains H.messages m → y.segment.place ≤ m.place → m.place < y.segment.place + size → (m.place < y.segment.place + y.stop) × (m.place + m.size ≤ y.segment.place + y.stop)

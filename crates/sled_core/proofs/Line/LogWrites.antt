@@ -182,7 +182,7 @@ module _ {D C : Type 0} (log : Log D C) (n k : ℕ) (r : IsReadyIn (line_of log)
     pub fits_done : (new : Trace) → new ≡ after_all (write_in line n k) before → (now : Option IoError) → now ≡ None → (H : History) (A f : ℕ) (U : List Message) → Fits trace sum log H A f U → FitsWith sum size (state_of new) now line_left slots log.pins H A f U
     unfolding Fits
     fits_done new came now none H A f U fits =
-        let after = fits_write sum size log.config.config.least device log.fault whole v k r.buffer r.there r.ready log.pins H A f U log.reserved_to log.site.place fits.reach line (line_segments log) n r.among filled_now first_waits fits.closed fits.parts in
+        let after = fits_write sum size log.config.config.least device log.fault whole v k r.buffer r.there r.ready log.pins H A f U log.reserved_to log.site.place fits.reach line (line_segments log) n r.among filled_now first_waits fits.parts in
         subst (λ (o : Option IoError). FitsWith sum size (state_of new) o line_left slots log.pins H A f U) (sym none)
         (subst (λ (t : Trace). FitsWith sum size (state_of t) None line_left slots log.pins H A f U) (sym (made new came)) (record {
           reach = after.0;

@@ -1,5 +1,4 @@
 -- The segments at the front that are wholly on the device go: the others hold and fit the same, tickets stay, and so does where the next record begins.
-use Rattle.sled_core.proofs.Holds.BatchLemmas.{closed_up}
 use Rattle.std.proofs.Common.{◌≡◌, ◌∙◌, ◌<◌, ◌≤◌, ◌+◌, ◌-◌, ◌==◌, ap, sym, refl, arith, subst, ℕ, zero, suc, Bool, true, if◌then◌else◌, List, [], ◌∷◌, map, set, Option, None, Some, inl, inr}
 use Rattle.std.specs.List.{slice_get}
 use Rattle.std.specs.declared.io.Error.{Error as IoError}
@@ -34,18 +33,18 @@ holds_promoted sum size device fault H big place vs are holds =
     vs ((place, are), holds)).1
 
 -- Where all segments before these are wholly on the device, the log fits with those that are left.
-pub fits_full : (sum : List ℕ → ℕ) (size : ℕ) (device : State) (fault : Option IoError) {pins : ℕ} {H : History} {A f : ℕ} {U : List Message} → 256 ≤ size → fault ≡ None → (to place reach : ℕ) (w : SegmentView) (ws : List SegmentView) → AreFilled size to (w ∷ ws) → CloseBelow place H.batches
+pub fits_full : (sum : List ℕ → ℕ) (size : ℕ) (device : State) (fault : Option IoError) {pins : ℕ} {H : History} {A f : ℕ} {U : List Message} → 256 ≤ size → fault ≡ None → (to place reach : ℕ) (w : SegmentView) (ws : List SegmentView) → AreFilled size to (w ∷ ws)
     → FitsFull sum size device fault place (map parts_in (w ∷ ws)) reach pins H A f U → (now : ℕ) × FitsLine sum size device fault (promoted size (w ∷ ws)) now pins H A f U
-fits_full sum size device fault big whole to place reach w [] filled closed fits =
+fits_full sum size device fault big whole to place reach w [] filled fits =
     let first = here sum size device fault place w.parts [] fits big whole in
     let up = ends_up w.parts.written_len w.parts.reserved w.parts.sealed first.are in
     let low = filled.0 in
     full_next sum size device fault place w.parts [] fits big whole (omega (arith, up, low))
-fits_full sum size device fault {pins} {H} {A} {f} {U} big whole to place reach w (y ∷ ys) filled closed fits =
+fits_full sum size device fault {pins} {H} {A} {f} {U} big whole to place reach w (y ∷ ys) filled fits =
     elim (cases_eq w.parts.written_len size) [
       | inl full ↦ (
-          let next = full_further sum size device fault place w.parts (map parts_in (y ∷ ys)) fits big whole full closed in
-          let rest = fits_full sum size device fault big whole to (place + size) next.0 y ys filled.2 (closed_up place (place + size) H.batches (omega arith) closed) next.1 in
+          let next = full_further sum size device fault place w.parts (map parts_in (y ∷ ys)) fits big whole full in
+          let rest = fits_full sum size device fault big whole to (place + size) next.0 y ys filled.2 next.1 in
           let is : (w.parts.written_len == size) ≡ true = grind (arith, nat_tests, full) in
           (rest.0, subst (λ (l : List SegmentView). FitsLine sum size device fault l rest.0 pins H A f U) (sym (ap (λ (o : Bool). if o then promoted size (y ∷ ys) else w ∷ y ∷ ys) is)) rest.1))
       | inr other ↦ (

@@ -1,5 +1,4 @@
 -- A sealed buffer of one of the segments of a log is written at its place, and synced: at each moment a crash leaves what can be recovered, and behind it the segments that are left hold and fit the same history.
-use Rattle.sled_core.proofs.Holds.BatchLemmas.{closed_up}
 use Rattle.std.proofs.Common.{◌≡◌, ◌∙◌, ◌<◌, ◌≤◌, ◌+◌, ◌*◌, ◌==◌, ap, sym, refl, arith, subst, ℕ, zero, suc, true, false, Bool, if◌then◌else◌, List, [], ◌∷◌, length, take, drop, map, set, Option, None, Some, inl, inr}
 use Rattle.std.specs.List.{All, slice_get}
 use Rattle.std.specs.declared.io.Error.{Error as IoError}
@@ -98,10 +97,10 @@ module _ (sum : List ℕ → ℕ) (size : ℕ) (big : 256 ≤ size) (device : St
         big whole are.0.short are.0.are are.0.begins is.place_small is.slot_small is.fresh k b there ready
 
     -- Behind them the segments that are left fit the same.
-    pub fits_write : (to place reach : ℕ) (line : List SegmentView) → AreSegments size place line → (n : ℕ) → slice_get line n ≡ Some v → AreFilled size to (set line n now) → ((x y : SegmentView) (ys : List SegmentView) → line ≡ x ∷ y ∷ ys → x.parts.written_len < size) → CloseBelow (written_to line) H.batches
+    pub fits_write : (to place reach : ℕ) (line : List SegmentView) → AreSegments size place line → (n : ℕ) → slice_get line n ≡ Some v → AreFilled size to (set line n now) → ((x y : SegmentView) (ys : List SegmentView) → line ≡ x ∷ y ∷ ys → x.parts.written_len < size)
         → FitsLine sum size device fault line reach pins H A f U → (up_to : ℕ) × FitsLine sum size buffer_synced None (promoted size (set line n now)) up_to pins H A f U
-    fits_write to place reach [] are n among filled waits closed fits = absurd fits
-    fits_write to place reach (x ∷ xs) are zero among filled waits closed fits =
+    fits_write to place reach [] are n among filled waits fits = absurd fits
+    fits_write to place reach (x ∷ xs) are zero among filled waits fits =
         let same : x ≡ v = cc in
         let is : IsSegment size place v = subst (λ (y : SegmentView). IsSegment size place y) same are.0 in
         let here : FitsIn sum (log_parts size v.parts.site device fault v.parts.bytes v.parts.written_len v.parts.sealed v.parts.reserved) (map parts_in xs) reach pins H A f U =
@@ -117,21 +116,18 @@ module _ (sum : List ℕ → ℕ) (size : ℕ) (big : 256 ≤ size) (device : St
               let begins = new.begins in
               let short = new.short in
               let full : run_end v.parts.written_len (written_at k v.parts.sealed) ≡ size = omega (arith, above, up, begins, short) in
-              rest xs full filled (omega (arith, above, up)) (closed_up (x.parts.site.place + x.parts.written_len) (v.parts.site.place + size) H.batches (first_low same are.0) closed)
+              rest xs full filled (omega (arith, above, up))
               (fits_written_full sum size v.parts.site device fault v.parts.bytes v.parts.written_len v.parts.sealed v.parts.reserved pins H A f U here is.short big is.place_small is.slot_small is.are is.fresh (rises place is) whole k b there ready full))
         ]
       where
-        first_low : x ≡ v → IsSegment size place x → x.parts.site.place + x.parts.written_len ≤ v.parts.site.place + size
-        first_low same is = let begins = ends_up x.parts.written_len x.parts.reserved x.parts.sealed is.are in let low = is.begins in let short = is.short in let at = ap (λ (y : SegmentView). y.parts.site.place) same in omega (arith, begins, low, short, at)
-
-        rest : (ws : List SegmentView) → run_end v.parts.written_len (written_at k v.parts.sealed) ≡ size → AreFilled size to (now ∷ ws) → size ≤ begin_of now → CloseBelow (v.parts.site.place + size) H.batches
+        rest : (ws : List SegmentView) → run_end v.parts.written_len (written_at k v.parts.sealed) ≡ size → AreFilled size to (now ∷ ws) → size ≤ begin_of now
             → (up_to : ℕ) × FitsFull sum size buffer_synced None (v.parts.site.place + size) (map parts_in ws) up_to pins H A f U → (up_to : ℕ) × FitsLine sum size buffer_synced None (promoted size (now ∷ ws)) up_to pins H A f U
-        rest [] full filled high ended after = absurd (let low = filled.0 in omega (arith, low, high))
-        rest (w ∷ ws) full filled high ended after =
-            let next = fits_full sum size buffer_synced None big refl to (v.parts.site.place + size) after.0 w ws filled.2 ended after.1 in
+        rest [] full filled high after = absurd (let low = filled.0 in omega (arith, low, high))
+        rest (w ∷ ws) full filled high after =
+            let next = fits_full sum size buffer_synced None big refl to (v.parts.site.place + size) after.0 w ws filled.2 after.1 in
             let is : (run_end v.parts.written_len (written_at k v.parts.sealed) == size) ≡ true = grind (arith, nat_tests, full) in
             (next.0, subst (λ (l : List SegmentView). FitsLine sum size buffer_synced None l next.0 pins H A f U) (sym (ap (λ (o : Bool). if o then promoted size (w ∷ ws) else now ∷ w ∷ ws) is)) next.1)
-    fits_write to place reach (x ∷ xs) are (suc n) among filled waits closed fits =
+    fits_write to place reach (x ∷ xs) are (suc n) among filled waits fits =
         let is : IsSegment size v.parts.site.place v = nth_segment size (place + size) xs are.1 n v among in
         let after : FitsIn sum (log_parts size x.parts.site buffer_synced fault x.parts.bytes x.parts.written_len x.parts.sealed x.parts.reserved) (map parts_in (set xs n now)) reach pins H A f U =
         subst (λ (l : List SegmentParts). FitsIn sum (log_parts size x.parts.site buffer_synced fault x.parts.bytes x.parts.written_len x.parts.sealed x.parts.reserved) l reach pins H A f U) (sym (parts_set xs n v now among))
