@@ -14,6 +14,7 @@ pub mod LastEnds
 pub mod MarkedLemmas
 pub mod MarkedSegments
 pub mod OpenTickets
+pub mod PegLemmas
 pub mod PlacesBeside
 pub mod ReachLemmas
 pub mod RunningLemmas
