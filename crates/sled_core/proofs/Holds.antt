@@ -9,6 +9,7 @@ pub mod CallMoments
 pub mod CanceledLemmas
 pub mod CompletedLemmas
 pub mod HoldsLemmas
+pub mod HoldsMarked
 pub mod KeptCalls
 pub mod LastEnds
 pub mod MarkedLemmas

@@ -92,7 +92,7 @@ behind_off sum size device fault place (y ∷ ys) stays batches ms (own, later, 
   own_end : Contains own x → x.place + x.size ≤ place + size
   own_end there =
       let b = All-contains (λ (z : Message). (z.place < y.site.place + length y.bytes) × (z.place + z.size ≤ y.site.place + length y.bytes)) own x
-          (all_below sum size y.site device fault y.bytes y.written_len y.sealed y.reserved (record { messages = own; batches = batches }) here.segment) there in
+      (all_below sum size y.site device fault y.bytes y.written_len y.sealed y.reserved (record { messages = own; batches = batches }) here.segment) there in
       let at = next in
       let in_size = inside in
       omega (arith, b.1, at, in_size)
