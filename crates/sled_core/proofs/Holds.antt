@@ -16,6 +16,7 @@ pub mod MarkedLemmas
 pub mod MarkedSegments
 pub mod OpenTickets
 pub mod PegLemmas
+pub mod PlacedBatches
 pub mod PlacesBeside
 pub mod ReachLemmas
 pub mod RunningLemmas

@@ -1,5 +1,5 @@
 -- The manifest of a batch ends in the n-th of a log's segments, whichever that is: the segments hold and fit the history with the batch, which begins where no other one does.
-use Rattle.std.proofs.Common.{◌≡◌, ◌≤◌, ◌<◌, ◌+◌, ◌*◌, ◌^◌, sym, refl, arith, subst, ℕ, zero, suc, true, List, [], ◌∷◌, ◌++◌, length, take, drop, set, map, Option, None, Some}
+use Rattle.std.proofs.Common.{◌≡◌, ◌⊎◌, ◌≤◌, ◌<◌, ◌+◌, ◌*◌, ◌^◌, sym, refl, arith, subst, ℕ, zero, suc, true, List, [], ◌∷◌, ◌++◌, length, take, drop, set, map, Option, None, Some}
 use Rattle.std.specs.declared.io.Error.{Error as IoError}
 use Rattle.std.specs.List.{All, Contains, slice_get}
 use Rattle.std.proofs.lemmas.List.Elements.{All-cons}
@@ -11,7 +11,7 @@ use Rattle.sled_core.specs.Begun.{SegmentParts, SegmentView}
 use Rattle.sled_core.specs.Buffers.{marking}
 use Rattle.sled_core.specs.Fits.{HoldsIn, HoldsLine, IsInRecord, LogParts, log_parts, parts_in}
 use Rattle.sled_core.specs.Manifests.{is_manifest}
-use Rattle.sled_core.specs.Recoverable.{IsPlacedBatch}
+use Rattle.sled_core.specs.Recoverable.{BeginsInSegment, IsPlacedBatch}
 use Rattle.sled_core.specs.Running.{FitsIn, FitsLine}
 use Rattle.sled_core.specs.Turned.{ended_now}
 use Rattle.sled_core.proofs.Behind.FitsMarked.{behind-fits-marked}
@@ -19,6 +19,8 @@ use Rattle.sled_core.proofs.Behind.FitsMoved.{MarksBelow}
 use Rattle.sled_core.proofs.Behind.HoldsMarked.{behind-holds-marked, behind_above, behind_alone, behind_head, behind_inside}
 use Rattle.sled_core.proofs.Holds.HoldsMarked.{InReach, first_above, first_alone, first_inside, first_long, holds-marked, noted_adds, noted_history}
 use Rattle.sled_core.proofs.Holds.MarkedLemmas.{fits-marked}
+use Rattle.sled_core.proofs.Holds.PlacedBatches.{begins_there, placed-with}
+use Rattle.sled_core.proofs.Line.Ends.{with_segment}
 use Rattle.sled_core.proofs.Line.Facts.{IsSegment}
 use Rattle.sled_core.proofs.Line.Nth.{parts_set, parts_split}
 
@@ -70,7 +72,7 @@ module _ (sum : List ℕ → ℕ) (size : ℕ) (device : State) (fault : Option 
         subst (λ (l : List SegmentParts). HoldsIn sum (parts_of w) l (noted_history H b)) (sym (parts_set ws k v noted there))
         (behind-holds-marked sum size w.parts.site device fault w.parts.bytes w.parts.written_len w.parts.sealed w.parts.reserved H (map parts_in (take k ws)) v.parts (map parts_in (drop (suc k) ws)) its (facts zero w refl).short reached marks i r at is_open manifest peg small later pegged)
 
-    -- in which no other batch begins there,
+    -- in which no other batch begins where it does,
     pub mark_alone : (line : List SegmentView) (n place : ℕ) (H : History) → slice_get line n ≡ Some v → ((k : ℕ) (x : SegmentView) → slice_get line k ≡ Some x → IsSegment size (place + k * size) x) → IsInRecord H.messages peg → MarksIn sum line
         → HoldsLine sum size device fault line H → (c : Batch) → Contains H.batches c → c.low ≡ v.parts.site.place + r.from → ⊥
     mark_alone [] n place H there facts pegged marked holds c among alike = cc
@@ -86,7 +88,19 @@ module _ (sum : List ℕ → ℕ) (size : ℕ) (device : State) (fault : Option 
         let marks : MarksBelow sum (w.parts.site.place + w.parts.written_len) (map parts_in (take k ws) ++ v.parts ∷ map parts_in (drop (suc k) ws)) = subst (MarksBelow sum (w.parts.site.place + w.parts.written_len)) (parts_split ws k v there) marked in
         behind_alone sum size w.parts.site device fault w.parts.bytes w.parts.written_len w.parts.sealed w.parts.reserved H (map parts_in (take k ws)) v.parts (map parts_in (drop (suc k) ws)) its (facts zero w refl).short reached marks i r at is_open manifest peg small later pegged c among alike
 
-    -- and they fit it.
+    -- and which begins where a record can.
+    pub mark_begins : (line : List SegmentView) (n : ℕ) (H : History) → slice_get line n ≡ Some v → HoldsLine sum size device fault line H → BeginsInSegment size (v.parts.site.place + r.from)
+    mark_begins line n H there holds = with_segment sum size device fault line n v H holds there
+        (λ stays own segment. begins_there sum size v.parts.site device fault v.parts.bytes v.parts.written_len v.parts.sealed v.parts.reserved own segment i r at is_open)
+
+    -- So all batches are placed, where those that were are, and each of them ends in front of this one or begins behind it.
+    pub mark_placed : (line : List SegmentView) (n place : ℕ) (H : History) → slice_get line n ≡ Some v → ((k : ℕ) (x : SegmentView) → slice_get line k ≡ Some x → IsSegment size (place + k * size) x) → IsInRecord H.messages peg → MarksIn sum line
+        → HoldsLine sum size device fault line H → ((c : Batch) → Contains H.batches c → IsPlacedBatch size H c) → ((c : Batch) → Contains H.batches c → (c.peg < v.parts.site.place + r.from) ⊎ (peg < c.low))
+        → (c : Batch) → Contains (noted_history H (record { low = v.parts.site.place + r.from; peg = peg })).batches c → IsPlacedBatch size (noted_history H (record { low = v.parts.site.place + r.from; peg = peg })) c
+    mark_placed line n place H there facts pegged marked holds placed apart =
+        placed-with size H (noted_history H b) b (noted_adds H b later) placed (mark_begins line n H there holds) (mark_alone line n place H there facts pegged marked holds) apart
+
+    -- The segments fit the history with the batch.
     pub mark_fits : (line : List SegmentView) (n place reach pins : ℕ) (H : History) (A f : ℕ) (U : List Message) → 256 ≤ size → fault ≡ None → slice_get line n ≡ Some v
         → ((k : ℕ) (x : SegmentView) → slice_get line k ≡ Some x → IsSegment size (place + k * size) x) → IsInRecord H.messages peg
         → ((c : Batch) → Contains (noted_history H (record { low = v.parts.site.place + r.from; peg = peg })).batches c → IsPlacedBatch size (noted_history H (record { low = v.parts.site.place + r.from; peg = peg })) c)
