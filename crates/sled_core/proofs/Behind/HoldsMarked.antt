@@ -88,11 +88,11 @@ module _ (sum : List ℕ → ℕ) (size : ℕ) (site : SegmentPosition) (device 
   off_here = off s (Contains-append_right pre (s ∷ post) s (in_first s post))
 
   -- The batch begins behind what is written of its segment, and in front of the next one.
-  pub behind_above : s.site.place + s.written_len ≤ b.low
-  behind_above = marks_behind sum size s.site device fault s.bytes s.written_len s.sealed s.reserved parts.own H.batches here.segment i r there is_open manifest here.are peg small off_here
+  pub batch_above : s.site.place + s.written_len ≤ b.low
+  batch_above = marks_behind sum size s.site device fault s.bytes s.written_len s.sealed s.reserved parts.own H.batches here.segment i r there is_open manifest here.are peg small off_here
 
-  pub behind_inside : b.low < s.site.place + size
-  behind_inside =
+  pub batch_inside : b.low < s.site.place + size
+  batch_inside =
       let low = marks_within sum size s.site device fault s.bytes s.written_len s.sealed s.reserved parts.own H.batches here.segment i r there is_open manifest here.are peg small off_here in
       let inside = here.inside in
       omega (arith, low, inside)
@@ -101,27 +101,27 @@ module _ (sum : List ℕ → ℕ) (size : ℕ) (site : SegmentPosition) (device 
   long = marks_long sum size s.site device fault s.bytes s.written_len s.sealed s.reserved parts.own H.batches here.segment i r there is_open manifest here.are peg small off_here
 
   -- The header is the same, and no other batch begins there.
-  pub behind_head : take 20 new ≡ take 20 s.bytes
-  behind_head = marks_head sum size s.site device fault s.bytes s.written_len s.sealed s.reserved parts.own H.batches here.segment i r there is_open manifest here.are peg small off_here
+  pub batch_head : take 20 new ≡ take 20 s.bytes
+  batch_head = marks_head sum size s.site device fault s.bytes s.written_len s.sealed s.reserved parts.own H.batches here.segment i r there is_open manifest here.are peg small off_here
 
-  pub behind_alone : (c : Batch) → Contains H.batches c → c.low ≡ b.low → ⊥
-  behind_alone c among same = marks_alone sum size s.site device fault s.bytes s.written_len s.sealed s.reserved parts.own H.batches here.segment i r there is_open manifest here.are peg small off_here here.inside c among same
+  pub batch_alone : (c : Batch) → Contains H.batches c → c.low ≡ b.low → ⊥
+  batch_alone c among same = marks_alone sum size s.site device fault s.bytes s.written_len s.sealed s.reserved parts.own H.batches here.segment i r there is_open manifest here.are peg small off_here here.inside c among same
 
   -- It begins behind the first segment.
   behind_first : site.place + size ≤ b.low
   behind_first =
       let up = (front_low sum size site device fault bytes from bs rs H pre s post holds short).0 in
-      let at = behind_above in
+      let at = batch_above in
       omega (arith, up, at)
 
-  pub behind_past : site.place + from ≤ b.low
-  behind_past =
+  pub batch_past : site.place + from ≤ b.low
+  batch_past =
       let first = grows sum size site device fault bytes from bs rs (record { messages = holds.head; batches = H.batches }) holds.own in
       let far = behind_first in
       omega (arith, first, short, far)
 
   past : stable ≤ b.low
-  past = let reached = holds.begun.reached in let at = behind_past in omega (arith, at, reached)
+  past = let reached = holds.begun.reached in let at = batch_past in omega (arith, at, reached)
 
   adds : AddsBatch H b now
   adds = noted_adds H b later
@@ -138,13 +138,13 @@ module _ (sum : List ℕ → ℕ) (size : ℕ) (site : SegmentPosition) (device 
 
   -- The marks of all these segments lie below the batch.
   below : MarksBelow sum b.low (pre ++ s ∷ post)
-  below = marks_higher sum (site.place + from) b.low (pre ++ s ∷ post) behind_past marked
+  below = marks_higher sum (site.place + from) b.low (pre ++ s ∷ post) batch_past marked
 
   front_marked : HoldBehind sum size device fault (site.place + size) pre stays' now.batches parts.before
   front_marked =
       behind_fewer sum size device fault (site.place + size) pre stays stays' now.batches parts.before stayed
       (behind-with sum size device fault (site.place + size) pre stays H.batches parts.before b
-      (λ x among. let far = end_before sum size device fault (site.place + size) pre stays H.batches parts.before parts.front x among in let at = behind_above in let next = here.next in inr (omega (arith, far, at, next)))
+      (λ x among. let far = end_before sum size device fault (site.place + size) pre stays H.batches parts.before parts.front x among in let at = batch_above in let next = here.next in inr (omega (arith, far, at, next)))
       (λ x among. off x (Contains-append_left pre (s ∷ post) x among)) reach_parts.0 (λ x among. below x (Contains-append_left pre (s ∷ post) x among)) parts.front)
 
   behind_all : (x : SegmentParts) → Contains post x → Contains (pre ++ s ∷ post) x
@@ -154,7 +154,7 @@ module _ (sum : List ℕ → ℕ) (size : ℕ) (site : SegmentPosition) (device 
   rest_marked =
       behind_fewer sum size device fault (begins + size) post stays stays' now.batches parts.after stayed
       (behind-with sum size device fault (begins + size) post stays H.batches parts.after b
-      (λ x among. let far = begin_from sum size device fault (begins + size) post stays H.batches parts.after parts.rest x among in let inside = behind_inside in let next = here.next in inl (omega (arith, far, inside, next)))
+      (λ x among. let far = begin_from sum size device fault (begins + size) post stays H.batches parts.after parts.rest x among in let inside = batch_inside in let next = here.next in inl (omega (arith, far, inside, next)))
       (λ x among. off x (behind_all x among)) reach_parts.2 (λ x among. below x (behind_all x among)) parts.rest)
 
   next_marked : HoldsNext sum size device fault begins marked_now stays' now.batches parts.own

@@ -16,7 +16,7 @@ use Rattle.sled_core.specs.Running.{FitsIn, FitsLine}
 use Rattle.sled_core.specs.Turned.{ended_now}
 use Rattle.sled_core.proofs.Behind.FitsMarked.{behind-fits-marked}
 use Rattle.sled_core.proofs.Behind.FitsMoved.{MarksBelow}
-use Rattle.sled_core.proofs.Behind.HoldsMarked.{behind-holds-marked, behind_above, behind_alone, behind_head, behind_inside}
+use Rattle.sled_core.proofs.Behind.HoldsMarked.{batch_above, batch_alone, batch_head, batch_inside, behind-holds-marked}
 use Rattle.sled_core.proofs.Holds.HoldsMarked.{InReach, first_above, first_alone, first_inside, first_long, holds-marked, noted_adds, noted_history}
 use Rattle.sled_core.proofs.Holds.MarkedLemmas.{fits-marked}
 use Rattle.sled_core.proofs.Holds.PlacedBatches.{begins_there, placed-with}
@@ -86,7 +86,7 @@ module _ (sum : List ℕ → ℕ) (size : ℕ) (device : State) (fault : Option 
         let its : HoldsIn sum (parts_of w) (map parts_in (take k ws) ++ v.parts ∷ map parts_in (drop (suc k) ws)) H = subst (λ (l : List SegmentParts). HoldsIn sum (parts_of w) l H) (parts_split ws k v there) holds in
         let reached : All InReach (map parts_in (take k ws) ++ v.parts ∷ map parts_in (drop (suc k) ws)) = subst (All InReach) (parts_split ws k v there) (behind_reach w ws place facts) in
         let marks : MarksBelow sum (w.parts.site.place + w.parts.written_len) (map parts_in (take k ws) ++ v.parts ∷ map parts_in (drop (suc k) ws)) = subst (MarksBelow sum (w.parts.site.place + w.parts.written_len)) (parts_split ws k v there) marked in
-        behind_alone sum size w.parts.site device fault w.parts.bytes w.parts.written_len w.parts.sealed w.parts.reserved H (map parts_in (take k ws)) v.parts (map parts_in (drop (suc k) ws)) its (facts zero w refl).short reached marks i r at is_open manifest peg small later pegged c among alike
+        batch_alone sum size w.parts.site device fault w.parts.bytes w.parts.written_len w.parts.sealed w.parts.reserved H (map parts_in (take k ws)) v.parts (map parts_in (drop (suc k) ws)) its (facts zero w refl).short reached marks i r at is_open manifest peg small later pegged c among alike
 
     -- and which begins where a record can.
     pub mark_begins : (line : List SegmentView) (n : ℕ) (H : History) → slice_get line n ≡ Some v → HoldsLine sum size device fault line H → BeginsInSegment size (v.parts.site.place + r.from)
@@ -127,10 +127,10 @@ module _ (sum : List ℕ → ℕ) (size : ℕ) (device : State) (fault : Option 
         let short : length w.parts.bytes ≤ size = (facts zero w refl).short in
         subst (λ (l : List SegmentParts). FitsIn sum (parts_of w) l reach pins (noted_history H b) A f U) (sym (parts_set ws k v noted there))
         (behind-fits-marked sum size w.parts.site device fault w.parts.bytes w.parts.written_len w.parts.sealed w.parts.reserved pins H A f U pre v.parts post its noted.parts refl refl
-        (λ none. behind_head sum size w.parts.site device fault w.parts.bytes w.parts.written_len w.parts.sealed w.parts.reserved H pre v.parts post its.holds short reached its.marked i r at is_open manifest peg small later pegged)
+        (λ none. batch_head sum size w.parts.site device fault w.parts.bytes w.parts.written_len w.parts.sealed w.parts.reserved H pre v.parts post its.holds short reached its.marked i r at is_open manifest peg small later pegged)
         (noted_history H b) b least short ok
         (behind-holds-marked sum size w.parts.site device fault w.parts.bytes w.parts.written_len w.parts.sealed w.parts.reserved H pre v.parts post its.holds short reached its.marked i r at is_open manifest peg small later pegged)
         (noted_adds H b later) placed pegged
-        (behind_above sum size w.parts.site device fault w.parts.bytes w.parts.written_len w.parts.sealed w.parts.reserved H pre v.parts post its.holds short reached its.marked i r at is_open manifest peg small later pegged)
-        (behind_inside sum size w.parts.site device fault w.parts.bytes w.parts.written_len w.parts.sealed w.parts.reserved H pre v.parts post its.holds short reached its.marked i r at is_open manifest peg small later pegged)
+        (batch_above sum size w.parts.site device fault w.parts.bytes w.parts.written_len w.parts.sealed w.parts.reserved H pre v.parts post its.holds short reached its.marked i r at is_open manifest peg small later pegged)
+        (batch_inside sum size w.parts.site device fault w.parts.bytes w.parts.written_len w.parts.sealed w.parts.reserved H pre v.parts post its.holds short reached its.marked i r at is_open manifest peg small later pegged)
         (facts (suc k) v there).fresh)
