@@ -15,6 +15,7 @@ pub mod FullNext
 pub mod FullRead
 pub mod FullWrites
 pub mod FullZeros
+pub mod HoldsMarked
 pub mod OneWrite
 pub mod Promoted
 pub mod Shorter

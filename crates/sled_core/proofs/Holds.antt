@@ -9,11 +9,14 @@ pub mod CallMoments
 pub mod CanceledLemmas
 pub mod CompletedLemmas
 pub mod HoldsLemmas
+pub mod HoldsMarked
 pub mod KeptCalls
 pub mod LastEnds
 pub mod MarkedLemmas
 pub mod MarkedSegments
 pub mod OpenTickets
+pub mod PegLemmas
+pub mod PlacedBatches
 pub mod PlacesBeside
 pub mod ReachLemmas
 pub mod RunningLemmas

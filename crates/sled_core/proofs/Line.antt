@@ -23,6 +23,7 @@ pub mod Marks
 pub mod Moves
 pub mod Nexts
 pub mod NoneLeft
+pub mod Noted
 pub mod Nth
 pub mod OpenBetween
 pub mod OpenPlaces

@@ -20,7 +20,8 @@ use Rattle.sled_core.specs.Fits.{HasBatches, HoldsSegment, log_parts}
 use Rattle.sled_core.specs.Manifests.{is_manifest}
 use Rattle.sled_core.specs.Recoverable.{IsMarkOf, NoBatchEnds}
 use Rattle.sled_core.specs.SealedBuffers.{AreSealed, one_ended}
-use Rattle.sled_core.proofs.Reserve.Entries.{open_plain, reserved_in}
+use Rattle.sled_core.proofs.Reserve.Batches.{batches_between}
+use Rattle.sled_core.proofs.Reserve.Entries.{open_plain, reserved_in, some_long}
 use Rattle.sled_core.proofs.Reserve.MarksLemmas.{batches_marked, batches_unmarked, completed_marked, manifest_long, marked_long, marking_long, stand_marked}
 use Rattle.sled_core.proofs.Reserve.Ranges.{at_there, chain-joined, chain-split, chain_within, part-written_before, there_split}
 use Rattle.sled_core.proofs.Reserve.RecordEnds.{records_ended}
@@ -138,13 +139,41 @@ module _ (sum : List ℕ → ℕ) (size : ℕ) (site : SegmentPosition) (device 
   pub marks_room : r.from + 32 ≤ size
   marks_room = its.room
 
-  long : length new ≡ length bytes
-  long = marked_long sum number bytes r lies.1 its.text is_open manifest peg
+  -- The bytes are as many.
+  pub marks_long : length new ≡ length bytes
+  marks_long = marked_long sum number bytes r lies.1 its.text is_open manifest peg
+
+  -- Their header is the same.
+  pub marks_head : take 20 new ≡ take 20 bytes
+  marks_head = let at = lies.0 in let within = short in let high = lies.1 in part-written_before bytes (marking sum bytes r peg) r.from 0 20 (omega (arith, at)) (omega (arith, within, high))
 
   messages_new : ms ≡ holds.earlier ++ completed_in site new now
   messages_new =
       holds.messages
       ∙ ap (λ (l : List Message). holds.earlier ++ l) (ap (completed_in site bytes) around ∙ sym (completed_marked sum number bytes r lies.1 its.text is_open manifest peg size (max 20 from) (length bytes) xs ys chain stand site))
+
+  all_old : batches_in site bytes rs ≡ batches_in site bytes xs ++ batches_in site bytes ys
+  all_old = ap (batches_in site bytes) around ∙ batches_unmarked sum number bytes r lies.1 its.text is_open manifest peg size (max 20 from) (length bytes) xs ys chain stand site
+
+  -- No batch begins where it does.
+  pub marks_alone : length bytes ≤ size → (c : Batch) → Contains batches c → c.low ≡ b.low → ⊥
+  marks_alone inside c among same = elim (holds.batched.begun c among) [
+    | inl own ↦ elim (Contains-append_cases (batches_in site bytes xs) (batches_in site bytes ys) c (subst (λ (l : List Batch). Contains l c) all_old own)) [
+      | inl before ↦ (let z = batches_between site bytes (max 20 from) r.from xs chains.0 (some_long sum size number bytes xs stands.0) c before in omega (arith, z.1, same))
+      | inr after ↦ (
+          let z = batches_between site bytes (r.from + r.len) (length bytes) ys chains.1 (some_long sum size number bytes ys stands.2) c after in
+          let h = its.text.headed in
+          let l = its.text.long in
+          omega (arith, z.0, same, h, l))
+    ]
+    | inr (inl low) ↦ (let at = marks_behind in omega (arith, low, at, same))
+    | inr (inr high) ↦ (let at = marks_within in omega (arith, high, at, same, inside))
+  ] where
+    chains : IsChain (max 20 from) xs r.from × IsChain (r.from + r.len) ys (length bytes)
+    chains = chain-split (max 20 from) (length bytes) xs ys r chain
+
+    stands : All (Stands sum size number bytes) xs × Stands sum size number bytes r × All (Stands sum size number bytes) ys
+    stands = all_split (Stands sum size number bytes) xs ys r stand
 
   batched_new : HasBatches size site from (batches_in site new now) (and_batch batches b)
   batched_new = record {
@@ -167,9 +196,6 @@ module _ (sum : List ℕ → ℕ) (size : ℕ) (site : SegmentPosition) (device 
       all_new : batches_in site new now ≡ batches_in site bytes xs ++ b ∷ batches_in site bytes ys
       all_new = batches_marked sum number bytes r lies.1 its.text is_open manifest peg size (max 20 from) (length bytes) xs ys chain stand site (omega (arith, small))
 
-      all_old : batches_in site bytes rs ≡ batches_in site bytes xs ++ batches_in site bytes ys
-      all_old = ap (batches_in site bytes) around ∙ batches_unmarked sum number bytes r lies.1 its.text is_open manifest peg size (max 20 from) (length bytes) xs ys chain stand site
-
       had : (c : Batch) → Contains (batches_in site bytes xs ++ batches_in site bytes ys) c → Contains (and_batch batches b) c
       had c own = Contains-append_left batches (b ∷ []) c (holds.batched.noted c (subst (λ (l : List Batch). Contains l c) (sym all_old) own))
 
@@ -180,7 +206,7 @@ module _ (sum : List ℕ → ℕ) (size : ℕ) (site : SegmentPosition) (device 
       ])
 
   ends_same : records_end now (length new) ≡ records_end rs (length bytes)
-  ends_same = ap (records_end now) long ∙ records_ended xs ys r Manifest (length bytes) is_open (λ is. cc) ∙ ap (λ (l : List Reserved). records_end l (length bytes)) (sym around)
+  ends_same = ap (records_end now) marks_long ∙ records_ended xs ys r Manifest (length bytes) is_open (λ is. cc) ∙ ap (λ (l : List Reserved). records_end l (length bytes)) (sym around)
 
   -- It holds the history with the batch.
   pub segment-marked : HoldsSegment sum (log_parts size site device fault new from (one_ended i bs) (set rs i (ended Manifest r))) stays (record { messages = ms; batches = and_batch batches b })
@@ -197,15 +223,12 @@ module _ (sum : List ℕ → ℕ) (size : ℕ) (site : SegmentPosition) (device 
     header = λ none.
         let m = holds.header none in
         let low = m.of_history.below in
-        let at = lies.0 in
-        let within = short in
-        let high = lies.1 in
         record {
           mark = m.mark;
-          is = part-written_before bytes (marking sum bytes r peg) r.from 0 20 (omega (arith, at)) (omega (arith, within, high)) ∙ m.is;
+          is = marks_head ∙ m.is;
           of_history = mark_with ms ms batches b (record { place = site.place; slot = site.slot; mark = m.mark }) (less_than m.mark site.place b.low (omega arith) low) m.of_history;
         };
-    chain = subst (λ n. IsChain (max 20 from) now n) (sym long) (let parts = chain-split (max 20 from) (length bytes) xs ys r chain in chain-joined (max 20 from) (length bytes) xs ys (ended Manifest r) parts.0 parts.1);
+    chain = subst (λ n. IsChain (max 20 from) now n) (sym marks_long) (let parts = chain-split (max 20 from) (length bytes) xs ys r chain in chain-joined (max 20 from) (length bytes) xs ys (ended Manifest r) parts.0 parts.1);
     stand = stand_marked sum number bytes r lies.1 its.text is_open manifest peg size (max 20 from) (length bytes) xs ys chain stand small;
     written = holds.written;
     laid = λ ok. laid_over device.log.bytes site.slot bytes from bs size rs i r (marking sum bytes r peg) Manifest refl there is_open short lies.1 holds.chain are (holds.laid ok);

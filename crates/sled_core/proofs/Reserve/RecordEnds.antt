@@ -35,7 +35,7 @@ records_ended [] ys r state end is plain =
 records_ended (x ∷ xs) ys r state end is plain = ap (λ n. if padding_state x.state then x.from else n) (records_ended xs ys r state end is plain)
 
 -- those at the front are gone
-chain_records : (n : ℕ) (rs : List Reserved) (from end : ℕ) → IsChain from rs end → from ≤ records_end (drop n rs) end
+pub chain_records : (n : ℕ) (rs : List Reserved) (from end : ℕ) → IsChain from rs end → from ≤ records_end (drop n rs) end
 chain_records zero [] from end chain = omega (arith, chain)
 chain_records zero (r ∷ rs) from end chain = by (padding_state r.state) (chain_records zero rs (from + r.len) end chain.1) where
   by : (o : Bool) → from + r.len ≤ records_end rs end → from ≤ (if o then r.from else records_end rs end)
