@@ -5,9 +5,11 @@ use Rattle.sled_codec.specs.declared.result.Error.{Error}
 use Rattle.std.specs.String.{string_bytes}
 use Rattle.sled_codec.specs.declared.result.Error.TheVariants.{Io, OutOfMemory, Unsupported, Held, Corruption, PlacesUsedUp}
 use Rattle.sled_codec.specs.declared.serialization.message.MessageKind.{MessageKind}
+use Rattle.sled_store.specs.declared.config.RunningConfig.{RunningConfig}
 use Rattle.sled_store.specs.Answers.{is_fault}
 use Rattle.sled_core.specs.Buffers.{most_open}
-use Rattle.sled_store.specs.Blobs.{NamesDamage}
+use Rattle.sled_store.specs.Blobs.{ItemAnswers, NamesDamage}
+use Rattle.sled_store.specs.Device.{Trace, state_of}
 
 -- The log kept this failure of the device from an earlier call, or the device failed in this call, and the log keeps that.
 abbrev pub IsFault : IoError → Option IoError → Option IoError → ℕ → ℕ → Type 0
@@ -76,6 +78,10 @@ ReaderAnswers (Ok _) early before after = after ≡ before
 ReaderAnswers (Err (Io e)) early before after = IsTrue (is_fault e) × (after ≡ (before + 1) % 2 ^ 64)
 ReaderAnswers (Err (Corruption at)) early before after = (after ≡ before) × (at ≡ None) × early
 ReaderAnswers (Err _) early before after = ⊥
+
+-- A call that reads what a device has, with the blobs: it answers as a read of an item does, and the failures of the device are counted.
+abbrev pub ItemAnswersOver : {T D C : Type 0} → (D → Trace) → (D → ℕ) → (List ℕ → ℕ) → Result T Error → RunningConfig D C → RunningConfig D C → Type 0
+ItemAnswersOver trace faults sum result old new = ItemAnswers sum (state_of (trace old.device)).blobs.file result (faults old.device) (faults new.device)
 
 -- A read of a record: as each call that may touch the device, and damage besides.
 abbrev pub RecordAnswers : {T : Type 0} → (List ℕ → ℕ) → (ℤ → Option (List ℕ)) → Result T Error → Option IoError → Option IoError → ℕ → ℕ → Type 0

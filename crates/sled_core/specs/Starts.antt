@@ -1,5 +1,5 @@
 -- What the start of a log leaves.
-use Rattle.std.specs.Prelude.{◌≡◌, ◌+◌, if◌then◌else◌, ℕ, max, None, Result, Ok, Err}
+use Rattle.std.specs.Prelude.{◌≡◌, ◌+◌, if◌then◌else◌, ℕ, length, max, None, Result, Ok, Err}
 use Rattle.sled_codec.specs.declared.result.Error.{Error}
 use Rattle.sled_codec.specs.Snapshots.{SnapshotModel, stable_place}
 use Rattle.sled_store.specs.declared.config.RunningConfig.{RunningConfig}
@@ -7,6 +7,9 @@ use Rattle.sled_core.specs.declared.iobuf.SegmentPosition.{SegmentPosition}
 use Rattle.sled_core.specs.declared.logger.Log.{Log}
 use Rattle.sled_store.specs.Begin.{beginning_of, offset_at, place_at}
 use Rattle.sled_store.specs.Causes.{StartRefuses}
+use Rattle.sled_store.specs.Device.{Trace, state_of}
+use Rattle.sled_store.specs.Script.{Performs, after_all}
+use Rattle.sled_store.specs.Started.{started}
 use Rattle.sled_core.specs.Fits.{NoneOpen, NoneSealed, config_of, fault_of, pins_of, position_of, reserved_end, segment_size_of, start_of, synced_end}
 use Rattle.sled_core.specs.FreeSlots.{begun_machine}
 use Rattle.sled_core.specs.Positions.{Position, is_short, next_segment_at}
@@ -46,6 +49,14 @@ pub record BeginsBehind {D C : Type 0} (size len : ℕ) (s : SnapshotModel) (log
   pub pins : pins_of log ≡ 0
   pub fault : fault_of log ≡ None
   pub sized : segment_size_of log ≡ size
+
+-- All calls of a start were made: the free slots of the file were filled and synced, and cut off its end but for one.
+abbrev pub HasStarted : ℕ → SnapshotModel → Trace → Trace → Type 0
+HasStarted size s old new = new ≡ after_all (started size (length (state_of old).log.bytes) s).calls old
+
+-- The calls of a start: all of them, or up to one that failed.
+abbrev pub StartCalls : ℕ → SnapshotModel → Trace → Trace → Type 0
+StartCalls size s old new = Performs (started size (length (state_of old).log.bytes) s).calls old new
 
 -- A log is started only where it can begin on the snapshot and a further segment is in reach, and without a failure. Else this says why not.
 abbrev pub StartsOrRefuses : {T R : Type 0} → Result T (Error × R) → (startable in_reach unwritten : Type 0) → ℕ → ℕ → Type 0

@@ -15,11 +15,9 @@ ghost use Rattle.sled_core.specs.Reading.{GivesMessage, IsInline, IsReading, IsU
 ghost use Rattle.sled_codec.specs.Places.{MayBegin};
 ghost use Rattle.sled_codec.specs.Pointers.{lid_of};
 ghost use Rattle.sled_codec.specs.Snapshots.{model_of};
-ghost use Rattle.sled_store.specs.Script.{after_all, Performs};
 ghost use Rattle.sled_store.specs.Moments.{IsLater, LeavesOnly};
 ghost use Rattle.sled_store.specs.Accounts.{IsAccountant};
 ghost use Rattle.sled_store.specs.Begin.{IsStartable, IsInReach};
-ghost use Rattle.sled_store.specs.Started.{started};
 ghost use Rattle.sled_core.specs.Recoverable.{LeavesRecoverable, RecoverableIfOwn};
 ghost use Rattle.sled_core.specs.AccountProps.{IsAccountant-prop};
 ghost use Rattle.sled_core.specs.Begun.{FollowOn, FollowOn-prop, IsFilledLine, IsFilledLine-prop};
@@ -83,7 +81,7 @@ impl<D: Device, C: Checksum> Log<D, C> {
     ghost use Rattle.sled_core.specs.ReadBuffer.{IsUsedUpAt, ReadAnswers, RefusesPlace, SealsAround, Settles, WritesAround, held_at};
     ghost use Rattle.sled_core.specs.Ready.{IsReady};
     ghost use Rattle.sled_core.specs.Running.{Fits, Ready, end_below};
-    ghost use Rattle.sled_core.specs.Starts.{BeginsBehind, StartsOrRefuses, config_left};
+    ghost use Rattle.sled_core.specs.Starts.{BeginsBehind, HasStarted, StartCalls, StartsOrRefuses, config_left};
 
     /// Begins a log on what a recovery left: it goes on at the snapshot's stable place. First it fills the
     /// slots of the file that the snapshot does not use with zeros, in ascending order, and syncs the file
@@ -110,10 +108,9 @@ impl<D: Device, C: Checksum> Log<D, C> {
             IfOk result (λ log. BeginsBehind config.config.segment_size len (model_of snapshot.now) log) }
         ensures config { ConfigKept config (config_left result) }
         ensures later { IsLater (D.trace config.device) (D.trace (config_left result).device) }
-        ensures made { let size = config.config.segment_size in let s = model_of snapshot.now in let old = D.trace config.device in
-            OnOk result (D.trace (config_left result).device ≡ after_all (started size (length (state_of old).log.bytes) s).calls old) }
-        ensures calls { let size = config.config.segment_size in let s = model_of snapshot.now in let old = D.trace config.device in
-            Performs (started size (length (state_of old).log.bytes) s).calls old (D.trace (config_left result).device) }
+        ensures made { OnOk result (HasStarted config.config.segment_size (model_of snapshot.now) (D.trace config.device)
+            (D.trace (config_left result).device)) }
+        ensures calls { StartCalls config.config.segment_size (model_of snapshot.now) (D.trace config.device) (D.trace (config_left result).device) }
         ensures answers { let size = config.config.segment_size in let s = model_of snapshot.now in
             let len = length (state_of (D.trace config.device)).log.bytes in let device = (config_left result).device in
             StartsOrRefuses result (IsStartable size len s) (IsInReach size len s) (D.trace device ≡ D.trace config.device)
