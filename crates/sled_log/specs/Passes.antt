@@ -1,13 +1,16 @@
 -- What the code of recovery speaks of, beside what recovery makes of a log file.
 use Rattle.std.specs.Prelude.{◌≡◌, ◌⊎◌, ℤ, ◌+◌, ◌/◌, ◌%◌, ◌^◌, ◌≤◌, ◌<◌, ℕ, List, [], ◌∷◌, length, map, is_some, if◌then◌else◌, Option, Some, None, Contains}
 use Rattle.std.specs.List.{All}
-use Rattle.sled_codec.specs.Snapshots.{SnapshotModel}
+use Rattle.sled_codec.specs.declared.serialization.snapshot.Snapshot.{Snapshot}
+use Rattle.sled_codec.specs.Snapshots.{SnapshotModel, model_of}
+use Rattle.sled_store.specs.declared.config.RunningConfig.{RunningConfig}
+use Rattle.sled_store.specs.Device.{Trace, state_of}
 use Rattle.sled_core.specs.declared.iterator.scan.ScannedRecord.{ScannedRecord}
 use Rattle.sled_core.specs.declared.iterator.Segment.{Segment}
 use Rattle.sled_core.specs.Reading.{IsMalformed}
 use Rattle.sled_core.specs.Scan.{IsPath}
 use Rattle.sled_log.specs.declared.snapshot.pass.Pass.{Pass}
-use Rattle.sled_log.specs.Recovery.{Scanned, Outcome, AreScanned, AreReplayed, IsDamagedPass, Passes, open_at, stops_in, scanned_of, StopsOrGoesOn, before_open, MeetsBadBlob, HaveGoodBlobs, resolved_scan}
+use Rattle.sled_log.specs.Recovery.{Scanned, Outcome, AreScanned, AreReplayed, ContinuesFrom, IsDamagedPass, NamesKind, Passes, open_at, stops_in, scanned_of, StopsOrGoesOn, before_open, MeetsBadBlob, HaveGoodBlobs, resolved_scan}
 
 -- A segment can be read: its slot is one of the file, and its ends are places and offsets.
 pub record CanBeRead (size : ℕ) (log : List ℕ) (s : Segment) : Type 0 where
@@ -15,6 +18,10 @@ pub record CanBeRead (size : ℕ) (log : List ℕ) (s : Segment) : Type 0 where
   pub inside : s.slot ≤ length log
   pub slot : s.slot + size < 2 ^ 63
   pub place : s.place + size < 2 ^ 63
+
+-- each of these can
+abbrev pub CanAllBeRead : ℕ → List ℕ → List Segment → Type 0
+CanAllBeRead size log segments = (s : Segment) → Contains segments s → CanBeRead size log s
 
 -- a segment as code has it, with what is met in it
 abbrev pub pass_of : Pass → Scanned
@@ -26,6 +33,14 @@ pub record IsPass (size : ℕ) (p : Pass) : Type 0 where
   pub place : p.segment.place + size < 2 ^ 63
   pub stop : p.scan.stop ≤ size
   pub places : All (λ m. m.place < p.segment.place + size) p.scan.met.items
+
+-- all that is met in it is of a kind that is known
+abbrev pub HasKinds : Pass → Type 0
+HasKinds p = All (λ m. NamesKind m.what) p.scan.met.items
+
+-- these segments, and the same with the blobs of what is met in each before a batch that is open
+abbrev pub GetBlobs : (ℤ → Option (List ℕ)) → ℕ → List Pass → List Pass → Type 0
+GetBlobs blobs end old new = map pass_of new ≡ map (resolved_scan blobs end) (map pass_of old)
 
 -- where the pass over these segments stops; over none it stays where it is
 abbrev pub stop_of : ℕ → Option (Segment × ℕ) → List Scanned → Option (Segment × ℕ)
@@ -82,3 +97,13 @@ MeetsBadTail sum blobs scanned = (s : Scanned) × Contains scanned s × MeetsBad
 -- what comes of a tail whose blobs were looked at
 abbrev pub PassesBehind : (List ℕ → ℕ) → ℕ → List ℕ → (ℤ → Option (List ℕ)) → SnapshotModel → List Segment → ℕ → List Scanned → Outcome → Type 0
 PassesBehind sum size log blobs first ordering end scanned o = HaveGoodBlobs sum blobs scanned × Passes sum size log blobs first ordering (Some end) o
+
+-- what comes of a tail that ends there, on what a device has
+abbrev pub PassesOn : {D C : Type 0} → (D → Trace) → (List ℕ → ℕ) → RunningConfig D C → Snapshot → List Segment → ℕ → Outcome → Type 0
+PassesOn trace sum config first ordering end o =
+    let s = state_of (trace config.device) in Passes sum config.config.segment_size s.log.bytes s.blobs.file (model_of first) ordering (Some end) o
+
+-- what recovery makes of what a device has, from a snapshot on
+abbrev pub ContinuesOn : {D C : Type 0} → (D → Trace) → (List ℕ → ℕ) → RunningConfig D C → Snapshot → Outcome → Type 0
+ContinuesOn trace sum config first o =
+    let s = state_of (trace config.device) in ContinuesFrom sum config.config.segment_size s.log.bytes s.blobs.file (model_of first) o

@@ -1,5 +1,5 @@
 //! Recovery: what the device has, read into a table of pages (`specs/Recovery.antt`).
-ghost use Rattle.std.specs.Prelude.{◌↔◌, ◌≢◌, IsTrue, ◌≡◌, ◌⊎◌, ◌+◌, ◌^◌, ◌%◌, ◌≤◌, ◌<◌, ℕ, Some, [], ◌∷◌, length, drop, map, IfOk, OnOk, Contains};
+ghost use Rattle.std.specs.Prelude.{◌↔◌, ◌≢◌, IsTrue, ◌≡◌, ◌⊎◌, ◌+◌, ◌^◌, ◌%◌, ◌≤◌, ◌<◌, ℕ, [], ◌∷◌, length, drop, map, IfOk, OnOk};
 ghost use Rattle.sled_codec.specs.Errors.{IsCorruption};
 ghost use Rattle.sled_codec.specs.History.{History, below};
 ghost use Rattle.sled_codec.specs.Snapshots.{model_of, stable_place};
@@ -7,17 +7,16 @@ ghost use Rattle.sled_store.specs.Device.{state_of, content_of, Synced, NamesSyn
 ghost use Rattle.sled_store.specs.Moments.{IsLater, LeavesOnly};
 ghost use Rattle.sled_store.specs.Script.{Performs};
 ghost use Rattle.std.specs.List.{All};
-ghost use Rattle.sled_store.specs.Blobs.{ItemAnswers};
 ghost use Rattle.sled_store.specs.Causes.{DeviceAnswers};
-ghost use Rattle.sled_core.specs.declared.iterator.Segment.{Segment};
+ghost use Rattle.sled_core.specs.Causes.{ItemAnswersOver};
 ghost use Rattle.sled_core.specs.Good.{IsGood};
 ghost use Rattle.sled_core.specs.Recoverable.{LeavesRecoverable, Recoverable, RecoverableIfOwn};
 ghost use Rattle.sled_core.specs.Running.{Ready};
 ghost use Rattle.sled_core.specs.Keeps.{ConfigKept, OnlyReads};
 ghost use Rattle.sled_log.specs.Restores.{ComesOf, RecoveryCalls, Restores};
 ghost use Rattle.sled_log.specs.Orderly.{CanRecover, IsOrderly, IsReadWell};
-ghost use Rattle.sled_log.specs.Recovery.{least_place, IsOrdering, AreScanned, begun_below, Passes, Recovered, Damaged, ContinuesFrom, Recovers};
-ghost use Rattle.sled_log.specs.Passes.{CanBeRead, IsPass, pass_of, AreLookedUp, MeetsBadTail, PassesBehind};
+ghost use Rattle.sled_log.specs.Recovery.{least_place, IsOrdering, AreScanned, begun_below, Recovered, Damaged, Recovers};
+ghost use Rattle.sled_log.specs.Passes.{CanAllBeRead, ContinuesOn, IsPass, pass_of, AreLookedUp, MeetsBadTail, PassesBehind, PassesOn};
 ghost use Rattle.sled_log.specs.WritesBack.{result_of};
 
 pub(crate) mod blobs;
@@ -67,8 +66,7 @@ pub fn read_snapshot_or_default<D: Device, C: Checksum>(
     ensures calls { RecoveryCalls C.sum_of config.old.config.segment_size (D.trace config.old.device) (D.trace config.new.device) }
     ensures corrupt { IsCorruption result → Recovers C.sum_of config.old.config.segment_size (content_of (state_of (D.trace config.old.device))) Damaged
         × (D.trace config.new.device ≡ NamesSynced ∷ Synced ∷ D.trace config.old.device) }
-    ensures answers { let blobs = (state_of (D.trace config.old.device)).blobs.file in
-        ItemAnswers C.sum_of blobs result (D.faults config.old.device) (D.faults config.new.device) }
+    ensures answers { ItemAnswersOver D.trace D.faults C.sum_of result config.old config.new }
     ensures config { ConfigKept config.old config.new }
     ensures later { IsLater (D.trace config.old.device) (D.trace config.new.device) }
     ensures recoverable { let size = config.old.config.segment_size in let old = D.trace config.old.device in
@@ -92,8 +90,7 @@ pub fn read_snapshot_or_default<D: Device, C: Checksum>(
 /// Recovers what the device has, and writes back what is left to be written.
 fn read_and_write_back<D: Device, C: Checksum>(config: &mut RunningConfig<D, C>) -> Result<Snapshot>
     ensures comes { ComesOf C.sum_of config.old.config.segment_size (D.trace config.old.device) (D.trace config.new.device) result }
-    ensures answers { let blobs = (state_of (D.trace config.old.device)).blobs.file in
-        ItemAnswers C.sum_of blobs result (D.faults config.old.device) (D.faults config.new.device) }
+    ensures answers { ItemAnswersOver D.trace D.faults C.sum_of result config.old config.new }
     ensures config { ConfigKept config.old config.new }
 {
     settle(&mut config.device)?;
@@ -126,8 +123,7 @@ pub(crate) fn recover<D: Device, C: Checksum>(config: &mut RunningConfig<D, C>) 
         IfOk result (λ x. Recovers C.sum_of config.old.config.segment_size (content_of old) (Recovered (result_of x))) }
     ensures corrupt { let old = state_of (D.trace config.old.device) in
         IsCorruption result → Recovers C.sum_of config.old.config.segment_size (content_of old) Damaged }
-    ensures answers { let blobs = (state_of (D.trace config.old.device)).blobs.file in
-        ItemAnswers C.sum_of blobs result (D.faults config.old.device) (D.faults config.new.device) }
+    ensures answers { ItemAnswersOver D.trace D.faults C.sum_of result config.old config.new }
     ensures reads { OnlyReads D.trace config.old config.new }
 {
     match read_newest(config) {
@@ -141,12 +137,9 @@ fn continue_from<D: Device, C: Checksum>(
     config: &mut RunningConfig<D, C>,
     first: Snapshot,
 ) -> Result<Recovery>
-    ensures ok { let s = state_of (D.trace config.old.device) in
-        IfOk result (λ x. ContinuesFrom C.sum_of config.old.config.segment_size s.log.bytes s.blobs.file (model_of first) (Recovered (result_of x))) }
-    ensures corrupt { let s = state_of (D.trace config.old.device) in
-        IsCorruption result → ContinuesFrom C.sum_of config.old.config.segment_size s.log.bytes s.blobs.file (model_of first) Damaged }
-    ensures answers { let blobs = (state_of (D.trace config.old.device)).blobs.file in
-        ItemAnswers C.sum_of blobs result (D.faults config.old.device) (D.faults config.new.device) }
+    ensures ok { IfOk result (λ x. ContinuesOn D.trace C.sum_of config.old first (Recovered (result_of x))) }
+    ensures corrupt { IsCorruption result → ContinuesOn D.trace C.sum_of config.old first Damaged }
+    ensures answers { ItemAnswersOver D.trace D.faults C.sum_of result config.old config.new }
     ensures reads { OnlyReads D.trace config.old config.new }
 {
     let size = config.config.segment_size;
@@ -166,12 +159,9 @@ fn continue_over<D: Device, C: Checksum>(
     requires ordering { IsOrdering C.sum_of config.old.config.segment_size (state_of (D.trace config.old.device)).log.bytes
         (least_place config.old.config.segment_size (model_of first)) segments.now }
     requires small { length (state_of (D.trace config.old.device)).log.bytes + config.old.config.segment_size < 2 ^ 63 }
-    ensures ok { let s = state_of (D.trace config.old.device) in
-        IfOk result (λ x. ContinuesFrom C.sum_of config.old.config.segment_size s.log.bytes s.blobs.file (model_of first) (Recovered (result_of x))) }
-    ensures corrupt { let s = state_of (D.trace config.old.device) in
-        IsCorruption result → ContinuesFrom C.sum_of config.old.config.segment_size s.log.bytes s.blobs.file (model_of first) Damaged }
-    ensures answers { let blobs = (state_of (D.trace config.old.device)).blobs.file in
-        ItemAnswers C.sum_of blobs result (D.faults config.old.device) (D.faults config.new.device) }
+    ensures ok { IfOk result (λ x. ContinuesOn D.trace C.sum_of config.old first (Recovered (result_of x))) }
+    ensures corrupt { IsCorruption result → ContinuesOn D.trace C.sum_of config.old first Damaged }
+    ensures answers { ItemAnswersOver D.trace D.faults C.sum_of result config.old config.new }
     ensures reads { OnlyReads D.trace config.old config.new }
 {
     let size = config.config.segment_size;
@@ -196,7 +186,7 @@ fn replay_tail<D: Device, C: Checksum>(
     end: u64,
     first: Snapshot,
 ) -> Result<Recovery>
-    requires ready { (s : Segment) → Contains segments.now s → CanBeRead config.old.config.segment_size (state_of (D.trace config.old.device)).log.bytes s }
+    requires ready { CanAllBeRead config.old.config.segment_size (state_of (D.trace config.old.device)).log.bytes segments.now }
     requires from { from ≤ length segments.now }
     requires end { end < 2 ^ 63 }
     requires fits { All (IsPass config.old.config.segment_size) tail.items }
@@ -208,8 +198,7 @@ fn replay_tail<D: Device, C: Checksum>(
     ensures corrupt { let s = state_of (D.trace config.old.device) in
         IsCorruption result → MeetsBadTail C.sum_of s.blobs.file (map pass_of tail.items)
         ⊎ PassesBehind C.sum_of config.old.config.segment_size s.log.bytes s.blobs.file (model_of first) segments.now end (map pass_of tail.items) Damaged }
-    ensures answers { let blobs = (state_of (D.trace config.old.device)).blobs.file in
-        ItemAnswers C.sum_of blobs result (D.faults config.old.device) (D.faults config.new.device) }
+    ensures answers { ItemAnswersOver D.trace D.faults C.sum_of result config.old config.new }
     ensures reads { OnlyReads D.trace config.old config.new }
 {
     let mut tail = tail;
@@ -228,19 +217,15 @@ fn pass_over<D: Device, C: Checksum>(
     end: u64,
     first: Snapshot,
 ) -> Result<Recovery>
-    requires ready { (s : Segment) → Contains segments.now s → CanBeRead config.old.config.segment_size (state_of (D.trace config.old.device)).log.bytes s }
+    requires ready { CanAllBeRead config.old.config.segment_size (state_of (D.trace config.old.device)).log.bytes segments.now }
     requires from { from ≤ length segments.now }
     requires end { end < 2 ^ 63 }
     requires fits { All (IsPass config.old.config.segment_size) tail.items }
     requires tail { let s = state_of (D.trace config.old.device) in
         AreLookedUp C.sum_of config.old.config.segment_size s.log.bytes s.blobs.file end (begun_below end (drop from segments.now)) (map pass_of tail.items) }
-    ensures ok { let s = state_of (D.trace config.old.device) in
-        IfOk result (λ x. Passes C.sum_of config.old.config.segment_size s.log.bytes s.blobs.file
-        (model_of first) segments.now (Some end) (Recovered (result_of x))) }
-    ensures corrupt { let s = state_of (D.trace config.old.device) in
-        IsCorruption result → Passes C.sum_of config.old.config.segment_size s.log.bytes s.blobs.file (model_of first) segments.now (Some end) Damaged }
-    ensures answers { let blobs = (state_of (D.trace config.old.device)).blobs.file in
-        ItemAnswers C.sum_of blobs result (D.faults config.old.device) (D.faults config.new.device) }
+    ensures ok { IfOk result (λ x. PassesOn D.trace C.sum_of config.old first segments.now end (Recovered (result_of x))) }
+    ensures corrupt { IsCorruption result → PassesOn D.trace C.sum_of config.old first segments.now end Damaged }
+    ensures answers { ItemAnswersOver D.trace D.faults C.sum_of result config.old config.new }
     ensures reads { OnlyReads D.trace config.old config.new }
 {
     match read_below(config, &segments[..from], end) {

@@ -11,10 +11,9 @@ use Rattle.sled_core.specs.declared.iterator.scan.ScanEnd.TheVariants.{Full, Cap
 use Rattle.sled_store.proofs.Segments.Elements.{in_cases, in_first, in_rest}
 use Rattle.sled_log.specs.declared.snapshot.pass.Pass.{Pass}
 use Rattle.sled_log.specs.Recovery.{NamesKind, IsTail, GoesOn, begun_below}
-use Rattle.sled_log.specs.Passes.{CanBeRead, pass_of}
+use Rattle.sled_log.specs.Passes.{HasKinds, CanBeRead, pass_of}
 use Rattle.sled_log.specs.Ahead.{CanBeGiven, HasEnds, KnowsKind}
 use Rattle.sled_log.proofs.Passes.Ascending.{begun_first}
-use Rattle.sled_log.proofs.Passes.Blobs.{HasKinds}
 use Rattle.sled_log.proofs.Replay.LookLemmas.{scan_kinds}
 
 -- a kind is known, in one way of saying it and in the other

@@ -8,14 +8,11 @@ use Rattle.sled_core.specs.declared.iterator.Segment.{Segment}
 use Rattle.sled_store.specs.Device.{Trace, state_of}
 use Rattle.sled_store.proofs.Segments.Elements.{in_cases, in_nothing}
 use Rattle.sled_log.specs.declared.snapshot.pass.Pass.{Pass}
-use Rattle.sled_log.specs.Recovery.{Scanned, StopsOrGoesOn, AreReplayed, before_open, open_at, passed_in, passed_all, NamesKind, MeetsBadBlob, HaveGoodBlobs, resolved_scan, resolved_before}
-use Rattle.sled_log.specs.Passes.{IsPass, pass_of, OpensLast, MeetsBadPass}
+use Rattle.sled_log.specs.Recovery.{Scanned, StopsOrGoesOn, AreReplayed, before_open, open_at, passed_in, passed_all, MeetsBadBlob, HaveGoodBlobs, resolved_scan, resolved_before}
+use Rattle.sled_log.specs.Passes.{HasKinds, IsPass, pass_of, OpensLast, MeetsBadPass}
 use Rattle.sled_core.proofs.Tail.Rows.{all_before_open}
 use Rattle.sled_log.proofs.Replay.BlobLemmas.{bad_behind, bad_first, bad_cases}
 use Rattle.sled_log.proofs.Replay.LookLemmas.{all_with_blobs, path_kinds, bad_still, written}
-
-abbrev pub HasKinds : Pass → Type 0
-HasKinds p = All (λ m. NamesKind m.what) p.scan.met.items
 
 -- What was read in a pass: kinds are known, and only in the last one a batch is open.
 module _ (sum : List ℕ → ℕ) (size : ℕ) (log : List ℕ) (end : ℕ) where

@@ -9,8 +9,8 @@ use Rattle.sled_core.specs.declared.iterator.Segment.{Segment}
 use Rattle.sled_core.specs.declared.iterator.scan.ScannedRecord.{ScannedRecord}
 use Rattle.sled_log.specs.declared.snapshot.pass.Pass.{Pass}
 use Rattle.sled_log.specs.Recovery.{Scanned, AreScanned, HaveGoodBlobs, MeetsBadBlob, NamesKind, before_open, resolved_before, resolved_scan}
-use Rattle.sled_log.specs.Passes.{MeetsBadPass, MeetsBadTail, pass_of}
-use Rattle.sled_log.proofs.Passes.Blobs.{HasKinds, good_more}
+use Rattle.sled_log.specs.Passes.{HasKinds, MeetsBadPass, MeetsBadTail, pass_of}
+use Rattle.sled_log.proofs.Passes.Blobs.{good_more}
 use Rattle.sled_log.proofs.Replay.BlobLemmas.{bad_before, bad_either, bad_left}
 use Rattle.sled_log.proofs.Replay.LookLemmas.{kinds_with_blobs, scan_kinds}
 

@@ -1,13 +1,12 @@
 //! Where an iterator begins: the segments are found and the tail of the log is read, and then nothing more.
-ghost use Rattle.std.specs.Prelude.{◌≡◌, ◌+◌, ◌*◌, ◌/◌, ◌%◌, ◌^◌, ◌<◌, ℕ, true, List, [], IfOk, unwrap_or, Contains};
+ghost use Rattle.std.specs.Prelude.{◌≡◌, ◌+◌, ◌*◌, ◌/◌, ◌%◌, ◌^◌, ◌<◌, ℕ, true, List, [], IfOk, unwrap_or};
 ghost use Rattle.std.specs.List.{All};
 ghost use Rattle.sled_codec.specs.Errors.{IsCorruption};
-ghost use Rattle.sled_store.specs.Blobs.{ItemAnswers};
 ghost use Rattle.sled_store.specs.Device.{state_of};
+ghost use Rattle.sled_core.specs.Causes.{ItemAnswersOver};
 ghost use Rattle.sled_core.specs.Keeps.{OnlyReads};
-ghost use Rattle.sled_core.specs.declared.iterator.Segment.{Segment};
 ghost use Rattle.sled_log.specs.Recovery.{Scanned, IsTail, IsDamagedTail, HaveGoodBlobs, begun_below, is_ascending, place_of_mark, tail_end};
-ghost use Rattle.sled_log.specs.Passes.{CanBeRead};
+ghost use Rattle.sled_log.specs.Passes.{CanAllBeRead};
 ghost use Rattle.sled_log.specs.Iterates.{Begins, IsDamagedFrom, begins_from, BeginAnswers};
 ghost use Rattle.sled_log.specs.Iterators.{borrowed_by, IsAhead};
 ghost use Rattle.sled_log.specs.Ahead.{CanGoOn, IsLeft};
@@ -64,8 +63,7 @@ fn begin_at<D: Device, C: Checksum>(config: &mut RunningConfig<D, C>, stable: u6
     ensures fits { IfOk result (CanGoOn config.old.config.segment_size) }
     ensures corrupt { let size = config.old.config.segment_size in let s = state_of (D.trace config.old.device) in
         IsCorruption result → IsDamagedFrom C.sum_of size s.log.bytes s.blobs.file (stable / size * size) }
-    ensures answers { let blobs = (state_of (D.trace config.old.device)).blobs.file in
-        ItemAnswers C.sum_of blobs result (D.faults config.old.device) (D.faults config.new.device) }
+    ensures answers { ItemAnswersOver D.trace D.faults C.sum_of result config.old config.new }
     ensures reads { OnlyReads D.trace config.old config.new }
 {
     let size = config.config.segment_size;
@@ -89,7 +87,7 @@ fn tail_end<D: Device, C: Checksum>(
     segments: &[Segment],
     begin: u64,
 ) -> Result<Option<u64>>
-    requires ready { (s : Segment) → Contains segments.now s → CanBeRead config.old.config.segment_size (state_of (D.trace config.old.device)).log.bytes s }
+    requires ready { CanAllBeRead config.old.config.segment_size (state_of (D.trace config.old.device)).log.bytes segments.now }
     requires ascending { is_ascending segments.now ≡ true }
     requires placed { All (λ s. s.place % config.old.config.segment_size ≡ 0) segments.now }
     requires begin { begin % config.old.config.segment_size ≡ 0 }
@@ -99,8 +97,7 @@ fn tail_end<D: Device, C: Checksum>(
     ensures small { IfOk result (λ o. unwrap_or o 0 < 2 ^ 63) }
     ensures damaged { let old = state_of (D.trace config.old.device) in
         IsCorruption result → IsDamagedTail C.sum_of config.old.config.segment_size old.log.bytes old.blobs.file segments.now begin }
-    ensures answers { let blobs = (state_of (D.trace config.old.device)).blobs.file in
-        ItemAnswers C.sum_of blobs result (D.faults config.old.device) (D.faults config.new.device) }
+    ensures answers { ItemAnswersOver D.trace D.faults C.sum_of result config.old config.new }
     ensures reads { OnlyReads D.trace config.old config.new }
 {
     let from = count_below(segments, begin);

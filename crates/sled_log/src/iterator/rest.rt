@@ -1,9 +1,9 @@
 //! What is left of a log file for an iterator to give (`specs/Ahead.antt`).
 ghost use Rattle.std.specs.Prelude.{◌≡◌, ◌+◌, ◌^◌, ◌≤◌, ◌<◌, ℕ, List, Bool, Ok, None, length, IfOk, OnOk, IfNone, OnSome};
 ghost use Rattle.sled_codec.specs.Errors.{IsCorruption};
-ghost use Rattle.sled_store.specs.Blobs.{ItemAnswers};
 ghost use Rattle.sled_store.specs.Causes.{DeviceAnswers};
 ghost use Rattle.sled_store.specs.Device.{state_of};
+ghost use Rattle.sled_core.specs.Causes.{ItemAnswersOver};
 ghost use Rattle.sled_core.specs.Keeps.{OnlyReads};
 ghost use Rattle.sled_log.specs.Iterates.{Item, items_of, NextGives, NextAnswers, BehindLast};
 ghost use Rattle.sled_log.specs.Ahead.{CanGoOn, IsLeft, IsSpent, Finds, IsEnd, ReadsOn, most_left, those_of};
@@ -72,8 +72,7 @@ impl Rest {
         ensures spent { IfOk result (λ o. IfNone o (IsSpent self.new)) }
         ensures over { IsSpent self.old → result ≡ Ok None }
         ensures fewer { IfOk result (λ o. OnSome o (most_left self.new < most_left self.old)) }
-        ensures answers { let blobs = (state_of (D.trace config.old.device)).blobs.file in
-            ItemAnswers C.sum_of blobs result (D.faults config.old.device) (D.faults config.new.device) }
+        ensures answers { ItemAnswersOver D.trace D.faults C.sum_of result config.old config.new }
         ensures reads { OnlyReads D.trace config.old config.new }
     {
         loop {
@@ -108,8 +107,7 @@ impl Rest {
         ensures over { IsSpent self.old → (result ≡ Ok None) × IsSpent self.new }
         ensures fewer { IfOk result (λ o. OnSome o (most_left self.new < most_left self.old)) }
         ensures no_more { most_left self.new ≤ most_left self.old }
-        ensures answers { let blobs = (state_of (D.trace config.old.device)).blobs.file in
-            ItemAnswers C.sum_of blobs result (D.faults config.old.device) (D.faults config.new.device) }
+        ensures answers { ItemAnswersOver D.trace D.faults C.sum_of result config.old config.new }
         ensures reads { OnlyReads D.trace config.old config.new }
     {
         while self.given < self.met.len() {

@@ -3,8 +3,8 @@
 ghost use Rattle.std.specs.Prelude.{◌≡◌, ◌<◌, ◌^◌, IfOk, OnOk};
 ghost use Rattle.std.specs.List.{All};
 ghost use Rattle.sled_codec.specs.Errors.{IsCorruption};
-ghost use Rattle.sled_store.specs.Blobs.{ItemAnswers};
 ghost use Rattle.sled_store.specs.Device.{state_of};
+ghost use Rattle.sled_core.specs.Causes.{ItemAnswersOver};
 ghost use Rattle.sled_core.specs.Keeps.{OnlyReads};
 ghost use Rattle.sled_log.specs.Recovery.{NamesKind, HasBadBlob, MeetsBadBlob, resolved, resolved_before, before_open};
 
@@ -29,8 +29,7 @@ pub(crate) fn resolve<D: Device, C: Checksum>(
         OnOk result (MeetsBadBlob C.sum_of blobs (before_open end met.old) → ⊥) }
     ensures bad { let blobs = (state_of (D.trace config.old.device)).blobs.file in
         IsCorruption result → MeetsBadBlob C.sum_of blobs (before_open end met.old) }
-    ensures answers { let blobs = (state_of (D.trace config.old.device)).blobs.file in
-        ItemAnswers C.sum_of blobs result (D.faults config.old.device) (D.faults config.new.device) }
+    ensures answers { ItemAnswersOver D.trace D.faults C.sum_of result config.old config.new }
     ensures reads { OnlyReads D.trace config.old config.new }
 {
     for i in 0..met.len() {
@@ -53,8 +52,7 @@ pub(crate) fn check<D: Device, C: Checksum>(
     requires kinds { All (λ m. NamesKind m.what) met.now }
     ensures good { let blobs = (state_of (D.trace config.old.device)).blobs.file in OnOk result (MeetsBadBlob C.sum_of blobs met.now → ⊥) }
     ensures bad { let blobs = (state_of (D.trace config.old.device)).blobs.file in IsCorruption result → MeetsBadBlob C.sum_of blobs met.now }
-    ensures answers { let blobs = (state_of (D.trace config.old.device)).blobs.file in
-        ItemAnswers C.sum_of blobs result (D.faults config.old.device) (D.faults config.new.device) }
+    ensures answers { ItemAnswersOver D.trace D.faults C.sum_of result config.old config.new }
     ensures reads { OnlyReads D.trace config.old config.new }
 {
     for m in met {
@@ -75,8 +73,7 @@ pub(crate) fn with_blob<D: Device, C: Checksum>(
     ensures met { let blobs = (state_of (D.trace config.old.device)).blobs.file in IfOk result (λ r. r ≡ resolved blobs met) }
     ensures good { let blobs = (state_of (D.trace config.old.device)).blobs.file in OnOk result (HasBadBlob C.sum_of blobs met.what → ⊥) }
     ensures bad { let blobs = (state_of (D.trace config.old.device)).blobs.file in IsCorruption result → HasBadBlob C.sum_of blobs met.what }
-    ensures answers { let blobs = (state_of (D.trace config.old.device)).blobs.file in
-        ItemAnswers C.sum_of blobs result (D.faults config.old.device) (D.faults config.new.device) }
+    ensures answers { ItemAnswersOver D.trace D.faults C.sum_of result config.old config.new }
     ensures reads { OnlyReads D.trace config.old config.new }
 {
     let RecordContent::NamesBlob(kind, page, lid, place) = met.what else {

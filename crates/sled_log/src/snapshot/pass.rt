@@ -1,17 +1,16 @@
 //! The pass over the segments of a log file: what is met in each, its blobs, and what comes of all of it
 //! (`specs/Recovery.antt`).
-ghost use Rattle.std.specs.Prelude.{◌≡◌, ◌⊎◌, ◌++◌, ◌+◌, ◌^◌, ◌≤◌, ◌<◌, ℕ, map, take, drop, length, true, false, None, IfOk, IfErr, OnOk, Contains, Option, IsOkUnless};
+ghost use Rattle.std.specs.Prelude.{◌≡◌, ◌⊎◌, ◌++◌, ◌+◌, ◌^◌, ◌≤◌, ◌<◌, ℕ, map, take, drop, length, true, false, None, IfOk, IfErr, OnOk, Option, IsOkUnless};
 ghost use Rattle.std.specs.List.{All};
 ghost use Rattle.sled_codec.specs.Errors.{IsCorruption, IsDecodeError};
 ghost use Rattle.sled_codec.specs.Snapshots.{model_of, page_of};
 ghost use Rattle.sled_store.specs.Device.{state_of};
-ghost use Rattle.sled_store.specs.Blobs.{ItemAnswers};
 ghost use Rattle.sled_store.specs.Causes.{DeviceAnswers};
+ghost use Rattle.sled_core.specs.Causes.{ItemAnswersOver};
 ghost use Rattle.sled_core.specs.Keeps.{OnlyReads};
-ghost use Rattle.sled_core.specs.declared.iterator.Segment.{Segment};
 ghost use Rattle.sled_log.specs.Recovery.{passed_all, AreReplayed, begun_below, IsDamagedPass, Recovered, Damaged, outcome_of, given, has_no_table, table_of, NamesKind, MeetsBadBlob, resolved_scan, before_open, slots_of};
 ghost use Rattle.sled_log.specs.WritesBack.{result_of};
-ghost use Rattle.sled_log.specs.Passes.{CanBeRead, IsPass, pass_of, stop_of, MeetsBadPass, AreResolved, IsBadPass, up_to_open};
+ghost use Rattle.sled_log.specs.Passes.{CanAllBeRead, GetBlobs, HasKinds, IsPass, pass_of, stop_of, MeetsBadPass, AreResolved, IsBadPass, up_to_open};
 
 pub(crate) mod records;
 
@@ -43,7 +42,7 @@ pub(crate) fn read_below<D: Device, C: Checksum>(
     segments: &[Segment],
     end: u64,
 ) -> Result<Vec<Pass>>
-    requires ready { (s : Segment) → Contains segments.now s → CanBeRead config.old.config.segment_size (state_of (D.trace config.old.device)).log.bytes s }
+    requires ready { CanAllBeRead config.old.config.segment_size (state_of (D.trace config.old.device)).log.bytes segments.now }
     requires end { end < 2 ^ 63 }
     ensures passes { let s = state_of (D.trace config.old.device) in
         IfOk result (λ v. AreResolved C.sum_of config.old.config.segment_size s.log.bytes s.blobs.file end
@@ -51,8 +50,7 @@ pub(crate) fn read_below<D: Device, C: Checksum>(
     ensures fits { IfOk result (λ v. All (IsPass config.old.config.segment_size) v.items) }
     ensures corrupt { let s = state_of (D.trace config.old.device) in
         IsCorruption result → IsBadPass C.sum_of config.old.config.segment_size s.log.bytes s.blobs.file end (begun_below end segments.now) }
-    ensures answers { let blobs = (state_of (D.trace config.old.device)).blobs.file in
-        ItemAnswers C.sum_of blobs result (D.faults config.old.device) (D.faults config.new.device) }
+    ensures answers { ItemAnswersOver D.trace D.faults C.sum_of result config.old config.new }
     ensures reads { OnlyReads D.trace config.old config.new }
 {
     match passes_below(config, segments, end) {
@@ -74,7 +72,7 @@ fn passes_below<D: Device, C: Checksum>(
     segments: &[Segment],
     end: u64,
 ) -> Result<Vec<Pass>>
-    requires ready { (s : Segment) → Contains segments.now s → CanBeRead config.old.config.segment_size (state_of (D.trace config.old.device)).log.bytes s }
+    requires ready { CanAllBeRead config.old.config.segment_size (state_of (D.trace config.old.device)).log.bytes segments.now }
     requires end { end < 2 ^ 63 }
     ensures passed { IfOk result (λ v. AreReplayed C.sum_of config.old.config.segment_size (state_of (D.trace config.old.device)).log.bytes end
         (begun_below end segments.now) (map pass_of v.items)) }
@@ -113,15 +111,13 @@ pub(crate) fn resolve_passes<D: Device, C: Checksum>(
     end: u64,
 ) -> Result<()>
     requires end { end < 2 ^ 63 }
-    requires kinds { All (λ p. All (λ m. NamesKind m.what) p.scan.met.items) passes.old }
-    ensures passes { let blobs = (state_of (D.trace config.old.device)).blobs.file in
-        OnOk result (map pass_of passes.new ≡ map (resolved_scan blobs end) (map pass_of passes.old)) }
+    requires kinds { All HasKinds passes.old }
+    ensures passes { OnOk result (GetBlobs (state_of (D.trace config.old.device)).blobs.file end passes.old passes.new) }
     ensures good { let blobs = (state_of (D.trace config.old.device)).blobs.file in
         OnOk result (MeetsBadPass C.sum_of blobs end (map pass_of passes.old) → ⊥) }
     ensures bad { let blobs = (state_of (D.trace config.old.device)).blobs.file in
         IsCorruption result → MeetsBadPass C.sum_of blobs end (map pass_of passes.old) }
-    ensures answers { let blobs = (state_of (D.trace config.old.device)).blobs.file in
-        ItemAnswers C.sum_of blobs result (D.faults config.old.device) (D.faults config.new.device) }
+    ensures answers { ItemAnswersOver D.trace D.faults C.sum_of result config.old config.new }
     ensures reads { OnlyReads D.trace config.old config.new }
 {
     for i in 0..passes.len() {
@@ -147,8 +143,7 @@ fn resolve_pass<D: Device, C: Checksum>(
         OnOk result (MeetsBadBlob C.sum_of blobs (before_open end pass.old.scan.met.items) → ⊥) }
     ensures bad { let blobs = (state_of (D.trace config.old.device)).blobs.file in
         IsCorruption result → MeetsBadBlob C.sum_of blobs (before_open end pass.old.scan.met.items) }
-    ensures answers { let blobs = (state_of (D.trace config.old.device)).blobs.file in
-        ItemAnswers C.sum_of blobs result (D.faults config.old.device) (D.faults config.new.device) }
+    ensures answers { ItemAnswersOver D.trace D.faults C.sum_of result config.old config.new }
     ensures reads { OnlyReads D.trace config.old config.new }
 {
     resolve(config, &mut pass.scan.met, end)

@@ -4,14 +4,14 @@ ghost use Rattle.std.specs.Prelude.{IfSome, IfNone, List, ◌≡◌, ◌⊎◌, 
 ghost use Rattle.sled_codec.specs.Errors.{IsCorruption};
 ghost use Rattle.sled_codec.specs.Snapshots.{model_of};
 ghost use Rattle.sled_store.specs.Device.{state_of, content_of};
-ghost use Rattle.sled_store.specs.Blobs.{ItemAnswers};
 ghost use Rattle.sled_store.specs.Causes.{DeviceAnswers};
+ghost use Rattle.sled_core.specs.Causes.{ItemAnswersOver};
 ghost use Rattle.sled_core.specs.Keeps.{OnlyReads};
 ghost use Rattle.sled_core.specs.Scan.{IsDamagedIn};
 ghost use Rattle.sled_core.specs.declared.iterator.Segment.{Segment};
-ghost use Rattle.sled_log.specs.Recovery.{Scanned, IsScanned, IsOrdering, IsTail, IsDamagedTail, tail_end, Recovered, Damaged, RecoveryResult, least_place, scanned_of, ContinuesFrom, Recovers, Passes, MeetsBadBlob, MeetsBadBlobIn, HaveGoodBlobs};
+ghost use Rattle.sled_log.specs.Recovery.{Scanned, IsScanned, IsOrdering, IsTail, IsDamagedTail, tail_end, Recovered, Damaged, RecoveryResult, least_place, scanned_of, Recovers, MeetsBadBlob, MeetsBadBlobIn, HaveGoodBlobs};
 ghost use Rattle.sled_log.specs.WritesBack.{result_of};
-ghost use Rattle.sled_log.specs.Passes.{CanBeRead};
+ghost use Rattle.sled_log.specs.Passes.{CanAllBeRead, CanBeRead, ContinuesOn, PassesOn};
 
 use crate::snapshot::blobs::check;
 use crate::snapshot::file::read_newest;
@@ -61,8 +61,7 @@ fn recover_by_definition<D: Device, C: Checksum>(
     ensures ok { let old = state_of (D.trace config.old.device) in
         IfOk result (λ x. Recovers C.sum_of config.old.config.segment_size (content_of old) (Recovered (result_of x))) }
     ensures corrupt { IsCorruption result → Recovers C.sum_of config.old.config.segment_size (content_of (state_of (D.trace config.old.device))) Damaged }
-    ensures answers { let blobs = (state_of (D.trace config.old.device)).blobs.file in
-        ItemAnswers C.sum_of blobs result (D.faults config.old.device) (D.faults config.new.device) }
+    ensures answers { ItemAnswersOver D.trace D.faults C.sum_of result config.old config.new }
     ensures reads { OnlyReads D.trace config.old config.new }
 {
     match read_newest(config) {
@@ -76,12 +75,9 @@ fn continue_by_definition<D: Device, C: Checksum>(
     config: &mut RunningConfig<D, C>,
     first: Snapshot,
 ) -> Result<Recovery>
-    ensures ok { let s = state_of (D.trace config.old.device) in
-        IfOk result (λ x. ContinuesFrom C.sum_of config.old.config.segment_size s.log.bytes s.blobs.file (model_of first) (Recovered (result_of x))) }
-    ensures corrupt { let s = state_of (D.trace config.old.device) in
-        IsCorruption result → ContinuesFrom C.sum_of config.old.config.segment_size s.log.bytes s.blobs.file (model_of first) Damaged }
-    ensures answers { let blobs = (state_of (D.trace config.old.device)).blobs.file in
-        ItemAnswers C.sum_of blobs result (D.faults config.old.device) (D.faults config.new.device) }
+    ensures ok { IfOk result (λ x. ContinuesOn D.trace C.sum_of config.old first (Recovered (result_of x))) }
+    ensures corrupt { IsCorruption result → ContinuesOn D.trace C.sum_of config.old first Damaged }
+    ensures answers { ItemAnswersOver D.trace D.faults C.sum_of result config.old config.new }
     ensures reads { OnlyReads D.trace config.old config.new }
 {
     let size = config.config.segment_size;
@@ -101,12 +97,9 @@ fn replay_by_definition<D: Device, C: Checksum>(
     requires ordering { IsOrdering C.sum_of config.old.config.segment_size (state_of (D.trace config.old.device)).log.bytes
         (least_place config.old.config.segment_size (model_of first)) segments.now }
     requires small { length (state_of (D.trace config.old.device)).log.bytes + config.old.config.segment_size < 2 ^ 63 }
-    ensures ok { let s = state_of (D.trace config.old.device) in
-        IfOk result (λ x. ContinuesFrom C.sum_of config.old.config.segment_size s.log.bytes s.blobs.file (model_of first) (Recovered (result_of x))) }
-    ensures corrupt { let s = state_of (D.trace config.old.device) in
-        IsCorruption result → ContinuesFrom C.sum_of config.old.config.segment_size s.log.bytes s.blobs.file (model_of first) Damaged }
-    ensures answers { let blobs = (state_of (D.trace config.old.device)).blobs.file in
-        ItemAnswers C.sum_of blobs result (D.faults config.old.device) (D.faults config.new.device) }
+    ensures ok { IfOk result (λ x. ContinuesOn D.trace C.sum_of config.old first (Recovered (result_of x))) }
+    ensures corrupt { IsCorruption result → ContinuesOn D.trace C.sum_of config.old first Damaged }
+    ensures answers { ItemAnswersOver D.trace D.faults C.sum_of result config.old config.new }
     ensures reads { OnlyReads D.trace config.old config.new }
 {
     let size = config.config.segment_size;
@@ -125,15 +118,11 @@ fn pass_over<D: Device, C: Checksum>(
     first: Snapshot,
     end: u64,
 ) -> Result<Recovery>
-    requires ready { (s : Segment) → Contains segments.now s → CanBeRead config.old.config.segment_size (state_of (D.trace config.old.device)).log.bytes s }
+    requires ready { CanAllBeRead config.old.config.segment_size (state_of (D.trace config.old.device)).log.bytes segments.now }
     requires end { end < 2 ^ 63 }
-    ensures ok { let s = state_of (D.trace config.old.device) in
-        IfOk result (λ x. Passes C.sum_of config.old.config.segment_size s.log.bytes s.blobs.file
-        (model_of first) segments.now (Some end) (Recovered (result_of x))) }
-    ensures corrupt { let s = state_of (D.trace config.old.device) in
-        IsCorruption result → Passes C.sum_of config.old.config.segment_size s.log.bytes s.blobs.file (model_of first) segments.now (Some end) Damaged }
-    ensures answers { let blobs = (state_of (D.trace config.old.device)).blobs.file in
-        ItemAnswers C.sum_of blobs result (D.faults config.old.device) (D.faults config.new.device) }
+    ensures ok { IfOk result (λ x. PassesOn D.trace C.sum_of config.old first segments.now end (Recovered (result_of x))) }
+    ensures corrupt { IsCorruption result → PassesOn D.trace C.sum_of config.old first segments.now end Damaged }
+    ensures answers { ItemAnswersOver D.trace D.faults C.sum_of result config.old config.new }
     ensures reads { OnlyReads D.trace config.old config.new }
 {
     match read_below(config, segments, end) {
@@ -173,8 +162,7 @@ fn sound_scan_of<D: Device, C: Checksum>(
     ensures damaged { let old = state_of (D.trace config.old.device) in let size = config.old.config.segment_size in
         IsCorruption result → IsDamagedIn C.sum_of size old.log.bytes segment.now.slot segment.now.place
         ⊎ MeetsBadBlobIn C.sum_of size old.log.bytes old.blobs.file segment.now }
-    ensures answers { let blobs = (state_of (D.trace config.old.device)).blobs.file in
-        ItemAnswers C.sum_of blobs result (D.faults config.old.device) (D.faults config.new.device) }
+    ensures answers { ItemAnswersOver D.trace D.faults C.sum_of result config.old config.new }
     ensures reads { OnlyReads D.trace config.old config.new }
 {
     match scan_alone(config, segment) {
@@ -211,15 +199,14 @@ fn tail_end<D: Device, C: Checksum>(
     segments: &[Segment],
     begin: u64,
 ) -> Result<Option<u64>>
-    requires ready { (s : Segment) → Contains segments.now s → CanBeRead config.old.config.segment_size (state_of (D.trace config.old.device)).log.bytes s }
+    requires ready { CanAllBeRead config.old.config.segment_size (state_of (D.trace config.old.device)).log.bytes segments.now }
     ensures end { let old = state_of (D.trace config.old.device) in
         IfOk result (λ o. (scanned : List Scanned) × IsTail C.sum_of config.old.config.segment_size old.log.bytes segments.now begin scanned
         × HaveGoodBlobs C.sum_of old.blobs.file scanned × (tail_end scanned ≡ o)) }
     ensures small { IfOk result (λ o. IfSome o (λ end. end < 2 ^ 63)) }
     ensures damaged { let old = state_of (D.trace config.old.device) in
         IsCorruption result → IsDamagedTail C.sum_of config.old.config.segment_size old.log.bytes old.blobs.file segments.now begin }
-    ensures answers { let blobs = (state_of (D.trace config.old.device)).blobs.file in
-        ItemAnswers C.sum_of blobs result (D.faults config.old.device) (D.faults config.new.device) }
+    ensures answers { ItemAnswersOver D.trace D.faults C.sum_of result config.old config.new }
     ensures reads { OnlyReads D.trace config.old config.new }
 {
     let size = config.config.segment_size;

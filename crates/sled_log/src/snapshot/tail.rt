@@ -1,16 +1,15 @@
 //! The tail of the log: where it begins, what is met in its segments, and their blobs (`IsTail`,
 //! `crates/sled_core/specs/Tail.antt`).
-ghost use Rattle.std.specs.Prelude.{IfSome, List, IsTrue, ◌↔◌, ◌≡◌, ◌+◌, ◌^◌, ◌%◌, ◌≤◌, ◌<◌, ℕ, map, take, drop, length, true, IfOk, OnOk, Contains};
+ghost use Rattle.std.specs.Prelude.{IfSome, List, IsTrue, ◌↔◌, ◌≡◌, ◌+◌, ◌^◌, ◌%◌, ◌≤◌, ◌<◌, ℕ, map, take, drop, length, true, IfOk, OnOk};
 ghost use Rattle.std.specs.List.{All};
 ghost use Rattle.sled_codec.specs.Errors.{IsCorruption};
 ghost use Rattle.sled_store.specs.Device.{state_of};
-ghost use Rattle.sled_store.specs.Blobs.{ItemAnswers};
 ghost use Rattle.sled_store.specs.Causes.{DeviceAnswers};
+ghost use Rattle.sled_core.specs.Causes.{ItemAnswersOver};
 ghost use Rattle.sled_core.specs.Keeps.{OnlyReads};
 ghost use Rattle.sled_core.specs.Scan.{IsDamagedIn};
-ghost use Rattle.sled_core.specs.declared.iterator.Segment.{Segment};
-ghost use Rattle.sled_log.specs.Recovery.{IsScanned, IsTail, IsDamagedTail, AreScanned, begun_below, is_ascending, tail_begins, tail_end, scanned_of, NamesKind, HaveGoodBlobs, resolved_scan};
-ghost use Rattle.sled_log.specs.Passes.{CanBeRead, IsPass, MeetsBadTail, pass_of};
+ghost use Rattle.sled_log.specs.Recovery.{IsScanned, IsTail, IsDamagedTail, AreScanned, begun_below, is_ascending, tail_begins, tail_end, scanned_of, HaveGoodBlobs};
+ghost use Rattle.sled_log.specs.Passes.{CanAllBeRead, CanBeRead, GetBlobs, HasKinds, IsPass, MeetsBadTail, pass_of};
 
 use crate::snapshot::blobs::check;
 use crate::snapshot::pass::{Pass, resolve_passes};
@@ -60,7 +59,7 @@ pub(crate) fn read_tail<D: Device, C: Checksum>(
     segments: &[Segment],
     begin: u64,
 ) -> Result<Tail>
-    requires ready { (s : Segment) → Contains segments.now s → CanBeRead config.old.config.segment_size (state_of (D.trace config.old.device)).log.bytes s }
+    requires ready { CanAllBeRead config.old.config.segment_size (state_of (D.trace config.old.device)).log.bytes segments.now }
     requires ascending { is_ascending segments.now ≡ true }
     requires placed { All (λ s. (s.place % config.old.config.segment_size ≡ 0) × (begin ≤ s.place)) segments.now }
     requires begin { begin % config.old.config.segment_size ≡ 0 }
@@ -109,14 +108,12 @@ pub(crate) fn look_up<D: Device, C: Checksum>(
     end: u64,
 ) -> Result<()>
     requires end { end < 2 ^ 63 }
-    requires kinds { All (λ p. All (λ m. NamesKind m.what) p.scan.met.items) passes.old }
-    ensures passes { let blobs = (state_of (D.trace config.old.device)).blobs.file in
-        OnOk result (map pass_of passes.new ≡ map (resolved_scan blobs end) (map pass_of passes.old)) }
+    requires kinds { All HasKinds passes.old }
+    ensures passes { OnOk result (GetBlobs (state_of (D.trace config.old.device)).blobs.file end passes.old passes.new) }
     ensures good { let blobs = (state_of (D.trace config.old.device)).blobs.file in OnOk result (HaveGoodBlobs C.sum_of blobs (map pass_of passes.old)) }
     ensures bad { let blobs = (state_of (D.trace config.old.device)).blobs.file in
         IsCorruption result → MeetsBadTail C.sum_of blobs (map pass_of passes.old) }
-    ensures answers { let blobs = (state_of (D.trace config.old.device)).blobs.file in
-        ItemAnswers C.sum_of blobs result (D.faults config.old.device) (D.faults config.new.device) }
+    ensures answers { ItemAnswersOver D.trace D.faults C.sum_of result config.old config.new }
     ensures reads { OnlyReads D.trace config.old config.new }
 {
     match resolve_passes(config, passes, end) {
@@ -130,12 +127,11 @@ pub(crate) fn check_passes<D: Device, C: Checksum>(
     config: &mut RunningConfig<D, C>,
     passes: &[Pass],
 ) -> Result<()>
-    requires kinds { All (λ p. All (λ m. NamesKind m.what) p.scan.met.items) passes.now }
+    requires kinds { All HasKinds passes.now }
     ensures good { let blobs = (state_of (D.trace config.old.device)).blobs.file in OnOk result (HaveGoodBlobs C.sum_of blobs (map pass_of passes.now)) }
     ensures bad { let blobs = (state_of (D.trace config.old.device)).blobs.file in
         IsCorruption result → MeetsBadTail C.sum_of blobs (map pass_of passes.now) }
-    ensures answers { let blobs = (state_of (D.trace config.old.device)).blobs.file in
-        ItemAnswers C.sum_of blobs result (D.faults config.old.device) (D.faults config.new.device) }
+    ensures answers { ItemAnswersOver D.trace D.faults C.sum_of result config.old config.new }
     ensures reads { OnlyReads D.trace config.old config.new }
 {
     for pass in passes {

@@ -7,10 +7,10 @@ use Rattle.sled_store.specs.declared.config.Config.{Config}
 use Rattle.sled_store.specs.Device.{State, Trace, state_of}
 use Rattle.sled_log.specs.declared.snapshot.pass.Pass.{Pass}
 use Rattle.sled_log.specs.Recovery.{HaveGoodBlobs, Passes, Recovered, Damaged, begun_below}
-use Rattle.sled_log.specs.Passes.{AreLookedUp, CanBeRead, IsPass, MeetsBadTail, PassesBehind, pass_of}
+use Rattle.sled_log.specs.Passes.{HasKinds, AreLookedUp, CanBeRead, IsPass, MeetsBadTail, PassesBehind, pass_of}
 use Rattle.sled_log.specs.WritesBack.{result_of}
 use Rattle.sled_log.proofs.Passes.LookedUp.{scanned_kinds}
-use Rattle.sled_log.proofs.Passes.Blobs.{HasKinds, passes_fit, resolved_vec}
+use Rattle.sled_log.proofs.Passes.Blobs.{passes_fit, resolved_vec}
 use Rattle.sled_log.proofs.Passes.Same.{still_so, still_so_in, was_so_in}
 use Rattle.sled_log.proofs.snapshot.replay_tail.Goals as goal
 

@@ -4,10 +4,9 @@ use Rattle.sled_core.specs.declared.iterator.Segment.{Segment}
 use Rattle.sled_store.specs.declared.config.Config.{Config}
 use Rattle.sled_store.specs.Device.{Trace, state_of}
 use Rattle.sled_log.specs.Recovery.{Scanned, HaveGoodBlobs, IsTail, is_ascending, IsDamagedTail}
-use Rattle.sled_log.specs.Passes.{MeetsBadTail, pass_of}
+use Rattle.sled_log.specs.Passes.{HasKinds, MeetsBadTail, pass_of}
 use Rattle.sled_log.proofs.Passes.Ascending.{ascends_behind}
 use Rattle.sled_log.proofs.Passes.WholeTail.{damaged_blob, damaged_of_all, in_dropped, sliced, tail_of_all}
-use Rattle.sled_log.proofs.Passes.Blobs.{HasKinds}
 use Rattle.sled_log.proofs.Iterates.KeptLemmas.{tail_kinds}
 use Rattle.sled_log.proofs.iterator.begin.tail_end.Goals as goal
 

@@ -3,8 +3,8 @@ use Rattle.std.specs.List.{All}
 use Rattle.sled_store.specs.Device.{Trace, state_of}
 use Rattle.sled_log.specs.declared.snapshot.pass.Pass.{Pass}
 use Rattle.sled_log.specs.Recovery.{begun_below}
-use Rattle.sled_log.specs.Passes.{pass_of}
-use Rattle.sled_log.proofs.Passes.Blobs.{HasKinds, pass_kinds, passes_fit, resolved_vec, bad_pass_still}
+use Rattle.sled_log.specs.Passes.{HasKinds, pass_of}
+use Rattle.sled_log.proofs.Passes.Blobs.{pass_kinds, passes_fit, resolved_vec, bad_pass_still}
 use Rattle.sled_log.proofs.snapshot.pass.read_below.Goals as goal
 
 pub resolve_passes-requires-clause-kinds : goal.resolve_passes-requires-clause-kinds
