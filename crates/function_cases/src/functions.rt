@@ -29,17 +29,7 @@ use std::io::{self, BufRead, ErrorKind, Read, Write};
 
 /// Runs all of them.
 pub fn run(alloc: Global, tally: &mut Tally<'_>) {
-    device_laws::what_is_read_may_be_left();
-    device_laws::what_is_settled_may_be_left();
-    device_laws::what_is_synced_is_left();
-    laws::read_again::<u64>();
-    laws::read_again::<Vec<u8>>();
-    laws::read_again::<MessageHeader>();
-    laws::written_is_record::<PlaceSum>();
-    laws::one_record::<PlaceSum>();
-    laws::lengths();
-    laws_of_logs();
-    laws_of_segments();
+    cite_laws();
     holds(tally, 1, "constants", has_constants());
     holds(tally, 2, "errors are equal", known(are_equal(alloc)));
     holds(tally, 3, "errors from std", are_from_std());
@@ -105,6 +95,21 @@ fn hold_identifiers(alloc: Global, tally: &mut Tally<'_>) {
         "identifiers used up",
         known(identifiers::are_used_up(alloc)),
     );
+}
+
+// The laws, each called at one type: those of codecs and of what a crash leaves, and the others.
+fn cite_laws() {
+    device_laws::what_is_read_may_be_left();
+    device_laws::what_is_settled_may_be_left();
+    device_laws::what_is_synced_is_left();
+    laws::read_again::<u64>();
+    laws::read_again::<Vec<u8>>();
+    laws::read_again::<MessageHeader>();
+    laws::written_is_record::<PlaceSum>();
+    laws::one_record::<PlaceSum>();
+    laws::lengths();
+    laws_of_logs();
+    laws_of_segments();
 }
 
 // The laws of histories, devices and logs, each called at one type.
