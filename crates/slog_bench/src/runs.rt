@@ -6,6 +6,7 @@ use case_lines::lines::{Fault, Outcome, Words};
 use case_lines::tally::Tally;
 use case_lines::texts::Text;
 use sled_log::config::RunningConfig;
+use sled_log::logger::{DiskPtr, Lsn};
 use sled_log::session::{Command, Refusal, Reply, Session};
 use std::alloc::{AllocError, Global};
 
@@ -118,12 +119,7 @@ fn push_reply(out: &mut Text, reply: &Reply) {
             out.push("opened ");
             out.table(*stable, *active, *pages);
         }
-        Reply::Reserved(ticket, place, at) => {
-            out.push("reserved ");
-            out.number(*ticket as u64);
-            out.push(" ");
-            out.spot(*place, *at);
-        }
+        Reply::Reserved(ticket, place, at) => push_reserved(out, *ticket, *place, *at),
         Reply::Done(place, at) => {
             out.push("done ");
             out.spot(*place, *at);
@@ -132,13 +128,7 @@ fn push_reply(out: &mut Text, reply: &Reply) {
             out.push("flushed ");
             out.number(*grown as u64);
         }
-        Reply::Page(items) => {
-            out.push("page");
-            for item in items {
-                out.push(" ");
-                out.hex(item);
-            }
-        }
+        Reply::Page(items) => push_items(out, items),
         Reply::Crashed(taken) => {
             out.push("crashed ");
             out.truth(*taken);
@@ -156,6 +146,21 @@ fn push_reply(out: &mut Text, reply: &Reply) {
         Reply::Halted => out.push("halted"),
         Reply::Armed => out.push("armed"),
         Reply::Stopped => out.push("stopped"),
+    }
+}
+
+fn push_reserved(out: &mut Text, ticket: usize, place: Lsn, at: DiskPtr) {
+    out.push("reserved ");
+    out.number(ticket as u64);
+    out.push(" ");
+    out.spot(place, at);
+}
+
+fn push_items(out: &mut Text, items: &[Vec<u8>]) {
+    out.push("page");
+    for item in items {
+        out.push(" ");
+        out.hex(item);
     }
 }
 
