@@ -5,7 +5,7 @@ use Rattle.std.specs.declared.io.Error.{Error as IoError}
 use Rattle.std.proofs.lemmas.Bool.{cases_lt}
 use Rattle.std.proofs.lemmas.List.Elements.{All-contains}
 use Rattle.sled_codec.specs.Coords.{raised}
-use Rattle.sled_codec.specs.History.{Batch, History, Message}
+use Rattle.sled_codec.specs.History.{History, Message}
 use Rattle.sled_store.specs.Device.{State}
 use Rattle.sled_store.proofs.Histories.Ascending.{Ascends}
 use Rattle.sled_store.proofs.Segments.Elements.{in_rest}
@@ -14,7 +14,7 @@ use Rattle.sled_core.specs.declared.iterator.scan.ScannedRecord.{ScannedRecord}
 use Rattle.sled_core.specs.declared.iterator.scan.ScanEnd.{ScanEnd}
 use Rattle.sled_core.specs.declared.iterator.scan.ScanEnd.TheVariants.{Full, Broken}
 use Rattle.sled_core.specs.Begun.{SegmentParts}
-use Rattle.sled_core.specs.Fits.{CloseBelow, HoldsIn, begun_segment, log_parts}
+use Rattle.sled_core.specs.Fits.{HoldsIn, begun_segment, log_parts}
 use Rattle.sled_core.specs.Full.{FitsFull, StandsFull}
 use Rattle.sled_core.specs.LogFile.{padded}
 use Rattle.sled_core.specs.Reached.{BeginsNext, IsReadTo, IsSoFar}

@@ -23,7 +23,7 @@ use Rattle.sled_core.specs.SealedBuffers.{AreSealed, one_ended}
 use Rattle.sled_core.proofs.Reserve.Batches.{batches_between}
 use Rattle.sled_core.proofs.Reserve.Entries.{open_plain, reserved_in, some_long}
 use Rattle.sled_core.proofs.Reserve.MarksLemmas.{batches_marked, batches_unmarked, completed_marked, manifest_long, marked_long, marking_long, stand_marked}
-use Rattle.sled_core.proofs.Reserve.Ranges.{at_there, chain-joined, chain-split, chain_within, part-written_before, there_split}
+use Rattle.sled_core.proofs.Reserve.Ranges.{all_split, at_there, chain-joined, chain-split, chain_within, part-written_before, there_split}
 use Rattle.sled_core.proofs.Reserve.RecordEnds.{records_ended}
 use Rattle.sled_core.proofs.Sealed.LaidCalls.{laid_over}
 

@@ -9,7 +9,7 @@ use Rattle.sled_store.specs.Device.{State}
 use Rattle.sled_core.specs.Begun.{AreFilled, SegmentView}
 use Rattle.sled_core.specs.declared.iobuf.Reserved.{Reserved}
 use Rattle.sled_core.specs.declared.reservation.Reservation.{Reservation}
-use Rattle.sled_core.specs.Fits.{CloseBelow, written_to, AwaitsIn, HoldsLine, parts_in}
+use Rattle.sled_core.specs.Fits.{written_to, AwaitsIn, HoldsLine, parts_in}
 use Rattle.sled_core.specs.Full.{FitsFull}
 use Rattle.sled_core.specs.Running.{FitsLine}
 use Rattle.sled_core.specs.Tickets.{index_of}

@@ -11,7 +11,7 @@ use Rattle.sled_store.specs.Script.{Along}
 use Rattle.sled_store.specs.SegmentStates.{Machine, is_free, slot_at}
 use Rattle.sled_core.specs.Begun.{AreFilled, SegmentParts, SegmentView, begin_of}
 use Rattle.sled_core.specs.declared.iobuf.Sealed.{Sealed}
-use Rattle.sled_core.specs.Fits.{CloseBelow, written_to, HoldsIn, HoldsLine, log_parts, parts_in}
+use Rattle.sled_core.specs.Fits.{HoldsIn, HoldsLine, log_parts, parts_in}
 use Rattle.sled_core.specs.FreeSlots.{FreeAreZeros, HasSlot, HasSlots}
 use Rattle.sled_core.specs.Full.{FitsFull}
 use Rattle.sled_core.specs.Recoverable.{LeavesRecoverable}
@@ -27,7 +27,7 @@ use Rattle.sled_core.proofs.Line.Facts.{IsSegment}
 use Rattle.sled_core.proofs.Line.Nth.{parts_set, parts_split}
 use Rattle.sled_core.proofs.Line.Promotes.{fits_full}
 use Rattle.sled_core.proofs.Line.Segments.{AreSegments, all_promoted, nth_segment, promoted_same, written_segment, written_within}
-use Rattle.sled_core.proofs.Sealed.Ended.{ends_up, ends_rise}
+use Rattle.sled_core.proofs.Sealed.Ended.{ends_rise}
 use Rattle.sled_core.proofs.Sealed.LaidLemmas.{EndsRise}
 use Rattle.sled_core.proofs.Sealed.OneWritten.{length-between}
 use Rattle.sled_core.proofs.Sealed.Slices.{end_to, span_within}
