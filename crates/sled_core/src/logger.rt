@@ -108,7 +108,8 @@ impl<D: Device, C: Checksum> Log<D, C> {
             IfOk result (λ log. BeginsBehind config.config.segment_size len (model_of snapshot.now) log) }
         ensures config { ConfigKept config (config_left result) }
         ensures later { IsLater (D.trace config.device) (D.trace (config_left result).device) }
-        ensures made { OnOk result (HasStarted config.config.segment_size (model_of snapshot.now) (D.trace config.device) (D.trace (config_left result).device)) }
+        ensures made { OnOk result (HasStarted config.config.segment_size (model_of snapshot.now) (D.trace config.device)
+            (D.trace (config_left result).device)) }
         ensures calls { StartCalls config.config.segment_size (model_of snapshot.now) (D.trace config.device) (D.trace (config_left result).device) }
         ensures answers { let size = config.config.segment_size in let s = model_of snapshot.now in
             let len = length (state_of (D.trace config.device)).log.bytes in let device = (config_left result).device in
