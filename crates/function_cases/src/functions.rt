@@ -1,7 +1,7 @@
 //! What a line of a file can't say: equality and conversion of errors, constants, functions over a format that answer
 //! no value of their own, and laws.
 
-use crate::{identifiers, orders, sessions};
+use crate::{batches, identifiers, orders, sessions};
 use case_lines::tally::Tally;
 use sled_codec::history::{Message, entries_of_page};
 use sled_codec::serialization::bytes::copy_in;
@@ -67,6 +67,12 @@ pub fn run(alloc: Global, tally: &mut Tally<'_>) {
     );
     holds(tally, 21, "orders of writes", known(orders::hold(alloc)));
     hold_identifiers(alloc, tally);
+    holds(
+        tally,
+        26,
+        "all of a batch or nothing",
+        known(batches::hold(alloc)),
+    );
 }
 
 // Identifiers of a generator over the log.

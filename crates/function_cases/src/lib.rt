@@ -4,6 +4,7 @@
 //! It is for tests alone. Its functions return on every input, and their contracts say no more than that.
 #![tactic(auto)]
 
+mod batches;
 pub mod functions;
 mod identifiers;
 mod orders;
