@@ -8,6 +8,7 @@ pub mod LongerStands
 pub mod Marks
 pub mod NextSegment
 pub mod OneWrite
+pub mod OpenBatch
 pub mod PutIn
 pub mod ReachedCut
 pub mod ReachedEntries

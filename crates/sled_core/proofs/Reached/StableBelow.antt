@@ -6,12 +6,8 @@ use Rattle.std.proofs.lemmas.Bool.{cases_lt}
 use Rattle.std.proofs.lemmas.Bool.Decides.{nat_tests}
 use Rattle.sled_codec.specs.History.{Batch, History}
 use Rattle.sled_store.proofs.Segments.Elements.{in_cases, in_first, in_nothing, in_rest}
-use Rattle.sled_core.specs.OpenBatches.{stable_below}
+use Rattle.sled_core.specs.OpenBatches.{IsOpenAt, stable_below}
 use Rattle.sled_core.specs.Recoverable.{IsPlacedBatch}
-
--- A batch that is open at a place.
-abbrev pub IsOpenAt : ℕ → Batch → Type 0
-IsOpenAt reach b = (b.low < reach) × (reach ≤ b.peg)
 
 -- The stable place lies there, or a batch begins there that is open.
 pub stable_is : (reach : ℕ) (bs : List Batch) → (stable_below reach bs ≡ reach) ⊎ ((b : Batch) × Contains bs b × (stable_below reach bs ≡ b.low) × IsOpenAt reach b)
