@@ -9,8 +9,8 @@ stable_below reach [] = reach
 stable_below reach (b ∷ bs) = if nat_lt b.low reach then (if nat_lt b.peg reach then stable_below reach bs else min b.low (stable_below reach bs)) else stable_below reach bs
 
 -- A batch that is open at a place.
-abbrev pub IsOpenAt : ℕ → Batch → Type 0
-IsOpenAt reach b = (b.low < reach) × (reach ≤ b.peg)
+abbrev pub IsOpenBatch : ℕ → Batch → Type 0
+IsOpenBatch reach b = (b.low < reach) × (reach ≤ b.peg)
 
 -- Where a batch isn't wholly read, it has no place in common with another one.
 pub record AreApart (reach : ℕ) (bs : List Batch) : Type 0 where
@@ -18,8 +18,8 @@ pub record AreApart (reach : ℕ) (bs : List Batch) : Type 0 where
 
 -- Of the batches that begin from one place on, this one is open at another; or none is.
 pub record HasOpen (from reach : ℕ) (kept : Option Batch) (bs : List Batch) : Type 0 where
-  pub known : (b : Batch) → Contains bs b → from ≤ b.low → IsOpenAt reach b → kept ≡ Some b
-  pub is : (b : Batch) → kept ≡ Some b → Contains bs b × (from ≤ b.low) × IsOpenAt reach b
+  pub known : (b : Batch) → Contains bs b → from ≤ b.low → IsOpenBatch reach b → kept ≡ Some b
+  pub is : (b : Batch) → kept ≡ Some b → Contains bs b × (from ≤ b.low) × IsOpenBatch reach b
 
 -- the stable place, where this batch is open at what is read
 abbrev pub low_of : ℕ → Option Batch → ℕ

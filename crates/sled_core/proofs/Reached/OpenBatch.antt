@@ -1,5 +1,5 @@
 -- The batch that is kept is the one that is open: where more is read, where reading goes on behind another place, and where a batch is noted. The stable place is where it begins.
-use Rattle.std.proofs.Common.{⊎_elim, ◌≡◌, ◌⊎◌, ◌∙◌, ◌<◌, ◌≤◌, ◌+◌, ℕ, Bool, true, false, List, [], ◌∷◌, ◌++◌, Option, None, Some, refl, sym, ap, subst, arith, inl, inr}
+use Rattle.std.proofs.Common.{◌≡◌, ◌⊎◌, ◌∙◌, ◌<◌, ◌≤◌, ◌+◌, ℕ, Bool, true, false, List, [], ◌∷◌, ◌++◌, Option, None, Some, refl, sym, ap, subst, arith, inl, inr}
 use Rattle.std.specs.Prelude.{nat_le, if◌then◌else◌}
 use Rattle.std.specs.List.{Contains}
 use Rattle.std.proofs.lemmas.Bool.{cases_lt}
@@ -9,7 +9,7 @@ use Rattle.sled_codec.specs.History.{AddsBatch, Batch, History}
 use Rattle.sled_store.proofs.Segments.Elements.{in_cases, in_first, in_nothing, in_rest}
 use Rattle.sled_core.specs.declared.iobuf.SegmentPosition.{SegmentPosition}
 use Rattle.sled_core.specs.Fits.{HasBatches}
-use Rattle.sled_core.specs.OpenBatches.{AreApart, HasOpen, IsOpenAt, first_or_other, goes_on, last_open, low_of, stable_below}
+use Rattle.sled_core.specs.OpenBatches.{AreApart, HasOpen, IsOpenBatch, first_or_other, goes_on, last_open, low_of, stable_below}
 use Rattle.sled_core.proofs.Holds.AddedBatch.{batch_stays, was_or_batch}
 use Rattle.sled_core.proofs.Reached.StableBelow.{stable_is, stable_open}
 
@@ -55,21 +55,21 @@ last_some reach kept (c ∷ cs) b among = by (last_some reach (Some c) cs c (inl
 module _ (bs : List Batch) (from low high : ℕ) (up : low ≤ high) (starts : from ≤ low) (parts : AreApart low bs) (kept : Option Batch) (has : HasOpen from low kept bs) (new : List Batch)
     (own : (b : Batch) → Contains new b → Contains bs b × (low ≤ b.low) × (b.low < high)) (all : (b : Batch) → Contains bs b → low ≤ b.low → b.low < high → Contains new b) where
   -- each one that is open is among those that are looked through
-  among : (b : Batch) → Contains bs b → from ≤ b.low → IsOpenAt high b → (goes_on high kept ≡ Some b) ⊎ (Contains new b × (high ≤ b.peg))
+  among : (b : Batch) → Contains bs b → from ≤ b.low → IsOpenBatch high b → (goes_on high kept ≡ Some b) ⊎ (Contains new b × (high ≤ b.peg))
   among b there begins is_open = elim (cases_lt b.low low) [
     | inl before ↦ inl (goes_on_there high kept b (has.known b there begins (let later = is_open.1 in (before, omega (arith, later, up)))) is_open.1)
     | inr behind ↦ inr (all b there behind is_open.0, is_open.1)
   ]
 
   -- what is found is open
-  found : (b : Batch) → last_open high (goes_on high kept) new ≡ Some b → Contains bs b × (from ≤ b.low) × IsOpenAt high b
+  found : (b : Batch) → last_open high (goes_on high kept) new ≡ Some b → Contains bs b × (from ≤ b.low) × IsOpenBatch high b
   found b is = elim (last_is high (goes_on high kept) new b is) [
     | inl was ↦ (let (same, later) = goes_on_is high kept b was in let (there, begins, (before, after)) = has.is b same in (there, begins, (omega (arith, before, up), later)))
     | inr (new_one, later) ↦ (let (there, behind, before) = own b new_one in (there, omega (arith, starts, behind), (before, later)))
   ]
 
   -- two that are open are one
-  same_open : (b c : Batch) → Contains bs b → Contains bs c → IsOpenAt high b → IsOpenAt high c → b ≡ c
+  same_open : (b c : Batch) → Contains bs b → Contains bs c → IsOpenBatch high b → IsOpenBatch high c → b ≡ c
   same_open b c one other (b_low, b_peg) (c_low, c_peg) = elim (parts.apart b c one other (omega (arith, up, c_peg))) [
     | inl same ↦ same
     | inr (inl before) ↦ absurd (omega (arith, before, b_peg, c_low))
@@ -91,24 +91,24 @@ pub open_written : (size : ℕ) (site : SegmentPosition) (from stop : ℕ) (kept
     → HasOpen site.place (site.place + from) kept bs → HasOpen site.place (site.place + stop) (last_open (site.place + stop) (goes_on (site.place + stop) kept) done) bs
 open_written size site from stop kept done others bs up within parts has these behind is =
     open_further bs site.place (site.place + from) (site.place + stop) (omega (arith, up)) (omega arith) parts kept is done
-        (λ b there. (has.noted b (Contains-append_left done others b there), (these b there).0, (these b there).1))
-        (λ b there above below. elim (has.begun b there) [
-          | inl own ↦ elim (Contains-append_cases done others b own) [ inl now ↦ now | inr later ↦ absurd (let past = behind b later in omega (arith, past, below)) ]
-          | inr (inl before) ↦ absurd (omega (arith, before, above))
-          | inr (inr after) ↦ absurd (omega (arith, after, below, within))
-        ])
+    (λ b there. (has.noted b (Contains-append_left done others b there), (these b there).0, (these b there).1))
+    (λ b there above below. elim (has.begun b there) [
+      | inl own ↦ elim (Contains-append_cases done others b own) [ inl now ↦ now | inr later ↦ absurd (let past = behind b later in omega (arith, past, below)) ]
+      | inr (inl before) ↦ absurd (omega (arith, before, above))
+      | inr (inr after) ↦ absurd (omega (arith, after, below, within))
+    ])
 
 -- Where reading goes on behind a place, the batch that was open there is open still, or else that one which is open of those that begin behind it.
 module _ (bs : List Batch) (mid high : ℕ) (up : mid ≤ high) (parts : AreApart mid bs) (before after : Option Batch) (was : HasOpen 0 mid before bs) (now : HasOpen mid high after bs) where
-  carried_is : (o : Option Batch) → goes_on high before ≡ o → (b : Batch) → first_or_other o after ≡ Some b → Contains bs b × (0 ≤ b.low) × IsOpenAt high b
+  carried_is : (o : Option Batch) → goes_on high before ≡ o → (b : Batch) → first_or_other o after ≡ Some b → Contains bs b × (0 ≤ b.low) × IsOpenBatch high b
   carried_is (Some c) goes b is =
       let same : c ≡ b = cc in
       let (kept, later) = goes_on_is high before c goes in
       let (there, begins, (low, peg)) = was.is c kept in
-      subst (λ (x : Batch). Contains bs x × (0 ≤ x.low) × IsOpenAt high x) same (there, begins, (omega (arith, low, up), later))
+      subst (λ (x : Batch). Contains bs x × (0 ≤ x.low) × IsOpenBatch high x) same (there, begins, (omega (arith, low, up), later))
   carried_is None goes b is = (let (there, begins, is_open) = now.is b is in (there, omega arith, is_open))
 
-  carried_known : (o : Option Batch) → goes_on high before ≡ o → (b : Batch) → Contains bs b → IsOpenAt high b → first_or_other o after ≡ Some b
+  carried_known : (o : Option Batch) → goes_on high before ≡ o → (b : Batch) → Contains bs b → IsOpenBatch high b → first_or_other o after ≡ Some b
   carried_known o goes b there (low, peg) = elim (cases_lt b.low mid) [
     | inl under ↦ (let on = goes_on_there high before b (was.known b there (omega arith) (under, omega (arith, peg, up))) peg in ap (λ (x : Option Batch). first_or_other x after) (sym goes ∙ on))
     | inr behind ↦ other behind o goes (now.known b there behind (low, peg))
@@ -141,13 +141,15 @@ module _ (H H' : History) (b : Batch) (adds : AddsBatch H b H') (from reach : �
 
   -- It is apart from the others that aren't wholly read, and so from all.
   pub apart_noted : ((c : Batch) → Contains H.batches c → reach ≤ c.peg → (c.peg < b.low) ⊎ (b.peg < c.low)) → AreApart reach H.batches → AreApart reach H'.batches
-  apart_noted others parts = record { apart = λ c d one other later. elim (was_or_batch H H' b adds c one) [
-    | inl was ↦ elim (was_or_batch H H' b adds d other) [ inl among ↦ parts.apart c d was among later | inr same ↦ subst (λ (x : Batch). (c ≡ x) ⊎ (c.peg < x.low) ⊎ (x.peg < c.low)) same (inr (apart_from c was)) ]
-    | inr own ↦ elim (was_or_batch H H' b adds d other) [
-      | inl among ↦ subst (λ (x : Batch). (x ≡ d) ⊎ (x.peg < d.low) ⊎ (d.peg < x.low)) own (inr (elim (others d among later) [ inl before ↦ inr before | inr after ↦ inl after ]))
-      | inr same ↦ inl (sym own ∙ same)
-    ]
-  ] } where
+  apart_noted others parts = record {
+    apart = λ c d one other later. elim (was_or_batch H H' b adds c one) [
+      | inl was ↦ elim (was_or_batch H H' b adds d other) [ inl among ↦ parts.apart c d was among later | inr same ↦ subst (λ (x : Batch). (c ≡ x) ⊎ (c.peg < x.low) ⊎ (x.peg < c.low)) same (inr (apart_from c was)) ]
+      | inr own ↦ elim (was_or_batch H H' b adds d other) [
+        | inl among ↦ subst (λ (x : Batch). (x ≡ d) ⊎ (x.peg < d.low) ⊎ (d.peg < x.low)) own (inr (elim (others d among later) [ inl before ↦ inr before | inr after ↦ inl after ]))
+        | inr same ↦ inl (sym own ∙ same)
+      ]
+    ];
+  } where
     apart_from : (c : Batch) → Contains H.batches c → (c.peg < b.low) ⊎ (b.peg < c.low)
     apart_from c was = elim (cases_lt c.peg reach) [ inl ended ↦ inl (omega (arith, ended, behind)) | inr later ↦ others c was later ]
 

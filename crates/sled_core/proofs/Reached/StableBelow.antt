@@ -6,19 +6,19 @@ use Rattle.std.proofs.lemmas.Bool.{cases_lt}
 use Rattle.std.proofs.lemmas.Bool.Decides.{nat_tests}
 use Rattle.sled_codec.specs.History.{Batch, History}
 use Rattle.sled_store.proofs.Segments.Elements.{in_cases, in_first, in_nothing, in_rest}
-use Rattle.sled_core.specs.OpenBatches.{IsOpenAt, stable_below}
+use Rattle.sled_core.specs.OpenBatches.{IsOpenBatch, stable_below}
 use Rattle.sled_core.specs.Recoverable.{IsPlacedBatch}
 
 -- The stable place lies there, or a batch begins there that is open.
-pub stable_is : (reach : ℕ) (bs : List Batch) → (stable_below reach bs ≡ reach) ⊎ ((b : Batch) × Contains bs b × (stable_below reach bs ≡ b.low) × IsOpenAt reach b)
+pub stable_is : (reach : ℕ) (bs : List Batch) → (stable_below reach bs ≡ reach) ⊎ ((b : Batch) × Contains bs b × (stable_below reach bs ≡ b.low) × IsOpenBatch reach b)
 stable_is reach [] = inl refl
 stable_is reach (b ∷ bs) = by (stable_is reach bs) (nat_lt b.low reach) (nat_lt b.peg reach) refl refl where
-  further : ((stable_below reach bs ≡ reach) ⊎ ((c : Batch) × Contains bs c × (stable_below reach bs ≡ c.low) × IsOpenAt reach c)) → (n : ℕ) → n ≡ stable_below reach bs → (n ≡ reach) ⊎ ((c : Batch) × Contains (b ∷ bs) c × (n ≡ c.low) × IsOpenAt reach c)
+  further : ((stable_below reach bs ≡ reach) ⊎ ((c : Batch) × Contains bs c × (stable_below reach bs ≡ c.low) × IsOpenBatch reach c)) → (n : ℕ) → n ≡ stable_below reach bs → (n ≡ reach) ⊎ ((c : Batch) × Contains (b ∷ bs) c × (n ≡ c.low) × IsOpenBatch reach c)
   further rest n same = elim rest [ inl all ↦ inl (same ∙ all) | inr (c, there, at, is_open) ↦ inr (c, in_rest b c bs there, same ∙ at, is_open) ]
 
-  by : ((stable_below reach bs ≡ reach) ⊎ ((c : Batch) × Contains bs c × (stable_below reach bs ≡ c.low) × IsOpenAt reach c)) → (low peg : Bool) → nat_lt b.low reach ≡ low → nat_lt b.peg reach ≡ peg
+  by : ((stable_below reach bs ≡ reach) ⊎ ((c : Batch) × Contains bs c × (stable_below reach bs ≡ c.low) × IsOpenBatch reach c)) → (low peg : Bool) → nat_lt b.low reach ≡ low → nat_lt b.peg reach ≡ peg
       → ((if low then (if peg then stable_below reach bs else min b.low (stable_below reach bs)) else stable_below reach bs) ≡ reach)
-      ⊎ ((c : Batch) × Contains (b ∷ bs) c × ((if low then (if peg then stable_below reach bs else min b.low (stable_below reach bs)) else stable_below reach bs) ≡ c.low) × IsOpenAt reach c)
+      ⊎ ((c : Batch) × Contains (b ∷ bs) c × ((if low then (if peg then stable_below reach bs else min b.low (stable_below reach bs)) else stable_below reach bs) ≡ c.low) × IsOpenBatch reach c)
   by rest false peg above ended = further rest (stable_below reach bs) refl
   by rest true true under ended = further rest (stable_below reach bs) refl
   by rest true false under ended = elim (cases_lt b.low (stable_below reach bs)) [
@@ -30,7 +30,7 @@ pub stable_low : (reach : ℕ) (bs : List Batch) → stable_below reach bs ≤ r
 stable_low reach bs = elim (stable_is reach bs) [ inl all ↦ omega (arith, all) | inr (b, there, at, is_open) ↦ (let low = is_open.0 in omega (arith, at, low)) ]
 
 -- it lies no higher than an open batch
-pub stable_open : (reach : ℕ) (bs : List Batch) (b : Batch) → Contains bs b → IsOpenAt reach b → stable_below reach bs ≤ b.low
+pub stable_open : (reach : ℕ) (bs : List Batch) (b : Batch) → Contains bs b → IsOpenBatch reach b → stable_below reach bs ≤ b.low
 stable_open reach [] b there is_open = absurd (in_nothing b there)
 stable_open reach (c ∷ cs) b there is_open = by (λ known. stable_open reach cs b known is_open) (nat_lt c.low reach) (nat_lt c.peg reach) refl refl where
   by : (Contains cs b → stable_below reach cs ≤ b.low) → (low peg : Bool) → nat_lt c.low reach ≡ low → nat_lt c.peg reach ≡ peg
