@@ -9,6 +9,7 @@ pub mod Marks
 pub mod NextSegment
 pub mod OneWrite
 pub mod OpenBatch
+pub mod OpenEnds
 pub mod PutIn
 pub mod ReachedCut
 pub mod ReachedEntries
