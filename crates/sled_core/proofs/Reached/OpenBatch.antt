@@ -1,14 +1,14 @@
--- The batch that is kept is the one that is open: where more is read, where reading goes on behind another place, and where a batch is noted. The stable place is where it begins.
+-- The batch that is kept is the one that is open: where none is, where more is read, where reading goes on behind another place, and where a batch is noted. The stable place is where it begins.
 use Rattle.std.proofs.Common.{◌≡◌, ◌⊎◌, ◌∙◌, ◌<◌, ◌≤◌, ◌+◌, ℕ, Bool, true, false, List, [], ◌∷◌, ◌++◌, Option, None, Some, refl, sym, ap, subst, arith, inl, inr}
 use Rattle.std.specs.Prelude.{nat_le, if◌then◌else◌}
 use Rattle.std.specs.List.{Contains}
 use Rattle.std.proofs.lemmas.Bool.{cases_lt}
 use Rattle.std.proofs.lemmas.Bool.Decides.{nat_tests}
-use Rattle.std.proofs.lemmas.List.Elements.{Contains-append_cases, Contains-append_left}
+use Rattle.std.proofs.lemmas.List.Elements.{All-contains, Contains-append_cases, Contains-append_left}
 use Rattle.sled_codec.specs.History.{AddsBatch, Batch, History}
 use Rattle.sled_store.proofs.Segments.Elements.{in_cases, in_first, in_nothing, in_rest}
 use Rattle.sled_core.specs.declared.iobuf.SegmentPosition.{SegmentPosition}
-use Rattle.sled_core.specs.Fits.{HasBatches}
+use Rattle.sled_core.specs.Fits.{CloseBelow, HasBatches}
 use Rattle.sled_core.specs.OpenBatches.{AreApart, HasOpen, IsOpenBatch, first_or_other, goes_on, last_open, low_of, stable_below}
 use Rattle.sled_core.proofs.Holds.AddedBatch.{batch_stays, was_or_batch}
 use Rattle.sled_core.proofs.Reached.StableBelow.{stable_is, stable_open}
@@ -50,6 +50,21 @@ last_some reach kept (c ∷ cs) b among = by (last_some reach (Some c) cs c (inl
     | inl was ↦ inl was
     | inr (there, later) ↦ elim (in_cases c b cs there) [ inl same ↦ absurd (let pegs = ap (λ (x : Batch). x.peg) same in let ended : c.peg < reach = grind (arith, nat_tests, tells) in omega (arith, ended, pegs, later)) | inr among_rest ↦ inr (among_rest, later) ]
   ])
+
+-- Where all batches end below what is read, none is open, and each is apart from those that aren't wholly read.
+pub none_open : (from reach : ℕ) (bs : List Batch) → CloseBelow reach bs → HasOpen from reach None bs
+none_open from reach bs closed = record {
+  known = λ b there begins is_open. absurd (let ended = (All-contains (λ (x : Batch). (x.low < reach) × (x.peg < reach)) bs b closed there).1 in let peg = is_open.1 in omega (arith, ended, peg));
+  is = λ b is. absurd (cc);
+}
+
+pub closed_apart : (reach : ℕ) (bs : List Batch) → CloseBelow reach bs → AreApart reach bs
+closed_apart reach bs closed = record { apart = λ b c one other later. absurd (let ended = (All-contains (λ (x : Batch). (x.low < reach) × (x.peg < reach)) bs c closed other).1 in omega (arith, ended, later)) }
+
+-- Where no more is read, the same one goes on.
+pub open_same : (from reach : ℕ) (kept : Option Batch) (bs : List Batch) → HasOpen from reach kept bs → goes_on reach kept ≡ kept
+open_same from reach None bs has = refl
+open_same from reach (Some b) bs has = goes_on_there reach (Some b) b refl (let (there, begins, (low, peg)) = has.is b refl in peg)
 
 -- Where more is read, and these are the batches that begin in it, the last one of them that goes on is open, or else the one that was.
 module _ (bs : List Batch) (from low high : ℕ) (up : low ≤ high) (starts : from ≤ low) (parts : AreApart low bs) (kept : Option Batch) (has : HasOpen from low kept bs) (new : List Batch)
