@@ -15,6 +15,7 @@ pub mod LastEnds
 pub mod MarkedLemmas
 pub mod MarkedSegments
 pub mod OpenTickets
+pub mod MessagesBeside
 pub mod PegLemmas
 pub mod PlacedBatches
 pub mod PlacesBeside
