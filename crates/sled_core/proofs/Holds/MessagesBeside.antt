@@ -53,7 +53,7 @@ module _ (sum : List ℕ → ℕ) (size : ℕ) (site : SegmentPosition) (device 
         (completed_between site bytes (max 20 from) r.from front chains.0 (some_long sum size (site.place / size) bytes front stand.0)) before).2
     | inr later ↦ absurd (
         let past = (All-contains (λ (x : Message). (site.place + (r.from + r.len) ≤ x.place) × (x.place < site.place + length bytes) × (x.place + x.size ≤ site.place + length bytes)) (completed_in site bytes behind) m
-          (completed_between site bytes (r.from + r.len) (length bytes) behind chains.1 (some_long sum size (site.place / size) bytes behind stand.2)) later).0
+        (completed_between site bytes (r.from + r.len) (length bytes) behind chains.1 (some_long sum size (site.place / size) bytes behind stand.2)) later).0
         in omega (arith, past, low))
   ]
 

@@ -55,5 +55,5 @@ module _ (H : History) (end : ℕ) (kept : Option Batch) (has : HasOpen 0 end ke
     acknowledged_stable =
         let stable = stable_kept reach kept H.batches has_reach in
         acknowledged_least (low_of end kept) (stable_below reach H.batches) H
-            (λ m there low. let up_to = message_below kept refl m there low in omega (arith, up_to, stable))
-            (λ b there low. let begins = begins_below kept refl b there low in let ended = batch_below kept refl b there low in (omega (arith, begins, stable), omega (arith, ended, stable)))
+        (λ m there low. let up_to = message_below kept refl m there low in omega (arith, up_to, stable))
+        (λ b there low. let begins = begins_below kept refl b there low in let ended = batch_below kept refl b there low in (omega (arith, begins, stable), omega (arith, ended, stable)))
