@@ -1,5 +1,5 @@
 -- Up to which place a reader doesn't stop at a batch that isn't whole, of what is read without a gap.
-use Rattle.std.specs.Prelude.{◌≡◌, ◌≤◌, ◌<◌, ◌⊎◌, nat_le, nat_lt, min, if◌then◌else◌, ℕ, List, [], ◌∷◌, Option, None, Some}
+use Rattle.std.specs.Prelude.{◌≡◌, ◌≤◌, ◌<◌, ◌⊎◌, nat_lt, min, if◌then◌else◌, ℕ, List, [], ◌∷◌, Option, None, Some}
 use Rattle.std.specs.List.{Contains}
 use Rattle.sled_codec.specs.History.{Batch}
 
@@ -25,20 +25,3 @@ pub record HasOpen (from reach : ℕ) (kept : Option Batch) (bs : List Batch) : 
 abbrev pub low_of : ℕ → Option Batch → ℕ
 low_of reach None = reach
 low_of reach (Some b) = b.low
-
--- How that one is found.
-
--- a batch, where it goes on at a place or behind it
-abbrev pub goes_on : ℕ → Option Batch → Option Batch
-goes_on reach None = None
-goes_on reach (Some b) = if nat_le reach b.peg then Some b else None
-
--- the last one of these that does, or else that one
-abbrev pub last_open : ℕ → Option Batch → List Batch → Option Batch
-last_open reach kept [] = kept
-last_open reach kept (b ∷ bs) = last_open reach (if nat_le reach b.peg then Some b else kept) bs
-
--- the first, where there is one, or else the second
-abbrev pub first_or_other : Option Batch → Option Batch → Option Batch
-first_or_other None other = other
-first_or_other (Some b) other = Some b

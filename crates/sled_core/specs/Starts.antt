@@ -51,8 +51,8 @@ pub record BeginsBehind {D C : Type 0} (size len : ℕ) (s : SnapshotModel) (log
   pub sized : segment_size_of log ≡ size
 
 -- All calls of a start were made: the free slots of the file were filled and synced, and cut off its end but for one.
-abbrev pub HasStarted : ℕ → SnapshotModel → Trace → Trace → Type 0
-HasStarted size s old new = new ≡ after_all (started size (length (state_of old).log.bytes) s).calls old
+abbrev pub HasMadeStart : ℕ → SnapshotModel → Trace → Trace → Type 0
+HasMadeStart size s old new = new ≡ after_all (started size (length (state_of old).log.bytes) s).calls old
 
 -- The calls of a start: all of them, or up to one that failed.
 abbrev pub StartCalls : ℕ → SnapshotModel → Trace → Trace → Type 0

@@ -81,7 +81,7 @@ impl<D: Device, C: Checksum> Log<D, C> {
     ghost use Rattle.sled_core.specs.ReadBuffer.{IsUsedUpAt, ReadAnswers, RefusesPlace, SealsAround, Settles, WritesAround, held_at};
     ghost use Rattle.sled_core.specs.Ready.{IsReady};
     ghost use Rattle.sled_core.specs.Running.{Fits, Ready, end_below};
-    ghost use Rattle.sled_core.specs.Starts.{BeginsBehind, HasStarted, StartCalls, StartsOrRefuses, config_left};
+    ghost use Rattle.sled_core.specs.Starts.{BeginsBehind, HasMadeStart, StartCalls, StartsOrRefuses, config_left};
 
     /// Begins a log on what a recovery left: it goes on at the snapshot's stable place. First it fills the
     /// slots of the file that the snapshot does not use with zeros, in ascending order, and syncs the file
@@ -108,7 +108,7 @@ impl<D: Device, C: Checksum> Log<D, C> {
             IfOk result (λ log. BeginsBehind config.config.segment_size len (model_of snapshot.now) log) }
         ensures config { ConfigKept config (config_left result) }
         ensures later { IsLater (D.trace config.device) (D.trace (config_left result).device) }
-        ensures made { OnOk result (HasStarted config.config.segment_size (model_of snapshot.now) (D.trace config.device)
+        ensures made { OnOk result (HasMadeStart config.config.segment_size (model_of snapshot.now) (D.trace config.device)
             (D.trace (config_left result).device)) }
         ensures calls { StartCalls config.config.segment_size (model_of snapshot.now) (D.trace config.device) (D.trace (config_left result).device) }
         ensures answers { let size = config.config.segment_size in let s = model_of snapshot.now in

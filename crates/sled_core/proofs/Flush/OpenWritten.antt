@@ -11,9 +11,9 @@ use Rattle.sled_core.specs.declared.iobuf.Sealed.{Sealed}
 use Rattle.sled_core.specs.declared.iobuf.SegmentPosition.{SegmentPosition}
 use Rattle.sled_core.specs.Buffers.{IsChain, Stands, batches_in}
 use Rattle.sled_core.specs.Fits.{HasBatches, HoldsSegment, log_parts}
-use Rattle.sled_core.specs.OpenBatches.{AreApart, HasOpen, goes_on, last_open}
+use Rattle.sled_core.specs.OpenBatches.{AreApart, HasOpen}
 use Rattle.sled_core.proofs.Holds.BatchLemmas.{same_batched}
-use Rattle.sled_core.proofs.Reached.OpenBatch.{open_written}
+use Rattle.sled_core.proofs.Reached.OpenBatch.{goes_on, last_open, open_written}
 use Rattle.sled_core.proofs.Reserve.Batches.{batches-append, batches_between}
 use Rattle.sled_core.proofs.Reserve.Entries.{some_long}
 use Rattle.sled_core.proofs.Reserve.Ranges.{chain_grows}

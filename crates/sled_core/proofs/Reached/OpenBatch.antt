@@ -9,9 +9,26 @@ use Rattle.sled_codec.specs.History.{AddsBatch, Batch, History}
 use Rattle.sled_store.proofs.Segments.Elements.{in_cases, in_first, in_nothing, in_rest}
 use Rattle.sled_core.specs.declared.iobuf.SegmentPosition.{SegmentPosition}
 use Rattle.sled_core.specs.Fits.{CloseBelow, HasBatches}
-use Rattle.sled_core.specs.OpenBatches.{AreApart, HasOpen, IsOpenBatch, first_or_other, goes_on, last_open, low_of, stable_below}
+use Rattle.sled_core.specs.OpenBatches.{AreApart, HasOpen, IsOpenBatch, low_of, stable_below}
 use Rattle.sled_core.proofs.Holds.AddedBatch.{batch_stays, was_or_batch}
 use Rattle.sled_core.proofs.Reached.StableBelow.{stable_is, stable_open}
+
+-- How that one is found.
+
+-- a batch, where it goes on at a place or behind it
+abbrev pub goes_on : ℕ → Option Batch → Option Batch
+goes_on reach None = None
+goes_on reach (Some b) = if nat_le reach b.peg then Some b else None
+
+-- the last one of these that does, or else that one
+abbrev pub last_open : ℕ → Option Batch → List Batch → Option Batch
+last_open reach kept [] = kept
+last_open reach kept (b ∷ bs) = last_open reach (if nat_le reach b.peg then Some b else kept) bs
+
+-- the first, where there is one, or else the second
+abbrev pub first_or_other : Option Batch → Option Batch → Option Batch
+first_or_other None other = other
+first_or_other (Some b) other = Some b
 
 -- The stable place.
 pub stable_kept : (reach : ℕ) (kept : Option Batch) (bs : List Batch) → HasOpen 0 reach kept bs → stable_below reach bs ≡ low_of reach kept

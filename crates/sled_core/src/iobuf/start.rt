@@ -8,7 +8,7 @@ ghost use Rattle.sled_store.specs.Begin.{IsStartable, IsInReach, place_at, offse
 ghost use Rattle.sled_store.specs.Started.{FoundOrRefuses};
 ghost use Rattle.sled_core.specs.FirstBuffer.{IsFirstBuffer, RefusesBuffer};
 ghost use Rattle.sled_core.specs.FreeSlots.{begun_machine, with_current};
-ghost use Rattle.sled_core.specs.Starts.{HasStarted, StartCalls};
+ghost use Rattle.sled_core.specs.Starts.{HasMadeStart, StartCalls};
 
 use crate::iobuf::IoBuf;
 use sled_codec::result::{Error, Lsn, Result};
@@ -37,7 +37,7 @@ pub(crate) fn begin<D: Device, C: Checksum>(
     ensures machine { IfOk result (λ b. machine_of b.2 ≡ begun_machine config.old.config.segment_size
         (length (state_of (D.trace config.old.device)).log.bytes) (model_of snapshot.now)) }
     ensures account { IfOk result (λ b. IsAccountant config.old.config.segment_size b.2) }
-    ensures made { OnOk result (HasStarted config.old.config.segment_size (model_of snapshot.now) (D.trace config.old.device) (D.trace config.new.device)) }
+    ensures made { OnOk result (HasMadeStart config.old.config.segment_size (model_of snapshot.now) (D.trace config.old.device) (D.trace config.new.device)) }
     ensures calls { StartCalls config.old.config.segment_size (model_of snapshot.now) (D.trace config.old.device) (D.trace config.new.device) }
     ensures answers { let size = config.old.config.segment_size in let len = length (state_of (D.trace config.old.device)).log.bytes in
         FoundOrRefuses result (IsStartable size len (model_of snapshot.now)) (IsInReach size len (model_of snapshot.now))
