@@ -1,7 +1,7 @@
 //! Batches whose buffers are written in every order, each of them stopped in its write and torn at each of its bytes: a
 //! recovery finds all of a batch, or nothing of it.
 //!
-//! The log ends no batch yet, so the files are laid out here. What a device has behind some writes depends on which they
+//! The files are laid out here, so that each of their parts is known. What a device has behind some writes depends on which they
 //! were, and not on their order. So each set of buffers is tried once, as the ones that are written, with each other buffer
 //! torn behind them; that is every order, stopped behind each write. What isn't written is zeros, as in a file that was
 //! filled.

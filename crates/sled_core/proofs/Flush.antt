@@ -3,7 +3,6 @@ pub mod FirstWritten
 pub mod FlushLemmas
 pub mod LogFileKept
 pub mod LogFileLemmas
-pub mod OpenWritten
 pub mod Padded
 pub mod SameFits
 pub mod SealedFile

@@ -1,4 +1,5 @@
 pub mod Added
+pub mod FitsBatches
 pub mod AddedBatch
 pub mod BatchLemmas
 pub mod BegunLemmas

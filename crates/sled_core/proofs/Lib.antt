@@ -2,6 +2,7 @@ pub mod Behind
 pub mod Crash
 pub mod Flush
 pub mod Holds
+pub mod Iterates
 pub mod Line
 pub mod PublicLaws
 pub mod Reached

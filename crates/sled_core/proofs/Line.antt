@@ -1,5 +1,6 @@
 pub mod Advanced
 pub mod Around
+pub mod BatchNoted
 pub mod Begins
 pub mod Below
 pub mod Buffers
@@ -10,11 +11,13 @@ pub mod EndedKeeps
 pub mod EndedLine
 pub mod EndedTickets
 pub mod Ends
+pub mod EndsBatch
 pub mod Entered
 pub mod Facts
 pub mod Faulty
 pub mod Filling
 pub mod Last
+pub mod LineEnds
 pub mod LogReserves
 pub mod LogSpans
 pub mod LogWrites
@@ -26,6 +29,7 @@ pub mod NoneLeft
 pub mod Noted
 pub mod Nth
 pub mod OpenBetween
+pub mod OpenManifests
 pub mod OpenPlaces
 pub mod OpenSeen
 pub mod Outcomes

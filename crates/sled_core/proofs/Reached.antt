@@ -8,6 +8,7 @@ pub mod LongerStands
 pub mod Marks
 pub mod NextSegment
 pub mod OneWrite
+pub mod NotedSteps
 pub mod OpenBatch
 pub mod OpenEnds
 pub mod PutIn

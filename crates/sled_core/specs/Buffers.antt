@@ -99,9 +99,9 @@ Stands sum size number bytes r = StandsBy r.state sum size number bytes r
 abbrev pub NoPadding : Reserved → Type 0
 NoPadding r = r.state ≢ Padding
 
--- An entry has a byte at least, and while it is open a header with a sum and a kind.
+-- An entry has a byte at least, and while it is open a header with a sum and a kind; and the body of a manifest has 8 bytes.
 abbrev pub IsHeaded : Reserved → Type 0
-IsHeaded r = (0 < r.len) × (r.state ≡ Open → (5 ≤ r.header_len) × (r.header_len ≤ r.len))
+IsHeaded r = (0 < r.len) × (r.state ≡ Open → (5 ≤ r.header_len) × (r.header_len ≤ r.len)) × (is_manifest r.log_kind r.page ≡ true → r.len ≡ r.header_len + 8)
 
 -- the reservation that is made at an offset for a message, with this sum
 abbrev pub reserved_for : Purpose → ℕ → ℕ → ℕ → ℕ → Reserved

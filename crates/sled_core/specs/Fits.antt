@@ -22,6 +22,7 @@ use Rattle.sled_core.specs.Begun.{SegmentParts, SegmentView, begin_of, line_at, 
 use Rattle.sled_core.specs.Buffers.{Stands, IsChain, batches_in, completed_in, message_in, none_open, open_in, first_open_in, records_end}
 use Rattle.sled_core.specs.FreeSlots.{HasSlots}
 use Rattle.sled_core.specs.LogFile.{IsLogFile, StaysBelow, StaysFrom}
+use Rattle.sled_core.specs.OpenBatches.{AreApart, batch_of, not_whole, stable_below}
 use Rattle.sled_core.specs.OpenPlaces.{open_places_along}
 use Rattle.sled_core.specs.Positions.{Position, behind_record, is_short, placed_at, pointer_at, position_in, size_at}
 use Rattle.sled_core.specs.Reached.{BegunSegment, FollowApart}
@@ -71,9 +72,17 @@ position_of log = position_in log.config.config.segment_size (current_of log) (m
 abbrev pub next_place : {D C : Type 0} → Log D C → ℕ
 next_place log = (position_of log).place
 
--- the place behind the stable end
+-- the place behind all that is on the device without a gap
 abbrev pub synced_end : {D C : Type 0} → Log D C → ℕ
 synced_end log = log.site.place + log.buffer.written_len
+
+-- the batches that were noted and aren't wholly on the device
+abbrev pub noted_in : {D C : Type 0} → Log D C → List Batch
+noted_in log = not_whole (synced_end log) (map batch_of log.noted.items)
+
+-- the place behind the stable end: behind all that is on the device without a gap, or where the lowest batch begins that goes on behind that
+abbrev pub stable_end : {D C : Type 0} → Log D C → ℕ
+stable_end log = stable_below (synced_end log) (noted_in log)
 
 -- the place behind the greatest record that was reserved; before the first reservation that is the place behind the stable end with which the log began
 abbrev pub reserved_end : {D C : Type 0} → Log D C → ℕ
@@ -323,15 +332,28 @@ abbrev pub written_to : List SegmentView → ℕ
 written_to [] = 0
 written_to (v ∷ vs) = v.parts.site.place + v.parts.written_len
 
--- So do those of a log whose slots are these: theirs are taken, and the free ones have zeros. No batch goes on behind what is written.
-pub record HoldsWith (sum : List ℕ → ℕ) (size : ℕ) (device : State) (fault : Option IoError) (line : List SegmentView) (m : Machine) (H : History) : Type 0 where
+-- where the last one ends of segments of this size
+abbrev pub line_end : ℕ → List SegmentView → ℕ
+line_end size [] = 0
+line_end size (v ∷ vs) = v.parts.site.place + length (v ∷ vs) * size
+
+-- The batches of a history of which all up to one place is written, and which has places below another one. Those that aren't wholly written are noted. Each of these has no place in common with another one, and no message that begins in front of it ends in it.
+pub record FitsBatches (end last : ℕ) (noted : List Batch) (H : History) : Type 0 where
+  pub known : (b : Batch) → Contains noted b → Contains H.batches b
+  pub all : (b : Batch) → Contains H.batches b → end ≤ b.peg → Contains noted b
+  pub within : CloseBelow last H.batches
+  pub apart : AreApart end H.batches
+  pub before : (m : Message) → Contains H.messages m → (b : Batch) → Contains H.batches b → end ≤ b.peg → m.place < b.low → m.place + m.size ≤ b.low
+
+-- So do those of a log that has noted these batches and whose slots are these: theirs are taken, and the free ones have zeros.
+pub record HoldsWith (sum : List ℕ → ℕ) (noted : List Batch) (size : ℕ) (device : State) (fault : Option IoError) (line : List SegmentView) (m : Machine) (H : History) : Type 0 where
   pub holds : HoldsLine sum size device fault line H
-  pub closed : CloseBelow (written_to line) H.batches
+  pub batches : FitsBatches (written_to line) (line_end size line) noted H
   pub slots : HasSlots size line device.log.bytes fault m
 
 -- The log holds this history.
 unfoldable pub Holds : {D C : Type 0} → (D → Trace) → (List ℕ → ℕ) → Log D C → History → Type 0
-Holds trace sum log H = HoldsWith sum log.config.config.segment_size (state_of (trace log.config.device)) log.fault (line_of log) (machine_of log.accountant) H
+Holds trace sum log H = HoldsWith sum (noted_in log) log.config.config.segment_size (state_of (trace log.config.device)) log.fault (line_of log) (machine_of log.accountant) H
 
 -- A log has the record of a message: it is of a segment that isn't wholly on the device, or an entry of the table of all that was written, or of that and more.
 abbrev pub HasRecordOf : {D C : Type 0} → Log D C → History → Message → Type 0
@@ -406,6 +428,7 @@ pub record IsUnchanged {D C : Type 0} (old new : Log D C) : Type 0 where
   pub fault : new.fault ≡ old.fault
   pub pins : new.pins ≡ old.pins
   pub machine : machine_at new ≡ machine_at old
+  pub noted : noted_in new ≡ noted_in old
   pub config : new.config ≡ old.config
 
 -- what the log runs on
@@ -420,6 +443,7 @@ device_of log = log.config.device
 pub record KeepsAll {D C : Type 0} (old new : Log D C) : Type 0 where
   pub config : config_of new ≡ config_of old
   pub synced : synced_end new ≡ synced_end old
+  pub noted : noted_in new ≡ noted_in old
   pub fault : fault_of new ≡ fault_of old
   pub pins : pins_of new ≡ pins_of old
 

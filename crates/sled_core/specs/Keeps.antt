@@ -8,12 +8,13 @@ use Rattle.sled_store.specs.Device.{Trace}
 use Rattle.sled_store.specs.Moments.{IsLater, LeavesOnly}
 use Rattle.sled_core.specs.declared.logger.Log.{Log}
 use Rattle.sled_core.specs.declared.reservation.Reservation.{Reservation}
-use Rattle.sled_core.specs.Fits.{Awaits, Holds, NoneSealed, buffers_of, config_of, current_begin, current_of, device_of, fault_of, line_of, machine_at, pins_of, position_of, reserved_end, segment_size_of, start_of, synced_end, waiting_of}
+use Rattle.sled_core.specs.Fits.{Awaits, Holds, NoneSealed, buffers_of, config_of, current_begin, current_of, device_of, fault_of, line_of, machine_at, noted_in, pins_of, position_of, reserved_end, segment_size_of, start_of, synced_end, waiting_of}
 use Rattle.sled_store.specs.SegmentStates.{next_slot}
 use Rattle.sled_core.specs.Positions.{is_short}
 use Rattle.sled_core.specs.Tickets.{place_of}
 use Rattle.sled_core.specs.Waiting.{BufferAt, BufferStart, not_below}
 use Rattle.sled_core.specs.Recoverable.{RecoverableIfOwn}
+use Rattle.sled_core.specs.OpenBatches.{not_whole}
 use Rattle.sled_core.specs.Running.{Fits}
 
 -- It has the same sizes and the same checksum.
@@ -27,7 +28,7 @@ pub record OnlyReads {D C : Type 0} (trace : D → Trace) (old new : RunningConf
   pub checksum : new.checksum ≡ old.checksum
   pub unwritten : trace new.device ≡ trace old.device
 
--- The log goes on from what it was: its device's trace goes on from the old one, its stable end doesn't fall, and at each moment between them a crash leaves what can be recovered.
+-- The log goes on from what it was: its device's trace goes on from the old one, what is on its device without a gap doesn't get less, and at each moment between them a crash leaves what can be recovered.
 pub record GoesOn {D C : Type 0} (trace : D → Trace) (sum : List ℕ → ℕ) (old new : Log D C) : Type 0 where
   pub config : ConfigKept (config_of old) (config_of new)
   pub later : IsLater (trace (device_of old)) (trace (device_of new))
@@ -40,6 +41,8 @@ pub record Preserves {D C : Type 0} (trace : D → Trace) (sum : List ℕ → �
   pub goes_on : GoesOn trace sum old new
   pub history : (H : History) → Holds trace sum old H → Holds trace sum new H
   pub fits : (H : History) (A f : ℕ) (U : List Message) → Fits trace sum old H A f U → Fits trace sum new H A f U
+  -- no batch is noted, and those that were are kept until they are wholly on the device
+  pub noted : noted_in new ≡ not_whole (synced_end new) (noted_in old)
 
 -- Where a log holds a history, the tickets of other places than this one's await what they awaited.
 abbrev pub KeepsOthers : {D C : Type 0} → (D → Trace) → (List ℕ → ℕ) → Reservation → Log D C → Log D C → Type 0
@@ -65,6 +68,7 @@ pub record IsUnchangedOver {D C : Type 0} (old new : Log D C) : Type 0 where
   pub waiting : waiting_of new ≡ waiting_of old
   pub start : start_of new ≡ start_of old
   pub synced : synced_end new ≡ synced_end old
+  pub noted : noted_in new ≡ noted_in old
   pub reserved : reserved_end new ≡ reserved_end old
   pub fault : fault_of new ≡ fault_of old
   pub pins : pins_of new ≡ pins_of old

@@ -1,4 +1,6 @@
 pub mod AccountProps
+pub mod Ahead
+pub mod Batches
 pub mod Begun
 pub mod Buffers
 pub mod Canceled
@@ -9,6 +11,8 @@ pub mod Fits
 pub mod FreeSlots
 pub mod Full
 pub mod Good
+pub mod Iterates
+pub mod Iterators
 pub mod Keeps
 pub mod LogFile
 pub mod Manifests
@@ -21,6 +25,7 @@ pub mod ReadBuffer
 pub mod Reading
 pub mod Ready
 pub mod Recoverable
+pub mod Replayed
 pub mod Running
 pub mod Scan
 pub mod SealedBuffers

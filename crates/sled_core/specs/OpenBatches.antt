@@ -1,7 +1,8 @@
--- Up to which place a reader doesn't stop at a batch that isn't whole, of what is read without a gap.
-use Rattle.std.specs.Prelude.{◌≡◌, ◌≤◌, ◌<◌, ◌⊎◌, nat_lt, min, if◌then◌else◌, ℕ, List, [], ◌∷◌, Option, None, Some}
+-- Up to which place a reader doesn't stop at a batch that isn't whole, of what is read without a gap, and which batches a log has to keep for that.
+use Rattle.std.specs.Prelude.{◌≡◌, ◌+◌, ◌≤◌, ◌<◌, ◌⊎◌, nat_lt, min, max, if◌then◌else◌, ℕ, List, [], ◌∷◌}
 use Rattle.std.specs.List.{Contains}
 use Rattle.sled_codec.specs.History.{Batch}
+use Rattle.sled_core.specs.declared.logger.batches.NotedBatch.{NotedBatch}
 
 -- The stable place, where what is read ends at this one: the lowest place of the batches that are open there; where none is, that one itself.
 abbrev pub stable_below : ℕ → List Batch → ℕ
@@ -16,12 +17,16 @@ IsOpenBatch reach b = (b.low < reach) × (reach ≤ b.peg)
 pub record AreApart (reach : ℕ) (bs : List Batch) : Type 0 where
   pub apart : (b c : Batch) → Contains bs b → Contains bs c → reach ≤ c.peg → (b ≡ c) ⊎ (b.peg < c.low) ⊎ (c.peg < b.low)
 
--- Of the batches that begin from one place on, this one is open at another; or none is.
-pub record HasOpen (from reach : ℕ) (kept : Option Batch) (bs : List Batch) : Type 0 where
-  pub known : (b : Batch) → Contains bs b → from ≤ b.low → IsOpenBatch reach b → kept ≡ Some b
-  pub is : (b : Batch) → kept ≡ Some b → Contains bs b × (from ≤ b.low) × IsOpenBatch reach b
+-- those of these batches that aren't wholly read where what is read ends at a place
+abbrev pub not_whole : ℕ → List Batch → List Batch
+not_whole reach [] = []
+not_whole reach (b ∷ bs) = if nat_lt b.peg reach then not_whole reach bs else b ∷ not_whole reach bs
 
--- the stable place, where this batch is open at what is read
-abbrev pub low_of : ℕ → Option Batch → ℕ
-low_of reach None = reach
-low_of reach (Some b) = b.low
+-- the batch that is noted
+abbrev pub batch_of : NotedBatch → Batch
+batch_of b = record { low = b.low; peg = b.peg }
+
+-- Up to where has to be read for a place to be stable: behind the last of these batches that has the place, below its peg; behind the place itself where none has.
+abbrev pub behind_batch : ℕ → List Batch → ℕ
+behind_batch behind [] = behind
+behind_batch behind (b ∷ bs) = if nat_lt b.low behind then max (b.peg + 1) (behind_batch behind bs) else behind_batch behind bs

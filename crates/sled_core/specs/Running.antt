@@ -13,7 +13,7 @@ use Rattle.sled_store.specs.SegmentStates.{Machine}
 use Rattle.sled_store.specs.SnapshotFiles.{IsSnapshotFile}
 use Rattle.sled_core.specs.declared.logger.Log.{Log}
 use Rattle.sled_core.specs.Begun.{SegmentParts, SegmentView}
-use Rattle.sled_core.specs.Fits.{CloseBelow, HasInline, LogParts, begun_segment, line_of, log_parts, parts_in, HoldsIn, written_to}
+use Rattle.sled_core.specs.Fits.{FitsBatches, HasInline, LogParts, begun_segment, line_end, line_of, log_parts, noted_in, parts_in, HoldsIn, written_to}
 use Rattle.sled_core.specs.FreeSlots.{HasSlots}
 use Rattle.sled_core.specs.OpenBatches.{stable_below}
 use Rattle.sled_core.specs.Recoverable.{ActiveFits, AreRecoverableSnapshots, AreRecoverableBlobs, NoBatchBegins, NoBatchEnds, NoHeaderOfZeros, LeavesRecoverable}
@@ -74,16 +74,16 @@ abbrev pub FitsLine : (List ℕ → ℕ) → ℕ → State → Option IoError �
 FitsLine sum size device fault [] reach pins H A f U = ⊥
 FitsLine sum size device fault (v ∷ vs) reach pins H A f U = FitsIn sum (log_parts size v.parts.site device fault v.parts.bytes v.parts.written_len v.parts.sealed v.parts.reserved) (map parts_in vs) reach pins H A f U
 
--- So do those of a log whose slots are these.
-pub record FitsWith (sum : List ℕ → ℕ) (size : ℕ) (device : State) (fault : Option IoError) (line : List SegmentView) (m : Machine) (pins : ℕ) (H : History) (A f : ℕ) (U : List Message) : Type 0 where
+-- So do those of a log that has noted these batches and whose slots are these.
+pub record FitsWith (sum : List ℕ → ℕ) (noted : List Batch) (size : ℕ) (device : State) (fault : Option IoError) (line : List SegmentView) (m : Machine) (pins : ℕ) (H : History) (A f : ℕ) (U : List Message) : Type 0 where
   pub reach : ℕ
   pub parts : FitsLine sum size device fault line reach pins H A f U
-  pub closed : CloseBelow (written_to line) H.batches
+  pub batches : FitsBatches (written_to line) (line_end size line) noted H
   pub slots : HasSlots size line device.log.bytes fault m
 
 -- The log fits this history, the end of what was acknowledged, the floor and the messages that were not marked yet.
 unfoldable pub Fits : {D C : Type 0} → (D → Trace) → (List ℕ → ℕ) → Log D C → History → ℕ → ℕ → List Message → Type 0
-Fits trace sum log H A f U = FitsWith sum log.config.config.segment_size (state_of (trace log.config.device)) log.fault (line_of log) (machine_of log.accountant) log.pins H A f U
+Fits trace sum log H A f U = FitsWith sum (noted_in log) log.config.config.segment_size (state_of (trace log.config.device)) log.fault (line_of log) (machine_of log.accountant) log.pins H A f U
 
 -- Snapshot and device are ready for a log that fits this history, the end of what was acknowledged and the floor.
 pub record IsReadyFor (sum : List ℕ → ℕ) (size : ℕ) (device : State) (s : SnapshotModel) (H : History) (A f : ℕ) : Type 0 where

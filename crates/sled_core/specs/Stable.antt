@@ -7,8 +7,9 @@ use Rattle.sled_store.specs.Answers.{is_fault}
 use Rattle.sled_store.specs.Device.{Event}
 use Rattle.sled_core.specs.declared.logger.Log.{Log}
 use Rattle.sled_core.specs.Causes.{HeldAnswers, IsFault}
-use Rattle.sled_core.specs.Fits.{holding_below, synced_end, writing_below}
+use Rattle.sled_core.specs.Fits.{holding_below, noted_in, stable_end, writing_below}
 use Rattle.sled_core.specs.Keeps.{sealed_for, start_for}
+use Rattle.sled_core.specs.OpenBatches.{behind_batch}
 use Rattle.sled_core.specs.Waiting.{BufferAt, BufferStart, not_below}
 
 -- the place behind one
@@ -16,13 +17,17 @@ abbrev pub behind_place : ℤ → ℕ
 behind_place (pos n) = n + 1
 behind_place (negsuc n) = 0
 
--- the calls that make a place durable: those that write the buffers that begin at or below it, and none where it is durable already
+-- up to where has to be written for a place to be durable: behind it, and behind the peg of a batch that has it
+abbrev pub target_for : {D C : Type 0} → Log D C → ℤ → ℕ
+target_for log lsn = behind_batch (behind_place lsn) (noted_in log)
+
+-- the calls that make a place durable: those that write the buffers that begin below that, and none where it is durable already
 abbrev pub stabilizing : {D C : Type 0} → (List ℕ → ℕ) → Log D C → ℤ → List Event
-stabilizing sum log lsn = if int_lt lsn (pos (synced_end log)) then [] else writing_below sum log (behind_place lsn)
+stabilizing sum log lsn = if int_lt lsn (pos (stable_end log)) then [] else writing_below sum log (target_for log lsn)
 
 -- the least place of the open reservations that hold that up
 abbrev pub held_for : {D C : Type 0} → (List ℕ → ℕ) → Log D C → ℤ → Option ℕ
-held_for sum log lsn = if int_lt lsn (pos (synced_end log)) then None else holding_below sum log (behind_place lsn)
+held_for sum log lsn = if int_lt lsn (pos (stable_end log)) then None else holding_below sum log (target_for log lsn)
 
 -- the place was not reserved
 abbrev pub IsNotReserved : {T : Type 0} → Result T Error → Type 0

@@ -1,5 +1,5 @@
 -- What the start of a log leaves.
-use Rattle.std.specs.Prelude.{◌≡◌, ◌+◌, if◌then◌else◌, ℕ, length, max, None, Result, Ok, Err}
+use Rattle.std.specs.Prelude.{◌≡◌, ◌+◌, if◌then◌else◌, ℕ, [], length, max, None, Result, Ok, Err}
 use Rattle.sled_codec.specs.declared.result.Error.{Error}
 use Rattle.sled_codec.specs.Snapshots.{SnapshotModel, stable_place}
 use Rattle.sled_store.specs.declared.config.RunningConfig.{RunningConfig}
@@ -10,7 +10,7 @@ use Rattle.sled_store.specs.Causes.{StartRefuses}
 use Rattle.sled_store.specs.Device.{Trace, state_of}
 use Rattle.sled_store.specs.Script.{Performs, after_all}
 use Rattle.sled_store.specs.Started.{started}
-use Rattle.sled_core.specs.Fits.{NoneOpen, NoneSealed, config_of, fault_of, pins_of, position_of, reserved_end, segment_size_of, start_of, synced_end}
+use Rattle.sled_core.specs.Fits.{NoneOpen, NoneSealed, config_of, fault_of, noted_in, pins_of, position_of, reserved_end, segment_size_of, start_of, synced_end}
 use Rattle.sled_core.specs.FreeSlots.{begun_machine}
 use Rattle.sled_core.specs.Positions.{Position, is_short, next_segment_at}
 use Rattle.sled_core.specs.Waiting.{BufferStart}
@@ -37,12 +37,13 @@ start_from size len s =
     let offset = offset_at size (stable_place s.stable) s.active in
     record { place = (site_from size len s).place + offset; lid = (site_from size len s).slot + offset }
 
--- The log begins behind what the snapshot has: nothing is reserved in it, no pin is out, and it keeps no failure.
+-- The log begins behind what the snapshot has: nothing is reserved in it, no batch is noted, no pin is out, and it keeps no failure.
 pub record BeginsBehind {D C : Type 0} (size len : ℕ) (s : SnapshotModel) (log : Log D C) : Type 0 where
   pub synced : synced_end log ≡ place_at size (stable_place s.stable) s.active + offset_at size (stable_place s.stable) s.active
   -- behind the header of its segment at least
   pub position : position_of log ≡ position_from size len s
   pub reserved : reserved_end log ≡ synced_end log
+  pub noted : noted_in log ≡ []
   pub start : start_of log ≡ start_from size len s
   pub ended : NoneOpen log
   pub unsealed : NoneSealed log

@@ -62,25 +62,42 @@ promoted size [] = []
 promoted size (v ∷ []) = v ∷ []
 promoted size (v ∷ w ∷ ws) = if v.parts.written_len == size then promoted size (w ∷ ws) else v ∷ w ∷ ws
 
--- A call changes the segments of a log alone.
+-- A call changes the segments of a log alone, and how many manifests are open.
 pub record ChangesLine {D C : Type 0} (old new : Log D C) : Type 0 where
   pub config : new.config ≡ old.config
   pub reserved : new.reserved_to ≡ old.reserved_to
   pub fault : new.fault ≡ old.fault
   pub pins : new.pins ≡ old.pins
   pub accountant : new.accountant ≡ old.accountant
+  pub noted : new.noted.items ≡ old.noted.items
 
 -- It changes the segments and the slots alone.
 pub record ChangesSlots {D C : Type 0} (old new : Log D C) : Type 0 where
   pub config : new.config ≡ old.config
   pub fault : new.fault ≡ old.fault
   pub pins : new.pins ≡ old.pins
+  pub noted : new.noted.items ≡ old.noted.items
 
 -- A buffer takes a record of this length, and one more reservation, without memory.
 pub record HasRoomIn (b : IoBuf) (len : ℕ) : Type 0 where
   pub bytes : length b.bytes.items + len + 32 ≤ vec_capacity b.bytes
   pub reserved : deque_len b.reserved < deque_capacity b.reserved
   pub few : open_in (drop (sealed_count b.sealed.items) b.reserved.items) < most_open
+
+-- The batch of one more manifest can be noted without memory.
+pub record HasRoomForBatch {D C : Type 0} (log : Log D C) : Type 0 where
+  pub place : length log.noted.items + log.manifests < vec_capacity log.noted
+
+-- A batch is noted: that changes the noted batches alone, and how many manifests are open.
+pub record NotesBatch {D C : Type 0} (old new : Log D C) : Type 0 where
+  pub config : new.config ≡ old.config
+  pub site : new.site ≡ old.site
+  pub buffer : new.buffer ≡ old.buffer
+  pub behind : new.behind ≡ old.behind
+  pub accountant : new.accountant ≡ old.accountant
+  pub reserved : new.reserved_to ≡ old.reserved_to
+  pub fault : new.fault ≡ old.fault
+  pub pins : new.pins ≡ old.pins
 
 -- It can be filled to the end of a segment of this size, and sealed, without memory.
 pub record CanClose (b : IoBuf) (size : ℕ) : Type 0 where
@@ -161,3 +178,5 @@ pub record ChangesDevice {D C : Type 0} (old new : Log D C) : Type 0 where
   pub reserved : new.reserved_to ≡ old.reserved_to
   pub pins : new.pins ≡ old.pins
   pub accountant : new.accountant ≡ old.accountant
+  pub noted : new.noted ≡ old.noted
+  pub manifests : new.manifests ≡ old.manifests

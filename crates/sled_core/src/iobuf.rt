@@ -6,6 +6,7 @@ ghost use Rattle.sled_codec.specs.Written.{written};
 ghost use Rattle.sled_store.specs.Words.{writers_of};
 ghost use Rattle.sled_core.specs.declared.iobuf.Reserved.{Reserved};
 ghost use Rattle.sled_core.specs.Buffers.{IsChain, IsHeaded, canceling, completing, ended, ending, ending_as, first_open_in, marking, most_open, open_in, open_state, placeholder_head, reserved_for};
+ghost use Rattle.sled_core.specs.Manifests.{is_manifest};
 ghost use Rattle.sled_core.specs.SealedBuffers.{AreSealed, FirstUnwritten, one_ended, sealed_count, sealed_end};
 ghost use Rattle.sled_core.specs.SealedProps.{IsChain-prop, AreSealed-prop, FirstUnwritten-prop};
 
@@ -244,6 +245,7 @@ impl IoBuf {
         requires len { item_len ≡ length (T.short (T.meaning item.now)) }
         requires room { length self.old.bytes.items + head.now.len + item_len + 32 ≤ vec_capacity self.old.bytes }
         requires place { deque_len self.old.reserved < deque_capacity self.old.reserved }
+        requires body { is_manifest message.now.log_kind message.now.page ≡ true → item_len ≡ 8 }
         requires few { open_in (drop (sealed_count self.old.sealed.items) self.old.reserved.items) < most_open }
         ensures bytes { self.new.bytes.items ≡ self.old.bytes.items ++ placeholder_head (take head.now.len head.now.bytes) ++ T.short (T.meaning item.now) }
         ensures len { length self.new.bytes.items ≡ length self.old.bytes.items + head.now.len + item_len }
@@ -376,14 +378,6 @@ impl IoBuf {
         } else {
             self.word = decr_writers(self.word);
         }
-    }
-
-    /// How much of the segment is on the device, without a gap.
-    pub(crate) fn synced_len(&self) -> usize
-        ensures is { result ≡ self.now.written_len }
-        ensures inside { result ≤ length self.now.bytes.items }
-    {
-        self.written_len
     }
 }
 

@@ -1,6 +1,6 @@
-//! Reading a log file: which segments are found in it, and what is met in each.
+//! Reading a log file: which segments are found in it, what is met in each, and an iterator over the messages.
 //!
-//! `specs/Scan.antt` says what that is, for any log file.
+//! `specs/Scan.antt` says what is met, for any log file, and `specs/Iterates.antt` what an iterator gives.
 ghost use Rattle.std.specs.Prelude.{take, ℤ, IfNone, ◌≡◌, ◌-◌, ◌/◌, ◌≤◌, ◌<◌, ℕ, None, pos, IfOk, IfSome, OnOk};
 ghost use Rattle.sled_codec.specs.Errors.{IsCorruption};
 ghost use Rattle.sled_codec.specs.Places.{part};
@@ -8,8 +8,13 @@ ghost use Rattle.sled_codec.specs.Record.{IsHeader};
 ghost use Rattle.sled_store.specs.Device.{state_of};
 ghost use Rattle.sled_store.specs.Causes.{DeviceAnswers};
 
+pub mod blobs;
+pub mod log_iter;
+pub mod records;
+pub mod rest;
 pub mod scan;
 
+pub use crate::iterator::log_iter::LogIter;
 use crate::logger::read_at::{BasedBuf, ReadAt};
 use sled_codec::result::{LogOffset, Lsn, Result};
 use sled_codec::serialization::{Checksum, SegmentHeader};

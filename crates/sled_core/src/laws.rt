@@ -8,7 +8,7 @@ ghost use Rattle.sled_codec.specs.Record.{IsHeader};
 ghost use Rattle.sled_codec.specs.WellFormed.{LieApart};
 ghost use Rattle.sled_store.specs.Device.{Trace, State, Left, Leaves, Crashed, state_of, content_of, content_left, at_rest, fresh, Content, Settled, Wrote, Synced, step};
 ghost use Rattle.sled_store.specs.Moments.{IsLater, LeavesOnly};
-ghost use Rattle.sled_core.specs.Fits.{Awaits, FitsInline, Holds, IsLeastOpen, IsUnchanged, IsWritten, NoneOpen, buffers_of, current_begin, device_of, held_len, holding_below, is_moved, next_place, open_of, open_places, reserved_end, sealing_end, segment_size_of, start_behind, start_of, synced_end, target_of, waiting_behind, waiting_of};
+ghost use Rattle.sled_core.specs.Fits.{stable_end, KeepsAll, Awaits, FitsInline, Holds, IsLeastOpen, IsUnchanged, IsWritten, NoneOpen, buffers_of, current_begin, device_of, held_len, holding_below, is_moved, next_place, open_of, open_places, reserved_end, sealing_end, segment_size_of, start_behind, start_of, synced_end, target_of, waiting_behind, waiting_of};
 ghost use Rattle.sled_codec.specs.Snapshots.{SnapshotModel, empty_model, stable_place};
 ghost use Rattle.sled_store.specs.Begin.{offset_at, place_at};
 ghost use Rattle.sled_core.specs.Waiting.{HasLength, spans};
@@ -136,6 +136,12 @@ pub fn calls_keep_together<D: Device, C: Checksum>()
     ensures none { (log : Log D C) → Preserves D.trace C.sum_of log log }
     ensures both { (old mid new : Log D C) → Preserves D.trace C.sum_of old mid → Preserves D.trace C.sum_of mid new → Preserves D.trace C.sum_of old new }
     ensures goes_on { (old mid new : Log D C) → Preserves D.trace C.sum_of old mid → GoesOn D.trace C.sum_of mid new → GoesOn D.trace C.sum_of old new }
+{}
+
+/// The stable end never falls, where a call notes no batch; it stays where what is written and noted stays.
+pub fn the_stable_end_never_falls<D: Device, C: Checksum>()
+    ensures keeps { (old new : Log D C) → Preserves D.trace C.sum_of old new → stable_end old ≤ stable_end new }
+    ensures same { (old new : Log D C) → KeepsAll old new → stable_end new ≡ stable_end old }
 {}
 
 /// What can be recovered at each moment of one call and of the next can be at each moment of both.

@@ -2,7 +2,7 @@
 //!
 //! A log keeps the bytes of its segments that aren't wholly on the device, the reservations in them, the accountant of all
 //! segments, the count of pins, and the first failure of its device, which it answers from then on. `specs/Fits.antt` says which history it holds.
-ghost use Rattle.std.specs.Prelude.{List, ◌++◌, ◌≡◌, ◌≢◌, ◌↔◌, ◌+◌, ◌-◌, ◌<◌, ◌≤◌, ◌^◌, ◌∷◌, ◌-ℤ◌, ◌<ℤ◌, ◌≤ℤ◌, pos, [], ℕ, length, drop, false, IsTrue, IfOk, IfErr, OnOk, OnErr, Contains, None, Some, ◌⊎◌, ◌/◌, unsigned_abs, ℤ, max};
+ghost use Rattle.std.specs.Prelude.{All, vec_capacity, List, ◌++◌, ◌≡◌, ◌≢◌, ◌↔◌, ◌+◌, ◌-◌, ◌<◌, ◌≤◌, ◌^◌, ◌∷◌, ◌-ℤ◌, ◌<ℤ◌, ◌≤ℤ◌, pos, [], ℕ, length, drop, false, IsTrue, IfOk, IfErr, OnOk, OnErr, Contains, None, Some, ◌⊎◌, ◌/◌, unsigned_abs, ℤ, max};
 ghost use Rattle.std.specs.declared.io.Error.{Error as IoError};
 ghost use Rattle.sled_codec.specs.History.{History, Message, Completed, Step};
 ghost use Rattle.std.specs.IoError.{error_kind};
@@ -20,12 +20,15 @@ ghost use Rattle.sled_store.specs.Accounts.{IsAccountant};
 ghost use Rattle.sled_store.specs.Begin.{IsStartable, IsInReach};
 ghost use Rattle.sled_core.specs.Recoverable.{LeavesRecoverable, RecoverableIfOwn};
 ghost use Rattle.sled_core.specs.AccountProps.{IsAccountant-prop};
-ghost use Rattle.sled_core.specs.Begun.{FollowOn, FollowOn-prop, IsFilledLine, IsFilledLine-prop};
+ghost use Rattle.sled_core.specs.Begun.{FollowOn, FollowOn-prop, IsFilledLine, IsFilledLine-prop, line_at};
+ghost use Rattle.sled_core.specs.OpenPlaces.{open_manifests};
 ghost use Rattle.sled_core.specs.Causes.{FaultAnswers, RecordAnswers, ReserveAnswers, failure_in};
 
 mod abort;
+pub(crate) mod batches;
 mod crash;
 mod ending;
+mod mark_writebatch;
 pub mod read_at;
 pub mod read_message;
 mod reserving;
@@ -37,8 +40,9 @@ mod writing;
 
 use crate::iobuf::start::begin;
 use crate::iobuf::{IoBuf, Purpose, SegmentPosition};
+use crate::logger::batches::NotedBatch;
 use crate::logger::read_message::{LogRead, read_message};
-use crate::logger::reserving::kind_for;
+use crate::logger::reserving::{is_manifest, kind_for};
 use crate::logger::segments::{SegmentBuffer, no_segments};
 use crate::reservation::{Guard, Reservation};
 use sled_codec::result::{DiskPtr, Error, LogOffset, Lsn, PageId, Result};
@@ -64,6 +68,10 @@ pub struct Log<D, C> {
     /// The first failure of the device in this log.
     fault: Option<io::Error>,
     pins: u32,
+    /// The batches that were noted, but for those that are wholly on the device and were left out. There is room for that of each open manifest.
+    noted: Vec<NotedBatch>,
+    /// No more reservations of manifests are open or abandoned than this.
+    manifests: usize,
     ghost in_segment: { length buffer.bytes.items ≤ config.config.segment_size },
     ghost place_in_reach: { site.place + config.config.segment_size < 2 ^ 63 },
     ghost slot_in_reach: { site.slot + config.config.segment_size < 2 ^ 63 },
@@ -71,10 +79,13 @@ pub struct Log<D, C> {
     ghost follow: { FollowOn config.config.segment_size (site.place + config.config.segment_size) behind.items } by { FollowOn-prop _ _ _ },
     ghost filled: { IsFilledLine config.config.segment_size reserved_to site buffer behind.items } by { IsFilledLine-prop _ _ site buffer behind.items },
     ghost account: { IsAccountant config.config.segment_size accountant } by { IsAccountant-prop config.config.segment_size accountant },
+    ghost pegs: { All (λ b. b.peg < reserved_to) noted.items },
+    ghost room: { length noted.items + manifests ≤ vec_capacity noted },
+    ghost counted: { open_manifests (line_at site buffer behind.items) ≤ manifests },
 }
 
 impl<D: Device, C: Checksum> Log<D, C> {
-    ghost use Rattle.sled_core.specs.Fits.{Holds, open_places, Awaits, IsOpen, FitsInline, IsUnchanged, IsUsedUpFor, fault_of, open_for, IsLeastOpen, synced_end, reserved_end, pins_of, config_of, device_of, HasRecordOf, line_of, message_for, position_behind, position_of, segment_size_of, size_for, target_of, waiting_behind, waiting_of, current_begin, FirstWaits, KeepsBuffers, start_behind, start_of, KeepsAll, KeepsTickets};
+    ghost use Rattle.sled_core.specs.Fits.{Holds, open_places, Awaits, IsOpen, FitsInline, IsUnchanged, IsUsedUpFor, fault_of, open_for, IsLeastOpen, synced_end, reserved_end, pins_of, config_of, device_of, HasRecordOf, line_of, message_for, position_behind, position_of, segment_size_of, size_for, target_of, waiting_behind, waiting_of, current_begin, FirstWaits, stable_end, KeepsBuffers, start_behind, start_of, KeepsAll, KeepsTickets};
     ghost use Rattle.sled_core.specs.Manifests.{is_manifest, kind_for};
     ghost use Rattle.sled_core.specs.OpenPlaces.{TakesOutPlaceOf};
     ghost use Rattle.sled_core.specs.Keeps.{ConfigKept, GoesOn, KeepsOthers, Preserves, SamePosition};
@@ -117,9 +128,10 @@ impl<D: Device, C: Checksum> Log<D, C> {
             (D.faults config.device) (D.faults device) }
     {
         let mut config = config;
+        let alloc = config.alloc();
         match begin(&mut config, snapshot) {
             Ok((beginning, buffer, accountant)) => Ok(Log {
-                behind: no_segments(config.alloc()),
+                behind: no_segments(alloc),
                 config,
                 site: SegmentPosition {
                     place: beginning.place,
@@ -130,6 +142,8 @@ impl<D: Device, C: Checksum> Log<D, C> {
                 reserved_to: beginning.place + beginning.offset,
                 fault: None,
                 pins: 0,
+                noted: Vec::new(alloc),
+                manifests: 0,
             }),
             Err(e) => Err((e, config)),
         }
@@ -164,14 +178,14 @@ impl<D: Device, C: Checksum> Log<D, C> {
         u64::from(self.pins)
     }
 
-    /// Returns the last place (log sequence number) of which all up to it is durable; -1 before the first one.
+    /// Returns the last place (log sequence number) of which all up to it is durable, with its batches whole; -1 before the first one.
     pub fn stable_offset(&self) -> Lsn
-        ensures place { result ≡ pos (synced_end self.now) -ℤ pos 1 }
+        ensures place { result ≡ pos (stable_end self.now) -ℤ pos 1 }
         ensures first { FirstWaits (synced_end self.now) (current_begin self.now) (waiting_of self.now) }
         ensures acknowledges { (H : History) (A f : ℕ) (U : List Message) → Fits D.trace C.sum_of self.now H A f U
-            → Fits D.trace C.sum_of self.now H (max A (end_below (synced_end self.now) H)) f U }
+            → Fits D.trace C.sum_of self.now H (max A (end_below (stable_end self.now) H)) f U }
     {
-        (self.site.place + self.buffer.synced_len() as u64) as i64 - 1
+        self.stable_end() as i64 - 1
     }
 
     /// Returns the failure of its device that the log keeps, the first one. Such a log changes nothing any more.
@@ -233,18 +247,19 @@ impl<D: Device, C: Checksum> Log<D, C> {
             kind: message_kind,
             page: pid,
         };
+        let manifest = is_manifest(kind, pid);
         let mut head = self.head_for(&purpose, item_len);
         if self.has_place(head.len + item_len) {
-            self.room_for(head.len + item_len)?;
+            self.room_for(head.len + item_len, manifest)?;
         } else {
-            self.begin_segment()?;
+            self.begin_segment(manifest)?;
             head = self.head_for(&purpose, item_len);
         }
         Ok(self.append(&head, &purpose, item, item_len))
     }
 
     /// Completes a message: from now on it is in the log's history. Returns its place and its pointer. It takes no
-    /// memory. A ticket of the manifest of a batch isn't for it: nothing ends a batch yet, so that one is given up by `abort`.
+    /// memory. A ticket of the manifest of a batch isn't for it: that one is ended by `mark_writebatch`, or given up by `abort`.
     ///
     /// # Errors
     ///
@@ -324,7 +339,7 @@ impl<D: Device, C: Checksum> Log<D, C> {
             return Err(Error::Corruption { at: None });
         }
         let place = lsn.unsigned_abs();
-        if lsn > self.stable_offset() && place >= self.reserved_to {
+        if place >= self.synced_end() && place >= self.reserved_to {
             return Err(Error::NotReserved(lsn));
         }
         self.settle(place)?;
@@ -375,6 +390,8 @@ impl<D: Device, C: Checksum> Log<D, C> {
             reserved_to: _,
             fault: _,
             pins: _,
+            noted: _,
+            manifests: _,
         } = self;
         config
     }

@@ -1,5 +1,2 @@
 pub mod BeginLemmas
-pub mod KeptLemmas
-pub mod LeftLemmas
-pub mod OneReplay
-pub mod TurnLemmas
+pub mod FoundLemmas

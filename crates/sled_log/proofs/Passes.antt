@@ -6,9 +6,7 @@ pub mod Found
 pub mod Joined
 pub mod LookedUp
 pub mod Outcomes
-pub mod Records
 pub mod Same
-pub mod Slots
 pub mod TailRead
 pub mod Tails
 pub mod Whole

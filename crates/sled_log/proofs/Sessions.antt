@@ -12,4 +12,5 @@ pub mod RunLogs
 pub mod SessionLemmas
 pub mod SpentTickets
 pub mod TicketsSeen
+pub mod Unbatched
 pub mod Writing

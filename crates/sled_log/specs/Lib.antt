@@ -1,7 +1,5 @@
-pub mod Ahead
 pub mod Endings
-pub mod Iterates
-pub mod Iterators
+pub mod IteratorBegins
 pub mod Made
 pub mod Openings
 pub mod Ordering

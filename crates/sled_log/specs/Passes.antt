@@ -1,25 +1,16 @@
 -- What the code of recovery speaks of, beside what recovery makes of a log file.
-use Rattle.std.specs.Prelude.{◌≡◌, ◌⊎◌, ℤ, ◌+◌, ◌/◌, ◌%◌, ◌^◌, ◌≤◌, ◌<◌, ℕ, List, [], ◌∷◌, length, map, is_some, if◌then◌else◌, Option, Some, None, Contains}
+use Rattle.std.specs.Prelude.{◌≡◌, ◌⊎◌, ℤ, ◌+◌, ◌^◌, ◌≤◌, ◌<◌, ℕ, List, [], ◌∷◌, map, is_some, if◌then◌else◌, Option, Some, Contains}
 use Rattle.std.specs.List.{All}
 use Rattle.sled_codec.specs.declared.serialization.snapshot.Snapshot.{Snapshot}
 use Rattle.sled_codec.specs.Snapshots.{SnapshotModel, model_of}
 use Rattle.sled_store.specs.declared.config.RunningConfig.{RunningConfig}
 use Rattle.sled_store.specs.Device.{Trace, state_of}
-use Rattle.sled_core.specs.declared.iterator.scan.ScannedRecord.{ScannedRecord}
 use Rattle.sled_core.specs.declared.iterator.Segment.{Segment}
-use Rattle.sled_core.specs.Reading.{IsMalformed}
-use Rattle.sled_core.specs.Scan.{IsPath}
+pub use Rattle.sled_core.specs.Replayed.{CanBeRead, IsDamagedBefore}
 use Rattle.sled_log.specs.declared.snapshot.pass.Pass.{Pass}
 use Rattle.sled_log.specs.Recovery.{Scanned, Outcome, AreScanned, AreReplayed, ContinuesFrom, IsDamagedPass, NamesKind, Passes, open_at, stops_in, scanned_of, StopsOrGoesOn, before_open, MeetsBadBlob, HaveGoodBlobs, resolved_scan}
 
--- A segment can be read: its slot is one of the file, and its ends are places and offsets.
-pub record CanBeRead (size : ℕ) (log : List ℕ) (s : Segment) : Type 0 where
-  pub aligned : s.slot % size ≡ 0
-  pub inside : s.slot ≤ length log
-  pub slot : s.slot + size < 2 ^ 63
-  pub place : s.place + size < 2 ^ 63
-
--- each of these can
+-- each of these can be read
 abbrev pub CanAllBeRead : ℕ → List ℕ → List Segment → Type 0
 CanAllBeRead size log segments = (s : Segment) → Contains segments s → CanBeRead size log s
 
@@ -46,15 +37,6 @@ GetBlobs blobs end old new = map pass_of new ≡ map (resolved_scan blobs end) (
 abbrev pub stop_of : ℕ → Option (Segment × ℕ) → List Scanned → Option (Segment × ℕ)
 stop_of end last [] = last
 stop_of end last (s ∷ ss) = Some (stops_in end s (open_at end s.met) ss)
-
--- A damaged record is met in a segment of the pass, before a batch that is open.
-pub record IsDamagedBefore (sum : List ℕ → ℕ) (size : ℕ) (log : List ℕ) (end : ℕ) (segment : Segment) : Type 0 where
-  pub met : List ScannedRecord
-  pub next : ℕ
-  pub path : IsPath sum size log segment.slot segment.place 20 met next
-  pub not_open : open_at end met ≡ None
-  pub room : next + 32 ≤ size
-  pub damaged : IsMalformed sum size log (segment.slot + next) (segment.place / size)
 
 -- behind one with a batch that is open is none
 abbrev pub OpensLast : ℕ → List Scanned → Type 0

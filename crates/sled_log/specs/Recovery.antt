@@ -1,32 +1,23 @@
 -- What recovery makes of a content: which snapshot it begins from, which segments it finds, where the tail of the log ends,
 -- which messages it applies, and the cut. Stated for any number of segments and for all kinds of messages.
-use Rattle.std.specs.Prelude.{◌≡◌, ◌≢◌, ◌⊎◌, ◌+◌, ◌-◌, ◌/◌, ◌%◌, ◌^◌, ◌≤◌, ℕ, ℤ, pos, nat_lt, int_lt, Bool, true, false, ◌&&◌, ◌||◌, not, ◌==◌, if◌then◌else◌, List, [], ◌∷◌, ◌++◌, length, drop, set, get_or, replicate, Option, Some, None, IfNone, is_some, map, Contains}
+use Rattle.std.specs.Prelude.{◌≡◌, ◌⊎◌, ◌+◌, ◌-◌, ◌/◌, ◌%◌, ◌^◌, ◌≤◌, ℕ, ℤ, pos, nat_lt, int_lt, Bool, true, false, ◌&&◌, ◌||◌, not, ◌==◌, if◌then◌else◌, List, [], ◌∷◌, ◌++◌, length, drop, set, get_or, replicate, Option, Some, None, map, Contains}
 use Rattle.sled_codec.specs.declared.serialization.message.LogKind.{LogKind}
 use Rattle.sled_codec.specs.declared.serialization.message.LogKind.TheVariants as does
-use Rattle.sled_codec.specs.declared.serialization.message.MessageKind.TheVariants.{Corrupted}
-use Rattle.sled_codec.specs.declared.result.DiskPtr.TheVariants.{Blob}
-use Rattle.sled_codec.specs.Kinds.{log_kind_of}
 use Rattle.sled_codec.specs.History.{Message}
 use Rattle.sled_codec.specs.PageTables.{entry_of}
 use Rattle.sled_codec.specs.Snapshots.{Entry, Page, Present, Free, Uninitialized, SnapshotModel, stable_place}
-use Rattle.sled_store.specs.Blobs.{IsDamagedFor}
 use Rattle.sled_store.specs.Device.{Content}
 use Rattle.sled_store.specs.SnapshotFiles.{BeginsFrom, IsDamagedSnapshot}
 use Rattle.sled_core.specs.declared.iterator.scan.ScannedRecord.{ScannedRecord}
 use Rattle.sled_core.specs.declared.iterator.scan.RecordContent.{RecordContent}
 use Rattle.sled_core.specs.declared.iterator.scan.RecordContent.TheVariants.{Gives, NamesBlob, Skipped, BatchStart}
 use Rattle.sled_core.specs.declared.iterator.Segment.{Segment}
-use Rattle.sled_core.specs.declared.iterator.scan.SegmentScan.{SegmentScan}
 use Rattle.sled_core.specs.Reading.{IsMalformed}
-use Rattle.sled_core.specs.Scan.{IsDamagedIn, IsPath, IsEnd}
+use Rattle.sled_core.specs.Scan.{IsDamagedIn, IsPath}
+pub use Rattle.sled_core.specs.Replayed.{IsReplayed, scanned_of, NamesKind, HasBadBlob, with_blob, resolved}
 pub use Rattle.sled_core.specs.Tail.{IsUnordered, is_ascending, IsOrdering, Scanned, IsScanned, place_of_mark, greatest_mark, tail_begins, GoesOn, IsTail, tail_end, begun_below, AreScanned, opens, before_open, open_at, stops_in, is_filled, cut_of, IsTailPart, least_place}
 
 -- The pass over the messages.
-
--- A segment as the pass reads it: to its end, or to any place behind a batch that is open. What stands behind that batch is neither asked for nor looked at.
-abbrev pub IsReplayed : (List ℕ → ℕ) → ℕ → List ℕ → ℕ → Scanned → Type 0
-IsReplayed sum size log end s =
-    IsPath sum size log s.segment.slot s.segment.place 20 s.met s.stop × IfNone (open_at end s.met) (IsEnd sum size log s.segment.slot s.segment.place s.stop s.why)
 
 -- behind a segment with a batch that is open nothing is read, and behind another one this
 abbrev pub StopsOrGoesOn : Option ℕ → List Scanned → Type 0 → Type 0
@@ -42,33 +33,9 @@ AreReplayed sum size log end (s ∷ ss) (x ∷ xs) = (x.segment ≡ s) × IsRepl
 
 -- Blobs.
 
--- a record that names a blob is of a kind that is known
-abbrev pub NamesKind : RecordContent → Type 0
-NamesKind (Gives kind page pointer) = Unit {0}
-NamesKind (NamesBlob kind page lid place) = kind ≢ Corrupted
-NamesKind Skipped = Unit {0}
-NamesKind (BatchStart peg) = Unit {0}
-
--- the blob that a record names is there and doesn't pass for it
-abbrev pub HasBadBlob : (List ℕ → ℕ) → (ℤ → Option (List ℕ)) → RecordContent → Type 0
-HasBadBlob sum blobs (Gives kind page pointer) = ⊥
-HasBadBlob sum blobs (NamesBlob kind page lid place) = IsDamagedFor sum kind (blobs place)
-HasBadBlob sum blobs Skipped = ⊥
-HasBadBlob sum blobs (BatchStart peg) = ⊥
-
--- one of these names such a blob
+-- one of these names a blob that is there and doesn't pass for it
 abbrev pub MeetsBadBlob : (List ℕ → ℕ) → (ℤ → Option (List ℕ)) → List ScannedRecord → Type 0
 MeetsBadBlob sum blobs ms = (m : ScannedRecord) × Contains ms m × HasBadBlob sum blobs m.what
-
--- A record that names a blob is a message where the blob is there, and else was given up.
-abbrev pub with_blob : (ℤ → Option (List ℕ)) → RecordContent → RecordContent
-with_blob blobs (Gives kind page pointer) = Gives kind page pointer
-with_blob blobs (NamesBlob kind page lid place) = if is_some (blobs place) then Gives (log_kind_of kind) page (Blob lid place) else Skipped
-with_blob blobs Skipped = Skipped
-with_blob blobs (BatchStart peg) = BatchStart peg
-
-abbrev pub resolved : (ℤ → Option (List ℕ)) → ScannedRecord → ScannedRecord
-resolved blobs m = record { place = m.place; len = m.len; what = with_blob blobs m.what }
 
 -- what is met, with the blobs of all that is met before a batch that is open
 abbrev pub resolved_before : (ℤ → Option (List ℕ)) → ℕ → List ScannedRecord → List ScannedRecord
@@ -276,7 +243,3 @@ unfoldable pub Recovers : (List ℕ → ℕ) → ℕ → Content → Outcome →
 Recovers sum size content o =
     ((o ≡ Damaged) × IsDamagedSnapshot sum content.snapshots)
     ⊎ ((first : SnapshotModel) × BeginsFrom sum content.snapshots first × ContinuesFrom sum size content.log content.blobs first o)
-
--- a segment as code has it, and what is met in it
-abbrev pub scanned_of : Segment → SegmentScan → Scanned
-scanned_of segment scan = record { segment = segment; met = scan.met.items; stop = scan.stop; why = scan.ending }

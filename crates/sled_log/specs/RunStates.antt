@@ -29,7 +29,7 @@ length_of device = length (state_of device.trace).log.bytes
 pub record LogView : Type 0 where
   -- where the next record may begin, and which slots are left behind that
   pub position : Position
-  -- the place behind the stable end
+  -- the place behind the stable end, which is that behind all that is on the device without a gap, since no batch is noted
   pub stable : ℕ
   -- the place behind the greatest record that was reserved
   pub end : ℕ

@@ -1,45 +1,5 @@
-//! The messages of a log file by place, each once, without a log that runs on it (`specs/Iterates.antt`).
-//!
-//! An iterator keeps the segments that it goes over, and of one of them the records. A segment is read when its first record
-//! is asked for, and a blob when it is the turn of the record that names it.
-ghost use Rattle.std.specs.Iterator.{at_most};
-ghost use Rattle.sled_log.specs.Ahead.{CanGoOn};
-
+//! The messages of a log file by place, each once, without a log that runs on it.
 pub(crate) mod begin;
-pub(crate) mod rest;
 
 pub use crate::iterator::begin::raw_segment_iter_from;
-use crate::iterator::rest::Rest;
-use sled_codec::result::{DiskPtr, Lsn, PageId, Result};
-use sled_codec::serialization::{Checksum, LogKind};
-use sled_store::{Device, RunningConfig};
-
-/// Goes over the messages of a log file, and borrows what that is on. It ends: a number bounds what is ahead of it. What a
-/// call of `next` gives is `IsNext` of `specs/Iterators.antt`.
-#[derive(Drop)]
-pub struct LogIter<'a, D, C> {
-    pub(crate) config: &'a mut RunningConfig<D, C>,
-    pub(crate) rest: Rest,
-    ghost fits: { CanGoOn config.now.config.segment_size rest },
-}
-
-impl<D: Device, C: Checksum> Iterator for LogIter<'_, D, C> {
-    /// What a message does, its page, its place, its pointer and the length of its record.
-    type Item = Result<(LogKind, PageId, Lsn, DiskPtr, u64)>;
-
-    ghost use Rattle.sled_log.specs.Iterators.{IsNext, most_ahead};
-
-    ghost next_gives = { IsNext D.trace D.faults C.sum_of };
-
-    ghost remaining = { λ it. at_most (most_ahead it) };
-
-    /// Returns the next message. `None` where none is left, and from then on; and also behind an error.
-    ///
-    /// # Errors
-    ///
-    /// `Io` where the device failed in this call, and `OutOfMemory`; `Corruption` where a damaged record is met in the next
-    /// segment, or where the blob of the next record doesn't pass for it (named where its checksum fails).
-    fn next(&mut self) -> Option<Result<(LogKind, PageId, Lsn, DiskPtr, u64)>> {
-        self.rest.next(self.config)
-    }
-}
+pub use sled_core::iterator::LogIter;

@@ -8,7 +8,7 @@ use case_lines::answer::Answer;
 use case_lines::lines::{Words, bytes};
 use case_lines::texts::Text;
 use sled_log::device::{MemDevice, PlaceSum};
-use sled_log::logger::{DiskPtr, Log, LogKind, LogRead, PageId};
+use sled_log::logger::{DiskPtr, Log, LogKind, LogRead, Lsn, PageId};
 use sled_log::reservation::{Guard, Reservation};
 use sled_log::restart::restart;
 use sled_log::result::Result;
@@ -47,6 +47,7 @@ impl Opened {
             "complete" => self.complete(words.number(), out),
             "is_manifest" => self.is_manifest(words.number(), out),
             "abort" => self.abort(words.number(), out),
+            "mark_writebatch" => self.mark_writebatch(words.number(), words.signed(), out),
             "abandon" => self.abandon(words.number(), out),
             _ => self.call_of_log(name, words, out),
         }
@@ -215,6 +216,20 @@ impl Opened {
     fn abort(&mut self, number: u64, out: &mut Answer) {
         match self.take_open(number) {
             Some(ticket) => out.placed(self.log.abort(ticket)),
+            None => out.refused(),
+        }
+    }
+
+    // Ends the manifest of a ticket with the peg of its batch. One that may not end there is given up, and so is a message's.
+    fn mark_writebatch(&mut self, number: u64, peg: Lsn, out: &mut Answer) {
+        match self.take_open(number) {
+            Some(ticket) if ticket.is_manifest() && self.log.may_end_at(&ticket, peg) => {
+                out.placed(self.log.mark_writebatch(ticket, peg));
+            }
+            Some(ticket) => {
+                ticket.abandon();
+                out.refused();
+            }
             None => out.refused(),
         }
     }

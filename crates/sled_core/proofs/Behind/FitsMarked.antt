@@ -38,7 +38,7 @@ module _ (sum : List ℕ → ℕ) (size : ℕ) (site : SegmentPosition) (device 
     (pre : List SegmentParts) (s : SegmentParts) (post : List SegmentParts) {reach : ℕ} (fits : FitsIn sum (log_parts size site device fault bytes from bs rs) (pre ++ s ∷ post) reach pins H A f U)
     (s' : SegmentParts) (its_site : s'.site ≡ s.site) (so_far : s'.written_len ≡ s.written_len) (head : s.written_len ≡ 0 → take 20 s'.bytes ≡ take 20 s.bytes)
     (H' : History) (b : Batch) (least : 256 ≤ size) (short : length bytes ≤ size) (ok : fault ≡ None) (holds : HoldsIn sum (log_parts size site device fault bytes from bs rs) (pre ++ s' ∷ post) H') (adds : AddsBatch H b H')
-    (placed : (c : Batch) → Contains H'.batches c → IsPlacedBatch size H' c) (pegged : IsInRecord H.messages b.peg) (above : s.site.place + s.written_len ≤ b.low) (inside : b.low < s.site.place + size) (fresh : FirstUnwritten s.sealed) where
+    (placing : ((c : Batch) → Contains H.batches c → IsPlacedBatch size H c) → (c : Batch) → Contains H'.batches c → IsPlacedBatch size H' c) (pegged : IsInRecord H.messages b.peg) (above : s.site.place + s.written_len ≤ b.low) (inside : b.low < s.site.place + size) (fresh : FirstUnwritten s.sealed) where
   abbrev first : SnapshotModel
   first = fits.holds.begun.first
 
@@ -76,7 +76,7 @@ module _ (sum : List ℕ → ℕ) (size : ℕ) (site : SegmentPosition) (device 
   -- A reader finds the same of a file that has these zeros.
   stands_new : NoHeaderOfZeros sum → (log : List ℕ) → (s.written_len ≡ 0 → AreZeros log s.site.slot (s.site.slot + 20)) → StandsAmong sum size log site from others reach H first → StandsAmong sum size log site from others' reach H' first
   stands_new none log zeros among = subst (λ (l : List BegunSegment). StandsAmong sum size log site from l reach H' first) (sym (begun_same pre s s' post its_site so_far))
-      (other-marks sum size log site from reach H H' first least none (begun_segment s) among_others had.segment.place_begins zeros b adds above inside placed ordered pegged among)
+      (other-marks sum size log site from reach H H' first least none (begun_segment s) among_others had.segment.place_begins zeros b adds above inside (placing among.stands.batched) ordered pegged among)
 
   alone_new : NoHeaderOfZeros sum → StandsAmong sum size device.log.bytes site from others' reach H' first
   alone_new none = stands_new none device.log.bytes clean (fits.among ok none)

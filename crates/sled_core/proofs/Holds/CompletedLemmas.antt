@@ -1,4 +1,5 @@
 -- A reservation that is completed becomes a message of the history that a log holds, at its place; one that is aborted leaves the history as it was. No other one is touched.
+use Rattle.sled_core.proofs.Reserve.WrittenOver as over
 use Rattle.sled_core.proofs.Reserve.WrittenOver.{batches_ended}
 use Rattle.sled_core.specs.Recoverable.{NoBatchEnds}
 use Rattle.sled_core.proofs.Reserve.RecordEnds.{no_end_in, records_ended}
@@ -247,18 +248,17 @@ segment-cancel sum size site device fault bytes from bs rs i r H {stays} holds t
     (λ ok. laid_ends sum size site device fault bytes from bs rs i r H holds there is_open are (sum (body_in bytes r ++ code_of kind.Canceled ∷ part bytes (r.from + 5) (r.header_len - 5))) kind.Canceled Canceled refl (holds.laid ok)))
 
 -- Every other reservation stays where it is, for the same message.
-pub others_stay : (sum : List ℕ → ℕ) (size : ℕ) (site : SegmentPosition) (device : State) (fault : Option IoError) (bytes : List ℕ) (from : ℕ) (bs : List Sealed) (rs : List Reserved) (i j : ℕ) (r x : Reserved) (H : History) (word : ℕ) (k : MessageKind) (state : ReservationState)
+pub others_stay : (sum : List ℕ → ℕ) (size : ℕ) (site : SegmentPosition) (device : State) (fault : Option IoError) (bytes : List ℕ) (from : ℕ) (bs : List Sealed) (rs : List Reserved) (i j : ℕ) (r x : Reserved) (H : History) (text : List ℕ) (state : ReservationState) → length text ≤ r.len
     → {stays : Message → Type 0} → HoldsSegment sum (log_parts size site device fault bytes from bs rs) stays H → slice_get rs i ≡ Some r → r.state ≡ Open → slice_get rs j ≡ Some x → x.state ≡ Open → (x.from ≡ r.from → ⊥)
-    → (slice_get (set rs i (ended state r)) j ≡ Some x) × (message_in site (written bytes r.from (ending word k)) x ≡ message_in site bytes x)
-others_stay sum size site device fault bytes from bs rs i j r x H word k state holds at_i is_open at_j x_open apart =
+    → (slice_get (set rs i (ended state r)) j ≡ Some x) × (message_in site (written bytes r.from text) x ≡ message_in site bytes x)
+others_stay sum size site device fault bytes from bs rs i j r x H text state short holds at_i is_open at_j x_open apart =
     let number : ℕ = site.place / size in
-    let stands : HasText sum number bytes r = (reserved_in sum size number bytes r (open_plain r.state is_open) (at_there (Stands sum size number bytes) rs i r at_i holds.stand)).text in
     let at_x : HasText sum number bytes x = (reserved_in sum size number bytes x (open_plain x.state x_open) (at_there (Stands sum size number bytes) rs j x at_j holds.stand)).text in
     let inside = at_there (λ z. (max 20 from ≤ z.from) × (z.from + z.len ≤ length bytes)) rs i r at_i (chain_within (max 20 from) (length bytes) rs holds.chain) in
-    let body : body_in (written bytes r.from (ending word k)) x ≡ body_in bytes x =
+    let body : body_in (written bytes r.from text) x ≡ body_in bytes x =
     elim (chain_apart (max 20 from) (length bytes) rs i j r x holds.chain at_i at_j apart) [
-      | inl before ↦ body_before sum number bytes r inside.1 stands word k x before at_x.long
-      | inr behind ↦ body_behind sum number bytes r inside.1 stands word k x behind
+      | inl before ↦ over.body_before sum number bytes text r short inside.1 x before at_x.long
+      | inr behind ↦ over.body_behind sum number bytes text r short inside.1 x behind
     ] in (
       there-set_other rs i j r x (ended state r) at_i at_j (λ same. apart (sym (ap (λ (z : Reserved). z.from) same))),
       ap (λ (l : List ℕ). record (message_in site bytes x) { bytes = l }) body,

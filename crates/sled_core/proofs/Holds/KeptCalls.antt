@@ -12,6 +12,7 @@ use Rattle.sled_core.specs.Keeps.{ConfigKept, GoesOn, Preserves, SamePosition}
 use Rattle.sled_core.specs.Recoverable.{RecoverableIfOwn}
 use Rattle.sled_core.specs.Running.{Fits}
 use Rattle.sled_core.proofs.Holds.RunningLemmas.{fits_leaves}
+use Rattle.sled_core.proofs.Line.LineEnds.{noted_further, noted_still}
 
 module _ {D C : Type 0} (trace : D → Trace) (sum : List ℕ → ℕ) where
   -- a device that was left alone has no other moment
@@ -27,7 +28,7 @@ module _ {D C : Type 0} (trace : D → Trace) (sum : List ℕ → ℕ) where
 
   -- nothing was done
   pub kept_still : (log : Log D C) → Preserves trace sum log log
-  kept_still log = record { goes_on = goes_on_still log; history = λ H holds. holds; fits = λ H A f U fits. fits }
+  kept_still log = record { goes_on = goes_on_still log; history = λ H holds. holds; fits = λ H A f U fits. fits; noted = noted_still log }
 
   pub goes_on_further : (old mid new : Log D C) → Preserves trace sum old mid → GoesOn trace sum mid new → GoesOn trace sum old new
   goes_on_further old mid new first then = record {
@@ -45,6 +46,7 @@ module _ {D C : Type 0} (trace : D → Trace) (sum : List ℕ → ℕ) where
     goes_on = goes_on_further old mid new first then.goes_on;
     history = λ H holds. then.history H (first.history H holds);
     fits = λ H A f U fits. then.fits H A f U (first.fits H A f U fits);
+    noted = noted_further old mid new then.goes_on.stable first.noted then.noted;
   }
 
 -- So it is with its tickets,

@@ -30,7 +30,7 @@ use Rattle.sled_core.proofs.Sealed.Zeros.{begin_zeros}
 module _ (sum : List ℕ → ℕ) (size : ℕ) (site : SegmentPosition) (device : State) (fault : Option IoError) (bytes : List ℕ) (from : ℕ) (bs : List Sealed) (rs : List Reserved) (pins : ℕ) (H : History) (A f : ℕ) (U : List Message)
     {behind : List SegmentParts} {reach : ℕ} (fits : FitsIn sum (log_parts size site device fault bytes from bs rs) behind reach pins H A f U)
     (bytes' : List ℕ) (from' : ℕ) (bs' : List Sealed) (rs' : List Reserved) (H' : History) (b : Batch) (is : from' ≡ from) (least : 256 ≤ size) (in_segment : length bytes' ≤ size) (ok : fault ≡ None)
-    (holds : HoldsIn sum (log_parts size site device fault bytes' from' bs' rs') behind H') (adds : AddsBatch H b H') (placed : (c : Batch) → Contains H'.batches c → IsPlacedBatch size H' c) (pegged : IsInRecord H.messages b.peg)
+    (holds : HoldsIn sum (log_parts size site device fault bytes' from' bs' rs') behind H') (adds : AddsBatch H b H') (placing : ((c : Batch) → Contains H.batches c → IsPlacedBatch size H c) → (c : Batch) → Contains H'.batches c → IsPlacedBatch size H' c) (pegged : IsInRecord H.messages b.peg)
     (above : site.place + from ≤ b.low) (inside : b.low < site.place + size) (fresh : FirstUnwritten bs) (are : AreSealed from rs bs) where
   abbrev first : SnapshotModel
   first = fits.holds.begun.first
@@ -50,10 +50,10 @@ module _ (sum : List ℕ → ℕ) (size : ℕ) (site : SegmentPosition) (device 
   clean none = begin_zeros device.log.bytes site.slot bytes from bs rs size fresh are (omega (arith, least)) (fits.holds.own.laid ok) none
 
   alone_new : NoHeaderOfZeros sum → StandsAmong sum size device.log.bytes site from others reach H' first
-  alone_new none = alone-marks sum size device.log.bytes site from reach H H' first least none holds.own.place_begins clean b adds above inside placed ordered pegged (fits.among ok none)
+  alone_new none = alone-marks sum size device.log.bytes site from reach H H' first least none holds.own.place_begins clean b adds above inside (placing (fits.among ok none).stands.batched) ordered pegged (fits.among ok none)
 
   beyond_new : (to : ℕ) → site.slot ≤ to → NoHeaderOfZeros sum → StandsAmong sum size (padded to device.log.bytes) site from others reach H' first
-  beyond_new to far none = alone-marks sum size (padded to device.log.bytes) site from reach H H' first least none holds.own.place_begins (λ first_one i low high. padded_get to device.log.bytes i ∙ clean first_one i low high) b adds above inside placed ordered pegged (fits.beyond to far ok none)
+  beyond_new to far none = alone-marks sum size (padded to device.log.bytes) site from reach H H' first least none holds.own.place_begins (λ first_one i low high. padded_get to device.log.bytes i ∙ clean first_one i low high) b adds above inside (placing (fits.beyond to far ok none).stands.batched) ordered pegged (fits.beyond to far ok none)
 
   names_new : NamesFit sum size device.snapshots H' f first
   names_new = let begun = fits.holds.begun.reached in names-marks H H' b adds sum size device.snapshots f first (omega (arith, begun, above)) fits.names

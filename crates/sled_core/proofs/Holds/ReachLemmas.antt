@@ -161,7 +161,7 @@ fits_inline trace sum log H A f U fits m there above =
 -- it holds the history
 pub fits_holds : {D C : Type 0} (trace : D → Trace) (sum : List ℕ → ℕ) (log : Log D C) (H : History) (A f : ℕ) (U : List Message) → Fits trace sum log H A f U → Holds trace sum log H
 unfolding Fits Holds
-fits_holds trace sum log H A f U fits = record { holds = fits.parts.holds; closed = fits.closed; slots = fits.slots }
+fits_holds trace sum log H A f U fits = record { holds = fits.parts.holds; batches = fits.batches; slots = fits.slots }
 
 -- what was acknowledged is written
 pub fits_acknowledged : {D C : Type 0} (trace : D → Trace) (sum : List ℕ → ℕ) (log : Log D C) (H : History) (A f : ℕ) (U : List Message) → Fits trace sum log H A f U → A ≤ synced_end log

@@ -1,22 +1,19 @@
 -- How a running log goes on fitting its history at the calls that write nothing.
-use Rattle.std.proofs.Common.{◌≡◌, ◌⊎◌, ◌≢◌, ◌≤◌, ◌<◌, ◌<ℤ◌, pos, ◌+◌, ◌∙◌, nat_lt, max, if◌then◌else◌, Bool, true, false, ℕ, List, [], ◌∷◌, length, map, Option, None, refl, sym, ap, arith, subst, inl, inr}
+use Rattle.std.proofs.Common.{◌≡◌, ◌⊎◌, ◌≢◌, ◌≤◌, ◌<◌, ◌<ℤ◌, pos, ◌+◌, ◌∙◌, max, ℕ, List, [], ◌∷◌, length, map, Option, None, sym, ap, arith, subst, inl, inr}
 use Rattle.std.specs.List.{Contains}
 use Rattle.std.specs.declared.io.Error.{Error as IoError}
-use Rattle.std.proofs.lemmas.Bool.Decides.{nat_tests}
-use Rattle.std.proofs.lemmas.List.Elements.{All-contains}
 use Rattle.sled_codec.specs.History.{Message, Batch, History, AddsMessage}
 use Rattle.sled_codec.specs.Snapshots.{SnapshotModel}
 use Rattle.sled_store.specs.Device.{State, Trace, state_of}
 use Rattle.sled_store.proofs.Names.OneBegin.{one_begin}
-use Rattle.sled_store.proofs.Segments.Elements.{in_first, in_rest}
 use Rattle.sled_core.specs.declared.iobuf.Reserved.{Reserved}
 use Rattle.sled_core.specs.declared.iobuf.Sealed.{Sealed}
 use Rattle.sled_core.specs.declared.iobuf.SegmentPosition.{SegmentPosition}
 use Rattle.sled_core.specs.declared.logger.Log.{Log}
 use Rattle.sled_core.specs.Begun.{SegmentParts}
-use Rattle.sled_core.specs.Fits.{CloseBelow, HasInline, HoldsIn, begun_segment, device_of, log_parts, segment_size_of}
+use Rattle.sled_core.specs.Fits.{FitsBatches, HasInline, HoldsIn, begun_segment, device_of, log_parts, segment_size_of}
 use Rattle.sled_core.specs.LogFile.{padded}
-use Rattle.sled_core.specs.Running.{BlobsFit, NamesFit, Fits, FitsIn, end_below, last_batch, last_message}
+use Rattle.sled_core.specs.Running.{BlobsFit, NamesFit, Fits, FitsIn, end_below}
 use Rattle.sled_core.specs.Reached.{BegunSegment, StandsAmong}
 use Rattle.sled_core.specs.OpenBatches.{stable_below}
 use Rattle.sled_core.specs.Recoverable.{LeavesRecoverable, NoBatchBegins, NoBatchEnds, NoHeaderOfZeros}
@@ -24,11 +21,13 @@ use Rattle.sled_core.specs.SealedBuffers.{AreSealed, AreZeros, FirstUnwritten}
 use Rattle.sled_core.proofs.Holds.Added.{was_or_added}
 use Rattle.sled_core.proofs.Holds.BegunLemmas.{names-adds, blobs-adds}
 use Rattle.sled_core.proofs.Flush.Padded.{padded_get}
+use Rattle.sled_core.proofs.Holds.FitsBatches.{stable_noted}
 use Rattle.sled_core.proofs.Holds.ReachLemmas.{LiesBehind, completed_behind}
 use Rattle.sled_core.proofs.Flush.Settled.{InlineFrom, leaves_less, rests, settled_recoverable}
 use Rattle.sled_core.proofs.Holds.StandsAdds.{alone-adds}
 use Rattle.sled_core.proofs.Holds.WholeHistory.{of_first, whole_ascends}
-use Rattle.sled_core.proofs.Reached.StableBelow.{stable_all, stable_low}
+use Rattle.sled_core.proofs.Reached.OpenEnds.{acknowledged_stable}
+use Rattle.sled_core.proofs.Reached.StableBelow.{stable_low}
 use Rattle.sled_core.proofs.Sealed.Zeros.{begin_zeros}
 
 module _ (sum : List ℕ → ℕ) (size : ℕ) (site : SegmentPosition) (device : State) (fault : Option IoError) (bytes : List ℕ) (from : ℕ) (bs : List Sealed) (rs : List Reserved) (pins : ℕ) (H : History) (A f : ℕ) (U : List Message)
@@ -88,42 +87,14 @@ module _ (sum : List ℕ → ℕ) (size : ℕ) (site : SegmentPosition) (device 
     left = fits.left;
   }
 
-  -- and so each message that is written, and each batch.
-
-  message_ends : (ms : List Message) → ((m : Message) → Contains ms m → Contains H.messages m) → last_message (site.place + from) ms ≤ reach
-  message_ends [] among = omega arith
-  message_ends (m ∷ ms) among = by (message_ends ms (λ x there. among x (in_rest m x ms there))) (nat_lt m.place (site.place + from)) refl where
-    by : last_message (site.place + from) ms ≤ reach → (b : Bool) → nat_lt m.place (site.place + from) ≡ b
-        → (if b then max (m.place + m.size) (last_message (site.place + from) ms) else last_message (site.place + from) ms) ≤ reach
-    by rest false is = rest
-    by rest true is = let below : m.place < site.place + from = grind (arith, nat_tests, is) in let end = fits.ends m (among m (in_first m ms)) below in omega (arith, end.1, rest)
-
-  -- no batch is open, where all end below what is written
-  module _ (closed : CloseBelow (site.place + from) H.batches) where
-    closes : (b : Batch) → Contains H.batches b → (b.low < reach) × (b.peg < reach)
-    closes b there =
-        let under = All-contains (λ (x : Batch). (x.low < site.place + from) × (x.peg < site.place + from)) H.batches b closed there in (
-          elim (fits.no_batch b there) [ inl low ↦ low | inr far ↦ absurd (omega (arith, far, under.0)) ],
-          elim (fits.no_end b there) [ inl low ↦ low | inr far ↦ absurd (omega (arith, far, under.1)) ],
-        )
-
-    all_stable : stable_below reach H.batches ≡ reach
-    all_stable = stable_all reach H.batches (λ b there low. (closes b there).1)
-
-    batch_ends : (bs : List Batch) → ((b : Batch) → Contains bs b → Contains H.batches b) → last_batch (site.place + from) bs ≤ reach
-    batch_ends [] among = omega arith
-    batch_ends (b ∷ bs) among = by (batch_ends bs (λ x there. among x (in_rest b x bs there))) (nat_lt b.low (site.place + from)) where
-      by : last_batch (site.place + from) bs ≤ reach → (o : Bool) → (if o then max (max b.low b.peg + 1) (last_batch (site.place + from) bs) else last_batch (site.place + from) bs) ≤ reach
-      by rest false = rest
-      by rest true = let here = closes b (among b (in_first b bs)) in omega (arith, here.0, here.1, rest)
-
-    pub fits-acknowledged : FitsIn sum (log_parts size site device fault bytes from bs rs) behind reach pins H (max A (end_below (site.place + from) H)) f U
-    fits-acknowledged =
-        let old = fits.passes in
-        let messages = message_ends H.messages (λ m there. there) in
-        let batches = batch_ends H.batches (λ b there. there) in
-        let stable = all_stable in
-        fits-synced (max A (end_below (site.place + from) H)) (omega (arith, old, messages, batches, stable))
+  -- and so each message that begins below the stable place of what is written, and each batch.
+  pub fits-acknowledged : (last : ℕ) (noted : List Batch) → FitsBatches (site.place + from) last noted H → FitsIn sum (log_parts size site device fault bytes from bs rs) behind reach pins H (max A (end_below (stable_below (site.place + from) noted) H)) f U
+  fits-acknowledged last noted batches =
+      let old = fits.passes in
+      let stable = stable_noted (site.place + from) last noted H batches in
+      let passes = acknowledged_stable H reach (site.place + from) fits.near (λ m there low. (fits.ends m there low).1) fits.no_batch fits.no_end batches.apart batches.before in
+      fits-synced (max A (end_below (stable_below (site.place + from) noted) H))
+      (let all = subst (λ n. end_below n H ≤ stable_below reach H.batches) stable passes in omega (arith, old, all))
 
   -- Another count of pins fits, where one is out while a completed message is not marked.
   pub fits-pinned : (pins' : ℕ) → (U ≢ [] → 0 < pins') → FitsIn sum (log_parts size site device fault bytes from bs rs) behind reach pins' H A f U

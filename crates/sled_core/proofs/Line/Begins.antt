@@ -1,12 +1,11 @@
 -- A further segment is begun: the one that was being filled is filled to its end and sealed, and the log holds and fits what it did.
-use Rattle.sled_core.proofs.Holds.BatchLemmas.{closed_up}
 use Rattle.std.proofs.Common.{◌≡◌, ◌∙◌, ◌<◌, ◌≤◌, ◌+◌, ◌-◌, ◌*◌, ◌/◌, ◌^◌, ◌-ℤ◌, ap, sym, refl, arith, subst, inl, inr, ℕ, zero, suc, pos, List, [], ◌∷◌, ◌++◌, length, map, Option, Some, false, if◌then◌else◌, Bool}
-use Rattle.std.specs.List.{slice_get}
+use Rattle.std.specs.List.{Contains, slice_get}
 use Rattle.std.specs.declared.io.Error.{Error as IoError}
 use Rattle.std.proofs.Math.Nat.{div-le_self, mul-mod_left, suc-mul}
-use Rattle.std.proofs.lemmas.List.{append-nil, map-append, length-map, take_all}
+use Rattle.std.proofs.lemmas.List.{append-nil, length-append, map-append, length-map, take_all}
 use Rattle.std.proofs.lemmas.Bool.Decides.{nat_tests}
-use Rattle.std.proofs.lemmas.List.Elements.{All-contains, All-head, All-tail}
+use Rattle.std.proofs.lemmas.List.Elements.{All-head, All-tail}
 use Rattle.sled_codec.proofs.Segments.{length-short_header}
 use Rattle.sled_codec.specs.History.{Batch, History, Message}
 use Rattle.sled_codec.specs.Record.{short_header}
@@ -21,27 +20,32 @@ use Rattle.sled_core.specs.Begun.{SegmentParts, SegmentView, begin_of, segment_v
 use Rattle.sled_core.specs.Buffers.{IsHeaded}
 use Rattle.sled_core.specs.Tickets.{IsFor, index_of}
 use Rattle.sled_core.specs.declared.iobuf.Reserved.{Reserved}
-use Rattle.sled_core.specs.Fits.{written_to, AwaitsIn, CloseBelow, HasMark, Holds, HoldsIn, HoldsLine, HoldsWith, KeepsAll, KeepsTickets, current_of, device_of, fault_of, line_of, log_parts, machine_at, parts_in, pins_of, position_of, segment_size_of, synced_end, waiting_of}
+use Rattle.sled_core.specs.Fits.{written_to, AwaitsIn, CloseBelow, FitsBatches, HasMark, Holds, HoldsIn, HoldsLine, HoldsWith, KeepsAll, KeepsTickets, current_of, device_of, fault_of, line_end, line_of, noted_in, log_parts, machine_at, parts_in, pins_of, position_of, segment_size_of, stable_end, synced_end, waiting_of}
 use Rattle.sled_core.specs.FreeSlots.{HasSlot, HasSlots}
 use Rattle.sled_core.specs.Keeps.{Preserves}
 use Rattle.sled_core.specs.OpenPlaces.{open_places_along}
 use Rattle.sled_core.specs.Positions.{is_short, next_segment_at, position_in}
 use Rattle.sled_core.specs.Recoverable.{IsMarkOf}
+use Rattle.sled_core.specs.OpenBatches.{stable_below}
 use Rattle.sled_core.specs.Running.{Fits, FitsIn, FitsLine, FitsWith}
 use Rattle.sled_core.specs.Turned.{ChangesSlots, begun_view, next_line}
 use Rattle.sled_core.specs.Waiting.{at_last, closed_now, filled_now, last_of, unwritten}
 use Rattle.sled_core.proofs.Behind.Around.{behind_place, behind_place_is}
 use Rattle.sled_core.proofs.Behind.Begins.{behind-begins}
 use Rattle.sled_core.proofs.Behind.FitsBegun.{behind-fits-begun}
+use Rattle.sled_core.proofs.Holds.FitsBatches.{batches_up, stable_noted}
 use Rattle.sled_core.proofs.Holds.KeptCalls.{goes_on_quietly}
 use Rattle.sled_core.proofs.Line.Closes.{IsClosable, filled_gone, filled_length, filled_message, filled_site, filled_there, filled_written, line_closed, line_fits_closed}
 use Rattle.sled_core.proofs.Line.Facts.{IsSegment, current_facts, nth_facts}
 use Rattle.sled_core.proofs.Line.Last.{All-at_last, last_behind_all, last_get_of, unwritten-append}
+use Rattle.sled_core.proofs.Line.LineEnds.{noted_later, noted_same}
 use Rattle.sled_core.proofs.Line.Moves.{fits_as, holds_as}
 use Rattle.sled_core.proofs.Line.OpenPlaces.{places_begun, places_closed}
 use Rattle.sled_core.proofs.Line.Slots.{next_free, next_other, next_others, slots_begun}
 use Rattle.sled_core.proofs.Reached.BufferPath.{buffer_mark, mark_lower}
 use Rattle.sled_core.proofs.Reached.Marks.{less_than}
+use Rattle.sled_core.proofs.Reached.OpenBatch.{stable_ends}
+use Rattle.sled_core.proofs.Reached.StableBelow.{stable_low}
 use Rattle.sled_core.proofs.Sealed.Ended.{ends_rise, ends_up}
 use Rattle.sled_core.proofs.Reserve.Ranges.{at_there}
 use Rattle.sled_core.proofs.Flush.Completed.{grows}
@@ -68,9 +72,9 @@ module _ (sum : List ℕ → ℕ) (size : ℕ) (device : State) (fault : Option 
   header_at place stable = short_header sum (pos place) (pos stable -ℤ pos 1)
 
   -- its mark lies in no batch
-  marked : (site : SegmentPosition) (stable : ℕ) → stable ≤ site.place → CloseBelow stable H.batches → HasMark sum site (header_at site.place stable) H
-  marked site stable below closed =
-      let is : IsMarkOf H (record { place = stable; slot = site.slot; mark = pos stable -ℤ pos 1 }) = buffer_mark H site.slot stable (λ b there low. (All-contains (λ (x : Batch). (x.low < stable) × (x.peg < stable)) H.batches b closed there).1) in
+  marked : (site : SegmentPosition) (stable : ℕ) → stable ≤ site.place → ((b : Batch) → Contains H.batches b → b.low < stable → b.peg < stable) → HasMark sum site (header_at site.place stable) H
+  marked site stable below ended =
+      let is : IsMarkOf H (record { place = stable; slot = site.slot; mark = pos stable -ℤ pos 1 }) = buffer_mark H site.slot stable ended in
       record {
         mark = pos stable -ℤ pos 1;
         is = take_all 20 (header_at site.place stable) (omega (arith, length-short_header sum (pos site.place) (pos stable -ℤ pos 1)));
@@ -103,37 +107,40 @@ module _ (sum : List ℕ → ℕ) (size : ℕ) (device : State) (fault : Option 
         let within = written_within v vs holds in
         omega (arith, up, within, short)
 
-    mark_of : (v : SegmentView) (vs : List SegmentView) → place ≡ first_place (v ∷ vs) + length (v ∷ vs) * size → length v.parts.bytes ≤ size → CloseBelow (written_to (v ∷ vs)) H.batches → HoldsLine sum size device fault (v ∷ vs) H
-        → HasMark sum (record { place = place; slot = next_slot m * size }) (header_at place (written_to (v ∷ vs))) H
-    mark_of v vs at short ended holds = marked (record { place = place; slot = next_slot m * size }) (written_to (v ∷ vs)) (written_before v vs at short holds) ended
-
-    closed_before : (v : SegmentView) (vs : List SegmentView) → place ≡ first_place (v ∷ vs) + length (v ∷ vs) * size → length v.parts.bytes ≤ size → CloseBelow (written_to (v ∷ vs)) H.batches → HoldsLine sum size device fault (v ∷ vs) H
-        → CloseBelow place H.batches
-    closed_before v vs at short ended holds = closed_up (written_to (v ∷ vs)) place H.batches (written_before v vs at short holds) ended
+    -- The mark is the place before this one, which is written, and in front of which no batch is open; and all batches end before the new segment.
+    module _ (stable : ℕ) (line : List SegmentView) (low : stable ≤ written_to line) (ended : (b : Batch) → Contains H.batches b → b.low < stable → b.peg < stable) (within : CloseBelow place H.batches)
+        (at : place ≡ first_place line + length line * size) (short : FirstShort size line) (has : HasSlots size line device.log.bytes fault m) where
+      mark_of : (v : SegmentView) (vs : List SegmentView) → line ≡ v ∷ vs → HoldsLine sum size device fault (v ∷ vs) H → HasMark sum (record { place = place; slot = next_slot m * size }) (header_at place stable) H
+      mark_of v vs is holds =
+          let before = written_before v vs (subst (λ (l : List SegmentView). place ≡ first_place l + length l * size) is at) (subst (FirstShort size) is short) holds in
+          let under = subst (λ (l : List SegmentView). stable ≤ written_to l) is low in
+          marked (record { place = place; slot = next_slot m * size }) stable (omega (arith, before, under)) ended
 
     -- What the others hold is held with it,
-    pub line_begun : (line : List SegmentView) → place ≡ first_place line + length line * size → FirstShort size line → HasSlots size line device.log.bytes fault m → CloseBelow (written_to line) H.batches → HoldsLine sum size device fault line H
-        → HoldsLine sum size device fault (line ++ begun_at place (written_to line) ∷ []) H
-    line_begun [] at short has ended holds = absurd holds
-    line_begun (v ∷ vs) at short has ended holds =
-        subst (λ (ss : List SegmentParts). HoldsIn sum (log_parts size v.parts.site device fault v.parts.bytes v.parts.written_len v.parts.sealed v.parts.reserved) ss H) (sym (map-append parts_in vs (begun_at place (written_to (v ∷ vs)) ∷ [])))
+    pub line_begun : (stable : ℕ) (line : List SegmentView) → stable ≤ written_to line → ((b : Batch) → Contains H.batches b → b.low < stable → b.peg < stable) → CloseBelow place H.batches
+        → place ≡ first_place line + length line * size → FirstShort size line → HasSlots size line device.log.bytes fault m → HoldsLine sum size device fault line H
+        → HoldsLine sum size device fault (line ++ begun_at place stable ∷ []) H
+    line_begun stable [] low ended within at short has holds = absurd holds
+    line_begun stable (v ∷ vs) low ended within at short has holds =
+        subst (λ (ss : List SegmentParts). HoldsIn sum (log_parts size v.parts.site device fault v.parts.bytes v.parts.written_len v.parts.sealed v.parts.reserved) ss H) (sym (map-append parts_in vs (begun_at place stable ∷ [])))
         (behind-begins sum size v.parts.site device fault v.parts.bytes v.parts.written_len v.parts.sealed v.parts.reserved H (map parts_in vs) holds big short
-        (record { place = place; slot = next_slot m * size }) (header_at place (written_to (v ∷ vs))) (place_is v vs at) (mul-mod_left (next_slot m) size) (length-short_header sum (pos place) (pos (written_to (v ∷ vs)) -ℤ pos 1))
-        (mark_of v vs at short ended holds) (next_other m slots size (omega (arith, big)) v (All-head (HasSlot size m) v vs has.taken))
-        (next_others m slots size (omega (arith, big)) vs (All-tail (HasSlot size m) v vs has.taken)) (λ none. has.zeros none (next_slot m) (next_free m slots)) (closed_before v vs at short ended holds))
+        (record { place = place; slot = next_slot m * size }) (header_at place stable) (place_is v vs at) (mul-mod_left (next_slot m) size) (length-short_header sum (pos place) (pos stable -ℤ pos 1))
+        (mark_of stable (v ∷ vs) low ended within at short has v vs refl holds) (next_other m slots size (omega (arith, big)) v (All-head (HasSlot size m) v vs has.taken))
+        (next_others m slots size (omega (arith, big)) vs (All-tail (HasSlot size m) v vs has.taken)) (λ none. has.zeros none (next_slot m) (next_free m slots)) within)
 
     -- and what they fit is fitted.
-    pub line_fits_begun : (reach pins A f : ℕ) (U : List Message) (line : List SegmentView) → place ≡ first_place line + length line * size → place < 2 ^ 63 → FirstShort size line → HasSlots size line device.log.bytes fault m → CloseBelow (written_to line) H.batches
-        → FitsLine sum size device fault line reach pins H A f U → FitsLine sum size device fault (line ++ begun_at place (written_to line) ∷ []) reach pins H A f U
+    pub line_fits_begun : (reach pins A f : ℕ) (U : List Message) (stable : ℕ) (line : List SegmentView) → stable ≤ written_to line → ((b : Batch) → Contains H.batches b → b.low < stable → b.peg < stable) → CloseBelow place H.batches
+        → place ≡ first_place line + length line * size → place < 2 ^ 63 → FirstShort size line → HasSlots size line device.log.bytes fault m
+        → FitsLine sum size device fault line reach pins H A f U → FitsLine sum size device fault (line ++ begun_at place stable ∷ []) reach pins H A f U
     unfolding mark_of marked
-    line_fits_begun reach pins A f U [] at small short has ended fits = absurd fits
-    line_fits_begun reach pins A f U (v ∷ vs) at small short has ended fits =
-        subst (λ (ss : List SegmentParts). FitsIn sum (log_parts size v.parts.site device fault v.parts.bytes v.parts.written_len v.parts.sealed v.parts.reserved) ss reach pins H A f U) (sym (map-append parts_in vs (begun_at place (written_to (v ∷ vs)) ∷ [])))
+    line_fits_begun reach pins A f U stable [] low ended within at small short has fits = absurd fits
+    line_fits_begun reach pins A f U stable (v ∷ vs) low ended within at small short has fits =
+        subst (λ (ss : List SegmentParts). FitsIn sum (log_parts size v.parts.site device fault v.parts.bytes v.parts.written_len v.parts.sealed v.parts.reserved) ss reach pins H A f U) (sym (map-append parts_in vs (begun_at place stable ∷ [])))
         (behind-fits-begun sum size v.parts.site device fault v.parts.bytes v.parts.written_len v.parts.sealed v.parts.reserved pins H A f U (map parts_in vs) fits big short
-        (record { place = place; slot = next_slot m * size }) (header_at place (written_to (v ∷ vs))) (place_is v vs at) (mul-mod_left (next_slot m) size) (length-short_header sum (pos place) (pos (written_to (v ∷ vs)) -ℤ pos 1))
-        (mark_of v vs at short ended fits.holds) (next_other m slots size (omega (arith, big)) v (All-head (HasSlot size m) v vs has.taken))
-        (next_others m slots size (omega (arith, big)) vs (All-tail (HasSlot size m) v vs has.taken)) (λ none. has.zeros none (next_slot m) (next_free m slots)) (closed_before v vs at short ended fits.holds)
-        (mark_lower (written_to (v ∷ vs)) (written_to (v ∷ vs)) (omega arith)) small)
+        (record { place = place; slot = next_slot m * size }) (header_at place stable) (place_is v vs at) (mul-mod_left (next_slot m) size) (length-short_header sum (pos place) (pos stable -ℤ pos 1))
+        (mark_of stable (v ∷ vs) low ended within at short has v vs refl fits.holds) (next_other m slots size (omega (arith, big)) v (All-head (HasSlot size m) v vs has.taken))
+        (next_others m slots size (omega (arith, big)) vs (All-tail (HasSlot size m) v vs has.taken)) (λ none. has.zeros none (next_slot m) (next_free m slots)) within
+        (mark_lower stable (v.parts.site.place + v.parts.written_len) low) small)
 
 -- The segments once the last one is filled and sealed: the first of them lies where it lay, as far written.
 module _ (sum : List ℕ → ℕ) (size : ℕ) where
@@ -174,39 +181,63 @@ module _ (sum : List ℕ → ℕ) (size : ℕ) where
     at : place ≡ first_place (closed (v ∷ vs)) + length (closed (v ∷ vs)) * size
     at = omega (arith, lies, closed_first v vs, ap (λ n. n * size) (closed_count v vs), suc-mul (length vs) size)
 
-    abbrev next : List SegmentView
-    next = next_line sum size m (written_to (v ∷ vs)) (v ∷ vs)
+    -- the batches that are noted, and the stable place
+    module _ (noted : List Batch) where
+      abbrev stable : ℕ
+      stable = stable_below (written_to (v ∷ vs)) noted
 
-    next_written : written_to next ≡ written_to (v ∷ vs)
-    next_written = written_append (closed (v ∷ vs)) (begun_view sum size m (written_to (v ∷ vs)) (last_of v vs) ∷ []) (closed_some v vs) ∙ closed_written v vs
+      abbrev next : List SegmentView
+      next = next_line sum size m stable (v ∷ vs)
 
-    slots_next : HasSlots size (v ∷ vs) device.log.bytes fault m → HasSlots size next device.log.bytes fault (handed_out place m)
-    slots_next has = slots_begun m slots size (closed (v ∷ vs)) device.log.bytes fault place (begun_view sum size m (written_to (v ∷ vs)) (last_of v vs)) refl (closed_slots (v ∷ vs) device.log.bytes fault m has)
+      next_written : written_to next ≡ written_to (v ∷ vs)
+      next_written = written_append (closed (v ∷ vs)) (begun_view sum size m stable (last_of v vs) ∷ []) (closed_some v vs) ∙ closed_written v vs
 
-    closed_closed : (bs : List Batch) → CloseBelow (written_to (v ∷ vs)) bs → CloseBelow (written_to (closed (v ∷ vs))) bs
-    closed_closed bs ended = subst (λ n. CloseBelow n bs) (sym (closed_written v vs)) ended
+      slots_next : HasSlots size (v ∷ vs) device.log.bytes fault m → HasSlots size next device.log.bytes fault (handed_out place m)
+      slots_next has = slots_begun m slots size (closed (v ∷ vs)) device.log.bytes fault place (begun_view sum size m stable (last_of v vs)) refl (closed_slots (v ∷ vs) device.log.bytes fault m has)
 
-    closed_next : (bs : List Batch) → CloseBelow (written_to (v ∷ vs)) bs → CloseBelow (written_to next) bs
-    closed_next bs ended = subst (λ n. CloseBelow n bs) (sym next_written) ended
+      -- The segments end where the new one begins.
+      ends_there : place ≡ line_end size (v ∷ vs)
+      ends_there = omega (arith, lies, suc-mul (length vs) size)
 
-    pub holds_next : (H : History) → HoldsWith sum size device fault (v ∷ vs) m H → HoldsWith sum size device fault next (handed_out place m) H
-    holds_next H holds = record {
-      holds = subst (λ n. HoldsLine sum size device fault (closed (v ∷ vs) ++ begun_at sum size device fault m big H place n ∷ []) H) (closed_written v vs)
-          (line_begun sum size device fault m big H slots place (closed (v ∷ vs)) at (closed_short v vs short small) (closed_slots (v ∷ vs) device.log.bytes fault m holds.slots) (closed_closed H.batches holds.closed)
-          (line_closed sum size device fault H v vs closable holds.holds));
-      closed = closed_next H.batches holds.closed;
-      slots = slots_next holds.slots;
-    }
+      next_end : line_end size (v ∷ vs) ≤ line_end size next
+      next_end = longer (closed (v ∷ vs)) (begun_view sum size m stable (last_of v vs)) (closed_some v vs) at where
+        longer : (l : List SegmentView) (w : SegmentView) → 0 < length l → place ≡ first_place l + length l * size → line_end size (v ∷ vs) ≤ line_end size (l ++ w ∷ [])
+        longer [] w some lies_there = absurd (omega (arith, some))
+        longer (x ∷ xs) w some lies_there =
+            let long : suc (length (xs ++ w ∷ [])) ≡ suc (suc (length xs)) = ap suc (length-append xs (w ∷ []) ∙ (let one : length xs + 1 ≡ suc (length xs) = omega arith in one)) in
+            omega (arith, lies_there, ends_there, ap (λ n. n * size) long, suc-mul (suc (length xs)) size)
 
-    pub fits_next : (pins : ℕ) (H : History) (A f : ℕ) (U : List Message) → FitsWith sum size device fault (v ∷ vs) m pins H A f U → FitsWith sum size device fault next (handed_out place m) pins H A f U
-    fits_next pins H A f U fits = record {
-      reach = fits.reach;
-      parts = subst (λ n. FitsLine sum size device fault (closed (v ∷ vs) ++ begun_at sum size device fault m big H place n ∷ []) fits.reach pins H A f U) (closed_written v vs)
-          (line_fits_begun sum size device fault m big H slots place fits.reach pins A f U (closed (v ∷ vs)) at in_reach (closed_short v vs short small) (closed_slots (v ∷ vs) device.log.bytes fault m fits.slots) (closed_closed H.batches fits.closed)
-          (line_fits_closed sum size device fault fits.reach pins H A f U v vs closable fits.parts));
-      closed = closed_next H.batches fits.closed;
-      slots = slots_next fits.slots;
-    }
+      low : stable ≤ written_to (closed (v ∷ vs))
+      low = let is = stable_low (written_to (v ∷ vs)) noted in omega (arith, is, closed_written v vs)
+
+      module _ (H : History) (fits : FitsBatches (written_to (v ∷ vs)) (line_end size (v ∷ vs)) noted H) where
+        ended : (b : Batch) → Contains H.batches b → b.low < stable → b.peg < stable
+        ended b there lower =
+            let same = stable_noted (written_to (v ∷ vs)) (line_end size (v ∷ vs)) noted H fits in
+            subst (λ n. b.peg < n) same (stable_ends (written_to (v ∷ vs)) H.batches fits.apart b there (subst (λ n. b.low < n) (sym same) lower))
+
+        within : CloseBelow place H.batches
+        within = subst (λ n. CloseBelow n H.batches) (sym ends_there) fits.within
+
+        batches_next : FitsBatches (written_to next) (line_end size next) noted H
+        batches_next = batches_up (written_to (v ∷ vs)) (written_to next) (line_end size (v ∷ vs)) (line_end size next) noted H (let same = next_written in omega (arith, same)) next_end fits
+
+      pub holds_next : (H : History) → HoldsWith sum noted size device fault (v ∷ vs) m H → HoldsWith sum noted size device fault next (handed_out place m) H
+      holds_next H holds = record {
+        holds = line_begun sum size device fault m big H slots place stable (closed (v ∷ vs)) low (ended H holds.batches) (within H holds.batches) at (closed_short v vs short small) (closed_slots (v ∷ vs) device.log.bytes fault m holds.slots)
+            (line_closed sum size device fault H v vs closable holds.holds);
+        batches = batches_next H holds.batches;
+        slots = slots_next holds.slots;
+      }
+
+      pub fits_next : (pins : ℕ) (H : History) (A f : ℕ) (U : List Message) → FitsWith sum noted size device fault (v ∷ vs) m pins H A f U → FitsWith sum noted size device fault next (handed_out place m) pins H A f U
+      fits_next pins H A f U fits = record {
+        reach = fits.reach;
+        parts = line_fits_begun sum size device fault m big H slots place fits.reach pins A f U stable (closed (v ∷ vs)) low (ended H fits.batches) (within H fits.batches) at in_reach (closed_short v vs short small) (closed_slots (v ∷ vs) device.log.bytes fault m fits.slots)
+            (line_fits_closed sum size device fault fits.reach pins H A f U v vs closable fits.parts);
+        batches = batches_next H fits.batches;
+        slots = slots_next fits.slots;
+      }
 
   -- Tickets are for what they were for,
   pub awaits_closed : (v : SegmentView) (vs : List SegmentView) (place : ℕ) → IsSegment size place (last_of v vs) → (ticket : Reservation) (m : Message) → AwaitsIn (v ∷ vs) ticket m → AwaitsIn (closed (v ∷ vs)) ticket m
@@ -262,7 +293,7 @@ closable size place v f begins =
     }
 
 -- A log that has begun a further segment.
-module _ {D C : Type 0} (trace : D → Trace) (sum : List ℕ → ℕ) (old new : Log D C) (line : line_of new ≡ next_line sum (segment_size_of old) (machine_at old) (synced_end old) (line_of old))
+module _ {D C : Type 0} (trace : D → Trace) (sum : List ℕ → ℕ) (old new : Log D C) (line : line_of new ≡ next_line sum (segment_size_of old) (machine_at old) (stable_end old) (line_of old))
     (machine : machine_at new ≡ handed_out ((current_of old).parts.site.place + segment_size_of old) (machine_at old)) (rest : ChangesSlots old new) where
   abbrev its_size : ℕ
   its_size = segment_size_of old
@@ -277,8 +308,8 @@ module _ {D C : Type 0} (trace : D → Trace) (sum : List ℕ → ℕ) (old new 
   big = old.config.config.least
 
   -- The new segment is the one that is being filled.
-  pub begins_current : current_of new ≡ begun_view sum its_size (machine_at old) (synced_end old) (current_of old)
-  begins_current = ap (last_of first) line ∙ last_behind_all first (begun_view sum its_size (machine_at old) (synced_end old) (current_of old)) (closed sum its_size (line_of old))
+  pub begins_current : current_of new ≡ begun_view sum its_size (machine_at old) (stable_end old) (current_of old)
+  begins_current = ap (last_of first) line ∙ last_behind_all first (begun_view sum its_size (machine_at old) (stable_end old) (current_of old)) (closed sum its_size (line_of old))
 
   same_size : segment_size_of new ≡ its_size
   same_size = ap (λ (x : RunningConfig D C). x.config.segment_size) rest.config
@@ -286,8 +317,8 @@ module _ {D C : Type 0} (trace : D → Trace) (sum : List ℕ → ℕ) (old new 
   -- The next record begins behind its header.
   pub begins_position : position_of new ≡ next_segment_at its_size (current_of old).parts.site.place (machine_at old)
   begins_position =
-      let b : SegmentView = begun_view sum its_size (machine_at old) (synced_end old) (current_of old) in
-      let long = length-short_header sum (pos b.parts.site.place) (pos (synced_end old) -ℤ pos 1) in
+      let b : SegmentView = begun_view sum its_size (machine_at old) (stable_end old) (current_of old) in
+      let long = length-short_header sum (pos b.parts.site.place) (pos (stable_end old) -ℤ pos 1) in
       let room : is_short its_size (length b.parts.bytes) ≡ false = grind (arith, nat_tests, big, long) in
       (λ i. position_in (same_size i) (begins_current i) (machine i))
       ∙ ap (λ (o : Bool). if o then next_segment_at its_size b.parts.site.place (machine_now) else record { place = b.parts.site.place + length b.parts.bytes; begins = b.parts.site.place; slot = b.parts.site.slot; machine = machine_now }) room
@@ -299,18 +330,21 @@ module _ {D C : Type 0} (trace : D → Trace) (sum : List ℕ → ℕ) (old new 
   -- What the segment that was being filled had is among the sealed buffers.
   pub begins_waiting : waiting_of new ≡ unwritten (closed sum its_size (line_of old))
   begins_waiting =
-      let b : SegmentView = begun_view sum its_size (machine_at old) (synced_end old) (current_of old) in
+      let b : SegmentView = begun_view sum its_size (machine_at old) (stable_end old) (current_of old) in
       ap unwritten line ∙ unwritten-append (closed sum its_size (line_of old)) (b ∷ []) ∙ append-nil (unwritten (closed sum its_size (line_of old)))
 
   -- As much is written,
   pub begins_synced : synced_end new ≡ synced_end old
   begins_synced = ap written_to line ∙ kept (closed sum its_size (line_of old)) (closed_some sum its_size first behind) ∙ closed_written sum its_size first behind where
-    kept : (vs : List SegmentView) → 0 < length vs → written_to (vs ++ begun_view sum its_size (machine_at old) (synced_end old) (current_of old) ∷ []) ≡ written_to vs
+    kept : (vs : List SegmentView) → 0 < length vs → written_to (vs ++ begun_view sum its_size (machine_at old) (stable_end old) (current_of old) ∷ []) ≡ written_to vs
     kept [] none = absurd (omega (arith, none))
     kept (v ∷ vs) some = refl
 
+  pub begins_noted : noted_in new ≡ noted_in old
+  begins_noted = noted_same old new rest.noted begins_synced
+
   pub begins_same : KeepsAll old new
-  begins_same = record { config = rest.config; synced = begins_synced; fault = rest.fault; pins = rest.pins }
+  begins_same = record { config = rest.config; synced = begins_synced; noted = begins_noted; fault = rest.fault; pins = rest.pins }
 
   facts : IsSegment its_size (old.site.place + length old.behind.items * its_size) (current_of old)
   facts = current_facts old
@@ -319,10 +353,10 @@ module _ {D C : Type 0} (trace : D → Trace) (sum : List ℕ → ℕ) (old new 
   pub begins_tickets : KeepsTickets old new
   begins_tickets = record {
     awaits = λ ticket m awaits. subst (λ (l : List SegmentView). AwaitsIn l ticket m) (sym line)
-        (awaits_more sum its_size (closed sum its_size (line_of old)) (begun_view sum its_size (machine_at old) (synced_end old) (current_of old) ∷ []) ticket m
+        (awaits_more sum its_size (closed sum its_size (line_of old)) (begun_view sum its_size (machine_at old) (stable_end old) (current_of old) ∷ []) ticket m
         (awaits_closed sum its_size first behind (old.site.place + length old.behind.items * its_size) facts ticket m awaits));
     opens = ap open_places_along line
-        ∙ places_begun (closed sum its_size (line_of old)) (begun_view sum its_size (machine_at old) (synced_end old) (current_of old)) refl
+        ∙ places_begun (closed sum its_size (line_of old)) (begun_view sum its_size (machine_at old) (stable_end old) (current_of old)) refl
         ∙ places_closed sum its_size first behind;
   }
 
@@ -346,8 +380,9 @@ module _ {D C : Type 0} (trace : D → Trace) (sum : List ℕ → ℕ) (old new 
       record {
         goes_on = goes_on_quietly trace sum old new (record { config = ap (λ (x : RunningConfig D C). x.config) rest.config; checksum = ap (λ (x : RunningConfig D C). x.checksum) rest.config })
             (ap (λ (x : RunningConfig D C). trace x.device) rest.config) (let same = begins_synced in omega (arith, same));
-        history = λ H holds. holds_as trace sum old new rest.config rest.fault _ line _ machine H
-            (holds_next sum its_size device (fault_of old) (machine_at old) big old.account.slots first behind closes g.short small lies f.place_small H holds);
-        fits = λ H A f' U fits. fits_as trace sum old new rest.config rest.fault _ line _ machine H A f' U rest.pins
-            (fits_next sum its_size device (fault_of old) (machine_at old) big old.account.slots first behind closes g.short small lies f.place_small (pins_of old) H A f' U fits);
+        history = λ H holds. holds_as trace sum old new rest.config rest.fault (noted_in old) begins_noted _ line _ machine H
+            (holds_next sum its_size device (fault_of old) (machine_at old) big old.account.slots first behind closes g.short small lies f.place_small (noted_in old) H holds);
+        fits = λ H A f' U fits. fits_as trace sum old new rest.config rest.fault (noted_in old) begins_noted _ line _ machine H A f' U rest.pins
+            (fits_next sum its_size device (fault_of old) (machine_at old) big old.account.slots first behind closes g.short small lies f.place_small (noted_in old) (pins_of old) H A f' U fits);
+        noted = noted_later old new rest.noted (let same = begins_synced in omega (arith, same));
       }

@@ -1,10 +1,9 @@
 -- A call that ends a reservation of a log changes nothing else that a caller sees: the position, the stable end, and that no buffer is sealed; and what the changed segments hold and fit the log does.
-use Rattle.std.proofs.Common.{◌≡◌, ◌∙◌, ◌+◌, ◌-◌, ap, sym, refl, arith, subst, ℕ, zero, suc, Bool, true, false, nat_lt, if◌then◌else◌, List, [], ◌∷◌, ◌++◌, length, take, drop, set, map, Option, Some}
+use Rattle.std.proofs.Common.{◌≤◌, ◌≡◌, ◌∙◌, ◌+◌, ◌-◌, ap, sym, refl, arith, subst, ℕ, zero, suc, Bool, true, false, nat_lt, if◌then◌else◌, List, [], ◌∷◌, ◌++◌, length, take, drop, set, map, Option, Some}
 use Rattle.std.specs.declared.io.Error.{Error as IoError}
 use Rattle.std.specs.List.{slice_get}
 use Rattle.std.proofs.lemmas.List.{length-set}
-use Rattle.sled_codec.specs.declared.serialization.message.MessageKind.{MessageKind}
-use Rattle.sled_codec.specs.History.{History, Message}
+use Rattle.sled_codec.specs.History.{Batch, History, Message}
 use Rattle.sled_store.specs.Accounts.{machine_of}
 use Rattle.sled_store.specs.Device.{Trace, state_of}
 use Rattle.sled_store.specs.declared.config.RunningConfig.{RunningConfig}
@@ -17,16 +16,17 @@ use Rattle.sled_core.specs.declared.iobuf.Sealed.{Sealed}
 use Rattle.sled_core.specs.declared.iobuf.SegmentPosition.{SegmentPosition}
 use Rattle.sled_core.specs.declared.logger.Log.{Log}
 use Rattle.sled_core.specs.Begun.{SegmentView, segment_view, view_at}
-use Rattle.sled_core.specs.Buffers.{ending}
-use Rattle.sled_core.specs.Fits.{Holds, HoldsWith, KeepsAll, current_of, line_of, synced_end}
+use Rattle.sled_core.specs.Fits.{Holds, HoldsWith, KeepsAll, current_of, line_of, noted_in, synced_end}
 use Rattle.sled_core.specs.Keeps.{GoesOn, SamePosition}
 use Rattle.sled_core.specs.Positions.{is_short, next_segment_at, position_in}
+use Rattle.sled_core.specs.OpenBatches.{not_whole}
 use Rattle.sled_core.specs.Running.{Fits, FitsWith}
 use Rattle.sled_core.specs.SealedBuffers.{one_ended, one_fewer}
 use Rattle.sled_core.specs.Turned.{ChangesLine, ended_now}
 use Rattle.sled_core.specs.Waiting.{buffer_at, unwritten, unwritten_in, unwritten_of}
 use Rattle.sled_core.proofs.Holds.KeptCalls.{goes_on_quietly}
-use Rattle.sled_core.proofs.Line.EndedLine.{ended_bytes}
+use Rattle.sled_core.proofs.Line.LineEnds.{noted_later, noted_same}
+use Rattle.sled_core.proofs.Line.EndedLine.{over_bytes}
 use Rattle.sled_core.proofs.Line.Ends.{set_keeps}
 use Rattle.sled_core.proofs.Line.Facts.{nth_facts}
 use Rattle.sled_core.proofs.Line.Nth.{last_get}
@@ -77,10 +77,10 @@ unwritten_set (x ∷ xs) (suc n) v e there still none =
     let rest : unwritten (set xs n e) ≡ [] = unwritten_set xs n v e there still parts.1 in
     (λ j. parts.0 j ++ rest j)
 
-module _ {D C : Type 0} (old new : Log D C) (n : ℕ) (v : SegmentView) (there : slice_get (line_of old) n ≡ Some v) (i : ℕ) (r : Reserved) (at : slice_get v.parts.reserved i ≡ Some r) (is_open : r.state ≡ Open) (word : ℕ) (kind : MessageKind) (state : ReservationState)
-    (line : line_of new ≡ set (line_of old) n (ended_now i r (ending word kind) state v)) (rest : ChangesLine old new) where
+module _ {D C : Type 0} (old new : Log D C) (n : ℕ) (v : SegmentView) (there : slice_get (line_of old) n ≡ Some v) (i : ℕ) (r : Reserved) (at : slice_get v.parts.reserved i ≡ Some r) (is_open : r.state ≡ Open) (text : List ℕ) (short : length text ≤ r.len) (state : ReservationState)
+    (line : line_of new ≡ set (line_of old) n (ended_now i r text state v)) (rest : ChangesLine old new) where
   abbrev e : SegmentView
-  e = ended_now i r (ending word kind) state v
+  e = ended_now i r text state v
 
   abbrev behind : List SegmentView
   behind = map segment_view old.behind.items
@@ -99,7 +99,7 @@ module _ {D C : Type 0} (old new : Log D C) (n : ℕ) (v : SegmentView) (there :
   position_ended =
       let size : ℕ = old.config.config.segment_size in
       let m : Machine = machine_of old.accountant in
-      let long = ended_bytes v i r word kind (nth_facts old n v there) at is_open in
+      let long = over_bytes v i r text (nth_facts old n v there) at short in
       let same : position_in size e m ≡ position_in size v m = ap (λ (k : ℕ). if is_short size k then next_segment_at size v.parts.site.place m else record { place = v.parts.site.place + k; begins = v.parts.site.place; slot = v.parts.site.slot; machine = m }) long in
       record {
         position = (λ j. position_in (rest.config j).config.segment_size (current_of new) (machine_of (rest.accountant j)))
@@ -112,8 +112,15 @@ module _ {D C : Type 0} (old new : Log D C) (n : ℕ) (v : SegmentView) (there :
   synced_ended : synced_end new ≡ synced_end old
   synced_ended = set_keeps (λ (w : SegmentView). w.parts.site.place + w.parts.written_len) (line_of old) n v e there refl 0 (view_at old.site old.buffer) (view_at new.site new.buffer) refl (ap (λ (l : List SegmentView). slice_get l 0) (sym line))
 
+  pub noted_ended : noted_in new ≡ noted_in old
+  noted_ended = noted_same old new rest.noted synced_ended
+
+  -- and those that were noted are the ones that were.
+  pub left_ended : noted_in new ≡ not_whole (synced_end new) (noted_in old)
+  left_ended = noted_later old new rest.noted (let same = synced_ended in omega (arith, same))
+
   pub keeps_ended : KeepsAll old new
-  keeps_ended = record { config = rest.config; synced = synced_ended; fault = rest.fault; pins = rest.pins }
+  keeps_ended = record { config = rest.config; synced = synced_ended; noted = noted_ended; fault = rest.fault; pins = rest.pins }
 
   pub goes_on_ended : (trace : D → Trace) (sum : List ℕ → ℕ) → GoesOn trace sum old new
   goes_on_ended trace sum = goes_on_quietly trace sum old new (record { config = ap (λ (c : RunningConfig D C). c.config) rest.config; checksum = ap (λ (c : RunningConfig D C). c.checksum) rest.config })
@@ -121,20 +128,22 @@ module _ {D C : Type 0} (old new : Log D C) (n : ℕ) (v : SegmentView) (there :
 
   -- The log holds and fits what the changed segments do.
 
-  pub holds_ended : (trace : D → Trace) (sum : List ℕ → ℕ) (H : History) → HoldsWith sum old.config.config.segment_size (state_of (trace old.config.device)) old.fault (set (line_of old) n e) (machine_of old.accountant) H → Holds trace sum new H
+  pub holds_ended : (trace : D → Trace) (sum : List ℕ → ℕ) (H : History) → HoldsWith sum (noted_in old) old.config.config.segment_size (state_of (trace old.config.device)) old.fault (set (line_of old) n e) (machine_of old.accountant) H → Holds trace sum new H
   unfolding Holds
   holds_ended trace sum H holds =
-      subst (λ (c : RunningConfig D C). HoldsWith sum c.config.segment_size (state_of (trace c.device)) new.fault (line_of new) (machine_of new.accountant) H) (sym rest.config)
-      (subst (λ (f : Option IoError). HoldsWith sum old.config.config.segment_size (state_of (trace old.config.device)) f (line_of new) (machine_of new.accountant) H) (sym rest.fault)
-      (subst (λ (l : List SegmentView). HoldsWith sum old.config.config.segment_size (state_of (trace old.config.device)) old.fault l (machine_of new.accountant) H) (sym line)
-      (subst (λ (a : SegmentAccountant). HoldsWith sum old.config.config.segment_size (state_of (trace old.config.device)) old.fault (set (line_of old) n e) (machine_of a) H) (sym rest.accountant) holds)))
+      subst (λ (c : RunningConfig D C). HoldsWith sum (noted_in new) c.config.segment_size (state_of (trace c.device)) new.fault (line_of new) (machine_of new.accountant) H) (sym rest.config)
+      (subst (λ (f : Option IoError). HoldsWith sum (noted_in new) old.config.config.segment_size (state_of (trace old.config.device)) f (line_of new) (machine_of new.accountant) H) (sym rest.fault)
+      (subst (λ (l : List SegmentView). HoldsWith sum (noted_in new) old.config.config.segment_size (state_of (trace old.config.device)) old.fault l (machine_of new.accountant) H) (sym line)
+      (subst (λ (a : SegmentAccountant). HoldsWith sum (noted_in new) old.config.config.segment_size (state_of (trace old.config.device)) old.fault (set (line_of old) n e) (machine_of a) H) (sym rest.accountant)
+      (subst (λ (bs : List Batch). HoldsWith sum bs old.config.config.segment_size (state_of (trace old.config.device)) old.fault (set (line_of old) n e) (machine_of old.accountant) H) (sym noted_ended) holds))))
 
   pub fits_ended : (trace : D → Trace) (sum : List ℕ → ℕ) (H : History) (A f : ℕ) (U : List Message)
-      → FitsWith sum old.config.config.segment_size (state_of (trace old.config.device)) old.fault (set (line_of old) n e) (machine_of old.accountant) old.pins H A f U → Fits trace sum new H A f U
+      → FitsWith sum (noted_in old) old.config.config.segment_size (state_of (trace old.config.device)) old.fault (set (line_of old) n e) (machine_of old.accountant) old.pins H A f U → Fits trace sum new H A f U
   unfolding Fits
   fits_ended trace sum H A f U fits =
-      subst (λ (c : RunningConfig D C). FitsWith sum c.config.segment_size (state_of (trace c.device)) new.fault (line_of new) (machine_of new.accountant) new.pins H A f U) (sym rest.config)
-      (subst (λ (x : Option IoError). FitsWith sum old.config.config.segment_size (state_of (trace old.config.device)) x (line_of new) (machine_of new.accountant) new.pins H A f U) (sym rest.fault)
-      (subst (λ (l : List SegmentView). FitsWith sum old.config.config.segment_size (state_of (trace old.config.device)) old.fault l (machine_of new.accountant) new.pins H A f U) (sym line)
-      (subst (λ (a : SegmentAccountant). FitsWith sum old.config.config.segment_size (state_of (trace old.config.device)) old.fault (set (line_of old) n e) (machine_of a) new.pins H A f U) (sym rest.accountant)
-      (subst (λ (p : ℕ). FitsWith sum old.config.config.segment_size (state_of (trace old.config.device)) old.fault (set (line_of old) n e) (machine_of old.accountant) p H A f U) (sym rest.pins) fits))))
+      subst (λ (c : RunningConfig D C). FitsWith sum (noted_in new) c.config.segment_size (state_of (trace c.device)) new.fault (line_of new) (machine_of new.accountant) new.pins H A f U) (sym rest.config)
+      (subst (λ (x : Option IoError). FitsWith sum (noted_in new) old.config.config.segment_size (state_of (trace old.config.device)) x (line_of new) (machine_of new.accountant) new.pins H A f U) (sym rest.fault)
+      (subst (λ (l : List SegmentView). FitsWith sum (noted_in new) old.config.config.segment_size (state_of (trace old.config.device)) old.fault l (machine_of new.accountant) new.pins H A f U) (sym line)
+      (subst (λ (a : SegmentAccountant). FitsWith sum (noted_in new) old.config.config.segment_size (state_of (trace old.config.device)) old.fault (set (line_of old) n e) (machine_of a) new.pins H A f U) (sym rest.accountant)
+      (subst (λ (p : ℕ). FitsWith sum (noted_in new) old.config.config.segment_size (state_of (trace old.config.device)) old.fault (set (line_of old) n e) (machine_of old.accountant) p H A f U) (sym rest.pins)
+      (subst (λ (bs : List Batch). FitsWith sum bs old.config.config.segment_size (state_of (trace old.config.device)) old.fault (set (line_of old) n e) (machine_of old.accountant) old.pins H A f U) (sym noted_ended) fits)))))

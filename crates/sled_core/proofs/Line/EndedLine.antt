@@ -1,10 +1,13 @@
 -- The segments of a log where a reservation of one of them has ended: they are filled as they were; and what code has of one behind the first.
-use Rattle.std.proofs.Common.{◌≡◌, ◌∙◌, ◌≤◌, ◌<◌, ◌+◌, ◌-◌, ap, sym, refl, arith, subst, ℕ, zero, suc, Bool, true, false, nat_lt, if◌then◌else◌, List, [], ◌∷◌, length, drop, set, get_or, Some, length-drop}
+use Rattle.std.proofs.Common.{◌≡◌, ◌∙◌, ◌≤◌, ◌<◌, ◌+◌, ◌-◌, ap, sym, refl, arith, subst, ℕ, zero, suc, Bool, true, false, nat_lt, if◌then◌else◌, List, [], ◌∷◌, ◌++◌, length, drop, set, get_or, Some, length-drop}
 use Rattle.std.specs.List.{slice_get}
 use Rattle.std.proofs.lemmas.List.{length-set}
 use Rattle.std.proofs.lemmas.Option.{slice_get_within}
 use Rattle.sled_codec.specs.Written.{written}
+use Rattle.sled_codec.specs.Kinds.{code_of}
+use Rattle.sled_codec.specs.Places.{part}
 use Rattle.sled_codec.specs.declared.serialization.message.MessageKind.{MessageKind}
+use Rattle.sled_codec.specs.declared.serialization.message.MessageKind.TheVariants.{Canceled}
 use Rattle.sled_core.specs.declared.iobuf.IoBuf.{IoBuf}
 use Rattle.sled_core.specs.declared.iobuf.ReservationState.{ReservationState}
 use Rattle.sled_core.specs.declared.iobuf.ReservationState.TheVariants.{Open}
@@ -14,7 +17,7 @@ use Rattle.sled_core.specs.declared.iobuf.SegmentPosition.{SegmentPosition}
 use Rattle.sled_core.specs.declared.logger.Log.{Log}
 use Rattle.sled_core.specs.declared.logger.segments.SegmentBuffer.{SegmentBuffer}
 use Rattle.sled_core.specs.Begun.{AreEntered, AreFilled, SegmentView, line_at, segment_view, view_at}
-use Rattle.sled_core.specs.Buffers.{IsHeaded, ended, ending, marking}
+use Rattle.sled_core.specs.Buffers.{IsHeaded, body_in, canceling, completing, ended, ending, marking}
 use Rattle.sled_core.specs.Fits.{line_of}
 use Rattle.sled_core.specs.SealedBuffers.{one_ended, one_fewer}
 use Rattle.sled_core.specs.Turned.{HasOpenIn, ended_now}
@@ -28,7 +31,7 @@ use Rattle.sled_core.proofs.Reserve.Ranges.{at_there, length-written}
 use Rattle.sled_core.proofs.Sealed.InBuffer.{end_ended}
 
 -- The bytes of a segment are as many, whatever is written over one of its reservations,
-over_bytes : {size place : ℕ} (v : SegmentView) (i : ℕ) (r : Reserved) (text : List ℕ) → IsSegment size place v → slice_get v.parts.reserved i ≡ Some r → length text ≤ r.len
+pub over_bytes : {size place : ℕ} (v : SegmentView) (i : ℕ) (r : Reserved) (text : List ℕ) → IsSegment size place v → slice_get v.parts.reserved i ≡ Some r → length text ≤ r.len
     → length (written v.parts.bytes r.from text) ≡ length v.parts.bytes
 over_bytes v i r text facts there short =
     let inside = at_there (λ (x : Reserved). x.from + x.len ≤ length v.parts.bytes) v.parts.reserved i r there facts.within in
@@ -38,6 +41,13 @@ ending_short : {size place : ℕ} (v : SegmentView) (i : ℕ) (r : Reserved) (wo
 ending_short v i r word k facts there is_open =
     let own = (at_there IsHeaded v.parts.reserved i r there facts.headed).1 is_open in
     omega (arith, own.0, own.1)
+
+-- as with those that complete it, or make it one that is passed over,
+pub completing_short : {size place : ℕ} (v : SegmentView) (i : ℕ) (r : Reserved) → IsSegment size place v → slice_get v.parts.reserved i ≡ Some r → r.state ≡ Open → length (completing r) ≤ r.len
+completing_short v i r facts there is_open = ending_short v i r r.sum r.kind facts there is_open
+
+pub canceling_short : (sum : List ℕ → ℕ) {size place : ℕ} (v : SegmentView) (i : ℕ) (r : Reserved) → IsSegment size place v → slice_get v.parts.reserved i ≡ Some r → r.state ≡ Open → length (canceling sum v.parts.bytes r) ≤ r.len
+canceling_short sum v i r facts there is_open = ending_short v i r (sum (body_in v.parts.bytes r ++ code_of Canceled ∷ part v.parts.bytes (r.from + 5) (r.header_len - 5))) Canceled facts there is_open
 
 pub marking_short : (sum : List ℕ → ℕ) {size place : ℕ} (v : SegmentView) (i : ℕ) (r : Reserved) (peg : ℕ) → IsSegment size place v → slice_get v.parts.reserved i ≡ Some r → r.state ≡ Open → r.len ≡ r.header_len + 8
     → length (marking sum v.parts.bytes r peg) ≤ r.len

@@ -7,7 +7,6 @@ use Rattle.std.specs.declared.io.Error.{Error as IoError}
 use Rattle.std.specs.List.{slice_get}
 use Rattle.std.proofs.lemmas.Int.{to_z-of_z}
 use Rattle.std.proofs.lemmas.Nat.{div-mul-add}
-use Rattle.sled_codec.specs.declared.serialization.message.MessageKind.{MessageKind}
 use Rattle.sled_codec.specs.History.{History, Message}
 use Rattle.sled_store.specs.Device.{State}
 use Rattle.sled_core.specs.declared.iobuf.ReservationState.{ReservationState}
@@ -16,7 +15,7 @@ use Rattle.sled_core.specs.declared.iobuf.Reserved.{Reserved}
 use Rattle.sled_core.specs.declared.logger.Log.{Log}
 use Rattle.sled_core.specs.declared.reservation.Reservation.{Reservation}
 use Rattle.sled_core.specs.Begun.{SegmentView}
-use Rattle.sled_core.specs.Buffers.{IsChain, IsHeaded, ended, ending, message_in, open_state}
+use Rattle.sled_core.specs.Buffers.{IsChain, IsHeaded, ended, message_in, open_state}
 use Rattle.sled_core.specs.Fits.{Awaits, AwaitsIn, HoldsLine, line_of}
 use Rattle.sled_core.specs.OpenPlaces.{TakesOut, open_places_along}
 use Rattle.sled_core.specs.Tickets.{IsFor, index_of, place_of}
@@ -86,9 +85,9 @@ module _ {D C : Type 0} (log : Log D C) (ticket : Reservation) (m : Message) (aw
 
 -- A reservation of the n-th segment ends.
 module _ (size : ℕ) (line : List SegmentView) (base n : ℕ) (v : SegmentView) (there : slice_get line n ≡ Some v) (facts : (k : ℕ) (x : SegmentView) → slice_get line k ≡ Some x → IsSegment size (base + k * size) x)
-    (i : ℕ) (r : Reserved) (at : slice_get v.parts.reserved i ≡ Some r) (is_open : r.state ≡ Open) (word : ℕ) (kind : MessageKind) (state : ReservationState) where
+    (i : ℕ) (r : Reserved) (at : slice_get v.parts.reserved i ≡ Some r) (is_open : r.state ≡ Open) (text : List ℕ) (short : length text ≤ r.len) (state : ReservationState) where
   abbrev e : SegmentView
-  e = ended_now i r (ending word kind) state v
+  e = ended_now i r text state v
 
   -- Its place is taken out of those of the open ones.
   pub ended_takes : open_state state ≡ false → TakesOut (v.parts.site.place + r.from) (open_places_along line) (open_places_along (set line n e))
@@ -109,7 +108,7 @@ module _ (size : ℕ) (line : List SegmentView) (base n : ℕ) (v : SegmentView)
         let message : m ≡ message_in v.parts.site v.parts.bytes x = subst (λ (w : SegmentView). m ≡ message_in w.parts.site w.parts.bytes x) is awaits.message in
         let elsewhere : x.from ≡ r.from → ⊥ = λ alike. apart (own.place ∙ ap (λ (k : ℕ). pos (v.parts.site.place + k)) alike ∙ sym place) in
         with_segment sum size device fault line n v H holds there (λ stays mine_holds segment.
-        let stay = others_stay sum size v.parts.site device fault v.parts.bytes v.parts.written_len v.parts.sealed v.parts.reserved i (index_of other - v.gone) r x mine_holds word kind state segment at is_open at_x own.open_yet elsewhere in
+        let stay = others_stay sum size v.parts.site device fault v.parts.bytes v.parts.written_len v.parts.sealed v.parts.reserved i (index_of other - v.gone) r x mine_holds text state short segment at is_open at_x own.open_yet elsewhere in
         record {
           number = n;
           segment = e;

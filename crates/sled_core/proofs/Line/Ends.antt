@@ -1,7 +1,7 @@
 -- One of the reservations of the n-th of a log's segments ends, whichever that is: what the log holds and fits then, and what it keeps.
-use Rattle.std.proofs.Common.{◌≡◌, ◌∙◌, ◌≤◌, ◌<◌, ◌+◌, ◌*◌, ap, sym, refl, arith, subst, ℕ, zero, suc, List, [], ◌∷◌, ◌++◌, length, take, drop, set, map, Option, None, Some, false}
+use Rattle.std.proofs.Common.{◌⊎◌, ◌≡◌, ◌∙◌, ◌≤◌, ◌<◌, ◌+◌, ◌*◌, ap, sym, refl, arith, subst, ℕ, zero, suc, List, [], ◌∷◌, ◌++◌, length, take, drop, set, map, Option, None, Some, false}
 use Rattle.std.specs.declared.io.Error.{Error as IoError}
-use Rattle.std.specs.List.{slice_get}
+use Rattle.std.specs.List.{Contains, slice_get}
 use Rattle.std.proofs.lemmas.List.Elements.{All-set}
 use Rattle.sled_codec.specs.Written.{written}
 use Rattle.sled_codec.specs.History.{Batch, AddsMessage, History, Message}
@@ -13,7 +13,7 @@ use Rattle.sled_core.specs.declared.iobuf.Reserved.{Reserved}
 use Rattle.sled_core.specs.declared.iobuf.SegmentPosition.{SegmentPosition}
 use Rattle.sled_core.specs.Begun.{SegmentParts, SegmentView}
 use Rattle.sled_core.specs.Buffers.{canceling, completing, message_in}
-use Rattle.sled_core.specs.Fits.{CloseBelow, written_to, HoldsIn, HoldsLine, HoldsSegment, HoldsWith, LogParts, log_parts, parts_in}
+use Rattle.sled_core.specs.Fits.{FitsBatches, line_end, written_to, HoldsIn, HoldsLine, HoldsSegment, HoldsWith, LogParts, log_parts, parts_in}
 use Rattle.sled_core.specs.FreeSlots.{HasSlot, HasSlots}
 use Rattle.sled_core.specs.Running.{FitsIn, FitsLine, FitsWith}
 use Rattle.sled_core.specs.Turned.{ended_now}
@@ -22,10 +22,13 @@ use Rattle.sled_core.proofs.Behind.Completes.{adds_here, behind-complete, comple
 use Rattle.sled_core.proofs.Behind.FitsCalls.{behind-fits-aborted, behind-fits-completed}
 use Rattle.sled_core.proofs.Holds.Added.{added_there}
 use Rattle.sled_core.proofs.Holds.CompletedLemmas.{behind_written, ends_within}
+use Rattle.sled_core.proofs.Holds.FitsBatches.{batches_completed, batches_up}
+use Rattle.sled_core.proofs.Holds.MessagesBeside.{batch_beside}
 use Rattle.sled_core.proofs.Holds.RunningLemmas.{fits-completed, fits-moved}
 use Rattle.sled_core.proofs.Holds.WholeHistory.{of_head}
 use Rattle.sled_core.proofs.Holds.WholeLemmas.{holds-aborted, holds-complete}
 use Rattle.sled_core.proofs.Line.Facts.{IsSegment}
+use Rattle.sled_core.proofs.Line.LineEnds.{end_set}
 use Rattle.sled_core.proofs.Line.Nth.{parts_set, parts_split}
 use Rattle.sled_core.proofs.Reserve.Ranges.{at_there}
 use Rattle.sled_core.proofs.Sealed.Ended.{ends_up}
@@ -46,16 +49,25 @@ module _ (sum : List ℕ → ℕ) (size : ℕ) (device : State) (fault : Option 
   abbrev parts_of : SegmentView → LogParts
   parts_of v = log_parts size v.parts.site device fault v.parts.bytes v.parts.written_len v.parts.sealed v.parts.reserved
 
-  -- Each of the segments that hold a history holds a part of it.
-  pub with_segment : {P : Type 0} (line : List SegmentView) (n : ℕ) (v : SegmentView) (H : History) → HoldsLine sum size device fault line H → slice_get line n ≡ Some v
-      → ((stays : Message → Type 0) (own : History) → HoldsSegment sum (parts_of v) stays own → P) → P
-  with_segment [] n v H holds there go = cc
-  with_segment {P} (w ∷ ws) zero v H holds there go =
+  -- Each of the segments that hold a history holds a part of it, with all batches.
+  pub with_part : {P : Type 0} (line : List SegmentView) (n : ℕ) (v : SegmentView) (H : History) → HoldsLine sum size device fault line H → slice_get line n ≡ Some v
+      → ((stays : Message → Type 0) (own : List Message) → HoldsSegment sum (parts_of v) stays (record { messages = own; batches = H.batches }) → P) → P
+  with_part [] n v H holds there go = cc
+  with_part {P} (w ∷ ws) zero v H holds there go =
       let same : w ≡ v = cc in
-      subst (λ (x : SegmentView). ((stays : Message → Type 0) (own : History) → HoldsSegment sum (parts_of x) stays own → P) → P) same (λ given. given _ (record { messages = holds.head; batches = H.batches }) holds.own) go
-  with_segment {P} (w ∷ ws) (suc k) v H holds there go =
+      subst (λ (x : SegmentView). ((stays : Message → Type 0) (own : List Message) → HoldsSegment sum (parts_of x) stays (record { messages = own; batches = H.batches }) → P) → P) same (λ given. given _ holds.head holds.own) go
+  with_part {P} (w ∷ ws) (suc k) v H holds there go =
       let its : HoldsIn sum (parts_of w) (map parts_in (take k ws) ++ v.parts ∷ map parts_in (drop (suc k) ws)) H = subst (λ (l : List SegmentParts). HoldsIn sum (parts_of w) l H) (parts_split ws k v there) holds in
       go _ _ (held_here sum size w.parts.site device fault w.parts.bytes w.parts.written_len w.parts.sealed w.parts.reserved H (map parts_in (take k ws)) v.parts (map parts_in (drop (suc k) ws)) its).segment
+
+  pub with_segment : {P : Type 0} (line : List SegmentView) (n : ℕ) (v : SegmentView) (H : History) → HoldsLine sum size device fault line H → slice_get line n ≡ Some v
+      → ((stays : Message → Type 0) (own : History) → HoldsSegment sum (parts_of v) stays own → P) → P
+  with_segment line n v H holds there go = with_part line n v H holds there (λ stays own segment. go stays (record { messages = own; batches = H.batches }) segment)
+
+  -- Segments that fit a history hold it.
+  pub line_holds : (line : List SegmentView) (reach pins : ℕ) (H : History) (A f : ℕ) (U : List Message) → FitsLine sum size device fault line reach pins H A f U → HoldsLine sum size device fault line H
+  line_holds [] reach pins H A f U fits = fits
+  line_holds (v ∷ vs) reach pins H A f U fits = fits.holds
 
   -- An open reservation of the n-th one.
   module _ (v : SegmentView) (i : ℕ) (r : Reserved) (at : slice_get v.parts.reserved i ≡ Some r) (is_open : r.state ≡ Open) where
@@ -157,33 +169,40 @@ written_set (x ∷ xs) (suc n) v w there site from = refl
 
 -- What a log holds and fits where one of its reservations has ended.
 module _ (sum : List ℕ → ℕ) (size : ℕ) (device : State) (fault : Option IoError) (line : List SegmentView) (n : ℕ) (v : SegmentView) (there : slice_get line n ≡ Some v) (place : ℕ)
-    (facts : (k : ℕ) (x : SegmentView) → slice_get line k ≡ Some x → IsSegment size (place + k * size) x) (i : ℕ) (r : Reserved) (at : slice_get v.parts.reserved i ≡ Some r) (is_open : r.state ≡ Open) (machine : Machine) where
-  closed_set : (w : SegmentView) → w.parts.site ≡ v.parts.site → w.parts.written_len ≡ v.parts.written_len → (bs : List Batch) → CloseBelow (written_to line) bs → CloseBelow (written_to (set line n w)) bs
-  closed_set w site from bs closed = subst (λ k. CloseBelow k bs) (sym (written_set line n v w there site from)) closed
+    (facts : (k : ℕ) (x : SegmentView) → slice_get line k ≡ Some x → IsSegment size (place + k * size) x) (i : ℕ) (r : Reserved) (at : slice_get v.parts.reserved i ≡ Some r) (is_open : r.state ≡ Open) (machine : Machine) (noted : List Batch) where
+  batches_set : (w : SegmentView) → w.parts.site ≡ v.parts.site → w.parts.written_len ≡ v.parts.written_len → (H : History) → FitsBatches (written_to line) (line_end size line) noted H → FitsBatches (written_to (set line n w)) (line_end size (set line n w)) noted H
+  batches_set w site from H fits =
+      batches_up (written_to line) (written_to (set line n w)) (line_end size line) (line_end size (set line n w)) noted H
+      (let same = written_set line n v w there site from in omega (arith, same)) (let same = end_set size line n v w there site in omega (arith, same)) fits
 
-  pub holds_aborted : (H : History) → HoldsWith sum size device fault line machine H → HoldsWith sum size device fault (set line n (ended_now i r (canceling sum v.parts.bytes r) Canceled v)) machine H
+  -- The message lies beside all batches.
+  beside : (H : History) → HoldsLine sum size device fault line H → (b : Batch) → Contains H.batches b → (b.low ≤ v.parts.site.place + r.from) ⊎ (v.parts.site.place + r.from + r.len ≤ b.low)
+  beside H holds b among = with_part sum size device fault line n v H holds there
+      (λ stays own segment. batch_beside sum size v.parts.site device fault v.parts.bytes v.parts.written_len v.parts.sealed v.parts.reserved (record { messages = own; batches = H.batches }) segment i r at is_open (facts n v there).short b among)
+
+  pub holds_aborted : (H : History) → HoldsWith sum noted size device fault line machine H → HoldsWith sum noted size device fault (set line n (ended_now i r (canceling sum v.parts.bytes r) Canceled v)) machine H
   holds_aborted H holds = record {
     holds = abort_holds sum size device fault v i r at is_open line n H there (facts n v there) holds.holds;
-    closed = closed_set (ended_now i r (canceling sum v.parts.bytes r) Canceled v) refl refl H.batches holds.closed;
+    batches = batches_set (ended_now i r (canceling sum v.parts.bytes r) Canceled v) refl refl H holds.batches;
     slots = slots_set size line device.log.bytes fault machine n v (ended_now i r (canceling sum v.parts.bytes r) Canceled v) there refl holds.slots;
   }
 
-  pub fits_aborted : (pins : ℕ) (H : History) (A f : ℕ) (U : List Message) → FitsWith sum size device fault line machine pins H A f U → FitsWith sum size device fault (set line n (ended_now i r (canceling sum v.parts.bytes r) Canceled v)) machine pins H A f U
+  pub fits_aborted : (pins : ℕ) (H : History) (A f : ℕ) (U : List Message) → FitsWith sum noted size device fault line machine pins H A f U → FitsWith sum noted size device fault (set line n (ended_now i r (canceling sum v.parts.bytes r) Canceled v)) machine pins H A f U
   fits_aborted pins H A f U fits = record {
     reach = fits.reach;
     parts = abort_fits sum size device fault v i r at is_open line n fits.reach pins H A f U there (facts n v there) fits.parts;
-    closed = closed_set (ended_now i r (canceling sum v.parts.bytes r) Canceled v) refl refl H.batches fits.closed;
+    batches = batches_set (ended_now i r (canceling sum v.parts.bytes r) Canceled v) refl refl H fits.batches;
     slots = slots_set size line device.log.bytes fault machine n v (ended_now i r (canceling sum v.parts.bytes r) Canceled v) there refl fits.slots;
   }
 
-  pub holds_completed : is_manifest r.log_kind r.page ≡ false → (H : History) → HoldsWith sum size device fault line machine H
-      → (H' : History) × AddsMessage H (message_in v.parts.site v.parts.bytes r) H' × HoldsWith sum size device fault (set line n (ended_now i r (completing r) Completed v)) machine H'
+  pub holds_completed : is_manifest r.log_kind r.page ≡ false → (H : History) → HoldsWith sum noted size device fault line machine H
+      → (H' : History) × AddsMessage H (message_in v.parts.site v.parts.bytes r) H' × HoldsWith sum noted size device fault (set line n (ended_now i r (completing r) Completed v)) machine H'
   holds_completed none H holds =
       let done = complete_holds sum size device fault v i r at is_open none line n place H there facts holds.holds in
-      (done.0, done.1, record { holds = done.2; closed = subst (CloseBelow (written_to (set line n (ended_now i r (completing r) Completed v)))) (sym done.1.batches) (closed_set (ended_now i r (completing r) Completed v) refl refl H.batches holds.closed); slots = slots_set size line device.log.bytes fault machine n v (ended_now i r (completing r) Completed v) there refl holds.slots })
+      (done.0, done.1, record { holds = done.2; batches = batches_set (ended_now i r (completing r) Completed v) refl refl done.0 (batches_completed (written_to line) (line_end size line) noted H done.0 (message_in v.parts.site v.parts.bytes r) done.1 (beside H holds.holds) holds.batches); slots = slots_set size line device.log.bytes fault machine n v (ended_now i r (completing r) Completed v) there refl holds.slots })
 
-  pub fits_completed : is_manifest r.log_kind r.page ≡ false → (pins : ℕ) (H : History) (A f : ℕ) (U : List Message) → 256 ≤ size → fault ≡ None → 0 < pins → FitsWith sum size device fault line machine pins H A f U
-      → (H' : History) × AddsMessage H (message_in v.parts.site v.parts.bytes r) H' × FitsWith sum size device fault (set line n (ended_now i r (completing r) Completed v)) machine pins H' A f (message_in v.parts.site v.parts.bytes r ∷ U)
+  pub fits_completed : is_manifest r.log_kind r.page ≡ false → (pins : ℕ) (H : History) (A f : ℕ) (U : List Message) → 256 ≤ size → fault ≡ None → 0 < pins → FitsWith sum noted size device fault line machine pins H A f U
+      → (H' : History) × AddsMessage H (message_in v.parts.site v.parts.bytes r) H' × FitsWith sum noted size device fault (set line n (ended_now i r (completing r) Completed v)) machine pins H' A f (message_in v.parts.site v.parts.bytes r ∷ U)
   fits_completed none pins H A f U least ok out fits =
       let done = complete_fits sum size device fault v i r at is_open none line n place fits.reach pins H A f U least ok out there facts fits.parts in
-      (done.0, done.1, record { reach = fits.reach; parts = done.2; closed = subst (CloseBelow (written_to (set line n (ended_now i r (completing r) Completed v)))) (sym done.1.batches) (closed_set (ended_now i r (completing r) Completed v) refl refl H.batches fits.closed); slots = slots_set size line device.log.bytes fault machine n v (ended_now i r (completing r) Completed v) there refl fits.slots })
+      (done.0, done.1, record { reach = fits.reach; parts = done.2; batches = batches_set (ended_now i r (completing r) Completed v) refl refl done.0 (batches_completed (written_to line) (line_end size line) noted H done.0 (message_in v.parts.site v.parts.bytes r) done.1 (beside H (line_holds sum size device fault line fits.reach pins H A f U fits.parts)) fits.batches); slots = slots_set size line device.log.bytes fault machine n v (ended_now i r (completing r) Completed v) there refl fits.slots })

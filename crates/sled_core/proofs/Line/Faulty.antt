@@ -1,7 +1,7 @@
 -- A log whose device failed in a call holds and fits what it did, and so does one with the same segments and slots.
 use Rattle.std.proofs.Common.{◌≡◌, ◌∙◌, ◌∷◌, inl, inr, [], ap, sym, subst, ℕ, List, Option, None, Some, refl}
 use Rattle.std.specs.declared.io.Error.{Error as IoError}
-use Rattle.sled_codec.specs.History.{Message, History}
+use Rattle.sled_codec.specs.History.{Batch, Message, History}
 use Rattle.sled_store.specs.Device.{Event, NamesState, State, Trace, Synced, Wrote, state_of, step}
 use Rattle.sled_store.specs.Script.{Along, Performs}
 use Rattle.sled_store.specs.SegmentStates.{Machine}
@@ -33,35 +33,35 @@ pub slots_line_faulty : (size : ℕ) (line : List SegmentView) (log log' : List 
 slots_line_faulty size line log log' fault m slots e now is = record { taken = slots.taken; zeros = λ none. cc }
 
 -- The same, where all that it says is of equal parts.
-pub holds_with_same : (sum : List ℕ → ℕ) (size size' : ℕ) (device : State) (fault : Option IoError) (line line' : List SegmentView) (m m' : Machine) (H : History) → size' ≡ size → line' ≡ line → m' ≡ m
-    → HoldsWith sum size device fault line m H → HoldsWith sum size' device fault line' m' H
-holds_with_same sum size size' device fault line line' m m' H s l a holds =
-    subst (λ n. HoldsWith sum n device fault line' m' H) (sym s) (subst (λ (x : List SegmentView). HoldsWith sum size device fault x m' H) (sym l) (subst (λ (x : Machine). HoldsWith sum size device fault line x H) (sym a) holds))
+pub holds_with_same : (sum : List ℕ → ℕ) (noted noted' : List Batch) (size size' : ℕ) (device : State) (fault : Option IoError) (line line' : List SegmentView) (m m' : Machine) (H : History) → noted' ≡ noted → size' ≡ size → line' ≡ line → m' ≡ m
+    → HoldsWith sum noted size device fault line m H → HoldsWith sum noted' size' device fault line' m' H
+holds_with_same sum noted noted' size size' device fault line line' m m' H b s l a holds =
+    subst (λ (bs : List Batch). HoldsWith sum bs size' device fault line' m' H) (sym b) (subst (λ n. HoldsWith sum noted n device fault line' m' H) (sym s) (subst (λ (x : List SegmentView). HoldsWith sum noted size device fault x m' H) (sym l) (subst (λ (x : Machine). HoldsWith sum noted size device fault line x H) (sym a) holds)))
 
-pub fits_with_same : (sum : List ℕ → ℕ) (size size' : ℕ) (device : State) (fault : Option IoError) (line line' : List SegmentView) (m m' : Machine) (pins pins' : ℕ) (H : History) (A f : ℕ) (U : List Message) → size' ≡ size → line' ≡ line → m' ≡ m → pins' ≡ pins
-    → FitsWith sum size device fault line m pins H A f U → FitsWith sum size' device fault line' m' pins' H A f U
-fits_with_same sum size size' device fault line line' m m' pins pins' H A f U s l a p fits =
-    subst (λ n. FitsWith sum n device fault line' m' pins' H A f U) (sym s) (subst (λ (x : List SegmentView). FitsWith sum size device fault x m' pins' H A f U) (sym l)
-    (subst (λ (x : Machine). FitsWith sum size device fault line x pins' H A f U) (sym a) (subst (λ n. FitsWith sum size device fault line m n H A f U) (sym p) fits)))
+pub fits_with_same : (sum : List ℕ → ℕ) (noted noted' : List Batch) (size size' : ℕ) (device : State) (fault : Option IoError) (line line' : List SegmentView) (m m' : Machine) (pins pins' : ℕ) (H : History) (A f : ℕ) (U : List Message) → noted' ≡ noted → size' ≡ size → line' ≡ line → m' ≡ m → pins' ≡ pins
+    → FitsWith sum noted size device fault line m pins H A f U → FitsWith sum noted' size' device fault line' m' pins' H A f U
+fits_with_same sum noted noted' size size' device fault line line' m m' pins pins' H A f U b s l a p fits =
+    subst (λ (bs : List Batch). FitsWith sum bs size' device fault line' m' pins' H A f U) (sym b) (subst (λ n. FitsWith sum noted n device fault line' m' pins' H A f U) (sym s) (subst (λ (x : List SegmentView). FitsWith sum noted size device fault x m' pins' H A f U) (sym l)
+    (subst (λ (x : Machine). FitsWith sum noted size device fault line x pins' H A f U) (sym a) (subst (λ n. FitsWith sum noted size device fault line m n H A f U) (sym p) fits))))
 
-pub holds_with_device : (sum : List ℕ → ℕ) (size : ℕ) (device new : State) (fault now : Option IoError) (line : List SegmentView) (m : Machine) (H : History) → new ≡ device → now ≡ fault → HoldsWith sum size device fault line m H → HoldsWith sum size new now line m H
-holds_with_device sum size device new fault now line m H d o holds =
-    subst (λ (s : State). HoldsWith sum size s now line m H) (sym d) (subst (λ (x : Option IoError). HoldsWith sum size device x line m H) (sym o) holds)
+pub holds_with_device : (sum : List ℕ → ℕ) (noted : List Batch) (size : ℕ) (device new : State) (fault now : Option IoError) (line : List SegmentView) (m : Machine) (H : History) → new ≡ device → now ≡ fault → HoldsWith sum noted size device fault line m H → HoldsWith sum noted size new now line m H
+holds_with_device sum noted size device new fault now line m H d o holds =
+    subst (λ (s : State). HoldsWith sum noted size s now line m H) (sym d) (subst (λ (x : Option IoError). HoldsWith sum noted size device x line m H) (sym o) holds)
 
-pub fits_with_device : (sum : List ℕ → ℕ) (size : ℕ) (device new : State) (fault now : Option IoError) (line : List SegmentView) (m : Machine) (pins : ℕ) (H : History) (A f : ℕ) (U : List Message) → new ≡ device → now ≡ fault → FitsWith sum size device fault line m pins H A f U
-    → FitsWith sum size new now line m pins H A f U
-fits_with_device sum size device new fault now line m pins H A f U d o fits =
-    subst (λ (s : State). FitsWith sum size s now line m pins H A f U) (sym d) (subst (λ (x : Option IoError). FitsWith sum size device x line m pins H A f U) (sym o) fits)
+pub fits_with_device : (sum : List ℕ → ℕ) (noted : List Batch) (size : ℕ) (device new : State) (fault now : Option IoError) (line : List SegmentView) (m : Machine) (pins : ℕ) (H : History) (A f : ℕ) (U : List Message) → new ≡ device → now ≡ fault → FitsWith sum noted size device fault line m pins H A f U
+    → FitsWith sum noted size new now line m pins H A f U
+fits_with_device sum noted size device new fault now line m pins H A f U d o fits =
+    subst (λ (s : State). FitsWith sum noted size s now line m pins H A f U) (sym d) (subst (λ (x : Option IoError). FitsWith sum noted size device x line m pins H A f U) (sym o) fits)
 
 -- A call that reads its device alone, and keeps a failure of it.
 
-pub holds_with_answer : (sum : List ℕ → ℕ) (size size' : ℕ) (device new : State) (fault now : Option IoError) (line line' : List SegmentView) (m m' : Machine) (H : History) → size' ≡ size → line' ≡ line → m' ≡ m → new ≡ device → fault ≡ None
-    → HoldsWith sum size device fault line m H → HoldsWith sum size' new now line' m' H
-holds_with_answer sum size size' device new fault now line line' m m' H s l a d none holds = holds_with_same sum size size' new now line line' m m' H s l a (elim (fault_or_none now) [
-  | inl still ↦ holds_with_device sum size device new fault now line m H d (still ∙ sym none) holds
+pub holds_with_answer : (sum : List ℕ → ℕ) (noted : List Batch) (size size' : ℕ) (device new : State) (fault now : Option IoError) (line line' : List SegmentView) (m m' : Machine) (H : History) → size' ≡ size → line' ≡ line → m' ≡ m → new ≡ device → fault ≡ None
+    → HoldsWith sum noted size device fault line m H → HoldsWith sum noted size' new now line' m' H
+holds_with_answer sum noted size size' device new fault now line line' m m' H s l a d none holds = holds_with_same sum noted noted size size' new now line line' m m' H refl s l a (elim (fault_or_none now) [
+  | inl still ↦ holds_with_device sum noted size device new fault now line m H d (still ∙ sym none) holds
   | inr (e, is) ↦ record {
     holds = holds_line_faulty sum size device fault line H holds.holds new e now is (ap (λ (x : State). x.snapshots) d);
-    closed = holds.closed;
+    batches = holds.batches;
     slots = slots_line_faulty size line device.log.bytes new.log.bytes fault m holds.slots e now is;
   }
 ])
@@ -71,15 +71,15 @@ line_leaves : (sum : List ℕ → ℕ) (size : ℕ) (device : State) (fault : Op
 line_leaves sum size device fault [] reach pins H A f U fits = absurd fits
 line_leaves sum size device fault (v ∷ vs) reach pins H A f U fits = fits.left
 
-pub fits_with_answer : (sum : List ℕ → ℕ) (size size' : ℕ) (device new : State) (fault now : Option IoError) (line line' : List SegmentView) (m m' : Machine) (pins pins' : ℕ) (H : History) (A f : ℕ) (U : List Message) → size' ≡ size → line' ≡ line → m' ≡ m → pins' ≡ pins → new ≡ device
-    → fault ≡ None → FitsWith sum size device fault line m pins H A f U → FitsWith sum size' new now line' m' pins' H A f U
-fits_with_answer sum size size' device new fault now line line' m m' pins pins' H A f U s l a p d none fits = fits_with_same sum size size' new now line line' m m' pins pins' H A f U s l a p (elim (fault_or_none now) [
-  | inl still ↦ fits_with_device sum size device new fault now line m pins H A f U d (still ∙ sym none) fits
+pub fits_with_answer : (sum : List ℕ → ℕ) (noted : List Batch) (size size' : ℕ) (device new : State) (fault now : Option IoError) (line line' : List SegmentView) (m m' : Machine) (pins pins' : ℕ) (H : History) (A f : ℕ) (U : List Message) → size' ≡ size → line' ≡ line → m' ≡ m → pins' ≡ pins → new ≡ device
+    → fault ≡ None → FitsWith sum noted size device fault line m pins H A f U → FitsWith sum noted size' new now line' m' pins' H A f U
+fits_with_answer sum noted size size' device new fault now line line' m m' pins pins' H A f U s l a p d none fits = fits_with_same sum noted noted size size' new now line line' m m' pins pins' H A f U refl s l a p (elim (fault_or_none now) [
+  | inl still ↦ fits_with_device sum noted size device new fault now line m pins H A f U d (still ∙ sym none) fits
   | inr (e, is) ↦ record {
     reach = fits.reach;
     parts = fits_line_faulty sum size device fault line fits.reach pins H A f U fits.parts new e now is (ap (λ (x : State). x.blobs) d) (ap (λ (x : State). x.snapshots) d)
         (subst (LeavesRecoverable sum size H (stable_below fits.reach H.batches) f) (sym d) (line_leaves sum size device fault line fits.reach pins H A f U fits.parts));
-    closed = fits.closed;
+    batches = fits.batches;
     slots = slots_line_faulty size line device.log.bytes new.log.bytes fault m fits.slots e now is;
   }
 ])

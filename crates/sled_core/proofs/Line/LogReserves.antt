@@ -1,5 +1,4 @@
 -- A reservation is made in the segment that is being filled: where it is put, and what the log holds and fits then.
-use Rattle.sled_core.proofs.Holds.BatchLemmas.{closed_up}
 use Rattle.std.proofs.Common.{◌≡◌, ◌∙◌, ◌<◌, ◌≤◌, ◌+◌, ◌-◌, ◌/◌, ◌^◌, nat_lt, ap, sym, refl, arith, subst, ℕ, Bool, true, false, if◌then◌else◌, List, [], ◌∷◌, ◌++◌, length, length-append, map, drop, Some}
 use Rattle.std.proofs.lemmas.Bool.Decides.{nat_tests}
 use Rattle.sled_core.specs.Manifests.{kind_for}
@@ -16,16 +15,18 @@ use Rattle.sled_core.specs.declared.iobuf.Purpose.{Purpose}
 use Rattle.sled_core.specs.declared.iobuf.Reserved.{Reserved}
 use Rattle.sled_core.specs.declared.logger.Log.{Log}
 use Rattle.sled_core.specs.declared.reservation.Reservation.{Reservation}
-use Rattle.sled_core.specs.Fits.{written_to, Awaits, AwaitsIn, FitsInline, Holds, open_places, KeepsAll, current_of, device_of, fault_of, line_of, machine_at, pins_of, position_of, segment_size_of, synced_end}
+use Rattle.sled_core.specs.Fits.{written_to, Awaits, AwaitsIn, FitsInline, Holds, open_places, KeepsAll, current_of, device_of, fault_of, line_end, line_of, noted_in, machine_at, pins_of, position_of, segment_size_of, synced_end}
 use Rattle.sled_core.specs.Keeps.{Preserves}
 use Rattle.sled_core.specs.OpenPlaces.{open_places_along}
 use Rattle.sled_core.specs.Positions.{Position, behind_record, is_short, moved_on, next_segment_at, placed_at, position_in}
 use Rattle.sled_core.specs.Running.{Fits}
 use Rattle.sled_core.specs.Turned.{ChangesSlots, HasPlace, reserved_now}
 use Rattle.sled_core.specs.Waiting.{at_last, last_of}
+use Rattle.sled_core.proofs.Holds.FitsBatches.{batches_up}
 use Rattle.sled_core.proofs.Holds.KeptCalls.{goes_on_quietly}
 use Rattle.sled_core.proofs.Line.Facts.{current_facts}
 use Rattle.sled_core.proofs.Line.Last.{last_changed}
+use Rattle.sled_core.proofs.Line.LineEnds.{end_last, noted_later, noted_same}
 use Rattle.sled_core.proofs.Line.Moves.{fits_as, holds_as}
 use Rattle.sled_core.proofs.Line.OpenPlaces.{places_reserved}
 use Rattle.sled_core.proofs.Line.Reserves.{HasPlaceFor, awaits_reserved, line_fits_reserved, line_reserved, slots_reserved}
@@ -147,8 +148,11 @@ module _ {D C : Type 0} (trace : D → Trace) (sum : List ℕ → ℕ) (old new 
   pub reserves_synced : synced_end new ≡ synced_end old
   reserves_synced = ap written_to line ∙ kept_written v vs
 
+  kept_noted : noted_in new ≡ noted_in old
+  kept_noted = noted_same old new rest.noted reserves_synced
+
   pub reserves_same : KeepsAll old new
-  reserves_same = record { config = rest.config; synced = reserves_synced; fault = rest.fault; pins = rest.pins }
+  reserves_same = record { config = rest.config; synced = reserves_synced; noted = kept_noted; fault = rest.fault; pins = rest.pins }
 
   pub reserves_current : current_of new ≡ reserved_now more r (current_of old)
   reserves_current = ap (last_of v) line ∙ last_changed (reserved_now more r) v v vs
@@ -174,17 +178,18 @@ module _ {D C : Type 0} (trace : D → Trace) (sum : List ℕ → ℕ) (old new 
   reserves_keeps = record {
     goes_on = goes_on_quietly trace sum old new (record { config = ap (λ (x : RunningConfig D C). x.config) rest.config; checksum = ap (λ (x : RunningConfig D C). x.checksum) rest.config })
         (ap (λ (x : RunningConfig D C). trace x.device) rest.config) (let same = reserves_synced in omega (arith, same));
-    history = λ H holds. holds_as trace sum old new rest.config rest.fault (at_last (reserved_now more r) (line_of old)) line (machine_at old) machine H
+    history = λ H holds. holds_as trace sum old new rest.config rest.fault (noted_in old) kept_noted (at_last (reserved_now more r) (line_of old)) line (machine_at old) machine H
         (record {
           holds = line_reserved sum its_size more r (state_of (trace (device_of old))) (fault_of old) H v vs fits holds.holds;
-          closed = closed_up (written_to (line_of old)) (written_to (at_last (reserved_now more r) (line_of old))) H.batches (let same = kept_written v vs in omega (arith, same)) holds.closed;
+          batches = batches_up (written_to (line_of old)) (written_to (at_last (reserved_now more r) (line_of old))) (line_end its_size (line_of old)) (line_end its_size (at_last (reserved_now more r) (line_of old))) (noted_in old) H (let same = kept_written v vs in omega (arith, same)) (let same = end_last its_size (reserved_now more r) (λ _. refl) v vs in omega (arith, same)) holds.batches;
           slots = slots_reserved sum its_size more r (line_of old) (state_of (trace (device_of old))).log.bytes (fault_of old) (machine_at old) holds.slots;
         });
-    fits = λ H A f U its. fits_as trace sum old new rest.config rest.fault (at_last (reserved_now more r) (line_of old)) line (machine_at old) machine H A f U rest.pins
+    fits = λ H A f U its. fits_as trace sum old new rest.config rest.fault (noted_in old) kept_noted (at_last (reserved_now more r) (line_of old)) line (machine_at old) machine H A f U rest.pins
         (record {
           reach = its.reach;
           parts = line_fits_reserved sum its_size more r (state_of (trace (device_of old))) (fault_of old) its.reach (pins_of old) H A f U v vs fits its.parts;
-          closed = closed_up (written_to (line_of old)) (written_to (at_last (reserved_now more r) (line_of old))) H.batches (let same = kept_written v vs in omega (arith, same)) its.closed;
+          batches = batches_up (written_to (line_of old)) (written_to (at_last (reserved_now more r) (line_of old))) (line_end its_size (line_of old)) (line_end its_size (at_last (reserved_now more r) (line_of old))) (noted_in old) H (let same = kept_written v vs in omega (arith, same)) (let same = end_last its_size (reserved_now more r) (λ _. refl) v vs in omega (arith, same)) its.batches;
           slots = slots_reserved sum its_size more r (line_of old) (state_of (trace (device_of old))).log.bytes (fault_of old) (machine_at old) its.slots;
         });
+    noted = noted_later old new rest.noted (let same = reserves_synced in omega (arith, same));
   }

@@ -1,10 +1,9 @@
 -- A log at each moment of the write of one of its sealed buffers, once that failed, and once it is done: what it held and fitted it holds and fits.
-use Rattle.sled_core.proofs.Holds.BatchLemmas.{closed_up}
 use Rattle.std.proofs.Common.{◌≡◌, ◌∙◌, ◌<◌, ◌≤◌, ◌+◌, ◌^◌, ap, sym, arith, subst, ℕ, zero, suc, List, [], ◌∷◌, length, map, set, Option, None, Some, inl, inr}
 use Rattle.std.specs.List.{slice_get}
 use Rattle.std.specs.declared.io.Error.{Error as IoError}
 use Rattle.std.proofs.lemmas.List.{length-map}
-use Rattle.sled_codec.specs.History.{Message, History}
+use Rattle.sled_codec.specs.History.{Batch, Message, History}
 use Rattle.sled_store.specs.Accounts.{machine_of}
 use Rattle.sled_store.specs.Device.{Event, State, Trace, state_of}
 use Rattle.sled_store.specs.Moments.{Throughout}
@@ -12,20 +11,22 @@ use Rattle.sled_store.specs.Script.{Along, Performs, after_all}
 use Rattle.sled_store.specs.SegmentStates.{Machine}
 use Rattle.sled_store.proofs.Traces.MomentLemmas.{at_last, weaker}
 use Rattle.sled_store.proofs.Traces.ScriptLemmas.{performs_throughout}
-use Rattle.sled_core.specs.OpenBatches.{stable_below}
+use Rattle.sled_core.specs.OpenBatches.{not_whole, stable_below}
 use Rattle.sled_core.specs.Begun.{AreFilled, FollowOn, SegmentView, line_at, segment_view, view_at}
 use Rattle.sled_core.specs.declared.iobuf.IoBuf.{IoBuf}
 use Rattle.sled_core.specs.declared.iobuf.SegmentPosition.{SegmentPosition}
 use Rattle.sled_core.specs.declared.logger.Log.{Log}
 use Rattle.sled_core.specs.declared.logger.segments.SegmentBuffer.{SegmentBuffer}
-use Rattle.sled_core.specs.Fits.{written_to, Holds, HoldsWith, device_of, fault_of, line_of, segment_size_of}
+use Rattle.sled_core.specs.Fits.{FitsBatches, written_to, Holds, HoldsWith, device_of, fault_of, line_end, line_of, noted_in, segment_size_of}
 use Rattle.sled_core.specs.Recoverable.{LeavesRecoverable}
 use Rattle.sled_core.specs.Running.{Fits, FitsLine, FitsWith}
 use Rattle.sled_core.specs.Turned.{ChangesDevice, IsReadyIn, promoted, write_in, written_now}
 use Rattle.sled_core.proofs.Flush.FlushLemmas.{fault_or_none}
 use Rattle.sled_core.proofs.Flush.Settled.{leaves_less}
+use Rattle.sled_core.proofs.Holds.FitsBatches.{batches_left, batches_up}
 use Rattle.sled_core.proofs.Holds.BufferEnds.{written_behind}
 use Rattle.sled_core.proofs.Line.Faulty.{fits_line_faulty, fits_with_device, holds_line_faulty, holds_with_device, names_written, slots_line_faulty}
+use Rattle.sled_core.proofs.Line.LineEnds.{end_left, end_set}
 use Rattle.sled_core.proofs.Line.Promotes.{end_promoted, holds_promoted}
 use Rattle.sled_core.proofs.Line.Segments.{AreSegments, filled_promoted, filled_written, follow_segments, line_segments, promoted_waits, run_written, segments_promoted, set_segment, written_segment}
 use Rattle.sled_core.proofs.Line.Writes.{along_write, buffer_begin, buffer_bytes, buffer_calls, buffer_synced, calls_are, fits_write, holds_write, passes_line, slots_write}
@@ -68,6 +69,19 @@ module _ {D C : Type 0} (log : Log D C) (n k : ℕ) (r : IsReadyIn (line_of log)
           let up = (run_written k v r.buffer r.there r.ready is.0.are).rises in
           subst (λ (y : SegmentView). written_to (y ∷ xs) ≤ written_to (written_now k v ∷ xs)) (sym same) (omega (arith, up))
       at_write (x ∷ xs) (suc j) there p are = omega arith
+
+  -- They end where they did,
+  end_stays : line_end size line_left ≡ line_end size line
+  end_stays = end_left size log.site.place line_written segments_written ∙ end_set size line n v (written_now k v) r.among (λ i. v.parts.site)
+
+  -- and of the batches that were noted those are left that aren't wholly written.
+  abbrev pub noted_left : List Batch
+  noted_left = not_whole (written_to line_left) (noted_in log)
+
+  batches_after : (H : History) → FitsBatches (written_to line) (line_end size line) (noted_in log) H → FitsBatches (written_to line_left) (line_end size line_left) noted_left H
+  batches_after H fits =
+      batches_left (written_to line_left) (line_end size line_left) (noted_in log) H
+      (batches_up (written_to line) (written_to line_left) (line_end size line) (line_end size line_left) (noted_in log) H end_grows (let same = end_stays in omega (arith, same)) fits)
 
   -- What the type of a log asks of these segments holds of those that are left.
   pub record KeepsInvariants (site : SegmentPosition) (b : IoBuf) (ss : List SegmentBuffer) : Type 0 where
@@ -140,26 +154,26 @@ module _ {D C : Type 0} (log : Log D C) (n k : ℕ) (r : IsReadyIn (line_of log)
         (subst (λ (es : List Event). Performs es before new) calls came)
 
     -- Once they were made up to one that failed it holds and fits the same.
-    pub holds_failed : (new : Trace) → Performs (write_in line n k) before new → (now : Option IoError) → (now ≡ None → new ≡ before) → (H : History) → Holds trace sum log H → HoldsWith sum size (state_of new) now line slots H
+    pub holds_failed : (new : Trace) → Performs (write_in line n k) before new → (now : Option IoError) → (now ≡ None → new ≡ before) → (H : History) → Holds trace sum log H → HoldsWith sum (noted_in log) size (state_of new) now line slots H
     unfolding Holds
     holds_failed new came now same H holds = elim (fault_or_none now) [
-      | inl none ↦ holds_with_device sum size device (state_of new) log.fault now line slots H (ap state_of (same none)) (none ∙ sym whole) holds
+      | inl none ↦ holds_with_device sum (noted_in log) size device (state_of new) log.fault now line slots H (ap state_of (same none)) (none ∙ sym whole) holds
       | inr some ↦ record {
         holds = holds_line_faulty sum size device log.fault line H holds.holds (state_of new) some.0 now some.1 (names new came).1;
-        closed = holds.closed;
+        batches = holds.batches;
         slots = slots_line_faulty size line device.log.bytes (state_of new).log.bytes log.fault slots holds.slots some.0 now some.1;
       }
     ]
 
-    pub fits_failed : (new : Trace) → Performs (write_in line n k) before new → (now : Option IoError) → (now ≡ None → new ≡ before) → (H : History) (A f : ℕ) (U : List Message) → Fits trace sum log H A f U → FitsWith sum size (state_of new) now line slots log.pins H A f U
+    pub fits_failed : (new : Trace) → Performs (write_in line n k) before new → (now : Option IoError) → (now ≡ None → new ≡ before) → (H : History) (A f : ℕ) (U : List Message) → Fits trace sum log H A f U → FitsWith sum (noted_in log) size (state_of new) now line slots log.pins H A f U
     unfolding Fits
     fits_failed new came now same H A f U fits = elim (fault_or_none now) [
-      | inl none ↦ fits_with_device sum size device (state_of new) log.fault now line slots log.pins H A f U (ap state_of (same none)) (none ∙ sym whole) fits
+      | inl none ↦ fits_with_device sum (noted_in log) size device (state_of new) log.fault now line slots log.pins H A f U (ap state_of (same none)) (none ∙ sym whole) fits
       | inr some ↦ record {
         reach = fits.reach;
         parts = fits_line_faulty sum size device log.fault line fits.reach log.pins H A f U fits.parts (state_of new) some.0 now some.1 (names new came).0 (names new came).1
             (at_last (LeavesRecoverable sum size H (stable_below fits.reach H.batches) f) before new (left new came fits.reach H A f U fits.parts));
-        closed = fits.closed;
+        batches = fits.batches;
         slots = slots_line_faulty size line device.log.bytes (state_of new).log.bytes log.fault slots fits.slots some.0 now some.1;
       }
     ]
@@ -168,26 +182,26 @@ module _ {D C : Type 0} (log : Log D C) (n k : ℕ) (r : IsReadyIn (line_of log)
     made : (new : Trace) → new ≡ after_all (write_in line n k) before → new ≡ after_all (buffer_calls sum size log.config.config.least device log.fault whole v k r.buffer r.there r.ready) before
     made new came = came ∙ ap (λ (es : List Event). after_all es before) calls
 
-    pub holds_done : (new : Trace) → new ≡ after_all (write_in line n k) before → (now : Option IoError) → now ≡ None → (H : History) → Holds trace sum log H → HoldsWith sum size (state_of new) now line_left slots H
+    pub holds_done : (new : Trace) → new ≡ after_all (write_in line n k) before → (now : Option IoError) → now ≡ None → (H : History) → Holds trace sum log H → HoldsWith sum noted_left size (state_of new) now line_left slots H
     unfolding Holds
     holds_done new came now none H holds =
-        subst (λ (o : Option IoError). HoldsWith sum size (state_of new) o line_left slots H) (whole ∙ sym none)
-        (subst (λ (t : Trace). HoldsWith sum size (state_of t) log.fault line_left slots H) (sym (made new came)) (record {
+        subst (λ (o : Option IoError). HoldsWith sum noted_left size (state_of new) o line_left slots H) (whole ∙ sym none)
+        (subst (λ (t : Trace). HoldsWith sum noted_left size (state_of t) log.fault line_left slots H) (sym (made new came)) (record {
           holds = holds_promoted sum size (buffer_synced sum size log.config.config.least device log.fault whole v k r.buffer r.there r.ready) log.fault H log.config.config.least log.site.place line_written segments_written
               (holds_write sum size log.config.config.least device log.fault whole v k r.buffer r.there r.ready log.site.place line (line_segments log) n r.among H holds.holds);
-          closed = closed_up (written_to line) (written_to line_left) H.batches end_grows holds.closed;
+          batches = batches_after H holds.batches;
           slots = slots_write sum size log.config.config.least device log.fault whole v k r.buffer r.there r.ready log.site.place line (line_segments log) n r.among slots log.fault holds.slots;
         }))
 
-    pub fits_done : (new : Trace) → new ≡ after_all (write_in line n k) before → (now : Option IoError) → now ≡ None → (H : History) (A f : ℕ) (U : List Message) → Fits trace sum log H A f U → FitsWith sum size (state_of new) now line_left slots log.pins H A f U
+    pub fits_done : (new : Trace) → new ≡ after_all (write_in line n k) before → (now : Option IoError) → now ≡ None → (H : History) (A f : ℕ) (U : List Message) → Fits trace sum log H A f U → FitsWith sum noted_left size (state_of new) now line_left slots log.pins H A f U
     unfolding Fits
     fits_done new came now none H A f U fits =
         let after = fits_write sum size log.config.config.least device log.fault whole v k r.buffer r.there r.ready log.pins H A f U log.reserved_to log.site.place fits.reach line (line_segments log) n r.among filled_now first_waits fits.parts in
-        subst (λ (o : Option IoError). FitsWith sum size (state_of new) o line_left slots log.pins H A f U) (sym none)
-        (subst (λ (t : Trace). FitsWith sum size (state_of t) None line_left slots log.pins H A f U) (sym (made new came)) (record {
+        subst (λ (o : Option IoError). FitsWith sum noted_left size (state_of new) o line_left slots log.pins H A f U) (sym none)
+        (subst (λ (t : Trace). FitsWith sum noted_left size (state_of t) None line_left slots log.pins H A f U) (sym (made new came)) (record {
           reach = after.0;
           parts = after.1;
-          closed = closed_up (written_to line) (written_to line_left) H.batches end_grows fits.closed;
+          batches = batches_after H fits.batches;
           slots = slots_write sum size log.config.config.least device log.fault whole v k r.buffer r.there r.ready log.site.place line (line_segments log) n r.among slots None fits.slots;
         }))
 

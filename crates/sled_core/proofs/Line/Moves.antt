@@ -1,30 +1,32 @@
 -- A log whose segments are these, over the same device, holds and fits what these do.
 use Rattle.std.proofs.Common.{◌≡◌, sym, subst, ℕ, List, Option}
 use Rattle.std.specs.declared.io.Error.{Error as IoError}
-use Rattle.sled_codec.specs.History.{History, Message}
+use Rattle.sled_codec.specs.History.{Batch, History, Message}
 use Rattle.sled_store.specs.declared.config.RunningConfig.{RunningConfig}
 use Rattle.sled_store.specs.Device.{Trace, state_of}
 use Rattle.sled_store.specs.SegmentStates.{Machine}
 use Rattle.sled_core.specs.Begun.{SegmentView}
 use Rattle.sled_core.specs.declared.logger.Log.{Log}
-use Rattle.sled_core.specs.Fits.{Holds, HoldsWith, config_of, device_of, fault_of, line_of, machine_at, pins_of, segment_size_of}
+use Rattle.sled_core.specs.Fits.{Holds, HoldsWith, config_of, device_of, fault_of, line_of, machine_at, noted_in, pins_of, segment_size_of}
 use Rattle.sled_core.specs.Running.{Fits, FitsWith}
 
-module _ {D C : Type 0} (trace : D → Trace) (sum : List ℕ → ℕ) (old new : Log D C) (config : config_of new ≡ config_of old) (fault : fault_of new ≡ fault_of old)
+module _ {D C : Type 0} (trace : D → Trace) (sum : List ℕ → ℕ) (old new : Log D C) (config : config_of new ≡ config_of old) (fault : fault_of new ≡ fault_of old) (bs : List Batch) (noted : noted_in new ≡ bs)
     (line : List SegmentView) (is_line : line_of new ≡ line) (m : Machine) (is_machine : machine_at new ≡ m) (H : History) where
-  pub holds_as : HoldsWith sum (segment_size_of old) (state_of (trace (device_of old))) (fault_of old) line m H → Holds trace sum new H
+  pub holds_as : HoldsWith sum bs (segment_size_of old) (state_of (trace (device_of old))) (fault_of old) line m H → Holds trace sum new H
   unfolding Holds
   holds_as holds =
-      subst (λ (x : RunningConfig D C). HoldsWith sum x.config.segment_size (state_of (trace x.device)) (fault_of new) (line_of new) (machine_at new) H) (sym config)
-      (subst (λ (e : Option IoError). HoldsWith sum (segment_size_of old) (state_of (trace (device_of old))) e (line_of new) (machine_at new) H) (sym fault)
-      (subst (λ (l : List SegmentView). HoldsWith sum (segment_size_of old) (state_of (trace (device_of old))) (fault_of old) l (machine_at new) H) (sym is_line)
-      (subst (λ (x : Machine). HoldsWith sum (segment_size_of old) (state_of (trace (device_of old))) (fault_of old) line x H) (sym is_machine) holds)))
+      subst (λ (x : RunningConfig D C). HoldsWith sum (noted_in new) x.config.segment_size (state_of (trace x.device)) (fault_of new) (line_of new) (machine_at new) H) (sym config)
+      (subst (λ (e : Option IoError). HoldsWith sum (noted_in new) (segment_size_of old) (state_of (trace (device_of old))) e (line_of new) (machine_at new) H) (sym fault)
+      (subst (λ (l : List SegmentView). HoldsWith sum (noted_in new) (segment_size_of old) (state_of (trace (device_of old))) (fault_of old) l (machine_at new) H) (sym is_line)
+      (subst (λ (x : Machine). HoldsWith sum (noted_in new) (segment_size_of old) (state_of (trace (device_of old))) (fault_of old) line x H) (sym is_machine)
+      (subst (λ (l : List Batch). HoldsWith sum l (segment_size_of old) (state_of (trace (device_of old))) (fault_of old) line m H) (sym noted) holds))))
 
-  pub fits_as : (A f : ℕ) (U : List Message) → pins_of new ≡ pins_of old → FitsWith sum (segment_size_of old) (state_of (trace (device_of old))) (fault_of old) line m (pins_of old) H A f U → Fits trace sum new H A f U
+  pub fits_as : (A f : ℕ) (U : List Message) → pins_of new ≡ pins_of old → FitsWith sum bs (segment_size_of old) (state_of (trace (device_of old))) (fault_of old) line m (pins_of old) H A f U → Fits trace sum new H A f U
   unfolding Fits
   fits_as A f U pins fits =
-      subst (λ (x : RunningConfig D C). FitsWith sum x.config.segment_size (state_of (trace x.device)) (fault_of new) (line_of new) (machine_at new) (pins_of new) H A f U) (sym config)
-      (subst (λ (e : Option IoError). FitsWith sum (segment_size_of old) (state_of (trace (device_of old))) e (line_of new) (machine_at new) (pins_of new) H A f U) (sym fault)
-      (subst (λ (l : List SegmentView). FitsWith sum (segment_size_of old) (state_of (trace (device_of old))) (fault_of old) l (machine_at new) (pins_of new) H A f U) (sym is_line)
-      (subst (λ (x : Machine). FitsWith sum (segment_size_of old) (state_of (trace (device_of old))) (fault_of old) line x (pins_of new) H A f U) (sym is_machine)
-      (subst (λ n. FitsWith sum (segment_size_of old) (state_of (trace (device_of old))) (fault_of old) line m n H A f U) (sym pins) fits))))
+      subst (λ (x : RunningConfig D C). FitsWith sum (noted_in new) x.config.segment_size (state_of (trace x.device)) (fault_of new) (line_of new) (machine_at new) (pins_of new) H A f U) (sym config)
+      (subst (λ (e : Option IoError). FitsWith sum (noted_in new) (segment_size_of old) (state_of (trace (device_of old))) e (line_of new) (machine_at new) (pins_of new) H A f U) (sym fault)
+      (subst (λ (l : List SegmentView). FitsWith sum (noted_in new) (segment_size_of old) (state_of (trace (device_of old))) (fault_of old) l (machine_at new) (pins_of new) H A f U) (sym is_line)
+      (subst (λ (x : Machine). FitsWith sum (noted_in new) (segment_size_of old) (state_of (trace (device_of old))) (fault_of old) line x (pins_of new) H A f U) (sym is_machine)
+      (subst (λ n. FitsWith sum (noted_in new) (segment_size_of old) (state_of (trace (device_of old))) (fault_of old) line m n H A f U) (sym pins)
+      (subst (λ (l : List Batch). FitsWith sum l (segment_size_of old) (state_of (trace (device_of old))) (fault_of old) line m (pins_of old) H A f U) (sym noted) fits)))))

@@ -103,11 +103,11 @@ module _ (sum : List ℕ → ℕ) (size : ℕ) (device : State) (fault : Option 
     -- The segments fit the history with the batch.
     pub mark_fits : (line : List SegmentView) (n place reach pins : ℕ) (H : History) (A f : ℕ) (U : List Message) → 256 ≤ size → fault ≡ None → slice_get line n ≡ Some v
         → ((k : ℕ) (x : SegmentView) → slice_get line k ≡ Some x → IsSegment size (place + k * size) x) → IsInRecord H.messages peg
-        → ((c : Batch) → Contains (noted_history H (record { low = v.parts.site.place + r.from; peg = peg })).batches c → IsPlacedBatch size (noted_history H (record { low = v.parts.site.place + r.from; peg = peg })) c)
+        → (((c : Batch) → Contains H.batches c → IsPlacedBatch size H c) → (c : Batch) → Contains (noted_history H (record { low = v.parts.site.place + r.from; peg = peg })).batches c → IsPlacedBatch size (noted_history H (record { low = v.parts.site.place + r.from; peg = peg })) c)
         → FitsLine sum size device fault line reach pins H A f U
         → FitsLine sum size device fault (set line n (ended_now i r (marking sum v.parts.bytes r peg) Manifest v)) reach pins (noted_history H (record { low = v.parts.site.place + r.from; peg = peg })) A f U
-    mark_fits [] n place reach pins H A f U least ok there facts pegged placed fits = cc
-    mark_fits (w ∷ ws) zero place reach pins H A f U least ok there facts pegged placed fits =
+    mark_fits [] n place reach pins H A f U least ok there facts pegged placing fits = cc
+    mark_fits (w ∷ ws) zero place reach pins H A f U least ok there facts pegged placing fits =
         let same : w ≡ v = cc in
         let its : FitsLine sum size device fault (v ∷ ws) reach pins H A f U = subst (λ (x : SegmentView). FitsLine sum size device fault (x ∷ ws) reach pins H A f U) same fits in
         let own = facts zero v there in
@@ -116,10 +116,10 @@ module _ (sum : List ℕ → ℕ) (size : ℕ) (device : State) (fault : Option 
         let short = own.short in
         fits-marked sum size v.parts.site device fault v.parts.bytes v.parts.written_len v.parts.sealed v.parts.reserved pins H A f U its _ _ _ _ (noted_history H b) b refl least (omega (arith, long, short)) ok
         (holds-marked sum size v.parts.site device fault v.parts.bytes v.parts.written_len v.parts.sealed v.parts.reserved H its.holds own.short reached its.marked i r at is_open manifest own.are peg small later pegged)
-        (noted_adds H b later) placed pegged
+        (noted_adds H b later) placing pegged
         (first_above sum size v.parts.site device fault v.parts.bytes v.parts.written_len v.parts.sealed v.parts.reserved H its.holds own.short reached its.marked i r at is_open manifest own.are peg small later pegged)
         (first_inside sum size v.parts.site device fault v.parts.bytes v.parts.written_len v.parts.sealed v.parts.reserved H its.holds own.short reached its.marked i r at is_open manifest own.are peg small later pegged) own.fresh own.are
-    mark_fits (w ∷ ws) (suc k) place reach pins H A f U least ok there facts pegged placed fits =
+    mark_fits (w ∷ ws) (suc k) place reach pins H A f U least ok there facts pegged placing fits =
         let pre : List SegmentParts = map parts_in (take k ws) in
         let post : List SegmentParts = map parts_in (drop (suc k) ws) in
         let its : FitsIn sum (parts_of w) (pre ++ v.parts ∷ post) reach pins H A f U = subst (λ (l : List SegmentParts). FitsIn sum (parts_of w) l reach pins H A f U) (parts_split ws k v there) fits in
@@ -130,7 +130,7 @@ module _ (sum : List ℕ → ℕ) (size : ℕ) (device : State) (fault : Option 
         (λ none. batch_head sum size w.parts.site device fault w.parts.bytes w.parts.written_len w.parts.sealed w.parts.reserved H pre v.parts post its.holds short reached its.marked i r at is_open manifest peg small later pegged)
         (noted_history H b) b least short ok
         (behind-holds-marked sum size w.parts.site device fault w.parts.bytes w.parts.written_len w.parts.sealed w.parts.reserved H pre v.parts post its.holds short reached its.marked i r at is_open manifest peg small later pegged)
-        (noted_adds H b later) placed pegged
+        (noted_adds H b later) placing pegged
         (batch_above sum size w.parts.site device fault w.parts.bytes w.parts.written_len w.parts.sealed w.parts.reserved H pre v.parts post its.holds short reached its.marked i r at is_open manifest peg small later pegged)
         (batch_inside sum size w.parts.site device fault w.parts.bytes w.parts.written_len w.parts.sealed w.parts.reserved H pre v.parts post its.holds short reached its.marked i r at is_open manifest peg small later pegged)
         (facts (suc k) v there).fresh)

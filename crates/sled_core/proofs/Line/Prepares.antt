@@ -17,7 +17,7 @@ use Rattle.sled_core.specs.declared.iobuf.Purpose.{Purpose}
 use Rattle.sled_core.specs.declared.iobuf.Reserved.{Reserved}
 use Rattle.sled_core.specs.declared.logger.Log.{Log}
 use Rattle.sled_core.specs.declared.reservation.Reservation.{Reservation}
-use Rattle.sled_core.specs.Fits.{Awaits, AwaitsIn, FitsInline, open_places, IsUnchanged, IsUsedUpFor, KeepsAll, KeepsTickets, NoFurther, current_of, is_moved, line_of, machine_at, message_for, open_for, open_of, position_behind, position_of, reserved_end, segment_size_of, size_for, start_behind, start_of, synced_end, target_of, waiting_behind, waiting_of}
+use Rattle.sled_core.specs.Fits.{Awaits, AwaitsIn, FitsInline, open_places, IsUnchanged, IsUsedUpFor, KeepsAll, KeepsTickets, NoFurther, current_of, is_moved, line_of, machine_at, message_for, open_for, open_of, position_behind, position_of, reserved_end, segment_size_of, stable_end, size_for, start_behind, start_of, target_of, waiting_behind, waiting_of}
 use Rattle.sled_core.specs.Keeps.{Preserves}
 use Rattle.sled_core.specs.Positions.{Position, behind_record, next_segment_at}
 use Rattle.sled_core.specs.Turned.{ChangesLine, ChangesSlots, HasPlace, IsTicketFor, begun_view, next_line, reserved_now}
@@ -139,11 +139,11 @@ module _ {D C : Type 0} (trace : D → Trace) (sum : List ℕ → ℕ) (old : Lo
   pub next_used : NoFurther old → IsUsedUpFor old kept.page (length item)
   next_used none = (next_moves, none)
 
-  pub prepared_next : (mid : Log D C) (head : List ℕ) → line_of mid ≡ next_line sum size (machine_at old) (synced_end old) (line_of old) → machine_at mid ≡ handed_out (v.parts.site.place + size) (machine_at old) → ChangesSlots old mid
+  pub prepared_next : (mid : Log D C) (head : List ℕ) → line_of mid ≡ next_line sum size (machine_at old) (stable_end old) (line_of old) → machine_at mid ≡ handed_out (v.parts.site.place + size) (machine_at old) → ChangesSlots old mid
       → drop 4 head ≡ short_header_tail kept.kind (length item) (number_of mid) kept.page → MayHandOut size (v.parts.site.place + size) (machine_at old) → IsPrepared trace sum old mid kept head item
   prepared_next mid head line machine rest tail may =
-      let current : current_of mid ≡ begun_view sum size (machine_at old) (synced_end old) v = begins_current trace sum old mid line machine rest in
-      let header = length-short_header sum (pos (v.parts.site.place + size)) (pos (synced_end old) -ℤ pos 1) in
+      let current : current_of mid ≡ begun_view sum size (machine_at old) (stable_end old) v = begins_current trace sum old mid line machine rest in
+      let header = length-short_header sum (pos (v.parts.site.place + size)) (pos (stable_end old) -ℤ pos 1) in
       let bytes : length (current_of mid).parts.bytes ≡ 20 = ap (λ (w : SegmentView). length w.parts.bytes) current ∙ header in
       let sizes : segment_size_of mid ≡ size = ap (λ (x : RunningConfig D C). x.config.segment_size) rest.config in
       let all = head_size head item kept (number_of mid) tail in
@@ -151,7 +151,7 @@ module _ {D C : Type 0} (trace : D → Trace) (sum : List ℕ → ℕ) (old : Lo
       let moves = next_moves in
       let none = next_open in
       let least = big in
-      let buffers = next_buffers sum old mid (synced_end old) line in
+      let buffers = next_buffers sum old mid (stable_end old) line in
       let closed : List BufferAt = unwritten (at_last (closed_now sum size) (line_of old)) in
       let next : BufferStart = record { place = v.parts.site.place + size; lid = next_slot (machine_at old) * size } in
       record {
@@ -211,7 +211,7 @@ module _ {D C : Type 0} (trace : D → Trace) (sum : List ℕ → ℕ) (old mid 
   made_same =
       let second = reserves_same trace sum mid new more r line rest accountant fits in
       let first = ready.same in
-      record { config = second.config ∙ first.config; synced = second.synced ∙ first.synced; fault = second.fault ∙ first.fault; pins = second.pins ∙ first.pins }
+      record { config = second.config ∙ first.config; synced = second.synced ∙ first.synced; noted = second.noted ∙ first.noted; fault = second.fault ∙ first.fault; pins = second.pins ∙ first.pins }
 
   pub made_others : (ticket : Reservation) (m : Message) → Awaits old ticket m → Awaits new ticket m
   made_others ticket m awaits = reserves_others trace sum mid new more r line rest accountant fits ticket m (ready.tickets.awaits ticket m awaits)

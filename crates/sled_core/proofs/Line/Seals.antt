@@ -1,5 +1,4 @@
 -- The current buffer is sealed: the log holds and fits what it did.
-use Rattle.sled_core.proofs.Holds.BatchLemmas.{closed_up}
 use Rattle.std.proofs.Common.{◌≡◌, ◌∙◌, ◌<◌, ◌≤◌, ◌+◌, ap, sym, refl, arith, subst, inl, inr, ℕ, List, [], ◌∷◌, length, map, drop, Option, true, false, if◌then◌else◌}
 use Rattle.std.specs.declared.io.Error.{Error as IoError}
 use Rattle.std.proofs.lemmas.Bool.Decides.{nat_tests}
@@ -12,7 +11,7 @@ use Rattle.sled_store.specs.declared.config.RunningConfig.{RunningConfig}
 use Rattle.sled_core.specs.Begun.{SegmentParts, SegmentView, begin_of, segment_view, view_at}
 use Rattle.sled_core.specs.declared.logger.Log.{Log}
 use Rattle.sled_core.specs.declared.reservation.Reservation.{Reservation}
-use Rattle.sled_core.specs.Fits.{written_to, AwaitsIn, Holds, HoldsIn, HoldsLine, KeepsAll, KeepsTickets, buffers_of, current_begin, current_of, device_of, fault_of, line_of, log_parts, machine_at, parts_in, pins_of, segment_size_of, synced_end, waiting_of}
+use Rattle.sled_core.specs.Fits.{written_to, AwaitsIn, Holds, HoldsIn, HoldsLine, KeepsAll, KeepsTickets, buffers_of, current_begin, current_of, device_of, fault_of, line_end, line_of, noted_in, log_parts, machine_at, parts_in, pins_of, segment_size_of, synced_end, waiting_of}
 use Rattle.sled_core.specs.FreeSlots.{HasSlot, HasSlots}
 use Rattle.sled_core.specs.Keeps.{Preserves, SamePosition}
 use Rattle.sled_core.specs.OpenPlaces.{open_places_along}
@@ -23,11 +22,13 @@ use Rattle.sled_core.specs.Turned.{ChangesLine}
 use Rattle.sled_core.specs.Waiting.{as_sealed, at_last, closed_now, holds_any, last_of, sealed_now, turned_now, unwritten}
 use Rattle.sled_core.proofs.Behind.Calls.{behind-sealed}
 use Rattle.sled_core.proofs.Behind.FitsCalls.{behind-fits-sealed}
+use Rattle.sled_core.proofs.Holds.FitsBatches.{batches_up}
 use Rattle.sled_core.proofs.Holds.KeptCalls.{goes_on_quietly}
 use Rattle.sled_core.proofs.Holds.RunningLemmas.{fits-moved}
 use Rattle.sled_core.proofs.Holds.WholeLemmas.{holds-sealed}
 use Rattle.sled_core.proofs.Line.Facts.{current_facts}
 use Rattle.sled_core.proofs.Line.Last.{All-at_last, at_last_same, at_last_twice, by_last, last_changed, last_get_of}
+use Rattle.sled_core.proofs.Line.LineEnds.{end_last, noted_later, noted_same}
 use Rattle.sled_core.proofs.Line.Moves.{fits_as, holds_as}
 use Rattle.sled_core.proofs.Line.OpenPlaces.{places_sealed}
 use Rattle.sled_core.proofs.Sealed.Appended.{end_one}
@@ -101,8 +102,11 @@ module _ {D C : Type 0} (trace : D → Trace) (sum : List ℕ → ℕ) (old new 
   pub sealed_synced : synced_end new ≡ synced_end old
   sealed_synced = ap written_to line ∙ kept_written v vs
 
+  kept_noted : noted_in new ≡ noted_in old
+  kept_noted = noted_same old new rest.noted sealed_synced
+
   pub sealed_same : KeepsAll old new
-  sealed_same = record { config = rest.config; synced = sealed_synced; fault = rest.fault; pins = rest.pins }
+  sealed_same = record { config = rest.config; synced = sealed_synced; noted = kept_noted; fault = rest.fault; pins = rest.pins }
 
   -- and the current segment is the same but for that.
   pub sealed_current : current_of new ≡ sealed_now (current_of old)
@@ -138,19 +142,20 @@ module _ {D C : Type 0} (trace : D → Trace) (sum : List ℕ → ℕ) (old new 
   sealed_keeps = record {
     goes_on = goes_on_quietly trace sum old new (record { config = ap (λ (x : RunningConfig D C). x.config) rest.config; checksum = ap (λ (x : RunningConfig D C). x.checksum) rest.config })
         (ap (λ (x : RunningConfig D C). trace x.device) rest.config) (let same = sealed_synced in omega (arith, same));
-    history = λ H holds. holds_as trace sum old new rest.config rest.fault (at_last sealed_now (line_of old)) line (machine_at old) machine H
+    history = λ H holds. holds_as trace sum old new rest.config rest.fault (noted_in old) kept_noted (at_last sealed_now (line_of old)) line (machine_at old) machine H
         (record {
           holds = line_sealed sum size (state_of (trace (device_of old))) (fault_of old) H v vs its holds.holds;
-          closed = closed_up (written_to (line_of old)) (written_to (at_last sealed_now (line_of old))) H.batches (let same = kept_written v vs in omega (arith, same)) holds.closed;
+          batches = batches_up (written_to (line_of old)) (written_to (at_last sealed_now (line_of old))) (line_end size (line_of old)) (line_end size (at_last sealed_now (line_of old))) (noted_in old) H (let same = kept_written v vs in omega (arith, same)) (let same = end_last size sealed_now (λ _. refl) v vs in omega (arith, same)) holds.batches;
           slots = slots_sealed size (line_of old) (state_of (trace (device_of old))).log.bytes (fault_of old) (machine_at old) holds.slots;
         });
-    fits = λ H A f U fits. fits_as trace sum old new rest.config rest.fault (at_last sealed_now (line_of old)) line (machine_at old) machine H A f U rest.pins
+    fits = λ H A f U fits. fits_as trace sum old new rest.config rest.fault (noted_in old) kept_noted (at_last sealed_now (line_of old)) line (machine_at old) machine H A f U rest.pins
         (record {
           reach = fits.reach;
           parts = line_fits_sealed sum size (state_of (trace (device_of old))) (fault_of old) fits.reach (pins_of old) H A f U v vs its fits.parts;
-          closed = closed_up (written_to (line_of old)) (written_to (at_last sealed_now (line_of old))) H.batches (let same = kept_written v vs in omega (arith, same)) fits.closed;
+          batches = batches_up (written_to (line_of old)) (written_to (at_last sealed_now (line_of old))) (line_end size (line_of old)) (line_end size (at_last sealed_now (line_of old))) (noted_in old) H (let same = kept_written v vs in omega (arith, same)) (let same = end_last size sealed_now (λ _. refl) v vs in omega (arith, same)) fits.batches;
           slots = slots_sealed size (line_of old) (state_of (trace (device_of old))).log.bytes (fault_of old) (machine_at old) fits.slots;
         });
+    noted = noted_later old new rest.noted (let same = sealed_synced in omega (arith, same));
   }
 
   -- What it held that wasn't sealed is among the sealed buffers, where a further record has room behind it.

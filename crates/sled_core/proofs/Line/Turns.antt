@@ -11,7 +11,7 @@ use Rattle.sled_core.specs.Begun.{SegmentView, begin_of, segment_view, view_at}
 use Rattle.sled_core.specs.Buffers.{IsChain}
 use Rattle.sled_core.specs.declared.iobuf.Reserved.{Reserved}
 use Rattle.sled_core.specs.declared.logger.Log.{Log}
-use Rattle.sled_core.specs.Fits.{AddsBuffers, buffers_of, current_begin, current_of, line_of, machine_at, reserved_end, sealing_end, segment_size_of, synced_end, waiting_of}
+use Rattle.sled_core.specs.Fits.{AddsBuffers, buffers_of, current_begin, current_of, line_of, machine_at, reserved_end, sealing_end, segment_size_of, stable_end, waiting_of}
 use Rattle.sled_core.specs.Keeps.{SamePosition}
 use Rattle.sled_core.specs.Positions.{is_short, next_segment_at}
 use Rattle.sled_core.specs.SealedBuffers.{sealed_count}
@@ -55,7 +55,7 @@ turns_within log =
     let inside = here.short in
     omega (arith, end, inside)
 
-module _ {D C : Type 0} (trace : D → Trace) (sum : List ℕ → ℕ) (old new : Log D C) (line : line_of new ≡ next_line sum (segment_size_of old) (machine_at old) (synced_end old) (line_of old))
+module _ {D C : Type 0} (trace : D → Trace) (sum : List ℕ → ℕ) (old new : Log D C) (line : line_of new ≡ next_line sum (segment_size_of old) (machine_at old) (stable_end old) (line_of old))
     (machine : machine_at new ≡ handed_out ((current_of old).parts.site.place + segment_size_of old) (machine_at old)) (rest : ChangesSlots old new)
     (some : holds_any (current_of old) ≡ true) (short : is_short (segment_size_of old) (length (current_of old).parts.bytes) ≡ true) where
   abbrev size : ℕ
@@ -78,11 +78,11 @@ module _ {D C : Type 0} (trace : D → Trace) (sum : List ℕ → ℕ) (old new 
 
   -- What it held is among the sealed buffers,
   pub turns_waiting : waiting_of new ≡ buffers_of sum old
-  turns_waiting = (next_buffers sum old new (synced_end old) line).0 ∙ closed_are
+  turns_waiting = (next_buffers sum old new (stable_end old) line).0 ∙ closed_are
 
   -- and the current one begins with the next segment.
   pub turns_begins : current_begin new ≡ sealing_end old
-  turns_begins = ap (λ x. x.place) (next_buffers sum old new (synced_end old) line).1 ∙ sym (ap (λ (o : Bool). v.parts.site.place + (if o then size else length v.parts.bytes)) short)
+  turns_begins = ap (λ x. x.place) (next_buffers sum old new (stable_end old) line).1 ∙ sym (ap (λ (o : Bool). v.parts.site.place + (if o then size else length v.parts.bytes)) short)
 
   -- The next record begins where it would have begun.
   pub turns_position : reserved_end new ≡ reserved_end old → SamePosition old new
@@ -97,9 +97,9 @@ module _ {D C : Type 0} (trace : D → Trace) (sum : List ℕ → ℕ) (old new 
   -- The header of the new segment is a further buffer.
   pub turns_buffers : AddsBuffers sum old new
   turns_buffers =
-      let b : SegmentView = begun_view sum size (machine_at old) (synced_end old) v in
+      let b : SegmentView = begun_view sum size (machine_at old) (stable_end old) v in
       let big : 256 ≤ size = old.config.config.least in
-      let long = length-short_header sum (pos b.parts.site.place) (pos (synced_end old) -ℤ pos 1) in
+      let long = length-short_header sum (pos b.parts.site.place) (pos (stable_end old) -ℤ pos 1) in
       let room : is_short size (length b.parts.bytes) ≡ false = grind (arith, nat_tests, big, long) in
       let any : holds_any b ≡ true = grind (arith, nat_tests, long) in
       let header_sealed : as_sealed sum size b ≡ sealed_now b = ap (λ o. if o then turned_now sum size b else b) any ∙ ap (λ o. if o then closed_now sum size b else sealed_now b) room in

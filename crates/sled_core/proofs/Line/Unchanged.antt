@@ -5,7 +5,7 @@ use Rattle.sled_store.specs.Device.{Trace}
 use Rattle.sled_store.specs.declared.config.RunningConfig.{RunningConfig}
 use Rattle.sled_core.specs.Begun.{SegmentView, view_at}
 use Rattle.sled_core.specs.declared.logger.Log.{Log}
-use Rattle.sled_core.specs.Fits.{written_to, AwaitsIn, Holds, IsUnchanged, KeepsAll, KeepsTickets, current_of, line_of, machine_at, segment_size_of, synced_end}
+use Rattle.sled_core.specs.Fits.{written_to, AwaitsIn, Holds, IsUnchanged, KeepsAll, KeepsTickets, current_of, line_of, machine_at, noted_in, segment_size_of, synced_end}
 use Rattle.sled_core.specs.Keeps.{Preserves, SamePosition}
 use Rattle.sled_core.specs.OpenPlaces.{open_places_along}
 use Rattle.sled_core.specs.Positions.{position_in}
@@ -13,11 +13,12 @@ use Rattle.sled_core.specs.Running.{Fits}
 use Rattle.sled_core.specs.Turned.{ChangesLine}
 use Rattle.sled_core.specs.Waiting.{last_of}
 use Rattle.sled_core.proofs.Holds.KeptCalls.{goes_on_quietly}
+use Rattle.sled_core.proofs.Line.LineEnds.{noted_quiet, noted_same}
 use Rattle.sled_core.proofs.Line.Moves.{fits_as, holds_as}
 
 -- A call that changes the segments alone, and leaves what is seen of them, leaves it so.
 pub left_alone : {D C : Type 0} (old new : Log D C) → line_of new ≡ line_of old → ChangesLine old new → IsUnchanged old new
-left_alone old new line rest = record { line = line; reserved = rest.reserved; fault = rest.fault; pins = rest.pins; machine = ap machine_of rest.accountant; config = rest.config }
+left_alone old new line rest = record { line = line; reserved = rest.reserved; fault = rest.fault; pins = rest.pins; machine = ap machine_of rest.accountant; noted = noted_same old new rest.noted (ap written_to line); config = rest.config }
 
 module _ {D C : Type 0} (old new : Log D C) (same : IsUnchanged old new) where
   unchanged_synced : synced_end new ≡ synced_end old
@@ -30,7 +31,7 @@ module _ {D C : Type 0} (old new : Log D C) (same : IsUnchanged old new) where
   unchanged_size = ap (λ (x : RunningConfig D C). x.config.segment_size) same.config
 
   pub unchanged_same : KeepsAll old new
-  unchanged_same = record { config = same.config; synced = unchanged_synced; fault = same.fault; pins = same.pins }
+  unchanged_same = record { config = same.config; synced = unchanged_synced; noted = same.noted; fault = same.fault; pins = same.pins }
 
   pub unchanged_tickets : KeepsTickets old new
   unchanged_tickets = record {
@@ -51,6 +52,7 @@ module _ {D C : Type 0} (old new : Log D C) (same : IsUnchanged old new) where
   unchanged_keeps trace sum = record {
     goes_on = goes_on_quietly trace sum old new (record { config = ap (λ (x : RunningConfig D C). x.config) same.config; checksum = ap (λ (x : RunningConfig D C). x.checksum) same.config })
         (ap (λ (x : RunningConfig D C). trace x.device) same.config) (let is = unchanged_synced in omega (arith, is));
-    history = λ H holds. holds_as trace sum old new same.config same.fault (line_of old) same.line (machine_at old) same.machine H holds;
-    fits = λ H A f U fits. fits_as trace sum old new same.config same.fault (line_of old) same.line (machine_at old) same.machine H A f U same.pins fits;
+    history = λ H holds. holds_as trace sum old new same.config same.fault (noted_in old) same.noted (line_of old) same.line (machine_at old) same.machine H holds;
+    fits = λ H A f U fits. fits_as trace sum old new same.config same.fault (noted_in old) same.noted (line_of old) same.line (machine_at old) same.machine H A f U same.pins fits;
+    noted = noted_quiet old new same.noted unchanged_synced;
   }

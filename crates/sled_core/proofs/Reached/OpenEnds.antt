@@ -1,59 +1,46 @@
--- What begins below the stable place ends below it, where a batch is open at what is read, or none is.
-use Rattle.std.proofs.Common.{◌≡◌, ◌∙◌, ◌<◌, ◌≤◌, ◌+◌, ℕ, Option, None, Some, refl, sym, ap, arith, inl, inr}
+-- What is acknowledged by the stable place of what is written is read, though reading ends short of that.
+use Rattle.std.proofs.Common.{◌<◌, ◌≤◌, ◌+◌, ℕ, arith, inl, inr}
 use Rattle.std.specs.List.{Contains}
-use Rattle.std.proofs.lemmas.Bool.{cases_lt}
 use Rattle.sled_codec.specs.History.{Batch, History, Message}
-use Rattle.sled_core.specs.OpenBatches.{AreApart, HasOpen, IsOpenBatch, low_of, stable_below}
+use Rattle.sled_core.specs.OpenBatches.{AreApart, IsOpenBatch, stable_below}
 use Rattle.sled_core.specs.Recoverable.{NoBatchBegins, NoBatchEnds}
 use Rattle.sled_core.specs.Running.{end_below}
 use Rattle.sled_core.proofs.Holds.LastEnds.{acknowledged_least}
-use Rattle.sled_core.proofs.Reached.OpenBatch.{stable_kept}
+use Rattle.sled_core.proofs.Reached.OpenBatch.{stable_ends}
+use Rattle.sled_core.proofs.Reached.StableBelow.{stable_is, stable_low, stable_open}
 
-module _ (H : History) (end : ℕ) (kept : Option Batch) (has : HasOpen 0 end kept H.batches) (parts : AreApart end H.batches) where
-  -- A batch that begins there ends in front of the open one; or none is open, and it is wholly read.
-  ends_before : (o : Option Batch) → kept ≡ o → (c : Batch) → Contains H.batches c → c.low < low_of end o → c.peg < low_of end o
-  ends_before None is c there low = elim (cases_lt c.peg end) [ inl ended ↦ ended | inr high ↦ absurd (let open_one : None ≡ Some c = sym is ∙ has.known c there (omega arith) (low, high) in cc) ]
-  ends_before (Some b) is c there low =
-      let (known, begins, (b_low, b_peg)) = has.is b is in
-      elim (parts.apart c b there known b_peg) [
-        | inl same ↦ absurd (let lows = ap (λ (x : Batch). x.low) same in omega (arith, lows, low))
-        | inr (inl before) ↦ before
-        | inr (inr behind) ↦ absurd (omega (arith, behind, low, b_low, b_peg))
+-- Nothing lies between the two, and no message that begins before a batch ends in it.
+module _ (H : History) (reach end : ℕ) (up : reach ≤ end) (ends : (m : Message) → Contains H.messages m → m.place < end → m.place + m.size ≤ reach) (no_batch : NoBatchBegins H reach end) (no_end : NoBatchEnds H reach end) (parts : AreApart end H.batches)
+    (before : (m : Message) → Contains H.messages m → (b : Batch) → Contains H.batches b → end ≤ b.peg → m.place < b.low → m.place + m.size ≤ b.low) where
+  -- the same batches are open at both
+  open_there : (b : Batch) → Contains H.batches b → IsOpenBatch reach b → IsOpenBatch end b
+  open_there b there (low, peg) = (omega (arith, low, up), elim (no_end b there) [ inl ended ↦ absurd (omega (arith, ended, peg)) | inr later ↦ later ])
+
+  -- so a batch that begins below the one stable place begins below the other, and ends there,
+  batch_below : (b : Batch) → Contains H.batches b → b.low < stable_below end H.batches → (b.low < stable_below reach H.batches) × (b.peg < stable_below reach H.batches)
+  batch_below b there low =
+      let ended = stable_ends end H.batches parts b there low in
+      let under = stable_low end H.batches in
+      elim (stable_is reach H.batches) [
+        | inl all ↦ (
+          elim (no_batch b there) [ inl lower ↦ omega (arith, lower, all) | inr behind ↦ absurd (omega (arith, behind, low, under)) ],
+          elim (no_end b there) [ inl lower ↦ omega (arith, lower, all) | inr behind ↦ absurd (omega (arith, behind, ended, under)) ],
+        )
+        | inr (c, known, at, is_open) ↦ (let lowest = stable_open end H.batches c known (open_there c known is_open) in (omega (arith, low, lowest, at), omega (arith, ended, lowest, at)))
       ]
 
-  -- So no batch is open at the stable place,
-  pub stable_ends : (c : Batch) → Contains H.batches c → c.low < low_of end kept → c.peg < low_of end kept
-  stable_ends = ends_before kept refl
+  -- and a message that begins below it ends there.
+  message_below : (m : Message) → Contains H.messages m → m.place < stable_below end H.batches → m.place + m.size ≤ stable_below reach H.batches
+  message_below m there low =
+      let under = stable_low end H.batches in
+      elim (stable_is reach H.batches) [
+        | inl all ↦ (let short = ends m there (omega (arith, low, under)) in omega (arith, short, all))
+        | inr (c, known, at, is_open) ↦ (
+            let still = open_there c known is_open in
+            let lowest = stable_open end H.batches c known still in
+            let short = before m there c known still.1 (omega (arith, low, lowest)) in
+            omega (arith, short, at))
+      ]
 
-  -- and what is acknowledged by it is read, where reading ends short of what is written and nothing lies between the two.
-  module _ (reach : ℕ) (up : reach ≤ end) (ends : (m : Message) → Contains H.messages m → m.place < end → m.place + m.size ≤ reach) (no_batch : NoBatchBegins H reach end) (no_end : NoBatchEnds H reach end)
-      (before : (m : Message) → Contains H.messages m → (b : Batch) → Contains H.batches b → m.place < b.low → m.place + m.size ≤ b.low) where
-    has_reach : HasOpen 0 reach kept H.batches
-    has_reach = record {
-      known = λ b there begins is_open. has.known b there begins (
-          let low = is_open.0 in
-          let peg = is_open.1 in
-          (omega (arith, low, up), elim (no_end b there) [ inl ended ↦ absurd (omega (arith, ended, peg)) | inr later ↦ later ]));
-      is = λ b is. (
-          let (there, begins, (low, peg)) = has.is b is in
-          (there, begins, (elim (no_batch b there) [ inl under ↦ under | inr behind ↦ absurd (omega (arith, behind, low)) ], omega (arith, up, peg))));
-    }
-
-    batch_below : (o : Option Batch) → kept ≡ o → (c : Batch) → Contains H.batches c → c.low < low_of end o → c.peg < low_of reach o
-    batch_below None is c there low = elim (no_end c there) [ inl ended ↦ ended | inr later ↦ absurd (let ended = ends_before None is c there low in omega (arith, ended, later)) ]
-    batch_below (Some b) is c there low = ends_before (Some b) is c there low
-
-    message_below : (o : Option Batch) → kept ≡ o → (m : Message) → Contains H.messages m → m.place < low_of end o → m.place + m.size ≤ low_of reach o
-    message_below None is m there low = ends m there low
-    message_below (Some b) is m there low = before m there b (has.is b is).0 low
-
-    begins_below : (o : Option Batch) → kept ≡ o → (c : Batch) → Contains H.batches c → c.low < low_of end o → c.low < low_of reach o
-    begins_below None is c there low = elim (no_batch c there) [ inl under ↦ under | inr behind ↦ absurd (omega (arith, behind, low)) ]
-    begins_below (Some b) is c there low = low
-
-    pub acknowledged_stable : end_below (low_of end kept) H ≤ stable_below reach H.batches
-    acknowledged_stable =
-        let stable = stable_kept reach kept H.batches has_reach in
-        acknowledged_least (low_of end kept) (stable_below reach H.batches) H
-        (λ m there low. let up_to = message_below kept refl m there low in omega (arith, up_to, stable))
-        (λ b there low. let begins = begins_below kept refl b there low in let ended = batch_below kept refl b there low in (omega (arith, begins, stable), omega (arith, ended, stable)))
+  pub acknowledged_stable : end_below (stable_below end H.batches) H ≤ stable_below reach H.batches
+  acknowledged_stable = acknowledged_least (stable_below end H.batches) (stable_below reach H.batches) H message_below batch_below

@@ -1,17 +1,21 @@
 -- What is written to make a place durable, and what holds that up, where it isn't durable yet, and where it is.
-use Rattle.std.proofs.Common.{◌≡◌, ◌∙◌, ◌≤ℤ◌, ◌<ℤ◌, ◌+◌, ◌-ℤ◌, ◌<◌, ◌≤◌, ◌^◌, int_lt, unsigned_abs, refl, true, false, Bool, ℕ, ℤ, pos, negsuc, List, Option, None, Err, if◌then◌else◌, [], sym, ap, subst, arith, map}
+use Rattle.std.proofs.Common.{◌*◌, length, ◌≡◌, ◌∙◌, ◌≤ℤ◌, ◌<ℤ◌, ◌+◌, ◌-ℤ◌, ◌<◌, ◌≤◌, ◌^◌, int_lt, unsigned_abs, refl, true, false, Bool, ℕ, ℤ, pos, negsuc, List, Option, None, Err, if◌then◌else◌, [], sym, ap, subst, arith, map}
 use Rattle.std.specs.Int.Signed.{le_z}
+use Rattle.std.proofs.Math.Nat.{suc-mul}
 use Rattle.std.proofs.lemmas.Int.{ints}
+use Rattle.std.proofs.lemmas.List.{length-map}
 use Rattle.std.specs.declared.io.Error.{Error as IoError}
 use Rattle.sled_codec.specs.declared.result.Error.{Error}
 use Rattle.sled_codec.specs.declared.result.Error.TheVariants.{Held, Io, OutOfMemory, PlacesUsedUp}
 use Rattle.sled_core.specs.Begun.{segment_view, view_at}
 use Rattle.sled_core.specs.declared.logger.Log.{Log}
 use Rattle.sled_core.specs.Causes.{HeldAnswers, OnDone}
-use Rattle.sled_core.specs.Fits.{holding_below, reserved_end, synced_end, writing_below}
-use Rattle.sled_core.specs.Stable.{StableAnswers, behind_place, held_for, stabilizing}
+use Rattle.sled_core.specs.Fits.{holding_below, line_end, line_of, noted_in, reserved_end, stable_end, synced_end, writing_below}
+use Rattle.sled_core.specs.Stable.{StableAnswers, behind_place, held_for, stabilizing, target_for}
 use Rattle.sled_core.proofs.Line.Entered.{filled_last}
 use Rattle.sled_core.proofs.Line.Facts.{current_facts}
+use Rattle.sled_core.proofs.Line.LineEnds.{behind_still}
+use Rattle.sled_core.proofs.Reached.StableBelow.{stable_low}
 
 not_less : (a b : ℤ) → b ≤ℤ a → int_lt a b ≡ false
 not_less a b le = grind (arith, ints)
@@ -42,24 +46,40 @@ reserved_in_reach log =
     let near = facts.place_small in
     omega (arith, most, short, near)
 
+-- It ends within the segments.
+pub reserved_ends : {D C : Type 0} (log : Log D C) → reserved_end log ≤ line_end log.config.config.segment_size (line_of log)
+reserved_ends log =
+    let most = (filled_last log.config.config.segment_size log.reserved_to (view_at log.site log.buffer) (map segment_view log.behind.items) log.filled).1 in
+    let facts = current_facts log in
+    let short = facts.short in
+    let at = facts.at in
+    omega (arith, most, short, at, ap (λ n. n * log.config.config.segment_size) (length-map log.behind.items segment_view), suc-mul (length log.behind.items) log.config.config.segment_size)
+
 module _ {D C : Type 0} (sum : List ℕ → ℕ) (log : Log D C) (lsn : ℤ) where
   -- One that is durable.
-  pub holds_none : lsn <ℤ pos (synced_end log) → held_for sum log lsn ≡ None
-  holds_none below = ap (λ (o : Bool). if o then None else holding_below sum log (behind_place lsn)) (is_less lsn (pos (synced_end log)) below)
+  pub holds_none : lsn <ℤ pos (stable_end log) → held_for sum log lsn ≡ None
+  holds_none below = ap (λ (o : Bool). if o then None else holding_below sum log (target_for log lsn)) (is_less lsn (pos (stable_end log)) below)
 
-  pub behind_stable : lsn <ℤ pos (synced_end log) → behind_place lsn ≤ synced_end log
-  behind_stable below = by lsn below where
-    by : (z : ℤ) → z <ℤ pos (synced_end log) → behind_place z ≤ synced_end log
+  behind_lower : lsn <ℤ pos (stable_end log) → behind_place lsn ≤ stable_end log
+  behind_lower below = by lsn below where
+    by : (z : ℤ) → z <ℤ pos (stable_end log) → behind_place z ≤ stable_end log
     by (pos n) low = omega (arith, ints, low)
     by (negsuc n) low = omega arith
 
+  pub behind_stable : lsn <ℤ pos (stable_end log) → target_for log lsn ≤ synced_end log
+  behind_stable below =
+      let low = behind_lower below in
+      let still = behind_still log (behind_place lsn) low in
+      let under = stable_low (synced_end log) (noted_in log) in
+      omega (arith, low, still, under)
+
   -- One that isn't: what was written is what makes it durable, and what holds that up is what is asked of it.
-  module _ (to : ℕ) (is : to ≡ behind_place lsn) (above : pos (synced_end log) ≤ℤ lsn) where
+  module _ (to : ℕ) (is : to ≡ target_for log lsn) (above : pos (stable_end log) ≤ℤ lsn) where
     pub wrote_for : writing_below sum log to ≡ stabilizing sum log lsn
-    wrote_for = ap (writing_below sum log) is ∙ sym (ap (λ (o : Bool). if o then [] else writing_below sum log (behind_place lsn)) (not_less lsn (pos (synced_end log)) above))
+    wrote_for = ap (writing_below sum log) is ∙ sym (ap (λ (o : Bool). if o then [] else writing_below sum log (target_for log lsn)) (not_less lsn (pos (stable_end log)) above))
 
     pub held_up : holding_below sum log to ≡ held_for sum log lsn
-    held_up = ap (holding_below sum log) is ∙ sym (ap (λ (o : Bool). if o then None else holding_below sum log (behind_place lsn)) (not_less lsn (pos (synced_end log)) above))
+    held_up = ap (holding_below sum log) is ∙ sym (ap (λ (o : Bool). if o then None else holding_below sum log (target_for log lsn)) (not_less lsn (pos (stable_end log)) above))
 
 -- A call that failed did what another one did that it answers for.
 pub done_as : (T S : Type 0) (e : Error) (P Q : Type 0) → (P → Q) → OnDone {T = T} (Err e) P → OnDone {T = S} (Err e) Q

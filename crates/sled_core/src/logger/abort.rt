@@ -41,12 +41,13 @@ impl<D: Device, C: Checksum> Log<D, C> {
         let place = ticket.lsn();
         let pointer = ticket.pointer();
         let index = ticket.index();
+        let manifest = ticket.is_manifest();
         ticket.abandon();
         if let Some(e) = self.fault {
             return Err(Error::Io(e));
         }
         let n = self.segment_of(place.unsigned_abs());
-        self.abort_in(n, index);
+        self.abort_in(n, index, manifest);
         Ok((place, pointer))
     }
 }

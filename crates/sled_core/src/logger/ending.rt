@@ -4,11 +4,13 @@ ghost use Rattle.sled_core.specs.declared.iobuf.Reserved.{Reserved};
 ghost use Rattle.sled_core.specs.Begun.{SegmentView};
 ghost use Rattle.sled_core.specs.Buffers.{canceling, completing, marking, none_open};
 ghost use Rattle.sled_core.specs.Fits.{IsOpen, NoneOpen, line_of};
+ghost use Rattle.sled_core.specs.Manifests.{is_manifest};
 ghost use Rattle.sled_core.specs.Tickets.{IsFor};
 ghost use Rattle.sled_core.specs.Turned.{ChangesLine, HasOpenIn, IsOpenIn, ended_now};
 
 use crate::iobuf::{IoBuf, ReservationState, Reserved, SegmentPosition};
 use crate::logger::Log;
+use crate::logger::batches::without_manifest;
 use crate::logger::reserving::is_manifest;
 use crate::logger::segments::SegmentBuffer;
 use crate::reservation::Reservation;
@@ -34,20 +36,25 @@ impl<D: Device, C: Checksum> Log<D, C> {
         }
     }
 
-    /// Aborts one.
-    pub(crate) fn abort_in(&mut self, n: usize, index: usize)
-        requires { HasOpenIn (line_of self.old) n index }
+    /// Aborts one, of a manifest or not.
+    pub(crate) fn abort_in(&mut self, n: usize, index: usize, manifest: bool)
+        requires awaited { HasOpenIn (line_of self.old) n index }
+        requires kind { (v : SegmentView) (r : Reserved) → slice_get (line_of self.old) n ≡ Some v → slice_get v.parts.reserved (index - v.gone) ≡ Some r
+            → is_manifest r.log_kind r.page ≡ manifest }
         ensures line { (v : SegmentView) (r : Reserved) → slice_get (line_of self.old) n ≡ Some v → slice_get v.parts.reserved (index - v.gone) ≡ Some r
             → line_of self.new ≡ set (line_of self.old) n (ended_now (index - v.gone) r (canceling C.sum_of v.parts.bytes r) ReservationState.Canceled v) }
         ensures rest { ChangesLine self.old self.new }
     {
         let checksum = &self.config.checksum;
+        let manifests = without_manifest(self.manifests, manifest);
         if n == 0 {
             let gone = self.buffer.gone;
             self.buffer.abort(checksum, index - gone);
+            self.manifests = manifests;
         } else {
             let gone = self.behind[n - 1].buffer.gone;
             self.behind[n - 1].buffer.abort(checksum, index - gone);
+            self.manifests = manifests;
         }
     }
 
@@ -59,6 +66,7 @@ impl<D: Device, C: Checksum> Log<D, C> {
         ensures line { (v : SegmentView) (r : Reserved) → slice_get (line_of self.old) n ≡ Some v → slice_get v.parts.reserved (index - v.gone) ≡ Some r
             → line_of self.new ≡ set (line_of self.old) n (ended_now (index - v.gone) r (marking C.sum_of v.parts.bytes r peg) ReservationState.Manifest v) }
         ensures rest { ChangesLine self.old self.new }
+        ensures manifests { self.new.manifests ≡ self.old.manifests }
     {
         let checksum = &self.config.checksum;
         if n == 0 {

@@ -1,20 +1,21 @@
 //! The parts of a reservation: whether its record has a place in the current segment, the room for it, and its placeholder.
-ghost use Rattle.std.specs.Prelude.{◌≡◌, ◌+◌, ◌-◌, ◌/◌, ◌^◌, ◌<◌, ◌≤◌, ◌++◌, ◌∷◌, [], drop, length, take, IsTrue, OnOk, OnErr, ◌↔◌};
+ghost use Rattle.std.specs.Prelude.{◌≡◌, ◌+◌, ◌-◌, ◌/◌, ◌^◌, ◌<◌, ◌≤◌, ◌++◌, ◌∷◌, [], drop, length, take, true, IsTrue, OnOk, OnErr, ◌↔◌};
 ghost use Rattle.sled_codec.specs.Spelling.{short_header_tail};
 ghost use Rattle.sled_store.specs.Accounts.{MayHandOut, NextAnswers};
 ghost use Rattle.sled_store.specs.SegmentStates.{handed_out};
 ghost use Rattle.sled_core.specs.Begun.{last_buffer};
 ghost use Rattle.sled_core.specs.Buffers.{placeholder_head, reserved_for};
 ghost use Rattle.sled_core.specs.Causes.{MakesRoom};
-ghost use Rattle.sled_core.specs.Fits.{IsLeastOpen, IsUnchanged, current_of, line_of, machine_at, open_of, segment_size_of, synced_end};
+ghost use Rattle.sled_core.specs.Fits.{IsLeastOpen, IsUnchanged, current_of, line_of, machine_at, open_of, segment_size_of, stable_end};
 ghost use Rattle.sled_core.specs.Manifests.{is_manifest, kind_for};
 ghost use Rattle.sled_core.specs.Tickets.{is_manifest_of};
-ghost use Rattle.sled_core.specs.Turned.{ChangesLine, ChangesSlots, HasRoomIn, HasPlace, IsTicketFor, next_line, reserved_now};
+ghost use Rattle.sled_core.specs.Turned.{ChangesLine, ChangesSlots, HasRoomForBatch, HasRoomIn, HasPlace, IsTicketFor, next_line, reserved_now};
 ghost use Rattle.sled_core.specs.Waiting.{at_last};
 
 use crate::iobuf::Purpose;
 use crate::iobuf::record::{Head, head_of};
 use crate::logger::Log;
+use crate::logger::batches::{room_for_batch, with_manifest};
 use crate::reservation::Reservation;
 use sled_codec::result::{DiskPtr, Error, PageId, Result};
 use sled_codec::serialization::message::{BATCH_MANIFEST_PID, message_kind};
@@ -45,11 +46,12 @@ impl<D: Device, C: Checksum> Log<D, C> {
         next <= size - MAX_MSG_HEADER_LEN && len <= size - next
     }
 
-    /// Makes room for a record of this length in the current buffer, and for its reservation.
-    pub(crate) fn room_for(&mut self, len: usize) -> Result<()>
+    /// Makes room for a record of this length in the current buffer, for its reservation, and for the batch of a manifest.
+    pub(crate) fn room_for(&mut self, len: usize, manifest: bool) -> Result<()>
         requires { len < 2 ^ 32 }
         ensures line { line_of self.new ≡ line_of self.old }
         ensures room { OnOk result (HasRoomIn (last_buffer self.new.buffer self.new.behind.items) len) }
+        ensures batch { OnOk result (manifest ≡ true → HasRoomForBatch self.new) }
         ensures rest { ChangesLine self.old self.new }
         ensures answers { MakesRoom result (open_of self.old) (IsLeastOpen self.old) }
     {
@@ -57,6 +59,7 @@ impl<D: Device, C: Checksum> Log<D, C> {
         if buffer.is_full_of_open() {
             return Err(Error::Held(buffer.least_open(buffer.first, &site)));
         }
+        room_for_batch(&mut self.noted, self.manifests, manifest)?;
         let n = self.behind.len();
         if n == 0 {
             return self.buffer.make_room(len);
@@ -64,13 +67,14 @@ impl<D: Device, C: Checksum> Log<D, C> {
         self.behind[n - 1].buffer.make_room(len)
     }
 
-    /// Begins the next segment for a record, which will begin it.
-    pub(crate) fn begin_segment(&mut self) -> Result<()>
+    /// Begins the next segment for a record, which will begin it. For a manifest it makes room for its batch.
+    pub(crate) fn begin_segment(&mut self, manifest: bool) -> Result<()>
         ensures line { OnOk result (line_of self.new
-            ≡ next_line C.sum_of (segment_size_of self.old) (machine_at self.old) (synced_end self.old) (line_of self.old)) }
+            ≡ next_line C.sum_of (segment_size_of self.old) (machine_at self.old) (stable_end self.old) (line_of self.old)) }
         ensures machine { OnOk result (machine_at self.new
             ≡ handed_out ((current_of self.old).parts.site.place + segment_size_of self.old) (machine_at self.old)) }
         ensures room { OnOk result (HasRoomIn (last_buffer self.new.buffer self.new.behind.items) (segment_size_of self.old - 20)) }
+        ensures batch { OnOk result (manifest ≡ true → HasRoomForBatch self.new) }
         ensures rest { ChangesSlots self.old self.new }
         ensures err { OnErr result (IsUnchanged self.old self.new) }
         ensures answers { NextAnswers result
@@ -78,7 +82,7 @@ impl<D: Device, C: Checksum> Log<D, C> {
     {
         let (site, _) = self.current();
         let to = site.place + self.config.config.segment_size + SEG_HEADER_LEN as u64;
-        self.begin_next(to)
+        self.begin_next(to, manifest)
     }
 
     /// Lays out the placeholder of a record behind what is there in the current segment, and returns its ticket.
@@ -93,6 +97,8 @@ impl<D: Device, C: Checksum> Log<D, C> {
         requires len { item_len ≡ length (T.short (T.meaning item.now)) }
         requires room { HasRoomIn (last_buffer self.old.buffer self.old.behind.items) (head.now.len + item_len) }
         requires place { HasPlace self.old (head.now.len + item_len) }
+        requires batch { is_manifest purpose.now.log_kind purpose.now.page ≡ true → HasRoomForBatch self.old }
+        requires body { is_manifest purpose.now.log_kind purpose.now.page ≡ true → item_len ≡ 8 }
         ensures line { line_of self.new ≡ at_last (reserved_now (placeholder_head (take head.now.len head.now.bytes) ++ T.short (T.meaning item.now))
             (reserved_for purpose.now (length (current_of self.old).parts.bytes) head.now.len item_len (C.sum_of (T.short (T.meaning item.now)
             ++ drop 4 (take head.now.len head.now.bytes))))) (line_of self.old) }
@@ -113,7 +119,7 @@ impl<D: Device, C: Checksum> Log<D, C> {
         Reservation::new(place, pointer, index, head.len + item_len, manifest)
     }
 
-    /// Lays out the placeholder. What is reserved ends there then.
+    /// Lays out the placeholder. What is reserved ends there then, and a manifest counts.
     fn lay_out<T: Serialize>(
         &mut self,
         head: &Head,
@@ -126,6 +132,8 @@ impl<D: Device, C: Checksum> Log<D, C> {
         requires len { item_len ≡ length (T.short (T.meaning item.now)) }
         requires room { HasRoomIn (last_buffer self.old.buffer self.old.behind.items) (head.now.len + item_len) }
         requires place { HasPlace self.old (head.now.len + item_len) }
+        requires batch { is_manifest purpose.now.log_kind purpose.now.page ≡ true → HasRoomForBatch self.old }
+        requires body { is_manifest purpose.now.log_kind purpose.now.page ≡ true → item_len ≡ 8 }
         requires end { to ≡ (current_of self.old).parts.site.place + length (current_of self.old).parts.bytes + (head.now.len + item_len) }
         ensures line { line_of self.new ≡ at_last (reserved_now (placeholder_head (take head.now.len head.now.bytes) ++ T.short (T.meaning item.now))
             (reserved_for purpose.now (length (current_of self.old).parts.bytes) head.now.len item_len (C.sum_of (T.short (T.meaning item.now)
@@ -135,15 +143,19 @@ impl<D: Device, C: Checksum> Log<D, C> {
         ensures accountant { self.new.accountant ≡ self.old.accountant }
     {
         let checksum = &self.config.checksum;
+        let manifest = is_manifest(purpose.log_kind, purpose.page);
+        let manifests = with_manifest(self.manifests, manifest);
         let n = self.behind.len();
         if n == 0 {
             self.buffer.append(checksum, head, purpose, item, item_len);
             self.reserved_to = to;
+            self.manifests = manifests;
         } else {
             self.behind[n - 1]
                 .buffer
                 .append(checksum, head, purpose, item, item_len);
             self.reserved_to = to;
+            self.manifests = manifests;
         }
     }
 }

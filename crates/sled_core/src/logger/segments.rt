@@ -6,14 +6,15 @@ ghost use Rattle.sled_store.specs.Accounts.{MayHandOut, NextAnswers};
 ghost use Rattle.sled_store.specs.SegmentStates.{handed_out};
 ghost use Rattle.sled_core.specs.Begun.{SegmentView, begin_of, last_buffer, line_at, view_at};
 ghost use Rattle.sled_core.specs.Causes.{FaultOrMemory};
-ghost use Rattle.sled_core.specs.Fits.{AddsBuffers, IsUnchanged, IsUsedUp, KeepsAll, KeepsTickets, buffers_of, current_begin, current_of, line_of, machine_at, reserved_end, sealing_end, segment_size_of, start_of, synced_end, waiting_of};
+ghost use Rattle.sled_core.specs.Fits.{AddsBuffers, IsUnchanged, IsUsedUp, KeepsAll, KeepsTickets, buffers_of, current_begin, current_of, line_of, machine_at, reserved_end, sealing_end, segment_size_of, stable_end, start_of, waiting_of};
 ghost use Rattle.sled_core.specs.Keeps.{Preserves, SamePosition, start_sealed};
 ghost use Rattle.sled_core.specs.Positions.{is_short};
-ghost use Rattle.sled_core.specs.Turned.{CanClose, ChangesLine, ChangesSlots, HasRoomIn, IsBegunView, next_line, promoted};
+ghost use Rattle.sled_core.specs.Turned.{CanClose, ChangesLine, ChangesSlots, HasRoomForBatch, HasRoomIn, IsBegunView, next_line, promoted};
 ghost use Rattle.sled_core.specs.Waiting.{at_last, holds_any, sealed_now, with_parts};
 
 use crate::iobuf::{IoBuf, SegmentPosition};
 use crate::logger::Log;
+use crate::logger::batches::room_for_batch;
 use sled_codec::result::{Error, Lsn, Result};
 use sled_codec::serialization::{Checksum, SegmentHeader};
 use sled_store::Device;
@@ -92,7 +93,7 @@ impl<D: Device, C: Checksum> Log<D, C> {
     {
         if self.is_short() {
             let to = self.reserved_to;
-            return self.begin_next(to);
+            return self.begin_next(to, false);
         }
         self.seal_unfilled()
     }
@@ -114,17 +115,19 @@ impl<D: Device, C: Checksum> Log<D, C> {
     }
 
     /// Fills the current segment to its end, seals its buffer, and begins the next segment, in the slot that the accountant
-    /// hands out. What is reserved ends there then. All memory is taken before anything is changed.
-    pub(crate) fn begin_next(&mut self, to: u64) -> Result<()>
+    /// hands out. What is reserved ends there then. All memory is taken before anything is changed, for a manifest that of its
+    /// batch too.
+    pub(crate) fn begin_next(&mut self, to: u64, manifest: bool) -> Result<()>
         requires grows { reserved_end self.old ≤ to }
         requires behind { current_begin self.old < to }
         requires within { to ≤ (current_of self.old).parts.site.place + segment_size_of self.old + 20 }
         ensures line { OnOk result (line_of self.new
-            ≡ next_line C.sum_of (segment_size_of self.old) (machine_at self.old) (synced_end self.old) (line_of self.old)) }
+            ≡ next_line C.sum_of (segment_size_of self.old) (machine_at self.old) (stable_end self.old) (line_of self.old)) }
         ensures machine { OnOk result (machine_at self.new
             ≡ handed_out ((current_of self.old).parts.site.place + segment_size_of self.old) (machine_at self.old)) }
         ensures reserved { OnOk result (self.new.reserved_to ≡ to) }
         ensures room { OnOk result (HasRoomIn (last_buffer self.new.buffer self.new.behind.items) (segment_size_of self.old - 20)) }
+        ensures batch { OnOk result (manifest ≡ true → HasRoomForBatch self.new) }
         ensures rest { ChangesSlots self.old self.new }
         ensures err { OnErr result (IsUnchanged self.old self.new) }
         ensures answers { NextAnswers result
@@ -137,7 +140,7 @@ impl<D: Device, C: Checksum> Log<D, C> {
             return Err(Error::PlacesUsedUp);
         }
         let buffer = self.next_buffer(next)?;
-        self.room_to_close()?;
+        self.room_to_close(manifest)?;
         let slot = self.accountant.next(&mut self.config, next as Lsn)?;
         let n = self.behind.len();
         if n == 0 {
@@ -168,7 +171,7 @@ impl<D: Device, C: Checksum> Log<D, C> {
     /// The buffer of a further segment at this place: its header, whose mark is the last stable place.
     fn next_buffer(&self, next: u64) -> Result<IoBuf>
         requires { next < 2 ^ 63 }
-        ensures view { (site : SegmentPosition) → site.place ≡ next → IfOk result (λ b. IsBegunView C.sum_of site (synced_end self.now) b) }
+        ensures view { (site : SegmentPosition) → site.place ≡ next → IfOk result (λ b. IsBegunView C.sum_of site (stable_end self.now) b) }
         ensures room { IfOk result (λ b. HasRoomIn b (segment_size_of self.now - 20)) }
         ensures memory { IsOkUnless result Error.OutOfMemory }
     {
@@ -185,15 +188,17 @@ impl<D: Device, C: Checksum> Log<D, C> {
         )
     }
 
-    /// Makes room for what fills the current segment, and for one more segment.
-    fn room_to_close(&mut self) -> Result<()>
+    /// Makes room for what fills the current segment, for one more segment, and for the batch of a manifest.
+    fn room_to_close(&mut self, manifest: bool) -> Result<()>
         ensures line { line_of self.new ≡ line_of self.old }
         ensures rest { ChangesLine self.old self.new }
         ensures room { OnOk result (CanClose (last_buffer self.new.buffer self.new.behind.items) (segment_size_of self.old)) }
         ensures place { OnOk result (deque_len self.new.behind < deque_capacity self.new.behind) }
+        ensures batch { OnOk result (manifest ≡ true → HasRoomForBatch self.new) }
         ensures memory { IsOkUnless result Error.OutOfMemory }
     {
         let size = self.config.config.segment_size as usize;
+        room_for_batch(&mut self.noted, self.manifests, manifest)?;
         self.behind.reserve(1)?;
         let n = self.behind.len();
         if n == 0 {

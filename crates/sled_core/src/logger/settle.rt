@@ -31,7 +31,7 @@ impl<D: Device, C: Checksum> Log<D, C> {
         ensures seals { SealsAround result (pos place) self.old self.new }
         ensures buffers { WritesAround C.sum_of result (pos place) self.old self.new }
     {
-        if place < self.stable_end() {
+        if place < self.synced_end() {
             return Ok(());
         }
         if place >= self.current_begin() {

@@ -8,11 +8,11 @@ ghost use Rattle.sled_store.specs.Device.{state_of};
 ghost use Rattle.sled_store.specs.Moments.{LeavesOnly};
 ghost use Rattle.sled_store.specs.Script.{after_all, Performs};
 ghost use Rattle.sled_core.specs.Causes.{OnDone};
-ghost use Rattle.sled_core.specs.Fits.{IsUsedUpBelow, KeepsTickets, config_of, device_of, fault_of, flushing, holding_below, reserved_end, segment_size_of, synced_end};
+ghost use Rattle.sled_core.specs.Fits.{IsUsedUpBelow, KeepsTickets, config_of, device_of, fault_of, flushing, holding_below, reserved_end, segment_size_of, stable_end};
 ghost use Rattle.sled_core.specs.Keeps.{ConfigKept, Preserves, SamePosition, WritesBelow};
 ghost use Rattle.sled_core.specs.Recoverable.{LeavesRecoverable, RecoverableIfOwn};
 ghost use Rattle.sled_core.specs.Running.{Fits, end_below};
-ghost use Rattle.sled_core.specs.Stable.{behind_place, held_for, stabilizing, stable_behind, IsNotReserved, StableAnswers, CloseAnswers};
+ghost use Rattle.sled_core.specs.Stable.{held_for, stabilizing, stable_behind, target_for, IsNotReserved, StableAnswers, CloseAnswers};
 
 use crate::logger::Log;
 use sled_codec::result::{Error, Lsn, Result};
@@ -22,7 +22,7 @@ use sled_store::{Device, RunningConfig};
 impl<D: Device, C: Checksum> Log<D, C> {
     /// Makes the message at this place durable, and all before it. Returns by how many bytes the stable end grew: 0
     /// where the place is stable already, and then nothing is written. The buffers that begin at or below the place are written,
-    /// one by one.
+    /// one by one; where it lies in a batch, in front of its peg, those up to the peg are.
     ///
     /// # Errors
     ///
@@ -30,21 +30,21 @@ impl<D: Device, C: Checksum> Log<D, C> {
     /// of `flush`; `NotReserved` exactly where the place lies above both the stable end and
     /// the greatest reserved place, and the log keeps no failure of its device: the log is as it was.
     pub fn make_stable(&mut self, lsn: Lsn) -> Result<usize>
-        ensures answer { IfOk result (λ n. synced_end self.new ≡ synced_end self.old + n) }
-        ensures target { OnOk result (lsn <ℤ pos (synced_end self.new)) }
+        ensures answer { IfOk result (λ n. stable_end self.new ≡ stable_end self.old + n) }
+        ensures target { OnOk result (lsn <ℤ pos (stable_end self.new)) }
         ensures made { OnDone result (D.trace (device_of self.new) ≡ after_all (stabilizing C.sum_of self.old lsn) (D.trace (device_of self.old))) }
         ensures at_most { Performs (stabilizing C.sum_of self.old lsn) (D.trace (device_of self.old)) (D.trace (device_of self.new)) }
         ensures keeps { Preserves D.trace C.sum_of self.old self.new }
         ensures acknowledges { (H : History) (A f : ℕ) (U : List Message) → Fits D.trace C.sum_of self.old H A f U
-            → OnOk result (Fits D.trace C.sum_of self.new H (max A (end_below (synced_end self.new) H)) f U) }
+            → OnOk result (Fits D.trace C.sum_of self.new H (max A (end_below (stable_end self.new) H)) f U) }
         ensures tickets { KeepsTickets self.old self.new }
         ensures position { SamePosition self.old self.new }
-        ensures answers { StableAnswers result lsn (synced_end self.old) (reserved_end self.old) (held_for C.sum_of self.old lsn)
-            (IsUsedUpBelow self.old (behind_place lsn))
+        ensures answers { StableAnswers result lsn (stable_end self.old) (reserved_end self.old) (held_for C.sum_of self.old lsn)
+            (IsUsedUpBelow self.old (target_for self.old lsn))
             (fault_of self.old) (fault_of self.new) (D.faults (device_of self.old)) (D.faults (device_of self.new)) }
         ensures faulty { (e : IoError) → fault_of self.old ≡ Some e → self.new ≡ self.old }
         ensures refused { IsNotReserved result → self.new ≡ self.old }
-        ensures buffers { WritesBelow C.sum_of result (behind_place lsn) self.old self.new }
+        ensures buffers { WritesBelow C.sum_of result (target_for self.old lsn) self.old self.new }
     {
         if let Some(e) = self.fault {
             return Err(Error::Io(e));
@@ -56,7 +56,8 @@ impl<D: Device, C: Checksum> Log<D, C> {
             return Err(Error::NotReserved(lsn));
         }
         let before = self.stable_end();
-        self.write_below(lsn as u64 + 1)?;
+        let to = self.behind_batch(lsn as u64 + 1);
+        self.write_below(to)?;
         Ok((self.stable_end() - before) as usize)
     }
 
@@ -67,8 +68,8 @@ impl<D: Device, C: Checksum> Log<D, C> {
     ///
     /// Those of `flush`. The configuration comes back with each of them.
     pub fn close(self) -> (RunningConfig<D, C>, Result<usize>)
-        ensures answer { IfOk result.1 (λ n. stable_behind C.sum_of (reserved_end self) self ≡ synced_end self + n) }
-        ensures whole { IfOk result.1 (λ n. reserved_end self ≤ synced_end self + n) }
+        ensures answer { IfOk result.1 (λ n. stable_behind C.sum_of (reserved_end self) self ≡ stable_end self + n) }
+        ensures whole { IfOk result.1 (λ n. reserved_end self ≤ stable_end self + n) }
         ensures made { OnDone result.1 (D.trace result.0.device ≡ after_all (flushing C.sum_of self) (D.trace (device_of self))) }
         ensures at_most { Performs (flushing C.sum_of self) (D.trace (device_of self)) (D.trace result.0.device) }
         ensures acknowledges { (H : History) (A f : ℕ) (U : List Message) → Fits D.trace C.sum_of self H A f U

@@ -14,7 +14,7 @@ ghost use Rattle.sled_store.specs.Script.{after_all, Performs};
 ghost use Rattle.sled_core.specs.Begun.{SegmentView, line_at};
 ghost use Rattle.sled_core.specs.Buffers.{first_open_in, open_in};
 ghost use Rattle.sled_core.specs.Causes.{Answers, FaultOrMemory, HeldAnswers, OnDone};
-ghost use Rattle.sled_core.specs.Fits.{Holds, IsUnchanged, IsUsedUp, IsUsedUpBelow, IsWritten, KeepsAll, KeepsTickets, NoneSealed, buffers_of, current_begin, current_of, device_of, fault_of, flushing, held_len, holding_below, line_of, pending_of, reserved_end, sealing_end, segment_size_of, start_of, synced_end, waiting_of, writing_below, writing_pending};
+ghost use Rattle.sled_core.specs.Fits.{Holds, IsUnchanged, IsUsedUp, IsUsedUpBelow, IsWritten, KeepsAll, KeepsTickets, NoneSealed, buffers_of, current_begin, current_of, device_of, fault_of, flushing, held_len, holding_below, line_of, pending_of, reserved_end, sealing_end, segment_size_of, stable_end, start_of, synced_end, waiting_of, writing_below, writing_pending};
 ghost use Rattle.sled_core.specs.Keeps.{LeavesAbove, LeavesSome, Preserves, SamePosition, SealsBelow, WritesBelow};
 ghost use Rattle.sled_core.specs.Running.{Fits, end_below};
 ghost use Rattle.sled_core.specs.Turned.{ChangesDevice, HasBufferAt, IsReadyIn, promoted, ready_below, write_in, written_now};
@@ -137,8 +137,9 @@ impl<D: Device, C: Checksum> Log<D, C> {
     /// its segment, and the next one would not end below 2^63 in the log and in the file. `OutOfMemory`: the flush can be tried
     /// again. Where no buffer was sealed, the stable end is where it was after each of them.
     pub fn flush(&mut self) -> Result<usize>
-        ensures answer { IfOk result (λ n. synced_end self.new ≡ synced_end self.old + n) }
+        ensures answer { IfOk result (λ n. stable_end self.new ≡ stable_end self.old + n) }
         ensures whole { OnOk result (reserved_end self.old ≤ synced_end self.new) }
+        ensures stable { OnOk result (stable_end self.new ≡ synced_end self.new) }
         ensures records { (H : History) → Holds D.trace C.sum_of self.old H → OnOk result (IsWritten D.trace C.sum_of self.new H) }
         ensures calls { OnDone result (D.trace (device_of self.new) ≡ after_all (flushing C.sum_of self.old) (D.trace (device_of self.old))) }
         ensures at_most { Performs (flushing C.sum_of self.old) (D.trace (device_of self.old)) (D.trace (device_of self.new)) }
@@ -161,8 +162,8 @@ impl<D: Device, C: Checksum> Log<D, C> {
         Ok((self.stable_end() - before) as usize)
     }
 
-    /// The place behind the stable end.
-    pub(crate) fn stable_end(&self) -> u64
+    /// The place behind all that is on the device without a gap.
+    pub(crate) fn synced_end(&self) -> u64
         ensures is { result ≡ synced_end self.now }
         ensures in_reach { result < 2 ^ 63 }
     {
@@ -212,7 +213,7 @@ impl<D: Device, C: Checksum> Log<D, C> {
         while self.has_ready_below(to) {
             self.write_buffer(0, 0)?;
         }
-        if self.stable_end() < to {
+        if self.synced_end() < to {
             return Err(Error::Held(self.least_held()));
         }
         Ok(())
@@ -231,7 +232,7 @@ impl<D: Device, C: Checksum> Log<D, C> {
         ensures { result ≡ ready_below (line_of self.now) to }
     {
         match self.buffer.sealed.front() {
-            Some(first) => self.stable_end() < to && first.is_ready(),
+            Some(first) => self.synced_end() < to && first.is_ready(),
             None => false,
         }
     }

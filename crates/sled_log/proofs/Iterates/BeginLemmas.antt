@@ -5,12 +5,13 @@ use Rattle.sled_store.specs.declared.config.RunningConfig.{RunningConfig}
 use Rattle.sled_store.specs.Device.{Trace, state_of}
 use Rattle.sled_core.specs.declared.iterator.Segment.{Segment}
 use Rattle.sled_core.specs.declared.iterator.scan.ScannedRecord.{ScannedRecord}
-use Rattle.sled_log.specs.declared.iterator.rest.Rest.{Rest}
+use Rattle.sled_core.specs.declared.iterator.rest.Rest.{Rest}
 use Rattle.sled_log.specs.Recovery.{begun_below, tail_end}
-use Rattle.sled_log.specs.Iterates.{Item, GivesOf, IsIteration, IsBegun, Begins}
-use Rattle.sled_log.specs.Ahead.{IsLeft}
-use Rattle.sled_log.proofs.Iterates.KeptLemmas.{begun_in, none_begun}
-use Rattle.sled_log.proofs.Iterates.LeftLemmas.{left_spent}
+use Rattle.sled_log.specs.IteratorBegins.{IsBegun, Begins}
+use Rattle.sled_core.specs.Iterates.{Item, GivesOf, IsIteration}
+use Rattle.sled_core.specs.Ahead.{IsLeft}
+use Rattle.sled_core.proofs.Iterates.LeftLemmas.{left_spent}
+use Rattle.sled_log.proofs.Iterates.FoundLemmas.{begun_in, none_begun}
 
 -- what is ahead of an iterator, where more is known of it
 begun_as : (sum : List ℕ → ℕ) (size : ℕ) (log : List ℕ) (blobs : ℤ → Option (List ℕ)) (ss : List Segment) (ahead after : List Item → Bool → Type 0) → ((items : List Item) (damaged : Bool) → ahead items damaged → after items damaged)

@@ -12,7 +12,8 @@ use Rattle.sled_log.specs.Recovery.{Scanned, StopsOrGoesOn, AreReplayed, before_
 use Rattle.sled_log.specs.Passes.{HasKinds, IsPass, pass_of, OpensLast, MeetsBadPass}
 use Rattle.sled_core.proofs.Tail.Rows.{all_before_open}
 use Rattle.sled_log.proofs.Replay.BlobLemmas.{bad_behind, bad_first, bad_cases}
-use Rattle.sled_log.proofs.Replay.LookLemmas.{all_with_blobs, path_kinds, bad_still, written}
+use Rattle.sled_core.proofs.Iterates.Kinds.{path_kinds}
+use Rattle.sled_log.proofs.Replay.LookLemmas.{all_with_blobs, bad_still, written}
 
 -- What was read in a pass: kinds are known, and only in the last one a batch is open.
 module _ (sum : List ℕ → ℕ) (size : ℕ) (log : List ℕ) (end : ℕ) where

@@ -12,7 +12,8 @@ use Rattle.sled_log.specs.Recovery.{Scanned, AreScanned, HaveGoodBlobs, MeetsBad
 use Rattle.sled_log.specs.Passes.{HasKinds, MeetsBadPass, MeetsBadTail, pass_of}
 use Rattle.sled_log.proofs.Passes.Blobs.{good_more}
 use Rattle.sled_log.proofs.Replay.BlobLemmas.{bad_before, bad_either, bad_left}
-use Rattle.sled_log.proofs.Replay.LookLemmas.{kinds_with_blobs, scan_kinds}
+use Rattle.sled_core.proofs.Iterates.Kinds.{scan_kinds}
+use Rattle.sled_log.proofs.Replay.LookLemmas.{kinds_with_blobs}
 
 pub in_map : {X Y : Type 0} (f : X → Y) (xs : List X) (x : X) → Contains xs x → Contains (map f xs) (f x)
 in_map f [] x there = absurd (in_nothing x there)

@@ -1,12 +1,9 @@
 -- Looking for the blobs of records, one after another: what is bad among those that are left, and what records with their blobs keep.
-use Rattle.std.proofs.Common.{◌≡◌, ◌↔◌, ◌∙◌, ◌+◌, ◌<◌, ◌/◌, ℕ, ℤ, Bool, true, false, if◌then◌else◌, List, [], ◌∷◌, ◌++◌, length, get_or, set, take, drop, append_assoc, Option, is_some, sym, ap, subst, arith, inl, inr}
+use Rattle.std.proofs.Common.{◌≡◌, ◌↔◌, ◌∙◌, ◌+◌, ◌<◌, ℕ, ℤ, Bool, true, false, if◌then◌else◌, List, [], ◌∷◌, ◌++◌, length, get_or, set, take, drop, append_assoc, Option, is_some, sym, ap, subst, arith, inl, inr}
 use Rattle.std.specs.List.{All}
 use Rattle.std.proofs.Math.Seq.{take-append_seam}
 use Rattle.std.proofs.lemmas.List.{drop_more, take_more_set, drop-set-lt}
-use Rattle.std.proofs.lemmas.List.Elements.{All-cons, All-head, All-nil, All-tail}
-use Rattle.sled_codec.specs.declared.serialization.message.MessageHeader.{MessageHeader}
-use Rattle.sled_codec.specs.declared.serialization.message.MessageKind.{MessageKind}
-use Rattle.sled_codec.specs.declared.serialization.message.MessageKind.TheVariants.{Corrupted}
+use Rattle.std.proofs.lemmas.List.Elements.{All-cons, All-head, All-tail}
 use Rattle.sled_codec.specs.declared.serialization.message.LogKind.TheVariants.{Replace}
 use Rattle.sled_codec.specs.declared.result.DiskPtr.TheVariants.{Blob, Inline}
 use Rattle.sled_codec.specs.Kinds.{log_kind_of}
@@ -14,19 +11,12 @@ use Rattle.sled_store.specs.Device.{Trace, state_of}
 use Rattle.sled_core.specs.declared.iterator.scan.ScannedRecord.{ScannedRecord}
 use Rattle.sled_core.specs.declared.iterator.scan.RecordContent.{RecordContent}
 use Rattle.sled_core.specs.declared.iterator.scan.RecordContent.TheVariants.{Gives, NamesBlob, Skipped, BatchStart}
-use Rattle.sled_core.specs.Reading.{is_blob}
-use Rattle.sled_core.specs.declared.iterator.scan.ScanEnd.{ScanEnd}
-use Rattle.sled_core.specs.Scan.{IsMet, IsPath, IsScan, Says}
 use Rattle.sled_log.specs.Recovery.{opens, before_open, NamesKind, HasBadBlob, MeetsBadBlob, with_blob, resolved, resolved_before}
 use Rattle.sled_log.proofs.Replay.BlobLemmas.{bad_behind, bad_first, bad_cases}
 
 -- what code reads where no record stands
 abbrev pub no_record : ScannedRecord
 no_record = record { place = 0; len = 0; what = Gives Replace 0 (Inline 0) }
-
--- a record's blob is bad at one moment as at another one between which the device was only read
-pub fine_still : (sum : List ℕ → ℕ) (t u : Trace) (w : RecordContent) → t ≡ u → (HasBadBlob sum (state_of t).blobs.file w → ⊥) → HasBadBlob sum (state_of u).blobs.file w → ⊥
-fine_still sum t u w same fine bad = fine (subst (λ (x : Trace). HasBadBlob sum (state_of x).blobs.file w) (sym same) bad)
 
 -- what holds of the first of those that are left
 pub all_here : (P : ScannedRecord → Type 0) (ms : List ScannedRecord) (i : ℕ) (d : ScannedRecord) → i < length ms → All P (drop i ms) → P (get_or ms i d)
@@ -113,29 +103,6 @@ module _ (blobs : ℤ → Option (List ℕ)) where
   -- kinds stay known
   pub kinds_with_blobs : (end : ℕ) (ms : List ScannedRecord) → All (λ m. NamesKind m.what) ms → All (λ m. NamesKind m.what) (resolved_before blobs end ms)
   kinds_with_blobs = all_with_blobs (λ m. NamesKind m.what) (λ m known. kind_with m.what known)
-
--- What is met is of a kind that is known.
-module _ (sum : List ℕ → ℕ) (size : ℕ) (log : List ℕ) (slot place : ℕ) where
-  says_kind : (h : MessageHeader) (body : List ℕ) (lid : ℕ) (what : RecordContent) → Says h body lid what → NamesKind what
-  says_kind h body lid (Gives kind page pointer) says = tt
-  says_kind h body lid (NamesBlob kind page at p) says = λ is.
-      let no : is_blob Corrupted ≡ true = subst (λ (k : MessageKind). is_blob k ≡ true) (sym says.0 ∙ is) says.3 in
-      cc
-  says_kind h body lid Skipped says = tt
-  says_kind h body lid (BatchStart peg) says = tt
-
-  met_kind : (lid number : ℕ) (m : ScannedRecord) → IsMet sum size log lid number m → NamesKind m.what
-  unfolding IsMet
-  met_kind lid number m met = says_kind met.0 met.1 lid m.what met.3
-
-  pub path_kinds : (at : ℕ) (ms : List ScannedRecord) (next : ℕ) → IsPath sum size log slot place at ms next → All (λ m. NamesKind m.what) ms
-  path_kinds at [] next path = All-nil (λ (r : ScannedRecord). NamesKind r.what)
-  path_kinds at (m ∷ ms) next path =
-      All-cons (λ (r : ScannedRecord). NamesKind r.what) m ms (met_kind (slot + at) (place / size) m path.2) (path_kinds (at + m.len) ms next path.3)
-
-  pub scan_kinds : (ms : List ScannedRecord) (stop : ℕ) (why : ScanEnd) → IsScan sum size log slot place ms stop why → All (λ m. NamesKind m.what) ms
-  unfolding IsScan
-  scan_kinds ms stop why scan = path_kinds 20 ms stop scan.0
 
 -- A vector after its slice was written to.
 pub written : {X : Type 0} (n : ℕ) (ns rest : List X) → length ns ≡ n → take n (ns ++ rest) ≡ ns

@@ -1,12 +1,8 @@
 -- A segment as the pass reads it, and one that is read to its end.
 use Rattle.std.proofs.Common.{◌≡◌, ℕ, false, List, Option, Some, None, IfNone, is_some, refl, subst}
 use Rattle.sled_core.specs.Scan.{IsEnd, IsScan}
+use Rattle.sled_core.proofs.Iterates.TurnLemmas.{none_so}
 use Rattle.sled_log.specs.Recovery.{Scanned, IsScanned, IsReplayed, open_at}
-
--- what is so is so where it is asked
-pub asked : (o : Option ℕ) (P : Type 0) → P → IfNone o P
-asked None P is = is
-asked (Some place) P is = tt
 
 -- a test that there is no value
 pub no_value : (o : Option ℕ) → is_some o ≡ false → o ≡ None
@@ -20,7 +16,7 @@ module _ (sum : List ℕ → ℕ) (size : ℕ) (log : List ℕ) (end : ℕ) (s :
   -- one that is read to its end is read as far as the pass reads it
   pub whole_passed : IsScanned sum size log s → IsReplayed sum size log end s
   unfolding IsScan
-  whole_passed scan = (scan.0, asked (open_at end s.met) IsAtEnd scan.1)
+  whole_passed scan = (scan.0, none_so (open_at end s.met) IsAtEnd scan.1)
 
   -- where no batch is open the pass reads it to its end
   pub passed_whole : IsReplayed sum size log end s → open_at end s.met ≡ None → IsScanned sum size log s

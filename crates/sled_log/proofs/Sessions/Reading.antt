@@ -442,4 +442,4 @@ module _ {D C : Type 0} (view : D → DeviceView) (sum : List ℕ → ℕ) (open
       (all_of_page k.history (reserved_end opened.log) page at.made at.ends) (sym present.entries) present.present refl refl
 
   pub open_still : IsOpenAt (traces view) sum (over opened new) k
-  open_still = still_open (traces view) sum opened new k k.acknowledged at reads.only.tickets reads.only.position reads.only.free (reads.only.keeps.fits k.history k.acknowledged k.floor at.unmarked at.fits)
+  open_still = still_open (traces view) sum opened new k k.acknowledged at reads.only.tickets reads.only.position reads.only.free reads.only.keeps (reads.only.keeps.fits k.history k.acknowledged k.floor at.unmarked at.fits)

@@ -17,8 +17,8 @@ use Rattle.sled_store.specs.Script.{Performs, after_all}
 use Rattle.sled_core.specs.Begun.{begin_of, segment_view, view_at}
 use Rattle.sled_core.specs.Causes.{Answers, HeldAnswers, IsFault, OnDone}
 use Rattle.sled_core.specs.declared.logger.Log.{Log}
-use Rattle.sled_core.specs.Fits.{FirstWaits, IsUsedUp, IsUsedUpBelow, KeepsTickets, buffers_of, current_begin, current_of, device_of, fault_of, held_len, holding_below, open_places, pending_of, position_of, reserved_end, sealing_end, segment_size_of, start_of, synced_end, waiting_of, writing_below}
-use Rattle.sled_core.specs.Keeps.{LeavesAbove, LeavesSome, SamePosition, sealed_for, start_for, start_sealed}
+use Rattle.sled_core.specs.Fits.{FirstWaits, IsUsedUp, IsUsedUpBelow, KeepsTickets, buffers_of, current_begin, current_of, device_of, fault_of, held_len, holding_below, noted_in, open_places, pending_of, position_of, reserved_end, sealing_end, segment_size_of, start_of, synced_end, waiting_of, writing_below}
+use Rattle.sled_core.specs.Keeps.{LeavesAbove, LeavesSome, Preserves, SamePosition, sealed_for, start_for, start_sealed}
 use Rattle.sled_core.specs.OpenPlaces.{first_between}
 use Rattle.sled_core.specs.Positions.{next_segment_at, is_short}
 use Rattle.sled_core.specs.Running.{Fits, end_below}
@@ -32,6 +32,7 @@ use Rattle.sled_core.proofs.Line.Positions.{end_seen, next_seen}
 use Rattle.sled_core.proofs.Line.Settles.{stable_up}
 use Rattle.sled_core.proofs.Line.Shows.{buffers_add}
 use Rattle.sled_core.proofs.PublicLaws.{buffers_held, first_waits, shows_current, shows_empty, shows_long}
+use Rattle.sled_log.proofs.Sessions.Unbatched.{held_behind, stabilizing_behind, still_unbatched}
 use Rattle.sled_log.specs.declared.session.opened.Opened.{Opened}
 use Rattle.sled_log.specs.declared.session.command.Reply.TheVariants as reply
 use Rattle.sled_log.specs.declared.session.command.Refusal.{Refusal}
@@ -421,42 +422,44 @@ module _ {D C : Type 0} (log : Log D C) (sum : List ℕ → ℕ) (begun : ℕ) (
     some_known (inl stable) = some_stable log sum begun tickets target (behind_end (synced_end log) stable)
     some_known (inr reserved) = some_reserved log sum begun tickets target (behind_end (reserved_end log) reserved)
 
-    -- what makes it stable
-    pub stabilizing_seen : stabilizing sum log place ≡ writes_free (begun_below target (buffers_of sum log))
-    stabilizing_seen = by (int_lt place (pos (synced_end log))) refl where
-      by : (o : Bool) → int_lt place (pos (synced_end log)) ≡ o → (if o then [] else writing_below sum log target) ≡ writes_free (begun_below target (buffers_of sum log))
-      by true is = sym (ap writes_free (none_below target (behind_end (synced_end log) (below_test (synced_end log) is))))
-      by false is = below_writes target (buffers_of sum log)
+    -- Where no batch is noted.
+    module _ (unbatched : noted_in log ≡ []) where
+      -- what makes it stable
+      pub stabilizing_seen : stabilizing sum log place ≡ writes_free (begun_below target (buffers_of sum log))
+      stabilizing_seen = stabilizing_behind log unbatched place sum ∙ by (int_lt place (pos (synced_end log))) refl where
+        by : (o : Bool) → int_lt place (pos (synced_end log)) ≡ o → (if o then [] else writing_below sum log target) ≡ writes_free (begun_below target (buffers_of sum log))
+        by true is = sym (ap writes_free (none_below target (behind_end (synced_end log) (below_test (synced_end log) is))))
+        by false is = below_writes target (buffers_of sum log)
 
-    -- and what holds that up
-    pub held_seen : (known : IsKnownPlace view_of place) → held_for sum log place ≡ holding target view_of
-    held_seen known = by (int_lt place (pos (synced_end log))) refl where
-      by : (o : Bool) → int_lt place (pos (synced_end log)) ≡ o → (if o then None else holding_below sum log target) ≡ holding target view_of
-      by true is =
-          sym (ap (λ (bs : List BufferAt). held_among (opens view_of) (spans bs)) (none_below target (behind_end (synced_end log) (below_test (synced_end log) is))))
-          ∙ ap (held_among (opens view_of)) (flushed_seen log sum begun tickets target (some_known known))
-      by false is = holding_seen log sum begun tickets target (some_known known)
+      -- and what holds that up
+      pub held_seen : (known : IsKnownPlace view_of place) → held_for sum log place ≡ holding target view_of
+      held_seen known = held_behind log unbatched place sum ∙ by (int_lt place (pos (synced_end log))) refl where
+        by : (o : Bool) → int_lt place (pos (synced_end log)) ≡ o → (if o then None else holding_below sum log target) ≡ holding target view_of
+        by true is =
+            sym (ap (λ (bs : List BufferAt). held_among (opens view_of) (spans bs)) (none_below target (behind_end (synced_end log) (below_test (synced_end log) is))))
+            ∙ ap (held_among (opens view_of)) (flushed_seen log sum begun tickets target (some_known known))
+        by false is = holding_seen log sum begun tickets target (some_known known)
 
-    -- Where it fails, and was reserved.
-    module _ (reserved : place <ℤ pos (reserved_end log)) where
-      abbrev known : IsKnownPlace view_of place
-      known = inr reserved
+      -- Where it fails, and was reserved.
+      module _ (reserved : place <ℤ pos (reserved_end log)) where
+        abbrev known : IsKnownPlace view_of place
+        known = inr reserved
 
-      module _ (new : Log D C) (device now : DeviceView) (H : History) (A f : ℕ) (position : StaysPut log new) (e : Error) where
-        pub reserved_acts : OnDone {T = ℕ} (Err e) (now.trace ≡ after_all (stabilizing sum log place) device.trace) → Performs (stabilizing sum log place) device.trace now.trace → (IsSome (fault_of log) → now ≡ device)
-            → HeldAnswers {T = ℕ} (Err e) (held_for sum log place) (IsUsedUpBelow log target) (fault_of log) (fault_of new) device.failures now.failures → WritesActs target (Some view_of) device (reply.Failed e) now
-        reserved_acts done made kept answers = (
-          writes_to log sum begun tickets target (some_known known),
-          calls_failed ℕ _ (fault_of log) (fault_of new) e (held_for sum log place) (IsUsedUpBelow log target) device now
-              (subst (λ (es : List Event). OnDone {T = ℕ} (Err e) (now.trace ≡ after_all es device.trace)) stabilizing_seen done)
-              (subst (λ (es : List Event). Performs es device.trace now.trace) stabilizing_seen made) kept answers,
-        )
+        module _ (new : Log D C) (device now : DeviceView) (H : History) (A f : ℕ) (position : StaysPut log new) (e : Error) where
+          pub reserved_acts : OnDone {T = ℕ} (Err e) (now.trace ≡ after_all (stabilizing sum log place) device.trace) → Performs (stabilizing sum log place) device.trace now.trace → (IsSome (fault_of log) → now ≡ device)
+              → HeldAnswers {T = ℕ} (Err e) (held_for sum log place) (IsUsedUpBelow log target) (fault_of log) (fault_of new) device.failures now.failures → WritesActs target (Some view_of) device (reply.Failed e) now
+          reserved_acts done made kept answers = (
+            writes_to log sum begun tickets target (some_known known),
+            calls_failed ℕ _ (fault_of log) (fault_of new) e (held_for sum log place) (IsUsedUpBelow log target) device now
+                (subst (λ (es : List Event). OnDone {T = ℕ} (Err e) (now.trace ≡ after_all es device.trace)) stabilizing_seen done)
+                (subst (λ (es : List Event). Performs es device.trace now.trace) stabilizing_seen made) kept answers,
+          )
 
-        pub reserved_step : HeldAnswers {T = ℕ} (Err e) (held_for sum log place) (IsUsedUpBelow log target) (fault_of log) (fault_of new) device.failures now.failures → LeavesSome sum target log new
-            → StopsStep (segment_size_of log) (before log sum begun tickets new device now H A f position) view_of target e now (after log sum begun tickets new device now H A f position A)
-        reserved_step answers left =
-            writing_stops (segment_size_of log) (before log sum begun tickets new device now H A f position) view_of target ℕ e (held_for sum log place) (IsUsedUpBelow log target) (fault_of new) now _
-            (held_seen known) (λ used. (used.0, flush_out log sum begun tickets used.1)) answers (has_stopped log sum begun tickets target (some_known known) new device now H A f position left)
+          pub reserved_step : HeldAnswers {T = ℕ} (Err e) (held_for sum log place) (IsUsedUpBelow log target) (fault_of log) (fault_of new) device.failures now.failures → LeavesSome sum target log new
+              → StopsStep (segment_size_of log) (before log sum begun tickets new device now H A f position) view_of target e now (after log sum begun tickets new device now H A f position A)
+          reserved_step answers left =
+              writing_stops (segment_size_of log) (before log sum begun tickets new device now H A f position) view_of target ℕ e (held_for sum log place) (IsUsedUpBelow log target) (fault_of new) now _
+              (held_seen known) (λ used. (used.0, flush_out log sum begun tickets used.1)) answers (has_stopped log sum begun tickets target (some_known known) new device now H A f position left)
 
 -- Buffers that are seen so, of which nothing is written.
 module _ (places : List ℕ) where
@@ -530,7 +533,7 @@ module _ {D C : Type 0} (log : Log D C) (sum : List ℕ → ℕ) (begun : ℕ) (
   nothing_made _ device now idle same = absurd idle
 
 -- A call that makes a place stable, and failed: nothing was done, or the place was reserved.
-module _ {D C : Type 0} (view : D → DeviceView) (sum : List ℕ → ℕ) (log new : Log D C) (begun : ℕ) (tickets : List (Option Message)) (place : ℤ) (H : History) (A f : ℕ) (position : StaysPut log new) where
+module _ {D C : Type 0} (view : D → DeviceView) (sum : List ℕ → ℕ) (log new : Log D C) (begun : ℕ) (tickets : List (Option Message)) (place : ℤ) (unbatched : noted_in log ≡ []) (H : History) (A f : ℕ) (position : StaysPut log new) where
   abbrev old_device : DeviceView
   old_device = view (device_of log)
 
@@ -558,7 +561,7 @@ module _ {D C : Type 0} (view : D → DeviceView) (sum : List ℕ → ℕ) (log 
       → fault_of log ≡ None → HeldAnswers {T = ℕ} (Err e) (held_for sum log place) (IsUsedUpBelow log (behind_place place)) (fault_of log) (fault_of new) old_device.failures new_device.failures
       → WritesActs (behind_place place) (Some (seen_log log begun tickets)) old_device (reply.Failed e) new_device
   known_acts e reserved done made none answers =
-      reserved_acts log sum begun tickets place reserved new old_device new_device H A f position e done made (λ some. absurd (none_some (fault_of log) none some)) answers
+      reserved_acts log sum begun tickets place unbatched reserved new old_device new_device H A f position e done made (λ some. absurd (none_some (fault_of log) none some)) answers
 
   pub stable_failed : (e : Error) → StableFails e
       → OnDone {T = ℕ} (Err e) (new_device.trace ≡ after_all (stabilizing sum log place) old_device.trace) → Performs (stabilizing sum log place) old_device.trace new_device.trace
@@ -584,19 +587,19 @@ module _ {D C : Type 0} (view : D → DeviceView) (sum : List ℕ → ℕ) (log 
         )
     by (inr failed) = (
       known_acts (error.Io x) (answers.0 failed.0) done made failed.0 answers.1,
-      reserved_step log sum begun tickets place (answers.0 failed.0) new old_device new_device H A f position (error.Io x) answers.1 left,
+      reserved_step log sum begun tickets place unbatched (answers.0 failed.0) new old_device new_device H A f position (error.Io x) answers.1 left,
     )
   stable_failed error.OutOfMemory answers done made faulty refused left = (
     known_acts error.OutOfMemory answers.1 done made answers.2 (answers.2, answers.3, answers.4),
-    reserved_step log sum begun tickets place answers.1 new old_device new_device H A f position error.OutOfMemory (answers.2, answers.3, answers.4) left,
+    reserved_step log sum begun tickets place unbatched answers.1 new old_device new_device H A f position error.OutOfMemory (answers.2, answers.3, answers.4) left,
   )
   stable_failed error.PlacesUsedUp answers done made faulty refused left = (
     known_acts error.PlacesUsedUp answers.0 done made answers.1.1 answers.1,
-    reserved_step log sum begun tickets place answers.0 new old_device new_device H A f position error.PlacesUsedUp answers.1 left,
+    reserved_step log sum begun tickets place unbatched answers.0 new old_device new_device H A f position error.PlacesUsedUp answers.1 left,
   )
   stable_failed (error.Held at) answers done made faulty refused left = (
     known_acts (error.Held at) answers.0 done made answers.1.2 answers.1,
-    reserved_step log sum begun tickets place answers.0 new old_device new_device H A f position (error.Held at) answers.1 left,
+    reserved_step log sum begun tickets place unbatched answers.0 new old_device new_device H A f position (error.Held at) answers.1 left,
   )
   stable_failed _ answers done made faulty refused left = absurd answers
 
@@ -622,12 +625,13 @@ module _ {D C : Type 0} (trace : D → Trace) (sum : List ℕ → ℕ) (opened :
   }
 
   pub still_open : (at : IsOpenAt trace sum opened k) → KeepsTickets opened.log log → SamePosition opened.log log → (fault_of log ≡ None → fault_of opened.log ≡ None)
-      → Fits trace sum log k.history A k.floor at.unmarked → IsOpenAt trace sum (over opened log) kept
-  still_open at tickets position free fits = record {
+      → Preserves trace sum opened.log log → Fits trace sum log k.history A k.floor at.unmarked → IsOpenAt trace sum (over opened log) kept
+  still_open at tickets position free keeps fits = record {
     made = at.made;
     unmarked = at.unmarked;
     fits = fits;
     pinned = subst (λ n. 0 < n) (sym position.pins) at.pinned;
+    unbatched = still_unbatched trace sum opened.log log keeps at.unbatched;
     table = at.table;
     tickets = record {
       as_many = at.tickets.as_many;

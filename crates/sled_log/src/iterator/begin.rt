@@ -5,19 +5,18 @@ ghost use Rattle.sled_codec.specs.Errors.{IsCorruption};
 ghost use Rattle.sled_store.specs.Device.{state_of};
 ghost use Rattle.sled_core.specs.Causes.{ItemAnswersOver};
 ghost use Rattle.sled_core.specs.Keeps.{OnlyReads};
+ghost use Rattle.sled_core.specs.Iterators.{borrowed_by, IsAhead};
+ghost use Rattle.sled_core.specs.Ahead.{CanGoOn, IsLeft};
 ghost use Rattle.sled_log.specs.Recovery.{Scanned, IsTail, IsDamagedTail, HaveGoodBlobs, begun_below, is_ascending, place_of_mark, tail_end};
 ghost use Rattle.sled_log.specs.Passes.{CanAllBeRead};
-ghost use Rattle.sled_log.specs.Iterates.{Begins, IsDamagedFrom, begins_from, BeginAnswers};
-ghost use Rattle.sled_log.specs.Iterators.{borrowed_by, IsAhead};
-ghost use Rattle.sled_log.specs.Ahead.{CanGoOn, IsLeft};
+ghost use Rattle.sled_log.specs.IteratorBegins.{Begins, IsDamagedFrom, begins_from, BeginAnswers};
 
-use crate::iterator::LogIter;
-use crate::iterator::rest::Rest;
 use crate::snapshot::ordering::find_segments;
 use crate::snapshot::tail::{check_passes, count_below, read_tail, tail_begins};
 use sled_codec::result::{Lsn, Result};
 use sled_codec::serialization::Checksum;
-use sled_core::iterator::Segment;
+use sled_core::iterator::rest::Rest;
+use sled_core::iterator::{LogIter, Segment};
 use sled_store::{Device, RunningConfig};
 
 /// Returns an iterator over the messages of a device's log file, from the beginning of the segment that holds a place;
@@ -44,7 +43,7 @@ pub fn raw_segment_iter_from<'a, D: Device, C: Checksum>(
     ensures same_reference { IfOk result (λ it. (borrowed_by it).ghost_name ≡ config.entry.ghost_name) }
 {
     match begin_at(config, place_from(lsn)) {
-        Ok(rest) => Ok(LogIter { config, rest }),
+        Ok(rest) => Ok(LogIter::new(config, rest)),
         Err(e) => Err(e),
     }
 }
@@ -123,11 +122,5 @@ fn rest_of<D, C>(config: &RunningConfig<D, C>, segments: Vec<Segment>, end: Opti
     let end = end.unwrap_or(0);
     let count = count_below(&segments, end);
     segments.truncate(count);
-    Rest {
-        segments,
-        read: 0,
-        met: Vec::new(config.alloc()),
-        given: 0,
-        end,
-    }
+    Rest::new(config.alloc(), segments, end)
 }

@@ -3,11 +3,12 @@ ghost use Rattle.std.specs.Prelude.{◌≡◌, ◌+◌, ◌-◌, ◌^◌, ◌≤
 ghost use Rattle.std.specs.List.{All};
 ghost use Rattle.sled_codec.specs.Errors.{IsCorruption, IsDecodeError};
 ghost use Rattle.sled_codec.specs.Snapshots.{Entry, Page, Uninitialized, page_of};
-ghost use Rattle.sled_log.specs.Recovery.{table_with, table_of, applied_of, grown, linked, last_entry, given, before_open, open_at, opens, has_no_table, are_whole, is_whole_page};
+ghost use Rattle.sled_log.specs.Recovery.{table_with, table_of, applied_of, grown, linked, last_entry, given, before_open, open_at, has_no_table, are_whole, is_whole_page};
 
 use sled_codec::result::{Error, PageId, Result};
 use sled_codec::serialization::LogKind;
 use sled_codec::serialization::snapshot::{Entry, PageState};
+use sled_core::iterator::records::opens;
 use sled_core::iterator::scan::{RecordContent, ScannedRecord};
 use std::alloc::Global;
 
@@ -37,19 +38,6 @@ pub(crate) fn apply_all(
         }
     }
     Ok(None)
-}
-
-/// Whether it is the beginning of a batch that does not end below a place.
-pub(crate) fn opens(what: &RecordContent, end: u64) -> bool
-    requires { end < 2 ^ 63 }
-    ensures { result ≡ opens end what.now }
-{
-    match *what {
-        RecordContent::BatchStart(peg) => end as i64 <= peg,
-        RecordContent::Gives(_, _, _)
-        | RecordContent::NamesBlob(_, _, _, _)
-        | RecordContent::Skipped => false,
-    }
 }
 
 /// Applies one record.

@@ -39,7 +39,7 @@ invariant_of-self g c =
       within = subst (λ (rs : List Reserved). All (λ r. r.from + r.len ≤ length bytes) rs) (sym new)
           (all_joined (λ (r : Reserved). r.from + r.len ≤ length bytes) old [] _ (λ i d lt. let le = c.args.self.now.within i d lt in omega (arith, le, from, before, len)) (omega (arith, len)) (λ i d lt. absurd (omega (arith, lt))));
       headed = subst (λ (rs : List Reserved). All IsHeaded rs) (sym new)
-          (all_joined IsHeaded old [] _ c.args.self.now.headed (omega (arith, five), λ is. (five, omega arith)) (λ i d lt. absurd (omega (arith, lt))));
+          (all_joined IsHeaded old [] _ c.args.self.now.headed (omega (arith, five), (λ is. (five, omega arith)), λ is. (let eight = c.requires.body is in omega (arith, eight))) (λ i d lt. absurd (omega (arith, lt))));
       numbered = (let le = c.args.self.now.numbered in let count = ap length new ∙ length-append old (_ ∷ []) in omega (arith, le, count, len, from, before, five));
       head = c.args.self.now.head;
       are = subst (λ (rs : List Reserved). AreSealed c.args.self.now.written_len rs c.args.self.now.sealed.items) (sym new) (sealed_more c.args.self.now.written_len old c.args.self.now.sealed.items (_ ∷ []) c.args.self.now.are);

@@ -1,5 +1,5 @@
 -- The entry of what fills the segment lies behind the others, at the end of the bytes, and isn't open.
-use Rattle.std.proofs.Common.{rules, refl, sym, ap, arith, ◌∙◌, ◌≡◌, ◌+◌, ◌-◌, ◌≤◌, ◌<◌, ◌++◌, ◌∷◌, length, max, drop, vec_len, List, [], ℕ, subst, length-append}
+use Rattle.std.proofs.Common.{false, true, rules, refl, sym, ap, arith, ◌∙◌, ◌≡◌, ◌+◌, ◌-◌, ◌≤◌, ◌<◌, ◌++◌, ◌∷◌, length, max, drop, vec_len, List, [], ℕ, subst, length-append}
 use Rattle.std.specs.List.{All}
 use Rattle.std.proofs.lemmas.List.{drop-append-le}
 use Rattle.sled_core.specs.declared.iobuf.Reserved.{Reserved}
@@ -30,7 +30,7 @@ invariant_of-self g c =
       within = subst (λ (rs : List Reserved). All (λ r. r.from + r.len ≤ length bytes) rs) (sym new)
           (all_joined (λ (r : Reserved). r.from + r.len ≤ length bytes) old [] its (λ i d lt. let le = c.args.self.now.within i d lt in omega (arith, le, len, less)) (omega (arith, len, from, before, less)) (λ i d lt. absurd (omega (arith, lt))));
       headed = subst (λ (rs : List Reserved). All IsHeaded rs) (sym new)
-          (all_joined IsHeaded old [] its c.args.self.now.headed (omega (arith, from, before, less), λ is. absurd (let never : Padding ≡ Open = is in cc)) (λ i d lt. absurd (omega (arith, lt))));
+          (all_joined IsHeaded old [] its c.args.self.now.headed (omega (arith, from, before, less), λ is. absurd (let never : Padding ≡ Open = is in cc), λ is. absurd (let never : false ≡ true = is in cc)) (λ i d lt. absurd (omega (arith, lt))));
       numbered = (let le = c.args.self.now.numbered in let count = ap length new ∙ length-append old (its ∷ []) in omega (arith, le, count, len, less));
       head = c.args.self.now.head;
       are = subst (λ (rs : List Reserved). AreSealed c.args.self.now.written_len rs c.args.self.now.sealed.items) (sym new) (sealed_more c.args.self.now.written_len old c.args.self.now.sealed.items (its ∷ []) c.args.self.now.are);

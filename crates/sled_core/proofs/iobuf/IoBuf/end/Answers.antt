@@ -102,7 +102,7 @@ invariant_of-self c =
       begun = omega (arith, len);
       behind = (let le = c.args.self.now.behind in omega (arith, le, len));
       within = still (λ x. x.from + x.len ≤ length c.put_ending.new.buf.items) rs _ i r c.args.state there new (λ x h. h) (subst (λ (n : ℕ). All (λ x. x.from + x.len ≤ n) rs) len c.args.self.now.within);
-      headed = still IsHeaded rs _ i r c.args.state there new (λ x h. (h.0, λ is. absurd (not_open c.args.state c.requires.ends is))) c.args.self.now.headed;
+      headed = still IsHeaded rs _ i r c.args.state there new (λ x h. (h.0, (λ is. absurd (not_open c.args.state c.requires.ends is)), h.2)) c.args.self.now.headed;
       numbered = (let le = c.args.self.now.numbered in omega (arith, le, count, len));
       head = subst (λ (l : List Sealed). FirstUnwritten l) (sym left) (first_ended i bs c.args.self.now.head);
       are = subst (λ (l : List Sealed). AreSealed from c.close.new.reserved.items l) (sym left)
@@ -136,7 +136,7 @@ invariant_of-self-else-index-self c =
       begun = omega (arith, len);
       behind = (let le = c.args.self.now.behind in omega (arith, le, len));
       within = still (λ x. x.from + x.len ≤ length c.put_ending.new.buf.items) rs _ i r c.args.state there new (λ x h. h) (subst (λ (n : ℕ). All (λ x. x.from + x.len ≤ n) rs) len c.args.self.now.within);
-      headed = still IsHeaded rs _ i r c.args.state there new (λ x h. (h.0, λ is. absurd (not_open c.args.state c.requires.ends is))) c.args.self.now.headed;
+      headed = still IsHeaded rs _ i r c.args.state there new (λ x h. (h.0, (λ is. absurd (not_open c.args.state c.requires.ends is)), h.2)) c.args.self.now.headed;
       numbered = (let le = c.args.self.now.numbered in omega (arith, le, count, len));
       head = c.args.self.now.head;
       are = subst (λ (l : List Sealed). AreSealed from c.close.new.reserved.items l) none

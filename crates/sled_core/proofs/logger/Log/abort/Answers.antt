@@ -14,7 +14,8 @@ use Rattle.sled_core.specs.declared.iobuf.Reserved.{Reserved}
 use Rattle.sled_core.specs.Begun.{SegmentView}
 use Rattle.sled_core.specs.Buffers.{Stands, body_in, canceling, message_in}
 use Rattle.sled_core.specs.Canceled.{canceled_record}
-use Rattle.sled_core.specs.Fits.{AwaitsIn, Holds, line_of, open_places}
+use Rattle.sled_core.specs.Fits.{AwaitsIn, Holds, line_of, noted_in, open_places}
+use Rattle.sled_core.specs.Manifests.{is_manifest}
 use Rattle.sled_core.specs.OpenPlaces.{TakesOut, open_places_along}
 use Rattle.sled_core.specs.Running.{Fits}
 use Rattle.sled_core.specs.Tickets.{place_of}
@@ -23,9 +24,10 @@ use Rattle.sled_core.specs.Waiting.{BufferAt, buffers_in}
 use Rattle.sled_core.proofs.Holds.CanceledLemmas.{canceled_long, canceled_there}
 use Rattle.sled_core.proofs.Holds.KeptCalls.{kept_still}
 use Rattle.sled_core.proofs.Line.Canceled.{ended_stands}
-use Rattle.sled_core.proofs.Line.EndedKeeps.{fits_ended, goes_on_ended, holds_ended, keeps_ended, position_ended}
+use Rattle.sled_core.proofs.Line.EndedKeeps.{fits_ended, goes_on_ended, left_ended, holds_ended, keeps_ended, position_ended}
 use Rattle.sled_core.proofs.Line.EndedTickets.{ended_takes, others_await, says_place, ticket_above, ticket_among, ticket_open, ticket_there}
 use Rattle.sled_core.proofs.Line.Ends.{fits_aborted, holds_aborted, with_segment}
+use Rattle.sled_core.proofs.Line.EndedLine.{canceling_short}
 use Rattle.sled_core.proofs.Line.Facts.{nth_facts}
 use Rattle.sled_core.proofs.Line.LogSpans.{ended_buffers}
 use Rattle.sled_core.proofs.Reserve.Entries.{open_plain, reserved_in}
@@ -44,8 +46,20 @@ segment_of-n-requires g c =
     let place : c.unsigned_abs.result ≡ unsigned_abs (place_of c.args.ticket) = c.unsigned_abs.ensures.value ∙ says_place c.lsn-place.result (place_of c.args.ticket) c.lsn-place.type_inv c.lsn-place.ensures in
     omega (arith, above, place)
 
-pub abort_in-requires : goal.abort_in-requires
-abort_in-requires g c =
+pub abort_in-requires-clause-kind : goal.abort_in-requires-clause-kind
+abort_in-requires-clause-kind g c = λ v r at there.
+    let place : c.unsigned_abs.result ≡ unsigned_abs (place_of c.args.ticket) = c.unsigned_abs.ensures.value ∙ says_place c.lsn-place.result (place_of c.args.ticket) c.lsn-place.type_inv c.lsn-place.ensures in
+    let own : AwaitsIn (line_of c.args.self.now) c.args.ticket c.requires.0 = c.requires.1 in
+    let its_at = ticket_among c.args.self.now c.args.ticket c.requires.0 own c.unsigned_abs.result c.segment_of-n.result c.index-index.result place c.segment_of-n.ensures c.index-index.ensures in
+    let its_there = ticket_there c.args.self.now c.args.ticket c.requires.0 own c.unsigned_abs.result c.segment_of-n.result c.index-index.result place c.segment_of-n.ensures c.index-index.ensures in
+    let both : Some own.segment ≡ Some v = sym its_at ∙ at in
+    let same : own.segment ≡ v = cc in
+    let both_there : Some own.reserved ≡ Some r = sym its_there ∙ ap (λ (x : SegmentView). slice_get x.parts.reserved (c.index-index.result - x.gone)) same ∙ there in
+    let is : own.reserved ≡ r = cc in
+    ap (λ (x : Reserved). is_manifest x.log_kind x.page) (sym is) ∙ sym own.own.manifest ∙ sym c.is_manifest-manifest.ensures
+
+pub abort_in-requires-clause-awaited : goal.abort_in-requires-clause-awaited
+abort_in-requires-clause-awaited g c =
     let place : c.unsigned_abs.result ≡ unsigned_abs (place_of c.args.ticket) = c.unsigned_abs.ensures.value ∙ says_place c.lsn-place.result (place_of c.args.ticket) c.lsn-place.type_inv c.lsn-place.ensures in
     ticket_open c.args.self.now c.args.ticket c.requires.0 c.requires.1 c.unsigned_abs.result c.segment_of-n.result c.index-index.result place c.segment_of-n.ensures c.index-index.ensures
 
@@ -71,11 +85,12 @@ returns-clause-keeps g c =
     let at = among g c c.requires.0 own in
     let its = there g c c.requires.0 own in
     record {
-      goes_on = goes_on_ended old c.abort_in.new.self c.segment_of-n.result v at i r its own.own.open_yet (g.C.Checksum.sum_of (body_in v.parts.bytes r ++ code_of kind.Canceled ∷ part v.parts.bytes (r.from + 5) (r.header_len - 5))) kind.Canceled Canceled (c.abort_in.ensures.line v r at its) c.abort_in.ensures.rest g.D.Device.trace g.C.Checksum.sum_of;
-      history = λ H holds. holds_ended old c.abort_in.new.self c.segment_of-n.result v at i r its own.own.open_yet (g.C.Checksum.sum_of (body_in v.parts.bytes r ++ code_of kind.Canceled ∷ part v.parts.bytes (r.from + 5) (r.header_len - 5))) kind.Canceled Canceled (c.abort_in.ensures.line v r at its) c.abort_in.ensures.rest g.D.Device.trace g.C.Checksum.sum_of H
-          (holds_aborted g.C.Checksum.sum_of old.config.config.segment_size (state_of (g.D.Device.trace old.config.device)) old.fault (line_of old) c.segment_of-n.result v at old.site.place (nth_facts old) i r its own.own.open_yet (machine_of old.accountant) H holds);
-      fits = λ H A f U fits. fits_ended old c.abort_in.new.self c.segment_of-n.result v at i r its own.own.open_yet (g.C.Checksum.sum_of (body_in v.parts.bytes r ++ code_of kind.Canceled ∷ part v.parts.bytes (r.from + 5) (r.header_len - 5))) kind.Canceled Canceled (c.abort_in.ensures.line v r at its) c.abort_in.ensures.rest g.D.Device.trace g.C.Checksum.sum_of H A f U
-          (fits_aborted g.C.Checksum.sum_of old.config.config.segment_size (state_of (g.D.Device.trace old.config.device)) old.fault (line_of old) c.segment_of-n.result v at old.site.place (nth_facts old) i r its own.own.open_yet (machine_of old.accountant) old.pins H A f U fits);
+      goes_on = goes_on_ended old c.abort_in.new.self c.segment_of-n.result v at i r its own.own.open_yet (canceling g.C.Checksum.sum_of v.parts.bytes r) (canceling_short g.C.Checksum.sum_of v i r (nth_facts old c.segment_of-n.result v at) its own.own.open_yet) Canceled (c.abort_in.ensures.line v r at its) c.abort_in.ensures.rest g.D.Device.trace g.C.Checksum.sum_of;
+      history = λ H holds. holds_ended old c.abort_in.new.self c.segment_of-n.result v at i r its own.own.open_yet (canceling g.C.Checksum.sum_of v.parts.bytes r) (canceling_short g.C.Checksum.sum_of v i r (nth_facts old c.segment_of-n.result v at) its own.own.open_yet) Canceled (c.abort_in.ensures.line v r at its) c.abort_in.ensures.rest g.D.Device.trace g.C.Checksum.sum_of H
+          (holds_aborted g.C.Checksum.sum_of old.config.config.segment_size (state_of (g.D.Device.trace old.config.device)) old.fault (line_of old) c.segment_of-n.result v at old.site.place (nth_facts old) i r its own.own.open_yet (machine_of old.accountant) (noted_in old) H holds);
+      fits = λ H A f U fits. fits_ended old c.abort_in.new.self c.segment_of-n.result v at i r its own.own.open_yet (canceling g.C.Checksum.sum_of v.parts.bytes r) (canceling_short g.C.Checksum.sum_of v i r (nth_facts old c.segment_of-n.result v at) its own.own.open_yet) Canceled (c.abort_in.ensures.line v r at its) c.abort_in.ensures.rest g.D.Device.trace g.C.Checksum.sum_of H A f U
+          (fits_aborted g.C.Checksum.sum_of old.config.config.segment_size (state_of (g.D.Device.trace old.config.device)) old.fault (line_of old) c.segment_of-n.result v at old.site.place (nth_facts old) i r its own.own.open_yet (machine_of old.accountant) (noted_in old) old.pins H A f U fits);
+      noted = left_ended old c.abort_in.new.self c.segment_of-n.result v at i r its own.own.open_yet (canceling g.C.Checksum.sum_of v.parts.bytes r) (canceling_short g.C.Checksum.sum_of v i r (nth_facts old c.segment_of-n.result v at) its own.own.open_yet) Canceled (c.abort_in.ensures.line v r at its) c.abort_in.ensures.rest;
     }
 
 -- The buffer that has the message has its record.
@@ -125,7 +140,7 @@ returns-clause-others g c = λ H other m holds awaits apart.
     let at = among g c c.requires.0 own in
     let its = there g c c.requires.0 own in
     subst (λ (l : List SegmentView). AwaitsIn l other m) (sym (c.abort_in.ensures.line own.segment own.reserved at its))
-    (others_await old.config.config.segment_size (line_of old) old.site.place c.segment_of-n.result own.segment at (nth_facts old) (c.index-index.result - own.segment.gone) own.reserved its own.own.open_yet (g.C.Checksum.sum_of (body_in own.segment.parts.bytes own.reserved ++ code_of kind.Canceled ∷ part own.segment.parts.bytes (own.reserved.from + 5) (own.reserved.header_len - 5))) kind.Canceled Canceled g.C.Checksum.sum_of (state_of (g.D.Device.trace old.config.device)) old.fault H holds.holds c.args.ticket other m own.own.place awaits apart)
+    (others_await old.config.config.segment_size (line_of old) old.site.place c.segment_of-n.result own.segment at (nth_facts old) (c.index-index.result - own.segment.gone) own.reserved its own.own.open_yet (canceling g.C.Checksum.sum_of own.segment.parts.bytes own.reserved) (canceling_short g.C.Checksum.sum_of own.segment (c.index-index.result - own.segment.gone) own.reserved (nth_facts c.args.self.now c.segment_of-n.result own.segment at) its own.own.open_yet) Canceled g.C.Checksum.sum_of (state_of (g.D.Device.trace old.config.device)) old.fault H holds.holds c.args.ticket other m own.own.place awaits apart)
 
 pub returns-clause-opens : goal.returns-clause-opens
 returns-clause-opens g c = λ place is.
@@ -136,21 +151,21 @@ returns-clause-opens g c = λ place is.
     let here : own.segment.parts.site.place + own.reserved.from ≡ place = sym (ap unsigned_abs (is ∙ own.own.place)) in
     subst (λ (p : ℕ). TakesOut p (open_places old) (open_places c.abort_in.new.self)) here
     (subst (λ (l : List SegmentView). TakesOut (own.segment.parts.site.place + own.reserved.from) (open_places old) (open_places_along l)) (sym (c.abort_in.ensures.line own.segment own.reserved at its))
-    (ended_takes old.config.config.segment_size (line_of old) old.site.place c.segment_of-n.result own.segment at (nth_facts old) (c.index-index.result - own.segment.gone) own.reserved its own.own.open_yet (g.C.Checksum.sum_of (body_in own.segment.parts.bytes own.reserved ++ code_of kind.Canceled ∷ part own.segment.parts.bytes (own.reserved.from + 5) (own.reserved.header_len - 5))) kind.Canceled Canceled refl))
+    (ended_takes old.config.config.segment_size (line_of old) old.site.place c.segment_of-n.result own.segment at (nth_facts old) (c.index-index.result - own.segment.gone) own.reserved its own.own.open_yet (canceling g.C.Checksum.sum_of own.segment.parts.bytes own.reserved) (canceling_short g.C.Checksum.sum_of own.segment (c.index-index.result - own.segment.gone) own.reserved (nth_facts c.args.self.now c.segment_of-n.result own.segment at) its own.own.open_yet) Canceled refl))
 
 pub returns-clause-same : goal.returns-clause-same
 returns-clause-same g c =
     let own : AwaitsIn (line_of c.args.self.now) c.args.ticket c.requires.0 = c.requires.1 in
     let at = among g c c.requires.0 own in
     let its = there g c c.requires.0 own in
-    keeps_ended c.args.self.now c.abort_in.new.self c.segment_of-n.result own.segment at (c.index-index.result - own.segment.gone) own.reserved its own.own.open_yet (g.C.Checksum.sum_of (body_in own.segment.parts.bytes own.reserved ++ code_of kind.Canceled ∷ part own.segment.parts.bytes (own.reserved.from + 5) (own.reserved.header_len - 5))) kind.Canceled Canceled (c.abort_in.ensures.line own.segment own.reserved at its) c.abort_in.ensures.rest
+    keeps_ended c.args.self.now c.abort_in.new.self c.segment_of-n.result own.segment at (c.index-index.result - own.segment.gone) own.reserved its own.own.open_yet (canceling g.C.Checksum.sum_of own.segment.parts.bytes own.reserved) (canceling_short g.C.Checksum.sum_of own.segment (c.index-index.result - own.segment.gone) own.reserved (nth_facts c.args.self.now c.segment_of-n.result own.segment at) its own.own.open_yet) Canceled (c.abort_in.ensures.line own.segment own.reserved at its) c.abort_in.ensures.rest
 
 pub returns-clause-position : goal.returns-clause-position
 returns-clause-position g c =
     let own : AwaitsIn (line_of c.args.self.now) c.args.ticket c.requires.0 = c.requires.1 in
     let at = among g c c.requires.0 own in
     let its = there g c c.requires.0 own in
-    position_ended c.args.self.now c.abort_in.new.self c.segment_of-n.result own.segment at (c.index-index.result - own.segment.gone) own.reserved its own.own.open_yet (g.C.Checksum.sum_of (body_in own.segment.parts.bytes own.reserved ++ code_of kind.Canceled ∷ part own.segment.parts.bytes (own.reserved.from + 5) (own.reserved.header_len - 5))) kind.Canceled Canceled (c.abort_in.ensures.line own.segment own.reserved at its) c.abort_in.ensures.rest
+    position_ended c.args.self.now c.abort_in.new.self c.segment_of-n.result own.segment at (c.index-index.result - own.segment.gone) own.reserved its own.own.open_yet (canceling g.C.Checksum.sum_of own.segment.parts.bytes own.reserved) (canceling_short g.C.Checksum.sum_of own.segment (c.index-index.result - own.segment.gone) own.reserved (nth_facts c.args.self.now c.segment_of-n.result own.segment at) its own.own.open_yet) Canceled (c.abort_in.ensures.line own.segment own.reserved at its) c.abort_in.ensures.rest
 
 pub returns-clause-buffers : goal.returns-clause-buffers
 returns-clause-buffers g c =

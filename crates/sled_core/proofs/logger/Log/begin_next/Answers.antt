@@ -1,18 +1,22 @@
 -- The segment that is being filled is filled up, in the first buffer or in the last one behind it, and one more is begun behind it.
 use Rattle.std.proofs.Common.{◌≡◌, ◌∙◌, ◌+◌, ◌-◌, ◌*◌, ◌<◌, ◌≤◌, ◌^◌, ◌-ℤ◌, sym, ap, refl, subst, arith, rules, ℕ, suc, pos, List, [], ◌∷◌, ◌++◌, length, map, set, deque_len, Some}
-use Rattle.std.specs.List.{slice_get}
+use Rattle.std.specs.List.{All, slice_get}
+use Rattle.std.proofs.lemmas.List.Elements.{All-weaker}
 use Rattle.sled_core.specs.Begun.{AreFilled, FollowOn, SegmentView, begin_of, last_buffer, line_at, segment_view, view_at}
 use Rattle.sled_core.specs.declared.iobuf.IoBuf.{IoBuf}
 use Rattle.sled_core.specs.declared.iobuf.SegmentPosition.{SegmentPosition}
 use Rattle.sled_core.specs.declared.logger.Log.{Log}
+use Rattle.sled_core.specs.declared.logger.batches.NotedBatch.{NotedBatch}
 use Rattle.sled_core.specs.declared.logger.segments.SegmentBuffer.{SegmentBuffer}
-use Rattle.sled_core.specs.Fits.{current_begin, current_of, line_of, machine_at, reserved_end, segment_size_of, synced_end}
+use Rattle.sled_core.specs.Fits.{current_begin, current_of, line_of, machine_at, reserved_end, segment_size_of, stable_end}
+use Rattle.sled_core.specs.OpenPlaces.{open_manifests}
 use Rattle.sled_core.specs.Turned.{CanClose, ChangesLine, HasRoomIn, IsBegunView, begun_view, next_line}
 use Rattle.sled_core.specs.Waiting.{at_last, closed_now, last_of}
 use Rattle.sled_core.proofs.Line.Begins.{closable}
 use Rattle.sled_core.proofs.Line.Closes.{IsClosable, filled_length, filled_written}
 use Rattle.sled_core.proofs.Line.Facts.{current_facts, nth_facts}
 use Rattle.sled_codec.proofs.Segments.{length-short_header}
+use Rattle.sled_core.proofs.Line.OpenManifests.{manifests_next}
 use Rattle.sled_core.proofs.Line.Nexts.{begun_is, filled_next, follow_one, last_one, line_more}
 use Rattle.sled_core.proofs.Sealed.Ended.{ends_up}
 use Rattle.std.proofs.lemmas.List.{length-set}
@@ -134,7 +138,7 @@ module _ {D C : Type 0} (sum : List ℕ → ℕ) (mid : Log D C) (site : Segment
 
 -- One more is begun behind it.
 module _ {D C : Type 0} (sum : List ℕ → ℕ) (old mid : Log D C) (line : line_of mid ≡ line_of old) (rest : ChangesLine old mid) (b : IoBuf) (ss : List SegmentBuffer) (is : IsClosed sum (segment_size_of mid) mid b ss)
-    (s : SegmentBuffer) (at : s.site.place ≡ (current_of old).parts.site.place + segment_size_of old) (slot : s.site.slot ≡ next_slot (machine_at mid) * segment_size_of mid) (begun : IsBegunView sum s.site (synced_end old) s.buffer) where
+    (s : SegmentBuffer) (at : s.site.place ≡ (current_of old).parts.site.place + segment_size_of old) (slot : s.site.slot ≡ next_slot (machine_at mid) * segment_size_of mid) (begun : IsBegunView sum s.site (stable_end old) s.buffer) where
   abbrev its_size : ℕ
   its_size = segment_size_of old
 
@@ -147,20 +151,34 @@ module _ {D C : Type 0} (sum : List ℕ → ℕ) (old mid : Log D C) (line : lin
   slot_is : s.site.slot ≡ next_slot (machine_at old) * its_size
   slot_is = slot ∙ (λ i. next_slot (machines i) * sizes i)
 
-  view : segment_view s ≡ begun_view sum its_size (machine_at old) (synced_end old) (current_of old)
-  view = begun_is sum its_size (machine_at old) (synced_end old) (current_of old) s.site s.buffer at slot_is begun
+  view : segment_view s ≡ begun_view sum its_size (machine_at old) (stable_end old) (current_of old)
+  view = begun_is sum its_size (machine_at old) (stable_end old) (current_of old) s.site s.buffer at slot_is begun
 
-  next_is : line_at mid.site b (ss ++ s ∷ []) ≡ next_line sum its_size (machine_at old) (synced_end old) (line_of old)
+  next_is : line_at mid.site b (ss ++ s ∷ []) ≡ next_line sum its_size (machine_at old) (stable_end old) (line_of old)
   next_is =
       line_more mid.site b ss s
       ∙ ap (λ (l : List SegmentView). l ++ segment_view s ∷ []) (is.line ∙ (λ i. at_last (closed_now sum (sizes i)) (line i)))
       ∙ ap (λ (v : SegmentView). at_last (closed_now sum its_size) (line_of old) ++ v ∷ []) view
 
+  -- what was noted lies below what is reserved then
+  begun_pegs : (to : ℕ) → reserved_end old ≤ to → All (λ (b : NotedBatch). b.peg < to) mid.noted.items
+  begun_pegs to grows =
+      let same = rest.reserved in
+      All-weaker (λ (b : NotedBatch). b.peg < mid.reserved_to) (λ (b : NotedBatch). b.peg < to) (λ b less. omega (arith, less, same, grows)) mid.noted.items mid.pegs
+
+  -- and as many manifests are open
+  begun_counted : open_manifests (line_at mid.site b (ss ++ s ∷ [])) ≤ mid.manifests
+  begun_counted =
+      let all = ap open_manifests next_is ∙ manifests_next sum its_size (machine_at old) (stable_end old) (line_of old) in
+      let same = ap open_manifests line in
+      let counted = mid.counted in
+      omega (arith, all, same, counted)
+
   begun_next : (to : ℕ) → reserved_end old ≤ to → current_begin old < to → to ≤ (current_of old).parts.site.place + its_size + 20 → MayHandOut its_size s.site.place (machine_at old) → IsBegun its_size to mid.site b (ss ++ s ∷ [])
   begun_next to grows low within may =
       let facts = current_facts old in
       let big : 256 ≤ its_size = old.config.config.least in
-      let header = length-short_header sum (pos ((current_of old).parts.site.place + its_size)) (pos (synced_end old) -ℤ pos 1) in
+      let header = length-short_header sum (pos ((current_of old).parts.site.place + its_size)) (pos (stable_end old) -ℤ pos 1) in
       let long : length s.buffer.bytes.items ≡ 20 = ap (λ (v : SegmentView). length v.parts.bytes) view ∙ header in
       let lies : s.site.place ≡ mid.site.place + its_size + length ss * its_size =
       (let here = (current_facts mid).at in
@@ -181,8 +199,29 @@ module _ {D C : Type 0} (sum : List ℕ → ℕ) (old mid : Log D C) (line : lin
         waits = omega (arith, waits, sizes);
         follow = follow_one its_size (mid.site.place + its_size) ss s lies (omega (arith, long, big)) (omega (arith, place_end)) (omega (arith, slot_end, slot_is)) (subst (λ n. FollowOn n (mid.site.place + n) ss) sizes is.follow);
         filled = subst (AreFilled its_size to) (sym next_is)
-            (filled_next sum its_size old.reserved_to to (machine_at old) (synced_end old) (old.site.place + length old.behind.items * its_size) (view_at old.site old.buffer) (map segment_view old.behind.items) facts (omega (arith, big)) grows low within old.filled);
+            (filled_next sum its_size old.reserved_to to (machine_at old) (stable_end old) (old.site.place + length old.behind.items * its_size) (view_at old.site old.buffer) (map segment_view old.behind.items) facts (omega (arith, big)) grows low within old.filled);
       }
+
+-- Where the accountant failed, nothing is another.
+pub invariant_of-self : goal.invariant_of-self
+invariant_of-self g c =
+    let mid = c.room_to_close.new.self in
+    let sizes : c.next.new.config.config.segment_size ≡ segment_size_of mid = ap (λ x. x.config.segment_size) c.next.ensures.config in
+    let short = mid.in_segment in
+    let small = mid.place_in_reach in
+    let small_slot = mid.slot_in_reach in
+    record {
+      in_segment = omega (arith, short, sizes);
+      place_in_reach = omega (arith, small, sizes);
+      slot_in_reach = omega (arith, small_slot, sizes);
+      waits = λ some. let less = mid.waits some in omega (arith, less, sizes);
+      follow = subst (λ n. FollowOn n (mid.site.place + n) mid.behind.items) (sym sizes) mid.follow;
+      filled = subst (λ n. AreFilled n mid.reserved_to (line_of mid)) (sym sizes) mid.filled;
+      account = subst (λ n. IsAccountant n c.next.new.self) (sym sizes) c.next.ensures.account;
+      pegs = mid.pegs;
+      room = mid.room;
+      counted = mid.counted;
+    }
 
 pub invariant_of-self-2 : goal.invariant_of-self-2
 invariant_of-self-2 g c =
@@ -231,6 +270,10 @@ invariant_of-self-2 g c =
       follow = are.follow;
       filled = are.filled;
       account = subst (λ n. IsAccountant n c.next.new.self) (sym new_sizes) c.next.ensures.account;
+      pegs = begun_pegs sum old mid c.in_ok-room_to_close.ensures.line rest b ss closed next at c.in_ok-slot.ensures.offset begun c.args.to c.requires.grows;
+      room = mid.room;
+      counted = subst (λ (l : List SegmentBuffer). open_manifests (line_at mid.site b l) ≤ mid.manifests) (sym c.push_back_reserved.ensures.items)
+          (begun_counted sum old mid c.in_ok-room_to_close.ensures.line rest b ss closed next at c.in_ok-slot.ensures.offset begun);
     }
 
 pub returns-clause-line : goal.returns-clause-line

@@ -1,4 +1,4 @@
-use Rattle.std.proofs.Common.{◌≡◌, ◌∙◌, ◌+◌, IfOk, OnOk, List, [], ◌∷◌, ℕ, max, subst, sym, arith, inl, inr, Option, Result, Ok, Err}
+use Rattle.std.proofs.Common.{◌≡◌, ◌∙◌, ◌≤◌, ◌+◌, IfOk, OnOk, List, [], ◌∷◌, ℕ, max, subst, sym, arith, inl, inr, Option, Result, Ok, Err}
 use Rattle.std.specs.declared.io.Error.{Error as IoError}
 use Rattle.sled_codec.specs.declared.result.Error.{Error}
 use Rattle.sled_codec.specs.declared.result.Error.TheVariants.{Held, Io, OutOfMemory, PlacesUsedUp}
@@ -6,7 +6,7 @@ use Rattle.sled_store.specs.declared.config.RunningConfig.{RunningConfig}
 use Rattle.sled_store.specs.Device.{state_of}
 use Rattle.sled_store.specs.Moments.{LeavesOnly}
 use Rattle.sled_core.specs.Causes.{HeldAnswers}
-use Rattle.sled_core.specs.Fits.{FirstWaits, IsUsedUpBelow, current_begin, device_of, fault_of, holding_below, reserved_end, segment_size_of, start_of, synced_end, waiting_of}
+use Rattle.sled_core.specs.Fits.{FirstWaits, IsUsedUpBelow, current_begin, device_of, fault_of, holding_below, reserved_end, segment_size_of, stable_end, start_of, synced_end, waiting_of}
 use Rattle.sled_core.specs.Keeps.{LeavesAbove}
 use Rattle.sled_core.specs.Recoverable.{LeavesRecoverable, RecoverableIfOwn}
 use Rattle.sled_core.specs.Running.{end_below}
@@ -37,15 +37,25 @@ stable_left sum to old new above = (λ i. first_begin (sym above.left i) (sym ab
   by_first [] is = sym is
   by_first (b ∷ bs) is = sym is
 
-grown : (r : Result ℕ Error) (P : Type 0) (behind now before : ℕ) → (P → behind ≡ now) → IfOk r (λ n. now ≡ before + n) → OnOk r P → IfOk r (λ n. behind ≡ before + n)
-grown (Ok n) P behind now before left grows is = left is ∙ grows
-grown (Err e) P behind now before left grows is = tt
+grown : (r : Result ℕ Error) (P : Type 0) (behind synced now before : ℕ) → (P → behind ≡ synced) → IfOk r (λ n. now ≡ before + n) → OnOk r P → OnOk r (now ≡ synced) → IfOk r (λ n. behind ≡ before + n)
+grown (Ok n) P behind synced now before left grows is all = left is ∙ sym all ∙ grows
+grown (Err e) P behind synced now before left grows is all = tt
 
 pub returns-clause-answer : goal.returns-clause-answer
 returns-clause-answer g c =
     let old = c.args.self in
     let new = c.flush-flushed.new.self in
-    grown c.flush-flushed.result _ _ (synced_end new) (synced_end old) (stable_left g.C.Checksum.sum_of (reserved_end old) old new) c.flush-flushed.ensures.answer c.flush-flushed.ensures.buffers.above
+    grown c.flush-flushed.result _ _ (synced_end new) (stable_end new) (stable_end old) (stable_left g.C.Checksum.sum_of (reserved_end old) old new) c.flush-flushed.ensures.answer c.flush-flushed.ensures.buffers.above c.flush-flushed.ensures.stable
+
+reached : (r : Result ℕ Error) (end synced now before : ℕ) → OnOk r (end ≤ synced) → IfOk r (λ n. now ≡ before + n) → OnOk r (now ≡ synced) → IfOk r (λ n. end ≤ before + n)
+reached (Ok n) end synced now before low grows all = omega (arith, low, grows, all)
+reached (Err e) end synced now before low grows all = tt
+
+pub returns-clause-whole : goal.returns-clause-whole
+returns-clause-whole g c =
+    let old = c.args.self in
+    let new = c.flush-flushed.new.self in
+    reached c.flush-flushed.result (reserved_end old) (synced_end new) (stable_end new) (stable_end old) c.flush-flushed.ensures.whole c.flush-flushed.ensures.answer c.flush-flushed.ensures.stable
 
 pub returns-clause-answers : goal.returns-clause-answers
 returns-clause-answers g c =

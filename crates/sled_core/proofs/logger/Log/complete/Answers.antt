@@ -9,7 +9,7 @@ use Rattle.sled_core.specs.declared.iobuf.ReservationState.TheVariants.{Complete
 use Rattle.sled_core.specs.declared.iobuf.Reserved.{Reserved}
 use Rattle.sled_core.specs.Begun.{SegmentView}
 use Rattle.sled_core.specs.Buffers.{completing}
-use Rattle.sled_core.specs.Fits.{AwaitsIn, Holds, line_of, open_places}
+use Rattle.sled_core.specs.Fits.{AwaitsIn, Holds, line_of, noted_in, open_places}
 use Rattle.sled_core.specs.OpenPlaces.{TakesOut, open_places_along}
 use Rattle.sled_core.specs.Running.{Fits}
 use Rattle.sled_core.specs.Tickets.{place_of}
@@ -17,6 +17,7 @@ use Rattle.sled_core.proofs.Holds.KeptCalls.{goes_on_still}
 use Rattle.sled_core.proofs.Line.EndedKeeps.{fits_ended, goes_on_ended, holds_ended, keeps_ended, position_ended}
 use Rattle.sled_core.proofs.Line.EndedTickets.{ended_takes, others_await, says_place, ticket_above, ticket_among, ticket_open, ticket_there}
 use Rattle.sled_core.proofs.Line.Ends.{fits_completed, holds_completed}
+use Rattle.sled_core.proofs.Line.EndedLine.{completing_short}
 use Rattle.sled_core.proofs.Line.Facts.{nth_facts}
 use Rattle.sled_core.proofs.Line.LogSpans.{ended_buffers}
 use Rattle.sled_core.proofs.logger.Log.complete.Given.{Over}
@@ -59,10 +60,10 @@ returns-clause-history g c = λ H m holds awaits.
     let i : ℕ = c.index-index.result - v.gone in
     let at = among g c m awaits in
     let its = there g c m awaits in
-    let done = holds_completed g.C.Checksum.sum_of old.config.config.segment_size (state_of (g.D.Device.trace old.config.device)) old.fault (line_of old) c.segment_of-n.result v at old.site.place (nth_facts old) i r its awaits.own.open_yet (machine_of old.accountant) (sym awaits.own.manifest ∙ c.requires.message) H holds in (
+    let done = holds_completed g.C.Checksum.sum_of old.config.config.segment_size (state_of (g.D.Device.trace old.config.device)) old.fault (line_of old) c.segment_of-n.result v at old.site.place (nth_facts old) i r its awaits.own.open_yet (machine_of old.accountant) (noted_in old) (sym awaits.own.manifest ∙ c.requires.message) H holds in (
       done.0,
       subst (λ (x : Message). AddsMessage H x done.0) (sym awaits.message) done.1,
-      holds_ended old c.complete_in.new.self c.segment_of-n.result v at i r its awaits.own.open_yet r.sum r.kind Completed (c.complete_in.ensures.line v r at its) c.complete_in.ensures.rest g.D.Device.trace g.C.Checksum.sum_of done.0 done.2,
+      holds_ended old c.complete_in.new.self c.segment_of-n.result v at i r its awaits.own.open_yet (completing r) (completing_short v i r (nth_facts old c.segment_of-n.result v at) its awaits.own.open_yet) Completed (c.complete_in.ensures.line v r at its) c.complete_in.ensures.rest g.D.Device.trace g.C.Checksum.sum_of done.0 done.2,
     )
 
 pub returns-clause-fits : goal.returns-clause-fits
@@ -74,11 +75,11 @@ returns-clause-fits g c = λ H A f U m fits awaits out.
     let i : ℕ = c.index-index.result - v.gone in
     let at = among g c m awaits in
     let its = there g c m awaits in
-    let done = fits_completed g.C.Checksum.sum_of old.config.config.segment_size (state_of (g.D.Device.trace old.config.device)) old.fault (line_of old) c.segment_of-n.result v at old.site.place (nth_facts old) i r its awaits.own.open_yet (machine_of old.accountant) (sym awaits.own.manifest ∙ c.requires.message) old.pins H A f U old.config.config.least c.in_default.is out fits in (
+    let done = fits_completed g.C.Checksum.sum_of old.config.config.segment_size (state_of (g.D.Device.trace old.config.device)) old.fault (line_of old) c.segment_of-n.result v at old.site.place (nth_facts old) i r its awaits.own.open_yet (machine_of old.accountant) (noted_in old) (sym awaits.own.manifest ∙ c.requires.message) old.pins H A f U old.config.config.least c.in_default.is out fits in (
       done.0,
       subst (λ (x : Message). AddsMessage H x done.0) (sym awaits.message) done.1,
       subst (λ (x : Message). Fits g.D.Device.trace g.C.Checksum.sum_of c.complete_in.new.self done.0 A f (x ∷ U)) (sym awaits.message)
-          (fits_ended old c.complete_in.new.self c.segment_of-n.result v at i r its awaits.own.open_yet r.sum r.kind Completed (c.complete_in.ensures.line v r at its) c.complete_in.ensures.rest g.D.Device.trace g.C.Checksum.sum_of done.0 A f _ done.2),
+          (fits_ended old c.complete_in.new.self c.segment_of-n.result v at i r its awaits.own.open_yet (completing r) (completing_short v i r (nth_facts old c.segment_of-n.result v at) its awaits.own.open_yet) Completed (c.complete_in.ensures.line v r at its) c.complete_in.ensures.rest g.D.Device.trace g.C.Checksum.sum_of done.0 A f _ done.2),
     )
 
 -- Other tickets stay, and nothing else changes.
@@ -91,7 +92,7 @@ returns-clause-others g c = λ H other m holds awaits apart.
     let at = among g c c.requires.awaited.0 own in
     let its = there g c c.requires.awaited.0 own in
     subst (λ (l : List SegmentView). AwaitsIn l other m) (sym (c.complete_in.ensures.line own.segment own.reserved at its))
-    (others_await old.config.config.segment_size (line_of old) old.site.place c.segment_of-n.result own.segment at (nth_facts old) (c.index-index.result - own.segment.gone) own.reserved its own.own.open_yet own.reserved.sum own.reserved.kind Completed g.C.Checksum.sum_of (state_of (g.D.Device.trace old.config.device)) old.fault H holds.holds c.args.ticket other m own.own.place awaits apart)
+    (others_await old.config.config.segment_size (line_of old) old.site.place c.segment_of-n.result own.segment at (nth_facts old) (c.index-index.result - own.segment.gone) own.reserved its own.own.open_yet (completing own.reserved) (completing_short own.segment (c.index-index.result - own.segment.gone) own.reserved (nth_facts c.args.self.now c.segment_of-n.result own.segment at) its own.own.open_yet) Completed g.C.Checksum.sum_of (state_of (g.D.Device.trace old.config.device)) old.fault H holds.holds c.args.ticket other m own.own.place awaits apart)
 
 pub returns-clause-opens : goal.returns-clause-opens
 returns-clause-opens g c = λ place is.
@@ -102,28 +103,28 @@ returns-clause-opens g c = λ place is.
     let here : own.segment.parts.site.place + own.reserved.from ≡ place = sym (ap unsigned_abs (is ∙ own.own.place)) in
     subst (λ (p : ℕ). TakesOut p (open_places old) (open_places c.complete_in.new.self)) here
     (subst (λ (l : List SegmentView). TakesOut (own.segment.parts.site.place + own.reserved.from) (open_places old) (open_places_along l)) (sym (c.complete_in.ensures.line own.segment own.reserved at its))
-    (ended_takes old.config.config.segment_size (line_of old) old.site.place c.segment_of-n.result own.segment at (nth_facts old) (c.index-index.result - own.segment.gone) own.reserved its own.own.open_yet own.reserved.sum own.reserved.kind Completed refl))
+    (ended_takes old.config.config.segment_size (line_of old) old.site.place c.segment_of-n.result own.segment at (nth_facts old) (c.index-index.result - own.segment.gone) own.reserved its own.own.open_yet (completing own.reserved) (completing_short own.segment (c.index-index.result - own.segment.gone) own.reserved (nth_facts c.args.self.now c.segment_of-n.result own.segment at) its own.own.open_yet) Completed refl))
 
 pub returns-clause-goes_on : goal.returns-clause-goes_on
 returns-clause-goes_on g c =
     let own : AwaitsIn (line_of c.args.self.now) c.args.ticket c.requires.awaited.0 = c.requires.awaited.1 in
     let at = among g c c.requires.awaited.0 own in
     let its = there g c c.requires.awaited.0 own in
-    goes_on_ended c.args.self.now c.complete_in.new.self c.segment_of-n.result own.segment at (c.index-index.result - own.segment.gone) own.reserved its own.own.open_yet own.reserved.sum own.reserved.kind Completed (c.complete_in.ensures.line own.segment own.reserved at its) c.complete_in.ensures.rest g.D.Device.trace g.C.Checksum.sum_of
+    goes_on_ended c.args.self.now c.complete_in.new.self c.segment_of-n.result own.segment at (c.index-index.result - own.segment.gone) own.reserved its own.own.open_yet (completing own.reserved) (completing_short own.segment (c.index-index.result - own.segment.gone) own.reserved (nth_facts c.args.self.now c.segment_of-n.result own.segment at) its own.own.open_yet) Completed (c.complete_in.ensures.line own.segment own.reserved at its) c.complete_in.ensures.rest g.D.Device.trace g.C.Checksum.sum_of
 
 pub returns-clause-same : goal.returns-clause-same
 returns-clause-same g c =
     let own : AwaitsIn (line_of c.args.self.now) c.args.ticket c.requires.awaited.0 = c.requires.awaited.1 in
     let at = among g c c.requires.awaited.0 own in
     let its = there g c c.requires.awaited.0 own in
-    keeps_ended c.args.self.now c.complete_in.new.self c.segment_of-n.result own.segment at (c.index-index.result - own.segment.gone) own.reserved its own.own.open_yet own.reserved.sum own.reserved.kind Completed (c.complete_in.ensures.line own.segment own.reserved at its) c.complete_in.ensures.rest
+    keeps_ended c.args.self.now c.complete_in.new.self c.segment_of-n.result own.segment at (c.index-index.result - own.segment.gone) own.reserved its own.own.open_yet (completing own.reserved) (completing_short own.segment (c.index-index.result - own.segment.gone) own.reserved (nth_facts c.args.self.now c.segment_of-n.result own.segment at) its own.own.open_yet) Completed (c.complete_in.ensures.line own.segment own.reserved at its) c.complete_in.ensures.rest
 
 pub returns-clause-position : goal.returns-clause-position
 returns-clause-position g c =
     let own : AwaitsIn (line_of c.args.self.now) c.args.ticket c.requires.awaited.0 = c.requires.awaited.1 in
     let at = among g c c.requires.awaited.0 own in
     let its = there g c c.requires.awaited.0 own in
-    position_ended c.args.self.now c.complete_in.new.self c.segment_of-n.result own.segment at (c.index-index.result - own.segment.gone) own.reserved its own.own.open_yet own.reserved.sum own.reserved.kind Completed (c.complete_in.ensures.line own.segment own.reserved at its) c.complete_in.ensures.rest
+    position_ended c.args.self.now c.complete_in.new.self c.segment_of-n.result own.segment at (c.index-index.result - own.segment.gone) own.reserved its own.own.open_yet (completing own.reserved) (completing_short own.segment (c.index-index.result - own.segment.gone) own.reserved (nth_facts c.args.self.now c.segment_of-n.result own.segment at) its own.own.open_yet) Completed (c.complete_in.ensures.line own.segment own.reserved at its) c.complete_in.ensures.rest
 
 pub returns-clause-buffers : goal.returns-clause-buffers
 returns-clause-buffers g c =

@@ -9,10 +9,12 @@ use Rattle.sled_core.specs.declared.logger.segments.SegmentBuffer.{SegmentBuffer
 use Rattle.sled_core.specs.Begun.{AreFilled, SegmentView, line_at, segment_view, view_at}
 use Rattle.sled_core.specs.Buffers.{completing}
 use Rattle.sled_core.specs.Fits.{line_of}
+use Rattle.sled_core.specs.OpenPlaces.{open_manifests}
 use Rattle.sled_core.specs.Turned.{ended_now}
 use Rattle.sled_core.proofs.Line.EndedLine.{behind_within, ended_view, filled_ended, first_reserved, line_any, line_behind, mut_reserved, read_among, read_numbered, read_there}
 use Rattle.sled_core.proofs.Line.Facts.{nth_facts}
 use Rattle.sled_core.proofs.Line.Filling.{follow_in, follow_with}
+use Rattle.sled_core.proofs.Line.OpenManifests.{ended_no_more}
 use Rattle.sled_core.proofs.logger.Log.complete_in.Goals as goal
 
 -- The first segment has it.
@@ -35,6 +37,13 @@ invariant_of-self g c =
       filled = subst (AreFilled size log.reserved_to) (sym line)
           (filled_ended size log.reserved_to (line_of log) 0 (view_at log.site log.buffer) i r r.sum r.kind Completed refl (nth_facts log 0 (view_at log.site log.buffer) refl) there c.requires.open_yet log.filled);
       account = log.account;
+      pegs = log.pegs;
+      room = log.room;
+      counted = (
+          let same = ap open_manifests line in
+          let fewer = ended_no_more (line_of log) 0 (view_at log.site log.buffer) i r (completing r) Completed refl there c.requires.open_yet refl in
+          let old = log.counted in
+          omega (arith, same, fewer, old));
     }
 
 -- One behind it has it.
@@ -88,6 +97,13 @@ invariant_of-self-else-n-eq0 g c =
       filled = subst (AreFilled size log.reserved_to) (sym line)
           (filled_ended size log.reserved_to (line_of log) c.args.n (segment_view t) i r r.sum r.kind Completed among (nth_facts log c.args.n (segment_view t) among) there c.requires.open_yet log.filled);
       account = log.account;
+      pegs = log.pegs;
+      room = log.room;
+      counted = (
+          let same = ap open_manifests line in
+          let fewer = ended_no_more (line_of log) c.args.n (segment_view t) i r (completing r) Completed among there c.requires.open_yet refl in
+          let old = log.counted in
+          omega (arith, same, fewer, old));
     }
 
 pub returns-else-n-eq0-clause-line : goal.returns-else-n-eq0-clause-line

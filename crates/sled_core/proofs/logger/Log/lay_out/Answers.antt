@@ -1,19 +1,26 @@
 -- A placeholder is laid out in the first segment or in the last one behind it, whichever is being filled.
-use Rattle.std.proofs.Common.{◌≡◌, ◌∙◌, ◌+◌, ◌-◌, ◌<◌, sym, ap, refl, subst, arith, rules, ℕ, suc, List, [], ◌∷◌, ◌++◌, append_assoc, length, length-append, map, drop, take, set, deque_len, Some}
-use Rattle.std.specs.List.{slice_get}
+use Rattle.std.proofs.Common.{◌≡◌, ◌∙◌, ◌+◌, ◌-◌, ◌<◌, ◌≤◌, sym, ap, refl, subst, arith, rules, ℕ, suc, Bool, if◌then◌else◌, List, [], ◌∷◌, ◌++◌, append_assoc, length, length-append, map, drop, take, set, deque_len, Some}
+use Rattle.std.specs.List.{All, slice_get}
+use Rattle.std.proofs.lemmas.List.Elements.{All-weaker}
 use Rattle.sled_core.specs.Begun.{AreFilled, SegmentView, line_at, segment_view, view_at}
 use Rattle.sled_core.specs.Buffers.{placeholder_head, reserved_for}
 use Rattle.sled_core.specs.declared.iobuf.IoBuf.{IoBuf}
 use Rattle.sled_core.specs.declared.iobuf.Reserved.{Reserved}
 use Rattle.sled_core.specs.declared.iobuf.SegmentPosition.{SegmentPosition}
+use Rattle.sled_core.specs.declared.iobuf.ReservationState.TheVariants.{Open}
 use Rattle.sled_core.specs.declared.logger.Log.{Log}
+use Rattle.sled_core.specs.declared.logger.batches.NotedBatch.{NotedBatch}
 use Rattle.sled_core.specs.declared.logger.segments.SegmentBuffer.{SegmentBuffer}
 use Rattle.sled_core.specs.Fits.{current_of, line_of}
+use Rattle.sled_core.specs.Manifests.{is_manifest}
+use Rattle.sled_core.specs.OpenPlaces.{open_manifests}
 use Rattle.sled_core.specs.Turned.{HasRoomIn, reserved_now}
 use Rattle.sled_core.specs.Waiting.{at_last}
+use Rattle.sled_core.proofs.Line.Entered.{filled_last}
 use Rattle.sled_core.proofs.Line.Facts.{current_facts}
 use Rattle.sled_core.proofs.Line.Filling.{follow_with, last_none, line_first, line_last, read_last}
 use Rattle.sled_core.proofs.Line.Nth.{last_behind, last_buffer_behind}
+use Rattle.sled_core.proofs.Line.OpenManifests.{manifests_reserved, more_counted, room_more}
 use Rattle.sled_core.proofs.Line.Reserves.{filled_reserved}
 use Rattle.sled_core.proofs.logger.Log.lay_out.Given.{Over}
 use Rattle.sled_core.proofs.logger.Log.lay_out.Goals as goal
@@ -40,6 +47,19 @@ laid_filled log more r to line is some end =
     subst (AreFilled log.config.config.segment_size to) (sym is)
     (filled_reserved (λ _. 0) log.config.config.segment_size more r log.reserved_to to (view_at log.site log.buffer) (map segment_view log.behind.items) facts.begins facts.are some end log.filled).1
 
+-- What was noted lies below what is reserved then, and as many manifests are open as are counted, at the most.
+laid_pegs : {D C : Type 0} (log : Log D C) (to n : ℕ) → to ≡ (current_of log).parts.site.place + length (current_of log).parts.bytes + n → All (λ (b : NotedBatch). b.peg < to) log.noted.items
+laid_pegs log to n end =
+    let low = (filled_last log.config.config.segment_size log.reserved_to (view_at log.site log.buffer) (map segment_view log.behind.items) log.filled).1 in
+    All-weaker (λ (b : NotedBatch). b.peg < log.reserved_to) (λ (b : NotedBatch). b.peg < to) (λ b less. omega (arith, less, low, end)) log.noted.items log.pegs
+
+laid_counted : {D C : Type 0} (log : Log D C) (more : List ℕ) (r : Reserved) (manifest : Bool) (now : ℕ) (line : List SegmentView) → line ≡ at_last (reserved_now more r) (line_of log) → r.state ≡ Open → manifest ≡ is_manifest r.log_kind r.page
+    → now ≡ (if manifest then suc log.manifests else log.manifests) → open_manifests line ≤ now
+laid_counted log more r manifest now line is opened kind more_is =
+    more_counted manifest (open_manifests (line_of log)) (open_manifests line) log.manifests now
+    (ap open_manifests is ∙ manifests_reserved more r manifest (view_at log.site log.buffer) (map segment_view log.behind.items) opened (sym kind))
+    more_is log.counted
+
 pub invariant_of-self : goal.invariant_of-self
 invariant_of-self g c =
     let log = c.args.self.now in
@@ -61,6 +81,12 @@ invariant_of-self g c =
           (reserved_view log.site log.buffer c.append.new.self head item _ c.append.ensures.bytes c.append.ensures.reserved c.append.ensures.from c.append.ensures.gone c.append.ensures.sealed))
           (placeholder_some (take c.args.head.now.len c.args.head.now.bytes) item) (omega (arith, c.requires.end, long));
       account = log.account;
+      pegs = laid_pegs log c.args.to (c.args.head.now.len + c.args.item_len) c.requires.end;
+      room = room_more c.is_manifest-manifest.result (length log.noted.items) log.manifests c.with_manifest-manifests.result _ c.with_manifest-manifests.ensures log.room (λ is. (c.requires.batch (sym c.is_manifest-manifest.ensures ∙ is)).place);
+      counted = laid_counted log (head ++ item) _ c.is_manifest-manifest.result c.with_manifest-manifests.result (line_at log.site c.append.new.self log.behind.items)
+          (line_first (reserved_now (head ++ item) _) log.site log.buffer c.append.new.self log.behind.items none
+          (reserved_view log.site log.buffer c.append.new.self head item _ c.append.ensures.bytes c.append.ensures.reserved c.append.ensures.from c.append.ensures.gone c.append.ensures.sealed))
+          refl c.is_manifest-manifest.ensures c.with_manifest-manifests.ensures;
     }
 
 -- The last one behind the first is the one that is being filled.
@@ -125,6 +151,11 @@ invariant_of-self-else-n-eq0 g c =
           (laid_line log n s is.0 is.1 new head item _ made.bytes made.reserved made.from made.gone made.sealed)
           (placeholder_some (take c.args.head.now.len c.args.head.now.bytes) item) (omega (arith, c.requires.end, long));
       account = log.account;
+      pegs = laid_pegs log c.args.to (c.args.head.now.len + c.args.item_len) c.requires.end;
+      room = room_more c.is_manifest-manifest.result (length log.noted.items) log.manifests c.with_manifest-manifests.result _ c.with_manifest-manifests.ensures log.room (λ is. (c.requires.batch (sym c.is_manifest-manifest.ensures ∙ is)).place);
+      counted = laid_counted log (head ++ item) _ c.is_manifest-manifest.result c.with_manifest-manifests.result (line_at log.site log.buffer (set log.behind.items n (record { site = s.site; buffer = new })))
+          (laid_line log n s is.0 is.1 new head item _ made.bytes made.reserved made.from made.gone made.sealed)
+          refl c.is_manifest-manifest.ensures c.with_manifest-manifests.ensures;
     }
 
 pub returns-else-n-eq0-clause-line : goal.returns-else-n-eq0-clause-line

@@ -1,18 +1,21 @@
 -- Where nothing is written, the log is as it was; else the buffers up to the place are.
-use Rattle.std.proofs.Common.{◌∙◌, ◌<ℤ◌, pos, ◌≤ℤ◌, ◌<◌, ap, sym, subst, refl, arith, rules, SFits, to_z, of_z, unsigned_abs, ◌+◌, inl, inr, List, None, ℕ, Option, Ok, Err}
+use Rattle.std.proofs.Common.{◌∙◌, ◌<ℤ◌, pos, ◌≤ℤ◌, ◌<◌, ap, sym, subst, refl, arith, ◌≡◌, ◌≤◌, negsuc, ℤ, rules, SFits, inl, inr, List, None, ℕ, Option, Ok, Err}
 use Rattle.std.specs.Int.{w64}
-use Rattle.std.proofs.lemmas.Int.{to_z-of_z, to_z_pos}
+use Rattle.std.proofs.lemmas.Int.{ints, to_z-of_z, to_z_pos}
 use Rattle.std.proofs.lemmas.Result.{err_from_is_err_and}
 use Rattle.sled_store.specs.Device.{Event}
 use Rattle.sled_store.specs.Script.{Performs, after_all}
 use Rattle.sled_store.proofs.Traces.ScriptLemmas.{performs_nothing}
 use Rattle.sled_core.specs.Causes.{HeldAnswers}
-use Rattle.sled_core.specs.Fits.{IsUsedUpBelow, fault_of, reserved_end, synced_end}
+use Rattle.sled_core.specs.Fits.{IsUsedUpBelow, fault_of, noted_in, reserved_end, stable_end}
 use Rattle.sled_core.specs.Keeps.{WritesBelow}
 use Rattle.sled_core.specs.Running.{Fits}
-use Rattle.sled_core.specs.Stable.{behind_place, held_for}
+use Rattle.sled_core.specs.OpenBatches.{behind_batch}
+use Rattle.sled_core.specs.Stable.{behind_place, held_for, target_for}
+use Rattle.sled_core.specs.declared.logger.Log.{Log}
 use Rattle.sled_core.proofs.Holds.KeptCalls.{kept_still}
 use Rattle.sled_core.proofs.Holds.RunningLemmas.{fits-acknowledged}
+use Rattle.sled_core.proofs.Line.LineEnds.{stable_kept, stable_reached}
 use Rattle.sled_core.proofs.Line.SealFirst.{unused_already, writes_already, writes_err, writes_ok}
 use Rattle.sled_core.proofs.Stable.Places.{above_read, behind_read, behind_stable, done_as, held_up, holds_none, inside_read, reserved_in_reach, stable_answers, wrote_for}
 use Rattle.sled_core.proofs.logger.Log.make_stable.Given as given
@@ -32,16 +35,16 @@ returns-then-lsn-stable_offset-clause-at_most g c = performs_nothing _ _ _ refl
 pub returns-then-lsn-stable_offset-clause-keeps : goal.returns-then-lsn-stable_offset-clause-keeps
 returns-then-lsn-stable_offset-clause-keeps g c = kept_still g.D.Device.trace g.C.Checksum.sum_of c.args.self.now
 
-durable : (g : given.Over) (c : goal.Then-lsn-stable_offset g) → c.args.lsn <ℤ pos (synced_end c.args.self.now)
+durable : (g : given.Over) (c : goal.Then-lsn-stable_offset g) → c.args.lsn <ℤ pos (stable_end c.args.self.now)
 durable g c = search rules
 
 pub returns-then-lsn-stable_offset-clause-answers : goal.returns-then-lsn-stable_offset-clause-answers
 returns-then-lsn-stable_offset-clause-answers g c =
     let old = c.args.self.now in
-    (inl (durable g c), (holds_none g.C.Checksum.sum_of old c.args.lsn (durable g c), unused_already (behind_place c.args.lsn) old (behind_stable g.C.Checksum.sum_of old c.args.lsn (durable g c)), c.in_default.is, c.in_default.is, refl))
+    (inl (durable g c), (holds_none g.C.Checksum.sum_of old c.args.lsn (durable g c), unused_already (target_for old c.args.lsn) old (behind_stable g.C.Checksum.sum_of old c.args.lsn (durable g c)), c.in_default.is, c.in_default.is, refl))
 
 pub returns-then-lsn-stable_offset-clause-buffers : goal.returns-then-lsn-stable_offset-clause-buffers
-returns-then-lsn-stable_offset-clause-buffers g c = writes_already g.C.Checksum.sum_of (behind_place c.args.lsn) c.args.self.now 0 (behind_stable g.C.Checksum.sum_of c.args.self.now c.args.lsn (durable g c))
+returns-then-lsn-stable_offset-clause-buffers g c = writes_already g.C.Checksum.sum_of (target_for c.args.self.now c.args.lsn) c.args.self.now 0 (behind_stable g.C.Checksum.sum_of c.args.self.now c.args.lsn (durable g c))
 
 -- It wasn't reserved.
 
@@ -58,17 +61,21 @@ pub returns-then-lsn-self-clause-answers : goal.returns-then-lsn-self-clause-ans
 returns-then-lsn-self-clause-answers g c =
     let old = c.args.self.now in
     let reach : reserved_end old < 9223372036854775808 = reserved_in_reach old in
-    let above : pos (synced_end old) ≤ℤ c.args.lsn = search rules in
+    let above : pos (stable_end old) ≤ℤ c.args.lsn = search rules in
     let past : pos (reserved_end old) ≤ℤ c.args.lsn = search rules in
     (to_z-of_z w64 c.args.lsn c.ranges.lsn, above, past, c.in_default.is, c.in_default.is, refl)
 
+-- Up to where it is written.
+to_is : {D C : Type 0} (log : Log D C) (lsn : ℤ) (to behind : ℕ) → to ≡ behind_batch behind (noted_in log) → behind ≡ behind_place lsn → to ≡ target_for log lsn
+to_is log lsn to behind is at = is ∙ ap (λ n. behind_batch n (noted_in log)) at
+
 -- The write failed, or was held.
 
-above : (g : given.Over) (c : goal.After-from_residual g) → pos (synced_end c.args.self.now) ≤ℤ c.args.lsn
+above : (g : given.Over) (c : goal.After-from_residual g) → pos (stable_end c.args.self.now) ≤ℤ c.args.lsn
 above g c =
     let got = c.stable_offset.result in
     let fits : SFits w64 got = search rules in
-    above_read c.args.lsn got _ _ (synced_end c.args.self.now) (to_z-of_z w64 c.args.lsn c.ranges.lsn) (to_z-of_z w64 got fits) c.stable_offset.ensures.place c.if-lsn-stable_offset.false
+    above_read c.args.lsn got _ _ (stable_end c.args.self.now) (to_z-of_z w64 c.args.lsn c.ranges.lsn) (to_z-of_z w64 got fits) c.stable_offset.ensures.place c.if-lsn-stable_offset.false
 
 inside : (g : given.Over) (c : goal.After-from_residual g) → c.args.lsn <ℤ pos (reserved_end c.args.self.now)
 inside g c =
@@ -78,7 +85,7 @@ inside g c =
 pub returns-in_err-write_below-clause-made : goal.returns-in_err-write_below-clause-made
 returns-in_err-write_below-clause-made g c =
     let old = c.args.self.now in
-    let same = wrote_for g.C.Checksum.sum_of old c.args.lsn _ (behind_read c.args.lsn _ _ (to_z-of_z w64 c.args.lsn c.ranges.lsn) (above g c)) (above g c) in
+    let same = wrote_for g.C.Checksum.sum_of old c.args.lsn _ (to_is c.args.self.now c.args.lsn _ _ c.behind_batch-to.ensures.is (behind_read c.args.lsn _ _ (to_z-of_z w64 c.args.lsn c.ranges.lsn) (above g c))) (above g c) in
     let e = err_from_is_err_and c.from_residual.result c.from_residual.ensures.1 in
     rw (e.1, e.2) (done_as (Unit {0}) ℕ c.in_err-write_below.field-0.0 _ _ (λ made. made ∙ ap (λ (es : List Event). after_all es (g.D.Device.trace old.config.device)) same) c.in_err-write_below.ensures.calls)
 
@@ -86,19 +93,19 @@ pub returns-in_err-write_below-clause-at_most : goal.returns-in_err-write_below-
 returns-in_err-write_below-clause-at_most g c =
     let old = c.args.self.now in
     subst (λ (es : List Event). Performs es (g.D.Device.trace old.config.device) (g.D.Device.trace c.write_below.new.self.config.device))
-    (wrote_for g.C.Checksum.sum_of old c.args.lsn _ (behind_read c.args.lsn _ _ (to_z-of_z w64 c.args.lsn c.ranges.lsn) (above g c)) (above g c)) c.write_below.ensures.at_most
+    (wrote_for g.C.Checksum.sum_of old c.args.lsn _ (to_is c.args.self.now c.args.lsn _ _ c.behind_batch-to.ensures.is (behind_read c.args.lsn _ _ (to_z-of_z w64 c.args.lsn c.ranges.lsn) (above g c))) (above g c)) c.write_below.ensures.at_most
 
 pub returns-in_err-write_below-clause-answers : goal.returns-in_err-write_below-clause-answers
 returns-in_err-write_below-clause-answers g c =
     let old = c.args.self.now in
     let new = c.write_below.new.self in
-    let at = behind_read c.args.lsn _ _ (to_z-of_z w64 c.args.lsn c.ranges.lsn) (above g c) in
+    let at = to_is c.args.self.now c.args.lsn _ _ c.behind_batch-to.ensures.is (behind_read c.args.lsn _ _ (to_z-of_z w64 c.args.lsn c.ranges.lsn) (above g c)) in
     let x = c.in_err-write_below.field-0.0 in
-    let answers : HeldAnswers {T = Unit {0}} (Err x) (held_for g.C.Checksum.sum_of old c.args.lsn) (IsUsedUpBelow old (behind_place c.args.lsn)) None (fault_of new) (g.D.Device.faults old.config.device) (g.D.Device.faults new.config.device) =
+    let answers : HeldAnswers {T = Unit {0}} (Err x) (held_for g.C.Checksum.sum_of old c.args.lsn) (IsUsedUpBelow old (target_for c.args.self.now c.args.lsn)) None (fault_of new) (g.D.Device.faults old.config.device) (g.D.Device.faults new.config.device) =
     subst (λ n. HeldAnswers {T = Unit {0}} (Err x) (held_for g.C.Checksum.sum_of old c.args.lsn) (IsUsedUpBelow old n) None (fault_of new) (g.D.Device.faults old.config.device) (g.D.Device.faults new.config.device)) at
-    (subst (λ (o : Option ℕ). HeldAnswers {T = Unit {0}} (Err x) o (IsUsedUpBelow old (unsigned_abs (to_z w64 (of_z w64 c.args.lsn)) + 1)) None (fault_of new) (g.D.Device.faults old.config.device) (g.D.Device.faults new.config.device)) (held_up g.C.Checksum.sum_of old c.args.lsn _ at (above g c)) c.in_err-write_below.ensures.answers) in
+    (subst (λ (o : Option ℕ). HeldAnswers {T = Unit {0}} (Err x) o (IsUsedUpBelow old c.behind_batch-to.result) None (fault_of new) (g.D.Device.faults old.config.device) (g.D.Device.faults new.config.device)) (held_up g.C.Checksum.sum_of old c.args.lsn _ at (above g c)) c.in_err-write_below.ensures.answers) in
     let e = err_from_is_err_and c.from_residual.result c.from_residual.ensures.1 in
-    rw (e.1, e.2) (stable_answers (Unit {0}) ℕ x c.args.lsn (synced_end old) (reserved_end old) (held_for g.C.Checksum.sum_of old c.args.lsn) (IsUsedUpBelow old (behind_place c.args.lsn)) (fault_of old) (fault_of new) _ _ (above g c) (inside g c) c.in_default.is answers)
+    rw (e.1, e.2) (stable_answers (Unit {0}) ℕ x c.args.lsn (stable_end old) (reserved_end old) (held_for g.C.Checksum.sum_of old c.args.lsn) (IsUsedUpBelow old (target_for c.args.self.now c.args.lsn)) (fault_of old) (fault_of new) _ _ (above g c) (inside g c) c.in_default.is answers)
 
 pub returns-in_err-write_below-clause-buffers : goal.returns-in_err-write_below-clause-buffers
 returns-in_err-write_below-clause-buffers g c =
@@ -106,16 +113,16 @@ returns-in_err-write_below-clause-buffers g c =
     let new = c.write_below.new.self in
     let x = c.in_err-write_below.field-0.0 in
     let e = err_from_is_err_and c.from_residual.result c.from_residual.ensures.1 in
-    rw (e.1, e.2) (writes_err (Unit {0}) ℕ g.C.Checksum.sum_of (behind_place c.args.lsn) old new x
-    (subst (λ n. WritesBelow {T = Unit {0}} g.C.Checksum.sum_of (Err x) n old new) (behind_read c.args.lsn _ _ (to_z-of_z w64 c.args.lsn c.ranges.lsn) (above g c)) c.in_err-write_below.ensures.buffers))
+    rw (e.1, e.2) (writes_err (Unit {0}) ℕ g.C.Checksum.sum_of (target_for c.args.self.now c.args.lsn) old new x
+    (subst (λ n. WritesBelow {T = Unit {0}} g.C.Checksum.sum_of (Err x) n old new) (to_is c.args.self.now c.args.lsn _ _ c.behind_batch-to.ensures.is (behind_read c.args.lsn _ _ (to_z-of_z w64 c.args.lsn c.ranges.lsn) (above g c))) c.in_err-write_below.ensures.buffers))
 
 -- It is written.
 
-above_done : (g : given.Over) (c : goal.After-stable_end g) → pos (synced_end c.args.self.now) ≤ℤ c.args.lsn
+above_done : (g : given.Over) (c : goal.After-stable_end g) → pos (stable_end c.args.self.now) ≤ℤ c.args.lsn
 above_done g c =
     let got = c.stable_offset.result in
     let fits : SFits w64 got = search rules in
-    above_read c.args.lsn got _ _ (synced_end c.args.self.now) (to_z-of_z w64 c.args.lsn c.ranges.lsn) (to_z-of_z w64 got fits) c.stable_offset.ensures.place c.if-lsn-stable_offset.false
+    above_read c.args.lsn got _ _ (stable_end c.args.self.now) (to_z-of_z w64 c.args.lsn c.ranges.lsn) (to_z-of_z w64 got fits) c.stable_offset.ensures.place c.if-lsn-stable_offset.false
 
 inside_done : (g : given.Over) (c : goal.After-stable_end g) → c.args.lsn <ℤ pos (reserved_end c.args.self.now)
 inside_done g c =
@@ -126,24 +133,24 @@ pub returns-clause-made : goal.returns-clause-made
 returns-clause-made g c =
     let old = c.args.self.now in
     c.in_ok-write_below.ensures.calls
-    ∙ ap (λ (es : List Event). after_all es (g.D.Device.trace old.config.device)) (wrote_for g.C.Checksum.sum_of old c.args.lsn _ (behind_read c.args.lsn _ _ (to_z-of_z w64 c.args.lsn c.ranges.lsn) (above_done g c)) (above_done g c))
+    ∙ ap (λ (es : List Event). after_all es (g.D.Device.trace old.config.device)) (wrote_for g.C.Checksum.sum_of old c.args.lsn _ (to_is c.args.self.now c.args.lsn _ _ c.behind_batch-to.ensures.is (behind_read c.args.lsn _ _ (to_z-of_z w64 c.args.lsn c.ranges.lsn) (above_done g c))) (above_done g c))
 
 pub returns-clause-at_most : goal.returns-clause-at_most
 returns-clause-at_most g c =
     let old = c.args.self.now in
     subst (λ (es : List Event). Performs es (g.D.Device.trace old.config.device) (g.D.Device.trace c.write_below.new.self.config.device))
-    (wrote_for g.C.Checksum.sum_of old c.args.lsn _ (behind_read c.args.lsn _ _ (to_z-of_z w64 c.args.lsn c.ranges.lsn) (above_done g c)) (above_done g c)) c.write_below.ensures.at_most
+    (wrote_for g.C.Checksum.sum_of old c.args.lsn _ (to_is c.args.self.now c.args.lsn _ _ c.behind_batch-to.ensures.is (behind_read c.args.lsn _ _ (to_z-of_z w64 c.args.lsn c.ranges.lsn) (above_done g c))) (above_done g c)) c.write_below.ensures.at_most
 
 pub returns-clause-acknowledges : goal.returns-clause-acknowledges
 unfolding Fits
 returns-clause-acknowledges g c = λ H A f U fits.
     let later = c.write_below.ensures.keeps.fits H A f U fits in
-    record { reach = later.reach; parts = fits-acknowledged g.C.Checksum.sum_of _ _ _ _ _ _ _ _ _ H A f U later.parts later.closed; closed = later.closed; slots = later.slots }
+    record { reach = later.reach; parts = fits-acknowledged g.C.Checksum.sum_of _ _ _ _ _ _ _ _ _ H A f U later.parts _ _ later.batches; batches = later.batches; slots = later.slots }
 
 pub returns-clause-answers : goal.returns-clause-answers
 returns-clause-answers g c =
     let old = c.args.self.now in
-    let at = behind_read c.args.lsn _ _ (to_z-of_z w64 c.args.lsn c.ranges.lsn) (above_done g c) in
+    let at = to_is c.args.self.now c.args.lsn _ _ c.behind_batch-to.ensures.is (behind_read c.args.lsn _ _ (to_z-of_z w64 c.args.lsn c.ranges.lsn) (above_done g c)) in
     let answers = c.in_ok-write_below.ensures.answers in
     (inr (inside_done g c), (sym (held_up g.C.Checksum.sum_of old c.args.lsn _ at (above_done g c)) ∙ answers.0, subst (λ n. IsUsedUpBelow old n → ⊥) at answers.1, c.in_default.is, answers.3, answers.4))
 
@@ -151,5 +158,29 @@ pub returns-clause-buffers : goal.returns-clause-buffers
 returns-clause-buffers g c =
     let old = c.args.self.now in
     let new = c.write_below.new.self in
-    writes_ok g.C.Checksum.sum_of (behind_place c.args.lsn) old new c.in_ok-write_below.field-0 _
-    (subst (λ n. WritesBelow {T = Unit {0}} g.C.Checksum.sum_of (Ok c.in_ok-write_below.field-0) n old new) (behind_read c.args.lsn _ _ (to_z-of_z w64 c.args.lsn c.ranges.lsn) (above_done g c)) c.in_ok-write_below.ensures.buffers)
+    writes_ok g.C.Checksum.sum_of (target_for c.args.self.now c.args.lsn) old new c.in_ok-write_below.field-0 _
+    (subst (λ n. WritesBelow {T = Unit {0}} g.C.Checksum.sum_of (Ok c.in_ok-write_below.field-0) n old new) (to_is c.args.self.now c.args.lsn _ _ c.behind_batch-to.ensures.is (behind_read c.args.lsn _ _ (to_z-of_z w64 c.args.lsn c.ranges.lsn) (above_done g c))) c.in_ok-write_below.ensures.buffers)
+
+grows : (g : given.Over) (c : goal.After-stable_end g) → stable_end c.args.self.now ≤ stable_end c.write_below.new.self
+grows g c =
+    let keeps = c.write_below.ensures.keeps in
+    stable_kept c.args.self.now c.write_below.new.self keeps.goes_on.stable keeps.noted
+
+pub overflow_sub-result : goal.overflow_sub-result
+overflow_sub-result g c = let up = grows g c in omega (arith, up, c.stable_end-before.ensures.is, c.stable_end.ensures.is)
+
+pub returns-clause-answer : goal.returns-clause-answer
+returns-clause-answer g c = let up = grows g c in omega (arith, up, c.stable_end-before.ensures.is, c.stable_end.ensures.is)
+
+-- What lies before the place behind this one is stable.
+below_behind : (lsn : ℤ) (n end : ℕ) → pos n ≤ℤ lsn → behind_place lsn ≤ end → lsn <ℤ pos end
+below_behind (pos k) n end above reached = omega (arith, ints, reached)
+below_behind (negsuc k) n end above reached = absurd (omega (arith, ints, above))
+
+pub returns-clause-target : goal.returns-clause-target
+returns-clause-target g c =
+    let old = c.args.self.now in
+    let new = c.write_below.new.self in
+    let to = to_is old c.args.lsn _ _ c.behind_batch-to.ensures.is (behind_read c.args.lsn _ _ (to_z-of_z w64 c.args.lsn c.ranges.lsn) (above_done g c)) in
+    let written = c.in_ok-write_below.ensures.written in
+    below_behind c.args.lsn (stable_end old) (stable_end new) (above_done g c) (stable_reached old new (behind_place c.args.lsn) c.write_below.ensures.keeps.noted (omega (arith, to, written)))

@@ -9,10 +9,12 @@ use Rattle.sled_core.specs.declared.logger.segments.SegmentBuffer.{SegmentBuffer
 use Rattle.sled_core.specs.Begun.{AreFilled, SegmentView, line_at, segment_view, view_at}
 use Rattle.sled_core.specs.Buffers.{marking}
 use Rattle.sled_core.specs.Fits.{line_of}
+use Rattle.sled_core.specs.OpenPlaces.{open_manifests}
 use Rattle.sled_core.specs.Turned.{ended_now}
 use Rattle.sled_core.proofs.Line.EndedLine.{behind_within, ended_view, filled_over, first_reserved, line_any, line_behind, marking_short, mut_reserved, read_among, read_numbered, read_reserved, read_same, read_there}
 use Rattle.sled_core.proofs.Line.Facts.{nth_facts}
 use Rattle.sled_core.proofs.Line.Filling.{follow_in, follow_with}
+use Rattle.sled_core.proofs.Line.OpenManifests.{ended_no_more}
 use Rattle.sled_core.proofs.logger.Log.mark_batch_in.Goals as goal
 
 -- The first segment has it.
@@ -38,6 +40,13 @@ invariant_of-self g c =
       filled = subst (AreFilled size log.reserved_to) (sym line)
           (filled_over size log.reserved_to (line_of log) 0 (view_at log.site log.buffer) i r (marking g.C.Checksum.sum_of log.buffer.bytes.items r c.args.peg) Manifest refl facts there short log.filled);
       account = log.account;
+      pegs = log.pegs;
+      room = log.room;
+      counted = (
+          let same = ap open_manifests line in
+          let fewer = ended_no_more (line_of log) 0 (view_at log.site log.buffer) i r (marking g.C.Checksum.sum_of log.buffer.bytes.items r c.args.peg) Manifest refl there c.requires.awaited.open_yet refl in
+          let old = log.counted in
+          omega (arith, same, fewer, old));
     }
 
 -- One behind it has it.
@@ -102,6 +111,13 @@ invariant_of-self-else-n-eq0 g c =
       filled = subst (AreFilled size log.reserved_to) (sym line)
           (filled_over size log.reserved_to (line_of log) c.args.n (segment_view t) i r (marking g.C.Checksum.sum_of t.buffer.bytes.items r c.args.peg) Manifest among facts there short log.filled);
       account = log.account;
+      pegs = log.pegs;
+      room = log.room;
+      counted = (
+          let same = ap open_manifests line in
+          let fewer = ended_no_more (line_of log) c.args.n (segment_view t) i r (marking g.C.Checksum.sum_of t.buffer.bytes.items r c.args.peg) Manifest among there c.requires.awaited.open_yet refl in
+          let old = log.counted in
+          omega (arith, same, fewer, old));
     }
 
 pub returns-else-n-eq0-clause-line : goal.returns-else-n-eq0-clause-line

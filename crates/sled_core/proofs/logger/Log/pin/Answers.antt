@@ -3,6 +3,7 @@ use Rattle.sled_core.specs.Fits.{Holds}
 use Rattle.sled_core.specs.Running.{Fits}
 use Rattle.sled_core.proofs.Holds.KeptCalls.{goes_on_quietly}
 use Rattle.sled_core.proofs.Holds.RunningLemmas.{fits-pinned}
+use Rattle.sled_core.proofs.Line.LineEnds.{noted_still}
 use Rattle.sled_core.proofs.logger.Log.pin.Goals as goal
 
 pub returns-clause-keeps : goal.returns-clause-keeps
@@ -10,5 +11,6 @@ unfolding Fits Holds
 returns-clause-keeps g c = record {
   goes_on = goes_on_quietly g.D.Device.trace g.C.Checksum.sum_of c.args.self.now _ (record { config = refl; checksum = refl }) refl (omega arith);
   history = λ H holds. holds;
-  fits = λ H A f U fits. record { reach = fits.reach; parts = fits-pinned _ _ _ _ _ _ _ _ _ _ H A f U fits.parts _ (λ some. omega arith); closed = fits.closed; slots = fits.slots };
+  fits = λ H A f U fits. record { reach = fits.reach; parts = fits-pinned _ _ _ _ _ _ _ _ _ _ H A f U fits.parts _ (λ some. omega arith); batches = fits.batches; slots = fits.slots };
+  noted = noted_still c.args.self.now;
 }

@@ -1,5 +1,5 @@
 -- A read settles its place first, and then reads the device.
-use Rattle.std.proofs.Common.{false, SFits, of_z, to_z, ◌-ℤ◌, ◌≡◌, ◌⊎◌, ◌∙◌, ◌<◌, ◌/◌, ap, sym, subst, ℕ, ℤ, arith, inl, inr, Option, IsTrue, rules, pos, refl, unsigned_abs, ◌<ℤ◌, ◌≤ℤ◌, None, List, Ok, Err}
+use Rattle.std.proofs.Common.{false, SFits, of_z, to_z, ◌≡◌, ◌⊎◌, ◌∙◌, ◌<◌, ◌/◌, ap, sym, subst, ℕ, ℤ, arith, inl, inr, Option, IsTrue, rules, pos, refl, unsigned_abs, ◌<ℤ◌, ◌≤ℤ◌, None, List, Ok, Err}
 use Rattle.std.specs.Int.{w64}
 use Rattle.std.specs.Prelude.{int_lt}
 use Rattle.std.specs.List.{Contains}
@@ -32,7 +32,7 @@ use Rattle.sled_core.proofs.Read.PathLemmas.{stands_readable}
 use Rattle.sled_core.proofs.Read.ReadingLemmas.{if_ok}
 use Rattle.sled_core.proofs.Reserve.Parts.{moved}
 use Rattle.sled_core.proofs.logger.Log.read.Given as given
-use Rattle.sled_core.proofs.logger.Log.read.Goals.{else-lsn-stable_offset-via-then-lsn-stable_offset+else-place-self, else-lsn-stable_offset-via-else-lsn-stable_offset, then-lsn-lt0-via-then-lsn-lt0, then-lsn-lt0-via-else-lsn-lt0+then-not-may_begin}
+use Rattle.sled_core.proofs.logger.Log.read.Goals.{else-place-synced_end-via-then-place-synced_end+else-place-self, else-place-synced_end-via-else-place-synced_end, then-lsn-lt0-via-then-lsn-lt0, then-lsn-lt0-via-else-lsn-lt0+then-not-may_begin}
 use Rattle.sled_core.proofs.logger.Log.read.Goals as goal
 
 place_is : (g : given.Over) (c : goal.After-read_settled g) → c.unsigned_abs-place.result ≡ unsigned_abs c.args.lsn
@@ -142,14 +142,6 @@ lsn_is lsn place is above = ap pos is ∙ pos_abs lsn above
 above_zero : (lsn : ℤ) → SFits w64 lsn → int_lt (to_z w64 (of_z w64 lsn)) (pos 0) ≡ false → pos 0 ≤ℤ lsn
 above_zero lsn fits test = let same = to_z-of_z w64 lsn fits in let known : int_lt lsn (pos 0) ≡ false = subst (λ z. int_lt z (pos 0) ≡ false) same test in grind (arith, ints, known)
 
-below_stable : (lsn s : ℤ) (end : ℕ) → SFits w64 lsn → SFits w64 s → s ≡ pos end -ℤ pos 1 → int_lt (to_z w64 (of_z w64 s)) (to_z w64 (of_z w64 lsn)) ≡ false → lsn <ℤ pos end
-below_stable lsn s end fits small is test =
-    let known = test_at in
-    grind (arith, ints, known, is)
-  where
-    test_at : int_lt s lsn ≡ false
-    test_at = subst (λ z. int_lt z lsn ≡ false) (to_z-of_z w64 s small) (subst (λ z. int_lt (to_z w64 (of_z w64 s)) z ≡ false) (to_z-of_z w64 lsn fits) test)
-
 at_place : (lsn : ℤ) (bits : ℤ) (place : ℕ) → place ≡ unsigned_abs bits → bits ≡ lsn → pos 0 ≤ℤ lsn → pos place ≡ lsn
 at_place lsn bits place is same above = lsn_is lsn place (is ∙ ap unsigned_abs same) above
 
@@ -174,9 +166,9 @@ within : (g : given.Over) (c : goal.After-from_residual g) → (c.args.lsn <ℤ 
 within g c =
     let above : pos 0 ≤ℤ c.args.lsn = above_zero c.args.lsn c.ranges.lsn c.if-lsn-lt0.false in
     let at : pos c.unsigned_abs-place.result ≡ c.args.lsn = at_place c.args.lsn _ c.unsigned_abs-place.result c.unsigned_abs-place.ensures.value (to_z-of_z w64 c.args.lsn c.ranges.lsn) above in
-    elim c.else-lsn-stable_offset.branch [
-      | else-lsn-stable_offset-via-then-lsn-stable_offset+else-place-self w ↦ (let lower = w.if-place-self.false in inr (omega (arith, ints, at, lower)))
-      | else-lsn-stable_offset-via-else-lsn-stable_offset w ↦ inl (below_stable c.args.lsn c.stable_offset.result (synced_end c.args.self.now) c.ranges.lsn (record { sfits = c.stable_offset.type_inv }) c.stable_offset.ensures.place w.if-lsn-stable_offset.false)
+    elim c.else-place-synced_end.branch [
+      | else-place-synced_end-via-then-place-synced_end+else-place-self w ↦ (let lower = w.if-place-self.false in inr (omega (arith, ints, at, lower)))
+      | else-place-synced_end-via-else-place-synced_end w ↦ (let lower = w.if-place-synced_end.false in let is = c.synced_end.ensures.is in inl (omega (arith, ints, at, lower, is)))
     ]
 
 a_place : (size lid other : ℕ) (lsn : ℤ) (may : Type 0) → may → (may → MayBegin size other) → other ≡ lid → pos 0 ≤ℤ lsn → IsNoPlace size lsn lid → ⊥
@@ -226,9 +218,9 @@ inside : (g : given.Over) (c : goal.After-read_settled g) → (c.args.lsn <ℤ p
 inside g c =
     let above : pos 0 ≤ℤ c.args.lsn = above_zero c.args.lsn c.ranges.lsn c.if-lsn-lt0.false in
     let at : pos c.unsigned_abs-place.result ≡ c.args.lsn = at_place c.args.lsn _ c.unsigned_abs-place.result c.unsigned_abs-place.ensures.value (to_z-of_z w64 c.args.lsn c.ranges.lsn) above in
-    elim c.else-lsn-stable_offset.branch [
-      | else-lsn-stable_offset-via-then-lsn-stable_offset+else-place-self w ↦ (let lower = w.if-place-self.false in inr (omega (arith, ints, at, lower)))
-      | else-lsn-stable_offset-via-else-lsn-stable_offset w ↦ inl (below_stable c.args.lsn c.stable_offset.result (synced_end c.args.self.now) c.ranges.lsn (record { sfits = c.stable_offset.type_inv }) c.stable_offset.ensures.place w.if-lsn-stable_offset.false)
+    elim c.else-place-synced_end.branch [
+      | else-place-synced_end-via-then-place-synced_end+else-place-self w ↦ (let lower = w.if-place-self.false in inr (omega (arith, ints, at, lower)))
+      | else-place-synced_end-via-else-place-synced_end w ↦ (let lower = w.if-place-synced_end.false in let is = c.synced_end.ensures.is in inl (omega (arith, ints, at, lower, is)))
     ]
 
 pub returns-clause-calls : goal.returns-clause-calls

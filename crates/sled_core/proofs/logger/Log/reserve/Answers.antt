@@ -1,9 +1,13 @@
 -- A record has a place in the current segment, or a further one is begun for it; then its placeholder is laid out there.
-use Rattle.std.proofs.Common.{◌≡◌, ◌∙◌, ◌<◌, ◌+◌, ◌++◌, ap, sym, refl, arith, subst, ℕ, ℤ, List, length, take, drop, Some, None, Option, true, false, Err}
+use Rattle.std.proofs.Common.{◌==◌, Bool, if◌then◌else◌, ◌≡◌, ◌∙◌, ◌<◌, ◌+◌, ◌++◌, ap, sym, refl, arith, subst, ℕ, ℤ, List, length, take, drop, Some, None, Option, true, false, Err}
 use Rattle.std.specs.Option.{IsSome}
 use Rattle.std.specs.declared.io.Error.{Error as IoError}
 use Rattle.std.proofs.lemmas.Result.{err_from_is_err_and}
+use Rattle.std.proofs.lemmas.Bool.Decides.{nat_tests}
+use Rattle.sled_codec.specs.Kinds.{kind_written}
 use Rattle.sled_codec.specs.Spelling.{short_header_tail}
+use Rattle.sled_codec.specs.declared.serialization.message.LogKind.{LogKind}
+use Rattle.sled_codec.specs.declared.serialization.message.MessageKind.TheVariants.{BatchManifest}
 use Rattle.sled_codec.specs.declared.result.Error.{Error}
 use Rattle.sled_codec.specs.declared.result.Error.TheVariants as error
 use Rattle.sled_codec.specs.declared.serialization.message.MessageKind.{MessageKind}
@@ -15,9 +19,9 @@ use Rattle.sled_core.specs.Causes.{MakesRoom, ReserveAnswers}
 use Rattle.sled_core.specs.declared.iobuf.Purpose.{Purpose}
 use Rattle.sled_core.specs.declared.iobuf.record.Head.{Head}
 use Rattle.sled_core.specs.declared.logger.Log.{Log}
-use Rattle.sled_core.specs.Manifests.{kind_for}
-use Rattle.sled_core.specs.Fits.{FitsInline, current_of, line_of, machine_at, open_of, segment_size_of, synced_end}
-use Rattle.sled_core.specs.Turned.{ChangesLine, ChangesSlots, HasPlace, IsTicketFor, next_line, reserved_now}
+use Rattle.sled_core.specs.Manifests.{is_manifest, kind_for}
+use Rattle.sled_core.specs.Fits.{FitsInline, current_of, line_of, machine_at, open_of, segment_size_of, stable_end}
+use Rattle.sled_core.specs.Turned.{ChangesLine, ChangesSlots, HasPlace, HasRoomForBatch, IsTicketFor, next_line, reserved_now}
 use Rattle.sled_core.specs.Waiting.{at_last}
 use Rattle.sled_core.proofs.Holds.KeptCalls.{kept_still}
 use Rattle.sled_core.proofs.Line.LogReserves.{record_long}
@@ -68,7 +72,7 @@ module _ {D C : Type 0} (trace : D → Trace) (sum : List ℕ → ℕ) (old mid 
   long : h.len + k ≡ record_size (number_of old) kept.page (length item)
   long = record_long kept.kind h.len k (number_of old) kept.page (length item) is.len counted
 
-  ready_next : FitsInline (segment_size_of old) (length item) → (HasPlace old (h.len + k) → ⊥) → (h' : Head) → IsHeadOf h' kept k (number_of mid) → line_of mid ≡ next_line sum (segment_size_of old) (machine_at old) (synced_end old) (line_of old)
+  ready_next : FitsInline (segment_size_of old) (length item) → (HasPlace old (h.len + k) → ⊥) → (h' : Head) → IsHeadOf h' kept k (number_of mid) → line_of mid ≡ next_line sum (segment_size_of old) (machine_at old) (stable_end old) (line_of old)
       → machine_at mid ≡ handed_out ((current_of old).parts.site.place + segment_size_of old) (machine_at old) → ChangesSlots old mid → MayHandOut (segment_size_of old) ((current_of old).parts.site.place + segment_size_of old) (machine_at old)
       → IsReady trace sum old mid kept h' item
   ready_next inline not h' is' line machine rest may = record {
@@ -169,6 +173,25 @@ append-requires-clause-place g c =
           (ready_next g.D.Device.trace g.C.Checksum.sum_of old w.begin_segment.new.self kept h item k counted first c.requires.inline not next.result (record { bytes = next.ensures.bytes; len = next.ensures.len }) did.line did.machine did.rest did.answers)))
     ] in
     subst (λ n. HasPlace c.if-has_place.self n) (sym (λ i. ready.long i + counted i)) ready.prepared.fits
+
+-- The item of a manifest has 8 bytes.
+manifest_long : (does : LogKind) (page n : ℕ) (k : MessageKind) → kind_for does page n ≡ Some k → is_manifest does page ≡ true → n ≡ 8
+manifest_long does page n k known is = by (n == 8) refl (sym (ap (λ (o : Bool). if o then (if n == 8 then Some BatchManifest else None) else kind_written does page false) is) ∙ known) where
+  by : (o : Bool) → (n == 8) ≡ o → (if o then Some BatchManifest else None) ≡ Some k → n ≡ 8
+  by true eight some = grind (arith, nat_tests, eight)
+  by false other some = absurd (let never : None ≡ Some k = some in cc)
+
+pub append-requires-clause-body : goal.append-requires-clause-body
+append-requires-clause-body g c = λ is. manifest_long c.args.kind c.args.pid c.serialized_size-item_len.result c.in-Some-kind_for.message_kind (sym c.kind_for.ensures ∙ c.in-Some-kind_for.is) is
+
+-- Where it is of a manifest, there is room for its batch.
+pub append-requires-clause-batch : goal.append-requires-clause-batch
+append-requires-clause-batch g c = λ is.
+    let asked = c.is_manifest-manifest.ensures ∙ is in
+    elim c.if-has_place.branch [
+      | then-has_place+in_ok-room_for w ↦ subst HasRoomForBatch (sym w.self-is) (w.in_ok-room_for.ensures.batch asked)
+      | else-has_place+in_ok-begin_segment w ↦ subst HasRoomForBatch (sym w.self-is) (w.in_ok-begin_segment.ensures.batch asked)
+    ]
 
 -- What was laid out.
 

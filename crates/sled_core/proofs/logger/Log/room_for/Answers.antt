@@ -1,14 +1,16 @@
 -- The buffer that is being filled has room afterwards, and holds what it did.
-use Rattle.std.proofs.Common.{◌≡◌, ◌≢◌, ◌∙◌, ◌+◌, ◌-◌, ◌<◌, ◌≤◌, ap, sym, refl, arith, rules, subst, SFits, w64, pos, ℕ, suc, List, length, drop, set, true, false, Some, OnOk, deque_len}
-use Rattle.std.specs.List.{slice_get}
+use Rattle.std.proofs.Common.{◌≡◌, ◌≢◌, ◌∙◌, ◌+◌, ◌-◌, ◌<◌, ◌≤◌, ap, sym, refl, arith, rules, subst, SFits, w64, pos, ℕ, suc, List, ◌∷◌, length, map, drop, set, true, false, Some, OnOk, deque_len}
+use Rattle.std.specs.List.{All, slice_get}
 use Rattle.std.proofs.lemmas.Int.{to_z-of_z}
-use Rattle.sled_core.specs.Begun.{AreFilled, SegmentView, last_buffer, line_at, view_at}
+use Rattle.sled_core.specs.Begun.{AreFilled, SegmentView, last_buffer, line_at, segment_view, view_at}
 use Rattle.sled_core.specs.Buffers.{first_open_in, most_open, open_in}
 use Rattle.sled_core.specs.declared.iobuf.IoBuf.{IoBuf}
 use Rattle.sled_core.specs.declared.iobuf.Reserved.{Reserved}
 use Rattle.sled_core.specs.declared.logger.Log.{Log}
+use Rattle.sled_core.specs.declared.logger.batches.NotedBatch.{NotedBatch}
 use Rattle.sled_core.specs.declared.logger.segments.SegmentBuffer.{SegmentBuffer}
 use Rattle.sled_core.specs.Fits.{current_of, current_reserved_in, line_of}
+use Rattle.sled_core.specs.OpenPlaces.{open_manifests}
 use Rattle.sled_core.specs.SealedBuffers.{sealed_count}
 use Rattle.sled_core.specs.Turned.{HasRoomIn}
 use Rattle.sled_core.proofs.Line.Filling.{follow_in, follow_with, line_kept, read_last}
@@ -33,6 +35,46 @@ returns-then-is_full_of_open-clause-answers g c =
         to_z-of_z w64 c.least_open.result fits ∙ c.least_open.ensures least.0 (ap (λ n. first_open_in (drop n b.reserved.items)) b.before ∙ least.1) ∙ ap (λ (v : SegmentView). pos (v.parts.site.place + least.0)) same,
       ),
     )
+
+-- The noted batches are as they were, but for their room.
+
+pub invariant_of-self : goal.invariant_of-self
+invariant_of-self g c =
+    let log = c.args.self.now in
+    record {
+      in_segment = log.in_segment;
+      place_in_reach = log.place_in_reach;
+      slot_in_reach = log.slot_in_reach;
+      waits = log.waits;
+      follow = log.follow;
+      filled = log.filled;
+      account = log.account;
+      pegs = subst (All (λ (b : NotedBatch). b.peg < log.reserved_to)) (sym c.room_for_batch.ensures.items) log.pegs;
+      room = (let many = ap length c.room_for_batch.ensures.items in let grows = c.room_for_batch.ensures.grows in let old = log.room in omega (arith, many, grows, old));
+      counted = log.counted;
+    }
+
+-- The first segment is as it was, but for its room.
+pub invariant_of-self-then-n-eq0 : goal.invariant_of-self-then-n-eq0
+invariant_of-self-then-n-eq0 g c =
+    let log = c.args.self.now in
+    let made = c.make_room.ensures in
+    let new : IoBuf = c.make_room.new.self in
+    let line : line_at log.site new log.behind.items ≡ line_of log = λ j. record { parts = record { site = log.site; bytes = made.bytes j; written_len = made.from j; sealed = made.sealed j; reserved = made.reserved j }; gone = made.gone j } ∷ map segment_view log.behind.items in
+    let from = made.from in
+    let short = log.in_segment in
+    record {
+      in_segment = omega (arith, ap length made.bytes, short);
+      place_in_reach = log.place_in_reach;
+      slot_in_reach = log.slot_in_reach;
+      waits = λ some. let less = log.waits some in omega (arith, from, less);
+      follow = log.follow;
+      filled = subst (AreFilled log.config.config.segment_size log.reserved_to) (sym line) log.filled;
+      account = log.account;
+      pegs = subst (All (λ (b : NotedBatch). b.peg < log.reserved_to)) (sym c.room_for_batch.ensures.items) log.pegs;
+      room = (let many = ap length c.room_for_batch.ensures.items in let grows = c.room_for_batch.ensures.grows in let old = log.room in omega (arith, many, grows, old));
+      counted = (let same = ap open_manifests line in let old = log.counted in omega (arith, same, old));
+    }
 
 -- The last one behind the first is as it was, but for its room.
 module _ {D C : Type 0} (log : Log D C) (n : ℕ) (s : SegmentBuffer) (at : suc n ≡ length log.behind.items) (there : slice_get log.behind.items n ≡ Some s) (new : IoBuf)
@@ -68,6 +110,9 @@ invariant_of-self-2 g c =
       follow = follow_with size (log.site.place + size) log.behind.items n s (record { site = s.site; buffer = new }) is.1 refl (omega (arith, ap length made.bytes, old)) log.follow;
       filled = same_filled log n s is.0 is.1 new made.bytes made.from made.reserved made.gone made.sealed;
       account = log.account;
+      pegs = subst (All (λ (b : NotedBatch). b.peg < log.reserved_to)) (sym c.room_for_batch.ensures.items) log.pegs;
+      room = (let many = ap length c.room_for_batch.ensures.items in let grows = c.room_for_batch.ensures.grows in let old = log.room in omega (arith, many, grows, old));
+      counted = (let same = ap open_manifests (same_line log n s is.0 is.1 new made.bytes made.from made.reserved made.gone made.sealed) in let old = log.counted in omega (arith, same, old));
     }
 
 pub returns-clause-line : goal.returns-clause-line

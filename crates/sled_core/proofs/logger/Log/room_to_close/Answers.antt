@@ -1,12 +1,14 @@
 -- The segment that is being filled has room for its end afterwards, and there is room for one more; all hold what they did.
-use Rattle.std.proofs.Common.{◌≡◌, ◌∙◌, ◌+◌, ◌-◌, ◌≤◌, ap, sym, refl, arith, rules, subst, ℕ, suc, List, ◌∷◌, length, map, set, Some, OnOk, deque_len}
-use Rattle.std.specs.List.{slice_get}
+use Rattle.std.proofs.Common.{◌≡◌, ◌∙◌, ◌+◌, ◌-◌, ◌<◌, ◌≤◌, ap, sym, refl, arith, rules, subst, ℕ, suc, List, ◌∷◌, length, map, set, Some, OnOk, deque_len}
+use Rattle.std.specs.List.{All, slice_get}
 use Rattle.sled_core.specs.Begun.{AreFilled, FollowOn, SegmentView, last_buffer, line_at, segment_view, view_at}
 use Rattle.sled_core.specs.declared.iobuf.IoBuf.{IoBuf}
 use Rattle.sled_core.specs.declared.iobuf.SegmentPosition.{SegmentPosition}
 use Rattle.sled_core.specs.declared.logger.Log.{Log}
+use Rattle.sled_core.specs.declared.logger.batches.NotedBatch.{NotedBatch}
 use Rattle.sled_core.specs.declared.logger.segments.SegmentBuffer.{SegmentBuffer}
 use Rattle.sled_core.specs.Fits.{line_of}
+use Rattle.sled_core.specs.OpenPlaces.{open_manifests}
 use Rattle.sled_core.specs.Turned.{CanClose}
 use Rattle.sled_core.proofs.Line.Filling.{follow_in, follow_with, line_kept, read_last}
 use Rattle.sled_core.proofs.Line.Nth.{last_buffer_set}
@@ -39,6 +41,9 @@ invariant_of-self-then-n-eq0 g c =
       follow = first_follow log c.reserve.new.self.items same c.room_to_close.new.self c.room_to_close.ensures.same;
       filled = first_filled log c.reserve.new.self.items same c.room_to_close.new.self c.room_to_close.ensures.same;
       account = log.account;
+      pegs = subst (All (λ (b : NotedBatch). b.peg < log.reserved_to)) (sym c.room_for_batch.ensures.items) log.pegs;
+      room = (let many = ap length c.room_for_batch.ensures.items in let grows = c.room_for_batch.ensures.grows in let old = log.room in omega (arith, many, grows, old));
+      counted = (let all = ap open_manifests (first_line log c.reserve.new.self.items same c.room_to_close.new.self c.room_to_close.ensures.same) in let old = log.counted in omega (arith, all, old));
     }
 
 pub returns-then-n-eq0-clause-line : goal.returns-then-n-eq0-clause-line
@@ -97,6 +102,9 @@ invariant_of-self-2 g c =
       follow = same_follow log ss same n s is.0 is.1 c.room_to_close-2.new.self c.room_to_close-2.ensures.same;
       filled = same_filled log ss same n s is.0 is.1 c.room_to_close-2.new.self c.room_to_close-2.ensures.same;
       account = log.account;
+      pegs = subst (All (λ (b : NotedBatch). b.peg < log.reserved_to)) (sym c.room_for_batch.ensures.items) log.pegs;
+      room = (let many = ap length c.room_for_batch.ensures.items in let grows = c.room_for_batch.ensures.grows in let old = log.room in omega (arith, many, grows, old));
+      counted = (let all = ap open_manifests (same_line log ss same n s is.0 is.1 c.room_to_close-2.new.self c.room_to_close-2.ensures.same) in let old = log.counted in omega (arith, all, old));
     }
 
 pub returns-clause-line : goal.returns-clause-line

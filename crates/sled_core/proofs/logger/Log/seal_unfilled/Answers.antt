@@ -8,12 +8,14 @@ use Rattle.sled_core.specs.declared.iobuf.SegmentPosition.{SegmentPosition}
 use Rattle.sled_core.specs.declared.logger.Log.{Log}
 use Rattle.sled_core.specs.declared.logger.segments.SegmentBuffer.{SegmentBuffer}
 use Rattle.sled_core.specs.Fits.{current_of, line_of, segment_size_of}
+use Rattle.sled_core.specs.OpenPlaces.{open_manifests}
 use Rattle.sled_core.specs.Positions.{is_short}
 use Rattle.sled_core.specs.SealedBuffers.{seal_at, sealed_count}
 use Rattle.sled_core.specs.Waiting.{at_last, holds_any, sealed_now}
 use Rattle.sled_core.proofs.Line.Entered.{filled_sealed}
 use Rattle.sled_core.proofs.Line.Filling.{follow_in, follow_with, line_first, line_kept, line_last, read_last}
 use Rattle.sled_core.proofs.Line.Nth.{last_behind}
+use Rattle.sled_core.proofs.Line.OpenManifests.{manifests_sealed}
 use Rattle.sled_core.proofs.Line.Outcomes.{either, on_err, on_ok}
 use Rattle.sled_core.proofs.logger.Log.seal_unfilled.Goals as goal
 
@@ -37,6 +39,14 @@ module _ {D C : Type 0} (log : Log D C) (room : is_short (segment_size_of log) (
   still_filled : (line : List SegmentView) → line ≡ line_of log → Filled line
   still_filled line is = subst Filled (sym is) log.filled
 
+-- They have as many open manifests.
+module _ {D C : Type 0} (log : Log D C) where
+  sealed_counted : (line : List SegmentView) → line ≡ at_last sealed_now (line_of log) → open_manifests line ≤ log.manifests
+  sealed_counted line is = let same = ap open_manifests is ∙ manifests_sealed (line_of log) in let old = log.counted in omega (arith, same, old)
+
+  still_counted : (line : List SegmentView) → line ≡ line_of log → open_manifests line ≤ log.manifests
+  still_counted line is = let same = ap open_manifests is in let old = log.counted in omega (arith, same, old)
+
 pub invariant_of-self : goal.invariant_of-self
 invariant_of-self g c =
     let log = c.args.self.now in
@@ -55,6 +65,12 @@ invariant_of-self g c =
           (λ unsealed. still_filled log c.requires.room line (ap (λ (v : SegmentView). v ∷ map segment_view log.behind.items) (same_view log.site log.buffer new unsealed made.bytes made.from made.reserved made.gone)))
           made.sealed made.unsealed;
       account = log.account;
+      pegs = log.pegs;
+      room = log.room;
+      counted = either c.seal.result _ _ (open_manifests line ≤ log.manifests)
+          (λ sealed. sealed_counted log line (line_first sealed_now log.site log.buffer new log.behind.items none (sealed_view log.site log.buffer new sealed made.bytes made.from made.reserved made.gone)))
+          (λ unsealed. still_counted log line (ap (λ (v : SegmentView). v ∷ map segment_view log.behind.items) (same_view log.site log.buffer new unsealed made.bytes made.from made.reserved made.gone)))
+          made.sealed made.unsealed;
     }
 
 -- The last one behind the first is the one that is being filled.
@@ -107,6 +123,12 @@ invariant_of-self-2 g c =
           (λ unsealed. still_filled log c.requires.room line (same_line log n s is.0 is.1 new made.bytes made.from made.reserved made.gone unsealed))
           made.sealed made.unsealed;
       account = log.account;
+      pegs = log.pegs;
+      room = log.room;
+      counted = either c.seal-2.result _ _ (open_manifests line ≤ log.manifests)
+          (λ sealed. sealed_counted log line (sealed_line log n s is.0 is.1 new made.bytes made.from made.reserved made.gone sealed))
+          (λ unsealed. still_counted log line (same_line log n s is.0 is.1 new made.bytes made.from made.reserved made.gone unsealed))
+          made.sealed made.unsealed;
     }
 
 pub returns-clause-line : goal.returns-clause-line

@@ -24,28 +24,28 @@ use Rattle.sled_core.proofs.logger.Log.settle.Goals as goal
 
 -- The place is stable.
 
-pub returns-then-place-stable_end-clause-written : goal.returns-then-place-stable_end-clause-written
-returns-then-place-stable_end-clause-written g c = stable_written c.args.self.now c.args.place (omega (arith, c.if-place-stable_end.true, c.stable_end.ensures.is))
+pub returns-then-place-synced_end-clause-written : goal.returns-then-place-synced_end-clause-written
+returns-then-place-synced_end-clause-written g c = stable_written c.args.self.now c.args.place (omega (arith, c.if-place-synced_end.true, c.synced_end.ensures.is))
 
-pub returns-then-place-stable_end-clause-at_most : goal.returns-then-place-stable_end-clause-at_most
-returns-then-place-stable_end-clause-at_most g c = performs_nothing _ _ _ refl
+pub returns-then-place-synced_end-clause-at_most : goal.returns-then-place-synced_end-clause-at_most
+returns-then-place-synced_end-clause-at_most g c = performs_nothing _ _ _ refl
 
-pub returns-then-place-stable_end-clause-keeps : goal.returns-then-place-stable_end-clause-keeps
-returns-then-place-stable_end-clause-keeps g c = kept_still g.D.Device.trace g.C.Checksum.sum_of c.args.self.now
+pub returns-then-place-synced_end-clause-keeps : goal.returns-then-place-synced_end-clause-keeps
+returns-then-place-synced_end-clause-keeps g c = kept_still g.D.Device.trace g.C.Checksum.sum_of c.args.self.now
 
-pub returns-then-place-stable_end-clause-answers : goal.returns-then-place-stable_end-clause-answers
-returns-then-place-stable_end-clause-answers g c =
+pub returns-then-place-synced_end-clause-answers : goal.returns-then-place-synced_end-clause-answers
+returns-then-place-synced_end-clause-answers g c =
     let old = c.args.self.now in
-    let below : c.args.place < synced_end old = omega (arith, c.if-place-stable_end.true, c.stable_end.ensures.is) in
+    let below : c.args.place < synced_end old = omega (arith, c.if-place-synced_end.true, c.synced_end.ensures.is) in
     let lower = (stable_written old c.args.place below).0 in
     (held_stable old g.C.Checksum.sum_of (pos c.args.place) (omega (arith, ints, below)), (λ used. let up = used.0 in omega (arith, ints, up, lower)), refl, c.requires.fault, refl)
 
-pub returns-then-place-stable_end-clause-seals : goal.returns-then-place-stable_end-clause-seals
-returns-then-place-stable_end-clause-seals g c = record { still = λ _. refl; apart = λ _. refl; once = inl refl; held = λ is. absurd is; none = λ none. none }
+pub returns-then-place-synced_end-clause-seals : goal.returns-then-place-synced_end-clause-seals
+returns-then-place-synced_end-clause-seals g c = record { still = λ _. refl; apart = λ _. refl; once = inl refl; held = λ is. absurd is; none = λ none. none }
 
-pub returns-then-place-stable_end-clause-buffers : goal.returns-then-place-stable_end-clause-buffers
-returns-then-place-stable_end-clause-buffers g c =
-    let below : c.args.place < synced_end c.args.self.now = omega (arith, c.if-place-stable_end.true, c.stable_end.ensures.is) in
+pub returns-then-place-synced_end-clause-buffers : goal.returns-then-place-synced_end-clause-buffers
+returns-then-place-synced_end-clause-buffers g c =
+    let below : c.args.place < synced_end c.args.self.now = omega (arith, c.if-place-synced_end.true, c.synced_end.ensures.is) in
     record { still = λ _. (refl, refl); written = λ behind. absurd (omega (arith, ints, below, behind)); held = λ is. absurd is; some = tt }
 
 -- The current buffer could not be sealed.
@@ -53,7 +53,7 @@ returns-then-place-stable_end-clause-buffers g c =
 pub seal-requires : goal.seal-requires
 seal-requires g c =
     let log = c.args.self.now in
-    let reserved : c.args.place < log.reserved_to = elim c.requires.reserved [ inl below ↦ absurd (omega (arith, below, c.if-place-stable_end.false, c.stable_end.ensures.is)) | inr lower ↦ lower ] in
+    let reserved : c.args.place < log.reserved_to = elim c.requires.reserved [ inl below ↦ absurd (omega (arith, below, c.if-place-synced_end.false, c.synced_end.ensures.is)) | inr lower ↦ lower ] in
     let some = (holds_reserved log c.args.place (omega (arith, c.if-place-current_begin.true, c.current_begin.ensures.is)) reserved).0 in
     grind (arith, nat_tests, some)
 
@@ -88,7 +88,7 @@ returns-in_err-seal-clause-seals g c =
     let e = err_from_is_err_and c.from_residual.result c.from_residual.ensures.1 in
     let stays = same_current old c.seal.new.self same.line in
     rw (e.1, e.2) (record {
-      still = λ below. absurd (omega (arith, ints, below, c.if-place-stable_end.false, c.stable_end.ensures.is));
+      still = λ below. absurd (omega (arith, ints, below, c.if-place-synced_end.false, c.synced_end.ensures.is));
       apart = λ _. stays;
       once = inl stays;
       held = λ is. absurd (seal_not_held (Unit {0}) (Unit {0}) c.in_err-seal.field-0.0 _ c.in_err-seal.ensures.answers is);
@@ -99,7 +99,7 @@ pub returns-in_err-seal-clause-buffers : goal.returns-in_err-seal-clause-buffers
 returns-in_err-seal-clause-buffers g c =
     let e = err_from_is_err_and c.from_residual.result c.from_residual.ensures.1 in
     rw (e.1, e.2) (record {
-      still = λ below. absurd (omega (arith, ints, below, c.if-place-stable_end.false, c.stable_end.ensures.is));
+      still = λ below. absurd (omega (arith, ints, below, c.if-place-synced_end.false, c.synced_end.ensures.is));
       written = λ _. tt;
       held = λ is. absurd (seal_not_held (Unit {0}) (Unit {0}) c.in_err-seal.field-0.0 _ c.in_err-seal.ensures.answers is);
       some = inl (same_buffers c.args.self.now c.seal.new.self c.in_err-seal.ensures.err.line);
@@ -117,7 +117,7 @@ sealed_for g c =
     elim c.if-place-current_begin.branch [
       | then-place-current_begin+in_ok-seal w ↦ subst (λ (l : Log g.row.D.Denot g.row.C.Denot). SealsFor trace sum place old l) (sym w.self-is)
           (seals_current trace sum place old w.seal.new.self (let up = w.if-place-current_begin.true in omega (arith, up, begin))
-          (elim c.requires.reserved [ inl below ↦ absurd (omega (arith, below, c.if-place-stable_end.false, c.stable_end.ensures.is)) | inr lower ↦ lower ])
+          (elim c.requires.reserved [ inl below ↦ absurd (omega (arith, below, c.if-place-synced_end.false, c.synced_end.ensures.is)) | inr lower ↦ lower ])
           w.in_ok-seal.ensures.buffers w.in_ok-seal.ensures.waiting w.in_ok-seal.ensures.begins w.in_ok-seal.ensures.start w.seal.ensures.keeps w.seal.ensures.tickets w.seal.ensures.position w.seal.ensures.same w.in_ok-seal.ensures.answers.0)
       | else-place-current_begin w ↦ subst (λ (l : Log g.row.D.Denot g.row.C.Denot). SealsFor trace sum place old l) (sym w.self-is)
           (seals_still trace sum place old (let low = w.if-place-current_begin.false in omega (arith, low, begin)))
@@ -127,7 +127,7 @@ pub write_around-requires-clause-fault : goal.write_around-requires-clause-fault
 write_around-requires-clause-fault g c = (sealed_for g c).fault ∙ c.requires.fault
 
 pub write_around-requires-clause-behind : goal.write_around-requires-clause-behind
-write_around-requires-clause-behind g c = let same = (sealed_for g c).synced in omega (arith, same, c.if-place-stable_end.false, c.stable_end.ensures.is)
+write_around-requires-clause-behind g c = let same = (sealed_for g c).synced in omega (arith, same, c.if-place-synced_end.false, c.synced_end.ensures.is)
 
 pub write_around-requires-clause-sealed : goal.write_around-requires-clause-sealed
 write_around-requires-clause-sealed g c = (sealed_for g c).lower
@@ -142,7 +142,7 @@ seals g c =
     elim c.if-place-current_begin.branch [
       | then-place-current_begin+in_ok-seal w ↦ subst (λ (l : Log g.row.D.Denot g.row.C.Denot). SealsFor trace sum place old l) (sym w.self-is)
           (seals_current trace sum place old w.seal.new.self (let up = w.if-place-current_begin.true in omega (arith, up, begin))
-          (elim c.requires.reserved [ inl below ↦ absurd (omega (arith, below, c.if-place-stable_end.false, c.stable_end.ensures.is)) | inr lower ↦ lower ])
+          (elim c.requires.reserved [ inl below ↦ absurd (omega (arith, below, c.if-place-synced_end.false, c.synced_end.ensures.is)) | inr lower ↦ lower ])
           w.in_ok-seal.ensures.buffers w.in_ok-seal.ensures.waiting w.in_ok-seal.ensures.begins w.in_ok-seal.ensures.start w.seal.ensures.keeps w.seal.ensures.tickets w.seal.ensures.position w.seal.ensures.same w.in_ok-seal.ensures.answers.0)
       | else-place-current_begin w ↦ subst (λ (l : Log g.row.D.Denot g.row.C.Denot). SealsFor trace sum place old l) (sym w.self-is)
           (seals_still trace sum place old (let low = w.if-place-current_begin.false in omega (arith, low, begin)))
@@ -152,7 +152,7 @@ pub returns-clause-written : goal.returns-clause-written
 returns-clause-written g c = c.write_around.ensures.written
 
 pub returns-clause-still : goal.returns-clause-still
-returns-clause-still g c = λ below. absurd (omega (arith, below, c.if-place-stable_end.false, c.stable_end.ensures.is))
+returns-clause-still g c = λ below. absurd (omega (arith, below, c.if-place-synced_end.false, c.synced_end.ensures.is))
 
 pub returns-clause-calls : goal.returns-clause-calls
 returns-clause-calls g c =
@@ -195,7 +195,7 @@ returns-clause-seals g c =
     let lower = first.lower in
     let begin : current_begin c.write_around.new.self ≡ current_begin c.if-place-current_begin.self = ap (λ (s : BufferStart). s.place) then.start in
     record {
-      still = λ below. absurd (omega (arith, ints, below, c.if-place-stable_end.false, c.stable_end.ensures.is));
+      still = λ below. absurd (omega (arith, ints, below, c.if-place-synced_end.false, c.synced_end.ensures.is));
       apart = λ below. begin ∙ first.apart (omega (arith, ints, below));
       once = elim first.once [ inl same ↦ inl (begin ∙ same) | inr sealed ↦ inr (begin ∙ sealed) ];
       held = λ _. (omega (arith, ints, lower, begin));
@@ -206,4 +206,4 @@ pub returns-clause-buffers : goal.returns-clause-buffers
 returns-clause-buffers g c =
     let did = c.write_around.ensures in
     writes_around g.D.Device.trace g.C.Checksum.sum_of c.args.place c.args.self.now c.if-place-current_begin.self (seals g c) c.write_around.new.self did.start c.write_around.result
-    (omega (arith, c.if-place-stable_end.false, c.stable_end.ensures.is)) did.without did.same
+    (omega (arith, c.if-place-synced_end.false, c.synced_end.ensures.is)) did.without did.same

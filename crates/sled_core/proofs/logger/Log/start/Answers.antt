@@ -1,4 +1,8 @@
-use Rattle.std.proofs.Common.{◌≡◌, ◌∙◌, ◌+◌, ◌<◌, ◌∷◌, ◌++◌, if◌then◌else◌, zero, suc, true, ℕ, List, [], Option, None, Some, length, map, refl, ap, sym, subst, arith, mod-lt}
+use Rattle.std.proofs.Common.{◌≡◌, ◌∙◌, ◌+◌, ◌<◌, ◌≤◌, ◌∷◌, ◌++◌, if◌then◌else◌, zero, suc, true, ℕ, List, [], Option, None, Some, length, map, refl, ap, sym, subst, arith, mod-lt}
+use Rattle.std.specs.List.{All}
+use Rattle.std.proofs.lemmas.List.Elements.{All-nil}
+use Rattle.std.proofs.Math.Nat.{suc-mul}
+use Rattle.sled_codec.specs.History.{History}
 use Rattle.sled_codec.specs.declared.result.Error.{Error}
 use Rattle.sled_codec.specs.declared.result.Error.TheVariants.{Corruption}
 use Rattle.sled_codec.specs.Errors.{IsCorrupt}
@@ -14,10 +18,13 @@ use Rattle.sled_store.specs.SegmentStates.{Machine}
 use Rattle.sled_store.specs.Started.{started}
 use Rattle.sled_core.specs.declared.iobuf.Reserved.{Reserved}
 use Rattle.sled_core.specs.declared.iobuf.Sealed.{Sealed}
+use Rattle.sled_core.specs.declared.logger.batches.NotedBatch.{NotedBatch}
 use Rattle.sled_core.specs.declared.logger.segments.SegmentBuffer.{SegmentBuffer}
 use Rattle.sled_core.specs.Begun.{AreEntered, AreFilled, FollowOn, SegmentView, begin_of, line_at, segment_view, view_at}
-use Rattle.sled_core.specs.Fits.{CloseBelow, Holds, HoldsIn, HoldsLine, NoneOpenIn, log_parts}
+use Rattle.sled_core.specs.Fits.{CloseBelow, FitsBatches, Holds, HoldsIn, HoldsLine, NoneOpenIn, line_end, log_parts, written_to}
 use Rattle.sled_core.specs.FreeSlots.{HasSlots, begun_machine}
+use Rattle.sled_core.specs.OpenBatches.{batch_of, not_whole}
+use Rattle.sled_core.specs.OpenPlaces.{open_manifests, open_manifests_in}
 use Rattle.sled_core.specs.Positions.{Position, is_short, next_segment_at, position_in}
 use Rattle.sled_core.specs.SealedBuffers.{sealed_end}
 use Rattle.sled_core.specs.Starts.{site_from}
@@ -25,6 +32,7 @@ use Rattle.sled_core.specs.Waiting.{last_of, start_in, unwritten, unwritten_in}
 use Rattle.sled_core.specs.declared.iobuf.SegmentPosition.{SegmentPosition}
 use Rattle.sled_core.specs.Running.{Ready, Fits, FitsIn, FitsLine}
 use Rattle.sled_store.proofs.Segments.StartedFile.{started_file, started-log, started-snapshots, started-blobs}
+use Rattle.sled_core.proofs.Holds.FitsBatches.{batches_begun}
 use Rattle.sled_core.proofs.Start.BegunSlots.{begun_slots}
 use Rattle.sled_core.proofs.Start.StartedMoments.{started_throughout}
 use Rattle.sled_core.proofs.Start.ReadyStarts.{ready_starts}
@@ -64,6 +72,13 @@ offset_low size len s b is some = by s.active (ap (λ (x : Beginning). x.offset)
   by None at = omega (arith, at, some)
   by (Some a) at = let low = mod-lt (stable_place s.stable) some in omega (arith, at, low)
 
+-- It has noted no batch, and all of the history's end below where it begins.
+started_batches : (size : ℕ) (v : SegmentView) (vs : List SegmentView) {noted : List NotedBatch} (H : History) → noted ≡ [] → v.parts.written_len ≤ size → CloseBelow (written_to (v ∷ vs)) H.batches
+    → FitsBatches (written_to (v ∷ vs)) (line_end size (v ∷ vs)) (not_whole (written_to (v ∷ vs)) (map batch_of noted)) H
+started_batches size v vs H none short closed =
+    subst (λ (bs : List NotedBatch). FitsBatches (written_to (v ∷ vs)) (line_end size (v ∷ vs)) (not_whole (written_to (v ∷ vs)) (map batch_of bs)) H) (sym none)
+    (batches_begun (written_to (v ∷ vs)) (line_end size (v ∷ vs)) H (omega (arith, short, suc-mul (length vs) size)) closed)
+
 pub invariant_of-result : goal.invariant_of-result
 invariant_of-result g c =
     let len : ℕ = length (state_of (g.D.Device.trace c.args.config.device)).log.bytes in
@@ -88,6 +103,12 @@ invariant_of-result g c =
           subst (λ (ss : List SegmentBuffer). AreFilled c.begin.new.config.config.segment_size (c.in-Ok.beginning.place + c.in-Ok.beginning.offset) (line_at (record { place = c.in-Ok.beginning.place; slot = c.in-Ok.beginning.slot }) c.in-Ok.buffer ss)) (sym c.no_segments.ensures)
           (omega (arith, at, low, same), omega (arith, at, behind, begins), entered_none (c.in-Ok.beginning.place + c.in-Ok.beginning.offset) c.in-Ok.beginning.place c.in-Ok.buffer.written_len c.in-Ok.buffer.sealed.items c.in-Ok.buffer.reserved.items first.sealed first.reserved));
       account = subst (λ n. IsAccountant n c.in-Ok.accountant) (sym same) c.in-Ok.ensures.account;
+      pegs = subst (All (λ (b : NotedBatch). b.peg < c.in-Ok.beginning.place + c.in-Ok.beginning.offset)) (sym c.new.ensures.items) (All-nil (λ (b : NotedBatch). b.peg < c.in-Ok.beginning.place + c.in-Ok.beginning.offset));
+      room = (let none = ap length c.new.ensures.items in omega (arith, none));
+      counted = (
+          let here : SegmentPosition = record { place = c.in-Ok.beginning.place; slot = c.in-Ok.beginning.slot } in
+          let none : open_manifests (line_at here c.in-Ok.buffer c.no_segments.result.items) ≡ 0 = ap (λ (ss : List SegmentBuffer). open_manifests (line_at here c.in-Ok.buffer ss)) c.no_segments.ensures ∙ ap (λ (rs : List Reserved). open_manifests_in rs + 0) c.in-Ok.ensures.buffer.reserved in
+          omega (arith, none));
     }
 
 -- the log file, once the log is started
@@ -115,8 +136,10 @@ returns-in-Ok-clause-history g c = λ H ready.
           (subst (λ (n : ℕ). HoldsIn g.C.Checksum.sum_of (log_parts size (record { place = c.in-Ok.beginning.place; slot = c.in-Ok.beginning.slot }) now None c.in-Ok.buffer.bytes.items n c.in-Ok.buffer.sealed.items c.in-Ok.buffer.reserved.items) [] H) (sym first.from)
           (subst (λ (l : List Sealed). HoldsIn g.C.Checksum.sum_of (log_parts size (record { place = c.in-Ok.beginning.place; slot = c.in-Ok.beginning.slot }) now None c.in-Ok.buffer.bytes.items c.in-Ok.beginning.offset l c.in-Ok.buffer.reserved.items) [] H) (sym first.sealed)
           (subst (λ (r : List Reserved). HoldsIn g.C.Checksum.sum_of (log_parts size (record { place = c.in-Ok.beginning.place; slot = c.in-Ok.beginning.slot }) now None c.in-Ok.buffer.bytes.items c.in-Ok.beginning.offset [] r) [] H) (sym first.reserved) holds))));
-      closed = subst (λ n. CloseBelow (c.in-Ok.beginning.place + n) H.batches) (sym first.from)
-          (begins_closed g.C.Checksum.sum_of size old now s H c.in-Ok.buffer.bytes.items c.args.config.config.least ready c.in-Ok.ensures.answers.0 log_now names_now c.in-Ok.beginning c.in-Ok.ensures.beginning first.header first.resumed);
+      batches = started_batches c.begin.new.config.config.segment_size (view_at (record { place = c.in-Ok.beginning.place; slot = c.in-Ok.beginning.slot }) c.in-Ok.buffer) (map segment_view c.no_segments.result.items) H c.new.ensures.items
+          (let low = offset_low c.args.config.config.segment_size (length (state_of (g.D.Device.trace c.args.config.device)).log.bytes) s c.in-Ok.beginning c.in-Ok.ensures.beginning some in let from = first.from in let same = ap (λ (x : Config). x.segment_size) c.begin.ensures.config in omega (arith, low, from, same))
+          (subst (λ n. CloseBelow (c.in-Ok.beginning.place + n) H.batches) (sym first.from)
+          (begins_closed g.C.Checksum.sum_of size old now s H c.in-Ok.buffer.bytes.items c.args.config.config.least ready c.in-Ok.ensures.answers.0 log_now names_now c.in-Ok.beginning c.in-Ok.ensures.beginning first.header first.resumed));
       slots = subst (λ (ss : List SegmentBuffer). HasSlots c.begin.new.config.config.segment_size (line_at (record { place = c.in-Ok.beginning.place; slot = c.in-Ok.beginning.slot }) c.in-Ok.buffer ss) now.log.bytes None (machine_of c.in-Ok.accountant)) (sym c.no_segments.ensures)
           (start_slots size (ap (λ (x : Config). x.segment_size) c.begin.ensures.config) some s old.log.bytes now.log.bytes c.in-Ok.ensures.answers.0 (ap (λ (l : LogState). l.bytes) log_now) (view_at (record { place = c.in-Ok.beginning.place; slot = c.in-Ok.beginning.slot }) c.in-Ok.buffer) (ap (λ (x : Beginning). x.slot) c.in-Ok.ensures.beginning) c.in-Ok.ensures.machine);
     }
@@ -148,8 +171,10 @@ returns-in-Ok-clause-fits g c = λ H A f ready.
           (start_fits g.C.Checksum.sum_of size (state_of old) now s H A f c.args.config.config.least ready c.in-Ok.ensures.answers.0
           log_now (ap (λ (t : Trace). (state_of t).blobs) c.in-Ok.ensures.made ∙ started-blobs size some (state_of old).log.bytes s old) (ap (λ (t : Trace). (state_of t).snapshots) c.in-Ok.ensures.made ∙ started-snapshots size some (state_of old).log.bytes s old)
           c.in-Ok.beginning c.in-Ok.ensures.beginning c.in-Ok.buffer.bytes.items c.in-Ok.buffer.written_len c.in-Ok.buffer.sealed.items c.in-Ok.buffer.reserved.items first.header first.resumed first.from first.sealed first.reserved));
-      closed = subst (λ n. CloseBelow (c.in-Ok.beginning.place + n) H.batches) (sym first.from)
-          (begins_closed g.C.Checksum.sum_of size (state_of old) now s H c.in-Ok.buffer.bytes.items c.args.config.config.least ready.ready c.in-Ok.ensures.answers.0 log_now (ap (λ (t : Trace). (state_of t).snapshots.file) c.in-Ok.ensures.made ∙ ap (λ (n : NamesState). n.file) (started-snapshots size some (state_of old).log.bytes s old)) c.in-Ok.beginning c.in-Ok.ensures.beginning first.header first.resumed);
+      batches = started_batches c.begin.new.config.config.segment_size (view_at (record { place = c.in-Ok.beginning.place; slot = c.in-Ok.beginning.slot }) c.in-Ok.buffer) (map segment_view c.no_segments.result.items) H c.new.ensures.items
+          (let low = offset_low c.args.config.config.segment_size (length (state_of (g.D.Device.trace c.args.config.device)).log.bytes) s c.in-Ok.beginning c.in-Ok.ensures.beginning some in let from = first.from in let same = ap (λ (x : Config). x.segment_size) c.begin.ensures.config in omega (arith, low, from, same))
+          (subst (λ n. CloseBelow (c.in-Ok.beginning.place + n) H.batches) (sym first.from)
+          (begins_closed g.C.Checksum.sum_of size (state_of old) now s H c.in-Ok.buffer.bytes.items c.args.config.config.least ready.ready c.in-Ok.ensures.answers.0 log_now (ap (λ (t : Trace). (state_of t).snapshots.file) c.in-Ok.ensures.made ∙ ap (λ (n : NamesState). n.file) (started-snapshots size some (state_of old).log.bytes s old)) c.in-Ok.beginning c.in-Ok.ensures.beginning first.header first.resumed));
       slots = subst (λ (ss : List SegmentBuffer). HasSlots c.begin.new.config.config.segment_size (line_at site c.in-Ok.buffer ss) now.log.bytes None (machine_of c.in-Ok.accountant)) (sym c.no_segments.ensures)
           (start_slots size same some s (state_of old).log.bytes now.log.bytes c.in-Ok.ensures.answers.0 (ap (λ (l : LogState). l.bytes) log_now) (view_at site c.in-Ok.buffer) (ap (λ (x : Beginning). x.slot) c.in-Ok.ensures.beginning) c.in-Ok.ensures.machine);
     }
@@ -188,6 +213,7 @@ returns-in-Ok-clause-begins g c =
       ended = subst (λ (ss : List SegmentBuffer). NoneOpenIn (line_at here c.in-Ok.buffer ss)) (sym c.no_segments.ensures) (none_open_one (view_at here c.in-Ok.buffer) (ap none_open first.reserved));
       unsealed = subst (λ (ss : List SegmentBuffer). unwritten (line_at here c.in-Ok.buffer ss) ≡ []) (sym c.no_segments.ensures)
           (ap (λ (bs : List Sealed). unwritten_in here c.in-Ok.buffer.bytes.items c.in-Ok.buffer.written_len bs c.in-Ok.buffer.reserved.items ++ []) first.sealed);
+      noted = ap (λ (bs : List NotedBatch). not_whole (c.in-Ok.beginning.place + c.in-Ok.buffer.written_len) (map batch_of bs)) c.new.ensures.items;
       pins = refl;
       fault = refl;
       sized = ap (λ (x : Config). x.segment_size) c.begin.ensures.config;

@@ -1,4 +1,4 @@
-use Rattle.std.proofs.Common.{◌≡◌, ◌∙◌, List, ℕ, ap, sym, subst, refl, arith, set, Some}
+use Rattle.std.proofs.Common.{◌≡◌, ◌∙◌, ◌≤◌, List, ℕ, ap, sym, subst, refl, arith, map, set, Some}
 use Rattle.std.specs.List.{slice_get}
 use Rattle.sled_store.specs.Accounts.{machine_of}
 use Rattle.sled_store.proofs.Traces.ScriptLemmas.{later_performed}
@@ -7,20 +7,36 @@ use Rattle.sled_core.specs.Begun.{SegmentView, line_at}
 use Rattle.sled_core.specs.declared.iobuf.IoBuf.{IoBuf}
 use Rattle.sled_core.specs.declared.iobuf.SegmentPosition.{SegmentPosition}
 use Rattle.sled_core.specs.declared.logger.segments.SegmentBuffer.{SegmentBuffer}
+use Rattle.sled_core.specs.declared.logger.batches.NotedBatch.{NotedBatch}
 use Rattle.sled_core.specs.declared.logger.Log.{Log}
-use Rattle.sled_core.specs.Fits.{written_to, AwaitsIn, Holds, line_of, segment_size_of}
-use Rattle.sled_core.specs.OpenPlaces.{open_places_along}
+use Rattle.sled_core.specs.Fits.{written_to, AwaitsIn, Holds, line_of, noted_in, segment_size_of}
+use Rattle.sled_core.specs.OpenBatches.{batch_of, not_whole}
+use Rattle.sled_core.specs.OpenPlaces.{open_manifests, open_places_along}
 use Rattle.sled_core.specs.Positions.{Position, position_in}
 use Rattle.sled_core.specs.Running.{Fits}
 use Rattle.sled_core.specs.Turned.{ChangesDevice, IsReadyIn, promoted, written_now}
 use Rattle.sled_core.specs.Waiting.{last_of}
 use Rattle.sled_core.proofs.Line.Faulty.{fits_with_same, holds_with_same}
-use Rattle.sled_core.proofs.Line.LogWrites.{KeepsInvariants, crash_write, end_grows, fits_done, fits_failed, holds_done, holds_failed, keeps_invariants, line_after, same_line, segments_written}
+use Rattle.sled_core.proofs.Line.LineEnds.{noted_later, noted_same}
+use Rattle.sled_core.proofs.Line.LogWrites.{KeepsInvariants, crash_write, end_grows, fits_done, fits_failed, holds_done, holds_failed, keeps_invariants, line_after, line_left, noted_left, same_line, segments_written}
+use Rattle.sled_core.proofs.Line.OpenManifests.{manifests_promoted, manifests_written}
 use Rattle.sled_core.proofs.Line.OpenPlaces.{places_promoted, set_places}
 use Rattle.sled_core.proofs.Line.Promotes.{awaits_promoted, last_promoted, last_set}
 use Rattle.sled_core.proofs.Line.Segments.{line_segments, nth_segment}
+use Rattle.sled_core.proofs.Reached.OpenBatch.{not_whole_further}
 use Rattle.sled_core.proofs.Line.WrittenTickets.{awaits_written, places_written}
 use Rattle.sled_core.proofs.logger.Log.write_buffer.Goals as goal
+
+-- The same batches are noted,
+noted_items : {D C : Type 0} (old mid : Log D C) → ChangesDevice old mid → mid.noted.items ≡ old.noted.items
+noted_items old mid rest = λ i. (rest.noted i).items
+
+-- of which those are left that aren't wholly written.
+noted_left_is : {D C : Type 0} (old : Log D C) (n k : ℕ) (r : IsReadyIn (line_of old) n k) {items : List NotedBatch} {line : List SegmentView} → items ≡ old.noted.items → line ≡ line_left old n k r
+    → not_whole (written_to line) (map batch_of items) ≡ noted_left old n k r
+noted_left_is old n k r same line =
+    let up = end_grows old n k r in
+    (λ i. not_whole (written_to (line i)) (map batch_of (same i))) ∙ sym (not_whole_further (written_to (line_of old)) (written_to (line_left old n k r)) up (map batch_of old.noted.items))
 
 pub returns-in_err-write_bytes-clause-keeps : goal.returns-in_err-write_bytes-clause-keeps
 unfolding Holds Fits
@@ -32,6 +48,8 @@ returns-in_err-write_bytes-clause-keeps g c =
     let rest = did.rest in
     let sizes : segment_size_of mid ≡ segment_size_of old = ap (λ (x : Config). x.segment_size) rest.config in
     let slots = ap machine_of rest.accountant in
+    let items = noted_items old mid rest in
+    let kept_noted = noted_same old mid items (ap written_to (same_line old mid rest)) in
     record {
       goes_on = record {
         config = record { config = rest.config; checksum = rest.checksum };
@@ -39,27 +57,33 @@ returns-in_err-write_bytes-clause-keeps g c =
         stable = let same = ap written_to (same_line old mid rest) in omega (arith, same);
         crash = λ H A f U fits. crash_write old c.args.n c.args.k r g.D.Device.trace g.C.Checksum.sum_of c.requires.fault (g.D.Device.trace mid.config.device) did.at_most H A f U fits;
       };
-      history = λ H holds. holds_with_same g.C.Checksum.sum_of _ _ _ _ _ _ _ _ H sizes (same_line old mid rest) slots
+      history = λ H holds. holds_with_same g.C.Checksum.sum_of _ _ _ _ _ _ _ _ _ _ H kept_noted sizes (same_line old mid rest) slots
           (holds_failed old c.args.n c.args.k r g.D.Device.trace g.C.Checksum.sum_of c.requires.fault (g.D.Device.trace mid.config.device) did.at_most mid.fault did.refused H holds);
-      fits = λ H A f U fits. fits_with_same g.C.Checksum.sum_of _ _ _ _ _ _ _ _ _ _ H A f U sizes (same_line old mid rest) slots rest.pins
+      fits = λ H A f U fits. fits_with_same g.C.Checksum.sum_of _ _ _ _ _ _ _ _ _ _ _ _ H A f U kept_noted sizes (same_line old mid rest) slots rest.pins
           (fits_failed old c.args.n c.args.k r g.D.Device.trace g.C.Checksum.sum_of c.requires.fault (g.D.Device.trace mid.config.device) did.at_most mid.fault did.refused H A f U fits);
+      noted = noted_later old mid items (let same = ap written_to (same_line old mid rest) in omega (arith, same));
     }
 
 -- The segments that are left keep what the type of a log asks.
 kept : {D C : Type 0} (old mid : Log D C) (n k : ℕ) (r : IsReadyIn (line_of old) n k) → ChangesDevice old mid → (b : IoBuf) (ss : List SegmentBuffer)
     → ((site : SegmentPosition) (u : SegmentView) → slice_get (line_at site mid.buffer mid.behind.items) n ≡ Some u → line_at site b ss ≡ set (line_at site mid.buffer mid.behind.items) n (written_now k u))
-    → (site' : SegmentPosition) (b' : IoBuf) (ss' : List SegmentBuffer) → line_at site' b' ss' ≡ promoted mid.config.config.segment_size (line_at mid.site b ss) → (now : IsReadyIn (line_of mid) n k) × KeepsInvariants mid n k now site' b' ss'
+    → (site' : SegmentPosition) (b' : IoBuf) (ss' : List SegmentBuffer) → line_at site' b' ss' ≡ promoted mid.config.config.segment_size (line_at mid.site b ss) → (now : IsReadyIn (line_of mid) n k) × KeepsInvariants mid n k now site' b' ss' × (open_manifests (line_at site' b' ss') ≤ mid.manifests)
 kept old mid n k r rest b ss marked site' b' ss' is =
     let now : IsReadyIn (line_of mid) n k = subst (λ (l : List SegmentView). IsReadyIn l n k) (sym (same_line old mid rest)) r in
-    let still : ChangesDevice mid mid = record { config = refl; checksum = refl; site = refl; buffer = refl; behind = refl; reserved = refl; pins = refl; accountant = refl } in
-    (now, keeps_invariants mid n k now site' b' ss' (line_after mid mid n k now.segment still now.among b ss marked (line_at site' b' ss') is))
+    let still : ChangesDevice mid mid = record { config = refl; checksum = refl; site = refl; buffer = refl; behind = refl; reserved = refl; pins = refl; accountant = refl; noted = refl; manifests = refl } in
+    let line = line_after mid mid n k now.segment still now.among b ss marked (line_at site' b' ss') is in
+    let same = ap open_manifests line in
+    let left = manifests_promoted mid.config.config.segment_size (set (line_of mid) n (written_now k now.segment)) in
+    let fewer = manifests_written (line_of mid) n k now.segment now.among in
+    let old = mid.counted in
+    (now, keeps_invariants mid n k now site' b' ss' line, omega (arith, same, left, fewer, old))
 
 pub invariant_of-self : goal.invariant_of-self
 invariant_of-self g c =
     let mid = c.write_bytes.new.self in
     let found = kept c.args.self.now mid c.args.n c.args.k c.requires.ready c.in_ok-write_bytes.ensures.rest c.mark_nth.new.buffer c.mark_nth.new.behind.items c.mark_nth.ensures c.promote.new.site c.promote.new.buffer c.promote.new.behind.items c.promote.ensures in
     let is = found.1 in
-    record { in_segment = is.short; place_in_reach = is.place_small; slot_in_reach = is.slot_small; waits = is.waits; follow = is.follow; filled = is.filled; account = mid.account }
+    record { in_segment = is.short; place_in_reach = is.place_small; slot_in_reach = is.slot_small; waits = is.waits; follow = is.follow; filled = is.filled; account = mid.account; pegs = mid.pegs; room = mid.room; counted = found.2 }
 
 pub returns-clause-line : goal.returns-clause-line
 returns-clause-line g c = λ v among.
@@ -84,10 +108,11 @@ returns-clause-keeps g c =
         stable = let same = ap written_to line in let up = end_grows old c.args.n c.args.k r in omega (arith, same, up);
         crash = λ H A f U fits. crash_write old c.args.n c.args.k r g.D.Device.trace g.C.Checksum.sum_of c.requires.fault (g.D.Device.trace mid.config.device) did.at_most H A f U fits;
       };
-      history = λ H holds. holds_with_same g.C.Checksum.sum_of _ _ _ _ _ _ _ _ H sizes line slots
+      history = λ H holds. holds_with_same g.C.Checksum.sum_of _ _ _ _ _ _ _ _ _ _ H (noted_left_is old c.args.n c.args.k r (noted_items old mid rest) line) sizes line slots
           (holds_done old c.args.n c.args.k r g.D.Device.trace g.C.Checksum.sum_of c.requires.fault (g.D.Device.trace mid.config.device) did.calls mid.fault did.answers.1 H holds);
-      fits = λ H A f U fits. fits_with_same g.C.Checksum.sum_of _ _ _ _ _ _ _ _ _ _ H A f U sizes line slots rest.pins
+      fits = λ H A f U fits. fits_with_same g.C.Checksum.sum_of _ _ _ _ _ _ _ _ _ _ _ _ H A f U (noted_left_is old c.args.n c.args.k r (noted_items old mid rest) line) sizes line slots rest.pins
           (fits_done old c.args.n c.args.k r g.D.Device.trace g.C.Checksum.sum_of c.requires.fault (g.D.Device.trace mid.config.device) did.calls mid.fault did.answers.1 H A f U fits);
+      noted = noted_left_is old c.args.n c.args.k r (noted_items old mid rest) line ∙ ap (λ e. not_whole e (noted_in old)) (sym (ap written_to line));
     }
 
 pub returns-clause-tickets : goal.returns-clause-tickets

@@ -79,30 +79,30 @@ returns-in_err-write_buffer-clause-some g c =
 
 pub least_held-requires : goal.least_held-requires
 least_held-requires g c =
-    (stuck_left g.D.Device.trace g.C.Checksum.sum_of g.D.Device.faults c.args.to c.args.self.now c.loop-self.self c.requires.sealed c.loop-self.invariant.advanced (omega (arith, c.stable_end.ensures.is, c.if-stable_end-to.true)) (sym c.has_ready_below.ensures ∙ c.loop-self-test.false)).some
+    (stuck_left g.D.Device.trace g.C.Checksum.sum_of g.D.Device.faults c.args.to c.args.self.now c.loop-self.self c.requires.sealed c.loop-self.invariant.advanced (omega (arith, c.synced_end.ensures.is, c.if-synced_end-to.true)) (sym c.has_ready_below.ensures ∙ c.loop-self-test.false)).some
 
 stuck : (g : given.Over) (c : goal.After-least_held g) → IsStuck c.args.to c.loop-self.self.site.place (waiting_of c.loop-self.self) c.loop-self.self.buffer.reserved.items
 stuck g c =
-    stuck_left g.D.Device.trace g.C.Checksum.sum_of g.D.Device.faults c.args.to c.args.self.now c.loop-self.self c.requires.sealed c.loop-self.invariant.advanced (omega (arith, c.stable_end.ensures.is, c.if-stable_end-to.true)) (sym c.has_ready_below.ensures ∙ c.loop-self-test.false)
+    stuck_left g.D.Device.trace g.C.Checksum.sum_of g.D.Device.faults c.args.to c.args.self.now c.loop-self.self c.requires.sealed c.loop-self.invariant.advanced (omega (arith, c.synced_end.ensures.is, c.if-synced_end-to.true)) (sym c.has_ready_below.ensures ∙ c.loop-self-test.false)
 
-pub returns-then-stable_end-to-clause-calls : goal.returns-then-stable_end-to-clause-calls
-returns-then-stable_end-to-clause-calls g c = all_made g.D.Device.trace g.C.Checksum.sum_of g.D.Device.faults c.args.to c.args.self.now c.loop-self.self c.requires.sealed c.loop-self.invariant.advanced (stuck g c).writes
+pub returns-then-synced_end-to-clause-calls : goal.returns-then-synced_end-to-clause-calls
+returns-then-synced_end-to-clause-calls g c = all_made g.D.Device.trace g.C.Checksum.sum_of g.D.Device.faults c.args.to c.args.self.now c.loop-self.self c.requires.sealed c.loop-self.invariant.advanced (stuck g c).writes
 
-pub returns-then-stable_end-to-clause-at_most : goal.returns-then-stable_end-to-clause-at_most
-returns-then-stable_end-to-clause-at_most g c =
+pub returns-then-synced_end-to-clause-at_most : goal.returns-then-synced_end-to-clause-at_most
+returns-then-synced_end-to-clause-at_most g c =
     performs_whole _ _ _ (all_made g.D.Device.trace g.C.Checksum.sum_of g.D.Device.faults c.args.to c.args.self.now c.loop-self.self c.requires.sealed c.loop-self.invariant.advanced (stuck g c).writes)
 
-pub returns-then-stable_end-to-clause-keeps : goal.returns-then-stable_end-to-clause-keeps
-returns-then-stable_end-to-clause-keeps g c = c.loop-self.invariant.advanced.keeps
+pub returns-then-synced_end-to-clause-keeps : goal.returns-then-synced_end-to-clause-keeps
+returns-then-synced_end-to-clause-keeps g c = c.loop-self.invariant.advanced.keeps
 
-pub returns-then-stable_end-to-clause-tickets : goal.returns-then-stable_end-to-clause-tickets
-returns-then-stable_end-to-clause-tickets g c = c.loop-self.invariant.advanced.tickets
+pub returns-then-synced_end-to-clause-tickets : goal.returns-then-synced_end-to-clause-tickets
+returns-then-synced_end-to-clause-tickets g c = c.loop-self.invariant.advanced.tickets
 
-pub returns-then-stable_end-to-clause-position : goal.returns-then-stable_end-to-clause-position
-returns-then-stable_end-to-clause-position g c = c.loop-self.invariant.advanced.position
+pub returns-then-synced_end-to-clause-position : goal.returns-then-synced_end-to-clause-position
+returns-then-synced_end-to-clause-position g c = c.loop-self.invariant.advanced.position
 
-pub returns-then-stable_end-to-clause-answers : goal.returns-then-stable_end-to-clause-answers
-returns-then-stable_end-to-clause-answers g c =
+pub returns-then-synced_end-to-clause-answers : goal.returns-then-synced_end-to-clause-answers
+returns-then-synced_end-to-clause-answers g c =
     let held = stuck g c in
     let now = c.loop-self.self in
     let fits : SFits w64 c.least_held.result = search rules in (
@@ -113,14 +113,14 @@ returns-then-stable_end-to-clause-answers g c =
       c.loop-self.invariant.advanced.counted,
     )
 
-pub returns-then-stable_end-to-clause-current : goal.returns-then-stable_end-to-clause-current
-returns-then-stable_end-to-clause-current g c = c.loop-self.invariant.advanced.current
+pub returns-then-synced_end-to-clause-current : goal.returns-then-synced_end-to-clause-current
+returns-then-synced_end-to-clause-current g c = c.loop-self.invariant.advanced.current
 
-pub returns-then-stable_end-to-clause-one : goal.returns-then-stable_end-to-clause-one
-returns-then-stable_end-to-clause-one g c = λ few. stuck_one g.D.Device.trace g.C.Checksum.sum_of g.D.Device.faults c.args.to c.args.self.now c.loop-self.self c.loop-self.invariant.advanced (stuck g c) few
+pub returns-then-synced_end-to-clause-one : goal.returns-then-synced_end-to-clause-one
+returns-then-synced_end-to-clause-one g c = λ few. stuck_one g.D.Device.trace g.C.Checksum.sum_of g.D.Device.faults c.args.to c.args.self.now c.loop-self.self c.loop-self.invariant.advanced (stuck g c) few
 
-pub returns-then-stable_end-to-clause-some : goal.returns-then-stable_end-to-clause-some
-returns-then-stable_end-to-clause-some g c = leaves_some g.C.Checksum.sum_of c.args.to c.args.self.now c.loop-self.self c.requires.sealed c.loop-self.invariant.advanced.start c.loop-self.invariant.advanced.left
+pub returns-then-synced_end-to-clause-some : goal.returns-then-synced_end-to-clause-some
+returns-then-synced_end-to-clause-some g c = leaves_some g.C.Checksum.sum_of c.args.to c.args.self.now c.loop-self.self c.requires.sealed c.loop-self.invariant.advanced.start c.loop-self.invariant.advanced.left
 
 -- All that begins below the place is written.
 
@@ -128,13 +128,13 @@ pub returns-clause-calls : goal.returns-clause-calls
 returns-clause-calls g c =
     let now = c.loop-self.self in
     all_made g.D.Device.trace g.C.Checksum.sum_of g.D.Device.faults c.args.to c.args.self.now now c.requires.sealed c.loop-self.invariant.advanced
-    (writes_past c.args.to (waiting_of now) (past_left g.D.Device.trace g.C.Checksum.sum_of g.D.Device.faults c.args.to now (omega (arith, c.stable_end.ensures.is, c.if-stable_end-to.false))))
+    (writes_past c.args.to (waiting_of now) (past_left g.D.Device.trace g.C.Checksum.sum_of g.D.Device.faults c.args.to now (omega (arith, c.synced_end.ensures.is, c.if-synced_end-to.false))))
 
 pub returns-clause-at_most : goal.returns-clause-at_most
 returns-clause-at_most g c =
     let now = c.loop-self.self in
     performs_whole _ _ _ (all_made g.D.Device.trace g.C.Checksum.sum_of g.D.Device.faults c.args.to c.args.self.now now c.requires.sealed c.loop-self.invariant.advanced
-    (writes_past c.args.to (waiting_of now) (past_left g.D.Device.trace g.C.Checksum.sum_of g.D.Device.faults c.args.to now (omega (arith, c.stable_end.ensures.is, c.if-stable_end-to.false)))))
+    (writes_past c.args.to (waiting_of now) (past_left g.D.Device.trace g.C.Checksum.sum_of g.D.Device.faults c.args.to now (omega (arith, c.synced_end.ensures.is, c.if-synced_end-to.false)))))
 
 pub returns-clause-keeps : goal.returns-clause-keeps
 returns-clause-keeps g c = c.loop-self.invariant.advanced.keeps
@@ -149,7 +149,7 @@ pub returns-clause-answers : goal.returns-clause-answers
 returns-clause-answers g c =
     let now = c.loop-self.self in (
       holds_up g.D.Device.trace g.C.Checksum.sum_of g.D.Device.faults c.args.to c.args.self.now now c.requires.sealed c.loop-self.invariant.advanced
-          ∙ held_past c.args.to (waiting_of now) (past_left g.D.Device.trace g.C.Checksum.sum_of g.D.Device.faults c.args.to now (omega (arith, c.stable_end.ensures.is, c.if-stable_end-to.false))),
+          ∙ held_past c.args.to (waiting_of now) (past_left g.D.Device.trace g.C.Checksum.sum_of g.D.Device.faults c.args.to now (omega (arith, c.synced_end.ensures.is, c.if-synced_end-to.false))),
       (λ none. none),
       refl,
       c.loop-self.invariant.advanced.fault,
@@ -162,10 +162,10 @@ returns-clause-current g c = c.loop-self.invariant.advanced.current
 pub returns-clause-none : goal.returns-clause-none
 returns-clause-none g c = λ below.
     let now = c.loop-self.self in
-    begin_none c.args.to (waiting_of now) (past_left g.D.Device.trace g.C.Checksum.sum_of g.D.Device.faults c.args.to now (omega (arith, c.stable_end.ensures.is, c.if-stable_end-to.false))) (c.loop-self.invariant.advanced.below below)
+    begin_none c.args.to (waiting_of now) (past_left g.D.Device.trace g.C.Checksum.sum_of g.D.Device.faults c.args.to now (omega (arith, c.synced_end.ensures.is, c.if-synced_end-to.false))) (c.loop-self.invariant.advanced.below below)
 
 pub returns-clause-above : goal.returns-clause-above
 returns-clause-above g c =
     let now = c.loop-self.self in
     leaves_above g.C.Checksum.sum_of c.args.to c.args.self.now now c.requires.sealed c.loop-self.invariant.advanced.start c.loop-self.invariant.advanced.left
-    (past_left g.D.Device.trace g.C.Checksum.sum_of g.D.Device.faults c.args.to now (omega (arith, c.stable_end.ensures.is, c.if-stable_end-to.false)))
+    (past_left g.D.Device.trace g.C.Checksum.sum_of g.D.Device.faults c.args.to now (omega (arith, c.synced_end.ensures.is, c.if-synced_end-to.false)))

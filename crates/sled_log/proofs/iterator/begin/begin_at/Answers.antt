@@ -6,12 +6,13 @@ use Rattle.sled_store.specs.declared.config.Config.{Config}
 use Rattle.sled_store.specs.Device.{Trace, state_of}
 use Rattle.sled_log.specs.Recovery.{Scanned, IsTail, HaveGoodBlobs, begun_below, greatest_mark}
 use Rattle.sled_log.specs.Passes.{CanBeRead}
-use Rattle.sled_log.specs.Iterates.{IsBegun}
-use Rattle.sled_log.specs.Ahead.{CanBeGiven, HasEnds, IsLeft}
+use Rattle.sled_log.specs.IteratorBegins.{IsBegun}
+use Rattle.sled_core.specs.Ahead.{CanBeGiven, HasEnds, IsLeft}
 use Rattle.sled_log.proofs.Passes.Found.{all_ready}
 use Rattle.sled_log.proofs.Passes.Same.{still_so, was_so_in}
 use Rattle.sled_log.proofs.Iterates.BeginLemmas.{left_begun}
-use Rattle.sled_log.proofs.Iterates.KeptLemmas.{begun_in, ends_of_all}
+use Rattle.sled_core.proofs.Iterates.KeptLemmas.{ends_of_all}
+use Rattle.sled_log.proofs.Iterates.FoundLemmas.{begun_in}
 use Rattle.sled_log.proofs.iterator.begin.begin_at.Goals as goal
 
 pub tail_end-requires-clause-ready : goal.tail_end-requires-clause-ready

@@ -12,4 +12,4 @@ returns-clause-segments g c =
     let ss : List Segment = c.args.segments.items in
     let below = subst (λ (l : List Segment). All (λ (s : Segment). s.place < end) (take n l)) c.deref.ensures.value c.count_below-count.ensures.below in
     let above = subst (λ (l : List Segment). All (λ (s : Segment). end ≤ s.place) (drop n l)) c.deref.ensures.value c.count_below-count.ensures.above in
-    c.truncate.ensures.items ∙ sym (begun_first end n ss below above) ∙ ap (λ k. begun_below k ss) c.unwrap_or-end.ensures
+    ap (λ v. v.items) c.new.ensures.segments ∙ c.truncate.ensures.items ∙ sym (begun_first end n ss below above) ∙ ap (λ k. begun_below k ss) c.unwrap_or-end.ensures

@@ -7,7 +7,7 @@ use Rattle.sled_log.specs.Recovery.{Scanned, HaveGoodBlobs, IsTail, is_ascending
 use Rattle.sled_log.specs.Passes.{HasKinds, MeetsBadTail, pass_of}
 use Rattle.sled_log.proofs.Passes.Ascending.{ascends_behind}
 use Rattle.sled_log.proofs.Passes.WholeTail.{damaged_blob, damaged_of_all, in_dropped, sliced, tail_of_all}
-use Rattle.sled_log.proofs.Iterates.KeptLemmas.{tail_kinds}
+use Rattle.sled_log.proofs.Iterates.FoundLemmas.{tail_kinds}
 use Rattle.sled_log.proofs.iterator.begin.tail_end.Goals as goal
 
 pub read_tail-requires-clause-ready : goal.read_tail-requires-clause-ready

@@ -34,6 +34,6 @@ returns-clause-step g c = λ k at free.
             tickets = k.tickets;
           });
         }),
-        still_open trace g.C.Checksum.sum_of opened new k k.acknowledged at did.tickets did.position (λ none. sym did.rest.fault ∙ none) (did.keeps.fits k.history k.acknowledged k.floor at.unmarked at.fits),
+        still_open trace g.C.Checksum.sum_of opened new k k.acknowledged at did.tickets did.position (λ none. sym did.rest.fault ∙ none) did.keeps (did.keeps.fits k.history k.acknowledged k.floor at.unmarked at.fits),
       );
     }

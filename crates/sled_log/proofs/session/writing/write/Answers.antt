@@ -38,7 +38,7 @@ returns-in-Ok-clause-step g c = λ k at free.
       step = λ own. (
         k,
         (answers.0, leaves old sum (length opened.pages.items) k.tickets new (view old.config.device) (view new.config.device) k.history k.acknowledged k.floor (stays_put old new c.write_to_log.ensures.tickets c.write_to_log.ensures.position) _ _ _ left c.write_to_log.ensures.start answers.1),
-        still_open trace sum opened new k k.acknowledged at c.write_to_log.ensures.tickets c.write_to_log.ensures.position (was_free old new c.write_to_log.ensures.faulty) (c.write_to_log.ensures.keeps.fits k.history k.acknowledged k.floor at.unmarked at.fits),
+        still_open trace sum opened new k k.acknowledged at c.write_to_log.ensures.tickets c.write_to_log.ensures.position (was_free old new c.write_to_log.ensures.faulty) c.write_to_log.ensures.keeps (c.write_to_log.ensures.keeps.fits k.history k.acknowledged k.floor at.unmarked at.fits),
       );
     }
 
@@ -64,6 +64,6 @@ returns-in-Err-clause-step g c = λ k at free.
         k,
         write_stops (stands view (phase.Open opened) k) l c.args.i (Unit {0}) c.in-Err.e (fault_of new) (view new.config.device) _ c.in-Err.ensures.answers
             (leaves old sum (length opened.pages.items) k.tickets new (view old.config.device) (view new.config.device) k.history k.acknowledged k.floor (stays_put old new c.write_to_log.ensures.tickets c.write_to_log.ensures.position) _ _ _ left c.write_to_log.ensures.start refl),
-        still_open trace sum opened new k k.acknowledged at c.write_to_log.ensures.tickets c.write_to_log.ensures.position (was_free old new c.write_to_log.ensures.faulty) (c.write_to_log.ensures.keeps.fits k.history k.acknowledged k.floor at.unmarked at.fits),
+        still_open trace sum opened new k k.acknowledged at c.write_to_log.ensures.tickets c.write_to_log.ensures.position (was_free old new c.write_to_log.ensures.faulty) c.write_to_log.ensures.keeps (c.write_to_log.ensures.keeps.fits k.history k.acknowledged k.floor at.unmarked at.fits),
       );
     }

@@ -1,7 +1,8 @@
 use Rattle.std.proofs.Common.{◌∙◌, ℕ, ℤ, List, Option, get_or}
 use Rattle.sled_core.specs.declared.iterator.scan.ScannedRecord.{ScannedRecord}
 use Rattle.sled_store.specs.Device.{state_of}
-use Rattle.sled_log.proofs.Replay.LookLemmas.{no_record, fine_still, bad_more, bad_rest}
+use Rattle.sled_core.proofs.Iterates.TurnLemmas.{fine_still}
+use Rattle.sled_log.proofs.Replay.LookLemmas.{no_record, bad_more, bad_rest}
 use Rattle.sled_log.proofs.snapshot.blobs.check.Goals as goal
 
 pub loop-m-preserved : goal.loop-m-preserved

@@ -3,7 +3,8 @@ use Rattle.std.proofs.lemmas.List.{length-set}
 use Rattle.sled_core.specs.declared.iterator.scan.ScannedRecord.{ScannedRecord}
 use Rattle.sled_store.specs.Device.{Trace, state_of}
 use Rattle.sled_log.specs.Recovery.{NamesKind, HasBadBlob, before_open, opens, resolved}
-use Rattle.sled_log.proofs.Replay.LookLemmas.{no_record, fine_still, all_here, all_on, bad_before_here, bad_on, resolved_on}
+use Rattle.sled_core.proofs.Iterates.TurnLemmas.{fine_still}
+use Rattle.sled_log.proofs.Replay.LookLemmas.{no_record, all_here, all_on, bad_before_here, bad_on, resolved_on}
 use Rattle.sled_log.proofs.snapshot.blobs.resolve.Goals as goal
 
 pub with_blob-requires : goal.with_blob-requires

@@ -4,7 +4,8 @@ use Rattle.sled_core.specs.declared.iterator.scan.ScannedRecord.{ScannedRecord}
 use Rattle.sled_core.specs.declared.iterator.Segment.{Segment}
 use Rattle.sled_store.specs.Device.{Trace, state_of}
 use Rattle.sled_log.specs.Recovery.{NamesKind, scanned_of}
-use Rattle.sled_log.proofs.Replay.LookLemmas.{scan_kinds, bad_still}
+use Rattle.sled_core.proofs.Iterates.Kinds.{scan_kinds}
+use Rattle.sled_log.proofs.Replay.LookLemmas.{bad_still}
 use Rattle.sled_log.proofs.snapshot.reference.sound_scan_of.Goals as goal
 
 pub check-requires : goal.check-requires

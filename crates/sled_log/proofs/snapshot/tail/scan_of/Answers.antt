@@ -3,7 +3,7 @@ use Rattle.sled_core.proofs.Read.ReadingLemmas.{if_ok}
 use Rattle.sled_core.specs.declared.iterator.Segment.{Segment}
 use Rattle.sled_store.specs.Device.{state_of}
 use Rattle.sled_store.specs.declared.config.Config.{Config}
-use Rattle.sled_log.proofs.Passes.Slots.{scan_whole, damaged_whole}
+use Rattle.sled_core.proofs.Iterates.Slots.{scan_whole, damaged_whole}
 use Rattle.sled_log.proofs.snapshot.tail.scan_of.Goals as goal
 
 pub returns-in-Ok-clause-scan : goal.returns-in-Ok-clause-scan

@@ -2,7 +2,7 @@ use Rattle.std.proofs.Common.{ℕ, List, ap}
 use Rattle.sled_core.proofs.Read.ReadingLemmas.{if_ok}
 use Rattle.sled_store.specs.Device.{state_of}
 use Rattle.sled_store.specs.declared.config.Config.{Config}
-use Rattle.sled_log.proofs.Passes.Slots.{ready_alone, replayed_whole, damaged_before_whole}
+use Rattle.sled_core.proofs.Iterates.Slots.{ready_alone, replayed_whole, damaged_before_whole}
 use Rattle.sled_log.proofs.snapshot.pass.records.scan_up_to.Goals as goal
 
 pub scan_slot-requires-clause-ready : goal.scan_slot-requires-clause-ready

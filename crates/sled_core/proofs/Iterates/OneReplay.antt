@@ -1,0 +1,96 @@
+-- Up to a batch that is open, a segment is met in one way: what is given of it is so of each reading, and no reading has a damaged record before that.
+use Rattle.std.proofs.Common.{◌≡◌, ◌⊎◌, ◌∙◌, ◌+◌, ◌/◌, ◌≤◌, ◌++◌, ℕ, ℤ, Bool, true, false, List, [], ◌∷◌, Option, Some, None, IfNone, if◌then◌else◌, refl, sym, ap, subst, inl, inr}
+use Rattle.std.specs.Bool.{MatchBool}
+use Rattle.sled_core.specs.declared.iterator.Segment.{Segment}
+use Rattle.sled_core.specs.declared.iterator.scan.ScannedRecord.{ScannedRecord}
+use Rattle.sled_core.specs.declared.iterator.scan.ScanEnd.{ScanEnd}
+use Rattle.sled_core.specs.Reading.{IsMalformed}
+use Rattle.sled_core.specs.Scan.{IsPath, IsEnd}
+use Rattle.sled_core.specs.Replayed.{IsReplayed, HasBadBlob, with_blob, IsDamagedBefore}
+use Rattle.sled_core.specs.Tail.{Scanned, opens, open_at}
+use Rattle.sled_core.specs.Iterates.{Item, items_of, GivesOf}
+use Rattle.sled_core.proofs.Tail.OneReading.{one_met, met_formed, no_end_at, end_formed}
+
+-- what holds by a test, where another thing does in the second case
+pub second_case : (b : Bool) (A B X : Type 0) → (b ≡ false → B → X) → MatchBool b A B → MatchBool b A X
+second_case true A B X on holds = holds
+second_case false A B X on holds = on refl holds
+
+-- no batch is open among these: the first doesn't begin one, nor do the others
+pub none_open : (end : ℕ) (m : ScannedRecord) (ms : List ScannedRecord) → open_at end (m ∷ ms) ≡ None → (opens end m.what ≡ false) × (open_at end ms ≡ None)
+none_open end m ms none = by_test (opens end m.what) none where
+  by_test : (b : Bool) → (if b then Some m.place else open_at end ms) ≡ None → (b ≡ false) × (open_at end ms ≡ None)
+  by_test true is = absurd (cc)
+  by_test false is = (refl, is)
+
+-- what is asked behind a record that begins none
+shut : (end : ℕ) (m : ScannedRecord) (ms : List ScannedRecord) (P : Type 0) → opens end m.what ≡ false → IfNone (open_at end (m ∷ ms)) P → IfNone (open_at end ms) P
+shut end m ms P is asks = subst (λ (b : Bool). IfNone (if b then Some m.place else open_at end ms) P) is asks
+
+module _ (sum : List ℕ → ℕ) (size : ℕ) (log : List ℕ) (end slot place : ℕ) where
+  abbrev Path : ℕ → List ScannedRecord → ℕ → Type 0
+  Path at ms next = IsPath sum size log slot place at ms next
+
+  abbrev Ends : List ScannedRecord → ℕ → ScanEnd → Type 0
+  Ends ms stop why = IfNone (open_at end ms) (IsEnd sum size log slot place stop why)
+
+  module _ (blobs : ℤ → Option (List ℕ)) (on : List Item → Bool → Type 0) where
+    -- what is given of one reading is given of another one
+    gives_of_other : (at : ℕ) (ms : List ScannedRecord) (stop : ℕ) (why : ScanEnd) (ns : List ScannedRecord) (last : ℕ) (reason : ScanEnd) → Path at ms stop → Ends ms stop why → Path at ns last → Ends ns last reason
+        → (items : List Item) (damaged : Bool) → GivesOf sum blobs end ns on items damaged → GivesOf sum blobs end ms on items damaged
+    gives_of_other at [] stop why [] last reason path ends other behind items damaged gives = gives
+    gives_of_other at [] stop why (n ∷ ns) last reason path ends other behind items damaged gives =
+        absurd (no_end_at sum size log slot place at n why other.0 other.2 (subst (λ k. IsEnd sum size log slot place k why) path ends))
+    gives_of_other at (m ∷ ms) stop why [] last reason path ends other behind items damaged gives =
+        absurd (no_end_at sum size log slot place at m reason path.0 path.2 (subst (λ k. IsEnd sum size log slot place k reason) other behind))
+    gives_of_other at (m ∷ ms) stop why (n ∷ ns) last reason path ends other behind items damaged gives =
+        let same : n ≡ m = one_met sum size log (slot + at) (place / size) n other.2 m path.2 (other.1 ∙ sym path.1) in
+        let len : at + n.len ≡ at + m.len = ap (λ (y : ScannedRecord). at + y.len) same in
+        let here : GivesOf sum blobs end (m ∷ ns) on items damaged = subst (λ (y : ScannedRecord). GivesOf sum blobs end (y ∷ ns) on items damaged) same gives in
+        let Left : List ScannedRecord → Type 0 = λ ks.
+        (HasBadBlob sum blobs m.what × (items ≡ []) × (damaged ≡ true))
+        ⊎ ((HasBadBlob sum blobs m.what → ⊥) × ((rest : List Item) × (items ≡ items_of m (with_blob blobs m.what) ++ rest) × GivesOf sum blobs end ks on rest damaged)) in
+        second_case (opens end m.what) ((items ≡ []) × (damaged ≡ false)) (Left ns) (Left ms)
+        (λ is left. by is left
+        (λ rest. gives_of_other (at + m.len) ms stop why ns last reason path.3 (shut end m ms (IsEnd sum size log slot place stop why) is ends)
+        (subst (λ k. Path k ns last) len other.3)
+        (shut end n ns (IsEnd sum size log slot place last reason) (ap (λ (y : ScannedRecord). opens end y.what) same ∙ is) behind) rest damaged))
+        here
+      where
+        by : opens end m.what ≡ false
+            → (HasBadBlob sum blobs m.what × (items ≡ []) × (damaged ≡ true)) ⊎ ((HasBadBlob sum blobs m.what → ⊥) × ((rest : List Item) × (items ≡ items_of m (with_blob blobs m.what) ++ rest) × GivesOf sum blobs end ns on rest damaged))
+            → ((rest : List Item) → GivesOf sum blobs end ns on rest damaged → GivesOf sum blobs end ms on rest damaged)
+            → (HasBadBlob sum blobs m.what × (items ≡ []) × (damaged ≡ true)) ⊎ ((HasBadBlob sum blobs m.what → ⊥) × ((rest : List Item) × (items ≡ items_of m (with_blob blobs m.what) ++ rest) × GivesOf sum blobs end ms on rest damaged))
+        by is (inl bad) more = inl bad
+        by is (inr (fine, (rest, parts, gives))) more = inr (fine, (rest, parts, more rest gives))
+
+  -- no damaged record stands before a batch that is open
+  undamaged : (at : ℕ) (ms : List ScannedRecord) (stop : ℕ) (why : ScanEnd) (ns : List ScannedRecord) (next : ℕ) → Path at ms stop → Ends ms stop why → Path at ns next → open_at end ns ≡ None → next + 32 ≤ size
+      → IsMalformed sum size log (slot + next) (place / size) → ⊥
+  undamaged at [] stop why [] next path ends other none room bad =
+      end_formed sum size log slot place at why (subst (λ k. k + 32 ≤ size) other room) (subst (λ k. IsEnd sum size log slot place k why) path ends)
+      (subst (λ k. IsMalformed sum size log (slot + k) (place / size)) other bad)
+  undamaged at [] stop why (n ∷ ns) next path ends other none room bad =
+      no_end_at sum size log slot place at n why other.0 other.2 (subst (λ k. IsEnd sum size log slot place k why) path ends)
+  undamaged at (m ∷ ms) stop why [] next path ends other none room bad =
+      met_formed sum size log (slot + at) (place / size) m path.2 (subst (λ k. IsMalformed sum size log (slot + k) (place / size)) other bad)
+  undamaged at (m ∷ ms) stop why (n ∷ ns) next path ends other none room bad =
+      let same : n ≡ m = one_met sum size log (slot + at) (place / size) n other.2 m path.2 (other.1 ∙ sym path.1) in
+      let len : at + n.len ≡ at + m.len = ap (λ (y : ScannedRecord). at + y.len) same in
+      let parts = none_open end n ns none in
+      undamaged (at + m.len) ms stop why ns next path.3 (shut end m ms (IsEnd sum size log slot place stop why) (ap (λ (y : ScannedRecord). opens end y.what) (sym same) ∙ parts.0) ends)
+      (subst (λ k. Path k ns next) len other.3) parts.1 room bad
+
+module _ (sum : List ℕ → ℕ) (size : ℕ) (log : List ℕ) (end : ℕ) (x : Scanned) (s : Segment) (at : x.segment ≡ s) (read : IsReplayed sum size log end x) where
+  -- a segment that is read so has no damaged record before a batch that is open
+  pub replayed_undamaged : IsDamagedBefore sum size log end s → ⊥
+  replayed_undamaged bad =
+      let here = subst (λ (y : Segment). IsDamagedBefore sum size log end y) (sym at) bad in
+      undamaged sum size log end x.segment.slot x.segment.place 20 x.met x.stop x.why here.met here.next read.0 read.1 here.path here.not_open here.room here.damaged
+
+  -- and gives what any other reading gives
+  pub replayed_gives : (blobs : ℤ → Option (List ℕ)) (on : List Item → Bool → Type 0) (y : Scanned) → y.segment ≡ s → IsReplayed sum size log end y
+      → (items : List Item) (damaged : Bool) → GivesOf sum blobs end y.met on items damaged → GivesOf sum blobs end x.met on items damaged
+  replayed_gives blobs on y other again items damaged gives =
+      let there = subst (λ (t : Segment). IsPath sum size log t.slot t.place 20 y.met y.stop × IfNone (open_at end y.met) (IsEnd sum size log t.slot t.place y.stop y.why)) (other ∙ sym at) again in
+      gives_of_other sum size log end x.segment.slot x.segment.place blobs on 20 x.met x.stop x.why y.met y.stop y.why read.0 read.1 there.0 there.1 items damaged gives

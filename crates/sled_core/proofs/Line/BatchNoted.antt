@@ -1,0 +1,217 @@
+-- The manifest of a ticket ends, and its batch is noted: what is seen of the log then, and that it fits the history with the batch.
+use Rattle.std.proofs.Common.{◌≡◌, ◌∙◌, ◌⊎◌, ◌≤◌, ◌<◌, ◌+◌, ◌-◌, ◌*◌, ◌/◌, ◌<ℤ◌, ◌++◌, ◌∷◌, [], ap, sym, refl, arith, subst, inl, inr, ℕ, suc, pos, Bool, true, List, length, map, set, None, Some}
+use Rattle.std.specs.Prelude.{int_lt, unsigned_abs, if◌then◌else◌}
+use Rattle.std.specs.List.{Contains, slice_get}
+use Rattle.std.proofs.lemmas.Int.{ints}
+use Rattle.std.proofs.lemmas.List.{map-append}
+use Rattle.sled_codec.specs.History.{AddsBatch, Batch, Batched, History, Message, Step}
+use Rattle.sled_store.specs.Accounts.{machine_of}
+use Rattle.sled_store.specs.Device.{Trace, state_of}
+use Rattle.sled_store.specs.declared.config.RunningConfig.{RunningConfig}
+use Rattle.sled_core.specs.Batches.{NotesBatchOf, batch_for}
+use Rattle.sled_core.specs.Begun.{SegmentView, line_at, segment_view, view_at}
+use Rattle.sled_core.specs.Buffers.{IsHeaded, marking}
+use Rattle.sled_core.specs.declared.iobuf.ReservationState.TheVariants.{Manifest}
+use Rattle.sled_core.specs.declared.iobuf.Reserved.{Reserved}
+use Rattle.sled_core.specs.declared.logger.batches.NotedBatch.{NotedBatch}
+use Rattle.sled_core.specs.declared.logger.Log.{Log}
+use Rattle.sled_core.specs.declared.reservation.Reservation.{Reservation}
+use Rattle.sled_core.specs.Fits.{Awaits, AwaitsIn, Holds, IsInRecord, KeepsAll, KeepsBuffers, config_of, current_of, fault_of, line_of, noted_in, open_places, reserved_end, synced_end}
+use Rattle.sled_core.specs.Keeps.{GoesOn, KeepsOthers, SamePosition}
+use Rattle.sled_core.specs.Manifests.{is_manifest}
+use Rattle.sled_core.specs.OpenBatches.{batch_of, not_whole, stable_below}
+use Rattle.sled_core.specs.OpenPlaces.{TakesOut, open_manifests, open_places_along}
+use Rattle.sled_core.specs.Positions.{position_in}
+use Rattle.sled_core.specs.Running.{Fits}
+use Rattle.sled_core.specs.Tickets.{IsFor, index_of, is_manifest_of, place_of}
+use Rattle.sled_core.specs.Turned.{ChangesLine, NotesBatch, ended_now}
+use Rattle.sled_core.specs.Waiting.{last_of, spans, start_in, unwritten}
+use Rattle.sled_core.proofs.Holds.HoldsMarked.{noted_adds, noted_history}
+use Rattle.sled_core.proofs.Holds.KeptCalls.{goes_on_quietly, position_further}
+use Rattle.sled_core.proofs.Line.EndedKeeps.{keeps_ended, position_ended}
+use Rattle.sled_core.proofs.Line.EndedLine.{marking_short}
+use Rattle.sled_core.proofs.Line.EndedTickets.{ended_takes, others_await, ticket_among, ticket_there}
+use Rattle.sled_core.proofs.Line.EndsBatch.{fits_noted, line_unwritten}
+use Rattle.sled_core.proofs.Line.Facts.{IsSegment, nth_facts}
+use Rattle.sled_core.proofs.Line.LogSpans.{ended_buffers}
+use Rattle.sled_core.proofs.Line.Moves.{fits_as}
+use Rattle.sled_core.proofs.Line.OpenManifests.{manifests_ended}
+use Rattle.sled_core.proofs.Reached.OpenBatch.{not_whole-with}
+use Rattle.sled_core.proofs.Reached.StableBelow.{stable_one_more}
+use Rattle.sled_core.proofs.Reserve.Ranges.{at_there}
+use Rattle.sled_core.proofs.Stable.Places.{reserved_ends, reserved_in_reach}
+
+-- A log has noted a batch, and is otherwise what it was.
+module _ {D C : Type 0} (mid new : Log D C) (rest : NotesBatch mid new) where
+  -- Its segments lie where they lay, with what they had,
+  pub noted_line : line_of new ≡ line_of mid
+  noted_line = λ i. line_at (rest.site i) (rest.buffer i) (rest.behind i).items
+
+  noted_current : current_of new ≡ current_of mid
+  noted_current = λ i. last_of (view_at (rest.site i) (rest.buffer i)) (map segment_view (rest.behind i).items)
+
+  pub noted_synced : synced_end new ≡ synced_end mid
+  noted_synced = λ i. (rest.site i).place + (rest.buffer i).written_len
+
+  -- the next record begins where it would have begun,
+  pub noted_position : SamePosition mid new
+  noted_position = record {
+    position = λ i. position_in (rest.config i).config.segment_size (noted_current i) (machine_of (rest.accountant i));
+    reserved = rest.reserved;
+    pins = rest.pins;
+    size = ap (λ (c : RunningConfig D C). c.config.segment_size) rest.config;
+  }
+
+  -- its buffers are the same,
+  pub noted_buffers : KeepsBuffers mid new
+  noted_buffers = record { waiting = ap (λ (l : List SegmentView). spans (unwritten l)) noted_line; start = ap start_in noted_current }
+
+  -- and the batch is among those that it has noted, where it isn't wholly written.
+  pub noted_more : (b : NotedBatch) → new.noted.items ≡ mid.noted.items ++ b ∷ [] → synced_end mid ≤ b.peg → noted_in new ≡ noted_in mid ++ batch_of b ∷ []
+  noted_more b items later =
+      (λ i. not_whole (noted_synced i) (map batch_of (items i)))
+      ∙ ap (not_whole (synced_end mid)) (map-append batch_of mid.noted.items (b ∷ []))
+      ∙ not_whole-with (synced_end mid) (map batch_of mid.noted.items) (batch_of b) later
+
+-- The reservation of a ticket, by numbers.
+pub record IsReservedAt {D C : Type 0} (log : Log D C) (ticket : Reservation) (n index : ℕ) : Type 0 where
+  pub segment : SegmentView
+  pub reserved : Reserved
+  pub among : slice_get (line_of log) n ≡ Some segment
+  pub there : slice_get segment.parts.reserved (index - segment.gone) ≡ Some reserved
+  pub own : IsFor segment.parts.site reserved ticket
+
+pub reserved_at : {D C : Type 0} (log : Log D C) (ticket : Reservation) (m : Message) → Awaits log ticket m → (place n index : ℕ) → place ≡ unsigned_abs (place_of ticket) → n ≡ (place - log.site.place) / log.config.config.segment_size → index ≡ index_of ticket
+    → IsReservedAt log ticket n index
+reserved_at log ticket m awaits place n index place_is n_is index_is = record {
+  segment = awaits.segment;
+  reserved = awaits.reserved;
+  among = ticket_among log ticket m awaits place n index place_is n_is index_is;
+  there = ticket_there log ticket m awaits place n index place_is n_is index_is;
+  own = awaits.own;
+}
+
+-- A manifest has 8 bytes behind its header.
+module _ {D C : Type 0} (log : Log D C) (ticket : Reservation) (n index : ℕ) (f : IsReservedAt log ticket n index) (manifest : is_manifest_of ticket ≡ true) where
+  pub of_manifest : is_manifest f.reserved.log_kind f.reserved.page ≡ true
+  of_manifest = sym f.own.manifest ∙ manifest
+
+  pub manifest_body : f.reserved.len ≡ f.reserved.header_len + 8
+  manifest_body = (at_there IsHeaded f.segment.parts.reserved (index - f.segment.gone) f.reserved f.there (nth_facts log n f.segment f.among).headed).2 of_manifest
+
+  -- whichever reservation is there
+  pub body_there : (v : SegmentView) (r : Reserved) → slice_get (line_of log) n ≡ Some v → slice_get v.parts.reserved (index - v.gone) ≡ Some r → r.len ≡ r.header_len + 8
+  body_there v r among there =
+      let both : Some f.segment ≡ Some v = sym f.among ∙ among in
+      let same : f.segment ≡ v = cc in
+      let both_there : Some f.reserved ≡ Some r = sym f.there ∙ ap (λ (x : SegmentView). slice_get x.parts.reserved (index - x.gone)) same ∙ there in
+      let is : f.reserved ≡ r = cc in
+      subst (λ (x : Reserved). x.len ≡ x.header_len + 8) is manifest_body
+
+-- It ends with a peg, and then the batch is noted.
+module _ {D C : Type 0} (trace : D → Trace) (sum : List ℕ → ℕ) (old mid new : Log D C) (ticket : Reservation) (n index : ℕ) (f : IsReservedAt old ticket n index) (manifest : is_manifest_of ticket ≡ true) (peg : ℕ)
+    (line : line_of mid ≡ set (line_of old) n (ended_now (index - f.segment.gone) f.reserved (marking sum f.segment.parts.bytes f.reserved peg) Manifest f.segment)) (ended : ChangesLine old mid) where
+  abbrev v : SegmentView
+  v = f.segment
+
+  abbrev r : Reserved
+  r = f.reserved
+
+  abbrev i : ℕ
+  i = index - f.segment.gone
+
+  facts : IsSegment old.config.config.segment_size (old.site.place + n * old.config.config.segment_size) f.segment
+  facts = nth_facts old n f.segment f.among
+
+  short : length (marking sum f.segment.parts.bytes f.reserved peg) ≤ f.reserved.len
+  short = marking_short sum v i r peg facts f.there f.own.open_yet (manifest_body old ticket n index f manifest)
+
+  -- One manifest fewer is open.
+  pub one_fewer_open : open_manifests (line_of old) ≡ suc (open_manifests (line_of mid))
+  one_fewer_open = manifests_ended (line_of old) n v i r (marking sum v.parts.bytes r peg) Manifest true f.among f.there f.own.open_yet (of_manifest old ticket n index f manifest) refl ∙ ap (λ (l : List SegmentView). suc (open_manifests l)) (sym line)
+
+  module _ (rest : NotesBatch mid new) (low : ℕ) (low_is : low ≡ unsigned_abs (place_of ticket)) (noted : synced_end mid ≤ peg → noted_in new ≡ noted_in mid ++ record { low = low; peg = peg } ∷ []) (above : place_of ticket <ℤ pos peg) where
+    begins : low ≡ v.parts.site.place + r.from
+    begins = low_is ∙ ap unsigned_abs f.own.place
+
+    later : v.parts.site.place + r.from < peg
+    later = let at = f.own.place in omega (arith, ints, at, above)
+
+    ended_same : KeepsAll old mid
+    ended_same = keeps_ended old mid n v f.among i r f.there f.own.open_yet (marking sum v.parts.bytes r peg) short Manifest line ended
+
+    now_synced : synced_end new ≡ synced_end old
+    now_synced = noted_synced mid new rest ∙ ended_same.synced
+
+    now_config : config_of new ≡ config_of old
+    now_config = rest.config ∙ ended.config
+
+    low_unwritten : synced_end old ≤ v.parts.site.place + r.from
+    low_unwritten = line_unwritten sum old.config.config.segment_size (state_of (trace old.config.device)) old.fault v i r f.there f.own.open_yet facts (line_of old) n old.site.place f.among (nth_facts old)
+
+    -- The batch is noted,
+    now_noted : noted_in new ≡ noted_in old ++ record { low = v.parts.site.place + r.from; peg = peg } ∷ []
+    now_noted =
+        let past = low_unwritten in
+        let far = later in
+        let same = ended_same.synced in
+        noted (omega (arith, past, far, same))
+        ∙ (λ j. ended_same.noted j ++ record { low = begins j; peg = peg } ∷ [])
+
+    goes_up : int_lt (place_of ticket) (pos peg) ≡ true
+    goes_up = grind (arith, ints, above)
+
+    pub batch_same : NotesBatchOf ticket (pos peg) old new
+    batch_same = record {
+      config = now_config;
+      synced = now_synced;
+      noted = now_noted ∙ (λ j. noted_in old ++ record { low = (sym begins ∙ low_is) j; peg = peg } ∷ []) ∙ sym (ap (λ (o : Bool). if o then noted_in old ++ batch_for ticket (pos peg) ∷ [] else noted_in old) goes_up);
+      stable = (λ j. stable_below (now_synced j) (now_noted j)) ∙ stable_one_more (synced_end old) (noted_in old) (record { low = v.parts.site.place + r.from; peg = peg }) low_unwritten;
+      fault = rest.fault ∙ ended.fault;
+      pins = rest.pins ∙ ended.pins;
+    }
+
+    pub batch_position : SamePosition old new
+    batch_position = position_further old mid new (position_ended old mid n v f.among i r f.there f.own.open_yet (marking sum v.parts.bytes r peg) short Manifest line ended) (noted_position mid new rest)
+
+    pub batch_buffers : KeepsBuffers old new
+    batch_buffers =
+        let one = ended_buffers old mid n v i r (marking sum v.parts.bytes r peg) Manifest f.among line in
+        let other = noted_buffers mid new rest in
+        record { waiting = other.waiting ∙ one.waiting; start = other.start ∙ one.start }
+
+    pub batch_goes_on : GoesOn trace sum old new
+    batch_goes_on = goes_on_quietly trace sum old new (record { config = ap (λ (c : RunningConfig D C). c.config) now_config; checksum = ap (λ (c : RunningConfig D C). c.checksum) now_config })
+        (ap (λ (c : RunningConfig D C). trace c.device) now_config) (let same = now_synced in omega (arith, same))
+
+    -- the reservation isn't open any more, and the others are for what they were for,
+    pub batch_opens : (place : ℕ) → pos place ≡ place_of ticket → TakesOut place (open_places old) (open_places new)
+    batch_opens place is =
+        let here : v.parts.site.place + r.from ≡ place = sym (ap unsigned_abs (is ∙ f.own.place)) in
+        subst (λ (p : ℕ). TakesOut p (open_places old) (open_places new)) here
+        (subst (λ (l : List SegmentView). TakesOut (v.parts.site.place + r.from) (open_places old) (open_places_along l)) (sym (noted_line mid new rest ∙ line))
+        (ended_takes old.config.config.segment_size (line_of old) old.site.place n v f.among (nth_facts old) i r f.there f.own.open_yet (marking sum v.parts.bytes r peg) short Manifest refl))
+
+    pub batch_others : KeepsOthers trace sum ticket old new
+    unfolding Holds
+    batch_others H other m holds awaits elsewhere =
+        subst (λ (l : List SegmentView). AwaitsIn l other m) (sym (noted_line mid new rest ∙ line))
+        (others_await old.config.config.segment_size (line_of old) old.site.place n v f.among (nth_facts old) i r f.there f.own.open_yet (marking sum v.parts.bytes r peg) short Manifest sum (state_of (trace old.config.device)) old.fault H holds.holds ticket other m f.own.place awaits elsewhere)
+
+    -- and the log fits the history with the batch.
+    pub batch_fits : fault_of old ≡ None → peg < reserved_end old → ((b : Batch) → Contains (noted_in old) b → (pos b.peg <ℤ place_of ticket) ⊎ (peg < b.low)) → (H : History) (A f' : ℕ) (U : List Message) → Fits trace sum old H A f' U → IsInRecord H.messages peg
+        → (H' : History) × Step H (Batched (batch_for ticket (pos peg))) H' × Fits trace sum new H' A f' U
+    unfolding Fits Step
+    batch_fits none within apart H A f' U fits pegged =
+        let b : Batch = record { low = v.parts.site.place + r.from; peg = peg } in
+        let size : ℕ = old.config.config.segment_size in
+        let at = f.own.place in
+        let reach = reserved_in_reach old in
+        let ends = reserved_ends old in
+        let now = fits_noted sum size (state_of (trace old.config.device)) old.fault (line_of old) n v f.among old.site.place (nth_facts old) i r f.there f.own.open_yet (of_manifest old ticket n index f manifest) peg (omega (arith, within, reach)) later (omega (arith, within, ends)) (machine_of old.accountant) (noted_in old)
+        (λ c known. elim (apart c known) [ inl front ↦ inl (omega (arith, ints, front, at)) | inr behind ↦ inr behind ]) old.pins H A f' U old.config.config.least none pegged fits in (
+          noted_history H b,
+          subst (λ (x : Batch). AddsBatch H x (noted_history H b)) (λ j. record { low = (sym begins ∙ low_is) j; peg = peg }) (noted_adds H b later),
+          fits_as trace sum old new now_config (rest.fault ∙ ended.fault) (noted_in old ++ b ∷ []) now_noted (set (line_of old) n (ended_now i r (marking sum v.parts.bytes r peg) Manifest v)) (noted_line mid new rest ∙ line) (machine_of old.accountant)
+              (ap machine_of (rest.accountant ∙ ended.accountant)) (noted_history H b) A f' U (rest.pins ∙ ended.pins) now,
+        )

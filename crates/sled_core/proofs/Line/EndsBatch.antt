@@ -1,0 +1,153 @@
+-- A log whose segments fit a history notes a batch: with the manifest's record ended they fit the history with the batch, which is noted besides.
+use Rattle.std.proofs.Common.{◌≡◌, ◌⊎◌, ◌≤◌, ◌<◌, ◌+◌, ◌*◌, ◌^◌, ap, refl, arith, subst, inl, inr, ℕ, zero, suc, max, true, List, [], ◌∷◌, ◌++◌, length, map, set, Option, None, Some}
+use Rattle.std.specs.List.{Contains, slice_get}
+use Rattle.std.specs.declared.io.Error.{Error as IoError}
+use Rattle.std.proofs.Math.Nat.{suc-mul}
+use Rattle.std.proofs.lemmas.Bool.{cases_lt}
+use Rattle.std.proofs.lemmas.List.Elements.{All-contains, Contains-append_cases}
+use Rattle.sled_codec.specs.History.{Batch, History, Message}
+use Rattle.sled_store.specs.Device.{State}
+use Rattle.sled_store.specs.SegmentStates.{Machine}
+use Rattle.sled_store.proofs.Segments.Elements.{in_first, in_rest}
+use Rattle.sled_core.specs.declared.iobuf.ReservationState.TheVariants.{Manifest, Open}
+use Rattle.sled_core.specs.declared.iobuf.Reserved.{Reserved}
+use Rattle.sled_core.specs.Begun.{SegmentView}
+use Rattle.sled_core.specs.Buffers.{marking}
+use Rattle.sled_core.specs.Fits.{FitsBatches, HoldBehind, HoldsLine, IsInRecord, line_end, parts_in, written_to}
+use Rattle.sled_core.specs.Manifests.{is_manifest}
+use Rattle.sled_core.specs.Running.{FitsWith}
+use Rattle.sled_core.specs.Turned.{ended_now}
+use Rattle.sled_core.proofs.Flush.Completed.{all_below}
+use Rattle.sled_core.proofs.Holds.FitsBatches.{batches_noted, batches_up}
+use Rattle.sled_core.proofs.Holds.HoldsMarked.{begin_from, noted_adds, noted_history}
+use Rattle.sled_core.proofs.Holds.MessagesBeside.{message_before}
+use Rattle.sled_core.proofs.Holds.WholeHistory.{behind_above}
+use Rattle.sled_core.proofs.Line.EndedTickets.{entry_low, segment_chain}
+use Rattle.sled_core.proofs.Line.Ends.{line_holds, slots_set, written_inside, written_set}
+use Rattle.sled_core.proofs.Line.Facts.{IsSegment}
+use Rattle.sled_core.proofs.Line.LineEnds.{end_set}
+use Rattle.sled_core.proofs.Line.Noted.{mark_fits, mark_placed, marks_in}
+use Rattle.sled_core.proofs.Reserve.Ranges.{at_there, chain_within}
+
+-- one of these parts is of one of the segments
+parts_there : (vs : List SegmentView) (k : ℕ) (v : SegmentView) → slice_get vs k ≡ Some v → Contains (map parts_in vs) v.parts
+parts_there [] k v there = cc
+parts_there (w ∷ ws) zero v there = let same : w ≡ v = cc in subst (λ (x : SegmentView). Contains (parts_in w ∷ map parts_in ws) x.parts) same (in_first (parts_in w) (map parts_in ws))
+parts_there (w ∷ ws) (suc k) v there = in_rest (parts_in w) v.parts (map parts_in ws) (parts_there ws k v there)
+
+module _ (sum : List ℕ → ℕ) (size : ℕ) (device : State) (fault : Option IoError) (v : SegmentView) (i : ℕ) (r : Reserved) (at : slice_get v.parts.reserved i ≡ Some r) (is_open : r.state ≡ Open) {own_place : ℕ} (own_facts : IsSegment size own_place v) where
+  abbrev low : ℕ
+  low = v.parts.site.place + r.from
+
+  -- A message of segments that begins in front of an open reservation of one of them ends there.
+  behind_before : (place : ℕ) (vs : List SegmentView) (stays : Message → Type 0) (batches : List Batch) (ms : List Message) → HoldBehind sum size device fault place (map parts_in vs) stays batches ms → (k : ℕ) → slice_get vs k ≡ Some v
+      → (m : Message) → Contains ms m → m.place < low → m.place + m.size ≤ low
+  behind_before place [] stays batches ms holds k there m known lower = cc
+  behind_before place (w ∷ ws) stays batches ms (own, later, all, here, rest) zero there m known lower =
+      let same : w ≡ v = cc in
+      elim (Contains-append_cases own later m (subst (λ (l : List Message). Contains l m) all known)) [
+        | inl mine ↦ subst (λ (x : SegmentView). (j : ℕ) (y : Reserved) → slice_get x.parts.reserved j ≡ Some y → y.state ≡ Open → m.place < x.parts.site.place + y.from → m.place + m.size ≤ x.parts.site.place + y.from) same
+            (λ j y at_y open_y under. message_before sum size w.parts.site device fault w.parts.bytes w.parts.written_len w.parts.sealed w.parts.reserved (record { messages = own; batches = batches }) here.segment j y at_y open_y m mine under)
+            i r at is_open lower
+        | inr behind ↦ absurd (
+            let far = All-contains (λ (x : Message). place + size ≤ x.place) later m (behind_above sum size device fault (place + size) (map parts_in ws) stays batches later rest) behind in
+            let begins = subst (λ (x : SegmentView). x.parts.site.place ≡ place) same here.next in
+            let inside = entry_low v i r own_facts at in
+            omega (arith, far, begins, inside, lower))
+      ]
+  behind_before place (w ∷ ws) stays batches ms (own, later, all, here, rest) (suc k) there m known lower =
+      elim (Contains-append_cases own later m (subst (λ (l : List Message). Contains l m) all known)) [
+        | inl mine ↦ (
+            let ends = (All-contains (λ (x : Message). (x.place < w.parts.site.place + length w.parts.bytes) × (x.place + x.size ≤ w.parts.site.place + length w.parts.bytes)) own m
+            (all_below sum size w.parts.site device fault w.parts.bytes w.parts.written_len w.parts.sealed w.parts.reserved (record { messages = own; batches = batches }) here.segment) mine).1 in
+            let next = here.next in
+            let inside = here.inside in
+            let far = begin_from sum size device fault (place + size) (map parts_in ws) stays batches later rest v.parts (parts_there ws k v there) in
+            omega (arith, ends, next, inside, far))
+        | inr behind ↦ behind_before (place + size) ws stays batches later rest k there m behind lower
+      ]
+
+  pub line_before : (line : List SegmentView) (n place : ℕ) (H : History) → slice_get line n ≡ Some v → ((k : ℕ) (x : SegmentView) → slice_get line k ≡ Some x → IsSegment size (place + k * size) x) → HoldsLine sum size device fault line H
+      → (m : Message) → Contains H.messages m → m.place < low → m.place + m.size ≤ low
+  line_before [] n place H there facts holds m known lower = cc
+  line_before (w ∷ ws) zero place H there facts holds m known lower =
+      let same : w ≡ v = cc in
+      elim (Contains-append_cases holds.head holds.later m (subst (λ (l : List Message). Contains l m) holds.messages known)) [
+        | inl mine ↦ subst (λ (x : SegmentView). (j : ℕ) (y : Reserved) → slice_get x.parts.reserved j ≡ Some y → y.state ≡ Open → m.place < x.parts.site.place + y.from → m.place + m.size ≤ x.parts.site.place + y.from) same
+            (λ j y at_y open_y under. message_before sum size w.parts.site device fault w.parts.bytes w.parts.written_len w.parts.sealed w.parts.reserved (record { messages = holds.head; batches = H.batches }) holds.own j y at_y open_y m mine under)
+            i r at is_open lower
+        | inr behind ↦ absurd (
+            let far = All-contains (λ (x : Message). w.parts.site.place + size ≤ x.place) holds.later m (behind_above sum size device fault (w.parts.site.place + size) (map parts_in ws) _ H.batches holds.later holds.others) behind in
+            let begins = ap (λ (x : SegmentView). x.parts.site.place) same in
+            let inside = entry_low v i r own_facts at in
+            omega (arith, far, begins, inside, lower))
+      ]
+  line_before (w ∷ ws) (suc k) place H there facts holds m known lower =
+      elim (Contains-append_cases holds.head holds.later m (subst (λ (l : List Message). Contains l m) holds.messages known)) [
+        | inl mine ↦ (
+            let ends = (All-contains (λ (x : Message). (x.place < w.parts.site.place + length w.parts.bytes) × (x.place + x.size ≤ w.parts.site.place + length w.parts.bytes)) holds.head m
+            (all_below sum size w.parts.site device fault w.parts.bytes w.parts.written_len w.parts.sealed w.parts.reserved (record { messages = holds.head; batches = H.batches }) holds.own) mine).1 in
+            let short = (facts zero w refl).short in
+            let far = begin_from sum size device fault (w.parts.site.place + size) (map parts_in ws) _ H.batches holds.later holds.others v.parts (parts_there ws k v there) in
+            omega (arith, ends, short, far))
+        | inr behind ↦ behind_before (w.parts.site.place + size) ws _ H.batches holds.later holds.others k there m behind lower
+      ]
+
+  -- It begins where nothing is written yet.
+  pub line_unwritten : (line : List SegmentView) (n place : ℕ) → slice_get line n ≡ Some v → ((k : ℕ) (x : SegmentView) → slice_get line k ≡ Some x → IsSegment size (place + k * size) x) → written_to line ≤ low
+  line_unwritten [] n place there facts = cc
+  line_unwritten (w ∷ ws) zero place there facts =
+      let same : w ≡ v = cc in
+      let inside = at_there (λ (z : Reserved). (max 20 v.parts.written_len ≤ z.from) × (z.from + z.len ≤ length v.parts.bytes)) v.parts.reserved i r at (chain_within (max 20 v.parts.written_len) (length v.parts.bytes) v.parts.reserved (segment_chain v own_facts)) in
+      let begins = ap (λ (x : SegmentView). x.parts.site.place + x.parts.written_len) same in
+      omega (arith, inside.0, begins)
+  line_unwritten (w ∷ ws) (suc k) place there facts =
+      let first = facts zero w refl in
+      let its = facts (suc k) v there in
+      let one = first.at in
+      let other = its.at in
+      let grown = written_inside w first in
+      let short = first.short in
+      omega (arith, one, other, grown, short, suc-mul k size)
+
+-- The record of a manifest has ended with its peg.
+module _ (sum : List ℕ → ℕ) (size : ℕ) (device : State) (fault : Option IoError) (line : List SegmentView) (n : ℕ) (v : SegmentView) (there : slice_get line n ≡ Some v) (place : ℕ)
+    (facts : (k : ℕ) (x : SegmentView) → slice_get line k ≡ Some x → IsSegment size (place + k * size) x) (i : ℕ) (r : Reserved) (at : slice_get v.parts.reserved i ≡ Some r) (is_open : r.state ≡ Open)
+    (manifest : is_manifest r.log_kind r.page ≡ true) (peg : ℕ) (small : peg < 2 ^ 63) (later : v.parts.site.place + r.from < peg) (short : peg < line_end size line) (machine : Machine) (noted : List Batch)
+    (apart : (c : Batch) → Contains noted c → (c.peg < v.parts.site.place + r.from) ⊎ (peg < c.low)) where
+  abbrev b : Batch
+  b = record { low = v.parts.site.place + r.from; peg = peg }
+
+  unwritten : written_to line ≤ b.low
+  unwritten = line_unwritten sum size device fault v i r at is_open (facts n v there) line n place there facts
+
+  -- The others lie apart from it: those that are noted, and those that end in front of it.
+  others : (H : History) → FitsBatches (written_to line) (line_end size line) noted H → (c : Batch) → Contains H.batches c → (c.peg < b.low) ⊎ (peg < c.low)
+  others H fits c known = elim (cases_lt c.peg (written_to line)) [
+    | inl ended ↦ (let low = unwritten in inl (omega (arith, ended, low)))
+    | inr open_yet ↦ apart c (fits.all c known open_yet)
+  ]
+
+  batches_now : (H : History) → HoldsLine sum size device fault line H → FitsBatches (written_to line) (line_end size line) noted H
+      → FitsBatches (written_to (set line n (ended_now i r (marking sum v.parts.bytes r peg) Manifest v))) (line_end size (set line n (ended_now i r (marking sum v.parts.bytes r peg) Manifest v))) (noted ++ record { low = v.parts.site.place + r.from; peg = peg } ∷ [])
+      (noted_history H (record { low = v.parts.site.place + r.from; peg = peg }))
+  batches_now H holds fits =
+      let marked : SegmentView = ended_now i r (marking sum v.parts.bytes r peg) Manifest v in
+      let now : History = noted_history H b in
+      batches_up (written_to line) (written_to (set line n marked)) (line_end size line) (line_end size (set line n marked)) (noted ++ b ∷ []) now
+      (let same = written_set line n v marked there (λ j. v.parts.site) (λ j. v.parts.written_len) in omega (arith, same)) (let same = end_set size line n v marked there (λ j. v.parts.site) in omega (arith, same))
+      (batches_noted (written_to line) (line_end size line) noted H now b (noted_adds H b later) unwritten short (λ c known open_yet. others H fits c known)
+      (line_before sum size device fault v i r at is_open (facts n v there) line n place H there facts holds) fits)
+
+  pub fits_noted : (pins : ℕ) (H : History) (A f : ℕ) (U : List Message) → 256 ≤ size → fault ≡ None → IsInRecord H.messages peg → FitsWith sum noted size device fault line machine pins H A f U
+      → FitsWith sum (noted ++ record { low = v.parts.site.place + r.from; peg = peg } ∷ []) size device fault (set line n (ended_now i r (marking sum v.parts.bytes r peg) Manifest v)) machine pins (noted_history H (record { low = v.parts.site.place + r.from; peg = peg })) A f U
+  fits_noted pins H A f U least ok pegged fits =
+      let holds = line_holds sum size device fault line fits.reach pins H A f U fits.parts in
+      let marks = marks_in sum size device fault line fits.reach pins H A f U fits.parts in
+      record {
+        reach = fits.reach;
+        parts = mark_fits sum size device fault v i r at is_open manifest peg small later line n place fits.reach pins H A f U least ok there facts pegged
+            (λ placed. mark_placed sum size device fault v i r at is_open manifest peg small later line n place H there facts pegged marks holds placed (others H fits.batches)) fits.parts;
+        batches = batches_now H holds fits.batches;
+        slots = slots_set size line device.log.bytes fault machine n v (ended_now i r (marking sum v.parts.bytes r peg) Manifest v) there (λ j. v.parts.site) fits.slots;
+      }

@@ -1,0 +1,21 @@
+use Rattle.std.proofs.Common.{◌≡◌, ◌-◌, ◌≤◌, List, Bool, length}
+use Rattle.sled_core.specs.Iterates.{Item}
+use Rattle.sled_core.specs.Ahead.{CanGoOn, IsLeft, IsSpent, most_left}
+use Rattle.sled_core.proofs.iterator.rest.Rest.next_message.Given as goal
+
+-- what was left at first is left; the device was only read
+abbrev pub invariant-loop-message : goal.invariant-loop-message
+invariant-loop-message g l =
+    record {
+      left : (items : List Item) (damaged : Bool) → IsLeft g.D.Device.trace g.C.Checksum.sum_of l.fn.config l.fn.self items damaged → IsLeft g.D.Device.trace g.C.Checksum.sum_of l.fn.config l.self items damaged;
+      fits : CanGoOn l.fn.config.config.segment_size l.self;
+      spent : IsSpent l.fn.self → IsSpent l.self;
+      no_more : most_left l.self ≤ most_left l.fn.self;
+      trace : g.D.Device.trace l.config.device ≡ g.D.Device.trace l.fn.config.device;
+      faults : g.D.Device.faults l.config.device ≡ g.D.Device.faults l.fn.config.device;
+      config : l.config.config ≡ l.fn.config.config;
+      checksum : l.config.checksum ≡ l.fn.config.checksum;
+    }
+
+abbrev pub decreases-loop-message : goal.decreases-loop-message
+decreases-loop-message g l = length l.self.segments.items - l.self.read

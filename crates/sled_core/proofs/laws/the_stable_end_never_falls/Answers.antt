@@ -1,0 +1,8 @@
+use Rattle.sled_core.proofs.PublicLaws.{stable_never_falls, stable_stays}
+use Rattle.sled_core.proofs.laws.the_stable_end_never_falls.Goals as goal
+
+pub returns-clause-keeps : goal.returns-clause-keeps
+returns-clause-keeps g c = λ old new keeps. stable_never_falls g.D.Device.trace g.C.Checksum.sum_of old new keeps
+
+pub returns-clause-same : goal.returns-clause-same
+returns-clause-same g c = λ old new same. stable_stays old new same

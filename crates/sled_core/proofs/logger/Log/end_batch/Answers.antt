@@ -1,0 +1,116 @@
+-- The manifest of a ticket has ended, in whichever segment it lies, and its batch is noted.
+use Rattle.std.proofs.Common.{◌≡◌, ◌∙◌, arith, suc}
+use Rattle.std.specs.Prelude.{unsigned_abs}
+use Rattle.sled_core.specs.Fits.{line_of}
+use Rattle.sled_core.specs.OpenPlaces.{open_manifests}
+use Rattle.sled_core.specs.Tickets.{place_of}
+use Rattle.sled_core.proofs.Holds.KeptCalls.{goes_on_still}
+use Rattle.sled_core.proofs.Line.BatchNoted.{IsReservedAt, batch_buffers, batch_fits, batch_goes_on, batch_opens, batch_others, batch_position, batch_same, body_there, one_fewer_open, reserved_at}
+use Rattle.sled_core.proofs.Line.EndedTickets.{says_place, ticket_above, ticket_open}
+use Rattle.sled_core.proofs.logger.Log.end_batch.Given as given
+use Rattle.sled_core.proofs.logger.Log.end_batch.Goals as goal
+
+-- The ticket says which reservation it is.
+
+pub segment_of-n-requires : goal.segment_of-n-requires
+segment_of-n-requires g c =
+    let above = ticket_above c.args.self.now c.args.ticket c.requires.awaited.0 c.requires.awaited.1 in
+    let place : c.unsigned_abs-low.result ≡ unsigned_abs (place_of c.args.ticket) = c.unsigned_abs-low.ensures.value ∙ says_place c.lsn-place.result (place_of c.args.ticket) c.lsn-place.type_inv c.lsn-place.ensures in
+    omega (arith, above, place)
+
+pub returns-in-Some-clause-goes_on : goal.returns-in-Some-clause-goes_on
+returns-in-Some-clause-goes_on g c = goes_on_still g.D.Device.trace g.C.Checksum.sum_of c.args.self.now
+
+pub mark_batch_in-requires-clause-awaited : goal.mark_batch_in-requires-clause-awaited
+mark_batch_in-requires-clause-awaited g c =
+    let place : c.unsigned_abs-low.result ≡ unsigned_abs (place_of c.args.ticket) = c.unsigned_abs-low.ensures.value ∙ says_place c.lsn-place.result (place_of c.args.ticket) c.lsn-place.type_inv c.lsn-place.ensures in
+    ticket_open c.args.self.now c.args.ticket c.requires.awaited.0 c.requires.awaited.1 c.unsigned_abs-low.result c.segment_of-n.result c.index-index.result place c.segment_of-n.ensures c.index-index.ensures
+
+there_first : (g : given.Over) (c : goal.After-mark_batch_in-arg-1 g) → IsReservedAt c.args.self.now c.args.ticket c.segment_of-n.result c.index-index.result
+there_first g c =
+    let place : c.unsigned_abs-low.result ≡ unsigned_abs (place_of c.args.ticket) = c.unsigned_abs-low.ensures.value ∙ says_place c.lsn-place.result (place_of c.args.ticket) c.lsn-place.type_inv c.lsn-place.ensures in
+    reserved_at c.args.self.now c.args.ticket c.requires.awaited.0 c.requires.awaited.1 c.unsigned_abs-low.result c.segment_of-n.result c.index-index.result place c.segment_of-n.ensures c.index-index.ensures
+
+pub mark_batch_in-requires-clause-body : goal.mark_batch_in-requires-clause-body
+mark_batch_in-requires-clause-body g c = body_there c.args.self.now c.args.ticket c.segment_of-n.result c.index-index.result (there_first g c) c.requires.manifest
+
+there_marked : (g : given.Over) (c : goal.After-note-arg-1 g) → IsReservedAt c.args.self.now c.args.ticket c.segment_of-n.result c.index-index.result
+there_marked g c =
+    let place : c.unsigned_abs-low.result ≡ unsigned_abs (place_of c.args.ticket) = c.unsigned_abs-low.ensures.value ∙ says_place c.lsn-place.result (place_of c.args.ticket) c.lsn-place.type_inv c.lsn-place.ensures in
+    reserved_at c.args.self.now c.args.ticket c.requires.awaited.0 c.requires.awaited.1 c.unsigned_abs-low.result c.segment_of-n.result c.index-index.result place c.segment_of-n.ensures c.index-index.ensures
+
+-- One manifest fewer is open then.
+fewer : (g : given.Over) (c : goal.After-note-arg-1 g) → open_manifests (line_of c.args.self.now) ≡ suc (open_manifests (line_of c.mark_batch_in.new.self))
+fewer g c =
+    let f = there_marked g c in
+    one_fewer_open g.D.Device.trace g.C.Checksum.sum_of c.args.self.now c.mark_batch_in.new.self c.mark_batch_in.new.self c.args.ticket c.segment_of-n.result c.index-index.result f c.requires.manifest c.args.peg
+    (c.mark_batch_in.ensures.line f.segment f.reserved f.among f.there) c.mark_batch_in.ensures.rest
+
+pub note-requires-clause-some : goal.note-requires-clause-some
+note-requires-clause-some g c = let less = fewer g c in let counted = c.args.self.now.counted in let same = c.mark_batch_in.ensures.manifests in omega (arith, less, counted, same)
+
+pub note-requires-clause-counted : goal.note-requires-clause-counted
+note-requires-clause-counted g c = let less = fewer g c in let counted = c.args.self.now.counted in let same = c.mark_batch_in.ensures.manifests in omega (arith, less, counted, same)
+
+-- What the log is then.
+
+there : (g : given.Over) (c : goal.After-note g) → IsReservedAt c.args.self.now c.args.ticket c.segment_of-n.result c.index-index.result
+there g c =
+    let place : c.unsigned_abs-low.result ≡ unsigned_abs (place_of c.args.ticket) = c.unsigned_abs-low.ensures.value ∙ says_place c.lsn-place.result (place_of c.args.ticket) c.lsn-place.type_inv c.lsn-place.ensures in
+    reserved_at c.args.self.now c.args.ticket c.requires.awaited.0 c.requires.awaited.1 c.unsigned_abs-low.result c.segment_of-n.result c.index-index.result place c.segment_of-n.ensures c.index-index.ensures
+
+pub returns-clause-fits : goal.returns-clause-fits
+returns-clause-fits g c =
+    let f = there g c in
+    let place : c.unsigned_abs-low.result ≡ unsigned_abs (place_of c.args.ticket) = c.unsigned_abs-low.ensures.value ∙ says_place c.lsn-place.result (place_of c.args.ticket) c.lsn-place.type_inv c.lsn-place.ensures in
+    batch_fits g.D.Device.trace g.C.Checksum.sum_of c.args.self.now c.mark_batch_in.new.self c.note.new.self c.args.ticket c.segment_of-n.result c.index-index.result f c.requires.manifest c.args.peg
+    (c.mark_batch_in.ensures.line f.segment f.reserved f.among f.there) c.mark_batch_in.ensures.rest c.note.ensures.rest c.unsigned_abs-low.result place
+    c.note.ensures.noted c.requires.above c.in_default.is c.requires.reserved c.requires.apart
+
+pub returns-clause-others : goal.returns-clause-others
+returns-clause-others g c =
+    let f = there g c in
+    let place : c.unsigned_abs-low.result ≡ unsigned_abs (place_of c.args.ticket) = c.unsigned_abs-low.ensures.value ∙ says_place c.lsn-place.result (place_of c.args.ticket) c.lsn-place.type_inv c.lsn-place.ensures in
+    batch_others g.D.Device.trace g.C.Checksum.sum_of c.args.self.now c.mark_batch_in.new.self c.note.new.self c.args.ticket c.segment_of-n.result c.index-index.result f c.requires.manifest c.args.peg
+    (c.mark_batch_in.ensures.line f.segment f.reserved f.among f.there) c.mark_batch_in.ensures.rest c.note.ensures.rest c.unsigned_abs-low.result place
+    c.note.ensures.noted c.requires.above
+
+pub returns-clause-opens : goal.returns-clause-opens
+returns-clause-opens g c =
+    let f = there g c in
+    let place : c.unsigned_abs-low.result ≡ unsigned_abs (place_of c.args.ticket) = c.unsigned_abs-low.ensures.value ∙ says_place c.lsn-place.result (place_of c.args.ticket) c.lsn-place.type_inv c.lsn-place.ensures in
+    batch_opens g.D.Device.trace g.C.Checksum.sum_of c.args.self.now c.mark_batch_in.new.self c.note.new.self c.args.ticket c.segment_of-n.result c.index-index.result f c.requires.manifest c.args.peg
+    (c.mark_batch_in.ensures.line f.segment f.reserved f.among f.there) c.mark_batch_in.ensures.rest c.note.ensures.rest c.unsigned_abs-low.result place
+    c.note.ensures.noted c.requires.above
+
+pub returns-clause-goes_on : goal.returns-clause-goes_on
+returns-clause-goes_on g c =
+    let f = there g c in
+    let place : c.unsigned_abs-low.result ≡ unsigned_abs (place_of c.args.ticket) = c.unsigned_abs-low.ensures.value ∙ says_place c.lsn-place.result (place_of c.args.ticket) c.lsn-place.type_inv c.lsn-place.ensures in
+    batch_goes_on g.D.Device.trace g.C.Checksum.sum_of c.args.self.now c.mark_batch_in.new.self c.note.new.self c.args.ticket c.segment_of-n.result c.index-index.result f c.requires.manifest c.args.peg
+    (c.mark_batch_in.ensures.line f.segment f.reserved f.among f.there) c.mark_batch_in.ensures.rest c.note.ensures.rest c.unsigned_abs-low.result place
+    c.note.ensures.noted c.requires.above
+
+pub returns-clause-same : goal.returns-clause-same
+returns-clause-same g c =
+    let f = there g c in
+    let place : c.unsigned_abs-low.result ≡ unsigned_abs (place_of c.args.ticket) = c.unsigned_abs-low.ensures.value ∙ says_place c.lsn-place.result (place_of c.args.ticket) c.lsn-place.type_inv c.lsn-place.ensures in
+    batch_same g.D.Device.trace g.C.Checksum.sum_of c.args.self.now c.mark_batch_in.new.self c.note.new.self c.args.ticket c.segment_of-n.result c.index-index.result f c.requires.manifest c.args.peg
+    (c.mark_batch_in.ensures.line f.segment f.reserved f.among f.there) c.mark_batch_in.ensures.rest c.note.ensures.rest c.unsigned_abs-low.result place
+    c.note.ensures.noted c.requires.above
+
+pub returns-clause-position : goal.returns-clause-position
+returns-clause-position g c =
+    let f = there g c in
+    let place : c.unsigned_abs-low.result ≡ unsigned_abs (place_of c.args.ticket) = c.unsigned_abs-low.ensures.value ∙ says_place c.lsn-place.result (place_of c.args.ticket) c.lsn-place.type_inv c.lsn-place.ensures in
+    batch_position g.D.Device.trace g.C.Checksum.sum_of c.args.self.now c.mark_batch_in.new.self c.note.new.self c.args.ticket c.segment_of-n.result c.index-index.result f c.requires.manifest c.args.peg
+    (c.mark_batch_in.ensures.line f.segment f.reserved f.among f.there) c.mark_batch_in.ensures.rest c.note.ensures.rest c.unsigned_abs-low.result place
+    c.note.ensures.noted c.requires.above
+
+pub returns-clause-buffers : goal.returns-clause-buffers
+returns-clause-buffers g c =
+    let f = there g c in
+    let place : c.unsigned_abs-low.result ≡ unsigned_abs (place_of c.args.ticket) = c.unsigned_abs-low.ensures.value ∙ says_place c.lsn-place.result (place_of c.args.ticket) c.lsn-place.type_inv c.lsn-place.ensures in
+    batch_buffers g.D.Device.trace g.C.Checksum.sum_of c.args.self.now c.mark_batch_in.new.self c.note.new.self c.args.ticket c.segment_of-n.result c.index-index.result f c.requires.manifest c.args.peg
+    (c.mark_batch_in.ensures.line f.segment f.reserved f.among f.there) c.mark_batch_in.ensures.rest c.note.ensures.rest c.unsigned_abs-low.result place
+    c.note.ensures.noted c.requires.above

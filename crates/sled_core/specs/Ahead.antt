@@ -1,0 +1,66 @@
+-- What the code of an iterator keeps of the segments that it reads, and what is ahead of it.
+use Rattle.std.specs.Prelude.{◌≡◌, ◌≢◌, ◌+◌, ◌-◌, ◌*◌, ◌^◌, ◌%◌, ◌≤◌, ◌<◌, ℕ, ℤ, Bool, false, List, [], ◌∷◌, length, drop, Option, Some, None, Result, Ok, Err, Contains}
+use Rattle.std.specs.List.{All}
+use Rattle.sled_codec.specs.declared.result.Error.{Error}
+use Rattle.sled_codec.specs.declared.serialization.message.MessageKind.{MessageKind}
+use Rattle.sled_codec.specs.declared.serialization.message.MessageKind.TheVariants.{Corrupted}
+use Rattle.sled_store.specs.declared.config.RunningConfig.{RunningConfig}
+use Rattle.sled_store.specs.Device.{Trace, state_of}
+use Rattle.sled_core.specs.declared.iterator.scan.ScannedRecord.{ScannedRecord}
+use Rattle.sled_core.specs.declared.iterator.scan.RecordContent.{RecordContent}
+use Rattle.sled_core.specs.declared.iterator.scan.RecordContent.TheVariants.{NamesBlob}
+use Rattle.sled_core.specs.declared.iterator.Segment.{Segment}
+use Rattle.sled_core.specs.declared.iterator.rest.Rest.{Rest}
+use Rattle.sled_core.specs.Iterates.{Item, GivesOf, IsIteration, SaysDamage}
+
+-- a segment lies in a slot, and its ends are places and offsets
+abbrev pub HasEnds : ℕ → Segment → Type 0
+HasEnds size s = (s.slot % size ≡ 0) × (s.slot + size < 2 ^ 63) × (s.place + size < 2 ^ 63)
+
+-- a record that names a blob is of a kind that is known
+abbrev pub KnowsKind : RecordContent → Type 0
+KnowsKind what = (kind : MessageKind) (page lid : ℕ) (place : ℤ) → what ≡ NamesBlob kind page lid place → kind ≢ Corrupted
+
+-- A record is at a place, and of a kind that is known.
+abbrev pub CanBeGiven : ScannedRecord → Type 0
+CanBeGiven m = (m.place < 2 ^ 63) × KnowsKind m.what
+
+-- What is left can be read and given.
+abbrev pub CanGoOn : ℕ → Rest → Type 0
+CanGoOn size r = (r.end < 2 ^ 63) × All (HasEnds size) r.segments.items × All CanBeGiven r.met.items
+
+-- nothing is left
+abbrev pub IsSpent : Rest → Type 0
+IsSpent r = (length r.segments.items ≤ r.read) × (length r.met.items ≤ r.given)
+
+-- Not more messages than this are left: in a segment that was not read there are fewer than a number of 64 bits counts.
+abbrev pub most_left : Rest → ℕ
+most_left r = (length r.segments.items - r.read) * 2 ^ 64 + (length r.met.items - r.given)
+
+-- What is left gives these messages, and then damage or the end: the records that were read and not given, and then the segments that were not read.
+unfoldable pub IsLeft : {D C : Type 0} → (D → Trace) → (List ℕ → ℕ) → RunningConfig D C → Rest → List Item → Bool → Type 0
+IsLeft trace sum config r items damaged =
+    let size = config.config.segment_size in
+    let s = state_of (trace config.device) in
+    ((x : Segment) → Contains r.segments.items x → x.slot ≤ length s.log.bytes)
+    × GivesOf sum s.blobs.file r.end (drop r.given r.met.items) (IsIteration sum size s.log.bytes s.blobs.file r.end (drop r.read r.segments.items)) items damaged
+
+-- What is found where these are ahead: a message, or none that is left in what was read, and what is ahead then.
+abbrev pub Finds : (List Item → Bool → Type 0) → (List Item → Bool → Type 0) → List Item → Bool → Result (Option Item) Error → Type 0
+Finds ahead none items damaged (Ok (Some item)) = (rest : List Item) × (items ≡ item ∷ rest) × ahead rest damaged
+Finds ahead none items damaged (Ok None) = none items damaged
+Finds ahead none items damaged (Err e) = SaysDamage e items damaged
+
+-- the messages end, without damage
+abbrev pub IsEnd : List Item → Bool → Type 0
+IsEnd items damaged = (items ≡ []) × (damaged ≡ false)
+
+-- behind the next segment this is ahead, where it was read; and damage ends it
+abbrev pub ReadsOn : {T : Type 0} → (List Item → Bool → Type 0) → List Item → Bool → Result T Error → Type 0
+ReadsOn ahead items damaged (Ok _) = ahead items damaged
+ReadsOn ahead items damaged (Err e) = SaysDamage e items damaged
+
+-- a message or none
+abbrev pub those_of : Option Item → List Item
+those_of None = []
+those_of (Some item) = item ∷ []

@@ -1,0 +1,34 @@
+-- What ends the manifest of a batch: which pegs it may have, and what comes of it.
+use Rattle.std.specs.Prelude.{◌≡◌, ◌≤ℤ◌, ◌<ℤ◌, ◌⊎◌, ◌++◌, ◌∷◌, ℤ, pos, int_lt, unsigned_abs, if◌then◌else◌, List, [], Contains}
+use Rattle.sled_codec.specs.History.{Batch, Batched, History, Step}
+use Rattle.sled_core.specs.declared.logger.Log.{Log}
+use Rattle.sled_core.specs.declared.reservation.Reservation.{Reservation}
+use Rattle.sled_core.specs.Fits.{config_of, fault_of, noted_in, pins_of, reserved_end, stable_end, synced_end}
+use Rattle.sled_core.specs.Tickets.{place_of}
+
+-- the batch of a manifest, from its own place to the peg
+abbrev pub batch_for : Reservation → ℤ → Batch
+batch_for ticket peg = record { low = unsigned_abs (place_of ticket); peg = unsigned_abs peg }
+
+-- The batch of a ticket's manifest may end there: not below the manifest, and within what was reserved; and it has no place in common with a batch that was noted and isn't wholly on the device.
+pub record MayEndAt {D C : Type 0} (log : Log D C) (ticket : Reservation) (peg : ℤ) : Type 0 where
+  pub above : place_of ticket ≤ℤ peg
+  pub reserved : peg <ℤ pos (reserved_end log)
+  pub apart : (b : Batch) → Contains (noted_in log) b → (pos b.peg <ℤ place_of ticket) ⊎ (peg <ℤ pos b.low)
+
+-- That makes one batch more of these; none where the peg is the manifest's own place.
+abbrev pub with_batch_for : Reservation → ℤ → List Batch → List Batch
+with_batch_for ticket peg bs = if int_lt (place_of ticket) peg then bs ++ batch_for ticket peg ∷ [] else bs
+
+-- So it is with a history.
+abbrev pub EndsBatch : History → Reservation → ℤ → History → Type 0
+EndsBatch H ticket peg H' = ((peg ≡ place_of ticket) × (H' ≡ H)) ⊎ ((place_of ticket <ℤ peg) × Step H (Batched (batch_for ticket peg)) H')
+
+-- What runs the log, what is written of it, where it is stable, its failure and its pins stay, and the batch is noted.
+pub record NotesBatchOf {D C : Type 0} (ticket : Reservation) (peg : ℤ) (old new : Log D C) : Type 0 where
+  pub config : config_of new ≡ config_of old
+  pub synced : synced_end new ≡ synced_end old
+  pub noted : noted_in new ≡ with_batch_for ticket peg (noted_in old)
+  pub stable : stable_end new ≡ stable_end old
+  pub fault : fault_of new ≡ fault_of old
+  pub pins : pins_of new ≡ pins_of old

@@ -1,0 +1,63 @@
+-- What an iterator gives of a log file: the messages of the segments that begin below the end of the tail, by place, and whether it
+-- ends at damage. Stated for any number of segments and for all kinds of messages.
+use Rattle.std.specs.Prelude.{◌≡◌, ◌⊎◌, ℕ, ℤ, pos, Bool, true, false, List, [], ◌∷◌, ◌++◌, Option, Some, None, Result, Ok, Err}
+use Rattle.std.specs.Bool.{MatchBool}
+use Rattle.sled_codec.specs.declared.serialization.message.LogKind.{LogKind}
+use Rattle.sled_codec.specs.declared.result.DiskPtr.{DiskPtr}
+use Rattle.sled_codec.specs.declared.result.Error.{Error}
+use Rattle.sled_codec.specs.declared.result.Error.TheVariants.{Corruption}
+use Rattle.sled_store.specs.Blobs.{ItemAnswers}
+use Rattle.sled_core.specs.declared.iterator.scan.ScannedRecord.{ScannedRecord}
+use Rattle.sled_core.specs.declared.iterator.scan.RecordContent.{RecordContent}
+use Rattle.sled_core.specs.declared.iterator.scan.RecordContent.TheVariants.{Gives, NamesBlob, Skipped, BatchStart}
+use Rattle.sled_core.specs.declared.iterator.Segment.{Segment}
+use Rattle.sled_core.specs.Replayed.{IsDamagedBefore, IsReplayed, HasBadBlob, with_blob}
+use Rattle.sled_core.specs.Tail.{Scanned, opens}
+
+-- A message as an iterator gives it: what it does, its page, its place, its pointer and the length of its record.
+abbrev pub Item : Type 0
+Item = LogKind × ℕ × ℤ × DiskPtr × ℕ
+
+-- a record as such a message, where it is one
+abbrev pub items_of : ScannedRecord → RecordContent → List Item
+items_of m (Gives kind page pointer) = (kind, page, pos m.place, pointer, m.len) ∷ []
+items_of m (NamesBlob kind page lid place) = []
+items_of m Skipped = []
+items_of m (BatchStart peg) = []
+
+-- What is given of records that were met in a segment, one by one, and then this. It ends at a batch that is open, and at a blob that doesn't pass for its record.
+abbrev pub GivesOf : (List ℕ → ℕ) → (ℤ → Option (List ℕ)) → ℕ → List ScannedRecord → (List Item → Bool → Type 0) → List Item → Bool → Type 0
+GivesOf sum blobs end [] on items damaged = on items damaged
+GivesOf sum blobs end (m ∷ ms) on items damaged = MatchBool (opens end m.what) ((items ≡ []) × (damaged ≡ false))
+    ((HasBadBlob sum blobs m.what × (items ≡ []) × (damaged ≡ true))
+    ⊎ ((HasBadBlob sum blobs m.what → ⊥) × ((rest : List Item) × (items ≡ items_of m (with_blob blobs m.what) ++ rest) × GivesOf sum blobs end ms on rest damaged)))
+
+-- What an iterator gives of these segments, up to where the tail ends, and whether it ends at damage. Of a segment in which a damaged
+-- record is met, before a batch that is open, it gives nothing.
+abbrev pub IsIteration : (List ℕ → ℕ) → ℕ → List ℕ → (ℤ → Option (List ℕ)) → ℕ → List Segment → List Item → Bool → Type 0
+IsIteration sum size log blobs end [] items damaged = (items ≡ []) × (damaged ≡ false)
+IsIteration sum size log blobs end (s ∷ ss) items damaged =
+    (IsDamagedBefore sum size log end s × (items ≡ []) × (damaged ≡ true))
+    ⊎ ((x : Scanned) × (x.segment ≡ s) × IsReplayed sum size log end x × GivesOf sum blobs end x.met (IsIteration sum size log blobs end ss) items damaged)
+
+-- an error of damage says that no message is ahead of it; a failure of the device and want of memory say nothing
+abbrev pub SaysDamage : Error → List Item → Bool → Type 0
+SaysDamage (Corruption at) items damaged = (items ≡ []) × (damaged ≡ true)
+SaysDamage _ items damaged = Unit {0}
+
+-- what the next message is where these are ahead, and what is ahead then
+abbrev pub NextGives : (List Item → Bool → Type 0) → List Item → Bool → Option (Result Item Error) → Type 0
+NextGives ahead items damaged (Some (Ok item)) = (rest : List Item) × (items ≡ item ∷ rest) × ahead rest damaged
+NextGives ahead items damaged None = (items ≡ []) × (damaged ≡ false)
+NextGives ahead items damaged (Some (Err e)) = SaysDamage e items damaged
+
+-- this is so behind the last message: where none came, and behind an error
+abbrev pub BehindLast : Option (Result Item Error) → Type 0 → Type 0
+BehindLast (Some (Ok item)) so = Unit {0}
+BehindLast None so = so
+BehindLast (Some (Err e)) so = so
+
+-- why an error came in place of a message
+abbrev pub NextAnswers : (List ℕ → ℕ) → (ℤ → Option (List ℕ)) → Option (Result Item Error) → ℕ → ℕ → Type 0
+NextAnswers sum blobs None before after = after ≡ before
+NextAnswers sum blobs (Some result) before after = ItemAnswers sum blobs result before after

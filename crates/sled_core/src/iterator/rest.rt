@@ -1,0 +1,207 @@
+//! What is left of a log file for an iterator to give (`specs/Ahead.antt`).
+ghost use Rattle.std.specs.Prelude.{◌≡◌, ◌+◌, ◌^◌, ◌≤◌, ◌<◌, ℕ, List, [], Bool, Ok, None, length, IfOk, OnOk, IfNone, OnSome};
+ghost use Rattle.sled_codec.specs.Errors.{IsCorruption};
+ghost use Rattle.sled_store.specs.Causes.{DeviceAnswers};
+ghost use Rattle.sled_store.specs.Device.{state_of};
+ghost use Rattle.sled_core.specs.Causes.{ItemAnswersOver};
+ghost use Rattle.sled_core.specs.Keeps.{OnlyReads};
+ghost use Rattle.sled_core.specs.Iterates.{Item, items_of, NextGives, NextAnswers, BehindLast};
+ghost use Rattle.sled_core.specs.Ahead.{CanGoOn, IsLeft, IsSpent, Finds, IsEnd, ReadsOn, most_left, those_of};
+
+use crate::iterator::blobs::with_blob;
+use crate::iterator::records::{opens, scan_slot};
+use crate::iterator::scan::{RecordContent, ScannedRecord};
+use crate::iterator::{Segment, read_slot};
+use sled_codec::result::{DiskPtr, Lsn, PageId, Result};
+use sled_codec::serialization::{Checksum, LogKind};
+use sled_store::{Device, RunningConfig};
+use std::alloc::Global;
+
+/// What is left to be given.
+#[derive(Drop)]
+pub struct Rest {
+    /// The segments that begin below the end of the tail, by place.
+    pub(crate) segments: Vec<Segment>,
+    /// How many of them were read.
+    pub(crate) read: usize,
+    /// What was met in the one that was read last.
+    pub(crate) met: Vec<ScannedRecord>,
+    /// How many of these records had their turn.
+    pub(crate) given: usize,
+    /// Where the tail ends.
+    pub(crate) end: u64,
+}
+
+impl Rest {
+    /// Returns what is left of segments of which none was read yet. They are those that begin below the end of the tail, by place.
+    pub fn new(alloc: Global, segments: Vec<Segment>, end: u64) -> Rest
+        ensures segments { result.segments ≡ segments }
+        ensures end { result.end ≡ end }
+        ensures read { result.read ≡ 0 }
+        ensures met { result.met.items ≡ [] }
+        ensures given { result.given ≡ 0 }
+    {
+        Rest {
+            segments,
+            read: 0,
+            met: Vec::new(alloc),
+            given: 0,
+            end,
+        }
+    }
+
+    /// The next message. Behind the last one and behind an error nothing is left.
+    pub(crate) fn next<D: Device, C: Checksum>(
+        &mut self,
+        config: &mut RunningConfig<D, C>,
+    ) -> Option<Result<(LogKind, PageId, Lsn, DiskPtr, u64)>>
+        requires fits { CanGoOn config.old.config.segment_size self.old }
+        ensures fits { CanGoOn config.old.config.segment_size self.new }
+        ensures gives { (items : List Item) (damaged : Bool) → IsLeft D.trace C.sum_of config.old self.old items damaged
+            → NextGives (IsLeft D.trace C.sum_of config.old self.new) items damaged result }
+        ensures ended { BehindLast result (IsSpent self.new) }
+        ensures over { IsSpent self.old → result ≡ None }
+        ensures fewer { OnSome result (most_left self.new < most_left self.old) }
+        ensures answers { let blobs = (state_of (D.trace config.old.device)).blobs.file in
+            NextAnswers C.sum_of blobs result (D.faults config.old.device) (D.faults config.new.device) }
+        ensures reads { OnlyReads D.trace config.old config.new }
+    {
+        match self.next_message(config) {
+            Ok(Some(message)) => Some(Ok(message)),
+            Ok(None) => None,
+            Err(e) => {
+                self.finish();
+                Some(Err(e))
+            }
+        }
+    }
+
+    /// The next message, where one is left; else nothing is. `Corruption` comes where a damaged record is met in the next
+    /// segment, or one whose blob doesn't pass for it.
+    fn next_message<D: Device, C: Checksum>(
+        &mut self,
+        config: &mut RunningConfig<D, C>,
+    ) -> Result<Option<(LogKind, PageId, Lsn, DiskPtr, u64)>>
+        requires fits { CanGoOn config.old.config.segment_size self.old }
+        ensures fits { CanGoOn config.old.config.segment_size self.new }
+        ensures finds { (items : List Item) (damaged : Bool) → IsLeft D.trace C.sum_of config.old self.old items damaged
+            → Finds (IsLeft D.trace C.sum_of config.old self.new) IsEnd items damaged result }
+        ensures spent { IfOk result (λ o. IfNone o (IsSpent self.new)) }
+        ensures over { IsSpent self.old → result ≡ Ok None }
+        ensures fewer { IfOk result (λ o. OnSome o (most_left self.new < most_left self.old)) }
+        ensures answers { ItemAnswersOver D.trace D.faults C.sum_of result config.old config.new }
+        ensures reads { OnlyReads D.trace config.old config.new }
+    {
+        loop {
+            match self.next_met(config) {
+                Ok(Some(message)) => return Ok(Some(message)),
+                Ok(None) => {}
+                Err(e) => return Err(e),
+            }
+            if self.read >= self.segments.len() {
+                return Ok(None);
+            }
+            match self.read_segment(config) {
+                Ok(()) => {}
+                Err(e) => return Err(e),
+            }
+        }
+    }
+
+    /// The next message of those that were met in the segment that was read last. At a batch that does not end below the end
+    /// of the tail nothing is left. `Corruption` comes where a blob doesn't pass for its record.
+    fn next_met<D: Device, C: Checksum>(
+        &mut self,
+        config: &mut RunningConfig<D, C>,
+    ) -> Result<Option<(LogKind, PageId, Lsn, DiskPtr, u64)>>
+        requires fits { CanGoOn config.old.config.segment_size self.old }
+        ensures fits { CanGoOn config.old.config.segment_size self.new }
+        ensures finds { (items : List Item) (damaged : Bool) → IsLeft D.trace C.sum_of config.old self.old items damaged
+            → Finds (IsLeft D.trace C.sum_of config.old self.new) (IsLeft D.trace C.sum_of config.old self.new) items damaged result }
+        ensures none { IfOk result (λ o. IfNone o (length self.new.met.items ≤ self.new.given)) }
+        ensures on { self.new.read < length self.new.segments.items → self.new.read ≡ self.old.read }
+        ensures segments { self.new.segments ≡ self.old.segments }
+        ensures over { IsSpent self.old → (result ≡ Ok None) × IsSpent self.new }
+        ensures fewer { IfOk result (λ o. OnSome o (most_left self.new < most_left self.old)) }
+        ensures no_more { most_left self.new ≤ most_left self.old }
+        ensures answers { ItemAnswersOver D.trace D.faults C.sum_of result config.old config.new }
+        ensures reads { OnlyReads D.trace config.old config.new }
+    {
+        while self.given < self.met.len() {
+            let met = self.met[self.given];
+            if opens(&met.what, self.end) {
+                self.finish();
+                return Ok(None);
+            }
+            self.given += 1;
+            match with_blob(config, met) {
+                Ok(found) => {
+                    if let Some(message) = message_of(&found) {
+                        return Ok(Some(message));
+                    }
+                }
+                Err(e) => return Err(e),
+            }
+        }
+        Ok(None)
+    }
+
+    /// Reads the next segment, and keeps what is met in it. `Corruption` comes where a damaged record is met, before a batch
+    /// that does not end below the end of the tail.
+    fn read_segment<D: Device, C: Checksum>(
+        &mut self,
+        config: &mut RunningConfig<D, C>,
+    ) -> Result<()>
+        requires fits { CanGoOn config.old.config.segment_size self.old }
+        requires more { self.old.read < length self.old.segments.items }
+        requires done { length self.old.met.items ≤ self.old.given }
+        ensures fits { CanGoOn config.old.config.segment_size self.new }
+        ensures ahead { (items : List Item) (damaged : Bool) → IsLeft D.trace C.sum_of config.old self.old items damaged
+            → ReadsOn (IsLeft D.trace C.sum_of config.old self.new) items damaged result }
+        ensures on { self.new.read ≡ self.old.read + 1 }
+        ensures segments { self.new.segments ≡ self.old.segments }
+        ensures no_more { OnOk result (most_left self.new ≤ most_left self.old) }
+        ensures answers { DeviceAnswers result (D.faults config.old.device) (D.faults config.new.device) }
+        ensures reads { OnlyReads D.trace config.old config.new }
+    {
+        let segment = self.segments[self.read];
+        self.read += 1;
+        match read_slot(config, segment.slot) {
+            Ok(buf) => match scan_slot(config, &buf, &segment, self.end) {
+                Ok(scan) => {
+                    self.met = scan.met;
+                    self.given = 0;
+                    Ok(())
+                }
+                Err(e) => Err(e),
+            },
+            Err(e) => Err(e),
+        }
+    }
+
+    /// Leaves nothing.
+    fn finish(&mut self)
+        ensures spent { IsSpent self.new }
+        ensures segments { self.new.segments ≡ self.old.segments }
+        ensures met { self.new.met ≡ self.old.met }
+        ensures end { self.new.end ≡ self.old.end }
+    {
+        self.read = self.segments.len();
+        self.given = self.met.len();
+    }
+}
+
+/// A record as a message, where it is one.
+fn message_of(met: &ScannedRecord) -> Option<(LogKind, PageId, Lsn, DiskPtr, u64)>
+    requires { met.now.place < 2 ^ 63 }
+    ensures { items_of met.now met.now.what ≡ those_of result }
+{
+    match met.what {
+        RecordContent::Gives(kind, page, pointer) => {
+            Some((kind, page, met.place as i64, pointer, met.len))
+        }
+        RecordContent::NamesBlob(_, _, _, _)
+        | RecordContent::Skipped
+        | RecordContent::BatchStart(_) => None,
+    }
+}

@@ -1,0 +1,98 @@
+//! Ending the manifest of a batch.
+//!
+//! Its record has the peg of the batch as its body, which a recovery reads: where what it finds doesn't go up to the peg, it
+//! ends in front of the manifest, so that none of the batch's messages counts (`specs/Batches.antt`).
+ghost use Rattle.std.specs.Prelude.{ℕ, List, ◌≡◌, ◌<◌, ◌⊎◌, ◌↔◌, ◌<ℤ◌, Contains, IsTrue, pos, true, unsigned_abs, IfOk, OnOk, OnErr};
+ghost use Rattle.sled_codec.specs.History.{Batch, Batched, History, Message, Step};
+ghost use Rattle.sled_core.specs.Batches.{EndsBatch, MayEndAt, NotesBatchOf, batch_for};
+ghost use Rattle.sled_core.specs.Causes.{FaultAnswers};
+ghost use Rattle.sled_core.specs.Fits.{Awaits, IsInRecord, IsOpen, KeepsBuffers, fault_of, noted_in, open_places, reserved_end};
+ghost use Rattle.sled_core.specs.Keeps.{GoesOn, KeepsOthers, SamePosition};
+ghost use Rattle.sled_core.specs.OpenPlaces.{TakesOutPlaceOf};
+ghost use Rattle.sled_core.specs.Running.{Fits};
+ghost use Rattle.sled_core.specs.Tickets.{IsPlaceOf, is_manifest_of, place_of};
+
+use crate::logger::Log;
+use crate::reservation::Reservation;
+use sled_codec::result::{DiskPtr, Error, Lsn, Result};
+use sled_codec::serialization::Checksum;
+use sled_store::Device;
+
+impl<D: Device, C: Checksum> Log<D, C> {
+    /// Ends the manifest of a batch, which goes from the manifest's own place up to the peg, both included: a recovery gives all
+    /// messages that were completed there, or none of them, and the stable end stays in front of the batch until all of it is on
+    /// the device. With the manifest's own place as the peg there is no batch, and the manifest is given up as by `abort`.
+    /// Returns the place and the pointer of the manifest. It takes no memory.
+    ///
+    /// The peg lies in the record of a message that was completed, mostly in that of the batch's last one.
+    ///
+    /// # Errors
+    ///
+    /// `Io` exactly where the log keeps a failure of its device. The ticket is spent all the same, and the log is as it was.
+    pub fn mark_writebatch(&mut self, ticket: Reservation, peg: Lsn) -> Result<(Lsn, DiskPtr)>
+        requires awaited { IsOpen self.old ticket }
+        requires manifest { is_manifest_of ticket ≡ true }
+        requires pegged { MayEndAt self.old ticket peg }
+        ensures place { IfOk result (IsPlaceOf ticket) }
+        ensures fits { (H : History) (A f : ℕ) (U : List Message) → Fits D.trace C.sum_of self.old H A f U → IsInRecord H.messages (unsigned_abs peg)
+            → OnOk result ((H' : History) × EndsBatch H ticket peg H' × Fits D.trace C.sum_of self.new H' A f U) }
+        ensures others { KeepsOthers D.trace C.sum_of ticket self.old self.new }
+        ensures opens { TakesOutPlaceOf result ticket (open_places self.old) (open_places self.new) }
+        ensures answers { FaultAnswers result (fault_of self.old) }
+        ensures goes_on { GoesOn D.trace C.sum_of self.old self.new }
+        ensures same { OnOk result (NotesBatchOf ticket peg self.old self.new) }
+        ensures position { SamePosition self.old self.new }
+        ensures buffers { KeepsBuffers self.old self.new }
+        ensures err { OnErr result (self.new ≡ self.old) }
+    {
+        if peg == ticket.lsn() {
+            return self.abort(ticket);
+        }
+        self.end_batch(ticket, peg.unsigned_abs())
+    }
+
+    /// Returns whether the batch of a ticket's manifest may end at a place, as `mark_writebatch` asks: the place isn't below the
+    /// manifest and was reserved, and up to there no batch has a place that isn't wholly on the device.
+    pub fn may_end_at(&self, ticket: &Reservation, peg: Lsn) -> bool
+        ensures { IsTrue result ↔ MayEndAt self.now ticket.now peg }
+    {
+        let place = ticket.lsn();
+        if peg < place || peg >= self.reserved_to as Lsn {
+            return false;
+        }
+        self.is_apart(place, peg)
+    }
+
+    /// Ends a manifest whose batch has a peg above its own place.
+    fn end_batch(&mut self, ticket: Reservation, peg: u64) -> Result<(Lsn, DiskPtr)>
+        requires awaited { IsOpen self.old ticket }
+        requires manifest { is_manifest_of ticket ≡ true }
+        requires above { place_of ticket <ℤ pos peg }
+        requires reserved { peg < reserved_end self.old }
+        requires apart { (b : Batch) → Contains (noted_in self.old) b → (pos b.peg <ℤ place_of ticket) ⊎ (peg < b.low) }
+        ensures place { IfOk result (IsPlaceOf ticket) }
+        ensures fits { (H : History) (A f : ℕ) (U : List Message) → Fits D.trace C.sum_of self.old H A f U → IsInRecord H.messages peg
+            → OnOk result ((H' : History) × Step H (Batched (batch_for ticket (pos peg))) H' × Fits D.trace C.sum_of self.new H' A f U) }
+        ensures others { KeepsOthers D.trace C.sum_of ticket self.old self.new }
+        ensures opens { TakesOutPlaceOf result ticket (open_places self.old) (open_places self.new) }
+        ensures answers { FaultAnswers result (fault_of self.old) }
+        ensures goes_on { GoesOn D.trace C.sum_of self.old self.new }
+        ensures same { OnOk result (NotesBatchOf ticket (pos peg) self.old self.new) }
+        ensures position { SamePosition self.old self.new }
+        ensures buffers { KeepsBuffers self.old self.new }
+        ensures err { OnErr result (self.new ≡ self.old) }
+    {
+        let place = ticket.lsn();
+        let pointer = ticket.pointer();
+        let index = ticket.index();
+        ticket.abandon();
+        if let Some(e) = self.fault {
+            return Err(Error::Io(e));
+        }
+        let low = place.unsigned_abs();
+        let n = self.segment_of(low);
+        self.mark_batch_in(n, index, peg);
+        self.note(low, peg);
+        Ok((place, pointer))
+    }
+}
