@@ -12,19 +12,20 @@
 //!
 //! Behind each set of whole buffers a second recovery has to find the same, and so has one that has a snapshot of the durable
 //! records. Behind torn buffers that isn't tried.
+//!
+//! `logged` has the log itself make two of the files, and writes its buffers in each order.
 
+use crate::batches::parts::{Part, text_of};
 use case_lines::devices::log_of;
-use sled_codec::serialization::message::message_kind;
 use sled_log::config::{Config, RunningConfig};
-use sled_log::device::{Checksum, Device, MemDevice, PlaceSum};
-use sled_log::logger::{
-    BATCH_MANIFEST_PID, DiskPtr, LogKind, Lsn, MessageHeader, MessageKind, PageId, SegmentHeader,
-    SegmentNumber,
-};
+use sled_log::device::{Device, MemDevice, PlaceSum};
+use sled_log::logger::{DiskPtr, Lsn};
 use sled_log::result::{Error, Result};
-use sled_log::serialization::Serialize;
 use sled_log::snapshot::{PageState, Snapshot, read_snapshot_or_default};
 use std::alloc::Global;
+
+mod logged;
+mod parts;
 
 /// Whether each recovery finds what it has to.
 pub fn hold(alloc: Global) -> Result<bool> {
@@ -33,7 +34,8 @@ pub fn hold(alloc: Global) -> Result<bool> {
             && is_laid_out_so(alloc)?
             && over_two_segments(alloc)?
             && over_three_segments(alloc)?
-            && one_behind_another(alloc)?,
+            && one_behind_another(alloc)?
+            && over_a_whole_segment(alloc)?,
     )
 }
 
@@ -57,9 +59,6 @@ const FIRST: [u8; 20] = [
 const SECOND: [u8; 20] = [
     224, 252, 255, 255, 5, 12, 0, 1, 11, 7, 7, 7, 7, 7, 7, 7, 7, 7, 7, 7,
 ];
-
-// The body of each message: eleven sevens behind their count.
-const BODY: [u8; 12] = [11, 7, 7, 7, 7, 7, 7, 7, 7, 7, 7, 7];
 
 // A batch of two pages, as bytes: it counts where it is whole, and not where its last byte is another one.
 fn by_hand(alloc: Global) -> Result<bool> {
@@ -189,22 +188,63 @@ fn one_behind_another(alloc: Global) -> Result<bool> {
             (340, Some(256), 5),
         ],
     };
-    holds(alloc, &case)
+    Ok(holds(alloc, &case)? && logged::holds(alloc, &case)?)
 }
 
-// What stands at a place of the log file.
-#[derive(Clone, Copy)]
-enum Part {
-    // The header of a segment. Nothing is stable behind the durable records when it is made.
-    Header,
-    // A message that replaces a page.
-    Page(PageId),
-    // A message that was aborted.
-    Canceled,
-    // The rest of a segment, which is given up.
-    Cap,
-    // The manifest of a batch up to this place.
-    Manifest(Lsn),
+// The batch has all of the second segment, with a message that was aborted, and its last message in the third one. The peg is
+// 551, and a message follows in the last buffer.
+fn over_a_whole_segment(alloc: Global) -> Result<bool> {
+    let case = Case {
+        len: 768,
+        parts: &[
+            (0, 160, Part::Page(0), 180),
+            (0, 180, Part::Manifest(551), 198),
+            (0, 204, Part::Page(1), 224),
+            (0, 224, Part::Page(2), 244),
+            (1, 256, Part::Header, 276),
+            (1, 276, Part::Page(3), 296),
+            (1, 296, Part::Page(4), 316),
+            (1, 316, Part::Canceled, 336),
+            (1, 336, Part::Page(5), 356),
+            (1, 356, Part::Page(6), 376),
+            (1, 376, Part::Page(7), 396),
+            (2, 396, Part::Page(8), 416),
+            (2, 416, Part::Page(9), 436),
+            (2, 436, Part::Page(10), 456),
+            (2, 456, Part::Page(11), 476),
+            (2, 476, Part::Page(12), 496),
+            (3, 512, Part::Header, 532),
+            (3, 532, Part::Page(13), 552),
+            (3, 552, Part::Page(14), 572),
+        ],
+        buffers: &[(160, 244), (256, 396), (396, 496), (512, 572)],
+        messages: &[
+            160, 204, 224, 276, 296, 336, 356, 376, 396, 416, 436, 456, 476, 532, 552,
+        ],
+        found: &[
+            (160, Some(0), 0),
+            (180, Some(0), 1),
+            (180, Some(0), 1),
+            (180, Some(0), 1),
+            (180, Some(0), 1),
+            (180, Some(0), 1),
+            (180, Some(0), 1),
+            (180, Some(0), 1),
+            (180, Some(0), 1),
+            (180, Some(0), 1),
+            (180, Some(0), 1),
+            (180, Some(0), 1),
+            (180, Some(0), 1),
+            (180, Some(0), 1),
+            (180, Some(0), 1),
+            (180, Some(0), 1),
+            (180, Some(0), 1),
+            (180, Some(0), 1),
+            (552, Some(512), 14),
+            (572, Some(512), 15),
+        ],
+    };
+    Ok(holds(alloc, &case)? && logged::holds(alloc, &case)?)
 }
 
 // A file of whole segments, of which the writes of the last buffers may be missing or torn.
@@ -313,14 +353,18 @@ fn recovers_again(alloc: Global, case: &Case<'_>, whole: &[u8], ends: &[u64]) ->
 
 // What a recovery has to find then.
 fn wanted_of(alloc: Global, case: &Case<'_>, ends: &[u64]) -> Result<Snapshot> {
-    let stands = standing(case.parts, ends);
-    let Some((cut, active, count)) = case.found.get(stands).copied() else {
+    let Some((cut, active, count)) = found_of(case, ends) else {
         return Err(Error::Corruption { at: None });
     };
     let mut places = Vec::new(alloc);
     places.extend_from_slice(case.messages.get(..count).unwrap_or(&[]))?;
     places.extend_from_slice(BEFORE.get(count..).unwrap_or(&[]))?;
     table(alloc, cut, active, &places)
+}
+
+// The cut, the active segment and how many of the messages it finds.
+fn found_of(case: &Case<'_>, ends: &[u64]) -> Option<(Lsn, Option<u64>, usize)> {
+    case.found.get(standing(case.parts, ends)).copied()
 }
 
 // How many of the parts stand one behind another.
@@ -397,58 +441,4 @@ fn file_of(alloc: Global, case: &Case<'_>) -> Result<Vec<u8>> {
         device.write_at(*place, &text_of(alloc, *place, *part)?)?;
     }
     Ok(log_of(alloc, &mut device)?)
-}
-
-// The bytes of a part at a place.
-fn text_of(alloc: Global, place: u64, part: Part) -> Result<Vec<u8>> {
-    match part {
-        Part::Header => header(alloc, place),
-        Part::Page(page) => match message_kind(LogKind::Replace, page, false) {
-            Some(kind) => record(alloc, place, kind, page, &BODY),
-            None => Err(Error::Corruption { at: None }),
-        },
-        Part::Canceled => record(alloc, place, MessageKind::Canceled, 0, &BODY),
-        Part::Cap => {
-            let rest = vec![in alloc; 0u8; 224usize.saturating_sub((place % 256) as usize)]?;
-            record(alloc, place, MessageKind::Cap, u64::MAX, &rest)
-        }
-        Part::Manifest(peg) => {
-            let kind = MessageKind::BatchManifest;
-            record(alloc, place, kind, BATCH_MANIFEST_PID, &peg.to_le_bytes())
-        }
-    }
-}
-
-// The header of the segment at a place.
-fn header(alloc: Global, place: u64) -> Result<Vec<u8>> {
-    let header = SegmentHeader {
-        lsn: place.cast_signed(),
-        max_stable_lsn: if place == 0 { -1 } else { 159 },
-        ok: true,
-    };
-    Ok(header.to_bytes(&PlaceSum).to_vec(alloc)?)
-}
-
-// The record of a message at a place: the checksum is that of the body and of the header behind its checksum.
-fn record(
-    alloc: Global,
-    place: u64,
-    kind: MessageKind,
-    pid: PageId,
-    body: &[u8],
-) -> Result<Vec<u8>> {
-    let mut header = MessageHeader {
-        crc32: 0,
-        kind,
-        segment_number: SegmentNumber(place / 256),
-        pid,
-        len: body.len() as u64,
-    };
-    let head = header.serialize(alloc)?;
-    let mut summed = body.to_vec(alloc)?;
-    summed.extend_from_slice(head.get(4..).unwrap_or(&[]))?;
-    header.crc32 = !PlaceSum.sum(&summed);
-    let mut record = header.serialize(alloc)?;
-    record.extend_from_slice(body)?;
-    Ok(record)
 }

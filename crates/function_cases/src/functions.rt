@@ -41,38 +41,23 @@ pub fn run(alloc: Global, tally: &mut Tally<'_>) {
     holds(tally, 9, "the tail of a header", known(writes_tail(alloc)));
     holds(tally, 10, "bytes behind a word's", bumps());
     holds(tally, 11, "a blob", known(keeps_blob(alloc)));
-    holds(
-        tally,
-        12,
-        "blobs from a place on",
-        known(collects_blobs(alloc)),
-    );
+    holds(tally, 12, "later blobs", known(collects_blobs(alloc)));
     holds(tally, 13, "damaged blobs", known(tells_damage(alloc)));
     holds(tally, 14, "a place of no memory", refuses_place(alloc));
     holds(tally, 15, "a reader that fails", ends_with_reader(alloc));
     holds(tally, 16, "a writer that fails", ends_with_writer(alloc));
     holds(tally, 17, "replies are flushed", flushes_replies(alloc));
     holds(tally, 18, "slots are handed out", known(hands_out(alloc)));
-    holds(
-        tally,
-        19,
-        "links on a page",
-        known(sessions::links_pages(alloc)),
-    );
-    holds(
-        tally,
-        20,
-        "a failure is kept",
-        known(sessions::keeps_failure(alloc)),
-    );
-    holds(tally, 21, "orders of writes", known(orders::hold(alloc)));
+    holds(tally, 19, "links", known(sessions::links_pages(alloc)));
+    holds(tally, 20, "faults", known(sessions::keeps_failure(alloc)));
+    hold_orders(alloc, tally);
     hold_identifiers(alloc, tally);
-    holds(
-        tally,
-        26,
-        "all of a batch or nothing",
-        known(batches::hold(alloc)),
-    );
+}
+
+// Buffers that are written in every order.
+fn hold_orders(alloc: Global, tally: &mut Tally<'_>) {
+    holds(tally, 21, "orders of writes", known(orders::hold(alloc)));
+    holds(tally, 26, "whole batches", known(batches::hold(alloc)));
 }
 
 // Identifiers of a generator over the log.

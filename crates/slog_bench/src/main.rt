@@ -25,7 +25,7 @@ use std::process::ExitCode;
 use store_cases::{accountant, codecs, segment_headers, words};
 
 // The files under `data/`, one a kind.
-const FILES: [&str; 14] = [
+const FILES: [&str; 15] = [
     "codecs.txt",
     "segment_headers.txt",
     "words.txt",
@@ -34,6 +34,7 @@ const FILES: [&str; 14] = [
     "stops.txt",
     "hostile.txt",
     "calls.txt",
+    "batches.txt",
     "slog.txt",
     "own.txt",
     "accountant.txt",
@@ -88,7 +89,7 @@ fn run(alloc: Global, name: &str, text: &str, tally: &mut Tally<'_>) {
         }
         "stops.txt" => stops::run(alloc, text, tally),
         "hostile.txt" => hostile::run(alloc, text, tally),
-        "calls.txt" => {
+        "calls.txt" | "batches.txt" => {
             if let Err(Fault(why)) = calls::run(alloc, text, tally) {
                 tally.case(0, "lines", why);
             }

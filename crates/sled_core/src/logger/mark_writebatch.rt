@@ -7,7 +7,7 @@ ghost use Rattle.sled_codec.specs.History.{Batch, Batched, History, Message, Ste
 ghost use Rattle.sled_core.specs.Batches.{EndsBatch, MayEndAt, NotesBatchOf, batch_for};
 ghost use Rattle.sled_core.specs.Causes.{FaultAnswers};
 ghost use Rattle.sled_core.specs.Fits.{Awaits, IsInRecord, IsOpen, KeepsBuffers, fault_of, noted_in, open_places, reserved_end};
-ghost use Rattle.sled_core.specs.Keeps.{GoesOn, KeepsOthers, SamePosition};
+ghost use Rattle.sled_core.specs.Keeps.{GoesOn, KeepsOthers, Preserves, SamePosition};
 ghost use Rattle.sled_core.specs.OpenPlaces.{TakesOutPlaceOf};
 ghost use Rattle.sled_core.specs.Running.{Fits};
 ghost use Rattle.sled_core.specs.Tickets.{IsPlaceOf, is_manifest_of, place_of};
@@ -36,6 +36,7 @@ impl<D: Device, C: Checksum> Log<D, C> {
         ensures place { IfOk result (IsPlaceOf ticket) }
         ensures fits { (H : History) (A f : ℕ) (U : List Message) → Fits D.trace C.sum_of self.old H A f U → IsInRecord H.messages (unsigned_abs peg)
             → OnOk result ((H' : History) × EndsBatch H ticket peg H' × Fits D.trace C.sum_of self.new H' A f U) }
+        ensures canceled { peg ≡ place_of ticket → Preserves D.trace C.sum_of self.old self.new }
         ensures others { KeepsOthers D.trace C.sum_of ticket self.old self.new }
         ensures opens { TakesOutPlaceOf result ticket (open_places self.old) (open_places self.new) }
         ensures answers { FaultAnswers result (fault_of self.old) }
