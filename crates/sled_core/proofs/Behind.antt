@@ -18,6 +18,7 @@ pub mod FullZeros
 pub mod HoldsMarked
 pub mod OneWrite
 pub mod Promoted
+pub mod Refilled
 pub mod Shorter
 pub mod Stays
 pub mod Writes

@@ -16,6 +16,7 @@ pub mod Entered
 pub mod Facts
 pub mod Faulty
 pub mod Filling
+pub mod Fillings
 pub mod Last
 pub mod LineEnds
 pub mod LogReserves

@@ -1,19 +1,25 @@
 -- What ends the manifest of a batch: which pegs it may have, and what comes of it.
-use Rattle.std.specs.Prelude.{◌≡◌, ◌≤ℤ◌, ◌<ℤ◌, ◌⊎◌, ◌++◌, ◌∷◌, ℤ, pos, int_lt, unsigned_abs, if◌then◌else◌, List, [], Contains}
+use Rattle.std.specs.Prelude.{◌≡◌, ◌+◌, ◌≤ℤ◌, ◌<ℤ◌, ◌⊎◌, ◌++◌, ◌∷◌, ℕ, ℤ, pos, int_lt, unsigned_abs, if◌then◌else◌, List, [], Contains, Some, slice_get}
 use Rattle.sled_codec.specs.History.{Batch, Batched, History, Step}
+use Rattle.sled_core.specs.Begun.{SegmentView, records_to}
 use Rattle.sled_core.specs.declared.logger.Log.{Log}
 use Rattle.sled_core.specs.declared.reservation.Reservation.{Reservation}
-use Rattle.sled_core.specs.Fits.{config_of, fault_of, noted_in, pins_of, reserved_end, stable_end, synced_end}
+use Rattle.sled_core.specs.Fits.{config_of, fault_of, line_of, noted_in, pins_of, reserved_end, segment_size_of, stable_end, synced_end}
 use Rattle.sled_core.specs.Tickets.{place_of}
 
 -- the batch of a manifest, from its own place to the peg
 abbrev pub batch_for : Reservation → ℤ → Batch
 batch_for ticket peg = record { low = unsigned_abs (place_of ticket); peg = unsigned_abs peg }
 
--- The batch of a ticket's manifest may end there: not below the manifest, and within what was reserved; and it has no place in common with a batch that was noted and isn't wholly on the device.
+-- A place lies in nothing that fills one of these segments behind its records.
+abbrev pub LiesInNoFilling : ℕ → List SegmentView → ℤ → Type 0
+LiesInNoFilling size line place = (n : ℕ) (v : SegmentView) → slice_get line n ≡ Some v → (place <ℤ pos (v.parts.site.place + records_to v.parts.filled size)) ⊎ (pos (v.parts.site.place + size) ≤ℤ place)
+
+-- The batch of a ticket's manifest may end there: not below the manifest, within what was reserved, and in nothing that fills a segment; and it has no place in common with a batch that was noted and isn't wholly on the device.
 pub record MayEndAt {D C : Type 0} (log : Log D C) (ticket : Reservation) (peg : ℤ) : Type 0 where
   pub above : place_of ticket ≤ℤ peg
   pub reserved : peg <ℤ pos (reserved_end log)
+  pub filled : LiesInNoFilling (segment_size_of log) (line_of log) peg
   pub apart : (b : Batch) → Contains (noted_in log) b → (pos b.peg <ℤ place_of ticket) ⊎ (peg <ℤ pos b.low)
 
 -- That makes one batch more of these; none where the peg is the manifest's own place.

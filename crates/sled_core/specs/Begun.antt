@@ -1,7 +1,8 @@
 -- The segments that a log has begun, and what it has of each: the first one that isn't wholly on the device, and those behind it.
-use Rattle.std.specs.Prelude.{◌≡◌, ◌≤◌, ◌<◌, ◌+◌, ◌^◌, ℕ, List, [], ◌∷◌, length, map, drop, refl}
+use Rattle.std.specs.Prelude.{◌≡◌, ◌≤◌, ◌<◌, ◌+◌, ◌^◌, ℕ, List, [], ◌∷◌, length, map, drop, Option, None, Some, refl}
 use native.Mathlib.Nat.{ℕ_set}
 use native.Mathlib.Bridge.{le_prop}
+use Rattle.sled_core.specs.Buffers.{records_end}
 use Rattle.sled_core.specs.declared.iobuf.IoBuf.{IoBuf}
 use Rattle.sled_core.specs.declared.iobuf.Reserved.{Reserved}
 use Rattle.sled_core.specs.declared.iobuf.Sealed.{Sealed}
@@ -25,12 +26,14 @@ pub record SegmentParts : Type 0 where
   pub site : SegmentPosition
   pub bytes : List ℕ
   pub written_len : ℕ
+  -- where what fills it begins, if anything does
+  pub filled : Option ℕ
   pub sealed : List Sealed
   pub reserved : List Reserved
 
 -- the same of what code keeps of it
 abbrev pub parts_at : SegmentPosition → IoBuf → SegmentParts
-parts_at site b = record { site = site; bytes = b.bytes.items; written_len = b.written_len; sealed = b.sealed.items; reserved = b.reserved.items }
+parts_at site b = record { site = site; bytes = b.bytes.items; written_len = b.written_len; filled = b.filled; sealed = b.sealed.items; reserved = b.reserved.items }
 
 abbrev pub segment_parts : SegmentBuffer → SegmentParts
 segment_parts s = parts_at s.site s.buffer
@@ -60,15 +63,33 @@ abbrev pub AreEntered : ℕ → ℕ → ℕ → List Sealed → List Reserved �
 AreEntered to place from [] rs = 0 < length rs → place + from < to
 AreEntered to place from (b ∷ bs) rs = (0 < b.count → place + from < to) × AreEntered to place b.end bs (drop b.count rs)
 
+-- how far the records of a segment of so many bytes go: up to what fills it
+abbrev pub records_to : Option ℕ → ℕ → ℕ
+records_to None len = len
+records_to (Some from) len = from
+
 -- where the current buffer of a segment begins
 abbrev pub begin_of : SegmentView → ℕ
 begin_of v = sealed_end v.parts.written_len v.parts.sealed
 
--- Segments one behind another: in all but the last one each byte is in a sealed buffer or written, and the current buffer begins within the last one. What has an entry begins below a place, which isn't behind all bytes.
+-- nothing fills a segment
+abbrev pub IsUnfilled : Option ℕ → Type 0
+IsUnfilled None = Unit {0}
+IsUnfilled (Some from) = ⊥
+
+pub IsUnfilled-prop : (o : Option ℕ) → IsProp (IsUnfilled o)
+IsUnfilled-prop None = λ p q. refl
+IsUnfilled-prop (Some from) = λ p q. absurd p
+
+-- Segments one behind another: in all but the last one each byte is in a sealed buffer or written, and the current buffer begins within the last one. What has an entry begins below a place, which isn't behind all bytes. What fills a segment begins where the entries' records end at most, and a place that lies in the segment, or at its end, isn't behind that; nothing fills the last one.
 abbrev pub AreFilled : ℕ → ℕ → List SegmentView → Type 0
 AreFilled size to [] = Unit {0}
-AreFilled size to (v ∷ []) = (begin_of v < size) × (to ≤ v.parts.site.place + length v.parts.bytes) × AreEntered to v.parts.site.place v.parts.written_len v.parts.sealed v.parts.reserved
-AreFilled size to (v ∷ w ∷ vs) = (begin_of v ≡ size) × AreEntered to v.parts.site.place v.parts.written_len v.parts.sealed v.parts.reserved × AreFilled size to (w ∷ vs)
+AreFilled size to (v ∷ []) =
+    (begin_of v < size) × (to ≤ v.parts.site.place + length v.parts.bytes) × AreEntered to v.parts.site.place v.parts.written_len v.parts.sealed v.parts.reserved
+    × IsUnfilled v.parts.filled × (length v.parts.bytes ≤ records_end v.parts.reserved (length v.parts.bytes))
+AreFilled size to (v ∷ w ∷ vs) =
+    (begin_of v ≡ size) × AreEntered to v.parts.site.place v.parts.written_len v.parts.sealed v.parts.reserved × AreFilled size to (w ∷ vs)
+    × (records_to v.parts.filled size ≤ records_end v.parts.reserved size) × (to ≤ v.parts.site.place + size → to ≤ v.parts.site.place + records_to v.parts.filled size)
 
 -- The segments that a log has are filled so: the first one, and those behind it.
 abbrev pub IsFilledLine : ℕ → ℕ → SegmentPosition → IoBuf → List SegmentBuffer → Type 0
@@ -80,8 +101,8 @@ AreEntered-prop to place from (b ∷ bs) rs = λ p q i. (λ some. le_prop (p.0 s
 
 pub AreFilled-prop : (size to : ℕ) (vs : List SegmentView) → IsProp (AreFilled size to vs)
 AreFilled-prop size to [] = λ p q. refl
-AreFilled-prop size to (v ∷ []) = λ p q i. (le_prop p.0 q.0 i, le_prop p.1 q.1 i, AreEntered-prop to v.parts.site.place v.parts.written_len v.parts.sealed v.parts.reserved p.2 q.2 i)
-AreFilled-prop size to (v ∷ w ∷ vs) = λ p q i. (ℕ_set _ _ p.0 q.0 i, AreEntered-prop to v.parts.site.place v.parts.written_len v.parts.sealed v.parts.reserved p.1 q.1 i, AreFilled-prop size to (w ∷ vs) p.2 q.2 i)
+AreFilled-prop size to (v ∷ []) = λ p q i. (le_prop p.0 q.0 i, le_prop p.1 q.1 i, AreEntered-prop to v.parts.site.place v.parts.written_len v.parts.sealed v.parts.reserved p.2 q.2 i, IsUnfilled-prop v.parts.filled p.3 q.3 i, le_prop p.4 q.4 i)
+AreFilled-prop size to (v ∷ w ∷ vs) = λ p q i. (ℕ_set _ _ p.0 q.0 i, AreEntered-prop to v.parts.site.place v.parts.written_len v.parts.sealed v.parts.reserved p.1 q.1 i, AreFilled-prop size to (w ∷ vs) p.2 q.2 i, le_prop p.3 q.3 i, λ low. le_prop (p.4 low) (q.4 low) i)
 
 pub IsFilledLine-prop : (size to : ℕ) (site : SegmentPosition) (b : IoBuf) (behind : List SegmentBuffer) → IsProp (IsFilledLine size to site b behind)
 IsFilledLine-prop size to site b behind = AreFilled-prop size to (line_at site b behind)

@@ -12,6 +12,7 @@ pub record IsFirstBuffer (sum : List ℕ → ℕ) (place offset : ℕ) (b : IoBu
   pub resumed : 0 < offset → length b.bytes.items ≡ offset
   pub from : b.written_len ≡ offset
   pub reserved : b.reserved.items ≡ []
+  pub filled : b.filled ≡ None
   pub sealed : b.sealed.items ≡ []
 
 -- Why there is none: the stable place lies in the header of the active segment, or a new segment would not end below 2^63, or memory was refused.

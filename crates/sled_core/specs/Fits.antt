@@ -250,13 +250,6 @@ EndBelow place = All (λ m. (m.place < place) × (m.place + m.size ≤ place))
 abbrev pub CloseBelow : ℕ → List Batch → Type 0
 CloseBelow place = All (λ b. (b.low < place) × (b.peg < place))
 
--- A place lies in the record of one of these messages.
-pub record IsInRecord (ms : List Message) (place : ℕ) : Type 0 where
-  pub message : Message
-  pub there : Contains ms message
-  pub begins : message.place ≤ place
-  pub ends : place < message.place + message.size
-
 -- Of the batches of a history these begin behind what is written of a segment that lies there, and no others.
 pub record HasBatches (size : ℕ) (site : SegmentPosition) (from : ℕ) (own bs : List Batch) : Type 0 where
   pub noted : (b : Batch) → Contains own b → Contains bs b
@@ -287,9 +280,9 @@ pub record HoldsSegment (sum : List ℕ → ℕ) (parts : LogParts) (stays : Mes
   -- what the log file has of the sealed buffers, and zeros behind them
   pub laid : parts.fault ≡ None → Laid parts.device.log.bytes parts.site.slot parts.bytes parts.written_len parts.sealed parts.size
 
--- where it lies, and how much of it is written
+-- where it lies, how much of it is written, and where what fills it begins
 abbrev pub begun_segment : SegmentParts → BegunSegment
-begun_segment s = record { site = s.site; from = s.written_len }
+begun_segment s = record { site = s.site; from = s.written_len; filled = s.filled }
 
 -- a message has its item in its record
 abbrev pub HasInline : Message → Type 0

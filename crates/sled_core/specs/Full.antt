@@ -7,7 +7,7 @@ use Rattle.sled_codec.specs.Snapshots.{SnapshotModel}
 use Rattle.sled_store.specs.Device.{State}
 use Rattle.sled_core.specs.declared.iobuf.SegmentPosition.{SegmentPosition}
 use Rattle.sled_core.specs.declared.iterator.Segment.{Segment}
-use Rattle.sled_core.specs.Begun.{SegmentParts}
+use Rattle.sled_core.specs.Begun.{SegmentParts, records_to}
 use Rattle.sled_core.specs.Fits.{HasInline, HoldsIn, begun_segment, log_parts}
 use Rattle.sled_core.specs.LogFile.{padded}
 use Rattle.sled_core.specs.Reached.{BeginsNext, BeginsOne, BegunSegment, LeadsTo, StandsIn, StandsTo}
@@ -22,7 +22,7 @@ pub record StandsFull (sum : List ℕ → ℕ) (size : ℕ) (log : List ℕ) (pl
   pub stands : StandsTo sum size log H (stable_below reach H.batches) first reach
   pub leads : LeadsTo sum size log (least_place size first) reach place
   pub near : BeginsNext size H reach place
-  pub behind : (x : BegunSegment) → Contains others x → StandsIn sum size log (least_place size first) stands.scanned x.site x.from
+  pub behind : (x : BegunSegment) → Contains others x → StandsIn sum size log (least_place size first) stands.scanned x.site x.from (records_to x.filled size)
   pub last : (s : Segment) → IsFoundSegment sum size log (least_place size first) s → (s.place < place) ⊎ BeginsOne others s.place
   pub below : (s : Segment) → IsFoundSegment sum size log (least_place size first) s → s.mark <ℤ pos place
 

@@ -1,5 +1,5 @@
 -- What a reader finds of a settled log file, up to a place that the log has reached.
-use Rattle.std.specs.Prelude.{◌≡◌, ◌≢◌, ◌⊎◌, ◌+◌, ◌*◌, ◌/◌, ◌%◌, ◌≤◌, ◌<◌, ◌<ℤ◌, ℕ, pos, List, [], ◌∷◌, Some, Contains}
+use Rattle.std.specs.Prelude.{◌≡◌, ◌≢◌, ◌⊎◌, ◌+◌, ◌*◌, ◌/◌, ◌%◌, ◌≤◌, ◌<◌, ◌<ℤ◌, ℕ, pos, List, [], ◌∷◌, Option, Some, Contains}
 use Rattle.sled_codec.specs.Coords.{raised}
 use Rattle.sled_codec.specs.History.{Message, Batch, History, table}
 use Rattle.sled_codec.specs.Snapshots.{SnapshotModel, stable_place}
@@ -8,6 +8,7 @@ use Rattle.sled_core.specs.declared.iterator.Segment.{Segment}
 use Rattle.sled_core.specs.declared.iterator.scan.ScannedRecord.{ScannedRecord}
 use Rattle.sled_core.specs.declared.iterator.scan.ScanEnd.{ScanEnd}
 use Rattle.sled_core.specs.declared.iterator.scan.ScanEnd.TheVariants.{Broken}
+use Rattle.sled_core.specs.Begun.{records_to}
 use Rattle.sled_core.specs.OpenBatches.{stable_below}
 use Rattle.sled_core.specs.Scan.{IsFoundSegment}
 use Rattle.sled_core.specs.Tail.{IsOrdering, IsScanned, Scanned, AreScanned, least_place}
@@ -57,11 +58,11 @@ pub record GoesOnIn (scanned : List Scanned) (slot from place : ℕ) : Type 0 wh
 abbrev pub IsSoFar : ℕ → ℕ → ℕ → ScanEnd → Type 0
 IsSoFar size from stop why = ((stop ≡ from) × (from + 32 ≤ size → why ≡ Broken)) ⊎ ((from ≡ size) × (why ≢ Broken))
 
--- A segment among those that are found, of which so much is written from its beginning on without a gap: no other slot has one of its place, its slot has no other one, and it is read up to there.
-pub record StandsIn (sum : List ℕ → ℕ) (size : ℕ) (log : List ℕ) (least : ℕ) (scanned : List Scanned) (site : SegmentPosition) (from : ℕ) : Type 0 where
+-- A segment among those that are found, of which so much is written from its beginning on without a gap: no other slot has one of its place, its slot has no other one, and it is read up to there. A full one is read up to its records' end at least.
+pub record StandsIn (sum : List ℕ → ℕ) (size : ℕ) (log : List ℕ) (least : ℕ) (scanned : List Scanned) (site : SegmentPosition) (from records : ℕ) : Type 0 where
   pub only : (s : Segment) → IsFoundSegment sum size log least s → s.place ≡ site.place → s.slot ≡ site.slot
   pub own : (s : Segment) → IsFoundSegment sum size log least s → s.slot ≡ site.slot → s.place ≡ site.place
-  pub read : 0 < from → (stop : ℕ) × (why : ScanEnd) × IsReadTo scanned site.slot site.place stop why × IsSoFar size from stop why
+  pub read : 0 < from → (stop : ℕ) × (why : ScanEnd) × IsReadTo scanned site.slot site.place stop why × IsSoFar size from stop why × (from ≡ size → records ≤ stop)
 
 -- The segment before one at this place is found, begins below what was reached, and leads on.
 pub record LeadsTo (sum : List ℕ → ℕ) (size : ℕ) (log : List ℕ) (least reach place : ℕ) : Type 0 where
@@ -88,10 +89,11 @@ pub record BeginsNext (size : ℕ) (H : History) (reach place : ℕ) : Type 0 wh
 abbrev pub ReachesIn : ℕ → History → ℕ → ℕ → ℕ → Type 0
 ReachesIn size H place from reach = (reach ≡ place + from) ⊎ ((from ≡ 0) × BeginsNext size H reach place)
 
--- A segment that was begun, and how much of it is written from its beginning on without a gap.
+-- A segment that was begun, how much of it is written from its beginning on without a gap, and where what fills it begins, if anything does.
 pub record BegunSegment : Type 0 where
   pub site : SegmentPosition
   pub from : ℕ
+  pub filled : Option ℕ
 
 -- Segments follow one behind another, in slots that are apart.
 abbrev pub FollowApart : SegmentPosition → List BegunSegment → Type 0
@@ -107,8 +109,8 @@ pub record StandsAmong (sum : List ℕ → ℕ) (size : ℕ) (log : List ℕ) (s
   pub stands : StandsTo sum size log H (stable_below reach H.batches) first reach
   pub reached : ReachesIn size H site.place from reach
   pub led : IsLed sum size log (least_place size first) reach site.place
-  pub here : StandsIn sum size log (least_place size first) stands.scanned site from
-  pub behind : (x : BegunSegment) → Contains others x → StandsIn sum size log (least_place size first) stands.scanned x.site x.from
+  pub here : StandsIn sum size log (least_place size first) stands.scanned site from 0
+  pub behind : (x : BegunSegment) → Contains others x → StandsIn sum size log (least_place size first) stands.scanned x.site x.from (records_to x.filled size)
   pub apart : FollowApart site others
   pub last : (s : Segment) → IsFoundSegment sum size log (least_place size first) s → (s.place ≤ site.place) ⊎ BeginsOne others s.place
   pub below : (s : Segment) → IsFoundSegment sum size log (least_place size first) s → s.mark <ℤ pos (site.place + from)

@@ -1,6 +1,6 @@
 //! The bytes of the segment that is being filled. The current buffer is the part of them that was not
 //! written yet, and the reservations in it lie one behind another.
-ghost use Rattle.std.specs.Prelude.{◌≡◌, ◌+◌, ◌-◌, ◌<◌, ◌≤◌, ◌^◌, ◌++◌, ◌∷◌, [], ℕ, List, true, false, length, max, take, drop, set, replicate, vec_capacity, slice_get, OnOk, OnErr, IfOk, IsOkUnless, IsTrue, ◌↔◌, pos, All, Some};
+ghost use Rattle.std.specs.Prelude.{◌≡◌, ◌+◌, ◌-◌, ◌<◌, ◌≤◌, ◌^◌, ◌++◌, ◌∷◌, [], ℕ, List, true, false, length, max, take, drop, set, replicate, vec_capacity, slice_get, OnOk, OnErr, IfOk, IsOkUnless, IsTrue, ◌↔◌, pos, All, None, Some};
 ghost use Rattle.std.specs.VecDeque.{deque_len, deque_capacity};
 ghost use Rattle.sled_codec.specs.Written.{written};
 ghost use Rattle.sled_store.specs.Words.{writers_of};
@@ -114,6 +114,8 @@ pub(crate) struct IoBuf {
     pub(crate) reserved: VecDeque<Reserved>,
     /// How many there were before them: a ticket's number counts those too.
     pub(crate) gone: usize,
+    /// Where what fills the segment begins, behind its records, if anything does.
+    pub(crate) filled: Option<usize>,
     /// The sealed buffers, by place. The first one isn't on the device.
     pub(crate) sealed: VecDeque<Sealed>,
     /// Where the current buffer begins.
@@ -147,6 +149,7 @@ impl IoBuf {
         ensures reserved { IfOk result (λ b. b.reserved.items ≡ []) }
         ensures sealed { IfOk result (λ b. b.sealed.items ≡ []) }
         ensures gone { IfOk result (λ b. b.gone ≡ 0) }
+        ensures filled { IfOk result (λ b. b.filled ≡ None) }
         ensures room { IfOk result (λ b. room ≤ vec_capacity b.bytes) }
         ensures place { IfOk result (λ b. 0 < deque_capacity b.reserved) }
         ensures err { IsOkUnless result Error.OutOfMemory }
@@ -160,6 +163,7 @@ impl IoBuf {
             written_len: 0,
             reserved,
             gone: 0,
+            filled: None,
             sealed: VecDeque::new(alloc),
             begin: 0,
             first: 0,
@@ -174,6 +178,7 @@ impl IoBuf {
         ensures len { IfOk result (λ b. length b.bytes.items ≡ from) }
         ensures from { IfOk result (λ b. b.written_len ≡ from) }
         ensures reserved { IfOk result (λ b. b.reserved.items ≡ []) }
+        ensures filled { IfOk result (λ b. b.filled ≡ None) }
         ensures sealed { IfOk result (λ b. b.sealed.items ≡ []) }
         ensures err { IsOkUnless result Error.OutOfMemory }
     {
@@ -182,6 +187,7 @@ impl IoBuf {
             written_len: from,
             reserved: VecDeque::new(alloc),
             gone: 0,
+            filled: None,
             sealed: VecDeque::new(alloc),
             begin: from,
             first: 0,
@@ -222,6 +228,7 @@ impl IoBuf {
         ensures from { self.new.written_len ≡ self.old.written_len }
         ensures reserved { self.new.reserved.items ≡ self.old.reserved.items }
         ensures gone { self.new.gone ≡ self.old.gone }
+        ensures filled { self.new.filled ≡ self.old.filled }
         ensures sealed { self.new.sealed.items ≡ self.old.sealed.items }
         ensures room { OnOk result (length self.old.bytes.items + len + 32 ≤ vec_capacity self.new.bytes) }
         ensures place { OnOk result (deque_len self.new.reserved < deque_capacity self.new.reserved) }
@@ -254,6 +261,7 @@ impl IoBuf {
             ++ drop 4 (take head.now.len head.now.bytes))) ∷ [] }
         ensures from { self.new.written_len ≡ self.old.written_len }
         ensures gone { self.new.gone ≡ self.old.gone }
+        ensures filled { self.new.filled ≡ self.old.filled }
         ensures sealed { self.new.sealed.items ≡ self.old.sealed.items }
     {
         let from = self.bytes.len();
@@ -284,6 +292,7 @@ impl IoBuf {
         ensures sealed { self.new.sealed.items ≡ one_ended index self.old.sealed.items }
         ensures from { self.new.written_len ≡ self.old.written_len }
         ensures gone { self.new.gone ≡ self.old.gone }
+        ensures filled { self.new.filled ≡ self.old.filled }
         ensures len { length self.new.bytes.items ≡ length self.old.bytes.items }
     {
         let r = self.reserved[index];
@@ -301,6 +310,7 @@ impl IoBuf {
         ensures sealed { self.new.sealed.items ≡ one_ended index self.old.sealed.items }
         ensures from { self.new.written_len ≡ self.old.written_len }
         ensures gone { self.new.gone ≡ self.old.gone }
+        ensures filled { self.new.filled ≡ self.old.filled }
         ensures len { length self.new.bytes.items ≡ length self.old.bytes.items }
     {
         self.end_as(
@@ -323,6 +333,7 @@ impl IoBuf {
         ensures sealed { self.new.sealed.items ≡ one_ended index self.old.sealed.items }
         ensures from { self.new.written_len ≡ self.old.written_len }
         ensures gone { self.new.gone ≡ self.old.gone }
+        ensures filled { self.new.filled ≡ self.old.filled }
         ensures len { length self.new.bytes.items ≡ length self.old.bytes.items }
     {
         let r = self.reserved[index];
@@ -348,6 +359,7 @@ impl IoBuf {
         ensures sealed { self.new.sealed.items ≡ one_ended index self.old.sealed.items }
         ensures from { self.new.written_len ≡ self.old.written_len }
         ensures gone { self.new.gone ≡ self.old.gone }
+        ensures filled { self.new.filled ≡ self.old.filled }
         ensures len { length self.new.bytes.items ≡ length self.old.bytes.items }
     {
         let r = self.reserved[index];
@@ -368,6 +380,7 @@ impl IoBuf {
         ensures sealed { self.new.sealed.items ≡ one_ended index self.old.sealed.items }
         ensures from { self.new.written_len ≡ self.old.written_len }
         ensures gone { self.new.gone ≡ self.old.gone }
+        ensures filled { self.new.filled ≡ self.old.filled }
         ensures len { length self.new.bytes.items ≡ length self.old.bytes.items }
     {
         let r = self.reserved[index];

@@ -98,7 +98,7 @@ apart_behind site (z ∷ zs) y post apart x among = apart_behind z.site zs y pos
 
 -- the segment with these bytes, so many of them written, and with these buffers and reservations
 abbrev pub now_with : SegmentParts → List ℕ → ℕ → List Sealed → List Reserved → SegmentParts
-now_with s bytes from bs rs = record { site = s.site; bytes = bytes; written_len = from; sealed = bs; reserved = rs }
+now_with s bytes from bs rs = record { site = s.site; bytes = bytes; written_len = from; filled = s.filled; sealed = bs; reserved = rs }
 
 -- What a segment holds it holds with other bytes and buffers, where these keep to it.
 abbrev pub next_with : (sum : List ℕ → ℕ) (size : ℕ) (device : State) (fault : Option IoError) (place : ℕ) (s : SegmentParts) (stays : Message → Type 0) (batches : List Batch) (own : List Message) → HoldsNext sum size device fault place s stays batches own
@@ -130,7 +130,7 @@ module _ (pre : List SegmentParts) (s : SegmentParts) (post : List SegmentParts)
   pub apart_with : (site : SegmentPosition) (bytes : List ℕ) (from : ℕ) (bs : List Sealed) (rs : List Reserved) → FollowApart site (map begun_segment (pre ++ s ∷ post)) → FollowApart site (map begun_segment (pre ++ now_with s bytes from bs rs ∷ post))
   apart_with site bytes from bs rs apart =
       subst (FollowApart site) (sym (map-append begun_segment pre (now_with s bytes from bs rs ∷ post)))
-      (follow_still site (map begun_segment pre) (begun_segment s) (map begun_segment post) from (apart_around site apart))
+      (follow_still site (map begun_segment pre) (begun_segment s) (map begun_segment post) from s.filled (apart_around site apart))
 
 module _ (sum : List ℕ → ℕ) (size : ℕ) (site : SegmentPosition) (device : State) (fault : Option IoError) (bytes : List ℕ) (from : ℕ) (bs : List Sealed) (rs : List Reserved) (H : History)
     (pre : List SegmentParts) (s : SegmentParts) (post : List SegmentParts) (holds : HoldsIn sum (log_parts size site device fault bytes from bs rs) (pre ++ s ∷ post) H) where

@@ -81,7 +81,7 @@ follow_one site (x ∷ xs) z apart low other all = (
 
 -- a segment that begins there with these bytes, nothing of which is written, sealed or reserved
 abbrev pub begun_with : SegmentPosition → List ℕ → SegmentParts
-begun_with site bytes = record { site = site; bytes = bytes; written_len = 0; sealed = []; reserved = [] }
+begun_with site bytes = record { site = site; bytes = bytes; written_len = 0; filled = None; sealed = []; reserved = [] }
 
 module _ (sum : List ℕ → ℕ) (size : ℕ) (site : SegmentPosition) (device : State) (fault : Option IoError) (bytes : List ℕ) (from : ℕ) (bs : List Sealed) (rs : List Reserved) (H : History)
     (behind : List SegmentParts) (holds : HoldsIn sum (log_parts size site device fault bytes from bs rs) behind H) (big : 256 ≤ size) (short : length bytes ≤ size)

@@ -22,6 +22,7 @@ use Rattle.sled_core.specs.Begun.{SegmentParts}
 use Rattle.sled_core.specs.Fits.{HoldsIn, HoldsNext, HoldsSegment, log_parts}
 use Rattle.sled_core.specs.SealedBuffers.{AreSealed, one_ended, seal_at, sealed_count, sealed_end}
 use Rattle.sled_core.proofs.Behind.Around.{behind_place, held_around, holds_with, next_with, now_with, stays_below}
+use Rattle.sled_core.proofs.Behind.Refilled.{filled_at, holds-refilled}
 use Rattle.sled_core.proofs.Flush.Completed.{grows}
 use Rattle.sled_core.proofs.Holds.CanceledLemmas.{segment-aborted}
 use Rattle.sled_core.proofs.Holds.BatchLemmas.{same_batched}
@@ -155,6 +156,10 @@ module _ (sum : List ℕ → ℕ) (size : ℕ) (site : SegmentPosition) (device 
 
   abbrev pub behind-pad : length s.bytes < size → s.site.place / size < 2 ^ 64 → HoldsIn sum (log_parts size site device fault bytes from bs rs) (pre ++ now_with s filled_bytes s.written_len s.sealed with_padding ∷ post) H
   behind-pad less small = holds_with sum size site device fault bytes from bs rs H pre s post holds filled_bytes s.written_len s.sealed with_padding (pad_next less small)
+
+  abbrev pub behind-filled : length s.bytes < size → s.site.place / size < 2 ^ 64
+      → HoldsIn sum (log_parts size site device fault bytes from bs rs) (pre ++ filled_at (Some (length s.bytes)) (now_with s filled_bytes s.written_len s.sealed with_padding) ∷ post) H
+  behind-filled less small = holds-refilled sum size site device fault bytes from bs rs H pre (now_with s filled_bytes s.written_len s.sealed with_padding) post (Some (length s.bytes)) (behind-pad less small)
 
   -- One of its reservations is aborted.
   module _ (i : ℕ) (r : Reserved) (there : slice_get s.reserved i ≡ Some r) (is_open : r.state ≡ Open) where

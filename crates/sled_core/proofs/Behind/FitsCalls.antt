@@ -26,6 +26,7 @@ use Rattle.sled_core.proofs.Behind.Calls.{behind-aborted, behind-append, behind-
 use Rattle.sled_core.proofs.Behind.Completes.{adds_here, behind-complete, completed_history}
 use Rattle.sled_core.proofs.Behind.FitsCompleted.{behind-completed}
 use Rattle.sled_core.proofs.Behind.FitsMoved.{behind-moved}
+use Rattle.sled_core.proofs.Behind.Refilled.{filled_at, fits-refilled}
 use Rattle.sled_core.proofs.Flush.Completed.{grows}
 use Rattle.sled_core.proofs.Holds.CompletedLemmas.{behind_written, ends_within}
 use Rattle.sled_core.proofs.Reserve.CompletesLemmas.{fits}
@@ -47,22 +48,26 @@ module _ (sum : List ℕ → ℕ) (size : ℕ) (site : SegmentPosition) (device 
   -- Its current buffer is sealed, which holds something.
   pub behind-fits-sealed : sealed_end s.written_len s.sealed < length s.bytes
       → FitsIn sum (log_parts size site device fault bytes from bs rs) (pre ++ now_with s s.bytes s.written_len (s.sealed ++ seal_at (length s.bytes) (drop (sealed_count s.sealed) s.reserved) ∷ []) s.reserved ∷ post) reach pins H A f U
-  behind-fits-sealed some = behind-moved sum size site device fault bytes from bs rs pins H A f U pre s post its (now_with s s.bytes s.written_len (s.sealed ++ seal_at (length s.bytes) (drop (sealed_count s.sealed) s.reserved) ∷ []) s.reserved) refl refl (λ none. refl)
+  behind-fits-sealed some = behind-moved sum size site device fault bytes from bs rs pins H A f U pre s post its (now_with s s.bytes s.written_len (s.sealed ++ seal_at (length s.bytes) (drop (sealed_count s.sealed) s.reserved) ∷ []) s.reserved) refl refl refl (λ none. refl)
       (behind-sealed sum size site device fault bytes from bs rs H pre s post its.holds some)
 
   -- A place is reserved in it.
   pub behind-fits-reserved : (more : List ℕ) (r : Reserved) → r.from ≡ length s.bytes → r.len ≡ length more → r.state ≡ Open → r.from + 32 ≤ size → HasText sum (s.site.place / size) (s.bytes ++ more) r → length (s.bytes ++ more) ≤ size
       → FitsIn sum (log_parts size site device fault bytes from bs rs) (pre ++ now_with s (s.bytes ++ more) s.written_len s.sealed (s.reserved ++ r ∷ []) ∷ post) reach pins H A f U
-  behind-fits-reserved more r at long is_open room text inside = behind-moved sum size site device fault bytes from bs rs pins H A f U pre s post its (now_with s (s.bytes ++ more) s.written_len s.sealed (s.reserved ++ r ∷ [])) refl refl (λ none. head_more more)
+  behind-fits-reserved more r at long is_open room text inside = behind-moved sum size site device fault bytes from bs rs pins H A f U pre s post its (now_with s (s.bytes ++ more) s.written_len s.sealed (s.reserved ++ r ∷ [])) refl refl refl (λ none. head_more more)
       (behind-append sum size site device fault bytes from bs rs H pre s post its.holds more r at long is_open room text inside)
 
   -- It is filled to its end.
   pub behind-fits-filled : length s.bytes < size → s.site.place / size < 2 ^ 64
-      → FitsIn sum (log_parts size site device fault bytes from bs rs) (pre ++ now_with s (s.bytes ++ segment_rest sum size (s.site.place / size) (length s.bytes)) s.written_len s.sealed (s.reserved ++ padding_at size (length s.bytes) ∷ []) ∷ post) reach pins H A f U
+      → FitsIn sum (log_parts size site device fault bytes from bs rs)
+          (pre ++ filled_at (Some (length s.bytes)) (now_with s (s.bytes ++ segment_rest sum size (s.site.place / size) (length s.bytes)) s.written_len s.sealed (s.reserved ++ padding_at size (length s.bytes) ∷ [])) ∷ post) reach pins H A f U
   behind-fits-filled less small =
-      let filled : List ℕ = segment_rest sum size (s.site.place / size) (length s.bytes) in
-      behind-moved sum size site device fault bytes from bs rs pins H A f U pre s post its (now_with s (s.bytes ++ filled) s.written_len s.sealed (s.reserved ++ padding_at size (length s.bytes) ∷ [])) refl refl (λ none. head_more filled)
-      (behind-pad sum size site device fault bytes from bs rs H pre s post its.holds less small)
+      let rest : List ℕ = segment_rest sum size (s.site.place / size) (length s.bytes) in
+      let filled : SegmentParts = now_with s (s.bytes ++ rest) s.written_len s.sealed (s.reserved ++ padding_at size (length s.bytes) ∷ []) in
+      let behind = here.behind in
+      fits-refilled sum size site device fault bytes from bs rs H pre filled post (Some (length s.bytes)) reach pins A f U (omega (arith, behind, less))
+      (behind-moved sum size site device fault bytes from bs rs pins H A f U pre s post its filled refl refl refl (λ none. head_more rest)
+      (behind-pad sum size site device fault bytes from bs rs H pre s post its.holds less small))
 
   -- One of its reservations ends.
   module _ (i : ℕ) (r : Reserved) (there : slice_get s.reserved i ≡ Some r) (is_open : r.state ≡ Open) where
@@ -76,7 +81,7 @@ module _ (sum : List ℕ → ℕ) (size : ℕ) (site : SegmentPosition) (device 
 
     -- It is aborted,
     pub behind-fits-aborted : FitsIn sum (log_parts size site device fault bytes from bs rs) (pre ++ now_with s (written s.bytes r.from (canceling sum s.bytes r)) s.written_len (one_ended i s.sealed) (set s.reserved i (ended Canceled r)) ∷ post) reach pins H A f U
-    behind-fits-aborted = behind-moved sum size site device fault bytes from bs rs pins H A f U pre s post its (now_with s (written s.bytes r.from (canceling sum s.bytes r)) s.written_len (one_ended i s.sealed) (set s.reserved i (ended Canceled r))) refl refl
+    behind-fits-aborted = behind-moved sum size site device fault bytes from bs rs pins H A f U pre s post its (now_with s (written s.bytes r.from (canceling sum s.bytes r)) s.written_len (one_ended i s.sealed) (set s.reserved i (ended Canceled r))) refl refl refl
         (λ none. head_kept (sum (body_in s.bytes r ++ code_of kind.Canceled ∷ part s.bytes (r.from + 5) (r.header_len - 5))) kind.Canceled) (behind-aborted sum size site device fault bytes from bs rs H pre s post its.holds i r there is_open)
 
     -- or its message is completed.
@@ -85,7 +90,7 @@ module _ (sum : List ℕ → ℕ) (size : ℕ) (site : SegmentPosition) (device 
         (completed_history sum size site device fault bytes from bs rs H pre s post its.holds short i r there is_open none) A f (message_in s.site s.bytes r ∷ U)
     behind-fits-completed none big short whole fresh out =
         let inside = here.inside in
-        behind-completed sum size site device fault bytes from bs rs pins H A f U pre s post its (now_with s (written s.bytes r.from (completing r)) s.written_len (one_ended i s.sealed) (set s.reserved i (ended Completed r))) refl refl (λ none. head_kept r.sum r.kind)
+        behind-completed sum size site device fault bytes from bs rs pins H A f U pre s post its (now_with s (written s.bytes r.from (completing r)) s.written_len (one_ended i s.sealed) (set s.reserved i (ended Completed r))) refl refl refl (λ none. head_kept r.sum r.kind)
         (completed_history sum size site device fault bytes from bs rs H pre s post its.holds short i r there is_open none) (message_in s.site s.bytes r) big short whole
         (behind-complete sum size site device fault bytes from bs rs H pre s post its.holds short i r there is_open none) (adds_here sum size site device fault bytes from bs rs H pre s post its.holds short i r there is_open none)
         (behind_written sum size s.site device fault s.bytes s.written_len s.sealed s.reserved i r own_history here.segment there)

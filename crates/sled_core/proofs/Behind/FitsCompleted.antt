@@ -73,7 +73,7 @@ module _ (sum : List ℕ → ℕ) (size : ℕ) (site : SegmentPosition) (device 
 
 module _ (sum : List ℕ → ℕ) (size : ℕ) (site : SegmentPosition) (device : State) (fault : Option IoError) (bytes : List ℕ) (from : ℕ) (bs : List Sealed) (rs : List Reserved) (pins : ℕ) (H : History) (A f : ℕ) (U : List Message)
     (pre : List SegmentParts) (s : SegmentParts) (post : List SegmentParts) {reach : ℕ} (fits : FitsIn sum (log_parts size site device fault bytes from bs rs) (pre ++ s ∷ post) reach pins H A f U)
-    (s' : SegmentParts) (its_site : s'.site ≡ s.site) (so_far : s'.written_len ≡ s.written_len) (head : s.written_len ≡ 0 → take 20 s'.bytes ≡ take 20 s.bytes)
+    (s' : SegmentParts) (its_site : s'.site ≡ s.site) (so_far : s'.written_len ≡ s.written_len) (filling : s'.filled ≡ s.filled) (head : s.written_len ≡ 0 → take 20 s'.bytes ≡ take 20 s.bytes)
     (H' : History) (m : Message) (least : 256 ≤ size) (short : length bytes ≤ size) (ok : fault ≡ None) (holds : HoldsIn sum (log_parts size site device fault bytes from bs rs) (pre ++ s' ∷ post) H') (adds : AddsMessage H m H')
     (above : s.site.place + s.written_len ≤ m.place) (inside : m.place < s.site.place + size) (fresh : FirstUnwritten s.sealed) where
   abbrev first : SnapshotModel
@@ -128,7 +128,7 @@ module _ (sum : List ℕ → ℕ) (size : ℕ) (site : SegmentPosition) (device 
 
   -- A reader finds the same of a file that has these zeros.
   stands_new : NoHeaderOfZeros sum → (log : List ℕ) → (s.written_len ≡ 0 → AreZeros log s.site.slot (s.site.slot + 20)) → StandsAmong sum size log site from others reach H first → StandsAmong sum size log site from others' reach H' first
-  stands_new none log zeros among = subst (λ (l : List BegunSegment). StandsAmong sum size log site from l reach H' first) (sym (begun_same pre s s' post its_site so_far))
+  stands_new none log zeros among = subst (λ (l : List BegunSegment). StandsAmong sum size log site from l reach H' first) (sym (begun_same pre s s' post its_site so_far filling))
       (other_adds sum size log site from reach H H' first least none (begun_segment s) among_others had.segment.place_begins zeros m adds above inside room lies.lies among)
 
   alone_new : NoHeaderOfZeros sum → StandsAmong sum size device.log.bytes site from others' reach H' first

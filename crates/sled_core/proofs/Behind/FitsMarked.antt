@@ -1,7 +1,6 @@
 -- A batch is marked whose manifest lies in a segment behind the first one: the log fits the history with it, and a reader finds what he found.
-use Rattle.sled_store.proofs.Histories.Ascending.{Ascends}
 use Rattle.std.proofs.Common.{◌≡◌, ◌∙◌, ◌≤◌, ◌<◌, ◌+◌, ℕ, List, ◌∷◌, ◌++◌, length, map, take, Option, None, sym, ap, subst, arith, inr}
-use Rattle.std.specs.List.{Contains}
+use Rattle.std.specs.List.{All, Contains}
 use Rattle.std.specs.declared.io.Error.{Error as IoError}
 use Rattle.std.proofs.lemmas.List.Elements.{Contains-append_right}
 use Rattle.sled_codec.specs.History.{AddsBatch, Batch, History, Message}
@@ -13,7 +12,7 @@ use Rattle.sled_core.specs.declared.iobuf.Reserved.{Reserved}
 use Rattle.sled_core.specs.declared.iobuf.Sealed.{Sealed}
 use Rattle.sled_core.specs.declared.iobuf.SegmentPosition.{SegmentPosition}
 use Rattle.sled_core.specs.Begun.{SegmentParts}
-use Rattle.sled_core.specs.Fits.{IsInRecord, HoldsIn, HoldsNext, begun_segment, log_parts}
+use Rattle.sled_core.specs.Fits.{HoldsIn, HoldsNext, begun_segment, log_parts}
 use Rattle.sled_core.specs.LogFile.{padded}
 use Rattle.sled_core.specs.OpenBatches.{stable_below}
 use Rattle.sled_core.specs.Reached.{BegunSegment, StandsAmong}
@@ -29,6 +28,7 @@ use Rattle.sled_core.proofs.Flush.Padded.{padded_get}
 use Rattle.sled_core.proofs.Flush.Settled.{InlineFrom, rests, settled_recoverable}
 use Rattle.sled_core.proofs.Holds.AddedBatch.{message_was, no_batch, no_end}
 use Rattle.sled_core.proofs.Holds.BegunMarks.{blobs-marks, names-marks}
+use Rattle.sled_core.proofs.Holds.PegLemmas.{IsOff, LiesBesideFilling, behind_beside, beside_padded}
 use Rattle.sled_core.proofs.Holds.StandsBatch.{other-marks}
 use Rattle.sled_core.proofs.Holds.WholeHistory.{whole_ascends}
 use Rattle.sled_core.proofs.Reached.StableBelow.{stable_one_more}
@@ -36,15 +36,11 @@ use Rattle.sled_core.proofs.Sealed.Zeros.{begin_zeros}
 
 module _ (sum : List ℕ → ℕ) (size : ℕ) (site : SegmentPosition) (device : State) (fault : Option IoError) (bytes : List ℕ) (from : ℕ) (bs : List Sealed) (rs : List Reserved) (pins : ℕ) (H : History) (A f : ℕ) (U : List Message)
     (pre : List SegmentParts) (s : SegmentParts) (post : List SegmentParts) {reach : ℕ} (fits : FitsIn sum (log_parts size site device fault bytes from bs rs) (pre ++ s ∷ post) reach pins H A f U)
-    (s' : SegmentParts) (its_site : s'.site ≡ s.site) (so_far : s'.written_len ≡ s.written_len) (head : s.written_len ≡ 0 → take 20 s'.bytes ≡ take 20 s.bytes)
+    (s' : SegmentParts) (its_site : s'.site ≡ s.site) (so_far : s'.written_len ≡ s.written_len) (filling : s'.filled ≡ s.filled) (head : s.written_len ≡ 0 → take 20 s'.bytes ≡ take 20 s.bytes)
     (H' : History) (b : Batch) (least : 256 ≤ size) (short : length bytes ≤ size) (ok : fault ≡ None) (holds : HoldsIn sum (log_parts size site device fault bytes from bs rs) (pre ++ s' ∷ post) H') (adds : AddsBatch H b H')
-    (placing : ((c : Batch) → Contains H.batches c → IsPlacedBatch size H c) → (c : Batch) → Contains H'.batches c → IsPlacedBatch size H' c) (pegged : IsInRecord H.messages b.peg) (above : s.site.place + s.written_len ≤ b.low) (inside : b.low < s.site.place + size) (fresh : FirstUnwritten s.sealed) where
+    (placing : ((c : Batch) → Contains H.batches c → IsPlacedBatch size H c) → (c : Batch) → Contains H'.batches c → IsPlacedBatch size H' c) (later : b.low < b.peg) (offs : All (IsOff size b.peg) (pre ++ s ∷ post)) (above : s.site.place + s.written_len ≤ b.low) (inside : b.low < s.site.place + size) (fresh : FirstUnwritten s.sealed) where
   abbrev first : SnapshotModel
   first = fits.holds.begun.first
-
-  -- the messages are in order, which are the same in both
-  ordered : Ascends H.messages
-  ordered = subst Ascends adds.messages (whole_ascends sum size site device fault bytes from bs rs H' holds short)
 
   abbrev others : List BegunSegment
   others = map begun_segment (pre ++ s ∷ post)
@@ -73,16 +69,20 @@ module _ (sum : List ℕ → ℕ) (size : ℕ) (site : SegmentPosition) (device 
   among_others : Contains others (begun_segment s)
   among_others = subst (λ (l : List BegunSegment). Contains l (begun_segment s)) (sym (begun_is pre s post)) (Contains-append_right (map begun_segment pre) (begun_segment s ∷ map begun_segment post) (begun_segment s) (in_first (begun_segment s) (map begun_segment post)))
 
+  -- where the peg lies of the segments behind the first one
+  beside : (x : BegunSegment) → Contains others x → LiesBesideFilling size device.log.bytes b.peg x
+  beside = behind_beside sum size least device fault ok b.peg (site.place + size) (pre ++ s ∷ post) (stays_below sum size site device fault bytes from bs rs H pre s post fits.holds) H.batches fits.holds.later fits.holds.others offs
+
   -- A reader finds the same of a file that has these zeros.
-  stands_new : NoHeaderOfZeros sum → (log : List ℕ) → (s.written_len ≡ 0 → AreZeros log s.site.slot (s.site.slot + 20)) → StandsAmong sum size log site from others reach H first → StandsAmong sum size log site from others' reach H' first
-  stands_new none log zeros among = subst (λ (l : List BegunSegment). StandsAmong sum size log site from l reach H' first) (sym (begun_same pre s s' post its_site so_far))
-      (other-marks sum size log site from reach H H' first least none (begun_segment s) among_others had.segment.place_begins zeros b adds above inside (placing among.stands.batched) ordered pegged among)
+  stands_new : NoHeaderOfZeros sum → (log : List ℕ) → (s.written_len ≡ 0 → AreZeros log s.site.slot (s.site.slot + 20)) → ((x : BegunSegment) → Contains others x → LiesBesideFilling size log b.peg x) → StandsAmong sum size log site from others reach H first → StandsAmong sum size log site from others' reach H' first
+  stands_new none log zeros lies among = subst (λ (l : List BegunSegment). StandsAmong sum size log site from l reach H' first) (sym (begun_same pre s s' post its_site so_far filling))
+      (other-marks sum size log site from reach H H' first least none (begun_segment s) among_others had.segment.place_begins zeros b adds above inside (placing among.stands.batched) later lies among)
 
   alone_new : NoHeaderOfZeros sum → StandsAmong sum size device.log.bytes site from others' reach H' first
-  alone_new none = stands_new none device.log.bytes clean (fits.among ok none)
+  alone_new none = stands_new none device.log.bytes clean beside (fits.among ok none)
 
   beyond_new : (to : ℕ) → site.slot ≤ to → NoHeaderOfZeros sum → StandsAmong sum size (padded to device.log.bytes) site from others' reach H' first
-  beyond_new to far none = stands_new none (padded to device.log.bytes) (λ first_one i low high. padded_get to device.log.bytes i ∙ clean first_one i low high) (fits.beyond to far ok none)
+  beyond_new to far none = stands_new none (padded to device.log.bytes) (λ first_one i low high. padded_get to device.log.bytes i ∙ clean first_one i low high) (λ x known. beside_padded size to device.log.bytes b.peg x (beside x known)) (fits.beyond to far ok none)
 
   names_new : NamesFit sum size device.snapshots H' f first
   names_new = let begun = fits.holds.begun.reached in let at = past in names-marks H H' b adds sum size device.snapshots f first (omega (arith, begun, at)) fits.names

@@ -24,8 +24,8 @@ abbrev pub MarksBelow : (List ℕ → ℕ) → ℕ → List SegmentParts → Typ
 MarksBelow sum end behind = (x : SegmentParts) → Contains behind x → x.written_len ≡ 0 → (mark : ℤ) → IsHeader sum (take 20 x.bytes) (pos x.site.place) mark → mark <ℤ pos end
 
 -- The segments lie as they did where one of them has its place and as much of it is written.
-pub begun_same : (pre : List SegmentParts) (s s' : SegmentParts) (post : List SegmentParts) → s'.site ≡ s.site → s'.written_len ≡ s.written_len → map begun_segment (pre ++ s' ∷ post) ≡ map begun_segment (pre ++ s ∷ post)
-begun_same pre s s' post site so_far =
+pub begun_same : (pre : List SegmentParts) (s s' : SegmentParts) (post : List SegmentParts) → s'.site ≡ s.site → s'.written_len ≡ s.written_len → s'.filled ≡ s.filled → map begun_segment (pre ++ s' ∷ post) ≡ map begun_segment (pre ++ s ∷ post)
+begun_same pre s s' post site so_far filling =
     let one : begun_segment s' ≡ begun_segment s = cc in
     map-append begun_segment pre (s' ∷ post) ∙ ap (λ (y : BegunSegment). map begun_segment pre ++ y ∷ map begun_segment post) one ∙ sym (map-append begun_segment pre (s ∷ post))
 
@@ -45,7 +45,7 @@ marks_same sum end pre s s' post site head marked x among none mark header = eli
 
 module _ (sum : List ℕ → ℕ) (size : ℕ) (site : SegmentPosition) (device : State) (fault : Option IoError) (bytes : List ℕ) (from : ℕ) (bs : List Sealed) (rs : List Reserved) (pins : ℕ) (H : History) (A f : ℕ) (U : List Message)
     (pre : List SegmentParts) (s : SegmentParts) (post : List SegmentParts) {reach : ℕ} (fits : FitsIn sum (log_parts size site device fault bytes from bs rs) (pre ++ s ∷ post) reach pins H A f U)
-    (s' : SegmentParts) (its_site : s'.site ≡ s.site) (so_far : s'.written_len ≡ s.written_len) (head : s.written_len ≡ 0 → take 20 s'.bytes ≡ take 20 s.bytes) where
+    (s' : SegmentParts) (its_site : s'.site ≡ s.site) (so_far : s'.written_len ≡ s.written_len) (filling : s'.filled ≡ s.filled) (head : s.written_len ≡ 0 → take 20 s'.bytes ≡ take 20 s.bytes) where
   abbrev others : List BegunSegment
   others = map begun_segment (pre ++ s ∷ post)
 
@@ -56,7 +56,7 @@ module _ (sum : List ℕ → ℕ) (size : ℕ) (site : SegmentPosition) (device 
   pub behind-moved : HoldsIn sum (log_parts size site device fault bytes from bs rs) (pre ++ s' ∷ post) H → FitsIn sum (log_parts size site device fault bytes from bs rs) (pre ++ s' ∷ post) reach pins H A f U
   behind-moved holds =
       let same : fits.holds.begun.first ≡ holds.begun.first = one_begin sum device.snapshots.file fits.holds.begun.first holds.begun.first fits.holds.begun.begins holds.begun.begins in
-      let lie : others ≡ others' = sym (begun_same pre s s' post its_site so_far) in
+      let lie : others ≡ others' = sym (begun_same pre s s' post its_site so_far filling) in
       record {
         holds = holds;
         near = fits.near;

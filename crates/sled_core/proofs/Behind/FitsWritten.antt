@@ -14,7 +14,8 @@ use Rattle.sled_core.specs.OpenBatches.{stable_below}
 use Rattle.sled_core.specs.declared.iobuf.Reserved.{Reserved}
 use Rattle.sled_core.specs.declared.iobuf.Sealed.{Sealed}
 use Rattle.sled_core.specs.declared.iobuf.SegmentPosition.{SegmentPosition}
-use Rattle.sled_core.specs.Begun.{SegmentParts}
+use Rattle.sled_core.specs.Begun.{SegmentParts, records_to}
+use Rattle.sled_core.specs.Buffers.{records_end}
 use Rattle.sled_core.specs.Fits.{HoldsIn, begun_segment, log_parts}
 use Rattle.sled_core.specs.LogFile.{padded}
 use Rattle.sled_core.specs.Reached.{BegunSegment, StandsAmong}
@@ -51,7 +52,7 @@ module _ (sum : List ℕ → ℕ) (size : ℕ) (site : SegmentPosition) (device 
     (pre : List SegmentParts) (s : SegmentParts) (post : List SegmentParts) {reach : ℕ} (fits : FitsIn sum (log_parts size site device fault bytes from bs rs) (pre ++ s ∷ post) reach pins H A f U)
     (big : 256 ≤ size) (whole : fault ≡ None) (short : length bytes ≤ size) (are : AreSealed from rs bs) (held : sealed_end from bs ≤ length bytes)
     (place_small : s.site.place + size < 2 ^ 63) (slot_small : s.site.slot + size < 2 ^ 63) (fresh : FirstUnwritten s.sealed)
-    (k : ℕ) (b : Sealed) (there : slice_get s.sealed k ≡ Some b) (ready : is_ready b ≡ true) where
+    (k : ℕ) (b : Sealed) (there : slice_get s.sealed k ≡ Some b) (ready : is_ready b ≡ true) (recorded : records_to s.filled (length s.bytes) ≤ records_end s.reserved (length s.bytes)) where
   abbrev first : SnapshotModel
   first = fits.holds.begun.first
 
@@ -97,22 +98,22 @@ module _ (sum : List ℕ → ℕ) (size : ℕ) (site : SegmentPosition) (device 
   slot_begins = (held_here sum size site device fault bytes from bs rs H pre s post fits.holds).segment.slot_begins
 
   its_reach : s.site.slot ≤ length new
-  its_reach = reaches sum size site device fault bytes from bs rs H pre s post fits.holds fits.marked big whole short place_small slot_small fresh b rest closed (take k s.sealed) split
+  its_reach = reaches sum size site device fault bytes from bs rs H pre s post fits.holds fits.marked big whole short place_small slot_small fresh b rest closed recorded (take k s.sealed) split
 
   some : 0 < length asked
-  some = some_asked sum size site device fault bytes from bs rs H pre s post fits.holds fits.marked big whole short place_small slot_small fresh b rest closed (take k s.sealed) split
+  some = some_asked sum size site device fault bytes from bs rs H pre s post fits.holds fits.marked big whole short place_small slot_small fresh b rest closed recorded (take k s.sealed) split
 
   -- What a crash leaves of the write.
   torn : NoHeaderOfZeros sum → (part left : List ℕ) → length part ≤ length asked → LeavesLog (after_write old (s.site.slot + at) asked part) left → (placed : List (ℕ × List ℕ))
       → NoForeignLog sum size (after_write old (s.site.slot + at) asked part) placed left → StandsTo sum size left H (stable_below reach H.batches) first reach
-  torn none = torn_one sum size site device fault bytes from bs rs H pre s post fits.holds fits.marked big whole short place_small slot_small fresh b rest closed (take k s.sealed) split none reach first
+  torn none = torn_one sum size site device fault bytes from bs rs H pre s post fits.holds fits.marked big whole short place_small slot_small fresh b rest closed recorded (take k s.sealed) split none reach first
       (subst (λ (l : List BegunSegment). StandsAmong sum size old site from l reach H first) (begun_is pre s post) (fits.among whole none))
 
   -- All of it, where the file with zeros behind its end reaches the slot.
   written_in : NoHeaderOfZeros sum → (to : ℕ) → s.site.slot ≤ length (padded to old) → StandsAmong sum size (padded to old) site from (map begun_segment (pre ++ s ∷ post)) reach H first → StandsAmong sum size (padded to new) site from (map begun_segment (pre ++ grown ∷ post)) reach H first
   written_in none to reached among =
       let least = fits.holds.begun.least in
-      let one = whole_one sum size site device fault bytes from bs rs H pre s post fits.holds fits.marked big whole short place_small slot_small fresh b rest closed (take k s.sealed) split none reach first least to reached
+      let one = whole_one sum size site device fault bytes from bs rs H pre s post fits.holds fits.marked big whole short place_small slot_small fresh b rest closed recorded (take k s.sealed) split none reach first least to reached
       (subst (λ (l : List BegunSegment). StandsAmong sum size (padded to old) site from l reach H first) (begun_is pre s post) among) in
       subst (λ (l : List BegunSegment). StandsAmong sum size (padded to new) site from l reach H first) (sym (begun_is pre grown post))
       (subst (λ (cs : List Sealed). StandsAmong sum size (padded to new) site from (map begun_segment pre ++ grown_one (begun_segment s) (run_end s.written_len cs) ∷ map begun_segment post) reach H first) (sym (written_around k s.sealed b there))

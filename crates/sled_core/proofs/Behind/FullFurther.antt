@@ -13,7 +13,7 @@ use Rattle.sled_core.specs.OpenBatches.{stable_below}
 use Rattle.sled_core.specs.declared.iterator.scan.ScannedRecord.{ScannedRecord}
 use Rattle.sled_core.specs.declared.iterator.scan.ScanEnd.{ScanEnd}
 use Rattle.sled_core.specs.declared.iterator.scan.ScanEnd.TheVariants.{Full, Broken}
-use Rattle.sled_core.specs.Begun.{SegmentParts}
+use Rattle.sled_core.specs.Begun.{SegmentParts, records_to}
 use Rattle.sled_core.specs.Fits.{HoldsIn, begun_segment, log_parts}
 use Rattle.sled_core.specs.Full.{FitsFull, StandsFull}
 use Rattle.sled_core.specs.LogFile.{padded}
@@ -102,7 +102,7 @@ module _ (sum : List ℕ → ℕ) (size : ℕ) (device : State) (fault : Option 
     abbrev full_now : StandsFull sum size log s.site.place (map begun_segment (s ∷ ss)) reach H fits.holds.begun.first
     full_now = full_here sum size device fault place s ss fits big whole log is
 
-    abbrev its_read : (stop : ℕ) × (why : ScanEnd) × IsReadTo full_now.stands.scanned s.site.slot s.site.place stop why × IsSoFar size s.written_len stop why
+    abbrev its_read : (stop : ℕ) × (why : ScanEnd) × IsReadTo full_now.stands.scanned s.site.slot s.site.place stop why × IsSoFar size s.written_len stop why × (s.written_len ≡ size → records_to s.filled size ≤ stop)
     its_read = read sum size big log (begun_segment s) (map begun_segment ss) reach H fits.holds.begun.first full_now (follow sum size device fault place s ss fits big whole) ascends some_written
 
     abbrev stop : ℕ

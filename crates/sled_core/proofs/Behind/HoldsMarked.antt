@@ -2,7 +2,7 @@
 use Rattle.std.proofs.Common.{◌≡◌, ◌≤◌, ◌<◌, ◌+◌, ◌^◌, ◌∙◌, ℕ, true, List, [], ◌∷◌, ◌++◌, length, set, take, Option, Some, refl, ap, subst, arith, inl, inr}
 use Rattle.std.specs.List.{All, Contains, slice_get}
 use Rattle.std.specs.declared.io.Error.{Error as IoError}
-use Rattle.std.proofs.lemmas.List.Elements.{Contains-append_left, Contains-append_right}
+use Rattle.std.proofs.lemmas.List.Elements.{All-contains, Contains-append_left, Contains-append_right}
 use Rattle.sled_codec.specs.Written.{written}
 use Rattle.sled_codec.specs.History.{AddsBatch, Batch, History, Message}
 use Rattle.sled_codec.specs.Snapshots.{stable_place}
@@ -14,7 +14,7 @@ use Rattle.sled_core.specs.declared.iobuf.Sealed.{Sealed}
 use Rattle.sled_core.specs.declared.iobuf.SegmentPosition.{SegmentPosition}
 use Rattle.sled_core.specs.Begun.{SegmentParts}
 use Rattle.sled_core.specs.Buffers.{ended, marking}
-use Rattle.sled_core.specs.Fits.{HoldBehind, HoldsIn, HoldsNext, HoldsSegment, IsInRecord, log_parts}
+use Rattle.sled_core.specs.Fits.{HoldBehind, HoldsIn, HoldsNext, HoldsSegment, log_parts}
 use Rattle.sled_core.specs.LogFile.{StaysBelow, StaysFrom}
 use Rattle.sled_core.specs.Manifests.{is_manifest}
 use Rattle.sled_core.specs.SealedBuffers.{one_ended}
@@ -28,7 +28,7 @@ use Rattle.sled_core.proofs.Holds.BehindKept.{behind_fewer}
 use Rattle.sled_core.proofs.Holds.CompletedLemmas.{segment-fewer}
 use Rattle.sled_core.proofs.Holds.HoldsMarked.{InReach, begin_from, behind-with, marks_higher, noted_adds, noted_history}
 use Rattle.sled_core.proofs.Holds.MarkedSegments.{marks_alone, marks_behind, marks_head, marks_long, marks_within, segment-marked, segment-with}
-use Rattle.sled_core.proofs.Holds.PegLemmas.{LiesOff, first_off, others_off}
+use Rattle.sled_core.proofs.Holds.PegLemmas.{IsOff, LiesOff}
 use Rattle.sled_core.proofs.Reached.Marks.{less_than}
 use Rattle.sled_core.proofs.Reserve.Ranges.{all_split}
 use Rattle.sled_core.proofs.Sealed.InBuffer.{end_ended}
@@ -49,7 +49,7 @@ module _ (sum : List ℕ → ℕ) (size : ℕ) (site : SegmentPosition) (device 
     (pre : List SegmentParts) (s : SegmentParts) (post : List SegmentParts) (holds : HoldsIn sum (log_parts size site device fault bytes from bs rs) (pre ++ s ∷ post) H)
     (short : length bytes ≤ size) (small_places : All InReach (pre ++ s ∷ post)) (marked : MarksBelow sum (site.place + from) (pre ++ s ∷ post))
     (i : ℕ) (r : Reserved) (there : slice_get s.reserved i ≡ Some r) (is_open : r.state ≡ Open) (manifest : is_manifest r.log_kind r.page ≡ true)
-    (peg : ℕ) (small : peg < 2 ^ 63) (later : s.site.place + r.from < peg) (pegged : IsInRecord H.messages peg) where
+    (peg : ℕ) (small : peg < 2 ^ 63) (later : s.site.place + r.from < peg) (off_first : LiesOff size site rs bytes peg) (offs : All (IsOff size peg) (pre ++ s ∷ post)) where
   abbrev stable : ℕ
   stable = stable_place holds.begun.first.stable
 
@@ -82,7 +82,7 @@ module _ (sum : List ℕ → ℕ) (size : ℕ) (site : SegmentPosition) (device 
 
   -- Where the peg lies of each of the segments.
   off : (x : SegmentParts) → Contains (pre ++ s ∷ post) x → LiesOff size x.site x.reserved x.bytes peg
-  off = others_off sum size site device fault bytes from bs rs H holds short peg pegged
+  off x among = (All-contains (IsOff size peg) (pre ++ s ∷ post) x offs among).off
 
   off_here : LiesOff size s.site s.reserved s.bytes peg
   off_here = off s (Contains-append_right pre (s ∷ post) s (in_first s post))
@@ -182,7 +182,7 @@ module _ (sum : List ℕ → ℕ) (size : ℕ) (site : SegmentPosition) (device 
   first_marked : HoldsSegment sum (log_parts size site device fault bytes from bs rs) (StaysFrom now stable) (record { messages = holds.head; batches = now.batches })
   first_marked =
       segment-fewer sum size site device fault bytes from bs rs (record { messages = holds.head; batches = now.batches }) (StaysFrom H stable) (StaysFrom now stable) (λ x under its. stays-marks H now b adds stable x its)
-      (segment-with sum size site device fault bytes from bs rs holds.head H.batches b (inr behind_first) (first_off sum size site device fault bytes from bs rs H holds short peg pegged) holds.own
+      (segment-with sum size site device fault bytes from bs rs holds.head H.batches b (inr behind_first) off_first holds.own
       (λ none. let m = holds.own.header none in let far = behind_first in less_than m.mark site.place b.low (omega (arith, far)) m.of_history.below))
 
   -- The log holds the history with the batch, begun from the same snapshot.

@@ -1,8 +1,8 @@
 -- A sealed buffer of a segment behind the first one is written, the first one that isn't or another: what a crash leaves of it stands as before, and so does the file behind it, with that segment as far as it is written then.
 use Rattle.sled_core.proofs.Reserve.RecordEnds.{no_end_up}
 use Rattle.sled_core.specs.declared.iterator.scan.ScanEnd.TheVariants.{Broken}
-use Rattle.sled_core.proofs.Sealed.RecordsEnd.{records_covered, records_why}
-use Rattle.std.proofs.Common.{◌≢◌, ◌≡◌, ◌⊎◌, ◌≤◌, ◌<◌, ◌<ℤ◌, ◌+◌, ◌/◌, ◌^◌, ℕ, pos, max, Bool, true, false, if◌then◌else◌, List, [], ◌∷◌, ◌++◌, length, map, take, drop, Option, None, refl, sym, subst, arith, inl, inr}
+use Rattle.sled_core.proofs.Sealed.RecordsEnd.{records_covered, records_taken, records_why}
+use Rattle.std.proofs.Common.{◌≢◌, ◌≡◌, ◌⊎◌, ◌≤◌, ◌<◌, ◌<ℤ◌, ◌+◌, ◌/◌, ◌^◌, ℕ, pos, max, Bool, true, false, if◌then◌else◌, List, [], ◌∷◌, ◌++◌, length, map, take, drop, Option, None, refl, sym, ap, subst, arith, inl, inr}
 use Rattle.std.specs.List.{Contains}
 use Rattle.std.specs.declared.io.Error.{Error as IoError}
 use Rattle.std.proofs.lemmas.Bool.{cases_lt}
@@ -17,7 +17,7 @@ use Rattle.sled_core.specs.declared.iobuf.Reserved.{Reserved}
 use Rattle.sled_core.specs.declared.iobuf.Sealed.{Sealed}
 use Rattle.sled_core.specs.declared.iobuf.SegmentPosition.{SegmentPosition}
 use Rattle.sled_core.specs.Buffers.{records_end, IsChain, batches_in, completed_in}
-use Rattle.sled_core.specs.Begun.{SegmentParts}
+use Rattle.sled_core.specs.Begun.{SegmentParts, records_to}
 use Rattle.sled_core.specs.Fits.{HasMark, HoldsIn, HoldsNext, begun_segment, log_parts}
 use Rattle.sled_core.specs.LogFile.{padded}
 use Rattle.sled_core.specs.Reached.{BegunSegment, StandsAmong}
@@ -38,6 +38,7 @@ use Rattle.sled_core.proofs.Reached.BufferPath.{HasOnly, buffer_header, mark_sam
 use Rattle.sled_core.proofs.Reached.SegmentsBeside.{grown_one}
 use Rattle.sled_core.proofs.Reached.StandsTo.{StandsTo}
 use Rattle.sled_core.proofs.Reserve.Entries.{some_long}
+use Rattle.sled_core.proofs.Reserve.Ranges.{chain_grows}
 use Rattle.sled_core.proofs.Sealed.Ended.{chain_rest, ends_rise}
 use Rattle.sled_core.proofs.Sealed.HeadSealed.{run_below}
 use Rattle.sled_core.proofs.Sealed.LaidLemmas.{EndsRise, laid_same}
@@ -49,7 +50,7 @@ use Rattle.sled_core.proofs.Torn.TornLemmas.{after_write}
 module _ (sum : List ℕ → ℕ) (size : ℕ) (site : SegmentPosition) (device : State) (fault : Option IoError) (bytes : List ℕ) (from : ℕ) (bs : List Sealed) (rs : List Reserved) (H : History)
     (pre : List SegmentParts) (s : SegmentParts) (post : List SegmentParts) (holds : HoldsIn sum (log_parts size site device fault bytes from bs rs) (pre ++ s ∷ post) H) (marked : MarksBelow sum (site.place + from) (pre ++ s ∷ post))
     (big : 256 ≤ size) (whole : fault ≡ None) (short : length bytes ≤ size) (place_small : s.site.place + size < 2 ^ 63) (slot_small : s.site.slot + size < 2 ^ 63) (fresh : FirstUnwritten s.sealed)
-    (b : Sealed) (rest : List Sealed) (closed : b.open_count ≡ 0) where
+    (b : Sealed) (rest : List Sealed) (closed : b.open_count ≡ 0) (recorded : records_to s.filled (length s.bytes) ≤ records_end s.reserved (length s.bytes)) where
   abbrev stays : Message → Type 0
   stays = stays_below sum size site device fault bytes from bs rs H pre s post holds
 
@@ -172,6 +173,20 @@ module _ (sum : List ℕ → ℕ) (size : ℕ) (site : SegmentPosition) (device 
       (records_covered sum size (s.site.place / size) s.bytes (max 20 s.written_len) s.reserved count (run_end b.end rest) (length s.bytes) chain
       (chain_rest (max 20 s.written_len) (length s.bytes) s.reserved count (run_end b.end rest) here.segment.chain chain) here.segment.stand goes) here.segment.no_end
 
+  -- Where the segment is full then, it is read behind its records.
+  up_to_first : s.sealed ≡ b ∷ rest → run_end b.end rest ≡ size → records_to s.filled size ≤ records_end (take (b.count + run_count rest) s.reserved) (run_end b.end rest)
+  up_to_first split whole =
+      let are = are_split [] split in
+      let count : ℕ = b.count + run_count rest in
+      let chain = chain_done s.written_len s.reserved b rest closed are in
+      let others = chain_rest (max 20 s.written_len) (length s.bytes) s.reserved count (run_end b.end rest) here.segment.chain chain in
+      let inside = here.inside in
+      let far = chain_grows (run_end b.end rest) (length s.bytes) (drop count s.reserved) others in
+      let long : length s.bytes ≡ size = omega (arith, inside, far, whole) in
+      let up = subst (λ n. records_to s.filled n ≤ records_end s.reserved n) long recorded in
+      let less = records_taken sum size (s.site.place / size) s.bytes (max 20 s.written_len) s.reserved count (run_end b.end rest) (length s.bytes) chain others here.segment.stand (omega (arith, whole, big)) in
+      omega (arith, up, less, ap (records_end s.reserved) long)
+
   -- What a crash leaves of the write.
   pub torn_one : (front : List Sealed) → s.sealed ≡ front ++ b ∷ rest → NoHeaderOfZeros sum → (reach : ℕ) (first : SnapshotModel) → StandsAmong sum size old site from (before ++ y ∷ after) reach H first → (now left : List ℕ) → length now ≤ length (asked front)
       → LeavesLog (after_write old (s.site.slot + at front) (asked front) now) left → (placed : List (ℕ × List ℕ)) → NoForeignLog sum size (after_write old (s.site.slot + at front) (asked front) now) placed left → StandsTo sum size left H (stable_below reach H.batches) first reach
@@ -189,7 +204,7 @@ module _ (sum : List ℕ → ℕ) (size : ℕ) (site : SegmentPosition) (device 
   whole_one [] split none reach first least to there among =
       other_sealed_written sum none size big (padded to old) site from before y after here.segment.place_begins here.segment.slot_begins place_small slot_small s.bytes begins s.reserved b rest (fresh_split [] split) closed (are_split [] split) (rise_split [] split)
       (lies [] split).2 here.segment.stand header (laid_split [] split to) reach first among (has_first split) (no_end_first split) (whole_ascends sum size site device fault bytes from bs rs H holds short) there
-      (let up = (front_low sum size site device fault bytes from bs rs H pre s post holds short).0 in omega (arith, least, up))
+      (let up = (front_low sum size site device fault bytes from bs rs H pre s post holds short).0 in omega (arith, least, up)) (up_to_first split)
   whole_one (x ∷ xs) split none reach first least to there among =
       by x.is_written (fresh_split (x ∷ xs) split)
     where

@@ -81,7 +81,7 @@ module _ (sum : List ℕ → ℕ) (none : NoHeaderOfZeros sum) (size : ℕ) (som
         (λ s there. its_slot least s ((among.stands.numbers.found s).0 there))
         (λ cut low high page m entry. let of = (among.stands.needed cut low high page m entry).0 in its_slot 0 of.segment of.found)
 
-    stands_back : (x : SegmentPosition) (so_far : ℕ) → StandsIn sum size longer least among.stands.scanned x so_far → StandsIn sum size log least stands.scanned x so_far
+    stands_back : (x : SegmentPosition) (so_far : ℕ) {records : ℕ} → StandsIn sum size longer least among.stands.scanned x so_far records → StandsIn sum size log least stands.scanned x so_far records
     stands_back x so_far its = record {
       only = λ s found same. its.only s (found_on least s found) same;
       own = λ s found here. its.own s (found_on least s found) here;
@@ -101,6 +101,7 @@ module _ (sum : List ℕ → ℕ) (none : NoHeaderOfZeros sum) (size : ℕ) (som
               ends = was.ends;
             },
             r.3,
+            r.4,
           );
     }
 

@@ -2,7 +2,7 @@
 use Rattle.std.proofs.Common.{◌≡◌, ◌⊎◌, ◌≤◌, ◌<◌, ◌+◌, ◌^◌, ℕ, true, List, [], ◌∷◌, ◌++◌, length, set, Option, Some, refl, subst, arith, inl, inr}
 use Rattle.std.specs.List.{All, Contains, slice_get}
 use Rattle.std.specs.declared.io.Error.{Error as IoError}
-use Rattle.std.proofs.lemmas.List.Elements.{All-tail}
+use Rattle.std.proofs.lemmas.List.Elements.{All-contains, All-tail}
 use Rattle.sled_codec.specs.Written.{written}
 use Rattle.sled_codec.specs.History.{AddsBatch, Batch, History, Message}
 use Rattle.sled_codec.specs.Snapshots.{stable_place}
@@ -14,7 +14,7 @@ use Rattle.sled_core.specs.declared.iobuf.Sealed.{Sealed}
 use Rattle.sled_core.specs.declared.iobuf.SegmentPosition.{SegmentPosition}
 use Rattle.sled_core.specs.Begun.{SegmentParts}
 use Rattle.sled_core.specs.Buffers.{ended, marking}
-use Rattle.sled_core.specs.Fits.{HoldBehind, HoldsIn, HoldsNext, HoldsSegment, IsInRecord, log_parts}
+use Rattle.sled_core.specs.Fits.{HoldBehind, HoldsIn, HoldsNext, HoldsSegment, log_parts}
 use Rattle.sled_core.specs.LogFile.{StaysBelow, StaysFrom}
 use Rattle.sled_core.specs.Manifests.{is_manifest}
 use Rattle.sled_core.specs.SealedBuffers.{AreSealed, one_ended}
@@ -23,7 +23,7 @@ use Rattle.sled_core.proofs.Holds.BegunMarks.{begun-marks, stays-marks, stays_be
 use Rattle.sled_core.proofs.Holds.BehindKept.{behind_fewer}
 use Rattle.sled_core.proofs.Holds.CompletedLemmas.{segment-fewer}
 use Rattle.sled_core.proofs.Holds.MarkedSegments.{marks_alone, marks_behind, marks_long, marks_within, segment-marked, segment-with}
-use Rattle.sled_core.proofs.Holds.PegLemmas.{LiesOff, first_off, others_off}
+use Rattle.sled_core.proofs.Holds.PegLemmas.{IsOff, LiesOff}
 use Rattle.sled_core.proofs.Reached.BufferPath.{buffer_header}
 use Rattle.sled_core.proofs.Reached.Marks.{less_than}
 
@@ -90,16 +90,13 @@ marks_higher sum low high ss up marked s among none mark header = less_than mark
 module _ (sum : List ℕ → ℕ) (size : ℕ) (site : SegmentPosition) (device : State) (fault : Option IoError) (bytes : List ℕ) (from : ℕ) (bs : List Sealed) (rs : List Reserved) (H : History)
     {behind : List SegmentParts} (holds : HoldsIn sum (log_parts size site device fault bytes from bs rs) behind H) (short : length bytes ≤ size) (small_places : All InReach behind) (marked : MarksBelow sum (site.place + from) behind)
     (i : ℕ) (r : Reserved) (there : slice_get rs i ≡ Some r) (is_open : r.state ≡ Open) (manifest : is_manifest r.log_kind r.page ≡ true) (are : AreSealed from rs bs)
-    (peg : ℕ) (small : peg < 2 ^ 63) (later : site.place + r.from < peg) (pegged : IsInRecord H.messages peg) where
+    (peg : ℕ) (small : peg < 2 ^ 63) (later : site.place + r.from < peg) (off : LiesOff size site rs bytes peg) (offs : All (IsOff size peg) behind) where
   -- the batch
   abbrev b : Batch
   b = record { low = site.place + r.from; peg = peg }
 
   abbrev stable : ℕ
   stable = stable_place holds.begun.first.stable
-
-  off : LiesOff size site rs bytes peg
-  off = first_off sum size site device fault bytes from bs rs H holds short peg pegged
 
   -- It begins behind what is written of its segment, and in front of the next one.
   pub first_above : site.place + from ≤ b.low
@@ -135,7 +132,7 @@ module _ (sum : List ℕ → ℕ) (size : ℕ) (site : SegmentPosition) (device 
       behind_fewer sum size device fault (site.place + size) behind (StaysBelow H stable site.place) (StaysBelow now stable site.place) now.batches holds.later (λ x its. stays_below-marks H now b adds stable site.place x its)
       (behind-with sum size device fault (site.place + size) behind (StaysBelow H stable site.place) H.batches holds.later b
       (λ s among. let far = begin_from sum size device fault (site.place + size) behind (StaysBelow H stable site.place) H.batches holds.later holds.others s among in let inside = first_inside in inl (omega (arith, far, inside)))
-      (others_off sum size site device fault bytes from bs rs H holds short peg pegged) small_places (marks_higher sum (site.place + from) b.low behind first_above marked) holds.others)
+      (λ s among. (All-contains (IsOff size peg) behind s offs among).off) small_places (marks_higher sum (site.place + from) b.low behind first_above marked) holds.others)
 
   -- The log holds the history with the batch, begun from the same snapshot.
   pub holds-marked : HoldsIn sum (log_parts size site device fault (written bytes r.from (marking sum bytes r peg)) from (one_ended i bs) (set rs i (ended Manifest r))) behind (noted_history H (record { low = site.place + r.from; peg = peg }))

@@ -1,18 +1,17 @@
 -- A log goes on fitting its history at the mark of a batch whose manifest lies in the first segment: it fits the history with the batch.
-use Rattle.sled_store.proofs.Histories.Ascending.{Ascends}
 use Rattle.std.proofs.Common.{◌≡◌, ◌∙◌, ◌≤◌, ◌<◌, ◌<ℤ◌, pos, ◌+◌, ℕ, List, length, map, Option, None, sym, ap, arith, subst, inr}
-use Rattle.std.specs.List.{Contains}
+use Rattle.std.specs.List.{All, Contains}
 use Rattle.std.specs.declared.io.Error.{Error as IoError}
 use Rattle.sled_codec.specs.History.{AddsBatch, Batch, History, Message}
-use Rattle.sled_codec.specs.Snapshots.{SnapshotModel}
+use Rattle.sled_codec.specs.Snapshots.{SnapshotModel, stable_place}
 use Rattle.sled_store.specs.Device.{State}
 use Rattle.sled_store.proofs.Names.OneBegin.{one_begin}
 use Rattle.sled_core.specs.declared.iobuf.Reserved.{Reserved}
 use Rattle.sled_core.specs.declared.iobuf.Sealed.{Sealed}
 use Rattle.sled_core.specs.declared.iobuf.SegmentPosition.{SegmentPosition}
 use Rattle.sled_core.specs.Begun.{SegmentParts}
-use Rattle.sled_core.specs.Fits.{IsInRecord, HoldsIn, begun_segment, log_parts}
-use Rattle.sled_core.specs.LogFile.{padded}
+use Rattle.sled_core.specs.Fits.{HoldsIn, begun_segment, log_parts}
+use Rattle.sled_core.specs.LogFile.{StaysBelow, padded}
 use Rattle.sled_core.specs.OpenBatches.{stable_below}
 use Rattle.sled_core.specs.Reached.{BegunSegment, StandsAmong}
 use Rattle.sled_core.specs.Recoverable.{IsPlacedBatch, LeavesRecoverable, NoBatchBegins, NoBatchEnds, NoHeaderOfZeros}
@@ -22,6 +21,7 @@ use Rattle.sled_core.proofs.Flush.Padded.{padded_get}
 use Rattle.sled_core.proofs.Flush.Settled.{InlineFrom, rests, settled_recoverable}
 use Rattle.sled_core.proofs.Holds.AddedBatch.{message_was, no_batch, no_end}
 use Rattle.sled_core.proofs.Holds.BegunMarks.{blobs-marks, names-marks}
+use Rattle.sled_core.proofs.Holds.PegLemmas.{IsOff, LiesBesideFilling, behind_beside, beside_padded}
 use Rattle.sled_core.proofs.Holds.StandsBatch.{alone-marks}
 use Rattle.sled_core.proofs.Holds.WholeHistory.{whole_ascends}
 use Rattle.sled_core.proofs.Reached.StableBelow.{stable_one_more}
@@ -30,7 +30,7 @@ use Rattle.sled_core.proofs.Sealed.Zeros.{begin_zeros}
 module _ (sum : List ℕ → ℕ) (size : ℕ) (site : SegmentPosition) (device : State) (fault : Option IoError) (bytes : List ℕ) (from : ℕ) (bs : List Sealed) (rs : List Reserved) (pins : ℕ) (H : History) (A f : ℕ) (U : List Message)
     {behind : List SegmentParts} {reach : ℕ} (fits : FitsIn sum (log_parts size site device fault bytes from bs rs) behind reach pins H A f U)
     (bytes' : List ℕ) (from' : ℕ) (bs' : List Sealed) (rs' : List Reserved) (H' : History) (b : Batch) (is : from' ≡ from) (least : 256 ≤ size) (in_segment : length bytes' ≤ size) (ok : fault ≡ None)
-    (holds : HoldsIn sum (log_parts size site device fault bytes' from' bs' rs') behind H') (adds : AddsBatch H b H') (placing : ((c : Batch) → Contains H.batches c → IsPlacedBatch size H c) → (c : Batch) → Contains H'.batches c → IsPlacedBatch size H' c) (pegged : IsInRecord H.messages b.peg)
+    (holds : HoldsIn sum (log_parts size site device fault bytes' from' bs' rs') behind H') (adds : AddsBatch H b H') (placing : ((c : Batch) → Contains H.batches c → IsPlacedBatch size H c) → (c : Batch) → Contains H'.batches c → IsPlacedBatch size H' c) (later : b.low < b.peg) (offs : All (IsOff size b.peg) behind)
     (above : site.place + from ≤ b.low) (inside : b.low < site.place + size) (fresh : FirstUnwritten bs) (are : AreSealed from rs bs) where
   abbrev first : SnapshotModel
   first = fits.holds.begun.first
@@ -38,9 +38,9 @@ module _ (sum : List ℕ → ℕ) (size : ℕ) (site : SegmentPosition) (device 
   abbrev others : List BegunSegment
   others = map begun_segment behind
 
-  -- the messages are in order, which are the same in both
-  ordered : Ascends H.messages
-  ordered = subst Ascends adds.messages (whole_ascends sum size site device fault bytes' from' bs' rs' H' holds in_segment)
+  -- where the peg lies of the segments behind it
+  beside : (x : BegunSegment) → Contains others x → LiesBesideFilling size device.log.bytes b.peg x
+  beside = behind_beside sum size least device fault ok b.peg (site.place + size) behind (StaysBelow H (stable_place first.stable) site.place) H.batches fits.holds.later fits.holds.others offs
 
   reached : reach ≤ b.low
   reached = let near = fits.near in omega (arith, near, above)
@@ -50,10 +50,10 @@ module _ (sum : List ℕ → ℕ) (size : ℕ) (site : SegmentPosition) (device 
   clean none = begin_zeros device.log.bytes site.slot bytes from bs rs size fresh are (omega (arith, least)) (fits.holds.own.laid ok) none
 
   alone_new : NoHeaderOfZeros sum → StandsAmong sum size device.log.bytes site from others reach H' first
-  alone_new none = alone-marks sum size device.log.bytes site from reach H H' first least none holds.own.place_begins clean b adds above inside (placing (fits.among ok none).stands.batched) ordered pegged (fits.among ok none)
+  alone_new none = alone-marks sum size device.log.bytes site from reach H H' first least none holds.own.place_begins clean b adds above inside (placing (fits.among ok none).stands.batched) later beside (fits.among ok none)
 
   beyond_new : (to : ℕ) → site.slot ≤ to → NoHeaderOfZeros sum → StandsAmong sum size (padded to device.log.bytes) site from others reach H' first
-  beyond_new to far none = alone-marks sum size (padded to device.log.bytes) site from reach H H' first least none holds.own.place_begins (λ first_one i low high. padded_get to device.log.bytes i ∙ clean first_one i low high) b adds above inside (placing (fits.beyond to far ok none).stands.batched) ordered pegged (fits.beyond to far ok none)
+  beyond_new to far none = alone-marks sum size (padded to device.log.bytes) site from reach H H' first least none holds.own.place_begins (λ first_one i low high. padded_get to device.log.bytes i ∙ clean first_one i low high) b adds above inside (placing (fits.beyond to far ok none).stands.batched) later (λ x known. beside_padded size to device.log.bytes b.peg x (beside x known)) (fits.beyond to far ok none)
 
   names_new : NamesFit sum size device.snapshots H' f first
   names_new = let begun = fits.holds.begun.reached in names-marks H H' b adds sum size device.snapshots f first (omega (arith, begun, above)) fits.names

@@ -27,7 +27,7 @@ LiesBeside size t place = (place < t.segment.place) ⊎ (t.segment.place + size 
 
 -- One behind what is written of a segment that was begun, where this has room, lies beside all that is found.
 pub lies_beside : (sum : List ℕ → ℕ) (size : ℕ) (log : List ℕ) (H : History) (A : ℕ) (first : SnapshotModel) (reach : ℕ) (is : StandsTo sum size log H A first reach) (site : SegmentPosition) (from : ℕ) → 256 ≤ size → NoHeaderOfZeros sum → site.place % size ≡ 0
-    → (from ≡ 0 → AreZeros log site.slot (site.slot + 20)) → StandsIn sum size log (least_place size first) is.scanned site from → from + 32 ≤ size → (place : ℕ) → site.place + from ≤ place → place < site.place + size
+    → (from ≡ 0 → AreZeros log site.slot (site.slot + 20)) → {records : ℕ} → StandsIn sum size log (least_place size first) is.scanned site from records → from + 32 ≤ size → (place : ℕ) → site.place + from ≤ place → place < site.place + size
     → (t : Scanned) → Contains is.scanned t → LiesBeside size t place
 lies_beside sum size log H A first reach is site from some none place_begins clean its room place above inside t there =
     let least : ℕ = least_place size first in

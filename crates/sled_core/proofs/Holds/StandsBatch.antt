@@ -1,14 +1,12 @@
 -- A log file that stands up to a place does so for the history with one more batch, which is to begin behind what is written of one of the segments that were begun.
-use Rattle.std.proofs.Math.Nat.{mul-mod_left}
-use Rattle.sled_core.proofs.Tail.OneTail.{place_aligned, segment_there}
-use Rattle.sled_core.proofs.Behind.FullRead.{ends_read}
 use Rattle.std.proofs.lemmas.Bool.{cases_lt}
-use Rattle.sled_store.proofs.Histories.Ascending.{Ascends}
-use Rattle.sled_core.specs.Fits.{IsInRecord}
 use Rattle.std.proofs.Common.{◌≢◌, ◌/◌, ◌*◌, ⊎_elim, ◌≡◌, ◌⊎◌, ◌∙◌, ◌+◌, ◌<◌, ◌<ℤ◌, ◌%◌, ◌≤◌, ℕ, pos, List, sym, ap, subst, arith, inl, inr}
 use Rattle.std.specs.List.{Contains}
 use Rattle.sled_codec.specs.History.{AddsBatch, Batch, History, Message, table}
 use Rattle.sled_codec.specs.Snapshots.{SnapshotModel}
+use Rattle.sled_codec.specs.Places.{part}
+use Rattle.sled_codec.specs.Record.{IsHeader}
+use Rattle.sled_core.specs.Begun.{records_to}
 use Rattle.sled_core.specs.OpenBatches.{stable_below}
 use Rattle.sled_core.specs.declared.iobuf.SegmentPosition.{SegmentPosition}
 use Rattle.sled_core.specs.declared.iterator.Segment.{Segment}
@@ -17,27 +15,77 @@ use Rattle.sled_core.specs.declared.iterator.scan.ScanEnd.TheVariants.{Broken, C
 use Rattle.sled_core.specs.Reached.{BegunSegment, ReachesIn, StandsAmong, StandsTo}
 use Rattle.sled_core.specs.Recoverable.{NothingBehind, LiesInSegment, BeginsInSegment, IsMarkBelow, IsMarkOf, IsOfHistory, IsPlacedBatch, IsSegmentOf, NoBatchBegins, NoHeaderOfZeros, NoMessageBegins, StandsInline}
 use Rattle.sled_core.specs.SealedBuffers.{AreZeros}
+use Rattle.sled_core.specs.Scan.{IsFoundSegment, IsScan}
 use Rattle.sled_core.specs.Tail.{least_place, Scanned}
 use Rattle.sled_core.proofs.Holds.AddedBatch.{batch_stays, batch_there, entry_was, message_stays, message_was, no_batch, no_end, no_message, was_or_batch}
 use Rattle.sled_core.proofs.Holds.PlacesBeside.{LiesBeside, cap_beside, first_below, lies_beside, met_beside}
+use Rattle.sled_core.proofs.Holds.PegLemmas.{LiesBesideFilling}
 use Rattle.sled_core.proofs.Reached.Marks.{less_than}
 use Rattle.sled_core.proofs.Reached.SegmentsBeside.{follows}
 use Rattle.sled_core.proofs.Reached.StableBelow.{stable_one_more}
 use Rattle.sled_core.proofs.Sealed.HeadWritten.{reached_near}
 use Rattle.sled_core.proofs.Tail.GreatestMark.{mark_below}
-use Rattle.sled_core.proofs.Tail.Multiples.{apart, one_multiple, put_down}
+use Rattle.sled_core.proofs.Tail.Multiples.{one_multiple, put_down}
+use Rattle.sled_core.proofs.Tail.OneTail.{segment_there}
+use Rattle.sled_core.proofs.Tail.Rows.{path_within}
+use Rattle.sled_core.proofs.Tail.Tails.{one_reading}
+use Rattle.sled_core.proofs.Torn.WrittenBegun.{none_in_zeros}
 
--- A message that begins before a segment ends before it.
-ends_before : (size : ℕ) → 256 ≤ size → (m : Message) (place : ℕ) → LiesInSegment size m → place % size ≡ 0 → m.place < place → m.place + m.size ≤ place
-ends_before size some m place lies aligned before =
-    let parts = put_down size m.place in
-    let far = apart size (omega (arith, some)) (m.place / size * size) place (mul-mod_left (m.place / size) size) aligned (omega (arith, parts.0, parts.1, before)) in
-    let within = lies.ends in
-    omega (arith, far, within, parts.0)
+-- The peg of a batch that begins behind what is written of the first segment lies in nothing that fills a segment which leads on.
+module _ (sum : List ℕ → ℕ) (none : NoHeaderOfZeros sum) (size : ℕ) (log : List ℕ) (some : 256 ≤ size) (site : SegmentPosition) (from : ℕ) {others : List BegunSegment} (reach : ℕ) (H : History) (first : SnapshotModel)
+    (had : StandsAmong sum size log site from others reach H first) (low peg : ℕ) (above : site.place + from ≤ low) (later : low < peg) (beside : (t : Scanned) → Contains had.stands.scanned t → LiesBeside size t low)
+    (offs : (x : BegunSegment) → Contains others x → LiesBesideFilling size log peg x) where
+  abbrev is : StandsTo sum size log H (stable_below reach H.batches) first reach
+  is = had.stands
+
+  abbrev least : ℕ
+  least = least_place size first
+
+  -- One of the segments behind the first one was read to its records' end.
+  in_other : (s : Scanned) → Contains had.stands.scanned s → s.why ≢ Broken → (x : BegunSegment) → Contains others x → x.site.place ≡ s.segment.place → (peg < s.segment.place + s.stop) ⊎ (s.segment.place + size ≤ peg)
+  unfolding IsScan
+  in_other s there goes x among at =
+      let its = had.behind x among in
+      let off = offs x among in
+      let known = segment_there sum size log is.ordering is.scanned is.reads s there in
+      let found : IsFoundSegment sum size log least s.segment = (is.numbers.found s.segment).0 known.0 in
+      let within = path_within sum size log s.segment.slot s.segment.place found.slot 20 s.met s.stop (omega (arith, some)) known.1.0 in
+      elim (cases_lt 0 x.from) [
+        | inl begun ↦ (
+            let r = its.read begun in
+            let here = r.2 in
+            let one : s ≡ here.scan = one_reading sum size log some least is.ordering is.numbers is.scanned is.reads s here.scan there here.there (sym at ∙ sym here.at_place) in
+            let stops : s.stop ≡ r.0 = ap (λ (y : Scanned). y.stop) one ∙ here.ended in
+            let ends : s.why ≡ r.1 = ap (λ (y : Scanned). y.why) one ∙ here.ends in
+            let by_records : records_to x.filled size ≤ r.0 → (peg < s.segment.place + s.stop) ⊎ (s.segment.place + size ≤ peg) =
+            λ up. elim off.filled [ inl front ↦ inl (omega (arith, front, up, stops, at)) | inr far ↦ inr (omega (arith, far, at)) ] in
+            elim r.3 [
+              | inl (so_far, broken) ↦ elim (cases_lt size (x.from + 32)) [
+                | inl full ↦ elim (cases_lt x.from size) [
+                  | inl less ↦ elim (off.short full) [ inl front ↦ inl (omega (arith, front, so_far, stops, at)) | inr far ↦ inr (omega (arith, far, at)) ]
+                  | inr whole ↦ by_records (r.4 (omega (arith, whole, within, stops, so_far)))
+                ]
+                | inr room ↦ absurd (goes (ends ∙ broken room))
+              ]
+              | inr (whole, on) ↦ by_records (r.4 whole)
+            ])
+        | inr begins ↦ absurd (none_in_zeros sum 20 none (omega arith) log x.site.slot (off.clean (omega (arith, begins))) (pos s.segment.place) s.segment.mark
+            (subst (λ n. IsHeader sum (part log n 20) (pos s.segment.place) s.segment.mark) (its.only s.segment found (sym at)) found.header))
+      ]
+
+  pub peg_apart : (s : Scanned) → Contains had.stands.scanned s → s.why ≢ Broken → (peg < s.segment.place + s.stop) ⊎ (s.segment.place + size ≤ peg)
+  peg_apart s there goes = elim (beside s there) [
+    | inl front ↦ (
+        let known = segment_there sum size log is.ordering is.scanned is.reads s there in
+        elim (had.last s.segment ((is.numbers.found s.segment).0 known.0)) [ inl first_one ↦ absurd (omega (arith, first_one, above, front)) | inr (x, among, at) ↦ in_other s there goes x among at ])
+    | inr (inl before) ↦ inr (omega (arith, before, later))
+    | inr (inr (past, broken)) ↦ absurd (goes broken)
+  ]
 
 module _ (sum : List ℕ → ℕ) (size : ℕ) (log : List ℕ) (some : 256 ≤ size) (H H' : History) (A : ℕ) (first : SnapshotModel) (reach : ℕ) (is : StandsTo sum size log H A first reach)
     (b : Batch) (beside : (t : Scanned) → Contains is.scanned t → LiesBeside size t b.low) (marks : (s : Segment) → Contains is.ordering s → s.mark <ℤ pos b.low)
-    (adds : AddsBatch H b H') (above : reach ≤ b.low) (placed : (c : Batch) → Contains H'.batches c → IsPlacedBatch size H' c) (ordered : Ascends H.messages) (pegged : IsInRecord H.messages b.peg) where
+    (adds : AddsBatch H b H') (above : reach ≤ b.low) (placed : (c : Batch) → Contains H'.batches c → IsPlacedBatch size H' c)
+    (peg_off : (s : Scanned) → Contains is.scanned s → s.why ≢ Broken → (b.peg < s.segment.place + s.stop) ⊎ (s.segment.place + size ≤ b.peg)) where
   met_apart : (s : Scanned) (x : ScannedRecord) → Contains is.scanned s → Contains s.met x → (low : ℕ) → x.place ≤ low → (b.low < low) ⊎ (x.place + x.len ≤ b.low)
   met_apart = met_beside sum size log some H A first reach is b.low beside
 
@@ -75,28 +123,11 @@ module _ (sum : List ℕ → ℕ) (size : ℕ) (log : List ℕ) (some : 256 ≤ 
       let other = cap_beside sum size log some H A first reach is b.low beside s here capped in
       (no_message H H' b adds (s.segment.place + s.stop) (s.segment.place + size) had.0, no_batch H H' b adds (s.segment.place + s.stop) (s.segment.place + size) other had.1)
 
-  -- and its peg lies in a record, so not in what fills a segment that leads on
-  peg_apart : (s : Scanned) → Contains is.scanned s → s.why ≢ Broken → (b.peg < s.segment.place + s.stop) ⊎ (s.segment.place + size ≤ b.peg)
-  peg_apart s here goes =
-      let m : Message = pegged.message in
-      let low = pegged.begins in
-      let high = pegged.ends in
-      elim (cases_lt m.place s.segment.place) [
-        | inl before ↦ (
-            let known = (segment_there sum size log is.ordering is.scanned is.reads s here).0 in
-            let aligned = place_aligned sum size log (least_place size first) is.ordering is.numbers s.segment known in
-            let end = ends_before size some m s.segment.place (is.placed m pegged.there) aligned before in
-            inl (omega (arith, end, high)))
-        | inr behind ↦ elim (cases_lt m.place (s.segment.place + size)) [
-          | inl inside ↦ (let end = ends_read sum size log some H A first reach is ordered s here goes m pegged.there behind inside in inl (omega (arith, end.1, high)))
-          | inr past ↦ inr (omega (arith, past, low))
-        ]
-      ]
-
+  -- and its peg lies in nothing that fills a segment which leads on
   caps_new : (s : Scanned) → Contains is.scanned s → NothingBehind size H' s.segment.place s.stop s.why
   caps_new s here = (
     (λ capped. capped_new s here capped),
-    (λ goes c there. ⊎_elim ((is.caps s here).1 goes c) (λ own. subst (λ (d : Batch). (d.peg < s.segment.place + s.stop) ⊎ (s.segment.place + size ≤ d.peg)) own (peg_apart s here goes)) (was_or_batch H H' b adds c there)),
+    (λ goes c there. ⊎_elim ((is.caps s here).1 goes c) (λ own. subst (λ (d : Batch). (d.peg < s.segment.place + s.stop) ⊎ (s.segment.place + size ≤ d.peg)) own (peg_off s here goes)) (was_or_batch H H' b adds c there)),
   )
 
   -- a mark lies below the batch
@@ -160,15 +191,15 @@ module _ (sum : List ℕ → ℕ) (size : ℕ) (log : List ℕ) (some : 256 ≤ 
 
 -- And a write goes on in each segment that was begun where it did, where the batch is to begin behind what is written of the first one, and beside all that is found.
 among-marks : (sum : List ℕ → ℕ) (size : ℕ) (log : List ℕ) (site : SegmentPosition) (from reach : ℕ) (H H' : History) (first : SnapshotModel) → 256 ≤ size → (b : Batch) → AddsBatch H b H' → site.place + from ≤ b.low
-    → ((c : Batch) → Contains H'.batches c → IsPlacedBatch size H' c) → Ascends H.messages → IsInRecord H.messages b.peg
-    → {others : List BegunSegment} (had : StandsAmong sum size log site from others reach H first) → ((t : Scanned) → Contains had.stands.scanned t → LiesBeside size t b.low) → StandsAmong sum size log site from others reach H' first
+    → ((c : Batch) → Contains H'.batches c → IsPlacedBatch size H' c) → b.low < b.peg → NoHeaderOfZeros sum → {others : List BegunSegment} (had : StandsAmong sum size log site from others reach H first)
+    → ((t : Scanned) → Contains had.stands.scanned t → LiesBeside size t b.low) → ((x : BegunSegment) → Contains others x → LiesBesideFilling size log b.peg x) → StandsAmong sum size log site from others reach H' first
 unfolding stands-marks
-among-marks sum size log site from reach H H' first some b adds above placed ordered pegged had beside =
+among-marks sum size log site from reach H H' first some b adds above placed later none {others} had beside offs =
     let near : reach ≤ site.place + from = reached_near size H site.place from reach had.reached in
     let past : reach ≤ b.low = omega (arith, near, above) in
     let marks : (s : Segment) → Contains had.stands.ordering s → s.mark <ℤ pos b.low = λ s there. less_than s.mark (site.place + from) b.low above (had.below s ((had.stands.numbers.found s).0 there)) in
     record {
-      stands = stands-marks sum size log some H H' (stable_below reach H.batches) first reach had.stands b beside marks adds past placed ordered pegged (stable_below reach H'.batches) (ap (stable_below reach) adds.batches ∙ stable_one_more reach H.batches b past);
+      stands = stands-marks sum size log some H H' (stable_below reach H.batches) first reach had.stands b beside marks adds past placed (peg_apart sum none size log some site from {others = others} reach H first had b.low b.peg above later beside offs) (stable_below reach H'.batches) (ap (stable_below reach) adds.batches ∙ stable_one_more reach H.batches b past);
       reached = reached_marks had.reached;
       led = had.led;
       here = had.here;
@@ -203,18 +234,18 @@ room_before size some place from low aligned begins above inside =
 
 -- So it is where the batch is to begin in the first one,
 pub alone-marks : (sum : List ℕ → ℕ) (size : ℕ) (log : List ℕ) (site : SegmentPosition) (from reach : ℕ) (H H' : History) (first : SnapshotModel) → 256 ≤ size → NoHeaderOfZeros sum → site.place % size ≡ 0
-    → (from ≡ 0 → AreZeros log site.slot (site.slot + 20)) → (b : Batch) → AddsBatch H b H' → site.place + from ≤ b.low → b.low < site.place + size → ((c : Batch) → Contains H'.batches c → IsPlacedBatch size H' c) → Ascends H.messages → IsInRecord H.messages b.peg
-    → {others : List BegunSegment} → StandsAmong sum size log site from others reach H first → StandsAmong sum size log site from others reach H' first
-alone-marks sum size log site from reach H H' first some none place_begins clean b adds above inside placed ordered pegged alone =
+    → (from ≡ 0 → AreZeros log site.slot (site.slot + 20)) → (b : Batch) → AddsBatch H b H' → site.place + from ≤ b.low → b.low < site.place + size → ((c : Batch) → Contains H'.batches c → IsPlacedBatch size H' c) → b.low < b.peg
+    → {others : List BegunSegment} → ((x : BegunSegment) → Contains others x → LiesBesideFilling size log b.peg x) → StandsAmong sum size log site from others reach H first → StandsAmong sum size log site from others reach H' first
+alone-marks sum size log site from reach H H' first some none place_begins clean b adds above inside placed later offs alone =
     let room = room_before size some site.place from b.low place_begins (placed b (batch_there H H' b adds)).begins above inside in
-    among-marks sum size log site from reach H H' first some b adds above placed ordered pegged alone (lies_beside sum size log H (stable_below reach H.batches) first reach alone.stands site from some none place_begins clean alone.here room b.low above inside)
+    among-marks sum size log site from reach H H' first some b adds above placed later none alone (lies_beside sum size log H (stable_below reach H.batches) first reach alone.stands site from some none place_begins clean alone.here room b.low above inside) offs
 
 -- and where it is to begin in one behind it, behind what is written of that.
 pub other-marks : (sum : List ℕ → ℕ) (size : ℕ) (log : List ℕ) (site : SegmentPosition) (from reach : ℕ) (H H' : History) (first : SnapshotModel) → 256 ≤ size → NoHeaderOfZeros sum → {others : List BegunSegment} (y : BegunSegment) → Contains others y → y.site.place % size ≡ 0
-    → (y.from ≡ 0 → AreZeros log y.site.slot (y.site.slot + 20)) → (b : Batch) → AddsBatch H b H' → y.site.place + y.from ≤ b.low → b.low < y.site.place + size → ((c : Batch) → Contains H'.batches c → IsPlacedBatch size H' c) → Ascends H.messages → IsInRecord H.messages b.peg
-    → StandsAmong sum size log site from others reach H first → StandsAmong sum size log site from others reach H' first
-other-marks sum size log site from reach H H' first some none {others} y known place_begins clean b adds above inside placed ordered pegged had =
+    → (y.from ≡ 0 → AreZeros log y.site.slot (y.site.slot + 20)) → (b : Batch) → AddsBatch H b H' → y.site.place + y.from ≤ b.low → b.low < y.site.place + size → ((c : Batch) → Contains H'.batches c → IsPlacedBatch size H' c) → b.low < b.peg
+    → ((x : BegunSegment) → Contains others x → LiesBesideFilling size log b.peg x) → StandsAmong sum size log site from others reach H first → StandsAmong sum size log site from others reach H' first
+other-marks sum size log site from reach H H' first some none {others} y known place_begins clean b adds above inside placed later offs had =
     let room = room_before size some y.site.place y.from b.low place_begins (placed b (batch_there H H' b adds)).begins above inside in
     let under = first_below sum size log site from others reach H first some had y.site.place place_begins (follows site others had.apart y known).0 in
-    among-marks sum size log site from reach H H' first some b adds (omega (arith, under, above)) placed ordered pegged had
-    (lies_beside sum size log H (stable_below reach H.batches) first reach had.stands y.site y.from some none place_begins clean (had.behind y known) room b.low above inside)
+    among-marks sum size log site from reach H H' first some b adds (omega (arith, under, above)) placed later none had
+    (lies_beside sum size log H (stable_below reach H.batches) first reach had.stands y.site y.from some none place_begins clean (had.behind y known) room b.low above inside) offs

@@ -8,7 +8,7 @@ use Rattle.sled_codec.specs.History.{AddsBatch, Batch, Batched, History, Message
 use Rattle.sled_store.specs.Accounts.{machine_of}
 use Rattle.sled_store.specs.Device.{Trace, state_of}
 use Rattle.sled_store.specs.declared.config.RunningConfig.{RunningConfig}
-use Rattle.sled_core.specs.Batches.{NotesBatchOf, batch_for}
+use Rattle.sled_core.specs.Batches.{LiesInNoFilling, NotesBatchOf, batch_for}
 use Rattle.sled_core.specs.Begun.{SegmentView, line_at, segment_view, view_at}
 use Rattle.sled_core.specs.Buffers.{IsHeaded, marking}
 use Rattle.sled_core.specs.declared.iobuf.ReservationState.TheVariants.{Manifest}
@@ -16,7 +16,7 @@ use Rattle.sled_core.specs.declared.iobuf.Reserved.{Reserved}
 use Rattle.sled_core.specs.declared.logger.batches.NotedBatch.{NotedBatch}
 use Rattle.sled_core.specs.declared.logger.Log.{Log}
 use Rattle.sled_core.specs.declared.reservation.Reservation.{Reservation}
-use Rattle.sled_core.specs.Fits.{Awaits, AwaitsIn, Holds, IsInRecord, KeepsAll, KeepsBuffers, config_of, current_of, fault_of, line_of, noted_in, open_places, reserved_end, synced_end}
+use Rattle.sled_core.specs.Fits.{Awaits, AwaitsIn, Holds, KeepsAll, KeepsBuffers, config_of, current_of, fault_of, line_of, noted_in, open_places, reserved_end, synced_end}
 use Rattle.sled_core.specs.Keeps.{GoesOn, KeepsOthers, SamePosition}
 use Rattle.sled_core.specs.Manifests.{is_manifest}
 use Rattle.sled_core.specs.OpenBatches.{batch_of, not_whole, stable_below}
@@ -33,6 +33,7 @@ use Rattle.sled_core.proofs.Line.EndedLine.{marking_short}
 use Rattle.sled_core.proofs.Line.EndedTickets.{ended_takes, others_await, ticket_among, ticket_there}
 use Rattle.sled_core.proofs.Line.EndsBatch.{fits_noted, line_unwritten}
 use Rattle.sled_core.proofs.Line.Facts.{IsSegment, nth_facts}
+use Rattle.sled_core.proofs.Line.Fillings.{log_off}
 use Rattle.sled_core.proofs.Line.LogSpans.{ended_buffers}
 use Rattle.sled_core.proofs.Line.Moves.{fits_as}
 use Rattle.sled_core.proofs.Line.OpenManifests.{manifests_ended}
@@ -199,17 +200,17 @@ module _ {D C : Type 0} (trace : D → Trace) (sum : List ℕ → ℕ) (old mid 
         (others_await old.config.config.segment_size (line_of old) old.site.place n v f.among (nth_facts old) i r f.there f.own.open_yet (marking sum v.parts.bytes r peg) short Manifest sum (state_of (trace old.config.device)) old.fault H holds.holds ticket other m f.own.place awaits elsewhere)
 
     -- and the log fits the history with the batch.
-    pub batch_fits : fault_of old ≡ None → peg < reserved_end old → ((b : Batch) → Contains (noted_in old) b → (pos b.peg <ℤ place_of ticket) ⊎ (peg < b.low)) → (H : History) (A f' : ℕ) (U : List Message) → Fits trace sum old H A f' U → IsInRecord H.messages peg
+    pub batch_fits : fault_of old ≡ None → peg < reserved_end old → ((b : Batch) → Contains (noted_in old) b → (pos b.peg <ℤ place_of ticket) ⊎ (peg < b.low)) → LiesInNoFilling old.config.config.segment_size (line_of old) (pos peg) → (H : History) (A f' : ℕ) (U : List Message) → Fits trace sum old H A f' U
         → (H' : History) × Step H (Batched (batch_for ticket (pos peg))) H' × Fits trace sum new H' A f' U
     unfolding Fits Step
-    batch_fits none within apart H A f' U fits pegged =
+    batch_fits none within apart lies H A f' U fits =
         let b : Batch = record { low = v.parts.site.place + r.from; peg = peg } in
         let size : ℕ = old.config.config.segment_size in
         let at = f.own.place in
         let reach = reserved_in_reach old in
         let ends = reserved_ends old in
         let now = fits_noted sum size (state_of (trace old.config.device)) old.fault (line_of old) n v f.among old.site.place (nth_facts old) i r f.there f.own.open_yet (of_manifest old ticket n index f manifest) peg (omega (arith, within, reach)) later (omega (arith, within, ends)) (machine_of old.accountant) (noted_in old)
-        (λ c known. elim (apart c known) [ inl front ↦ inl (omega (arith, ints, front, at)) | inr behind ↦ inr behind ]) old.pins H A f' U old.config.config.least none pegged fits in (
+        (λ c known. elim (apart c known) [ inl front ↦ inl (omega (arith, ints, front, at)) | inr behind ↦ inr behind ]) old.pins H A f' U old.config.config.least none (log_off old peg within lies) fits in (
           noted_history H b,
           subst (λ (x : Batch). AddsBatch H x (noted_history H b)) (λ j. record { low = (sym begins ∙ low_is) j; peg = peg }) (noted_adds H b later),
           fits_as trace sum old new now_config (rest.fault ∙ ended.fault) (noted_in old ++ b ∷ []) now_noted (set (line_of old) n (ended_now i r (marking sum v.parts.bytes r peg) Manifest v)) (noted_line mid new rest ∙ line) (machine_of old.accountant)

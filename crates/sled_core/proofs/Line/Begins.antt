@@ -1,5 +1,5 @@
 -- A further segment is begun: the one that was being filled is filled to its end and sealed, and the log holds and fits what it did.
-use Rattle.std.proofs.Common.{◌≡◌, ◌∙◌, ◌<◌, ◌≤◌, ◌+◌, ◌-◌, ◌*◌, ◌/◌, ◌^◌, ◌-ℤ◌, ap, sym, refl, arith, subst, inl, inr, ℕ, zero, suc, pos, List, [], ◌∷◌, ◌++◌, length, map, Option, Some, false, if◌then◌else◌, Bool}
+use Rattle.std.proofs.Common.{None, ◌≡◌, ◌∙◌, ◌<◌, ◌≤◌, ◌+◌, ◌-◌, ◌*◌, ◌/◌, ◌^◌, ◌-ℤ◌, ap, sym, refl, arith, subst, inl, inr, ℕ, zero, suc, pos, List, [], ◌∷◌, ◌++◌, length, map, Option, Some, false, if◌then◌else◌, Bool}
 use Rattle.std.specs.List.{Contains, slice_get}
 use Rattle.std.specs.declared.io.Error.{Error as IoError}
 use Rattle.std.proofs.Math.Nat.{div-le_self, mul-mod_left, suc-mul}
@@ -84,7 +84,7 @@ module _ (sum : List ℕ → ℕ) (size : ℕ) (device : State) (fault : Option 
   -- what begins there
   abbrev begun_at : ℕ → ℕ → SegmentView
   begun_at place stable = record {
-    parts = record { site = record { place = place; slot = next_slot m * size }; bytes = header_at place stable; written_len = 0; sealed = []; reserved = [] };
+    parts = record { site = record { place = place; slot = next_slot m * size }; bytes = header_at place stable; written_len = 0; filled = None; sealed = []; reserved = [] };
     gone = 0;
   }
 

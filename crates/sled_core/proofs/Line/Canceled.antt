@@ -18,7 +18,7 @@ use Rattle.sled_core.specs.Caps.{segment_rest}
 use Rattle.sled_core.specs.Positions.{is_short}
 use Rattle.sled_core.specs.SealedBuffers.{one_ended, seal_at, sealed_count}
 use Rattle.sled_core.specs.Turned.{ended_now}
-use Rattle.sled_core.specs.Waiting.{as_sealed, at_last, buffers_in, closed_now, holds_any, sealed_now, turned_now, unwritten, unwritten_in, unwritten_of, with_parts}
+use Rattle.sled_core.specs.Waiting.{as_sealed, at_last, buffers_in, closed_now, holds_any, sealed_now, turned_now, unwritten, unwritten_in, unwritten_of, with_filling}
 use Rattle.sled_core.proofs.Line.EndedLine.{ended_bytes}
 use Rattle.sled_core.proofs.Line.Facts.{IsSegment}
 use Rattle.sled_core.proofs.Reserve.Ranges.{at_there, part-append}
@@ -82,7 +82,7 @@ module _ {size place : ℕ} (v : SegmentView) (facts : IsSegment size place v) (
     more : List ℕ
     more = segment_rest sum size (e.parts.site.place / size) (length e.parts.bytes)
 
-    by : (o : Bool) → StandsIn v.parts.site r.from r.len text (unwritten_of (sealed_now (if o then with_parts e (e.parts.bytes ++ segment_rest sum size (e.parts.site.place / size) (length e.parts.bytes)) e.parts.sealed (e.parts.reserved ++ padding_at size (length e.parts.bytes) ∷ []) else e)).parts)
+    by : (o : Bool) → StandsIn v.parts.site r.from r.len text (unwritten_of (sealed_now (if o then with_filling size e (segment_rest sum size (e.parts.site.place / size) (length e.parts.bytes)) else e)).parts)
     by true = with_last (e.parts.bytes ++ segment_rest sum size (e.parts.site.place / size) (length e.parts.bytes)) (drop (sealed_count bs) (e.parts.reserved ++ padding_at size (length e.parts.bytes) ∷ [])) (e.parts.reserved ++ padding_at size (length e.parts.bytes) ∷ [])
         (let same = long in omega (arith, same, length-append e.parts.bytes (segment_rest sum size (e.parts.site.place / size) (length e.parts.bytes))))
         (part-append e.parts.bytes (segment_rest sum size (e.parts.site.place / size) (length e.parts.bytes)) r.from r.len (let same = long in let within = inside in omega (arith, same, within)) ∙ is)

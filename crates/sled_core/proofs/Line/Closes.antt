@@ -1,5 +1,5 @@
 -- The segment that is being filled is filled to its end, and its buffer is sealed: the segments hold and fit what they did.
-use Rattle.std.proofs.Common.{◌≡◌, ◌∙◌, ◌<◌, ◌≤◌, ◌+◌, ◌/◌, ◌^◌, ap, sym, refl, arith, subst, ℕ, zero, suc, List, [], ◌∷◌, ◌++◌, length, map, drop, Option, Some, true, false, nat_lt, if◌then◌else◌, Bool, length-append, length-drop}
+use Rattle.std.proofs.Common.{◌≡◌, ◌⊎◌, inl, inr, ◌∙◌, ◌<◌, ◌≤◌, ◌+◌, ◌/◌, ◌^◌, ap, sym, refl, arith, subst, ℕ, zero, suc, List, [], ◌∷◌, ◌++◌, length, map, drop, Option, Some, true, false, nat_lt, if◌then◌else◌, Bool, length-append, length-drop}
 use Rattle.std.specs.List.{slice_get}
 use Rattle.std.specs.declared.io.Error.{Error as IoError}
 use Rattle.std.proofs.lemmas.Bool.Decides.{nat_tests}
@@ -7,24 +7,25 @@ use Rattle.std.proofs.lemmas.List.{map-append}
 use Rattle.sled_codec.specs.declared.result.DiskPtr.TheVariants.{Inline}
 use Rattle.sled_codec.specs.History.{History, Message}
 use Rattle.sled_store.specs.Device.{State}
-use Rattle.sled_core.specs.Begun.{SegmentParts, SegmentView, begin_of}
-use Rattle.sled_core.specs.Buffers.{message_in, none_open, open_state, padding_at}
+use Rattle.sled_core.specs.Begun.{IsUnfilled, SegmentParts, SegmentView, begin_of, records_to}
+use Rattle.sled_core.specs.Buffers.{message_in, none_open, open_state, padding_at, records_end}
 use Rattle.sled_core.specs.Caps.{segment_rest}
 use Rattle.sled_core.specs.declared.iobuf.Reserved.{Reserved}
 use Rattle.sled_core.specs.declared.iobuf.Sealed.{Sealed}
 use Rattle.sled_core.specs.Fits.{HoldsIn, HoldsLine, LogParts, log_parts, parts_in}
 use Rattle.sled_core.specs.Running.{FitsIn, FitsLine}
 use Rattle.sled_core.specs.SealedBuffers.{seal_at, sealed_count}
-use Rattle.sled_core.specs.Waiting.{at_last, closed_now, filled_now, last_of, sealed_now, with_parts}
-use Rattle.sled_core.proofs.Behind.Calls.{behind-pad, behind-sealed, segment-filled}
+use Rattle.sled_core.specs.Waiting.{at_last, closed_now, filled_now, last_of, sealed_now, with_filling, with_parts}
+use Rattle.sled_core.proofs.Behind.Calls.{behind-filled, behind-sealed, segment-filled}
 use Rattle.sled_core.proofs.Behind.FitsCalls.{behind-fits-filled, behind-fits-sealed}
 use Rattle.sled_core.proofs.Flush.FlushLemmas.{holds_over}
 use Rattle.sled_core.proofs.Holds.HoldsLemmas.{body-append}
 use Rattle.sled_core.proofs.Holds.RunningLemmas.{fits-moved}
-use Rattle.sled_core.proofs.Line.Entered.{IsEntered, entered_one}
+use Rattle.sled_core.proofs.Line.Entered.{IsEntered, LiesBehind, entered_one, unfilled_to}
 use Rattle.sled_core.proofs.Line.Last.{by_last}
 use Rattle.sled_core.proofs.Line.Seals.{IsFilledSome, first_sealed}
 use Rattle.sled_core.proofs.Reached.CapStands.{length-segment_rest}
+use Rattle.sled_core.proofs.Reserve.RecordEnds.{records_more}
 use Rattle.sled_core.proofs.Sealed.Appended.{end_one}
 use Rattle.sled_core.proofs.Sealed.LaidLemmas.{EndsRise}
 
@@ -41,7 +42,7 @@ module _ (sum : List ℕ → ℕ) (size : ℕ) where
   more_of v = segment_rest sum size (v.parts.site.place / size) (length v.parts.bytes)
 
   abbrev pub filled_up : SegmentView → SegmentView
-  filled_up v = with_parts v (v.parts.bytes ++ more_of v) v.parts.sealed (v.parts.reserved ++ padding_at size (length v.parts.bytes) ∷ [])
+  filled_up v = with_filling size v (more_of v)
 
   -- Something of a segment is so once it is filled, where it is so with that behind it, and as it is.
   pub by_filled : (P : SegmentView → Type 0) (v : SegmentView) → (length v.parts.bytes < size → P (filled_up v)) → (size ≤ length v.parts.bytes → P v) → P (filled_now sum size v)
@@ -93,6 +94,20 @@ module _ (sum : List ℕ → ℕ) (size : ℕ) where
           entered_one to to' v.parts.site.place v.parts.written_len v.parts.sealed v.parts.reserved rs (seal_at (length bytes) (drop (sealed_count v.parts.sealed) rs)) up entered (λ _. low)
           (omega (arith, length-drop (sealed_count v.parts.sealed) rs))
 
+  -- What fills it begins where its records end, and a place that doesn't lie behind them then lies in front of that, or behind the segment.
+  pub closed_records : (v : SegmentView) → length v.parts.bytes ≤ size → IsUnfilled v.parts.filled → length v.parts.bytes ≤ records_end v.parts.reserved (length v.parts.bytes)
+      → records_to (closed_now sum size v).parts.filled size ≤ records_end (closed_now sum size v).parts.reserved size
+  closed_records v short unfilled whole = by_filled (λ (x : SegmentView). records_to (sealed_now x).parts.filled size ≤ records_end (sealed_now x).parts.reserved size) v
+      (λ less. let more = records_more v.parts.reserved (padding_at size (length v.parts.bytes)) (length v.parts.bytes) size short (omega arith) in omega (arith, more, whole))
+      (λ full.
+        let all = subst (λ n. n ≤ records_end v.parts.reserved n) (let long : length v.parts.bytes ≡ size = omega (arith, full, short) in long) whole in
+        omega (arith, all, unfilled_to v.parts.filled size unfilled))
+
+  pub closed_ends : (to to' : ℕ) (v : SegmentView) → length v.parts.bytes ≤ size → to ≤ v.parts.site.place + length v.parts.bytes → IsUnfilled v.parts.filled → (to' ≡ to) ⊎ (v.parts.site.place + size < to') → LiesBehind size to' (closed_now sum size v)
+  closed_ends to to' v short low unfilled moved = by_filled (λ (x : SegmentView). LiesBehind size to' (sealed_now x)) v
+      (λ less inside. elim moved [ inl same ↦ omega (arith, same, low) | inr far ↦ absurd (omega (arith, far, inside)) ])
+      (λ full inside. omega (arith, inside, unfilled_to v.parts.filled size unfilled))
+
   -- A reservation of it that is open is of it still, for the same message.
   get_more : (rs more : List Reserved) (i : ℕ) (r : Reserved) → slice_get rs i ≡ Some r → slice_get (rs ++ more) i ≡ Some r
   get_more [] more i r there = cc
@@ -137,7 +152,7 @@ module _ (sum : List ℕ → ℕ) (size : ℕ) where
     -- or one behind it.
     behind_filled : (H : History) (v : SegmentView) (pre : List SegmentParts) (w : SegmentView) → IsClosable size w → HoldsIn sum (as_first v) (pre ++ w.parts ∷ []) H → HoldsIn sum (as_first v) (pre ++ (filled_now sum size w).parts ∷ []) H
     behind_filled H v pre w its holds = by_filled (λ (x : SegmentView). HoldsIn sum (as_first v) (pre ++ x.parts ∷ []) H) w
-        (λ less. behind-pad sum size v.parts.site device fault v.parts.bytes v.parts.written_len v.parts.sealed v.parts.reserved H pre w.parts [] holds less its.small)
+        (λ less. behind-filled sum size v.parts.site device fault v.parts.bytes v.parts.written_len v.parts.sealed v.parts.reserved H pre w.parts [] holds less its.small)
         (λ _. holds)
 
     behind_fits_filled : (reach pins : ℕ) (H : History) (A f : ℕ) (U : List Message) (v : SegmentView) (pre : List SegmentParts) (w : SegmentView) → IsClosable size w → FitsIn sum (as_first v) (pre ++ w.parts ∷ []) reach pins H A f U

@@ -9,7 +9,7 @@ use Rattle.sled_core.specs.Buffers.{padding_at}
 use Rattle.sled_core.specs.Caps.{segment_rest}
 use Rattle.sled_core.specs.Positions.{is_short}
 use Rattle.sled_core.specs.SealedBuffers.{AreSealed, bytes_between, seal_at, sealed_count, sealed_end}
-use Rattle.sled_core.specs.Waiting.{BufferAt, as_sealed, buffer_at, buffers_in, filled_now, held_below, holds_any, sealed_now, turned_now, unwritten, unwritten_in, unwritten_of, with_parts, writes_below}
+use Rattle.sled_core.specs.Waiting.{BufferAt, as_sealed, buffer_at, buffers_in, filled_now, held_below, holds_any, sealed_now, turned_now, unwritten, unwritten_in, unwritten_of, with_filling, writes_below}
 use Rattle.sled_core.proofs.Line.Below.{BeginFrom, begin_lower, held_front, writes_front}
 use Rattle.sled_core.proofs.Line.Facts.{IsSegment}
 use Rattle.sled_core.proofs.Line.Lying.{end_of}
@@ -70,9 +70,9 @@ module _ (sum : List ℕ → ℕ) (size : ℕ) where
       → (unwritten_of (filled_now sum size v).parts ≡ unwritten_of v.parts) × (begin_of (filled_now sum size v) ≡ begin_of v) × ((filled_now sum size v).parts.site ≡ v.parts.site)
   filled_same v are inside = by_test (nat_lt (length v.parts.bytes) size) where
     by_test : (o : Bool)
-        → (unwritten_of (if o then with_parts v (v.parts.bytes ++ segment_rest sum size (v.parts.site.place / size) (length v.parts.bytes)) v.parts.sealed (v.parts.reserved ++ padding_at size (length v.parts.bytes) ∷ []) else v).parts ≡ unwritten_of v.parts)
-        × (begin_of (if o then with_parts v (v.parts.bytes ++ segment_rest sum size (v.parts.site.place / size) (length v.parts.bytes)) v.parts.sealed (v.parts.reserved ++ padding_at size (length v.parts.bytes) ∷ []) else v) ≡ begin_of v)
-        × ((if o then with_parts v (v.parts.bytes ++ segment_rest sum size (v.parts.site.place / size) (length v.parts.bytes)) v.parts.sealed (v.parts.reserved ++ padding_at size (length v.parts.bytes) ∷ []) else v).parts.site ≡ v.parts.site)
+        → (unwritten_of (if o then with_filling size v (segment_rest sum size (v.parts.site.place / size) (length v.parts.bytes)) else v).parts ≡ unwritten_of v.parts)
+        × (begin_of (if o then with_filling size v (segment_rest sum size (v.parts.site.place / size) (length v.parts.bytes)) else v) ≡ begin_of v)
+        × ((if o then with_filling size v (segment_rest sum size (v.parts.site.place / size) (length v.parts.bytes)) else v).parts.site ≡ v.parts.site)
     by_test true =
         (unwritten_more v.parts.site v.parts.bytes (segment_rest sum size (v.parts.site.place / size) (length v.parts.bytes)) v.parts.written_len v.parts.sealed v.parts.reserved (padding_at size (length v.parts.bytes) ∷ []) are inside, refl, refl)
     by_test false = (refl, refl, refl)

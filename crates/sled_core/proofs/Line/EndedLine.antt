@@ -1,5 +1,5 @@
 -- The segments of a log where a reservation of one of them has ended: they are filled as they were; and what code has of one behind the first.
-use Rattle.std.proofs.Common.{◌≡◌, ◌∙◌, ◌≤◌, ◌<◌, ◌+◌, ◌-◌, ap, sym, refl, arith, subst, ℕ, zero, suc, Bool, true, false, nat_lt, if◌then◌else◌, List, [], ◌∷◌, ◌++◌, length, drop, set, get_or, Some, length-drop}
+use Rattle.std.proofs.Common.{◌≡◌, ◌≢◌, ◌∙◌, ◌≤◌, ◌<◌, ◌+◌, ◌-◌, ap, sym, refl, arith, subst, ℕ, zero, suc, Bool, true, false, nat_lt, if◌then◌else◌, List, [], ◌∷◌, ◌++◌, length, drop, set, get_or, Some, length-drop}
 use Rattle.std.specs.List.{slice_get}
 use Rattle.std.proofs.lemmas.List.{length-set}
 use Rattle.std.proofs.lemmas.Option.{slice_get_within}
@@ -10,7 +10,7 @@ use Rattle.sled_codec.specs.declared.serialization.message.MessageKind.{MessageK
 use Rattle.sled_codec.specs.declared.serialization.message.MessageKind.TheVariants.{Canceled}
 use Rattle.sled_core.specs.declared.iobuf.IoBuf.{IoBuf}
 use Rattle.sled_core.specs.declared.iobuf.ReservationState.{ReservationState}
-use Rattle.sled_core.specs.declared.iobuf.ReservationState.TheVariants.{Open}
+use Rattle.sled_core.specs.declared.iobuf.ReservationState.TheVariants.{Open, Padding}
 use Rattle.sled_core.specs.declared.iobuf.Reserved.{Reserved}
 use Rattle.sled_core.specs.declared.iobuf.Sealed.{Sealed}
 use Rattle.sled_core.specs.declared.iobuf.SegmentPosition.{SegmentPosition}
@@ -28,6 +28,7 @@ use Rattle.sled_core.proofs.Line.Segments.{filled_set}
 use Rattle.sled_core.proofs.Reserve.MarksLemmas.{marking_long}
 use Rattle.sled_core.proofs.Reserve.Parts.{there_is}
 use Rattle.sled_core.proofs.Reserve.Ranges.{at_there, length-written}
+use Rattle.sled_core.proofs.Reserve.RecordEnds.{records_set}
 use Rattle.sled_core.proofs.Sealed.InBuffer.{end_ended}
 
 -- The bytes of a segment are as many, whatever is written over one of its reservations,
@@ -79,19 +80,20 @@ entered_ended to place from i (b ∷ bs) rs rs' long are = by_test (entered_ende
 
 -- Its segments are filled as they were, whatever is written over it.
 pub filled_over : (size to : ℕ) (line : List SegmentView) (n : ℕ) {place : ℕ} (v : SegmentView) (i : ℕ) (r : Reserved) (text : List ℕ) (state : ReservationState) → slice_get line n ≡ Some v → IsSegment size place v
-    → slice_get v.parts.reserved i ≡ Some r → length text ≤ r.len → AreFilled size to line → AreFilled size to (set line n (ended_now i r text state v))
-filled_over size to line n v i r text state among facts there short filled =
+    → slice_get v.parts.reserved i ≡ Some r → r.state ≡ Open → state ≢ Padding → length text ≤ r.len → AreFilled size to line → AreFilled size to (set line n (ended_now i r text state v))
+filled_over size to line n v i r text state among facts there is_open plain short filled =
     filled_set size to line n v (ended_now i r text state v) among refl (end_ended v.parts.written_len i v.parts.sealed) (over_bytes v i r text facts there short)
-    (entered_ended to v.parts.site.place v.parts.written_len i v.parts.sealed v.parts.reserved (set v.parts.reserved i (ended state r)) (length-set v.parts.reserved i (ended state r))) filled
+    (entered_ended to v.parts.site.place v.parts.written_len i v.parts.sealed v.parts.reserved (set v.parts.reserved i (ended state r)) (length-set v.parts.reserved i (ended state r))) refl
+    (omega (arith, records_set v.parts.reserved i r state (length v.parts.bytes) there is_open plain)) facts filled
 
 pub filled_ended : (size to : ℕ) (line : List SegmentView) (n : ℕ) {place : ℕ} (v : SegmentView) (i : ℕ) (r : Reserved) (word : ℕ) (k : MessageKind) (state : ReservationState) → slice_get line n ≡ Some v → IsSegment size place v
-    → slice_get v.parts.reserved i ≡ Some r → r.state ≡ Open → AreFilled size to line → AreFilled size to (set line n (ended_now i r (ending word k) state v))
-filled_ended size to line n v i r word k state among facts there is_open filled = filled_over size to line n v i r (ending word k) state among facts there (ending_short v i r word k facts there is_open) filled
+    → slice_get v.parts.reserved i ≡ Some r → r.state ≡ Open → state ≢ Padding → AreFilled size to line → AreFilled size to (set line n (ended_now i r (ending word k) state v))
+filled_ended size to line n v i r word k state among facts there is_open plain filled = filled_over size to line n v i r (ending word k) state among facts there is_open plain (ending_short v i r word k facts there is_open) filled
 
 -- What code makes of a buffer is the segment with that reservation ended.
 pub ended_view : (site : SegmentPosition) (old new : IoBuf) (i : ℕ) (r : Reserved) (how : List ℕ) (state : ReservationState) → new.bytes.items ≡ written old.bytes.items r.from how → new.reserved.items ≡ set old.reserved.items i (ended state r)
-    → new.sealed.items ≡ one_ended i old.sealed.items → new.written_len ≡ old.written_len → new.gone ≡ old.gone → view_at site new ≡ ended_now i r how state (view_at site old)
-ended_view site old new i r how state bytes reserved sealed from gone = λ j. record { parts = record { site = site; bytes = bytes j; written_len = from j; sealed = sealed j; reserved = reserved j }; gone = gone j }
+    → new.sealed.items ≡ one_ended i old.sealed.items → new.written_len ≡ old.written_len → new.gone ≡ old.gone → new.filled ≡ old.filled → view_at site new ≡ ended_now i r how state (view_at site old)
+ended_view site old new i r how state bytes reserved sealed from gone filling = λ j. record { parts = record { site = site; bytes = bytes j; written_len = from j; filled = filling j; sealed = sealed j; reserved = reserved j }; gone = gone j }
 
 -- A segment behind the first one.
 
@@ -158,10 +160,10 @@ module _ {D C : Type 0} (log : Log D C) (n index : ℕ) (its : HasOpenIn (line_o
     -- One of its reservations ended.
     module _ (new : IoBuf) (how : List ℕ) (state : ReservationState) (bytes : new.bytes.items ≡ written t.buffer.bytes.items its.reserved.from how)
         (reserved : new.reserved.items ≡ set t.buffer.reserved.items (index - s.buffer.gone) (ended state its.reserved)) (sealed : new.sealed.items ≡ one_ended (index - s.buffer.gone) t.buffer.sealed.items)
-        (from : new.written_len ≡ t.buffer.written_len) (gone : new.gone ≡ t.buffer.gone) where
+        (from : new.written_len ≡ t.buffer.written_len) (gone : new.gone ≡ t.buffer.gone) (filling : new.filled ≡ t.buffer.filled) where
       abbrev now : SegmentBuffer
       now = record { site = t.site; buffer = new }
 
       pub line_behind : line_at log.site log.buffer (set log.behind.items (n - 1) now) ≡ set (line_of log) n (ended_now (index - s.buffer.gone) its.reserved how state (segment_view t))
       line_behind = line_set log.site log.buffer log.behind.items n now some
-          ∙ ap (λ (w : SegmentView). set (line_of log) n w) (ended_view t.site t.buffer new (index - s.buffer.gone) its.reserved how state bytes reserved sealed from gone)
+          ∙ ap (λ (w : SegmentView). set (line_of log) n w) (ended_view t.site t.buffer new (index - s.buffer.gone) its.reserved how state bytes reserved sealed from gone filling)

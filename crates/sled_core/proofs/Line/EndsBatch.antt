@@ -13,7 +13,7 @@ use Rattle.sled_core.specs.declared.iobuf.ReservationState.TheVariants.{Manifest
 use Rattle.sled_core.specs.declared.iobuf.Reserved.{Reserved}
 use Rattle.sled_core.specs.Begun.{SegmentView}
 use Rattle.sled_core.specs.Buffers.{marking}
-use Rattle.sled_core.specs.Fits.{FitsBatches, HoldBehind, HoldsLine, IsInRecord, line_end, parts_in, written_to}
+use Rattle.sled_core.specs.Fits.{FitsBatches, HoldBehind, HoldsLine, line_end, parts_in, written_to}
 use Rattle.sled_core.specs.Manifests.{is_manifest}
 use Rattle.sled_core.specs.Running.{FitsWith}
 use Rattle.sled_core.specs.Turned.{ended_now}
@@ -22,6 +22,7 @@ use Rattle.sled_core.proofs.Holds.FitsBatches.{batches_noted, batches_up}
 use Rattle.sled_core.proofs.Holds.HoldsMarked.{begin_from, noted_adds, noted_history}
 use Rattle.sled_core.proofs.Holds.MessagesBeside.{message_before}
 use Rattle.sled_core.proofs.Holds.WholeHistory.{behind_above}
+use Rattle.sled_core.proofs.Holds.PegLemmas.{IsOff}
 use Rattle.sled_core.proofs.Line.EndedTickets.{entry_low, segment_chain}
 use Rattle.sled_core.proofs.Line.Ends.{line_holds, slots_set, written_inside, written_set}
 use Rattle.sled_core.proofs.Line.Facts.{IsSegment}
@@ -139,15 +140,15 @@ module _ (sum : List ℕ → ℕ) (size : ℕ) (device : State) (fault : Option 
       (batches_noted (written_to line) (line_end size line) noted H now b (noted_adds H b later) unwritten short (λ c known open_yet. others H fits c known)
       (line_before sum size device fault v i r at is_open (facts n v there) line n place H there facts holds) fits)
 
-  pub fits_noted : (pins : ℕ) (H : History) (A f : ℕ) (U : List Message) → 256 ≤ size → fault ≡ None → IsInRecord H.messages peg → FitsWith sum noted size device fault line machine pins H A f U
+  pub fits_noted : (pins : ℕ) (H : History) (A f : ℕ) (U : List Message) → 256 ≤ size → fault ≡ None → ((k : ℕ) (x : SegmentView) → slice_get line k ≡ Some x → IsOff size peg x.parts) → FitsWith sum noted size device fault line machine pins H A f U
       → FitsWith sum (noted ++ record { low = v.parts.site.place + r.from; peg = peg } ∷ []) size device fault (set line n (ended_now i r (marking sum v.parts.bytes r peg) Manifest v)) machine pins (noted_history H (record { low = v.parts.site.place + r.from; peg = peg })) A f U
-  fits_noted pins H A f U least ok pegged fits =
+  fits_noted pins H A f U least ok offs fits =
       let holds = line_holds sum size device fault line fits.reach pins H A f U fits.parts in
       let marks = marks_in sum size device fault line fits.reach pins H A f U fits.parts in
       record {
         reach = fits.reach;
-        parts = mark_fits sum size device fault v i r at is_open manifest peg small later line n place fits.reach pins H A f U least ok there facts pegged
-            (λ placed. mark_placed sum size device fault v i r at is_open manifest peg small later line n place H there facts pegged marks holds placed (others H fits.batches)) fits.parts;
+        parts = mark_fits sum size device fault v i r at is_open manifest peg small later line n place fits.reach pins H A f U least ok there facts offs
+            (λ placed. mark_placed sum size device fault v i r at is_open manifest peg small later line n place H there facts offs marks holds placed (others H fits.batches)) fits.parts;
         batches = batches_now H holds fits.batches;
         slots = slots_set size line device.log.bytes fault machine n v (ended_now i r (marking sum v.parts.bytes r peg) Manifest v) there (λ j. v.parts.site) fits.slots;
       }

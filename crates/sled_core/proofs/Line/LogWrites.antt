@@ -28,6 +28,8 @@ use Rattle.sled_core.proofs.Holds.BufferEnds.{written_behind}
 use Rattle.sled_core.proofs.Line.Faulty.{fits_line_faulty, fits_with_device, holds_line_faulty, holds_with_device, names_written, slots_line_faulty}
 use Rattle.sled_core.proofs.Line.LineEnds.{end_left, end_set}
 use Rattle.sled_core.proofs.Line.Promotes.{end_promoted, holds_promoted}
+use Rattle.sled_core.proofs.Line.Facts.{nth_facts}
+use Rattle.sled_core.proofs.Line.Fillings.{log_recorded}
 use Rattle.sled_core.proofs.Line.Segments.{AreSegments, filled_promoted, filled_written, follow_segments, line_segments, promoted_waits, run_written, segments_promoted, set_segment, written_segment}
 use Rattle.sled_core.proofs.Line.Writes.{along_write, buffer_begin, buffer_bytes, buffer_calls, buffer_synced, calls_are, fits_write, holds_write, passes_line, slots_write}
 
@@ -52,7 +54,7 @@ module _ {D C : Type 0} (log : Log D C) (n k : ℕ) (r : IsReadyIn (line_of log)
   segments_written = set_segment size log.site.place line (line_segments log) n v (written_now k v) r.among (λ p is. written_segment k v r.buffer r.there r.ready size p is)
 
   pub filled_now : AreFilled size log.reserved_to line_written
-  filled_now = filled_written size log.reserved_to line n k v r.among log.filled
+  filled_now = filled_written size log.reserved_to line n k v r.among (nth_facts log n v r.among) log.filled
 
   -- The stable end doesn't fall.
   pub end_grows : written_to line ≤ written_to line_left
@@ -139,7 +141,7 @@ module _ {D C : Type 0} (log : Log D C) (n k : ℕ) (r : IsReadyIn (line_of log)
     left new came reach H A f U fits =
         performs_throughout (LeavesRecoverable sum size H (stable_below reach H.batches) f) (write_in line n k) before new came
         (subst (λ (es : List Event). Along (LeavesRecoverable sum size H (stable_below reach H.batches) f) es device) (sym calls)
-        (along_write sum size log.config.config.least device log.fault whole v k r.buffer r.there r.ready log.pins H A f U log.site.place reach line (line_segments log) n r.among fits))
+        (along_write sum size log.config.config.least device log.fault whole v k r.buffer r.there r.ready log.pins H A f U (log_recorded log n v r.among) log.site.place reach line (line_segments log) n r.among fits))
 
     -- At each moment of the calls a crash leaves what can be recovered.
     pub crash_write : (new : Trace) → Performs (write_in line n k) before new → (H : History) (A f : ℕ) (U : List Message) → Fits trace sum log H A f U → Throughout (LeavesRecoverable sum size H A f) before new
@@ -196,7 +198,7 @@ module _ {D C : Type 0} (log : Log D C) (n k : ℕ) (r : IsReadyIn (line_of log)
     pub fits_done : (new : Trace) → new ≡ after_all (write_in line n k) before → (now : Option IoError) → now ≡ None → (H : History) (A f : ℕ) (U : List Message) → Fits trace sum log H A f U → FitsWith sum noted_left size (state_of new) now line_left slots log.pins H A f U
     unfolding Fits
     fits_done new came now none H A f U fits =
-        let after = fits_write sum size log.config.config.least device log.fault whole v k r.buffer r.there r.ready log.pins H A f U log.reserved_to log.site.place fits.reach line (line_segments log) n r.among filled_now first_waits fits.parts in
+        let after = fits_write sum size log.config.config.least device log.fault whole v k r.buffer r.there r.ready log.pins H A f U (log_recorded log n v r.among) log.reserved_to log.site.place fits.reach line (line_segments log) n r.among filled_now first_waits fits.parts in
         subst (λ (o : Option IoError). FitsWith sum noted_left size (state_of new) o line_left slots log.pins H A f U) (sym none)
         (subst (λ (t : Trace). FitsWith sum noted_left size (state_of t) None line_left slots log.pins H A f U) (sym (made new came)) (record {
           reach = after.0;

@@ -53,9 +53,9 @@ behind_ready_at site b ss n k s some there ready = has_ready (line_at site b ss)
 
 -- What code makes of the buffer, as a segment.
 pub marked_view : (site : SegmentPosition) (old new : IoBuf) (k : ℕ) → new.sealed.items ≡ behind_run (written_at k old.sealed.items) → new.written_len ≡ run_end old.written_len (written_at k old.sealed.items)
-    → new.reserved.items ≡ drop (run_count (written_at k old.sealed.items)) old.reserved.items → new.gone ≡ old.gone + run_count (written_at k old.sealed.items) → new.bytes.items ≡ old.bytes.items → view_at site new ≡ written_now k (view_at site old)
-marked_view site old new k sealed from reserved gone bytes = λ i. record {
-  parts = record { site = site; bytes = bytes i; written_len = from i; sealed = sealed i; reserved = reserved i };
+    → new.reserved.items ≡ drop (run_count (written_at k old.sealed.items)) old.reserved.items → new.gone ≡ old.gone + run_count (written_at k old.sealed.items) → new.filled ≡ old.filled → new.bytes.items ≡ old.bytes.items → view_at site new ≡ written_now k (view_at site old)
+marked_view site old new k sealed from reserved gone filled bytes = λ i. record {
+  parts = record { site = site; bytes = bytes i; written_len = from i; filled = filled i; sealed = sealed i; reserved = reserved i };
   gone = gone i;
 }
 

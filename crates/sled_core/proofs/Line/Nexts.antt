@@ -1,5 +1,5 @@
 -- What code makes where a further segment is begun: it lies behind the others, and all of them are filled as they have to be.
-use Rattle.std.proofs.Common.{◌≡◌, ◌∙◌, ◌<◌, ◌≤◌, ◌+◌, ◌*◌, ◌^◌, ◌-ℤ◌, ap, refl, arith, ℕ, pos, List, [], ◌∷◌, ◌++◌, length}
+use Rattle.std.proofs.Common.{None, ◌≡◌, ◌⊎◌, ⊎_elim, inl, inr, ◌∙◌, ◌<◌, ◌≤◌, ◌+◌, ◌*◌, ◌^◌, ◌-ℤ◌, ap, refl, arith, ℕ, pos, List, [], ◌∷◌, ◌++◌, length}
 use Rattle.std.proofs.Math.Nat.{suc-mul}
 use Rattle.std.proofs.lemmas.List.{map-append}
 use Rattle.sled_codec.proofs.Segments.{length-short_header}
@@ -12,8 +12,9 @@ use Rattle.sled_core.specs.declared.logger.segments.SegmentBuffer.{SegmentBuffer
 use Rattle.sled_core.specs.Turned.{IsBegunView, begun_view, next_line}
 use Rattle.sled_core.specs.Waiting.{closed_now, last_of}
 use Rattle.sled_core.proofs.Line.Begins.{closable}
-use Rattle.sled_core.proofs.Line.Closes.{IsClosable, closed_begin, closed_entered}
-use Rattle.sled_core.proofs.Line.Entered.{filled_begun, filled_last}
+use Rattle.sled_core.proofs.Line.Closes.{IsClosable, closed_begin, closed_ends, closed_entered, closed_records}
+use Rattle.sled_core.proofs.Line.Entered.{filled_begun, filled_last, last_unfilled}
+use Rattle.sled_core.proofs.Line.Segments.{AreSegments}
 use Rattle.sled_core.proofs.Line.Facts.{IsSegment}
 
 -- They follow one another with one more at the end.
@@ -36,14 +37,17 @@ pub begun_is : (sum : List ℕ → ℕ) (size : ℕ) (m : Machine) (stable : ℕ
     → view_at site b ≡ begun_view sum size m stable v
 begun_is sum size m stable v site b at slot is =
     is.view
-    ∙ (λ i. record { parts = record { site = record { place = at i; slot = slot i }; bytes = short_header sum (pos (at i)) (pos stable -ℤ pos 1); written_len = 0; sealed = []; reserved = [] }; gone = 0 })
+    ∙ (λ i. record { parts = record { site = record { place = at i; slot = slot i }; bytes = short_header sum (pos (at i)) (pos stable -ℤ pos 1); written_len = 0; filled = None; sealed = []; reserved = [] }; gone = 0 })
 
 -- The segments are filled then, where what is reserved ends behind the beginning of the buffer that was filled up, and behind the new header at most.
-pub filled_next : (sum : List ℕ → ℕ) (size to to' : ℕ) (m : Machine) (stable place : ℕ) (v : SegmentView) (vs : List SegmentView) → IsSegment size place (last_of v vs) → 0 < size → to ≤ to' → (last_of v vs).parts.site.place + begin_of (last_of v vs) < to'
-    → to' ≤ (last_of v vs).parts.site.place + size + 20 → AreFilled size to (v ∷ vs) → AreFilled size to' (next_line sum size m stable (v ∷ vs))
-filled_next sum size to to' m stable place v vs here some up low within filled =
+pub filled_next : (sum : List ℕ → ℕ) (size to to' : ℕ) (m : Machine) (stable place : ℕ) (v : SegmentView) (vs : List SegmentView) → AreSegments size place (v ∷ vs) → {last : ℕ} → IsSegment size last (last_of v vs) → 0 < size → to ≤ to'
+    → (last_of v vs).parts.site.place + begin_of (last_of v vs) < to' → to' ≤ (last_of v vs).parts.site.place + size + 20 → (to' ≡ to) ⊎ ((last_of v vs).parts.site.place + size < to') → AreFilled size to (v ∷ vs) → AreFilled size to' (next_line sum size m stable (v ∷ vs))
+filled_next sum size to to' m stable place v vs are {last = its_place} here some up low within moved filled =
     let w : SegmentView = last_of v vs in
     let last = filled_last size to v vs filled in
-    let its : IsClosable size w = closable size place w here last.0 in
-    filled_begun size to to' (closed_now sum size) v vs (begun_view sum size m stable w) up (closed_begin sum size w its.short its.small) (closed_entered sum size to to' w up last.2 low) filled
-    (some, omega (arith, within, length-short_header sum (pos (w.parts.site.place + size)) (pos stable -ℤ pos 1)), λ more. absurd (omega (arith, more)))
+    let unfilled = last_unfilled size to v vs filled in
+    let its : IsClosable size w = closable size its_place w here last.0 in
+    let long = length-short_header sum (pos (w.parts.site.place + size)) (pos stable -ℤ pos 1) in
+    filled_begun size to to' (closed_now sum size) (begun_view sum size m stable w) up (some, omega (arith, within, long), λ more. absurd (omega (arith, more))) tt (omega arith)
+    place v vs are (⊎_elim (λ same. inl same) (λ far. inr (omega (arith, far))) moved) (closed_begin sum size w its.short its.small) (closed_entered sum size to to' w up last.2 low)
+    (closed_records sum size w its.short unfilled.0 unfilled.1, closed_ends sum size to to' w its.short last.1 unfilled.0 moved) filled

@@ -12,7 +12,7 @@ use Rattle.sled_core.specs.Manifests.{is_manifest}
 use Rattle.sled_core.specs.OpenPlaces.{open_manifests, open_manifests_in}
 use Rattle.sled_core.specs.SealedBuffers.{run_count, written_at}
 use Rattle.sled_core.specs.Turned.{begun_view, ended_now, next_line, promoted, reserved_now, written_now}
-use Rattle.sled_core.specs.Waiting.{at_last, closed_now, filled_now, last_of, sealed_now, with_parts}
+use Rattle.sled_core.specs.Waiting.{at_last, closed_now, filled_now, last_of, sealed_now, with_filling}
 
 -- those of a segment
 abbrev pub manifests_of : SegmentView → ℕ
@@ -75,7 +75,7 @@ manifests_sealed line = at_last_same sealed_now (λ w. refl) line
 filled_manifests : (sum : List ℕ → ℕ) (size : ℕ) (v : SegmentView) → manifests_of (filled_now sum size v) ≡ manifests_of v
 filled_manifests sum size v = by (nat_lt (length v.parts.bytes) size) where
   by : (o : Bool)
-      → manifests_of (if o then with_parts v (v.parts.bytes ++ segment_rest sum size (v.parts.site.place / size) (length v.parts.bytes)) v.parts.sealed (v.parts.reserved ++ padding_at size (length v.parts.bytes) ∷ []) else v) ≡ manifests_of v
+      → manifests_of (if o then with_filling size v (segment_rest sum size (v.parts.site.place / size) (length v.parts.bytes)) else v) ≡ manifests_of v
   by true = closed_adds_none v.parts.reserved (padding_at size (length v.parts.bytes)) refl
   by false = refl
 

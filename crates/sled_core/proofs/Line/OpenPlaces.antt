@@ -10,7 +10,7 @@ use Rattle.sled_core.specs.declared.iobuf.ReservationState.TheVariants.{Open}
 use Rattle.sled_core.specs.declared.iobuf.Reserved.{Reserved}
 use Rattle.sled_core.specs.OpenPlaces.{TakesOut, open_places_along, open_places_in}
 use Rattle.sled_core.specs.Turned.{promoted, reserved_now}
-use Rattle.sled_core.specs.Waiting.{as_sealed, at_last, closed_now, filled_now, holds_any, last_of, sealed_now, turned_now, with_parts}
+use Rattle.sled_core.specs.Waiting.{as_sealed, at_last, closed_now, filled_now, holds_any, last_of, sealed_now, turned_now, with_filling}
 use Rattle.sled_core.specs.Positions.{is_short}
 use Rattle.sled_core.proofs.Line.Segments.{AreSegments, by_front, full_empty}
 
@@ -80,7 +80,7 @@ places_sealed v vs = at_last_places sealed_now v vs refl
 pub filled_places : (sum : List ℕ → ℕ) (size : ℕ) (v : SegmentView) → places_of (filled_now sum size v) ≡ places_of v
 filled_places sum size v = by (nat_lt (length v.parts.bytes) size) where
   by : (o : Bool)
-      → places_of (if o then with_parts v (v.parts.bytes ++ segment_rest sum size (v.parts.site.place / size) (length v.parts.bytes)) v.parts.sealed (v.parts.reserved ++ padding_at size (length v.parts.bytes) ∷ []) else v) ≡ places_of v
+      → places_of (if o then with_filling size v (segment_rest sum size (v.parts.site.place / size) (length v.parts.bytes)) else v) ≡ places_of v
   by true = closed_adds_none v.parts.site.place v.parts.reserved (padding_at size (length v.parts.bytes)) refl
   by false = refl
 

@@ -25,7 +25,9 @@ use Rattle.sled_core.proofs.Behind.FitsCalls.{behind-fits-reserved}
 use Rattle.sled_core.proofs.Holds.HoldsLemmas.{body-append}
 use Rattle.sled_core.proofs.Holds.RunningLemmas.{fits-moved}
 use Rattle.sled_core.proofs.Holds.WholeLemmas.{holds-append}
-use Rattle.sled_core.proofs.Line.Entered.{entered_up}
+use Rattle.sled_core.proofs.Line.Entered.{behind_filling, entered_up}
+use Rattle.sled_core.proofs.Line.Segments.{AreSegments}
+use Rattle.sled_core.proofs.Reserve.RecordEnds.{records_open}
 use Rattle.sled_core.proofs.Line.Last.{All-at_last, by_last, last_get_of}
 use Rattle.sled_core.proofs.Reserve.Ranges.{at_there}
 use Rattle.sled_core.proofs.Reserve.ReserveLemmas.{there_append, there_last}
@@ -157,14 +159,25 @@ module _ (sum : List ℕ → ℕ) (size : ℕ) (more : List ℕ) (r : Reserved) 
       let within : b.count ≤ length rs = omega (arith, count, length-take b.count rs) in
       (λ some. let old = entered.0 some in omega (arith, old, up), subst (λ (l : List Reserved). AreEntered to' place b.end bs l) (sym (drop-append-le b.count rs (r ∷ []) within)) (entered_more to to' place b.end bs (drop b.count rs) are.1 up low entered.1))
 
-  pub filled_reserved : (to to' : ℕ) (v : SegmentView) (vs : List SegmentView) → begin_of (last_of v vs) ≤ length (last_of v vs).parts.bytes → AreSealed (last_of v vs).parts.written_len (last_of v vs).parts.reserved (last_of v vs).parts.sealed → 0 < length more
+  pub filled_reserved : (to to' place : ℕ) (v : SegmentView) (vs : List SegmentView) → AreSegments size place (v ∷ vs) → r.state ≡ Open → 0 < length more
       → to' ≡ (last_of v vs).parts.site.place + length (last_of v vs).parts.bytes + length more → AreFilled size to (v ∷ vs) → (to ≤ to') × AreFilled size to' (at_last now (v ∷ vs))
-  filled_reserved to to' v [] begins are some is filled =
+  filled_reserved to to' place v [] are is_open some is filled =
       let up : to ≤ to' = (let old = filled.1 in omega (arith, old, is)) in
-      (up, (filled.0, omega (arith, is, length-append v.parts.bytes more), entered_more to to' v.parts.site.place v.parts.written_len v.parts.sealed v.parts.reserved are up (omega (arith, begins, is, some)) filled.2))
-  filled_reserved to to' v (w ∷ []) begins are some is filled =
-      let rest = filled_reserved to to' w [] begins are some is filled.2 in
-      (rest.0, (filled.0, entered_up to to' v.parts.site.place v.parts.written_len v.parts.sealed v.parts.reserved rest.0 filled.1, rest.1))
-  filled_reserved to to' v (w ∷ x ∷ xs) begins are some is filled =
-      let rest = filled_reserved to to' w (x ∷ xs) begins are some is filled.2 in
-      (rest.0, (filled.0, entered_up to to' v.parts.site.place v.parts.written_len v.parts.sealed v.parts.reserved rest.0 filled.1, rest.1))
+      let facts = are.0 in
+      let begins = facts.begins in
+      let long = length-append v.parts.bytes more in (
+        up,
+        (
+          filled.0,
+          omega (arith, is, long),
+          entered_more to to' v.parts.site.place v.parts.written_len v.parts.sealed v.parts.reserved facts.are up (omega (arith, begins, is, some)) filled.2,
+          filled.3,
+          records_open v.parts.reserved r (length v.parts.bytes) (length (v.parts.bytes ++ more)) (λ k d lt. let inside = facts.within k d lt in let byte = (facts.headed k d lt).0 in omega (arith, inside, byte)) filled.4 is_open,
+        ),
+      )
+  filled_reserved to to' place v (w ∷ []) are is_open some is filled =
+      let rest = filled_reserved to to' (place + size) w [] are.1 is_open some is filled.2 in
+      (rest.0, (filled.0, entered_up to to' v.parts.site.place v.parts.written_len v.parts.sealed v.parts.reserved rest.0 filled.1, rest.1, filled.3, behind_filling size to to' place v w [] are (inr (omega (arith, is, some))) filled.4))
+  filled_reserved to to' place v (w ∷ x ∷ xs) are is_open some is filled =
+      let rest = filled_reserved to to' (place + size) w (x ∷ xs) are.1 is_open some is filled.2 in
+      (rest.0, (filled.0, entered_up to to' v.parts.site.place v.parts.written_len v.parts.sealed v.parts.reserved rest.0 filled.1, rest.1, filled.3, behind_filling size to to' place v w (x ∷ xs) are (inr (omega (arith, is, some))) filled.4))

@@ -1,12 +1,12 @@
 -- All segments of a line keep what each of them does, also once a sealed buffer of one of them is written, and once those at the front that are wholly on the device have gone.
-use Rattle.std.proofs.Common.{◌≡◌, ◌≢◌, ◌∙◌, ◌<◌, ◌≤◌, ◌+◌, ◌*◌, ◌==◌, ap, sym, refl, arith, subst, ℕ, zero, suc, Bool, true, false, if◌then◌else◌, List, [], ◌∷◌, length, length-drop, max, drop, map, set, Some}
+use Rattle.std.proofs.Common.{◌≡◌, ◌≢◌, ◌∙◌, ◌<◌, ◌≤◌, ◌+◌, ◌*◌, ◌==◌, ap, sym, refl, arith, subst, ℕ, zero, suc, Bool, true, false, if◌then◌else◌, List, [], ◌∷◌, length, length-drop, max, drop, map, set, Option, Some}
 use Rattle.std.specs.List.{All, slice_get}
 use Rattle.std.proofs.Math.Nat.{suc-mul}
 use Rattle.std.proofs.lemmas.Bool.Decides.{nat_tests}
 use Rattle.std.proofs.lemmas.List.{drop-drop}
 use Rattle.std.proofs.lemmas.List.Elements.{All-drop}
-use Rattle.sled_core.specs.Begun.{AreEntered, AreFilled, FollowOn, SegmentView, begin_of, segment_view}
-use Rattle.sled_core.specs.Buffers.{IsChain, IsHeaded, most_open, open_in}
+use Rattle.sled_core.specs.Begun.{AreEntered, AreFilled, FollowOn, IsUnfilled, SegmentView, begin_of, records_to, segment_view}
+use Rattle.sled_core.specs.Buffers.{IsChain, IsHeaded, most_open, open_in, records_end}
 use Rattle.sled_core.specs.declared.iobuf.Reserved.{Reserved}
 use Rattle.sled_core.specs.declared.iobuf.Sealed.{Sealed}
 use Rattle.sled_core.specs.declared.iobuf.SegmentPosition.{SegmentPosition}
@@ -18,6 +18,8 @@ use Rattle.sled_core.specs.Turned.{promoted, written_now}
 use Rattle.sled_core.proofs.Behind.FullHolds.{none_sealed}
 use Rattle.sled_core.proofs.Line.Facts.{IsSegment, nth_facts}
 use Rattle.sled_core.proofs.Reserve.Ranges.{chain_grows}
+use Rattle.sled_core.proofs.Reserve.RecordEnds.{records_fewer}
+use Rattle.sled_core.proofs.Sealed.Around.{whole_chain}
 use Rattle.sled_core.proofs.Sealed.Ended.{ends_rise, ends_up}
 use Rattle.sled_core.proofs.Sealed.Marked.{count_run, count_written, end_run, end_written, first_behind, ready_closed, written_are}
 use Rattle.sled_core.proofs.Sealed.Runs.{IsRun, run_of}
@@ -183,25 +185,39 @@ pub entered_written : (to k : ℕ) (v : SegmentView) → AreEntered to v.parts.s
 entered_written to k v has =
     entered_run to v.parts.site.place v.parts.written_len (written_at k v.parts.sealed) v.parts.reserved (entered_at to v.parts.site.place v.parts.written_len k v.parts.sealed v.parts.reserved has)
 
--- Segments are filled as they were with another one in the place of one of them that lies there, begins its current buffer there, and has as many bytes.
+-- Segments are filled as they were with another one in the place of one of them that lies there, begins its current buffer there, has as many bytes, is filled from there on, and whose records end no lower.
 pub filled_set : (size to : ℕ) (line : List SegmentView) (n : ℕ) (v e : SegmentView) → slice_get line n ≡ Some v → e.parts.site ≡ v.parts.site → begin_of e ≡ begin_of v → length e.parts.bytes ≡ length v.parts.bytes
     → (AreEntered to v.parts.site.place v.parts.written_len v.parts.sealed v.parts.reserved → AreEntered to e.parts.site.place e.parts.written_len e.parts.sealed e.parts.reserved)
-    → AreFilled size to line → AreFilled size to (set line n e)
-filled_set size to [] n v e there site begins long entered filled = filled
-filled_set size to (x ∷ []) zero v e there site begins long entered filled =
+    → e.parts.filled ≡ v.parts.filled → records_end v.parts.reserved (length v.parts.bytes) ≤ records_end e.parts.reserved (length v.parts.bytes) → {place : ℕ} → IsSegment size place v → AreFilled size to line → AreFilled size to (set line n e)
+filled_set size to [] n v e there site begins long entered filling records facts filled = filled
+filled_set size to (x ∷ []) zero v e there site begins long entered filling records facts filled =
     let same : x ≡ v = cc in
     let f : AreFilled size to (v ∷ []) = subst (λ (y : SegmentView). AreFilled size to (y ∷ [])) same filled in
     let place : e.parts.site.place ≡ v.parts.site.place = ap (λ (p : SegmentPosition). p.place) site in
     let low = f.0 in let inside = f.1 in
-    (omega (arith, begins, low), omega (arith, place, long, inside), entered f.2)
-filled_set size to (x ∷ []) (suc n) v e there site begins long entered filled = cc
-filled_set size to (x ∷ w ∷ ws) zero v e there site begins long entered filled =
+    let far = f.4 in (
+      omega (arith, begins, low),
+      omega (arith, place, long, inside),
+      entered f.2,
+      subst IsUnfilled (sym filling) f.3,
+      omega (arith, long, far, records, ap (records_end e.parts.reserved) long),
+    )
+filled_set size to (x ∷ []) (suc n) v e there site begins long entered filling records facts filled = cc
+filled_set size to (x ∷ w ∷ ws) zero v e there site begins long entered filling records facts filled =
     let same : x ≡ v = cc in
     let f : AreFilled size to (v ∷ w ∷ ws) = subst (λ (y : SegmentView). AreFilled size to (y ∷ w ∷ ws)) same filled in
-    (begins ∙ f.0, entered f.1, f.2)
-filled_set size to (x ∷ w ∷ ws) (suc zero) v e there site begins long entered filled = (filled.0, filled.1, filled_set size to (w ∷ ws) zero v e there site begins long entered filled.2)
-filled_set size to (x ∷ w ∷ ws) (suc (suc n)) v e there site begins long entered filled = (filled.0, filled.1, filled_set size to (w ∷ ws) (suc n) v e there site begins long entered filled.2)
+    let full = f.0 in let begins_low = facts.begins in let short = facts.short in
+    let whole : length v.parts.bytes ≡ size = omega (arith, full, begins_low, short) in
+    let far = f.3 in let up = subst (λ n. records_end v.parts.reserved n ≤ records_end e.parts.reserved n) whole records in let kept = ap (λ (o : Option ℕ). records_to o size) filling in
+    let place : e.parts.site.place ≡ v.parts.site.place = ap (λ (p : SegmentPosition). p.place) site in
+    (begins ∙ f.0, entered f.1, f.2, omega (arith, far, up, kept), λ low. let lies = f.4 (omega (arith, low, place)) in omega (arith, lies, place, kept))
+filled_set size to (x ∷ w ∷ ws) (suc zero) v e there site begins long entered filling records facts filled =
+    (filled.0, filled.1, filled_set size to (w ∷ ws) zero v e there site begins long entered filling records facts filled.2, filled.3, filled.4)
+filled_set size to (x ∷ w ∷ ws) (suc (suc n)) v e there site begins long entered filling records facts filled =
+    (filled.0, filled.1, filled_set size to (w ∷ ws) (suc n) v e there site begins long entered filling records facts filled.2, filled.3, filled.4)
 
 -- So the segments are filled as before.
-pub filled_written : (size to : ℕ) (vs : List SegmentView) (n k : ℕ) (v : SegmentView) → slice_get vs n ≡ Some v → AreFilled size to vs → AreFilled size to (set vs n (written_now k v))
-filled_written size to vs n k v there = filled_set size to vs n v (written_now k v) there refl (written_begin v k) refl (entered_written to k v)
+pub filled_written : (size to : ℕ) (vs : List SegmentView) (n k : ℕ) (v : SegmentView) → slice_get vs n ≡ Some v → {place : ℕ} → IsSegment size place v → AreFilled size to vs → AreFilled size to (set vs n (written_now k v))
+filled_written size to vs n k v there facts =
+    filled_set size to vs n v (written_now k v) there refl (written_begin v k) refl (entered_written to k v) refl
+    (records_fewer (run_count (written_at k v.parts.sealed)) v.parts.reserved (max 20 v.parts.written_len) (length v.parts.bytes) (whole_chain v.parts.written_len v.parts.reserved v.parts.sealed (length v.parts.bytes) facts.are facts.chain)) facts

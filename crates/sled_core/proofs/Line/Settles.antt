@@ -14,7 +14,7 @@ use Rattle.sled_core.specs.declared.iobuf.Sealed.{Sealed}
 use Rattle.sled_core.specs.declared.iobuf.SegmentPosition.{SegmentPosition}
 use Rattle.sled_core.specs.Buffers.{first_open_in, open_in}
 use Rattle.sled_core.specs.declared.logger.Log.{Log}
-use Rattle.sled_core.specs.Fits.{buffers_of, current_begin, held_len, line_of, segment_size_of, synced_end, waiting_of}
+use Rattle.sled_core.specs.Fits.{current_of, buffers_of, current_begin, held_len, line_of, segment_size_of, synced_end, waiting_of}
 use Rattle.sled_core.specs.ReadBuffer.{IsWrittenPlace, held_at, settling}
 use Rattle.sled_core.specs.SealedBuffers.{IsSealed, bytes_between, sealed_count, sealed_end, writing, written_at}
 use Rattle.sled_core.specs.Turned.{IsReadyIn, promoted, write_in, write_of, written_now}
@@ -32,17 +32,21 @@ use Rattle.sled_core.proofs.Sealed.Progress.{first_front, open_front}
 use Rattle.sled_core.proofs.Sealed.Slices.{end_to}
 
 -- The number of the segment that has the place is that of one of the log.
-pub number_within : {D C : Type 0} (log : Log D C) (place : ℕ) → log.site.place ≤ place → place < current_begin log → (place - log.site.place) / segment_size_of log ≤ length log.behind.items
-number_within log place above lower =
+pub number_inside : {D C : Type 0} (log : Log D C) (place : ℕ) → log.site.place ≤ place → place < (current_of log).parts.site.place + segment_size_of log → (place - log.site.place) / segment_size_of log ≤ length log.behind.items
+number_inside log place above lower =
     let size : ℕ = segment_size_of log in
     let n : ℕ = (place - log.site.place) / size in
     let low = div-mul-le_self (place - log.site.place) size in
-    let last = filled_last size log.reserved_to (view_at log.site log.buffer) (map segment_view log.behind.items) log.filled in
     let at = (current_facts log).at in
     elim (cases_lt (length log.behind.items) n) [
       | inr le ↦ le
-      | inl lt ↦ (let up : suc (length log.behind.items) * size ≤ n * size = mul-le-mul_right size lt in absurd (omega (arith, low, last.0, at, above, lower, up)))
+      | inl lt ↦ (let up : suc (length log.behind.items) * size ≤ n * size = mul-le-mul_right size lt in absurd (omega (arith, low, at, above, lower, up)))
     ]
+
+pub number_within : {D C : Type 0} (log : Log D C) (place : ℕ) → log.site.place ≤ place → place < current_begin log → (place - log.site.place) / segment_size_of log ≤ length log.behind.items
+number_within log place above lower =
+    let last = filled_last (segment_size_of log) log.reserved_to (view_at log.site log.buffer) (map segment_view log.behind.items) log.filled in
+    number_inside log place above (omega (arith, last.0, lower))
 
 -- The place of that segment.
 pub place_low : {D C : Type 0} (log : Log D C) (place n at : ℕ) → log.site.place ≤ place → n ≡ (place - log.site.place) / segment_size_of log → at ≡ log.site.place + n * segment_size_of log → (at ≤ place) × (place < at + segment_size_of log)

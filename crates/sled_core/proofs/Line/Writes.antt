@@ -9,7 +9,8 @@ use Rattle.sled_codec.specs.History.{Message, History}
 use Rattle.sled_store.specs.Device.{Event, State, Wrote, Synced, overwritten, step}
 use Rattle.sled_store.specs.Script.{Along}
 use Rattle.sled_store.specs.SegmentStates.{Machine, is_free, slot_at}
-use Rattle.sled_core.specs.Begun.{AreFilled, SegmentParts, SegmentView, begin_of}
+use Rattle.sled_core.specs.Begun.{AreFilled, SegmentParts, SegmentView, begin_of, records_to}
+use Rattle.sled_core.specs.Buffers.{records_end}
 use Rattle.sled_core.specs.declared.iobuf.Sealed.{Sealed}
 use Rattle.sled_core.specs.Fits.{HoldsIn, HoldsLine, log_parts, parts_in}
 use Rattle.sled_core.specs.FreeSlots.{FreeAreZeros, HasSlot, HasSlots}
@@ -81,7 +82,7 @@ module _ (sum : List ℕ → ℕ) (size : ℕ) (big : 256 ≤ size) (device : St
       (subst (λ (l : List SegmentParts). HoldsIn sum (log_parts size x.parts.site device fault x.parts.bytes x.parts.written_len x.parts.sealed x.parts.reserved) l H) (parts_split xs n v among) holds)
       big whole are.0.short are.0.are are.0.begins is.place_small is.slot_small is.fresh k b there ready buffer_synced refl refl)
 
-  module _ (pins : ℕ) (H : History) (A f : ℕ) (U : List Message) where
+  module _ (pins : ℕ) (H : History) (A f : ℕ) (U : List Message) (recorded : records_to v.parts.filled (length v.parts.bytes) ≤ records_end v.parts.reserved (length v.parts.bytes)) where
     -- At each moment of the calls a crash leaves what can be recovered.
     pub along_write : (place reach : ℕ) (line : List SegmentView) → AreSegments size place line → (n : ℕ) → slice_get line n ≡ Some v → FitsLine sum size device fault line reach pins H A f U → Along (LeavesRecoverable sum size H (stable_below reach H.batches) f) buffer_calls device
     along_write place reach [] are n among fits = absurd fits
@@ -94,7 +95,7 @@ module _ (sum : List ℕ → ℕ) (size : ℕ) (big : 256 ≤ size) (device : St
         let is : IsSegment size v.parts.site.place v = nth_segment size (place + size) xs are.1 n v among in
         behind-along sum size x.parts.site device fault x.parts.bytes x.parts.written_len x.parts.sealed x.parts.reserved pins H A f U (map parts_in (take n xs)) v.parts (map parts_in (drop (suc n) xs))
         (subst (λ (l : List SegmentParts). FitsIn sum (log_parts size x.parts.site device fault x.parts.bytes x.parts.written_len x.parts.sealed x.parts.reserved) l reach pins H A f U) (parts_split xs n v among) fits)
-        big whole are.0.short are.0.are are.0.begins is.place_small is.slot_small is.fresh k b there ready
+        big whole are.0.short are.0.are are.0.begins is.place_small is.slot_small is.fresh k b there ready recorded
 
     -- Behind them the segments that are left fit the same.
     pub fits_write : (to place reach : ℕ) (line : List SegmentView) → AreSegments size place line → (n : ℕ) → slice_get line n ≡ Some v → AreFilled size to (set line n now) → ((x y : SegmentView) (ys : List SegmentView) → line ≡ x ∷ y ∷ ys → x.parts.written_len < size)
@@ -133,7 +134,7 @@ module _ (sum : List ℕ → ℕ) (size : ℕ) (big : 256 ≤ size) (device : St
         subst (λ (l : List SegmentParts). FitsIn sum (log_parts size x.parts.site buffer_synced fault x.parts.bytes x.parts.written_len x.parts.sealed x.parts.reserved) l reach pins H A f U) (sym (parts_set xs n v now among))
         (behind-fits-written sum size x.parts.site device fault x.parts.bytes x.parts.written_len x.parts.sealed x.parts.reserved pins H A f U (map parts_in (take n xs)) v.parts (map parts_in (drop (suc n) xs))
         (subst (λ (l : List SegmentParts). FitsIn sum (log_parts size x.parts.site device fault x.parts.bytes x.parts.written_len x.parts.sealed x.parts.reserved) l reach pins H A f U) (parts_split xs n v among) fits)
-        big whole are.0.short are.0.are are.0.begins is.place_small is.slot_small is.fresh k b there ready) in (
+        big whole are.0.short are.0.are are.0.begins is.place_small is.slot_small is.fresh k b there ready recorded) in (
           reach,
           subst (λ (l : List SegmentView). FitsLine sum size buffer_synced None l reach pins H A f U) (sym (promoted_same size x (set xs n now) (λ some. low xs n among (λ y ys same. waits x y ys (ap (λ (l : List SegmentView). x ∷ l) same)))))
               (subst (λ (o : Option IoError). FitsLine sum size buffer_synced o (x ∷ set xs n now) reach pins H A f U) whole after),

@@ -1,5 +1,5 @@
 -- A segment is full and on the device: the reading goes on in the next one, as far as that was written before.
-use Rattle.std.proofs.Common.{◌≡◌, ◌≢◌, ◌⊎◌, ◌≤◌, ◌<◌, ◌+◌, ◌∙◌, ℕ, pos, List, [], ◌∷◌, ◌++◌, get_or, refl, sym, ap, subst, arith, inl, inr}
+use Rattle.std.proofs.Common.{◌≡◌, ◌≢◌, ◌⊎◌, ◌≤◌, ◌<◌, ◌+◌, ◌∙◌, ℕ, pos, List, [], ◌∷◌, ◌++◌, None, get_or, refl, sym, ap, subst, arith, inl, inr}
 use Rattle.std.specs.List.{Contains}
 use Rattle.std.proofs.lemmas.List.Elements.{Contains-append_cases, Contains-append_left}
 use Rattle.sled_codec.specs.Places.{part}
@@ -8,6 +8,7 @@ use Rattle.sled_codec.specs.History.{History}
 use Rattle.sled_codec.specs.Snapshots.{SnapshotModel}
 use Rattle.sled_store.proofs.Histories.Ascending.{Ascends}
 use Rattle.sled_store.proofs.Segments.Elements.{in_cases, in_first, in_nothing, in_rest}
+use Rattle.sled_core.specs.Begun.{records_to}
 use Rattle.sled_core.specs.OpenBatches.{stable_below}
 use Rattle.sled_core.specs.declared.iobuf.SegmentPosition.{SegmentPosition}
 use Rattle.sled_core.specs.declared.iterator.Segment.{Segment}
@@ -26,7 +27,7 @@ use Rattle.sled_core.proofs.Torn.WrittenBegun.{none_in_zeros}
 
 -- What is read of a segment is so wherever the same file stands.
 pub stands_anew : (sum : List ℕ → ℕ) (size : ℕ) (log : List ℕ) (H : History) (A reach A' reach' : ℕ) (first : SnapshotModel) (is : StandsTo sum size log H A first reach) (now : StandsTo sum size log H A' first reach') (site : SegmentPosition) (from : ℕ)
-    → StandsIn sum size log (least_place size first) is.scanned site from → StandsIn sum size log (least_place size first) now.scanned site from
+    {records : ℕ} → StandsIn sum size log (least_place size first) is.scanned site from records → StandsIn sum size log (least_place size first) now.scanned site from records
 stands_anew sum size log H A reach A' reach' first is now site from stands = record {
   only = stands.only;
   own = stands.own;
@@ -34,12 +35,16 @@ stands_anew sum size log H A reach A' reach' first is now site from stands = rec
       let r = stands.read later in
       let was = r.2 in
       let had = segment_there sum size log is.ordering is.scanned is.reads was.scan was.there in
-      (r.0, r.1, record { scan = was.scan; there = known_in sum size log H A' first reach' now was.scan ((is.numbers.found was.scan.segment).0 had.0) had.1; in_slot = was.in_slot; at_place = was.at_place; ended = was.ended; ends = was.ends }, r.3);
+      (r.0, r.1, record { scan = was.scan; there = known_in sum size log H A' first reach' now was.scan ((is.numbers.found was.scan.segment).0 had.0) had.1; in_slot = was.in_slot; at_place = was.at_place; ended = was.ended; ends = was.ends }, r.3, r.4);
 }
+
+-- Of the first segment nothing is said of its records' end.
+pub unmarked : (sum : List ℕ → ℕ) (size : ℕ) (log : List ℕ) (least : ℕ) (scanned : List Scanned) (site : SegmentPosition) (from : ℕ) {records : ℕ} → StandsIn sum size log least scanned site from records → StandsIn sum size log least scanned site from 0
+unmarked sum size log least scanned site from stands = record { only = stands.only; own = stands.own; read = λ later. let r = stands.read later in (r.0, r.1, r.2, r.3, λ same. omega arith) }
 
 -- A segment that is none of those that were begun begins in a slot of zeros.
 new_stands : (sum : List ℕ → ℕ) (none : NoHeaderOfZeros sum) (size : ℕ) (log : List ℕ) (least : ℕ) (scanned : List Scanned) (site : SegmentPosition) → ((s : Segment) → IsFoundSegment sum size log least s → s.place ≢ site.place)
-    → ((i : ℕ) → site.slot ≤ i → i < site.slot + 20 → get_or log i 0 ≡ 0) → StandsIn sum size log least scanned site 0
+    → ((i : ℕ) → site.slot ≤ i → i < site.slot + 20 → get_or log i 0 ≡ 0) → {records : ℕ} → StandsIn sum size log least scanned site 0 records
 new_stands sum none size log least scanned site other zeros = record {
   only = λ s found same. absurd (other s found same);
   own = λ s found here. absurd (none_in_zeros sum 20 none (omega arith) log site.slot zeros (pos s.place) s.mark (subst (λ n. IsHeader sum (part log n 20) (pos s.place) s.mark) here found.header));
@@ -65,8 +70,8 @@ begins_alone sum none size log place reach H first slot zeros full = record {
 
 -- Behind all that were begun.
 pub begins_behind : (sum : List ℕ → ℕ) (none : NoHeaderOfZeros sum) (size : ℕ) (log : List ℕ) (site : SegmentPosition) (from : ℕ) (others : List BegunSegment) (reach : ℕ) (H : History) (first : SnapshotModel) (new : SegmentPosition)
-    → site.place < new.place → ((x : BegunSegment) → Contains others x → x.site.place < new.place) → FollowApart site (others ++ record { site = new; from = 0 } ∷ []) → ((i : ℕ) → new.slot ≤ i → i < new.slot + 20 → get_or log i 0 ≡ 0)
-    → StandsAmong sum size log site from others reach H first → StandsAmong sum size log site from (others ++ record { site = new; from = 0 } ∷ []) reach H first
+    → site.place < new.place → ((x : BegunSegment) → Contains others x → x.site.place < new.place) → FollowApart site (others ++ record { site = new; from = 0; filled = None } ∷ []) → ((i : ℕ) → new.slot ≤ i → i < new.slot + 20 → get_or log i 0 ≡ 0)
+    → StandsAmong sum size log site from others reach H first → StandsAmong sum size log site from (others ++ record { site = new; from = 0; filled = None } ∷ []) reach H first
 begins_behind sum none size log site from others reach H first new above above_all apart zeros among = record {
   stands = among.stands;
   reached = among.reached;
@@ -75,7 +80,7 @@ begins_behind sum none size log site from others reach H first new above above_a
   behind = λ x at. elim (Contains-append_cases others (begun ∷ []) x at) [
     | inl had ↦ among.behind x had
     | inr added ↦ elim (in_cases begun x [] added) [
-      | inl same ↦ subst (λ (w : BegunSegment). StandsIn sum size log (least_place size first) among.stands.scanned w.site w.from) same
+      | inl same ↦ subst (λ (w : BegunSegment). StandsIn sum size log (least_place size first) among.stands.scanned w.site w.from (records_to w.filled size)) same
           (new_stands sum none size log (least_place size first) among.stands.scanned new not_there zeros)
       | inr never ↦ absurd (in_nothing x never)
     ]
@@ -86,7 +91,7 @@ begins_behind sum none size log site from others reach H first new above above_a
 }
   where
     begun : BegunSegment
-    begun = record { site = new; from = 0 }
+    begun = record { site = new; from = 0; filled = None }
 
     not_there : (s : Segment) → IsFoundSegment sum size log (least_place size first) s → s.place ≢ new.place
     not_there s found same = elim (among.last s found) [
@@ -98,7 +103,7 @@ module _ (sum : List ℕ → ℕ) (size : ℕ) (some : 256 ≤ size) (log : List
   abbrev pub least : ℕ
   least = least_place size first
 
-  abbrev pub its : StandsIn sum size log least full.stands.scanned y.site y.from
+  abbrev pub its : StandsIn sum size log least full.stands.scanned y.site y.from (records_to y.filled size)
   its = full.behind y (in_first y ys)
 
   last_behind : (s : Segment) → IsFoundSegment sum size log least s → (s.place ≤ y.site.place) ⊎ BeginsOne ys s.place
@@ -113,7 +118,7 @@ module _ (sum : List ℕ → ℕ) (size : ℕ) (some : 256 ≤ size) (log : List
     stands = full.stands;
     reached = inr (refl, full.near);
     led = inr (inr full.leads);
-    here = subst (λ n. StandsIn sum size log least full.stands.scanned y.site n) none its;
+    here = unmarked sum size log least full.stands.scanned y.site 0 (subst (λ n. StandsIn sum size log least full.stands.scanned y.site n (records_to y.filled size)) none its);
     behind = λ x among. full.behind x (in_rest y x ys among);
     apart = follow;
     last = last_behind;
@@ -122,7 +127,7 @@ module _ (sum : List ℕ → ℕ) (size : ℕ) (some : 256 ≤ size) (log : List
 
   -- Some of it is.
   module _ (ordered : Ascends H.messages) (later : 0 < y.from) where
-    abbrev pub read : (stop : ℕ) × (why : ScanEnd) × IsReadTo full.stands.scanned y.site.slot y.site.place stop why × IsSoFar size y.from stop why
+    abbrev pub read : (stop : ℕ) × (why : ScanEnd) × IsReadTo full.stands.scanned y.site.slot y.site.place stop why × IsSoFar size y.from stop why × (y.from ≡ size → records_to y.filled size ≤ stop)
     read = its.read later
 
     abbrev pub stop : ℕ
@@ -144,8 +149,8 @@ module _ (sum : List ℕ → ℕ) (size : ℕ) (some : 256 ≤ size) (log : List
         (stands_higher sum size log some H (stable_below reach H.batches) first reach full.stands ordered is.scan is.there (omega (arith, same, near)) (subst (IsBegunOrLedTo size full.stands.scanned least reach) (sym at) led) (subst (NoMessageBegins H reach) (sym at) full.near.no_message)
         (omega arith))
 
-    anew : (site : SegmentPosition) (from : ℕ) → StandsIn sum size log least full.stands.scanned site from → StandsIn sum size log least further.scanned site from
-    anew = stands_anew sum size log H (stable_below reach H.batches) reach (stable_below (y.site.place + stop) H.batches) (y.site.place + stop) first full.stands further
+    anew : (site : SegmentPosition) (from : ℕ) {records : ℕ} → StandsIn sum size log least full.stands.scanned site from records → StandsIn sum size log least further.scanned site from records
+    anew site from = stands_anew sum size log H (stable_below reach H.batches) reach (stable_below (y.site.place + stop) H.batches) (y.site.place + stop) first full.stands further site from
 
     -- The reading ends in it.
     pub next_goes : stop ≡ y.from → StandsAmong sum size log y.site y.from ys (y.site.place + stop) H first
@@ -153,7 +158,7 @@ module _ (sum : List ℕ → ℕ) (size : ℕ) (some : 256 ≤ size) (log : List
       stands = further;
       reached = inl (ap (λ n. y.site.place + n) at);
       led = inl (omega (arith, at, later));
-      here = anew y.site y.from its;
+      here = unmarked sum size log least further.scanned y.site y.from (anew y.site y.from its);
       behind = λ x among. anew x.site x.from (full.behind x (in_rest y x ys among));
       apart = follow;
       last = last_behind;

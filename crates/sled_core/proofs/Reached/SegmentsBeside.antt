@@ -1,5 +1,5 @@
 -- A buffer is written to one slot of a log file: the segments in other slots stand there as they stood, and the one in that slot stands up to where its records end now.
-use Rattle.std.proofs.Common.{◌≡◌, ◌++◌, ◌∷◌, [], ◌⊎◌, ◌≢◌, ◌+◌, ◌*◌, ◌/◌, ◌%◌, ◌<◌, ◌≤◌, ◌∙◌, ℕ, pos, List, length, sym, ap, subst, arith, inl, inr}
+use Rattle.std.proofs.Common.{◌≡◌, ◌++◌, ◌∷◌, [], ◌⊎◌, ◌≢◌, ◌+◌, ◌*◌, ◌/◌, ◌%◌, ◌<◌, ◌≤◌, ◌∙◌, ℕ, pos, List, length, Option, sym, ap, subst, arith, inl, inr}
 use Rattle.std.specs.List.{Contains}
 use Rattle.std.proofs.Math.Nat.{mod-add-div'}
 use Rattle.std.proofs.lemmas.Bool.{cases_eq}
@@ -26,7 +26,7 @@ use Rattle.sled_core.proofs.Reached.WrittenWhole.{all_done, leaves_new, same_who
 use Rattle.sled_core.proofs.Tail.OneTail.{segment_there}
 
 -- A write goes on where a segment isn't full.
-pub going_in : (sum : List ℕ → ℕ) (size : ℕ) (log : List ℕ) (least : ℕ) (scanned : List Scanned) (site : SegmentPosition) (from : ℕ) → StandsIn sum size log least scanned site from → 0 < from → from + 32 ≤ size → GoesOnIn scanned site.slot from site.place
+pub going_in : (sum : List ℕ → ℕ) (size : ℕ) (log : List ℕ) (least : ℕ) (scanned : List Scanned) (site : SegmentPosition) (from : ℕ) {records : ℕ} → StandsIn sum size log least scanned site from records → 0 < from → from + 32 ≤ size → GoesOnIn scanned site.slot from site.place
 going_in sum size log least scanned site from stands some room =
     let r = stands.read some in
     let is = r.2 in
@@ -71,18 +71,18 @@ module _ (sum : List ℕ → ℕ) (size : ℕ) (some : 256 ≤ size) (old : List
 
   -- Another one, where what is found in the slot now has a place that isn't its own.
   pub segment_stays : (site : SegmentPosition) (so_far place : ℕ) → site.slot ≢ at → site.place ≢ place → ((s : Segment) → IsFoundSegment sum size new least s → s.slot ≡ at → s.place ≡ place)
-      → StandsIn sum size old least is.scanned site so_far → StandsIn sum size new least now.scanned site so_far
+      → {records : ℕ} → StandsIn sum size old least is.scanned site so_far records → StandsIn sum size new least now.scanned site so_far records
   segment_stays site so_far place other apart its_place stands = record {
     only = λ s found same_place. elim (cases_eq s.slot at) [ inl here ↦ absurd (apart (sym same_place ∙ its_place s found here)) | inr beside ↦ stands.only s (same.found least s beside found) same_place ];
     own = λ s found here. stands.own s (same.found least s (λ at_slot. other (sym here ∙ at_slot)) found) here;
     read = λ later.
         let r = stands.read later in
         let was = r.2 in
-        (r.0, r.1, record { scan = was.scan; there = still_read was.scan was.there (λ at_slot. other (sym was.in_slot ∙ at_slot)); in_slot = was.in_slot; at_place = was.at_place; ended = was.ended; ends = was.ends }, r.3);
+        (r.0, r.1, record { scan = was.scan; there = still_read was.scan was.there (λ at_slot. other (sym was.in_slot ∙ at_slot)); in_slot = was.in_slot; at_place = was.at_place; ended = was.ended; ends = was.ends }, r.3, r.4);
   }
 
   -- The one that was written, whose header is there.
-  module _ (site : SegmentPosition) (so_far : ℕ) (its_slot : site.slot ≡ at) (stands : StandsIn sum size old least is.scanned site so_far) (has : HasHeader sum new site) where
+  module _ (site : SegmentPosition) (so_far : ℕ) (its_slot : site.slot ≡ at) {records : ℕ} (stands : StandsIn sum size old least is.scanned site so_far records) (has : HasHeader sum new site) where
     -- what is found in its slot has its place and its mark
     pub its_header : (s : Segment) → IsFoundSegment sum size new least s → s.slot ≡ at → (pos s.place ≡ pos site.place) × (s.mark ≡ has.mark)
     its_header s found here =
@@ -92,11 +92,11 @@ module _ (sum : List ℕ → ℕ) (size : ℕ) (some : 256 ≤ size) (old : List
     pub its_place_now : (s : Segment) → IsFoundSegment sum size new least s → s.slot ≡ at → s.place ≡ site.place
     its_place_now s found here = pos_injective s.place site.place (its_header s found here).0
 
-    pub segment_grown : (so_far' stop : ℕ) (why : ScanEnd) → IsReadTo now.scanned site.slot site.place stop why → IsSoFar size so_far' stop why → StandsIn sum size new least now.scanned site so_far'
-    segment_grown so_far' stop why read far = record {
+    pub segment_grown : (so_far' records' stop : ℕ) (why : ScanEnd) → IsReadTo now.scanned site.slot site.place stop why → IsSoFar size so_far' stop why → (so_far' ≡ size → records' ≤ stop) → StandsIn sum size new least now.scanned site so_far' records'
+    segment_grown so_far' records' stop why read far last = record {
       only = λ s found same_place. elim (cases_eq s.slot at) [ inl here ↦ here ∙ sym its_slot | inr beside ↦ stands.only s (same.found least s beside found) same_place ];
       own = λ s found here. its_place_now s found (here ∙ its_slot);
-      read = λ later. (stop, why, read, far);
+      read = λ later. (stop, why, read, far, last);
     }
 
 -- those that follow a segment lie behind it, in other slots
@@ -134,17 +134,20 @@ one_place site (z ∷ zs) apart x y has had same = elim (in_cases z x zs has) [
 
 -- One of the segments that follow has another extent now: the others are those that they were, and all have their sites.
 
+abbrev pub as_far : BegunSegment → ℕ → Option ℕ → BegunSegment
+as_far y so_far filled = record { site = y.site; from = so_far; filled = filled }
+
 abbrev pub grown_one : BegunSegment → ℕ → BegunSegment
-grown_one y so_far = record { site = y.site; from = so_far }
+grown_one y so_far = as_far y so_far y.filled
 
 -- each of them is that one, or another one of before, before it or behind it
-pub was_other : (site : SegmentPosition) (pre : List BegunSegment) (y : BegunSegment) (post : List BegunSegment) (so_far : ℕ) → FollowApart site (pre ++ y ∷ post) → (x : BegunSegment) → Contains (pre ++ grown_one y so_far ∷ post) x
-    → (x ≡ grown_one y so_far) ⊎ (Contains (pre ++ y ∷ post) x × (x.site.slot ≢ y.site.slot) × (x.site.place ≢ y.site.place))
-was_other site [] y post so_far apart x among = elim (in_cases (grown_one y so_far) x post among) [
+pub was_other : (site : SegmentPosition) (pre : List BegunSegment) (y : BegunSegment) (post : List BegunSegment) (so_far : ℕ) (filled : Option ℕ) → FollowApart site (pre ++ y ∷ post) → (x : BegunSegment) → Contains (pre ++ as_far y so_far filled ∷ post) x
+    → (x ≡ as_far y so_far filled) ⊎ (Contains (pre ++ y ∷ post) x × (x.site.slot ≢ y.site.slot) × (x.site.place ≢ y.site.place))
+was_other site [] y post so_far filled apart x among = elim (in_cases (as_far y so_far filled) x post among) [
   | inl same ↦ inl (sym same)
   | inr later ↦ (let f = follows y.site post apart.1 x later in inr (in_rest y x post later, f.1, λ same. let low = f.0 in omega (arith, low, same)))
 ]
-was_other site (z ∷ zs) y post so_far apart x among = elim (in_cases z x (zs ++ grown_one y so_far ∷ post) among) [
+was_other site (z ∷ zs) y post so_far filled apart x among = elim (in_cases z x (zs ++ as_far y so_far filled ∷ post) among) [
   | inl same ↦ (
       let f = follows z.site (zs ++ y ∷ post) apart.1 y (Contains-append_right zs (y ∷ post) y (in_first y post)) in
       inr (
@@ -152,33 +155,33 @@ was_other site (z ∷ zs) y post so_far apart x among = elim (in_cases z x (zs +
         λ at. f.1 (sym at ∙ ap (λ (w : BegunSegment). w.site.slot) (sym same)),
         λ at. let low = f.0 in let here = ap (λ (w : BegunSegment). w.site.place) same in omega (arith, low, at, here),
       ))
-  | inr later ↦ elim (was_other z.site zs y post so_far apart.1 x later) [
+  | inr later ↦ elim (was_other z.site zs y post so_far filled apart.1 x later) [
     | inl one ↦ inl one
     | inr had ↦ inr (in_rest z x (zs ++ y ∷ post) had.0, had.1, had.2)
   ]
 ]
 
 -- the sites are the same
-pub begins_still : (pre : List BegunSegment) (y : BegunSegment) (post : List BegunSegment) (so_far place : ℕ) → BeginsOne (pre ++ y ∷ post) place → BeginsOne (pre ++ grown_one y so_far ∷ post) place
-begins_still [] y post so_far place (x, among, at) = elim (in_cases y x post among) [
-  | inl same ↦ (grown_one y so_far, in_first (grown_one y so_far) post, ap (λ (w : BegunSegment). w.site.place) same ∙ at)
-  | inr later ↦ (x, in_rest (grown_one y so_far) x post later, at)
+pub begins_still : (pre : List BegunSegment) (y : BegunSegment) (post : List BegunSegment) (so_far place : ℕ) (filled : Option ℕ) → BeginsOne (pre ++ y ∷ post) place → BeginsOne (pre ++ as_far y so_far filled ∷ post) place
+begins_still [] y post so_far place filled (x, among, at) = elim (in_cases y x post among) [
+  | inl same ↦ (as_far y so_far filled, in_first (as_far y so_far filled) post, ap (λ (w : BegunSegment). w.site.place) same ∙ at)
+  | inr later ↦ (x, in_rest (as_far y so_far filled) x post later, at)
 ]
-begins_still (z ∷ zs) y post so_far place (x, among, at) = elim (in_cases z x (zs ++ y ∷ post) among) [
-  | inl same ↦ (x, subst (λ (w : BegunSegment). Contains (z ∷ zs ++ grown_one y so_far ∷ post) w) same (in_first z (zs ++ grown_one y so_far ∷ post)), at)
-  | inr later ↦ (let rest = begins_still zs y post so_far place (x, later, at) in (rest.0, in_rest z rest.0 (zs ++ grown_one y so_far ∷ post) rest.1, rest.2))
+begins_still (z ∷ zs) y post so_far place filled (x, among, at) = elim (in_cases z x (zs ++ y ∷ post) among) [
+  | inl same ↦ (x, subst (λ (w : BegunSegment). Contains (z ∷ zs ++ as_far y so_far filled ∷ post) w) same (in_first z (zs ++ as_far y so_far filled ∷ post)), at)
+  | inr later ↦ (let rest = begins_still zs y post so_far place filled (x, later, at) in (rest.0, in_rest z rest.0 (zs ++ as_far y so_far filled ∷ post) rest.1, rest.2))
 ]
 
-apart_in : (pre : List BegunSegment) (y : BegunSegment) (post : List BegunSegment) (so_far : ℕ) (P : SegmentPosition → Type 0) → ((x : BegunSegment) → Contains (pre ++ y ∷ post) x → P x.site) → (x : BegunSegment) → Contains (pre ++ grown_one y so_far ∷ post) x → P x.site
-apart_in [] y post so_far P all x among = elim (in_cases (grown_one y so_far) x post among) [
+apart_in : (pre : List BegunSegment) (y : BegunSegment) (post : List BegunSegment) (so_far : ℕ) (filled : Option ℕ) (P : SegmentPosition → Type 0) → ((x : BegunSegment) → Contains (pre ++ y ∷ post) x → P x.site) → (x : BegunSegment) → Contains (pre ++ as_far y so_far filled ∷ post) x → P x.site
+apart_in [] y post so_far filled P all x among = elim (in_cases (as_far y so_far filled) x post among) [
   | inl same ↦ subst (λ (w : BegunSegment). P w.site) same (all y (in_first y post))
   | inr later ↦ all x (in_rest y x post later)
 ]
-apart_in (z ∷ zs) y post so_far P all x among = elim (in_cases z x (zs ++ grown_one y so_far ∷ post) among) [
+apart_in (z ∷ zs) y post so_far filled P all x among = elim (in_cases z x (zs ++ as_far y so_far filled ∷ post) among) [
   | inl same ↦ subst (λ (w : BegunSegment). P w.site) same (all z (in_first z (zs ++ y ∷ post)))
-  | inr later ↦ apart_in zs y post so_far P (λ w at. all w (in_rest z w (zs ++ y ∷ post) at)) x later
+  | inr later ↦ apart_in zs y post so_far filled P (λ w at. all w (in_rest z w (zs ++ y ∷ post) at)) x later
 ]
 
-pub follow_still : (site : SegmentPosition) (pre : List BegunSegment) (y : BegunSegment) (post : List BegunSegment) (so_far : ℕ) → FollowApart site (pre ++ y ∷ post) → FollowApart site (pre ++ grown_one y so_far ∷ post)
-follow_still site [] y post so_far apart = (apart_in [] y post so_far (λ s. (site.place < s.place) × (s.slot ≢ site.slot)) apart.0, apart.1)
-follow_still site (z ∷ zs) y post so_far apart = (apart_in (z ∷ zs) y post so_far (λ s. (site.place < s.place) × (s.slot ≢ site.slot)) apart.0, follow_still z.site zs y post so_far apart.1)
+pub follow_still : (site : SegmentPosition) (pre : List BegunSegment) (y : BegunSegment) (post : List BegunSegment) (so_far : ℕ) (filled : Option ℕ) → FollowApart site (pre ++ y ∷ post) → FollowApart site (pre ++ as_far y so_far filled ∷ post)
+follow_still site [] y post so_far filled apart = (apart_in [] y post so_far filled (λ s. (site.place < s.place) × (s.slot ≢ site.slot)) apart.0, apart.1)
+follow_still site (z ∷ zs) y post so_far filled apart = (apart_in (z ∷ zs) y post so_far filled (λ s. (site.place < s.place) × (s.slot ≢ site.slot)) apart.0, follow_still z.site zs y post so_far filled apart.1)

@@ -1,7 +1,8 @@
 -- Where the records of entries end, before what fills their segment, as the entries change; and that no batch ends behind that.
-use Rattle.std.proofs.Common.{◌≡◌, ◌≢◌, ◌≤◌, ◌+◌, ◌∙◌, ℕ, zero, suc, Bool, true, false, if◌then◌else◌, List, [], ◌∷◌, ◌++◌, drop, ap, sym, arith, refl, subst, inl, inr}
-use Rattle.std.specs.List.{Contains}
+use Rattle.std.proofs.Common.{◌≡◌, ◌≢◌, ◌≤◌, ◌<◌, ◌+◌, ◌∙◌, ℕ, zero, suc, Bool, true, false, if◌then◌else◌, List, [], ◌∷◌, ◌++◌, drop, set, Some, ap, sym, arith, refl, subst, inl, inr}
+use Rattle.std.specs.List.{All, Contains, slice_get}
 use Rattle.std.proofs.lemmas.Bool.{cases_lt}
+use Rattle.std.proofs.lemmas.List.Elements.{All-tail}
 use Rattle.sled_codec.specs.History.{Batch, History}
 use Rattle.sled_core.specs.declared.iobuf.ReservationState.{ReservationState}
 use Rattle.sled_core.specs.declared.iobuf.ReservationState.TheVariants.{Open, Completed, Canceled, Manifest, Padding}
@@ -21,6 +22,13 @@ records_more (x ∷ xs) r end to up last = by (padding_state x.state) (records_m
 pub behind_open : (r : Reserved) (end to : ℕ) → r.state ≡ Open → end ≤ to → end ≤ records_end (r ∷ []) to
 behind_open r end to is up = let same : records_end (r ∷ []) to ≡ to = ap (λ (s : ReservationState). if padding_state s then r.from else to) is in omega (arith, same, up)
 
+pub records_open : (rs : List Reserved) (r : Reserved) (end to : ℕ) → All (λ (x : Reserved). x.from < end) rs → end ≤ records_end rs end → r.state ≡ Open → to ≤ records_end (rs ++ r ∷ []) to
+records_open [] r end to low whole is = behind_open r to to is (omega arith)
+records_open (x ∷ xs) r end to low whole is = by (padding_state x.state) whole (λ later. records_open xs r end to (All-tail (λ (y : Reserved). y.from < end) x xs low) later is) where
+  by : (o : Bool) → end ≤ (if o then x.from else records_end xs end) → (end ≤ records_end xs end → to ≤ records_end (xs ++ r ∷ []) to) → to ≤ (if o then x.from else records_end (xs ++ r ∷ []) to)
+  by true up rest = absurd (let here = low 0 x (omega arith) in omega (arith, up, here))
+  by false up rest = rest up
+
 plain_state : (s : ReservationState) → s ≢ Padding → padding_state s ≡ false
 plain_state Open plain = refl
 plain_state Completed plain = refl
@@ -33,6 +41,11 @@ pub records_ended : (xs ys : List Reserved) (r : Reserved) (state : ReservationS
 records_ended [] ys r state end is plain =
     ap (λ (o : Bool). if o then r.from else records_end ys end) (plain_state state plain) ∙ ap (λ (o : Bool). if o then r.from else records_end ys end) (sym (ap padding_state is))
 records_ended (x ∷ xs) ys r state end is plain = ap (λ n. if padding_state x.state then x.from else n) (records_ended xs ys r state end is plain)
+
+pub records_set : (rs : List Reserved) (i : ℕ) (r : Reserved) (state : ReservationState) (end : ℕ) → slice_get rs i ≡ Some r → r.state ≡ Open → state ≢ Padding → records_end (set rs i (ended state r)) end ≡ records_end rs end
+records_set [] i r state end there is plain = cc
+records_set (x ∷ xs) zero r state end there is plain = let same : x ≡ r = cc in records_ended [] xs r state end is plain ∙ ap (λ (y : Reserved). records_end (y ∷ xs) end) (sym same)
+records_set (x ∷ xs) (suc i) r state end there is plain = ap (λ n. if padding_state x.state then x.from else n) (records_set xs i r state end there is plain)
 
 -- those at the front are gone
 pub chain_records : (n : ℕ) (rs : List Reserved) (from end : ℕ) → IsChain from rs end → from ≤ records_end (drop n rs) end

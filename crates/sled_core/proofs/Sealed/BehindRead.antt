@@ -1,5 +1,5 @@
 -- A write behind where a segment was read to, where the reading ends there still: the segment stands as far as before, with the header that it had.
-use Rattle.std.proofs.Common.{◌≡◌, ◌≤◌, ◌+◌, ◌*◌, ◌/◌, ◌%◌, ℕ, pos, List, length, refl, sym, ◌∙◌, subst, arith, inl, inr}
+use Rattle.std.proofs.Common.{◌<◌, ◌≡◌, ◌≤◌, ◌+◌, ◌*◌, ◌/◌, ◌%◌, ℕ, pos, List, length, refl, sym, ◌∙◌, subst, arith, inl, inr}
 use Rattle.std.proofs.Math.Nat.{mod-add-div'}
 use Rattle.std.proofs.lemmas.Bool.{cases_eq}
 use Rattle.std.specs.List.{Contains}
@@ -25,13 +25,13 @@ use Rattle.sled_core.proofs.Tail.OneTail.{segment_there}
 use Rattle.sled_core.proofs.Torn.WrittenParts.{in_this_file, path_rises, path_whole, twenty}
 
 -- A file stands as far as another one, and so does a segment in it, with no other mark in its slot.
-pub record StandsAfter (sum : List ℕ → ℕ) (size : ℕ) (old new : List ℕ) (site : SegmentPosition) (from reach : ℕ) (H : History) (first : SnapshotModel) : Type 0 where
+pub record StandsAfter (sum : List ℕ → ℕ) (size : ℕ) (old new : List ℕ) (site : SegmentPosition) (from records reach : ℕ) (H : History) (first : SnapshotModel) : Type 0 where
   pub stands : StandsTo sum size new H (stable_below reach H.batches) first reach
-  pub here : StandsIn sum size new (least_place size first) stands.scanned site from
+  pub here : StandsIn sum size new (least_place size first) stands.scanned site from records
   pub marks : (s : Segment) → IsFoundSegment sum size new (least_place size first) s → s.slot ≡ site.slot → (t : Segment) × IsFoundSegment sum size old (least_place size first) t × (s.mark ≡ t.mark)
 
 module _ (sum : List ℕ → ℕ) (size : ℕ) (some : 256 ≤ size) (old : List ℕ) (site : SegmentPosition) (from at : ℕ) (asked : List ℕ) (inside : at + length asked ≤ size) (slot_begins : site.slot % size ≡ 0) (there : site.slot ≤ length old)
-    (reach : ℕ) (H : History) (first : SnapshotModel) (is : StandsTo sum size old H (stable_below reach H.batches) first reach) (its : StandsIn sum size old (least_place size first) is.scanned site from) where
+    (reach : ℕ) (H : History) (first : SnapshotModel) (is : StandsTo sum size old H (stable_below reach H.batches) first reach) {records : ℕ} (its : StandsIn sum size old (least_place size first) is.scanned site from records) where
   abbrev new : List ℕ
   new = overwritten old (site.slot + at) asked
 
@@ -45,7 +45,7 @@ module _ (sum : List ℕ → ℕ) (size : ℕ) (some : 256 ≤ size) (old : List
   only s found same = elim (cases_eq s.slot site.slot) [ inl here ↦ here | inr other ↦ its.only s (beside.found (least_place size first) s other found) same ]
 
   -- It was read to there, for that reason.
-  module _ (z : Scanned) (known : Contains is.scanned z) (in_slot : z.segment.slot ≡ site.slot) (at_place : z.segment.place ≡ site.place) (before : z.stop ≤ at) (so_far : IsSoFar size from z.stop z.why)
+  module _ (z : Scanned) (known : Contains is.scanned z) (in_slot : z.segment.slot ≡ site.slot) (at_place : z.segment.place ≡ site.place) (before : z.stop ≤ at) (so_far : IsSoFar size from z.stop z.why) (left_over : from < size)
       (stands : StandsTo sum size new H (stable_below reach H.batches) first reach) (ends : IsEnd sum size new z.segment.slot z.segment.place z.stop z.why) where
     z_known : Contains is.ordering z.segment × IsScanned sum size old z
     z_known = segment_there sum size old is.ordering is.scanned is.reads z known
@@ -70,7 +70,7 @@ module _ (sum : List ℕ → ℕ) (size : ℕ) (some : 256 ≤ size) (old : List
     its_header s found here =
         one_header sum (part new z.segment.slot 20) (pos s.place) s.mark (pos z.segment.place) z.segment.mark (subst (λ n. IsHeader sum (part new n 20) (pos s.place) s.mark) (here ∙ sym in_slot) found.header) still_found.header
 
-    pub stands_after : StandsAfter sum size old new site from reach H first
+    pub stands_after : StandsAfter sum size old new site from records reach H first
     stands_after = record {
       stands = stands;
       here = record {
@@ -81,6 +81,7 @@ module _ (sum : List ℕ → ℕ) (size : ℕ) (some : 256 ≤ size) (old : List
           z.why,
           record { scan = z; there = known_in sum size new H (stable_below reach H.batches) first reach stands z still_found still_scan; in_slot = in_slot; at_place = at_place; ended = refl; ends = refl },
           so_far,
+          λ whole. absurd (omega (arith, whole, left_over)),
         );
       };
       marks = λ s found here. (z.segment, was_found, (its_header s found here).1);

@@ -88,14 +88,14 @@ module _ (sum : List ℕ → ℕ) (none : NoHeaderOfZeros sum) (size : ℕ) (som
     gap = head_long size from has_room begins rs x (xs ++ b ∷ rest) are (all_long sum size number bytes rs stand)
 
     -- What a crash leaves of it, in any segment that stands so far.
-    pub torn_in_gap : (is : StandsTo sum size file H (stable_below reach H.batches) first reach) → StandsIn sum size file (least_place size first) is.scanned site from → (now left : List ℕ) → length now ≤ length asked → LeavesLog (after_write file (site.slot + at) asked now) left
+    pub torn_in_gap : (is : StandsTo sum size file H (stable_below reach H.batches) first reach) → {records : ℕ} → StandsIn sum size file (least_place size first) is.scanned site from records → (now left : List ℕ) → length now ≤ length asked → LeavesLog (after_write file (site.slot + at) asked now) left
         → {placed : List (ℕ × List ℕ)} → NoForeignLog sum size (after_write file (site.slot + at) asked now) placed left → StandsTo sum size left H (stable_below reach H.batches) first reach
     torn_in_gap is its now left no_more leaves {placed} only_own =
         torn_gap sum none size some file site from at asked fits slot_begins has_room x.end gap lies.0 (head_headed from rs x (xs ++ b ∷ rest) are) clean reach H first is its now left no_more leaves {placed = placed} only_own
 
     -- All of it, in any segment that stands so far, where the file reaches up to the slot.
-    pub stands_in_gap : (is : StandsTo sum size file H (stable_below reach H.batches) first reach) → StandsIn sum size file (least_place size first) is.scanned site from → site.slot ≤ length file
-        → StandsAfter sum size file (overwritten file (site.slot + at) asked) site from reach H first
+    pub stands_in_gap : (is : StandsTo sum size file H (stable_below reach H.batches) first reach) → {records : ℕ} → StandsIn sum size file (least_place size first) is.scanned site from records → site.slot ≤ length file
+        → StandsAfter sum size file (overwritten file (site.slot + at) asked) site from records reach H first
     stands_in_gap is its there =
         gap_stands sum none size some file site from at asked fits slot_begins has_room x.end gap lies.0 (head_headed from rs x (xs ++ b ∷ rest) are) clean reach H first is its there
 

@@ -8,6 +8,7 @@ use Rattle.sled_codec.specs.History.{History}
 use Rattle.sled_codec.specs.Snapshots.{SnapshotModel}
 use Rattle.sled_store.specs.Device.{overwritten, LeavesLog}
 use Rattle.sled_store.specs.Foreign.{NoForeignLog}
+use Rattle.sled_core.specs.Begun.{records_to}
 use Rattle.sled_core.specs.OpenBatches.{stable_below}
 use Rattle.sled_core.specs.declared.iobuf.SegmentPosition.{SegmentPosition}
 use Rattle.sled_core.specs.declared.iterator.Segment.{Segment}
@@ -31,7 +32,7 @@ use Rattle.sled_core.proofs.Torn.TornLemmas.{after_write}
 module _ (sum : List ℕ → ℕ) (none : NoHeaderOfZeros sum) (size : ℕ) (some : 256 ≤ size) (old : List ℕ) (site : SegmentPosition) (from at : ℕ) (asked : List ℕ) (inside : at + length asked ≤ size)
     (slot_begins : site.slot % size ≡ 0) (has_room : from + 32 ≤ size) (to : ℕ) (gap : from + 5 ≤ to) (before : to ≤ at) (headed : from ≡ 0 → 20 ≤ to)
     (clean : (i : ℕ) → site.slot + from ≤ i → i < site.slot + to → get_or old i 0 ≡ 0)
-    (reach : ℕ) (H : History) (first : SnapshotModel) (is : StandsTo sum size old H (stable_below reach H.batches) first reach) (its : StandsIn sum size old (least_place size first) is.scanned site from) where
+    (reach : ℕ) (H : History) (first : SnapshotModel) (is : StandsTo sum size old H (stable_below reach H.batches) first reach) {records : ℕ} (its : StandsIn sum size old (least_place size first) is.scanned site from records) where
   abbrev new : List ℕ
   new = overwritten old (site.slot + at) asked
 
@@ -72,7 +73,7 @@ module _ (sum : List ℕ → ℕ) (none : NoHeaderOfZeros sum) (size : ℕ) (som
 
     -- What stands then: the file as far as before, the segment as far as before, and no other mark in its slot.
     abbrev pub GapStands : Type 0
-    GapStands = StandsAfter sum size old new site from reach H first
+    GapStands = StandsAfter sum size old new site from records reach H first
 
     -- Nothing of the segment is written yet.
     headless : from ≡ 0 → GapStands
@@ -118,7 +119,7 @@ module _ (sum : List ℕ → ℕ) (none : NoHeaderOfZeros sum) (size : ℕ) (som
       behind : GapStands
       behind =
           let ended = g.ended in
-          stands_after sum size some old site from at asked inside slot_begins there reach H first is its g.scan g.there g.in_slot g.at_place (omega (arith, ended, gap, before)) (inl (ended, λ room. g.broken)) stands
+          stands_after sum size some old site from at asked inside slot_begins there reach H first is its g.scan g.there g.in_slot g.at_place (omega (arith, ended, gap, before)) (inl (ended, λ room. g.broken)) (omega (arith, has_room)) stands
           (subst (λ w. IsEnd sum size new g.scan.segment.slot g.scan.segment.place g.scan.stop w) (sym g.broken) ends)
 
     pub gap_stands : GapStands
@@ -138,7 +139,7 @@ module _ (sum : List ℕ → ℕ) (size : ℕ) (some : 256 ≤ size) (old : List
       let at_slot : its.slot / size * size ≡ its.slot = omega (arith, mod-add-div' its.slot size, slot_begins) in
       subst (λ n. IsSameBeside sum size old (overwritten old (n + at) asked) n) at_slot (same_whole sum size some old (its.slot / size) at asked inside (omega (arith, at_slot, there)))
 
-  module _ (so_far : ℕ) (after : StandsAfter sum size old fresh its so_far reach H first) where
+  module _ (so_far records : ℕ) (after : StandsAfter sum size old fresh its so_far records reach H first) where
     -- the one that leads to the first segment lies before it, so in another slot
     leads_on : site.place ≤ its.place → ((s : Segment) → IsFoundSegment sum size old least s → s.slot ≡ its.slot → s.place ≡ its.place) → IsLed sum size fresh least reach site.place
     leads_on low own = elim among.led [
@@ -157,7 +158,7 @@ module _ (sum : List ℕ → ℕ) (size : ℕ) (some : 256 ≤ size) (old : List
           })))
     ]
 
-    other_stays : (x : SegmentPosition) (far : ℕ) → x.slot ≢ its.slot → x.place ≢ its.place → StandsIn sum size old least among.stands.scanned x far → StandsIn sum size fresh least after.stands.scanned x far
+    other_stays : (x : SegmentPosition) (far : ℕ) → x.slot ≢ its.slot → x.place ≢ its.place → {up_to : ℕ} → StandsIn sum size old least among.stands.scanned x far up_to → StandsIn sum size fresh least after.stands.scanned x far up_to
     other_stays x far apart behind = segment_stays sum size some old its.slot slot_begins at asked inside there H (stable_below reach H.batches) first reach among.stands (stable_below reach H.batches) reach after.stands x far its.place apart behind after.here.own
 
     low_mark : (s : Segment) → IsFoundSegment sum size fresh least s → s.mark <ℤ pos (site.place + from)
@@ -169,40 +170,40 @@ module _ (sum : List ℕ → ℕ) (size : ℕ) (some : 256 ≤ size) (old : List
     last_of : ((s : Segment) → s.place ≡ its.place → (s.place ≤ site.place) ⊎ BeginsOne others s.place) → (s : Segment) → IsFoundSegment sum size fresh least s → (s.place ≤ site.place) ⊎ BeginsOne others s.place
     last_of known s found = elim (cases_eq s.slot its.slot) [ inl here ↦ known s (after.here.own s found here) | inr other ↦ among.last s (beside_it.found least s other found) ]
 
-  pub gap_written : its ≡ site → StandsAfter sum size old fresh its from reach H first → StandsAmong sum size fresh site from others reach H first
+  pub gap_written : its ≡ site → StandsAfter sum size old fresh its from 0 reach H first → StandsAmong sum size fresh site from others reach H first
   gap_written same after =
       let at_place : its.place ≡ site.place = ap (λ (x : SegmentPosition). x.place) same in
       let at_slot : its.slot ≡ site.slot = ap (λ (x : SegmentPosition). x.slot) same in
       record {
         stands = after.stands;
         reached = among.reached;
-        led = leads_on from after (omega (arith, at_place)) (λ s found here. among.here.own s found (here ∙ at_slot) ∙ sym at_place);
-        here = subst (λ (x : SegmentPosition). StandsIn sum size fresh least after.stands.scanned x from) same after.here;
+        led = leads_on from 0 after (omega (arith, at_place)) (λ s found here. among.here.own s found (here ∙ at_slot) ∙ sym at_place);
+        here = subst (λ (x : SegmentPosition). StandsIn sum size fresh least after.stands.scanned x from 0) same after.here;
         behind = λ x has.
             let f = follows site others among.apart x has in
-            other_stays from after x.site x.from (λ here. f.1 (here ∙ at_slot)) (λ here. let low = f.0 in omega (arith, here, low, at_place)) (among.behind x has);
+            other_stays from 0 after x.site x.from (λ here. f.1 (here ∙ at_slot)) (λ here. let low = f.0 in omega (arith, here, low, at_place)) (among.behind x has);
         apart = among.apart;
-        last = last_of from after (λ s here. inl (omega (arith, here, at_place)));
-        below = low_mark from after;
+        last = last_of from 0 after (λ s here. inl (omega (arith, here, at_place)));
+        below = low_mark from 0 after;
       }
 
-  pub other_gap : (y : BegunSegment) → Contains others y → its ≡ y.site → StandsAfter sum size old fresh its y.from reach H first → StandsAmong sum size fresh site from others reach H first
+  pub other_gap : (y : BegunSegment) → Contains others y → its ≡ y.site → StandsAfter sum size old fresh its y.from (records_to y.filled size) reach H first → StandsAmong sum size fresh site from others reach H first
   other_gap y known same after =
       let at_place : its.place ≡ y.site.place = ap (λ (x : SegmentPosition). x.place) same in
       let at_slot : its.slot ≡ y.site.slot = ap (λ (x : SegmentPosition). x.slot) same in
       let f = follows site others among.apart y known in
       let behind_first = f.0 in
-      let stands_its : StandsIn sum size fresh least after.stands.scanned y.site y.from = subst (λ (x : SegmentPosition). StandsIn sum size fresh least after.stands.scanned x y.from) same after.here in
+      let stands_its : StandsIn sum size fresh least after.stands.scanned y.site y.from (records_to y.filled size) = subst (λ (x : SegmentPosition). StandsIn sum size fresh least after.stands.scanned x y.from (records_to y.filled size)) same after.here in
       record {
         stands = after.stands;
         reached = among.reached;
-        led = leads_on y.from after (omega (arith, at_place, behind_first)) (λ s found here. (among.behind y known).own s found (here ∙ at_slot) ∙ sym at_place);
-        here = other_stays y.from after site from (λ here. f.1 (sym (here ∙ at_slot))) (λ here. omega (arith, here, at_place, behind_first)) among.here;
+        led = leads_on y.from (records_to y.filled size) after (omega (arith, at_place, behind_first)) (λ s found here. (among.behind y known).own s found (here ∙ at_slot) ∙ sym at_place);
+        here = other_stays y.from (records_to y.filled size) after site from (λ here. f.1 (sym (here ∙ at_slot))) (λ here. omega (arith, here, at_place, behind_first)) among.here;
         behind = λ x has. elim (cases_eq x.site.slot its.slot) [
-          | inl here ↦ subst (λ (w : BegunSegment). StandsIn sum size fresh least after.stands.scanned w.site w.from) (one_slot site others among.apart y x known has (sym (here ∙ at_slot))) stands_its
-          | inr other ↦ other_stays y.from after x.site x.from other (λ here. other (ap (λ (w : BegunSegment). w.site.slot) (sym (one_place site others among.apart y x known has (sym (here ∙ at_place)))) ∙ sym at_slot)) (among.behind x has)
+          | inl here ↦ subst (λ (w : BegunSegment). StandsIn sum size fresh least after.stands.scanned w.site w.from (records_to w.filled size)) (one_slot site others among.apart y x known has (sym (here ∙ at_slot))) stands_its
+          | inr other ↦ other_stays y.from (records_to y.filled size) after x.site x.from other (λ here. other (ap (λ (w : BegunSegment). w.site.slot) (sym (one_place site others among.apart y x known has (sym (here ∙ at_place)))) ∙ sym at_slot)) (among.behind x has)
         ];
         apart = among.apart;
-        last = last_of y.from after (λ s here. inr (y, known, sym (here ∙ at_place)));
-        below = low_mark y.from after;
+        last = last_of y.from (records_to y.filled size) after (λ s here. inr (y, known, sym (here ∙ at_place)));
+        below = low_mark y.from (records_to y.filled size) after;
       }

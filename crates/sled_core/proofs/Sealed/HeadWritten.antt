@@ -10,6 +10,7 @@ use Rattle.sled_codec.specs.Snapshots.{SnapshotModel}
 use Rattle.sled_store.specs.Device.{overwritten, LeavesLog}
 use Rattle.sled_store.specs.Foreign.{NoForeignLog}
 use Rattle.sled_store.proofs.Histories.Ascending.{Ascends}
+use Rattle.sled_core.specs.Begun.{records_to}
 use Rattle.sled_core.specs.OpenBatches.{stable_below}
 use Rattle.sled_core.specs.declared.iobuf.SegmentPosition.{SegmentPosition}
 use Rattle.sled_core.specs.declared.iterator.Segment.{Segment}
@@ -189,12 +190,12 @@ module _ (sum : List ℕ → ℕ) (none : NoHeaderOfZeros sum) (size : ℕ) (som
     read : IsReadTo stands.scanned site.slot site.place stop why
     read = record { scan = y; there = known_in sum size new H (stable_below (site.place + stop) H.batches) first (site.place + stop) stands y y_found y_scan; in_slot = refl; at_place = refl; ended = refl; ends = refl }
 
-    stays : (other : SegmentPosition) (so_far : ℕ) → other.slot ≢ site.slot → other.place ≢ site.place → StandsIn sum size old (least_place size first) alone.stands.scanned other so_far → StandsIn sum size new (least_place size first) stands.scanned other so_far
+    stays : (other : SegmentPosition) (so_far : ℕ) → other.slot ≢ site.slot → other.place ≢ site.place → {records : ℕ} → StandsIn sum size old (least_place size first) alone.stands.scanned other so_far records → StandsIn sum size new (least_place size first) stands.scanned other so_far records
     stays other so_far apart behind = segment_stays sum size some old site.slot slot_begins from asked inside there H (stable_below reach H.batches) first reach alone.stands (stable_below (site.place + stop) H.batches) (site.place + stop) stands other so_far site.place apart behind
         (its_place_now sum size some old site.slot slot_begins from asked inside there H (stable_below reach H.batches) first reach alone.stands (stable_below (site.place + stop) H.batches) (site.place + stop) stands site from refl alone.here has_header)
 
-    grown : (so_far : ℕ) → IsSoFar size so_far stop why → StandsIn sum size new (least_place size first) stands.scanned site so_far
-    grown so_far = segment_grown sum size some old site.slot slot_begins from asked inside there H (stable_below reach H.batches) first reach alone.stands (stable_below (site.place + stop) H.batches) (site.place + stop) stands site from refl alone.here has_header so_far stop why read
+    grown : (so_far : ℕ) → IsSoFar size so_far stop why → StandsIn sum size new (least_place size first) stands.scanned site so_far 0
+    grown so_far far = segment_grown sum size some old site.slot slot_begins from asked inside there H (stable_below reach H.batches) first reach alone.stands (stable_below (site.place + stop) H.batches) (site.place + stop) stands site from refl alone.here has_header so_far 0 stop why read far (λ same. omega arith)
 
     its_header_now : (s : Segment) → IsFoundSegment sum size new (least_place size first) s → s.slot ≡ site.slot → (pos s.place ≡ pos site.place) × (s.mark ≡ has_header.mark)
     its_header_now = its_header sum size some old site.slot slot_begins from asked inside there H (stable_below reach H.batches) first reach alone.stands (stable_below (site.place + stop) H.batches) (site.place + stop) stands site from refl alone.here has_header
@@ -217,7 +218,7 @@ module _ (sum : List ℕ → ℕ) (none : NoHeaderOfZeros sum) (size : ℕ) (som
       | inr other ↦ less_than s.mark (site.place + from) (site.place + stop) (omega (arith, rises)) (alone.below s (beside.found (least_place size first) s other found))
     ]
 
-    others_stay : (x : BegunSegment) → Contains others x → StandsIn sum size new (least_place size first) stands.scanned x.site x.from
+    others_stay : (x : BegunSegment) → Contains others x → StandsIn sum size new (least_place size first) stands.scanned x.site x.from (records_to x.filled size)
     others_stay x among = let apart = follows site others alone.apart x among in stays x.site x.from apart.1 (λ at. let low = apart.0 in omega (arith, at, low)) (alone.behind x among)
 
     pub head_written : (stop + 32 ≤ size → why ≡ Broken) → StandsAmong sum size new site stop others (site.place + stop) H first

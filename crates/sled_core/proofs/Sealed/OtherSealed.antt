@@ -3,7 +3,7 @@ use Rattle.std.proofs.Common.{◌≢◌, ◌≡◌, ◌⊎◌, ◌≤◌, ◌<�
 use Rattle.std.specs.List.{All}
 use Rattle.std.proofs.lemmas.Bool.{cases_lt}
 use Rattle.std.proofs.lemmas.Bool.Decides.{nat_tests}
-use Rattle.std.proofs.lemmas.List.Elements.{Contains-append_right}
+use Rattle.std.proofs.lemmas.List.Elements.{All-take, Contains-append_right}
 use Rattle.sled_codec.specs.History.{History}
 use Rattle.sled_codec.specs.Places.{part}
 use Rattle.sled_codec.specs.Record.{IsHeader}
@@ -12,6 +12,7 @@ use Rattle.sled_store.specs.Device.{overwritten, LeavesLog}
 use Rattle.sled_store.specs.Foreign.{NoForeignLog}
 use Rattle.sled_store.proofs.Histories.Ascending.{Ascends}
 use Rattle.sled_store.proofs.Segments.Elements.{in_first}
+use Rattle.sled_core.specs.Begun.{records_to}
 use Rattle.sled_core.specs.OpenBatches.{stable_below}
 use Rattle.sled_core.specs.declared.iobuf.Reserved.{Reserved}
 use Rattle.sled_core.specs.declared.iobuf.Sealed.{Sealed}
@@ -19,7 +20,7 @@ use Rattle.sled_core.specs.declared.iobuf.SegmentPosition.{SegmentPosition}
 use Rattle.sled_core.specs.declared.iterator.Segment.{Segment}
 use Rattle.sled_core.specs.declared.iterator.scan.ScanEnd.{ScanEnd}
 use Rattle.sled_core.specs.declared.iterator.scan.ScanEnd.TheVariants.{Full, Broken}
-use Rattle.sled_core.specs.Buffers.{batches_in, completed_in, records_end, records_of, Stands}
+use Rattle.sled_core.specs.Buffers.{IsChain, batches_in, completed_in, records_end, records_of, Stands}
 use Rattle.sled_core.specs.Fits.{HasMark}
 use Rattle.sled_core.specs.LogFile.{HasHeader}
 use Rattle.sled_core.specs.Reached.{BegunSegment, IsSoFar, StandsAmong, StandsIn}
@@ -28,6 +29,7 @@ use Rattle.sled_core.specs.Scan.{IsFoundSegment}
 use Rattle.sled_core.specs.SealedBuffers.{Agrees, AreSealed, Laid, run_end, run_count, bytes_between}
 use Rattle.sled_core.specs.Tail.{least_place}
 use Rattle.sled_core.proofs.Flush.LogFileLemmas.{part_kept}
+use Rattle.sled_core.proofs.Flush.SealedFile.{chain_done}
 use Rattle.sled_core.proofs.Read.FoundLemmas.{found_there}
 use Rattle.sled_core.proofs.Reached.BufferPath.{HasOnly, buffer_header}
 use Rattle.sled_core.proofs.Reached.BufferStands.{met_in, same_part}
@@ -38,7 +40,7 @@ use Rattle.sled_core.proofs.Sealed.BehindUnwritten.{below_room}
 use Rattle.sled_core.proofs.Sealed.LaidLemmas.{EndsRise}
 use Rattle.sled_core.proofs.Sealed.OneWritten.{has_written}
 use Rattle.sled_core.proofs.Sealed.OtherWritten.{other_written, torn_other}
-use Rattle.sled_core.proofs.Sealed.RecordsEnd.{records_why}
+use Rattle.sled_core.proofs.Sealed.RecordsEnd.{covered_behind, records_why}
 use Rattle.sled_core.proofs.Sealed.RestWritten.{other_rest_written, torn_rest}
 use Rattle.sled_core.proofs.Sealed.RunPath.{MeetsRun, front_mark, meets_run, never_broken}
 use Rattle.sled_core.proofs.Tail.GreatestMark.{mark_below}
@@ -79,7 +81,7 @@ module _ (sum : List ℕ → ℕ) (none : NoHeaderOfZeros sum) (size : ℕ) (som
   run : MeetsRun sum size file new y.site bytes y.from b.end done stop
   run = meets_run sum size file y.site place_begins slot_begins place_small slot_small bytes y.from rs b rest fresh closed are rise inside stand laid
 
-  its_stands : StandsIn sum size file (least_place size first) among.stands.scanned y.site y.from
+  its_stands : StandsIn sum size file (least_place size first) among.stands.scanned y.site y.from (records_to y.filled size)
   its_stands = among.behind y (Contains-append_right pre (y ∷ post) y (in_first y post))
 
   its_mark : y.from ≡ 0 → (m : HasMark sum y.site asked H) × (m.mark <ℤ pos (site.place + from))
@@ -138,6 +140,13 @@ module _ (sum : List ℕ → ℕ) (none : NoHeaderOfZeros sum) (size : ℕ) (som
   header_new : y.from + 32 ≤ size → (h : HasHeader sum new y.site) × (h.mark <ℤ pos (site.place + from))
   header_new room = elim (cases_lt 0 y.from) [ inl later ↦ header_later room later | inr first_one ↦ header_first (omega (arith, first_one)) ]
 
+  -- Where no header has room behind what is written, no record is written now.
+  last_low : size < y.from + 32 → last ≤ y.from
+  last_low full =
+      let chain : IsChain (max 20 y.from) done stop = chain_done y.from rs b rest closed are in
+      let low = covered_behind sum size (y.site.place / size) bytes done (max 20 y.from) stop chain (All-take (Stands sum size (y.site.place / size) bytes) (b.count + run_count rest) rs stand) (omega (arith, full)) in
+      omega (arith, low, full, some)
+
   -- So much of the segment stands then: it ends for want of a record, or it is full.
   so_far : IsSoFar size stop last why
   so_far = elim run.records.last [
@@ -156,12 +165,12 @@ module _ (sum : List ℕ → ℕ) (none : NoHeaderOfZeros sum) (size : ℕ) (som
     ]
 
     -- All of it, where the file reaches up to the slot: the segment stands as far as the buffers that are written now.
-    pub other_sealed_written : Ascends H.messages → y.site.slot ≤ length file → least_place size first ≤ y.site.place → StandsAmong sum size new site from (pre ++ grown_one y stop ∷ post) reach H first
-    other_sealed_written ordered there low = elim (cases_lt size (y.from + 32)) [
+    pub other_sealed_written : Ascends H.messages → y.site.slot ≤ length file → least_place size first ≤ y.site.place → (stop ≡ size → records_to y.filled size ≤ last) → StandsAmong sum size new site from (pre ++ grown_one y stop ∷ post) reach H first
+    other_sealed_written ordered there low up_to = elim (cases_lt size (y.from + 32)) [
       | inl full ↦ subst (λ n. StandsAmong sum size new site from (pre ++ grown_one y n ∷ post) reach H first) (sym (fills full))
-          (other_rest_written sum size some file site from pre y post y.from asked fits slot_begins (omega arith) left_over full reach H first among there)
+          (other_rest_written sum size some file site from pre y post y.from asked fits slot_begins (omega arith) left_over full (let up = up_to (fills full) in let low_end = last_low full in omega (arith, up, low_end)) reach H first among there)
       | inr room ↦ (
           let h = header_new room in
           other_written sum none size some file site from pre y post asked b.end run.covers run.reaches run.headed room place_begins slot_begins place_small its_mark run.clean
-          reach first among (met_in y.site bytes records) last why run.clear run.path run.ends (run.truth H has) (run.caps H has no_end) ordered there low h.0 h.1 stop so_far)
+          reach first among (met_in y.site bytes records) last why run.clear run.path run.ends (run.truth H has) (run.caps H has no_end) ordered there low h.0 h.1 stop so_far up_to)
     ]

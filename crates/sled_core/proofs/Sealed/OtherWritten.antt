@@ -12,6 +12,7 @@ use Rattle.sled_store.specs.Device.{overwritten, LeavesLog}
 use Rattle.sled_store.specs.Foreign.{NoForeignLog}
 use Rattle.sled_store.proofs.Histories.Ascending.{Ascends}
 use Rattle.sled_store.proofs.Segments.Elements.{in_first}
+use Rattle.sled_core.specs.Begun.{records_to}
 use Rattle.sled_core.specs.OpenBatches.{stable_below}
 use Rattle.sled_core.specs.declared.iobuf.SegmentPosition.{SegmentPosition}
 use Rattle.sled_core.specs.declared.iterator.Segment.{Segment}
@@ -67,7 +68,7 @@ module _ (sum : List ℕ → ℕ) (none : NoHeaderOfZeros sum) (size : ℕ) (som
   its : Contains (pre ++ y ∷ post) y
   its = Contains-append_right pre (y ∷ post) y (in_first y post)
 
-  its_stands : StandsIn sum size old (least_place size first) among.stands.scanned y.site y.from
+  its_stands : StandsIn sum size old (least_place size first) among.stands.scanned y.site y.from (records_to y.filled size)
   its_stands = among.behind y its
 
   -- It goes on where it was read to, or the buffer begins it, in a slot of zeros.
@@ -133,7 +134,7 @@ module _ (sum : List ℕ → ℕ) (none : NoHeaderOfZeros sum) (size : ℕ) (som
     own : (s : Segment) → IsFoundSegment sum size new (least_place size first) s → s.slot ≡ y.site.slot → s.place ≡ y.site.place
     own = its_place_now sum size some old y.site.slot slot_begins y.from asked inside there H (stable_below reach H.batches) first reach among.stands (stable_below reach H.batches) reach stands y.site y.from refl its_stands has
 
-    stays : (other : SegmentPosition) (so_far : ℕ) → other.slot ≢ y.site.slot → other.place ≢ y.site.place → StandsIn sum size old (least_place size first) among.stands.scanned other so_far → StandsIn sum size new (least_place size first) stands.scanned other so_far
+    stays : (other : SegmentPosition) (so_far : ℕ) → other.slot ≢ y.site.slot → other.place ≢ y.site.place → {records : ℕ} → StandsIn sum size old (least_place size first) among.stands.scanned other so_far records → StandsIn sum size new (least_place size first) stands.scanned other so_far records
     stays other so_far apart behind = segment_stays sum size some old y.site.slot slot_begins y.from asked inside there H (stable_below reach H.batches) first reach among.stands (stable_below reach H.batches) reach stands other so_far y.site.place apart behind own
 
     -- The one that leads to the first segment is another one.
@@ -158,7 +159,7 @@ module _ (sum : List ℕ → ℕ) (none : NoHeaderOfZeros sum) (size : ℕ) (som
     last : (so_far : ℕ) (s : Segment) → IsFoundSegment sum size new (least_place size first) s → (s.place ≤ site.place) ⊎ BeginsOne (pre ++ grown_one y so_far ∷ post) s.place
     last so_far s found = elim (cases_eq s.slot y.site.slot) [
       | inl here ↦ inr (grown_one y so_far, Contains-append_right pre (grown_one y so_far ∷ post) (grown_one y so_far) (in_first (grown_one y so_far) post), sym (own s found here))
-      | inr other ↦ elim (among.last s (beside.found (least_place size first) s other found)) [ inl low ↦ inl low | inr one ↦ inr (begins_still pre y post so_far s.place one) ]
+      | inr other ↦ elim (among.last s (beside.found (least_place size first) s other found)) [ inl low ↦ inl low | inr one ↦ inr (begins_still pre y post so_far s.place y.filled one) ]
     ]
 
     below : (s : Segment) → IsFoundSegment sum size new (least_place size first) s → s.mark <ℤ pos (site.place + from)
@@ -168,19 +169,19 @@ module _ (sum : List ℕ → ℕ) (none : NoHeaderOfZeros sum) (size : ℕ) (som
       | inr other ↦ among.below s (beside.found (least_place size first) s other found)
     ]
 
-    pub other_written : (so_far : ℕ) → IsSoFar size so_far stop why → StandsAmong sum size new site from (pre ++ grown_one y so_far ∷ post) reach H first
+    pub other_written : (so_far : ℕ) → IsSoFar size so_far stop why → (so_far ≡ size → records_to y.filled size ≤ stop) → StandsAmong sum size new site from (pre ++ grown_one y so_far ∷ post) reach H first
     unfolding stands
-    other_written so_far far = record {
+    other_written so_far far up_to = record {
       stands = stands;
       reached = among.reached;
       led = led_on;
       here = stays site from (λ same. apart_first.1 (sym same)) (λ same. let behind = apart_first.0 in omega (arith, same, behind)) among.here;
-      behind = λ x at. elim (was_other site pre y post so_far among.apart x at) [
-        | inl one ↦ subst (λ (w : BegunSegment). StandsIn sum size new (least_place size first) stands.scanned w.site w.from) (sym one)
-            (segment_grown sum size some old y.site.slot slot_begins y.from asked inside there H (stable_below reach H.batches) first reach among.stands (stable_below reach H.batches) reach stands y.site y.from refl its_stands has so_far stop why both.1 far)
+      behind = λ x at. elim (was_other site pre y post so_far y.filled among.apart x at) [
+        | inl one ↦ subst (λ (w : BegunSegment). StandsIn sum size new (least_place size first) stands.scanned w.site w.from (records_to w.filled size)) (sym one)
+            (segment_grown sum size some old y.site.slot slot_begins y.from asked inside there H (stable_below reach H.batches) first reach among.stands (stable_below reach H.batches) reach stands y.site y.from refl its_stands has so_far (records_to y.filled size) stop why both.1 far up_to)
         | inr (had, other, behind) ↦ stays x.site x.from other behind (among.behind x had)
       ];
-      apart = follow_still site pre y post so_far among.apart;
+      apart = follow_still site pre y post so_far y.filled among.apart;
       last = last so_far;
       below = below;
     }

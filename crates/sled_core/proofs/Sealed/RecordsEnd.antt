@@ -136,12 +136,20 @@ module _ (sum : List ℕ → ℕ) (size number : ℕ) (bytes : List ℕ) where
     by false test on = absurd (on refl)
 
   -- behind an offset where no header has room there is at most what fills the segment
-  covered_behind : (rs : List Reserved) (stop end : ℕ) → IsChain stop rs end → All (Stands sum size number bytes) rs → size < stop + 32 → records_end rs end ≤ stop
+  pub covered_behind : (rs : List Reserved) (stop end : ℕ) → IsChain stop rs end → All (Stands sum size number bytes) rs → size < stop + 32 → records_end rs end ≤ stop
   covered_behind [] stop end chain stand full = omega (arith, chain)
   covered_behind (r ∷ rs) stop end chain stand full = by (padding_state r.state) refl where
     by : (o : Bool) → padding_state r.state ≡ o → (if o then r.from else records_end rs end) ≤ stop
     by true is = let at = chain.0 in omega (arith, at)
     by false is = absurd (let room = (reserved_in sum size number bytes r (plain_is r.state is) (stand 0 r (omega arith))).room in let at = chain.0 in omega (arith, room, at, full))
+
+  pub records_taken : (from : ℕ) (rs : List Reserved) (n stop end : ℕ) → IsChain from (take n rs) stop → IsChain stop (drop n rs) end → All (Stands sum size number bytes) rs → size < stop + 32 → records_end rs end ≤ records_end (take n rs) stop
+  records_taken from rs zero stop end chain rest stand full = covered_behind rs stop end rest stand full
+  records_taken from [] (suc n) stop end chain rest stand full = covered_behind [] stop end rest stand full
+  records_taken from (r ∷ rs) (suc n) stop end chain rest stand full = by (padding_state r.state) (records_taken (from + r.len) rs n stop end chain.1 rest (All-tail (Stands sum size number bytes) r rs stand) full) where
+    by : (o : Bool) → records_end rs end ≤ records_end (take n rs) stop → (if o then r.from else records_end rs end) ≤ (if o then r.from else records_end (take n rs) stop)
+    by true later = omega arith
+    by false later = later
 
   pub records_covered : (from : ℕ) (rs : List Reserved) (n stop end : ℕ) → IsChain from (take n rs) stop → IsChain stop (drop n rs) end → All (Stands sum size number bytes) rs
       → records_why size (take n rs) stop ≢ Broken → records_end rs end ≤ records_end (take n rs) stop

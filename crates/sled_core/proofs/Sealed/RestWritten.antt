@@ -8,6 +8,7 @@ use Rattle.sled_codec.specs.Snapshots.{SnapshotModel}
 use Rattle.sled_store.specs.Device.{overwritten, LeavesLog}
 use Rattle.sled_store.specs.Foreign.{NoForeignLog}
 use Rattle.sled_store.proofs.Segments.Elements.{in_first}
+use Rattle.sled_core.specs.Begun.{records_to}
 use Rattle.sled_core.specs.OpenBatches.{stable_below}
 use Rattle.sled_core.specs.declared.iobuf.SegmentPosition.{SegmentPosition}
 use Rattle.sled_core.specs.declared.iterator.scan.ScanEnd.{ScanEnd}
@@ -26,7 +27,7 @@ use Rattle.sled_core.proofs.Torn.TornLemmas.{after_write}
 
 -- Where something is left of a segment, but no header has room there.
 module _ (sum : List ℕ → ℕ) (size : ℕ) (some : 256 ≤ size) (old : List ℕ) (site : SegmentPosition) (from at : ℕ) (asked : List ℕ) (inside : at + length asked ≤ size) (slot_begins : site.slot % size ≡ 0)
-    (behind : from ≤ at) (left_over : from < size) (full : size < from + 32) (reach : ℕ) (H : History) (first : SnapshotModel) (is : StandsTo sum size old H (stable_below reach H.batches) first reach) (its : StandsIn sum size old (least_place size first) is.scanned site from) where
+    (behind : from ≤ at) (left_over : from < size) (full : size < from + 32) (reach : ℕ) (H : History) (first : SnapshotModel) (is : StandsTo sum size old H (stable_below reach H.batches) first reach) {records : ℕ} (its : StandsIn sum size old (least_place size first) is.scanned site from records) where
   abbrev new : List ℕ
   new = overwritten old (site.slot + at) asked
 
@@ -37,7 +38,7 @@ module _ (sum : List ℕ → ℕ) (size : ℕ) (some : 256 ≤ size) (old : List
   its_slot : slot * size ≡ site.slot
   its_slot = omega (arith, mod-add-div' site.slot size, slot_begins)
 
-  read : (stop : ℕ) × (why : ScanEnd) × IsReadTo is.scanned site.slot site.place stop why × IsSoFar size from stop why
+  read : (stop : ℕ) × (why : ScanEnd) × IsReadTo is.scanned site.slot site.place stop why × IsSoFar size from stop why × (from ≡ size → records ≤ stop)
   read = its.read (omega (arith, some, full))
 
   abbrev z : Scanned
@@ -67,17 +68,17 @@ module _ (sum : List ℕ → ℕ) (size : ℕ) (some : 256 ≤ size) (old : List
     ends : IsEnd sum size new z.segment.slot z.segment.place z.stop Full
     ends = omega (arith, stops, full)
 
-    pub rest_stands : StandsAfter sum size old new site from reach H first
+    pub rest_stands : StandsAfter sum size old new site from records reach H first
     rest_stands = stands_after sum size some old site from at asked inside slot_begins there reach H first is its z read.2.there read.2.in_slot read.2.at_place (omega (arith, stops, behind))
-        (inl (stops, λ room. absurd (omega (arith, room, full)))) stands (subst (λ (w : ScanEnd). IsEnd sum size new z.segment.slot z.segment.place z.stop w) (sym its_why) ends)
+        (inl (stops, λ room. absurd (omega (arith, room, full)))) left_over stands (subst (λ (w : ScanEnd). IsEnd sum size new z.segment.slot z.segment.place z.stop w) (sym its_why) ends)
 
 -- A segment behind the first one in which no header has room any more is full, whether something is left of it or not.
-module _ (sum : List ℕ → ℕ) (size : ℕ) (some : 256 ≤ size) (log : List ℕ) (site : SegmentPosition) (from : ℕ) (pre : List BegunSegment) (y : BegunSegment) (post : List BegunSegment) (full : size < y.from + 32)
+module _ (sum : List ℕ → ℕ) (size : ℕ) (some : 256 ≤ size) (log : List ℕ) (site : SegmentPosition) (from : ℕ) (pre : List BegunSegment) (y : BegunSegment) (post : List BegunSegment) (full : size < y.from + 32) (up_to : records_to y.filled size ≤ y.from)
     (reach : ℕ) (H : History) (first : SnapshotModel) (among : StandsAmong sum size log site from (pre ++ y ∷ post) reach H first) where
-  its_stands : StandsIn sum size log (least_place size first) among.stands.scanned y.site y.from
+  its_stands : StandsIn sum size log (least_place size first) among.stands.scanned y.site y.from (records_to y.filled size)
   its_stands = among.behind y (Contains-append_right pre (y ∷ post) y (in_first y post))
 
-  its_read : (stop : ℕ) × (why : ScanEnd) × IsReadTo among.stands.scanned y.site.slot y.site.place stop why × IsSoFar size y.from stop why
+  its_read : (stop : ℕ) × (why : ScanEnd) × IsReadTo among.stands.scanned y.site.slot y.site.place stop why × IsSoFar size y.from stop why × (y.from ≡ size → records_to y.filled size ≤ stop)
   its_read = its_stands.read (omega (arith, some, full))
 
   leads_on : its_read.1 ≢ Broken
@@ -92,8 +93,15 @@ module _ (sum : List ℕ → ℕ) (size : ℕ) (some : 256 ≤ size) (log : List
     | inr (whole, goes) ↦ goes
   ]
 
-  whole_stands : StandsIn sum size log (least_place size first) among.stands.scanned y.site size
-  whole_stands = record { only = its_stands.only; own = its_stands.own; read = λ later. (its_read.0, its_read.1, its_read.2, inr (refl, leads_on)) }
+  -- it is read up to its records' end
+  behind_records : records_to y.filled size ≤ its_read.0
+  behind_records = elim its_read.3 [
+    | inl (there, broken) ↦ omega (arith, up_to, there)
+    | inr (whole, goes) ↦ its_read.4 whole
+  ]
+
+  whole_stands : StandsIn sum size log (least_place size first) among.stands.scanned y.site size (records_to y.filled size)
+  whole_stands = record { only = its_stands.only; own = its_stands.own; read = λ later. (its_read.0, its_read.1, its_read.2, inr (refl, leads_on), λ same. behind_records) }
 
   pub other_full : StandsAmong sum size log site from (pre ++ grown_one y size ∷ post) reach H first
   other_full = record {
@@ -101,21 +109,21 @@ module _ (sum : List ℕ → ℕ) (size : ℕ) (some : 256 ≤ size) (log : List
     reached = among.reached;
     led = among.led;
     here = among.here;
-    behind = λ x has. elim (was_other site pre y post size among.apart x has) [
-      | inl one ↦ subst (λ (w : BegunSegment). StandsIn sum size log (least_place size first) among.stands.scanned w.site w.from) (sym one) whole_stands
+    behind = λ x has. elim (was_other site pre y post size y.filled among.apart x has) [
+      | inl one ↦ subst (λ (w : BegunSegment). StandsIn sum size log (least_place size first) among.stands.scanned w.site w.from (records_to w.filled size)) (sym one) whole_stands
       | inr (had, other, behind) ↦ among.behind x had
     ];
-    apart = follow_still site pre y post size among.apart;
-    last = λ s found. elim (among.last s found) [ inl low ↦ inl low | inr one ↦ inr (begins_still pre y post size s.place one) ];
+    apart = follow_still site pre y post size y.filled among.apart;
+    last = λ s found. elim (among.last s found) [ inl low ↦ inl low | inr one ↦ inr (begins_still pre y post size s.place y.filled one) ];
     below = among.below;
   }
 
 -- So it is once what is left of it is written.
 pub other_rest_written : (sum : List ℕ → ℕ) (size : ℕ) (some : 256 ≤ size) (old : List ℕ) (site : SegmentPosition) (from : ℕ) (pre : List BegunSegment) (y : BegunSegment) (post : List BegunSegment) (at : ℕ) (asked : List ℕ) → at + length asked ≤ size → y.site.slot % size ≡ 0
-    → y.from ≤ at → y.from < size → size < y.from + 32 → (reach : ℕ) (H : History) (first : SnapshotModel) → StandsAmong sum size old site from (pre ++ y ∷ post) reach H first → y.site.slot ≤ length old
+    → y.from ≤ at → y.from < size → size < y.from + 32 → records_to y.filled size ≤ y.from → (reach : ℕ) (H : History) (first : SnapshotModel) → StandsAmong sum size old site from (pre ++ y ∷ post) reach H first → y.site.slot ≤ length old
     → StandsAmong sum size (overwritten old (y.site.slot + at) asked) site from (pre ++ grown_one y size ∷ post) reach H first
-other_rest_written sum size some old site from pre y post at asked inside slot_begins behind left_over full reach H first among there =
+other_rest_written sum size some old site from pre y post at asked inside slot_begins behind left_over full up_to reach H first among there =
     let its : Contains (pre ++ y ∷ post) y = Contains-append_right pre (y ∷ post) y (in_first y post) in
-    other_full sum size some (overwritten old (y.site.slot + at) asked) site from pre y post full reach H first
+    other_full sum size some (overwritten old (y.site.slot + at) asked) site from pre y post full up_to reach H first
     (other_gap sum size some old site from (pre ++ y ∷ post) reach H first among y.site at asked inside slot_begins there y its refl
     (rest_stands sum size some old y.site y.from at asked inside slot_begins behind left_over full reach H first among.stands (among.behind y its) there))

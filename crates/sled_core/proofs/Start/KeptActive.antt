@@ -102,7 +102,7 @@ begins_alone sum size log s first H site from same end begins own behind alone =
             let at = behind some in
             let g : GoesOnIn on.0.scanned site.slot from site.place = subst (λ (ss : List Scanned). GoesOnIn ss site.slot from site.place) (sym on.1)
             (subst (λ n. GoesOnIn alone.stands.scanned site.slot n site.place) (sym at.1) (subst (λ n. GoesOnIn alone.stands.scanned site.slot (stable % size) n) (sym begins) (alone.going site.slot at.0))) in
-            (from, Broken, record { scan = g.scan; there = g.there; in_slot = g.in_slot; at_place = g.at_place; ended = g.ended; ends = g.broken }, inl (refl, λ room. refl));
+            (from, Broken, record { scan = g.scan; there = g.there; in_slot = g.in_slot; at_place = g.at_place; ended = g.ended; ends = g.broken }, inl (refl, λ room. refl), λ whole. omega arith);
       };
       behind = λ x among. absurd (in_nothing x among);
       apart = tt;

@@ -39,6 +39,7 @@ impl IoBuf {
             let number = SegmentNumber(site.place / size as u64);
             push_rest(checksum, &mut self.bytes, number, size);
             self.reserved.push_back_reserved(padding(from, size));
+            self.filled = Some(from);
         }
         self.push_sealed();
     }

@@ -22,6 +22,7 @@ impl IoBuf {
         ensures from { self.new.written_len ≡ self.old.written_len }
         ensures reserved { self.new.reserved.items ≡ self.old.reserved.items }
         ensures gone { self.new.gone ≡ self.old.gone }
+        ensures filled { self.new.filled ≡ self.old.filled }
         ensures err { IsOkUnless result Error.OutOfMemory }
     {
         self.sealed.reserve(1)?;
@@ -39,6 +40,7 @@ impl IoBuf {
         ensures from { self.new.written_len ≡ self.old.written_len }
         ensures reserved { self.new.reserved.items ≡ self.old.reserved.items }
         ensures gone { self.new.gone ≡ self.old.gone }
+        ensures filled { self.new.filled ≡ self.old.filled }
     {
         self.sealed.push_back_reserved(Sealed {
             end: self.bytes.len(),
@@ -59,6 +61,7 @@ impl IoBuf {
         ensures from { self.new.written_len ≡ run_end self.old.written_len (written_at k self.old.sealed.items) }
         ensures reserved { self.new.reserved.items ≡ drop (run_count (written_at k self.old.sealed.items)) self.old.reserved.items }
         ensures gone { self.new.gone ≡ self.old.gone + run_count (written_at k self.old.sealed.items) }
+        ensures filled { self.new.filled ≡ self.old.filled }
         ensures bytes { self.new.bytes.items ≡ self.old.bytes.items }
     {
         note_written(&mut self.sealed, k);

@@ -4,9 +4,9 @@
 //! ends in front of the manifest, so that none of the batch's messages counts (`specs/Batches.antt`).
 ghost use Rattle.std.specs.Prelude.{ℕ, List, ◌≡◌, ◌<◌, ◌⊎◌, ◌↔◌, ◌<ℤ◌, Contains, IsTrue, pos, true, unsigned_abs, IfOk, OnOk, OnErr};
 ghost use Rattle.sled_codec.specs.History.{Batch, Batched, History, Message, Step};
-ghost use Rattle.sled_core.specs.Batches.{EndsBatch, MayEndAt, NotesBatchOf, batch_for};
+ghost use Rattle.sled_core.specs.Batches.{EndsBatch, LiesInNoFilling, MayEndAt, NotesBatchOf, batch_for};
 ghost use Rattle.sled_core.specs.Causes.{FaultAnswers};
-ghost use Rattle.sled_core.specs.Fits.{Awaits, IsInRecord, IsOpen, KeepsBuffers, fault_of, noted_in, open_places, reserved_end};
+ghost use Rattle.sled_core.specs.Fits.{Awaits, IsOpen, KeepsBuffers, fault_of, line_of, noted_in, open_places, reserved_end, segment_size_of};
 ghost use Rattle.sled_core.specs.Keeps.{GoesOn, KeepsOthers, Preserves, SamePosition};
 ghost use Rattle.sled_core.specs.OpenPlaces.{TakesOutPlaceOf};
 ghost use Rattle.sled_core.specs.Running.{Fits};
@@ -24,7 +24,8 @@ impl<D: Device, C: Checksum> Log<D, C> {
     /// the device. With the manifest's own place as the peg there is no batch, and the manifest is given up as by `abort`.
     /// Returns the place and the pointer of the manifest. It takes no memory.
     ///
-    /// The peg lies in the record of a message that was completed, mostly in that of the batch's last one.
+    /// The peg lies in a record, mostly in that of the batch's last message; that may be the manifest's own, for a batch of no
+    /// messages, or one that was given up.
     ///
     /// # Errors
     ///
@@ -34,7 +35,7 @@ impl<D: Device, C: Checksum> Log<D, C> {
         requires manifest { is_manifest_of ticket ≡ true }
         requires pegged { MayEndAt self.old ticket peg }
         ensures place { IfOk result (IsPlaceOf ticket) }
-        ensures fits { (H : History) (A f : ℕ) (U : List Message) → Fits D.trace C.sum_of self.old H A f U → IsInRecord H.messages (unsigned_abs peg)
+        ensures fits { (H : History) (A f : ℕ) (U : List Message) → Fits D.trace C.sum_of self.old H A f U
             → OnOk result ((H' : History) × EndsBatch H ticket peg H' × Fits D.trace C.sum_of self.new H' A f U) }
         ensures canceled { peg ≡ place_of ticket → Preserves D.trace C.sum_of self.old self.new }
         ensures others { KeepsOthers D.trace C.sum_of ticket self.old self.new }
@@ -53,7 +54,8 @@ impl<D: Device, C: Checksum> Log<D, C> {
     }
 
     /// Returns whether the batch of a ticket's manifest may end at a place, as `mark_writebatch` asks: the place isn't below the
-    /// manifest and was reserved, and up to there no batch has a place that isn't wholly on the device.
+    /// manifest, was reserved, and lies in a record, so in nothing that fills a segment; and up to there no batch has a place that
+    /// isn't wholly on the device.
     pub fn may_end_at(&self, ticket: &Reservation, peg: Lsn) -> bool
         ensures { IsTrue result ↔ MayEndAt self.now ticket.now peg }
     {
@@ -61,7 +63,23 @@ impl<D: Device, C: Checksum> Log<D, C> {
         if peg < place || peg >= self.reserved_to as Lsn {
             return false;
         }
-        self.is_apart(place, peg)
+        self.is_apart(place, peg) && self.is_in_no_filling(peg)
+    }
+
+    /// Returns whether a place, in front of where what was reserved ends, lies in nothing that fills a segment.
+    fn is_in_no_filling(&self, place: Lsn) -> bool
+        requires { place <ℤ pos (reserved_end self.now) }
+        ensures { IsTrue result ↔ LiesInNoFilling (segment_size_of self.now) (line_of self.now) place }
+    {
+        if place < self.site.place as Lsn {
+            return true;
+        }
+        let place = place.unsigned_abs();
+        let (site, buffer) = self.segment(self.segment_of(place));
+        match buffer.filled {
+            Some(from) => place - site.place < from as u64,
+            None => true,
+        }
     }
 
     /// Ends a manifest whose batch has a peg above its own place.
@@ -70,9 +88,10 @@ impl<D: Device, C: Checksum> Log<D, C> {
         requires manifest { is_manifest_of ticket ≡ true }
         requires above { place_of ticket <ℤ pos peg }
         requires reserved { peg < reserved_end self.old }
+        requires filled { LiesInNoFilling (segment_size_of self.old) (line_of self.old) (pos peg) }
         requires apart { (b : Batch) → Contains (noted_in self.old) b → (pos b.peg <ℤ place_of ticket) ⊎ (peg < b.low) }
         ensures place { IfOk result (IsPlaceOf ticket) }
-        ensures fits { (H : History) (A f : ℕ) (U : List Message) → Fits D.trace C.sum_of self.old H A f U → IsInRecord H.messages peg
+        ensures fits { (H : History) (A f : ℕ) (U : List Message) → Fits D.trace C.sum_of self.old H A f U
             → OnOk result ((H' : History) × Step H (Batched (batch_for ticket (pos peg))) H' × Fits D.trace C.sum_of self.new H' A f U) }
         ensures others { KeepsOthers D.trace C.sum_of ticket self.old self.new }
         ensures opens { TakesOutPlaceOf result ticket (open_places self.old) (open_places self.new) }

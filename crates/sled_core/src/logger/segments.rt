@@ -9,7 +9,7 @@ ghost use Rattle.sled_core.specs.Causes.{FaultOrMemory};
 ghost use Rattle.sled_core.specs.Fits.{AddsBuffers, IsUnchanged, IsUsedUp, KeepsAll, KeepsTickets, buffers_of, current_begin, current_of, line_of, machine_at, reserved_end, sealing_end, segment_size_of, stable_end, start_of, waiting_of};
 ghost use Rattle.sled_core.specs.Keeps.{Preserves, SamePosition, start_sealed};
 ghost use Rattle.sled_core.specs.Positions.{is_short};
-ghost use Rattle.sled_core.specs.Turned.{CanClose, ChangesLine, ChangesSlots, HasRoomForBatch, HasRoomIn, IsBegunView, next_line, promoted};
+ghost use Rattle.sled_core.specs.Turned.{CanClose, ChangesLine, ChangesSlots, EndsApart, HasRoomForBatch, HasRoomIn, IsBegunView, next_line, promoted};
 ghost use Rattle.sled_core.specs.Waiting.{at_last, holds_any, sealed_now, with_parts};
 
 use crate::iobuf::{IoBuf, SegmentPosition};
@@ -121,6 +121,7 @@ impl<D: Device, C: Checksum> Log<D, C> {
         requires grows { reserved_end self.old ≤ to }
         requires behind { current_begin self.old < to }
         requires within { to ≤ (current_of self.old).parts.site.place + segment_size_of self.old + 20 }
+        requires apart { EndsApart self.old to }
         ensures line { OnOk result (line_of self.new
             ≡ next_line C.sum_of (segment_size_of self.old) (machine_at self.old) (stable_end self.old) (line_of self.old)) }
         ensures machine { OnOk result (machine_at self.new

@@ -52,7 +52,7 @@ invariant_of-self g c =
     let r : Reserved = c.requires.awaited.reserved in
     let i = c.args.index - log.buffer.gone in
     let there : slice_get log.buffer.reserved.items i ≡ Some r = first_reserved c.args.self.now c.args.n c.args.index c.requires.awaited c.if-n-eq0.true in
-    let view = ended_view log.site log.buffer c.abort.new.self i r (canceling g.C.Checksum.sum_of log.buffer.bytes.items r) Canceled (c.abort.ensures.bytes r there) (c.abort.ensures.reserved r there) c.abort.ensures.sealed c.abort.ensures.from c.abort.ensures.gone in
+    let view = ended_view log.site log.buffer c.abort.new.self i r (canceling g.C.Checksum.sum_of log.buffer.bytes.items r) Canceled (c.abort.ensures.bytes r there) (c.abort.ensures.reserved r there) c.abort.ensures.sealed c.abort.ensures.from c.abort.ensures.gone c.abort.ensures.filled in
     let among : slice_get (line_of log) c.args.n ≡ Some (view_at log.site log.buffer) = ap (slice_get (line_of log)) c.if-n-eq0.true in
     let line : line_at log.site c.abort.new.self log.behind.items ≡ set (line_of log) 0 (ended_now i r (canceling g.C.Checksum.sum_of log.buffer.bytes.items r) Canceled (view_at log.site log.buffer)) = ap (λ (w : SegmentView). w ∷ map segment_view log.behind.items) view in
     record {
@@ -62,7 +62,7 @@ invariant_of-self g c =
       waits = λ some. (let from = c.abort.ensures.from in let less = log.waits some in omega (arith, from, less));
       follow = log.follow;
       filled = subst (AreFilled size log.reserved_to) (sym line)
-          (filled_ended size log.reserved_to (line_of log) 0 (view_at log.site log.buffer) i r (g.C.Checksum.sum_of (body_in log.buffer.bytes.items r ++ code_of kind.Canceled ∷ part log.buffer.bytes.items (r.from + 5) (r.header_len - 5))) kind.Canceled Canceled refl (nth_facts log 0 (view_at log.site log.buffer) refl) there c.requires.awaited.open_yet log.filled);
+          (filled_ended size log.reserved_to (line_of log) 0 (view_at log.site log.buffer) i r (g.C.Checksum.sum_of (body_in log.buffer.bytes.items r ++ code_of kind.Canceled ∷ part log.buffer.bytes.items (r.from + 5) (r.header_len - 5))) kind.Canceled Canceled refl (nth_facts log 0 (view_at log.site log.buffer) refl) there c.requires.awaited.open_yet (λ is. let never : ⊥ = cc in never) log.filled);
       account = log.account;
       pegs = log.pegs;
       room = (let old = log.room in let fewer = without_fewer c.args.manifest log.manifests c.without_manifest-manifests.result c.without_manifest-manifests.ensures in omega (arith, old, fewer));
@@ -112,7 +112,7 @@ invariant_of-self-else-n-eq0 g c =
     let among : slice_get (line_of log) c.args.n ≡ Some (segment_view t) = read_among log c.args.n c.args.index c.requires.awaited c.if-n-eq0.false t c.index_mut.ensures.value in
     let own : slice_get t.buffer.reserved.items (c.args.index - t.buffer.gone) ≡ Some r = read_reserved log c.args.n c.args.index c.requires.awaited c.if-n-eq0.false t c.index_mut.ensures.value in
     let line = line_behind log c.args.n c.args.index c.requires.awaited c.if-n-eq0.false c.index.result.now t c.index.ensures c.index_mut.ensures.value c.abort-else-n-eq0.new.self (canceling g.C.Checksum.sum_of t.buffer.bytes.items r) Canceled
-    (done.bytes r there) (done.reserved r there) done.sealed done.from done.gone in
+    (done.bytes r there) (done.reserved r there) done.sealed done.from done.gone done.filled in
     record {
       in_segment = log.in_segment;
       place_in_reach = log.place_in_reach;
@@ -121,7 +121,7 @@ invariant_of-self-else-n-eq0 g c =
       follow = follow_with size (log.site.place + size) log.behind.items (c.args.n - 1) t (record { site = t.site; buffer = c.abort-else-n-eq0.new.self }) at refl
           (let long = done.len in let short = follow_in size (log.site.place + size) log.behind.items (c.args.n - 1) t at log.follow in omega (arith, long, short)) log.follow;
       filled = subst (AreFilled size log.reserved_to) (sym line)
-          (filled_ended size log.reserved_to (line_of log) c.args.n (segment_view t) i r (g.C.Checksum.sum_of (body_in t.buffer.bytes.items r ++ code_of kind.Canceled ∷ part t.buffer.bytes.items (r.from + 5) (r.header_len - 5))) kind.Canceled Canceled among (nth_facts log c.args.n (segment_view t) among) there c.requires.awaited.open_yet log.filled);
+          (filled_ended size log.reserved_to (line_of log) c.args.n (segment_view t) i r (g.C.Checksum.sum_of (body_in t.buffer.bytes.items r ++ code_of kind.Canceled ∷ part t.buffer.bytes.items (r.from + 5) (r.header_len - 5))) kind.Canceled Canceled among (nth_facts log c.args.n (segment_view t) among) there c.requires.awaited.open_yet (λ is. let never : ⊥ = cc in never) log.filled);
       account = log.account;
       pegs = log.pegs;
       room = (let old = log.room in let fewer = without_fewer c.args.manifest log.manifests c.without_manifest-manifests.result c.without_manifest-manifests.ensures in omega (arith, old, fewer));
@@ -139,5 +139,5 @@ returns-else-n-eq0-clause-line g c =
     let done = c.abort-else-n-eq0.ensures in
     let there : slice_get t.buffer.reserved.items (c.args.index - s.buffer.gone) ≡ Some r = mut_reserved log c.args.n c.args.index c.requires.awaited c.if-n-eq0.false s t c.index.ensures c.index_mut.ensures.value in
     let line = line_behind log c.args.n c.args.index c.requires.awaited c.if-n-eq0.false s t c.index.ensures c.index_mut.ensures.value c.abort-else-n-eq0.new.self (canceling g.C.Checksum.sum_of t.buffer.bytes.items r) Canceled
-    (done.bytes r there) (done.reserved r there) done.sealed done.from done.gone in
+    (done.bytes r there) (done.reserved r there) done.sealed done.from done.gone done.filled in
     line_any log c.args.n c.args.index c.requires.awaited c.if-n-eq0.false s t c.index.ensures c.index_mut.ensures.value (canceling g.C.Checksum.sum_of) Canceled _ line

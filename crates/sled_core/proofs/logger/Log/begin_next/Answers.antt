@@ -1,5 +1,5 @@
 -- The segment that is being filled is filled up, in the first buffer or in the last one behind it, and one more is begun behind it.
-use Rattle.std.proofs.Common.{◌≡◌, ◌∙◌, ◌+◌, ◌-◌, ◌*◌, ◌<◌, ◌≤◌, ◌^◌, ◌-ℤ◌, sym, ap, refl, subst, arith, rules, ℕ, suc, pos, List, [], ◌∷◌, ◌++◌, length, map, set, deque_len, Some}
+use Rattle.std.proofs.Common.{◌≡◌, ◌⊎◌, ◌∙◌, ◌+◌, ◌-◌, ◌*◌, ◌<◌, ◌≤◌, ◌^◌, ◌-ℤ◌, sym, ap, refl, subst, arith, rules, ℕ, suc, pos, List, [], ◌∷◌, ◌++◌, length, map, set, deque_len, Some}
 use Rattle.std.specs.List.{All, slice_get}
 use Rattle.std.proofs.lemmas.List.Elements.{All-weaker}
 use Rattle.sled_core.specs.Begun.{AreFilled, FollowOn, SegmentView, begin_of, last_buffer, line_at, segment_view, view_at}
@@ -24,6 +24,7 @@ use Rattle.sled_store.specs.Accounts.{IsAccountant, MayHandOut, machine_of}
 use Rattle.sled_store.specs.SegmentStates.{next_slot}
 use Rattle.sled_store.specs.declared.config.RunningConfig.{RunningConfig}
 use Rattle.sled_core.proofs.Line.Entered.{filled_last}
+use Rattle.sled_core.proofs.Line.Segments.{line_segments}
 use Rattle.sled_core.proofs.Line.Filling.{follow_in, follow_with, last_none, line_first, line_last, read_last}
 use Rattle.sled_core.proofs.Line.Nth.{last_behind, last_buffer_behind}
 use Rattle.sled_core.proofs.logger.Log.begin_next.Goals.{then-n-eq0, else-n-eq0}
@@ -174,8 +175,8 @@ module _ {D C : Type 0} (sum : List ℕ → ℕ) (old mid : Log D C) (line : lin
       let counted = mid.counted in
       omega (arith, all, same, counted)
 
-  begun_next : (to : ℕ) → reserved_end old ≤ to → current_begin old < to → to ≤ (current_of old).parts.site.place + its_size + 20 → MayHandOut its_size s.site.place (machine_at old) → IsBegun its_size to mid.site b (ss ++ s ∷ [])
-  begun_next to grows low within may =
+  begun_next : (to : ℕ) → reserved_end old ≤ to → current_begin old < to → to ≤ (current_of old).parts.site.place + its_size + 20 → (to ≡ reserved_end old) ⊎ ((current_of old).parts.site.place + its_size < to) → MayHandOut its_size s.site.place (machine_at old) → IsBegun its_size to mid.site b (ss ++ s ∷ [])
+  begun_next to grows low within moved may =
       let facts = current_facts old in
       let big : 256 ≤ its_size = old.config.config.least in
       let header = length-short_header sum (pos ((current_of old).parts.site.place + its_size)) (pos (stable_end old) -ℤ pos 1) in
@@ -199,7 +200,7 @@ module _ {D C : Type 0} (sum : List ℕ → ℕ) (old mid : Log D C) (line : lin
         waits = omega (arith, waits, sizes);
         follow = follow_one its_size (mid.site.place + its_size) ss s lies (omega (arith, long, big)) (omega (arith, place_end)) (omega (arith, slot_end, slot_is)) (subst (λ n. FollowOn n (mid.site.place + n) ss) sizes is.follow);
         filled = subst (AreFilled its_size to) (sym next_is)
-            (filled_next sum its_size old.reserved_to to (machine_at old) (stable_end old) (old.site.place + length old.behind.items * its_size) (view_at old.site old.buffer) (map segment_view old.behind.items) facts (omega (arith, big)) grows low within old.filled);
+            (filled_next sum its_size old.reserved_to to (machine_at old) (stable_end old) old.site.place (view_at old.site old.buffer) (map segment_view old.behind.items) (line_segments old) facts (omega (arith, big)) grows low within moved old.filled);
       }
 
 -- Where the accountant failed, nothing is another.
@@ -259,7 +260,7 @@ invariant_of-self-2 g c =
     let new_sizes : new_size ≡ size = ap (λ x. x.config.segment_size) config in
     let may = c.has_further.ensures.0 c.if-not-has_further.false in
     let all : IsBegun (segment_size_of old) c.args.to mid.site b (ss ++ next ∷ []) =
-    begun_next sum old mid c.in_ok-room_to_close.ensures.line rest b ss closed next at c.in_ok-slot.ensures.offset begun c.args.to c.requires.grows c.requires.behind c.requires.within may in
+    begun_next sum old mid c.in_ok-room_to_close.ensures.line rest b ss closed next at c.in_ok-slot.ensures.offset begun c.args.to c.requires.grows c.requires.behind c.requires.within c.requires.apart.ends may in
     let are : IsBegun new_size c.args.to mid.site b c.push_back_reserved.new.self.items =
     subst (λ n. IsBegun n c.args.to mid.site b c.push_back_reserved.new.self.items) (sym (new_sizes ∙ its_sizes)) (subst (λ (l : List SegmentBuffer). IsBegun (segment_size_of old) c.args.to mid.site b l) (sym c.push_back_reserved.ensures.items) all) in
     record {
@@ -275,6 +276,16 @@ invariant_of-self-2 g c =
       counted = subst (λ (l : List SegmentBuffer). open_manifests (line_at mid.site b l) ≤ mid.manifests) (sym c.push_back_reserved.ensures.items)
           (begun_counted sum old mid c.in_ok-room_to_close.ensures.line rest b ss closed next at c.in_ok-slot.ensures.offset begun);
     }
+
+pub push_back_reserved-requires : goal.push_back_reserved-requires
+push_back_reserved-requires g c = elim c.if-n-eq0.branch [ then-n-eq0 w ↦ search rules | else-n-eq0 w ↦ search rules ]
+
+pub returns-clause-rest : goal.returns-clause-rest
+returns-clause-rest g c =
+    let mid = c.room_to_close.new.self in
+    let rest = c.in_ok-room_to_close.ensures.rest in
+    let config : c.if-n-eq0.self.1.0 ≡ mid.config = elim c.if-n-eq0.branch [ then-n-eq0 w ↦ (λ i. (w.self-is i).1.0) ∙ c.next.ensures.config | else-n-eq0 w ↦ (λ i. (w.self-is i).1.0) ∙ c.next.ensures.config ] in
+    record { config = config ∙ rest.config; fault = rest.fault; pins = rest.pins; noted = rest.noted }
 
 pub returns-clause-line : goal.returns-clause-line
 returns-clause-line g c =

@@ -26,7 +26,7 @@ invariant_of-self g c =
     let r : Reserved = c.requires.reserved in
     let i = c.args.index - log.buffer.gone in
     let there : slice_get log.buffer.reserved.items i ≡ Some r = first_reserved c.args.self.now c.args.n c.args.index c.requires c.if-n-eq0.true in
-    let view = ended_view log.site log.buffer c.complete.new.self i r (completing r) Completed (c.complete.ensures.bytes r there) (c.complete.ensures.reserved r there) c.complete.ensures.sealed c.complete.ensures.from c.complete.ensures.gone in
+    let view = ended_view log.site log.buffer c.complete.new.self i r (completing r) Completed (c.complete.ensures.bytes r there) (c.complete.ensures.reserved r there) c.complete.ensures.sealed c.complete.ensures.from c.complete.ensures.gone c.complete.ensures.filled in
     let line : line_at log.site c.complete.new.self log.behind.items ≡ set (line_of log) 0 (ended_now i r (completing r) Completed (view_at log.site log.buffer)) = ap (λ (w : SegmentView). w ∷ map segment_view log.behind.items) view in
     record {
       in_segment = (let long = c.complete.ensures.len in let short = log.in_segment in omega (arith, long, short));
@@ -35,7 +35,7 @@ invariant_of-self g c =
       waits = λ some. (let from = c.complete.ensures.from in let less = log.waits some in omega (arith, from, less));
       follow = log.follow;
       filled = subst (AreFilled size log.reserved_to) (sym line)
-          (filled_ended size log.reserved_to (line_of log) 0 (view_at log.site log.buffer) i r r.sum r.kind Completed refl (nth_facts log 0 (view_at log.site log.buffer) refl) there c.requires.open_yet log.filled);
+          (filled_ended size log.reserved_to (line_of log) 0 (view_at log.site log.buffer) i r r.sum r.kind Completed refl (nth_facts log 0 (view_at log.site log.buffer) refl) there c.requires.open_yet (λ is. let never : ⊥ = cc in never) log.filled);
       account = log.account;
       pegs = log.pegs;
       room = log.room;
@@ -86,7 +86,7 @@ invariant_of-self-else-n-eq0 g c =
     let at : slice_get log.behind.items (c.args.n - 1) ≡ Some t = read_there log c.args.n c.args.index c.requires c.if-n-eq0.false t c.index_mut.ensures.value in
     let among : slice_get (line_of log) c.args.n ≡ Some (segment_view t) = read_among log c.args.n c.args.index c.requires c.if-n-eq0.false t c.index_mut.ensures.value in
     let line = line_behind log c.args.n c.args.index c.requires c.if-n-eq0.false c.index.result.now t c.index.ensures c.index_mut.ensures.value c.complete-else-n-eq0.new.self (completing r) Completed
-    (done.bytes r there) (done.reserved r there) done.sealed done.from done.gone in
+    (done.bytes r there) (done.reserved r there) done.sealed done.from done.gone done.filled in
     record {
       in_segment = log.in_segment;
       place_in_reach = log.place_in_reach;
@@ -95,7 +95,7 @@ invariant_of-self-else-n-eq0 g c =
       follow = follow_with size (log.site.place + size) log.behind.items (c.args.n - 1) t (record { site = t.site; buffer = c.complete-else-n-eq0.new.self }) at refl
           (let long = done.len in let short = follow_in size (log.site.place + size) log.behind.items (c.args.n - 1) t at log.follow in omega (arith, long, short)) log.follow;
       filled = subst (AreFilled size log.reserved_to) (sym line)
-          (filled_ended size log.reserved_to (line_of log) c.args.n (segment_view t) i r r.sum r.kind Completed among (nth_facts log c.args.n (segment_view t) among) there c.requires.open_yet log.filled);
+          (filled_ended size log.reserved_to (line_of log) c.args.n (segment_view t) i r r.sum r.kind Completed among (nth_facts log c.args.n (segment_view t) among) there c.requires.open_yet (λ is. let never : ⊥ = cc in never) log.filled);
       account = log.account;
       pegs = log.pegs;
       room = log.room;
@@ -115,5 +115,5 @@ returns-else-n-eq0-clause-line g c =
     let done = c.complete-else-n-eq0.ensures in
     let there : slice_get t.buffer.reserved.items (c.args.index - s.buffer.gone) ≡ Some r = mut_reserved log c.args.n c.args.index c.requires c.if-n-eq0.false s t c.index.ensures c.index_mut.ensures.value in
     let line = line_behind log c.args.n c.args.index c.requires c.if-n-eq0.false s t c.index.ensures c.index_mut.ensures.value c.complete-else-n-eq0.new.self (completing r) Completed
-    (done.bytes r there) (done.reserved r there) done.sealed done.from done.gone in
+    (done.bytes r there) (done.reserved r there) done.sealed done.from done.gone done.filled in
     line_any log c.args.n c.args.index c.requires c.if-n-eq0.false s t c.index.ensures c.index_mut.ensures.value (λ bytes r. completing r) Completed _ line

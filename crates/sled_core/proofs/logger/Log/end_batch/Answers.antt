@@ -65,7 +65,7 @@ returns-clause-fits g c =
     let place : c.unsigned_abs-low.result ≡ unsigned_abs (place_of c.args.ticket) = c.unsigned_abs-low.ensures.value ∙ says_place c.lsn-place.result (place_of c.args.ticket) c.lsn-place.type_inv c.lsn-place.ensures in
     batch_fits g.D.Device.trace g.C.Checksum.sum_of c.args.self.now c.mark_batch_in.new.self c.note.new.self c.args.ticket c.segment_of-n.result c.index-index.result f c.requires.manifest c.args.peg
     (c.mark_batch_in.ensures.line f.segment f.reserved f.among f.there) c.mark_batch_in.ensures.rest c.note.ensures.rest c.unsigned_abs-low.result place
-    c.note.ensures.noted c.requires.above c.in_default.is c.requires.reserved c.requires.apart
+    c.note.ensures.noted c.requires.above c.in_default.is c.requires.reserved c.requires.apart c.requires.filled
 
 pub returns-clause-others : goal.returns-clause-others
 returns-clause-others g c =

@@ -18,6 +18,7 @@ use Rattle.sled_core.specs.Turned.{HasRoomIn, reserved_now}
 use Rattle.sled_core.specs.Waiting.{at_last}
 use Rattle.sled_core.proofs.Line.Entered.{filled_last}
 use Rattle.sled_core.proofs.Line.Facts.{current_facts}
+use Rattle.sled_core.proofs.Line.Segments.{line_segments}
 use Rattle.sled_core.proofs.Line.Filling.{follow_with, last_none, line_first, line_last, read_last}
 use Rattle.sled_core.proofs.Line.Nth.{last_behind, last_buffer_behind}
 use Rattle.sled_core.proofs.Line.OpenManifests.{manifests_reserved, more_counted, room_more}
@@ -26,11 +27,11 @@ use Rattle.sled_core.proofs.logger.Log.lay_out.Given.{Over}
 use Rattle.sled_core.proofs.logger.Log.lay_out.Goals as goal
 
 -- what code makes of a buffer
-reserved_view : (site : SegmentPosition) (old new : IoBuf) (head item : List ℕ) (r : Reserved) → new.bytes.items ≡ (old.bytes.items ++ head) ++ item → new.reserved.items ≡ old.reserved.items ++ r ∷ [] → new.written_len ≡ old.written_len → new.gone ≡ old.gone → new.sealed.items ≡ old.sealed.items
+reserved_view : (site : SegmentPosition) (old new : IoBuf) (head item : List ℕ) (r : Reserved) → new.bytes.items ≡ (old.bytes.items ++ head) ++ item → new.reserved.items ≡ old.reserved.items ++ r ∷ [] → new.written_len ≡ old.written_len → new.gone ≡ old.gone → new.filled ≡ old.filled → new.sealed.items ≡ old.sealed.items
     → view_at site new ≡ reserved_now (head ++ item) r (view_at site old)
-reserved_view site old new head item r bytes reserved from gone sealed =
+reserved_view site old new head item r bytes reserved from gone filling sealed =
     let all = bytes ∙ append_assoc old.bytes.items head item in
-    λ j. record { parts = record { site = site; bytes = all j; written_len = from j; sealed = sealed j; reserved = reserved j }; gone = gone j }
+    λ j. record { parts = record { site = site; bytes = all j; written_len = from j; filled = filling j; sealed = sealed j; reserved = reserved j }; gone = gone j }
 
 placeholder_some : (head item : List ℕ) → 0 < length (placeholder_head head ++ item)
 placeholder_some head item = omega arith
@@ -40,12 +41,11 @@ laid_long : (old head item new : List ℕ) (n : ℕ) → new ≡ (old ++ head) +
 laid_long old head item new n is long = omega (arith, ap length is, long, length-append (old ++ head) item, length-append old head, length-append head item)
 
 -- The segments are filled as they have to be.
-laid_filled : {D C : Type 0} (log : Log D C) (more : List ℕ) (r : Reserved) (to : ℕ) (line : List SegmentView) → line ≡ at_last (reserved_now more r) (line_of log) → 0 < length more → to ≡ (current_of log).parts.site.place + length (current_of log).parts.bytes + length more
+laid_filled : {D C : Type 0} (log : Log D C) (more : List ℕ) (r : Reserved) (to : ℕ) (line : List SegmentView) → line ≡ at_last (reserved_now more r) (line_of log) → r.state ≡ Open → 0 < length more → to ≡ (current_of log).parts.site.place + length (current_of log).parts.bytes + length more
     → AreFilled log.config.config.segment_size to line
-laid_filled log more r to line is some end =
-    let facts = current_facts log in
+laid_filled log more r to line is is_open some end =
     subst (AreFilled log.config.config.segment_size to) (sym is)
-    (filled_reserved (λ _. 0) log.config.config.segment_size more r log.reserved_to to (view_at log.site log.buffer) (map segment_view log.behind.items) facts.begins facts.are some end log.filled).1
+    (filled_reserved (λ _. 0) log.config.config.segment_size more r log.reserved_to to log.site.place (view_at log.site log.buffer) (map segment_view log.behind.items) (line_segments log) is_open some end log.filled).1
 
 -- What was noted lies below what is reserved then, and as many manifests are open as are counted, at the most.
 laid_pegs : {D C : Type 0} (log : Log D C) (to n : ℕ) → to ≡ (current_of log).parts.site.place + length (current_of log).parts.bytes + n → All (λ (b : NotedBatch). b.peg < to) log.noted.items
@@ -78,14 +78,14 @@ invariant_of-self g c =
       follow = log.follow;
       filled = laid_filled log (head ++ item) _ c.args.to (line_at log.site c.append.new.self log.behind.items)
           (line_first (reserved_now (head ++ item) _) log.site log.buffer c.append.new.self log.behind.items none
-          (reserved_view log.site log.buffer c.append.new.self head item _ c.append.ensures.bytes c.append.ensures.reserved c.append.ensures.from c.append.ensures.gone c.append.ensures.sealed))
-          (placeholder_some (take c.args.head.now.len c.args.head.now.bytes) item) (omega (arith, c.requires.end, long));
+          (reserved_view log.site log.buffer c.append.new.self head item _ c.append.ensures.bytes c.append.ensures.reserved c.append.ensures.from c.append.ensures.gone c.append.ensures.filled c.append.ensures.sealed))
+          refl (placeholder_some (take c.args.head.now.len c.args.head.now.bytes) item) (omega (arith, c.requires.end, long));
       account = log.account;
       pegs = laid_pegs log c.args.to (c.args.head.now.len + c.args.item_len) c.requires.end;
       room = room_more c.is_manifest-manifest.result (length log.noted.items) log.manifests c.with_manifest-manifests.result _ c.with_manifest-manifests.ensures log.room (λ is. (c.requires.batch (sym c.is_manifest-manifest.ensures ∙ is)).place);
       counted = laid_counted log (head ++ item) _ c.is_manifest-manifest.result c.with_manifest-manifests.result (line_at log.site c.append.new.self log.behind.items)
           (line_first (reserved_now (head ++ item) _) log.site log.buffer c.append.new.self log.behind.items none
-          (reserved_view log.site log.buffer c.append.new.self head item _ c.append.ensures.bytes c.append.ensures.reserved c.append.ensures.from c.append.ensures.gone c.append.ensures.sealed))
+          (reserved_view log.site log.buffer c.append.new.self head item _ c.append.ensures.bytes c.append.ensures.reserved c.append.ensures.from c.append.ensures.gone c.append.ensures.filled c.append.ensures.sealed))
           refl c.is_manifest-manifest.ensures c.with_manifest-manifests.ensures;
     }
 
@@ -115,7 +115,7 @@ append-requires-else-n-eq0-clause-few g c = (has_room g c).few
 
 -- what code makes of it
 module _ {D C : Type 0} (log : Log D C) (n : ℕ) (s : SegmentBuffer) (at : suc n ≡ length log.behind.items) (there : slice_get log.behind.items n ≡ Some s) (new : IoBuf) (head item : List ℕ) (r : Reserved)
-    (bytes : new.bytes.items ≡ (s.buffer.bytes.items ++ head) ++ item) (reserved : new.reserved.items ≡ s.buffer.reserved.items ++ r ∷ []) (from : new.written_len ≡ s.buffer.written_len) (gone : new.gone ≡ s.buffer.gone)
+    (bytes : new.bytes.items ≡ (s.buffer.bytes.items ++ head) ++ item) (reserved : new.reserved.items ≡ s.buffer.reserved.items ++ r ∷ []) (from : new.written_len ≡ s.buffer.written_len) (gone : new.gone ≡ s.buffer.gone) (filling : new.filled ≡ s.buffer.filled)
     (sealed : new.sealed.items ≡ s.buffer.sealed.items) where
   is_current : current_of log ≡ segment_view s
   is_current = last_behind (view_at log.site log.buffer) log.behind.items s n at there
@@ -124,7 +124,7 @@ module _ {D C : Type 0} (log : Log D C) (n : ℕ) (s : SegmentBuffer) (at : suc 
   now = record { site = s.site; buffer = new }
 
   laid_line : line_at log.site log.buffer (set log.behind.items n now) ≡ at_last (reserved_now (head ++ item) r) (line_of log)
-  laid_line = line_last (reserved_now (head ++ item) r) (view_at log.site log.buffer) log.behind.items n s now at there (reserved_view s.site s.buffer new head item r bytes reserved from gone sealed)
+  laid_line = line_last (reserved_now (head ++ item) r) (view_at log.site log.buffer) log.behind.items n s now at there (reserved_view s.site s.buffer new head item r bytes reserved from gone filling sealed)
 
 pub invariant_of-self-else-n-eq0 : goal.invariant_of-self-else-n-eq0
 invariant_of-self-else-n-eq0 g c =
@@ -138,7 +138,7 @@ invariant_of-self-else-n-eq0 g c =
     let new : IoBuf = c.append-else-n-eq0.new.self in
     let made = c.append-else-n-eq0.ensures in
     let long : length (head ++ item) ≡ c.args.head.now.len + c.args.item_len = laid_long s.buffer.bytes.items head item new.bytes.items (c.args.head.now.len + c.args.item_len) made.bytes (omega (arith, made.len)) in
-    let current : current_of log ≡ segment_view s = is_current log n s is.0 is.1 new head item _ made.bytes made.reserved made.from made.gone made.sealed in
+    let current : current_of log ≡ segment_view s = is_current log n s is.0 is.1 new head item _ made.bytes made.reserved made.from made.gone made.filled made.sealed in
     let bytes : length (current_of log).parts.bytes ≡ length s.buffer.bytes.items = ap (λ (v : SegmentView). length v.parts.bytes) current in
     let fits = c.requires.place.record_fits in
     record {
@@ -148,13 +148,13 @@ invariant_of-self-else-n-eq0 g c =
       waits = λ some. log.waits (omega (arith, is.0));
       follow = follow_with log.config.config.segment_size (log.site.place + log.config.config.segment_size) log.behind.items n s (record { site = s.site; buffer = new }) is.1 refl (omega (arith, made.len, bytes, fits)) log.follow;
       filled = laid_filled log (head ++ item) _ c.args.to (line_at log.site log.buffer (set log.behind.items n (record { site = s.site; buffer = new })))
-          (laid_line log n s is.0 is.1 new head item _ made.bytes made.reserved made.from made.gone made.sealed)
-          (placeholder_some (take c.args.head.now.len c.args.head.now.bytes) item) (omega (arith, c.requires.end, long));
+          (laid_line log n s is.0 is.1 new head item _ made.bytes made.reserved made.from made.gone made.filled made.sealed)
+          refl (placeholder_some (take c.args.head.now.len c.args.head.now.bytes) item) (omega (arith, c.requires.end, long));
       account = log.account;
       pegs = laid_pegs log c.args.to (c.args.head.now.len + c.args.item_len) c.requires.end;
       room = room_more c.is_manifest-manifest.result (length log.noted.items) log.manifests c.with_manifest-manifests.result _ c.with_manifest-manifests.ensures log.room (λ is. (c.requires.batch (sym c.is_manifest-manifest.ensures ∙ is)).place);
       counted = laid_counted log (head ++ item) _ c.is_manifest-manifest.result c.with_manifest-manifests.result (line_at log.site log.buffer (set log.behind.items n (record { site = s.site; buffer = new })))
-          (laid_line log n s is.0 is.1 new head item _ made.bytes made.reserved made.from made.gone made.sealed)
+          (laid_line log n s is.0 is.1 new head item _ made.bytes made.reserved made.from made.gone made.filled made.sealed)
           refl c.is_manifest-manifest.ensures c.with_manifest-manifests.ensures;
     }
 
@@ -168,6 +168,6 @@ returns-else-n-eq0-clause-line g c =
     let head : List ℕ = placeholder_head (take c.args.head.now.len c.args.head.now.bytes) in
     let item : List ℕ = g.T.Serialize.short (g.T.Serialize.meaning c.args.item.now) in
     let made = c.append-else-n-eq0.ensures in
-    let current : current_of log ≡ segment_view s = is_current log n s is.0 is.1 c.append-else-n-eq0.new.self head item _ made.bytes made.reserved made.from made.gone made.sealed in
-    laid_line log n s is.0 is.1 c.append-else-n-eq0.new.self head item _ made.bytes made.reserved made.from made.gone made.sealed
+    let current : current_of log ≡ segment_view s = is_current log n s is.0 is.1 c.append-else-n-eq0.new.self head item _ made.bytes made.reserved made.from made.gone made.filled made.sealed in
+    laid_line log n s is.0 is.1 c.append-else-n-eq0.new.self head item _ made.bytes made.reserved made.from made.gone made.filled made.sealed
     ∙ ap (λ (v : SegmentView). at_last (reserved_now (head ++ item) (reserved_for c.args.purpose.now (length v.parts.bytes) c.args.head.now.len c.args.item_len (g.C.Checksum.sum_of (item ++ drop 4 (take c.args.head.now.len c.args.head.now.bytes))))) (line_of log)) (sym current)

@@ -29,7 +29,7 @@ invariant_of-self g c =
     let facts = nth_facts log 0 (view_at log.site log.buffer) refl in
     let among : slice_get (line_of log) c.args.n ≡ Some (view_at log.site log.buffer) = ap (slice_get (line_of log)) c.if-n-eq0.true in
     let short = marking_short g.C.Checksum.sum_of (view_at log.site log.buffer) i r c.args.peg facts there c.requires.awaited.open_yet (c.requires.body (view_at log.site log.buffer) r among there) in
-    let view = ended_view log.site log.buffer c.mark_batch.new.self i r (marking g.C.Checksum.sum_of log.buffer.bytes.items r c.args.peg) Manifest (c.mark_batch.ensures.bytes r there) (c.mark_batch.ensures.reserved r there) c.mark_batch.ensures.sealed c.mark_batch.ensures.from c.mark_batch.ensures.gone in
+    let view = ended_view log.site log.buffer c.mark_batch.new.self i r (marking g.C.Checksum.sum_of log.buffer.bytes.items r c.args.peg) Manifest (c.mark_batch.ensures.bytes r there) (c.mark_batch.ensures.reserved r there) c.mark_batch.ensures.sealed c.mark_batch.ensures.from c.mark_batch.ensures.gone c.mark_batch.ensures.filled in
     let line : line_at log.site c.mark_batch.new.self log.behind.items ≡ set (line_of log) 0 (ended_now i r (marking g.C.Checksum.sum_of log.buffer.bytes.items r c.args.peg) Manifest (view_at log.site log.buffer)) = ap (λ (w : SegmentView). w ∷ map segment_view log.behind.items) view in
     record {
       in_segment = (let long = c.mark_batch.ensures.len in let short = log.in_segment in omega (arith, long, short));
@@ -38,7 +38,7 @@ invariant_of-self g c =
       waits = λ some. (let from = c.mark_batch.ensures.from in let less = log.waits some in omega (arith, from, less));
       follow = log.follow;
       filled = subst (AreFilled size log.reserved_to) (sym line)
-          (filled_over size log.reserved_to (line_of log) 0 (view_at log.site log.buffer) i r (marking g.C.Checksum.sum_of log.buffer.bytes.items r c.args.peg) Manifest refl facts there short log.filled);
+          (filled_over size log.reserved_to (line_of log) 0 (view_at log.site log.buffer) i r (marking g.C.Checksum.sum_of log.buffer.bytes.items r c.args.peg) Manifest refl facts there c.requires.awaited.open_yet (λ is. let never : ⊥ = cc in never) short log.filled);
       account = log.account;
       pegs = log.pegs;
       room = log.room;
@@ -100,7 +100,7 @@ invariant_of-self-else-n-eq0 g c =
     let own : slice_get t.buffer.reserved.items (c.args.index - t.buffer.gone) ≡ Some r = read_reserved log c.args.n c.args.index c.requires.awaited c.if-n-eq0.false t c.index_mut.ensures.value in
     let short = marking_short g.C.Checksum.sum_of (segment_view t) i r c.args.peg facts there c.requires.awaited.open_yet (c.requires.body (segment_view t) r among own) in
     let line = line_behind log c.args.n c.args.index c.requires.awaited c.if-n-eq0.false c.index.result.now t c.index.ensures c.index_mut.ensures.value c.mark_batch-else-n-eq0.new.self (marking g.C.Checksum.sum_of t.buffer.bytes.items r c.args.peg) Manifest
-    (done.bytes r there) (done.reserved r there) done.sealed done.from done.gone in
+    (done.bytes r there) (done.reserved r there) done.sealed done.from done.gone done.filled in
     record {
       in_segment = log.in_segment;
       place_in_reach = log.place_in_reach;
@@ -109,7 +109,7 @@ invariant_of-self-else-n-eq0 g c =
       follow = follow_with size (log.site.place + size) log.behind.items (c.args.n - 1) t (record { site = t.site; buffer = c.mark_batch-else-n-eq0.new.self }) at refl
           (let long = done.len in let short = follow_in size (log.site.place + size) log.behind.items (c.args.n - 1) t at log.follow in omega (arith, long, short)) log.follow;
       filled = subst (AreFilled size log.reserved_to) (sym line)
-          (filled_over size log.reserved_to (line_of log) c.args.n (segment_view t) i r (marking g.C.Checksum.sum_of t.buffer.bytes.items r c.args.peg) Manifest among facts there short log.filled);
+          (filled_over size log.reserved_to (line_of log) c.args.n (segment_view t) i r (marking g.C.Checksum.sum_of t.buffer.bytes.items r c.args.peg) Manifest among facts there c.requires.awaited.open_yet (λ is. let never : ⊥ = cc in never) short log.filled);
       account = log.account;
       pegs = log.pegs;
       room = log.room;
@@ -129,5 +129,5 @@ returns-else-n-eq0-clause-line g c =
     let done = c.mark_batch-else-n-eq0.ensures in
     let there : slice_get t.buffer.reserved.items (c.args.index - s.buffer.gone) ≡ Some r = mut_reserved log c.args.n c.args.index c.requires.awaited c.if-n-eq0.false s t c.index.ensures c.index_mut.ensures.value in
     let line = line_behind log c.args.n c.args.index c.requires.awaited c.if-n-eq0.false s t c.index.ensures c.index_mut.ensures.value c.mark_batch-else-n-eq0.new.self (marking g.C.Checksum.sum_of t.buffer.bytes.items r c.args.peg) Manifest
-    (done.bytes r there) (done.reserved r there) done.sealed done.from done.gone in
+    (done.bytes r there) (done.reserved r there) done.sealed done.from done.gone done.filled in
     line_any log c.args.n c.args.index c.requires.awaited c.if-n-eq0.false s t c.index.ensures c.index_mut.ensures.value (λ bytes x. marking g.C.Checksum.sum_of bytes x c.args.peg) Manifest _ line

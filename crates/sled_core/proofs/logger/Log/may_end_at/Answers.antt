@@ -4,7 +4,8 @@ use Rattle.std.specs.Prelude.{◌<ℤ◌}
 use Rattle.std.specs.List.{Contains}
 use Rattle.std.proofs.lemmas.Int.{ints, to_z-of_z, to_z_pos}
 use Rattle.sled_codec.specs.History.{Batch}
-use Rattle.sled_core.specs.Fits.{noted_in, reserved_end}
+use Rattle.sled_core.specs.Batches.{LiesInNoFilling}
+use Rattle.sled_core.specs.Fits.{line_of, noted_in, reserved_end, segment_size_of}
 use Rattle.sled_core.specs.Tickets.{place_of}
 use Rattle.sled_core.proofs.Stable.Places.{inside_read, reserved_in_reach}
 use Rattle.sled_core.proofs.logger.Log.may_end_at.Goals as goal
@@ -39,15 +40,33 @@ returns-then-peg-place g c = (
       ],
 )
 
-pub returns : goal.returns
-returns g c =
+-- Behind both tests the place isn't below the manifest, and was reserved; it has to lie apart from the batches and in no filling.
+pub returns-then-is_apart : goal.returns-then-is_apart
+returns-then-is_apart g c =
     let log = c.args.self.now in
     let at = place_of c.args.ticket.now in
     let place : to_z w64 (of_z w64 c.lsn-place.result) ≡ at = to_z-of_z w64 c.lsn-place.result (record { sfits = c.lsn-place.type_inv }) ∙ c.lsn-place.ensures in
     let peg = to_z-of_z w64 c.args.peg c.ranges.peg in
     let end = to_z_pos w64 (reserved_end log) (reserved_in_reach log) in
     let above = sym (test_read int_lt c.args.peg at _ _ peg place) ∙ c.if-peg-place.false in
+    let same = apart_as (Contains (noted_in log)) at c.args.peg _ _ place peg in
+    let In : ℤ → Type 0 = LiesInNoFilling (segment_size_of log) (line_of log) in (
+      λ yes. record {
+        above = grind (arith, ints, above);
+        reserved = inside_read c.args.peg _ _ (reserved_end log) peg end c.if-peg-self.false;
+        filled = subst In peg (c.is_in_no_filling.ensures.0 yes);
+        apart = subst (λ (X : Type 0). X) same (c.is_apart.ensures.0 c.if-is_apart.true);
+      },
+      λ may. c.is_in_no_filling.ensures.1 (subst In (sym peg) may.filled),
+    )
+
+pub returns-else-is_apart : goal.returns-else-is_apart
+returns-else-is_apart g c =
+    let log = c.args.self.now in
+    let at = place_of c.args.ticket.now in
+    let place : to_z w64 (of_z w64 c.lsn-place.result) ≡ at = to_z-of_z w64 c.lsn-place.result (record { sfits = c.lsn-place.type_inv }) ∙ c.lsn-place.ensures in
+    let peg = to_z-of_z w64 c.args.peg c.ranges.peg in
     let same = apart_as (Contains (noted_in log)) at c.args.peg _ _ place peg in (
-      λ yes. record { above = grind (arith, ints, above); reserved = inside_read c.args.peg _ _ (reserved_end log) peg end c.if-peg-self.false; apart = subst (λ (X : Type 0). X) same (c.is_apart.ensures.0 yes) },
+      λ yes. absurd (let both : false ≡ true = sym c.if-is_apart.false ∙ yes in cc),
       λ may. c.is_apart.ensures.1 (subst (λ (X : Type 0). X) (sym same) may.apart),
     )

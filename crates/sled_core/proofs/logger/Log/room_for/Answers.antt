@@ -60,7 +60,7 @@ invariant_of-self-then-n-eq0 g c =
     let log = c.args.self.now in
     let made = c.make_room.ensures in
     let new : IoBuf = c.make_room.new.self in
-    let line : line_at log.site new log.behind.items ≡ line_of log = λ j. record { parts = record { site = log.site; bytes = made.bytes j; written_len = made.from j; sealed = made.sealed j; reserved = made.reserved j }; gone = made.gone j } ∷ map segment_view log.behind.items in
+    let line : line_at log.site new log.behind.items ≡ line_of log = λ j. record { parts = record { site = log.site; bytes = made.bytes j; written_len = made.from j; filled = made.filled j; sealed = made.sealed j; reserved = made.reserved j }; gone = made.gone j } ∷ map segment_view log.behind.items in
     let from = made.from in
     let short = log.in_segment in
     record {
@@ -78,12 +78,12 @@ invariant_of-self-then-n-eq0 g c =
 
 -- The last one behind the first is as it was, but for its room.
 module _ {D C : Type 0} (log : Log D C) (n : ℕ) (s : SegmentBuffer) (at : suc n ≡ length log.behind.items) (there : slice_get log.behind.items n ≡ Some s) (new : IoBuf)
-    (bytes : new.bytes.items ≡ s.buffer.bytes.items) (from : new.written_len ≡ s.buffer.written_len) (reserved : new.reserved.items ≡ s.buffer.reserved.items) (gone : new.gone ≡ s.buffer.gone) (sealed : new.sealed.items ≡ s.buffer.sealed.items) where
+    (bytes : new.bytes.items ≡ s.buffer.bytes.items) (from : new.written_len ≡ s.buffer.written_len) (reserved : new.reserved.items ≡ s.buffer.reserved.items) (gone : new.gone ≡ s.buffer.gone) (filling : new.filled ≡ s.buffer.filled) (sealed : new.sealed.items ≡ s.buffer.sealed.items) where
   abbrev now : SegmentBuffer
   now = record { site = s.site; buffer = new }
 
   same_line : line_at log.site log.buffer (set log.behind.items n now) ≡ line_of log
-  same_line = line_kept (view_at log.site log.buffer) log.behind.items n s now at there (λ j. record { parts = record { site = s.site; bytes = bytes j; written_len = from j; sealed = sealed j; reserved = reserved j }; gone = gone j })
+  same_line = line_kept (view_at log.site log.buffer) log.behind.items n s now at there (λ j. record { parts = record { site = s.site; bytes = bytes j; written_len = from j; filled = filling j; sealed = sealed j; reserved = reserved j }; gone = gone j })
 
   same_filled : AreFilled log.config.config.segment_size log.reserved_to (line_at log.site log.buffer (set log.behind.items n now))
   same_filled = subst (AreFilled log.config.config.segment_size log.reserved_to) (sym same_line) log.filled
@@ -108,11 +108,11 @@ invariant_of-self-2 g c =
       slot_in_reach = log.slot_in_reach;
       waits = λ some. log.waits (omega (arith, is.0));
       follow = follow_with size (log.site.place + size) log.behind.items n s (record { site = s.site; buffer = new }) is.1 refl (omega (arith, ap length made.bytes, old)) log.follow;
-      filled = same_filled log n s is.0 is.1 new made.bytes made.from made.reserved made.gone made.sealed;
+      filled = same_filled log n s is.0 is.1 new made.bytes made.from made.reserved made.gone made.filled made.sealed;
       account = log.account;
       pegs = subst (All (λ (b : NotedBatch). b.peg < log.reserved_to)) (sym c.room_for_batch.ensures.items) log.pegs;
       room = (let many = ap length c.room_for_batch.ensures.items in let grows = c.room_for_batch.ensures.grows in let old = log.room in omega (arith, many, grows, old));
-      counted = (let same = ap open_manifests (same_line log n s is.0 is.1 new made.bytes made.from made.reserved made.gone made.sealed) in let old = log.counted in omega (arith, same, old));
+      counted = (let same = ap open_manifests (same_line log n s is.0 is.1 new made.bytes made.from made.reserved made.gone made.filled made.sealed) in let old = log.counted in omega (arith, same, old));
     }
 
 pub returns-clause-line : goal.returns-clause-line
@@ -122,7 +122,7 @@ returns-clause-line g c =
     let counted : deque_len log.behind ≡ length log.behind.items = search rules in
     let is = read_last log.behind.items c.len-n.result s (c.len-n.ensures ∙ counted) c.if-n-eq0.false c.index_mut.ensures.value in
     let made = c.make_room-2.ensures in
-    same_line log (c.len-n.result - 1) s is.0 is.1 c.make_room-2.new.self made.bytes made.from made.reserved made.gone made.sealed
+    same_line log (c.len-n.result - 1) s is.0 is.1 c.make_room-2.new.self made.bytes made.from made.reserved made.gone made.filled made.sealed
 
 pub returns-clause-room : goal.returns-clause-room
 returns-clause-room g c =
@@ -139,5 +139,5 @@ returns-clause-room g c =
     let most : open_in (drop (sealed_count b.sealed.items) b.reserved.items) ≤ most_open = subst (λ (k : ℕ). open_in (drop k b.reserved.items) ≤ most_open) b.before (let counted = b.counted in let few = b.few in omega (arith, counted, few)) in
     let few : open_in (drop (sealed_count b.sealed.items) b.reserved.items) < most_open = omega (arith, most, not_full) in
     let few_now : open_in (drop (sealed_count new.sealed.items) new.reserved.items) < most_open = subst (λ (n : ℕ). n < most_open) ((λ j. open_in (drop (sealed_count (is_last j).sealed.items) (is_last j).reserved.items)) ∙ sym (λ j. open_in (drop (sealed_count (made.sealed j)) (made.reserved j)))) few in
-    subst (λ (x : IoBuf). OnOk c.make_room-2.result (HasRoomIn x c.args.len)) (sym (its_buffer log n s is.0 is.1 new made.bytes made.from made.reserved made.gone made.sealed))
+    subst (λ (x : IoBuf). OnOk c.make_room-2.result (HasRoomIn x c.args.len)) (sym (its_buffer log n s is.0 is.1 new made.bytes made.from made.reserved made.gone made.filled made.sealed))
     (on_both c.make_room-2.result _ _ (HasRoomIn new c.args.len) (λ room place. record { bytes = omega (arith, room, ap length made.bytes); reserved = place; few = few_now }) made.room made.place)

@@ -1,5 +1,5 @@
 -- The current buffer is sealed: with its segment, where no further record has room there, and else alone.
-use Rattle.std.proofs.Common.{◌≡◌, ◌∙◌, ◌+◌, ◌≤◌, ap, sym, arith, ℕ, List, [], length, if◌then◌else◌, Bool}
+use Rattle.std.proofs.Common.{◌≡◌, ◌∙◌, ◌+◌, ◌≤◌, ap, sym, arith, inl, refl, ℕ, List, [], length, if◌then◌else◌, Bool}
 use Rattle.std.proofs.lemmas.List.{append-nil}
 use Rattle.std.proofs.lemmas.List.Elements.{All-nil}
 use Rattle.sled_core.specs.declared.logger.Log.{Log}
@@ -20,6 +20,9 @@ begin_next-requires-clause-behind g c = turns_low c.args.self.now c.requires.som
 
 pub begin_next-requires-clause-within : goal.begin_next-requires-clause-within
 begin_next-requires-clause-within g c = let within = turns_within c.args.self.now in omega (arith, within)
+
+pub begin_next-requires-clause-apart : goal.begin_next-requires-clause-apart
+begin_next-requires-clause-apart g c = record { ends = inl refl }
 
 pub returns-then-is_short-clause-waiting : goal.returns-then-is_short-clause-waiting
 returns-then-is_short-clause-waiting g c =

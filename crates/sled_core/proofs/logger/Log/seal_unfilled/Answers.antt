@@ -21,12 +21,12 @@ use Rattle.sled_core.proofs.logger.Log.seal_unfilled.Goals as goal
 
 -- what code makes of a buffer
 sealed_view : (site : SegmentPosition) (old new : IoBuf) → new.sealed.items ≡ old.sealed.items ++ seal_at (length old.bytes.items) (drop (sealed_count old.sealed.items) old.reserved.items) ∷ [] → new.bytes.items ≡ old.bytes.items → new.written_len ≡ old.written_len
-    → new.reserved.items ≡ old.reserved.items → new.gone ≡ old.gone → view_at site new ≡ sealed_now (view_at site old)
-sealed_view site old new sealed bytes from reserved gone = λ j. record { parts = record { site = site; bytes = bytes j; written_len = from j; sealed = sealed j; reserved = reserved j }; gone = gone j }
+    → new.reserved.items ≡ old.reserved.items → new.gone ≡ old.gone → new.filled ≡ old.filled → view_at site new ≡ sealed_now (view_at site old)
+sealed_view site old new sealed bytes from reserved gone filling = λ j. record { parts = record { site = site; bytes = bytes j; written_len = from j; filled = filling j; sealed = sealed j; reserved = reserved j }; gone = gone j }
 
-same_view : (site : SegmentPosition) (old new : IoBuf) → new.sealed.items ≡ old.sealed.items → new.bytes.items ≡ old.bytes.items → new.written_len ≡ old.written_len → new.reserved.items ≡ old.reserved.items → new.gone ≡ old.gone
+same_view : (site : SegmentPosition) (old new : IoBuf) → new.sealed.items ≡ old.sealed.items → new.bytes.items ≡ old.bytes.items → new.written_len ≡ old.written_len → new.reserved.items ≡ old.reserved.items → new.gone ≡ old.gone → new.filled ≡ old.filled
     → view_at site new ≡ view_at site old
-same_view site old new sealed bytes from reserved gone = λ j. record { parts = record { site = site; bytes = bytes j; written_len = from j; sealed = sealed j; reserved = reserved j }; gone = gone j }
+same_view site old new sealed bytes from reserved gone filling = λ j. record { parts = record { site = site; bytes = bytes j; written_len = from j; filled = filling j; sealed = sealed j; reserved = reserved j }; gone = gone j }
 
 -- The segments are filled as they have to be, sealed or not.
 module _ {D C : Type 0} (log : Log D C) (room : is_short (segment_size_of log) (length (current_of log).parts.bytes) ≡ false) where
@@ -61,15 +61,15 @@ invariant_of-self g c =
       waits = λ some. absurd (omega (arith, some, none));
       follow = log.follow;
       filled = either c.seal.result _ _ (AreFilled log.config.config.segment_size log.reserved_to line)
-          (λ sealed. sealed_filled log c.requires.room line (line_first sealed_now log.site log.buffer new log.behind.items none (sealed_view log.site log.buffer new sealed made.bytes made.from made.reserved made.gone)))
-          (λ unsealed. still_filled log c.requires.room line (ap (λ (v : SegmentView). v ∷ map segment_view log.behind.items) (same_view log.site log.buffer new unsealed made.bytes made.from made.reserved made.gone)))
+          (λ sealed. sealed_filled log c.requires.room line (line_first sealed_now log.site log.buffer new log.behind.items none (sealed_view log.site log.buffer new sealed made.bytes made.from made.reserved made.gone made.filled)))
+          (λ unsealed. still_filled log c.requires.room line (ap (λ (v : SegmentView). v ∷ map segment_view log.behind.items) (same_view log.site log.buffer new unsealed made.bytes made.from made.reserved made.gone made.filled)))
           made.sealed made.unsealed;
       account = log.account;
       pegs = log.pegs;
       room = log.room;
       counted = either c.seal.result _ _ (open_manifests line ≤ log.manifests)
-          (λ sealed. sealed_counted log line (line_first sealed_now log.site log.buffer new log.behind.items none (sealed_view log.site log.buffer new sealed made.bytes made.from made.reserved made.gone)))
-          (λ unsealed. still_counted log line (ap (λ (v : SegmentView). v ∷ map segment_view log.behind.items) (same_view log.site log.buffer new unsealed made.bytes made.from made.reserved made.gone)))
+          (λ sealed. sealed_counted log line (line_first sealed_now log.site log.buffer new log.behind.items none (sealed_view log.site log.buffer new sealed made.bytes made.from made.reserved made.gone made.filled)))
+          (λ unsealed. still_counted log line (ap (λ (v : SegmentView). v ∷ map segment_view log.behind.items) (same_view log.site log.buffer new unsealed made.bytes made.from made.reserved made.gone made.filled)))
           made.sealed made.unsealed;
     }
 
@@ -89,16 +89,16 @@ seal-requires-2 g c =
 
 -- what code makes of it
 module _ {D C : Type 0} (log : Log D C) (n : ℕ) (s : SegmentBuffer) (at : suc n ≡ length log.behind.items) (there : slice_get log.behind.items n ≡ Some s) (new : IoBuf)
-    (bytes : new.bytes.items ≡ s.buffer.bytes.items) (from : new.written_len ≡ s.buffer.written_len) (reserved : new.reserved.items ≡ s.buffer.reserved.items) (gone : new.gone ≡ s.buffer.gone) where
+    (bytes : new.bytes.items ≡ s.buffer.bytes.items) (from : new.written_len ≡ s.buffer.written_len) (reserved : new.reserved.items ≡ s.buffer.reserved.items) (gone : new.gone ≡ s.buffer.gone) (filling : new.filled ≡ s.buffer.filled) where
   abbrev now : SegmentBuffer
   now = record { site = s.site; buffer = new }
 
   sealed_line : new.sealed.items ≡ s.buffer.sealed.items ++ seal_at (length s.buffer.bytes.items) (drop (sealed_count s.buffer.sealed.items) s.buffer.reserved.items) ∷ []
       → line_at log.site log.buffer (set log.behind.items n now) ≡ at_last sealed_now (line_of log)
-  sealed_line sealed = line_last sealed_now (view_at log.site log.buffer) log.behind.items n s now at there (sealed_view s.site s.buffer new sealed bytes from reserved gone)
+  sealed_line sealed = line_last sealed_now (view_at log.site log.buffer) log.behind.items n s now at there (sealed_view s.site s.buffer new sealed bytes from reserved gone filling)
 
   same_line : new.sealed.items ≡ s.buffer.sealed.items → line_at log.site log.buffer (set log.behind.items n now) ≡ line_of log
-  same_line unsealed = line_kept (view_at log.site log.buffer) log.behind.items n s now at there (same_view s.site s.buffer new unsealed bytes from reserved gone)
+  same_line unsealed = line_kept (view_at log.site log.buffer) log.behind.items n s now at there (same_view s.site s.buffer new unsealed bytes from reserved gone filling)
 
 pub invariant_of-self-2 : goal.invariant_of-self-2
 invariant_of-self-2 g c =
@@ -119,15 +119,15 @@ invariant_of-self-2 g c =
       waits = λ some. log.waits (omega (arith, is.0));
       follow = follow_with size (log.site.place + size) log.behind.items n s (record { site = s.site; buffer = new }) is.1 refl (omega (arith, ap length made.bytes, old)) log.follow;
       filled = either c.seal-2.result _ _ (AreFilled size log.reserved_to line)
-          (λ sealed. sealed_filled log c.requires.room line (sealed_line log n s is.0 is.1 new made.bytes made.from made.reserved made.gone sealed))
-          (λ unsealed. still_filled log c.requires.room line (same_line log n s is.0 is.1 new made.bytes made.from made.reserved made.gone unsealed))
+          (λ sealed. sealed_filled log c.requires.room line (sealed_line log n s is.0 is.1 new made.bytes made.from made.reserved made.gone made.filled sealed))
+          (λ unsealed. still_filled log c.requires.room line (same_line log n s is.0 is.1 new made.bytes made.from made.reserved made.gone made.filled unsealed))
           made.sealed made.unsealed;
       account = log.account;
       pegs = log.pegs;
       room = log.room;
       counted = either c.seal-2.result _ _ (open_manifests line ≤ log.manifests)
-          (λ sealed. sealed_counted log line (sealed_line log n s is.0 is.1 new made.bytes made.from made.reserved made.gone sealed))
-          (λ unsealed. still_counted log line (same_line log n s is.0 is.1 new made.bytes made.from made.reserved made.gone unsealed))
+          (λ sealed. sealed_counted log line (sealed_line log n s is.0 is.1 new made.bytes made.from made.reserved made.gone made.filled sealed))
+          (λ unsealed. still_counted log line (same_line log n s is.0 is.1 new made.bytes made.from made.reserved made.gone made.filled unsealed))
           made.sealed made.unsealed;
     }
 
@@ -138,7 +138,7 @@ returns-clause-line g c =
     let counted : deque_len log.behind ≡ length log.behind.items = search rules in
     let is = read_last log.behind.items c.len-n.result s (c.len-n.ensures ∙ counted) c.if-n-eq0.false c.index_mut.ensures.value in
     let made = c.seal-2.ensures in
-    on_ok c.seal-2.result _ _ (λ sealed. sealed_line log (c.len-n.result - 1) s is.0 is.1 c.seal-2.new.self made.bytes made.from made.reserved made.gone sealed) made.sealed
+    on_ok c.seal-2.result _ _ (λ sealed. sealed_line log (c.len-n.result - 1) s is.0 is.1 c.seal-2.new.self made.bytes made.from made.reserved made.gone made.filled sealed) made.sealed
 
 pub returns-clause-unsealed : goal.returns-clause-unsealed
 returns-clause-unsealed g c =
@@ -147,4 +147,4 @@ returns-clause-unsealed g c =
     let counted : deque_len log.behind ≡ length log.behind.items = search rules in
     let is = read_last log.behind.items c.len-n.result s (c.len-n.ensures ∙ counted) c.if-n-eq0.false c.index_mut.ensures.value in
     let made = c.seal-2.ensures in
-    on_err c.seal-2.result _ _ (λ unsealed. same_line log (c.len-n.result - 1) s is.0 is.1 c.seal-2.new.self made.bytes made.from made.reserved made.gone unsealed) made.unsealed
+    on_err c.seal-2.result _ _ (λ unsealed. same_line log (c.len-n.result - 1) s is.0 is.1 c.seal-2.new.self made.bytes made.from made.reserved made.gone made.filled unsealed) made.unsealed

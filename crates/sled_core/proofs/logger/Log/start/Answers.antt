@@ -20,7 +20,7 @@ use Rattle.sled_core.specs.declared.iobuf.Reserved.{Reserved}
 use Rattle.sled_core.specs.declared.iobuf.Sealed.{Sealed}
 use Rattle.sled_core.specs.declared.logger.batches.NotedBatch.{NotedBatch}
 use Rattle.sled_core.specs.declared.logger.segments.SegmentBuffer.{SegmentBuffer}
-use Rattle.sled_core.specs.Begun.{AreEntered, AreFilled, FollowOn, SegmentView, begin_of, line_at, segment_view, view_at}
+use Rattle.sled_core.specs.Begun.{AreEntered, AreFilled, FollowOn, IsUnfilled, SegmentView, begin_of, line_at, segment_view, view_at}
 use Rattle.sled_core.specs.Fits.{CloseBelow, FitsBatches, Holds, HoldsIn, HoldsLine, NoneOpenIn, line_end, log_parts, written_to}
 use Rattle.sled_core.specs.FreeSlots.{HasSlots, begun_machine}
 use Rattle.sled_core.specs.OpenBatches.{batch_of, not_whole}
@@ -40,7 +40,7 @@ use Rattle.sled_core.proofs.Start.StartFits.{start_fits}
 use Rattle.sled_core.proofs.Start.OpenLemmas.{in_segment, place_in_reach, slot_in_reach, begins_offset, begins_place, first_next}
 use Rattle.sled_core.proofs.Start.ReadyLemmas.{begins_closed, begins_ready}
 use Rattle.sled_store.proofs.Traces.ScriptLemmas.{later_performed}
-use Rattle.sled_core.specs.Buffers.{none_open}
+use Rattle.sled_core.specs.Buffers.{none_open, records_end}
 use Rattle.sled_core.proofs.logger.Log.start.Goals as goal
 
 -- the only segment has no open reservation
@@ -101,7 +101,7 @@ invariant_of-result g c =
           let behind = c.in-Ok.buffer.behind in
           let begins = c.in-Ok.buffer.begins in
           subst (λ (ss : List SegmentBuffer). AreFilled c.begin.new.config.config.segment_size (c.in-Ok.beginning.place + c.in-Ok.beginning.offset) (line_at (record { place = c.in-Ok.beginning.place; slot = c.in-Ok.beginning.slot }) c.in-Ok.buffer ss)) (sym c.no_segments.ensures)
-          (omega (arith, at, low, same), omega (arith, at, behind, begins), entered_none (c.in-Ok.beginning.place + c.in-Ok.beginning.offset) c.in-Ok.beginning.place c.in-Ok.buffer.written_len c.in-Ok.buffer.sealed.items c.in-Ok.buffer.reserved.items first.sealed first.reserved));
+          (omega (arith, at, low, same), omega (arith, at, behind, begins), entered_none (c.in-Ok.beginning.place + c.in-Ok.beginning.offset) c.in-Ok.beginning.place c.in-Ok.buffer.written_len c.in-Ok.buffer.sealed.items c.in-Ok.buffer.reserved.items first.sealed first.reserved, subst IsUnfilled (sym first.filled) tt, omega (arith, ap (λ (rs : List Reserved). records_end rs (length c.in-Ok.buffer.bytes.items)) first.reserved)));
       account = subst (λ n. IsAccountant n c.in-Ok.accountant) (sym same) c.in-Ok.ensures.account;
       pegs = subst (All (λ (b : NotedBatch). b.peg < c.in-Ok.beginning.place + c.in-Ok.beginning.offset)) (sym c.new.ensures.items) (All-nil (λ (b : NotedBatch). b.peg < c.in-Ok.beginning.place + c.in-Ok.beginning.offset));
       room = (let none = ap length c.new.ensures.items in omega (arith, none));

@@ -31,4 +31,4 @@ returns c = λ site v among.
     let is = c.mark_written-2.ensures in
     behind_marked site c.args.buffer.now c.args.behind.now.items c.args.n c.args.k s c.mark_written-2.new.self v (omega (arith, c.if-n-eq0.false))
     (there_is c.args.behind.now.items (c.args.n - 1) s (omega (arith, low, c.if-n-eq0.false)) c.index_mut-s.ensures.value) among
-    (marked_view s.site s.buffer c.mark_written-2.new.self c.args.k is.sealed is.from is.reserved is.gone is.bytes)
+    (marked_view s.site s.buffer c.mark_written-2.new.self c.args.k is.sealed is.from is.reserved is.gone is.filled is.bytes)
