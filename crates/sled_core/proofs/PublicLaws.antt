@@ -32,9 +32,11 @@ use Rattle.sled_core.specs.Keeps.{Preserves}
 use Rattle.sled_core.specs.OpenBatches.{stable_below}
 use Rattle.sled_core.proofs.Line.LineEnds.{stable_kept}
 pub use Rattle.sled_core.proofs.Holds.LastEnds.{message_acknowledged, batch_acknowledged, acknowledged_least}
-pub use Rattle.sled_core.proofs.Holds.ReachLemmas.{fits_holds, fits_acknowledged, fits_reach, fits_apart, fits_inline, awaited, awaited_inline, awaited_small, reserved_small}
+pub use Rattle.sled_core.proofs.Holds.ReachLemmas.{fits_holds, fits_acknowledged, fits_stable, fits_reach, fits_apart, fits_inline, awaited, awaited_inline, awaited_small, reserved_small}
 pub use Rattle.sled_core.proofs.Holds.RunningLemmas.{fits_leaves}
 pub use Rattle.sled_core.proofs.Line.Buffers.{first_waits}
+pub use Rattle.sled_core.proofs.Line.Fillings.{end_off}
+pub use Rattle.sled_core.proofs.Line.NoneLeft.{noted_pegs}
 pub use Rattle.sled_core.proofs.Line.OpenSeen.{buffers_held, current_count, current_least, none_is_empty, ticket_places}
 
 -- Where no reservation was open, none is as long as nothing is another.

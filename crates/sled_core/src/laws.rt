@@ -1,6 +1,6 @@
 //! Laws of logs, each the contract of a function that does nothing. A proof cites them by the lemmas of
 //! `proofs/PublicLaws.antt`.
-ghost use Rattle.std.specs.Prelude.{◌≡◌, ◌↔◌, ◌⊎◌, ◌≤◌, ◌<◌, ◌≤ℤ◌, ◌<ℤ◌, ◌+◌, ◌/◌, ◌%◌, ◌^◌, ◌∷◌, ◌++◌, ℕ, ℤ, pos, true, List, [], replicate, None, length, ◌-◌, Contains};
+ghost use Rattle.std.specs.Prelude.{◌≡◌, ◌↔◌, ◌⊎◌, ◌≤◌, ◌<◌, ◌≤ℤ◌, ◌<ℤ◌, ◌-ℤ◌, ◌+◌, ◌/◌, ◌%◌, ◌^◌, ◌∷◌, ◌++◌, ℕ, ℤ, pos, true, List, [], replicate, None, length, ◌-◌, Contains};
 ghost use Rattle.std.specs.Int.{w64, cast_signed, cast_unsigned};
 ghost use Rattle.std.specs.List.{All};
 ghost use Rattle.sled_codec.specs.History.{Message, Batch, History, no_history};
@@ -8,10 +8,11 @@ ghost use Rattle.sled_codec.specs.Record.{IsHeader};
 ghost use Rattle.sled_codec.specs.WellFormed.{LieApart};
 ghost use Rattle.sled_store.specs.Device.{Trace, State, Left, Leaves, Crashed, state_of, content_of, content_left, at_rest, fresh, Content, Settled, Wrote, Synced, step};
 ghost use Rattle.sled_store.specs.Moments.{IsLater, LeavesOnly};
-ghost use Rattle.sled_core.specs.Fits.{stable_end, KeepsAll, Awaits, FitsInline, Holds, IsLeastOpen, IsUnchanged, IsWritten, NoneOpen, buffers_of, current_begin, device_of, held_len, holding_below, is_moved, next_place, open_of, open_places, reserved_end, sealing_end, segment_size_of, start_behind, start_of, synced_end, target_of, waiting_behind, waiting_of};
+ghost use Rattle.sled_core.specs.Fits.{stable_end, KeepsAll, Awaits, FitsInline, Holds, IsLeastOpen, IsUnchanged, IsWritten, NoneOpen, buffers_of, current_begin, device_of, held_len, holding_below, is_moved, line_of, next_place, noted_in, open_of, open_places, reserved_end, sealing_end, segment_size_of, start_behind, start_of, synced_end, target_of, waiting_behind, waiting_of};
 ghost use Rattle.sled_codec.specs.Snapshots.{SnapshotModel, empty_model, stable_place};
 ghost use Rattle.sled_store.specs.Begin.{offset_at, place_at};
 ghost use Rattle.sled_core.specs.Waiting.{HasLength, spans};
+ghost use Rattle.sled_core.specs.Batches.{LiesInNoFilling};
 ghost use Rattle.sled_core.specs.Keeps.{GoesOn, Preserves};
 ghost use Rattle.sled_core.specs.Reading.{IsInline};
 ghost use Rattle.sled_core.specs.Ready.{IsReady};
@@ -32,7 +33,7 @@ use sled_store::Device;
 /// A log holds the history that it fits, and what was acknowledged lies below its stable end.
 pub fn a_fitting_log_holds<D: Device, C: Checksum>()
     ensures holds { (log : Log D C) (H : History) (A f : ℕ) (U : List Message) → Fits D.trace C.sum_of log H A f U → Holds D.trace C.sum_of log H }
-    ensures acknowledged { (log : Log D C) (H : History) (A f : ℕ) (U : List Message) → Fits D.trace C.sum_of log H A f U → A ≤ synced_end log }
+    ensures acknowledged { (log : Log D C) (H : History) (A f : ℕ) (U : List Message) → Fits D.trace C.sum_of log H A f U → A ≤ stable_end log }
 {}
 
 /// The messages of a history that a log fits lie below its next place, one behind another. Those that are not stable yet
@@ -136,6 +137,13 @@ pub fn calls_keep_together<D: Device, C: Checksum>()
     ensures none { (log : Log D C) → Preserves D.trace C.sum_of log log }
     ensures both { (old mid new : Log D C) → Preserves D.trace C.sum_of old mid → Preserves D.trace C.sum_of mid new → Preserves D.trace C.sum_of old new }
     ensures goes_on { (old mid new : Log D C) → Preserves D.trace C.sum_of old mid → GoesOn D.trace C.sum_of mid new → GoesOn D.trace C.sum_of old new }
+{}
+
+/// The greatest place that was reserved lies in nothing that fills a segment, so a batch may end there; and the batches that
+/// are noted end at or below it.
+pub fn batches_end_in_what_was_reserved<D: Device, C: Checksum>()
+    ensures filled { (log : Log D C) → LiesInNoFilling (segment_size_of log) (line_of log) (pos (reserved_end log) -ℤ pos 1) }
+    ensures noted { (log : Log D C) (b : Batch) → Contains (noted_in log) b → b.peg < reserved_end log }
 {}
 
 /// The stable end never falls, where a call notes no batch; it stays where what is written and noted stays.

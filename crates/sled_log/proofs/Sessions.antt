@@ -4,6 +4,7 @@ pub mod Endings
 pub mod MadeHistories
 pub mod MadePages
 pub mod MadeTables
+pub mod NotedSeen
 pub mod Reading
 pub mod Reserving
 pub mod RunHistories
@@ -12,5 +13,4 @@ pub mod RunLogs
 pub mod SessionLemmas
 pub mod SpentTickets
 pub mod TicketsSeen
-pub mod Unbatched
 pub mod Writing

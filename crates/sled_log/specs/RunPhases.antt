@@ -35,12 +35,13 @@ view_by trace faults stopped stops device = record { trace = trace device; failu
 abbrev pub traces : {D : Type 0} → (D → DeviceView) → D → Trace
 traces view device = (view device).trace
 
--- what is seen of a log, with so many pages begun and with the messages of its tickets; a session has it note no batch, so all that is synced is stable
+-- what is seen of a log, with so many pages begun and with the messages of its tickets
 abbrev pub seen_log : {D C : Type 0} → Log D C → ℕ → List (Option Message) → LogView
 seen_log log begun tickets =
     record {
       position = position_of log;
-      stable = synced_end log;
+      synced = synced_end log;
+      noted = noted_in log;
       end = reserved_end log;
       waiting = spans (waiting_of log);
       start = start_of log;
@@ -117,13 +118,12 @@ pub record HasTickets {D C : Type 0} (opened : Opened D C) (H : History) (ticket
   pub are_all : fault_of opened.log ≡ None → open_places opened.log ≡ map (λ m. m.place) (open_messages tickets)
   pub busy : (page : ℕ) → get_or opened.busy.items page false ≡ has_page page (open_messages tickets)
 
--- A log is open that fits the history, with a pin out, with no batch noted, and with the table of it.
+-- A log is open that fits the history, with a pin out, and with the table of it.
 pub record IsOpenAt {D C : Type 0} (trace : D → Trace) (sum : List ℕ → ℕ) (opened : Opened D C) (k : Unstored) : Type 0 where
   pub made : IsMade k.history
   pub unmarked : List Message
   pub fits : Fits trace sum opened.log k.history k.acknowledged k.floor unmarked
   pub pinned : 0 < pins_of opened.log
-  pub unbatched : noted_in opened.log ≡ []
   pub table : IsTable (map page_of opened.pages.items) k.history top
   pub tickets : HasTickets opened k.history k.tickets
   pub ends : All (λ m. m.place + m.size ≤ reserved_end opened.log) k.history.messages

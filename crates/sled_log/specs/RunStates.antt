@@ -3,8 +3,9 @@ use Rattle.std.specs.Prelude.{◌≡◌, ◌≤◌, ◌<◌, ◌+◌, ◌-◌, �
 use Rattle.std.specs.declared.io.Error.{Error as IoError}
 use Rattle.sled_codec.specs.declared.serialization.message.LogKind.{LogKind}
 use Rattle.sled_codec.specs.Snapshots.{SnapshotModel, stable_place}
-use Rattle.sled_codec.specs.History.{Message, History, no_history, below, is_replace, table}
+use Rattle.sled_codec.specs.History.{Batch, Message, History, no_history, below, is_replace, table}
 use Rattle.sled_store.specs.Device.{Trace, state_of}
+use Rattle.sled_core.specs.OpenBatches.{stable_below}
 use Rattle.sled_core.specs.Positions.{Position, placed_at, pointer_at, size_at}
 use Rattle.sled_core.specs.Starts.{position_from, start_from}
 use Rattle.sled_core.specs.OpenPlaces.{first_between}
@@ -29,8 +30,10 @@ length_of device = length (state_of device.trace).log.bytes
 pub record LogView : Type 0 where
   -- where the next record may begin, and which slots are left behind that
   pub position : Position
-  -- the place behind the stable end, which is that behind all that is on the device without a gap, since no batch is noted
-  pub stable : ℕ
+  -- the place behind all that is on the device without a gap
+  pub synced : ℕ
+  -- the batches that were noted and aren't wholly on the device
+  pub noted : List Batch
   -- the place behind the greatest record that was reserved
   pub end : ℕ
   -- the sealed buffers that aren't on the device, by place
@@ -45,6 +48,10 @@ pub record LogView : Type 0 where
   pub outstanding : List ℕ
   -- the messages of those that have a ticket, by number: each of them, but for a ticket that was spent while the log kept a failure
   pub tickets : List (Option Message)
+
+-- the place behind the stable end, which lies in front of a batch that goes on behind what is on the device
+abbrev pub stable_of : LogView → ℕ
+stable_of l = stable_below l.synced l.noted
 
 -- Where a run stands: its device, the completed messages, the end of what was acknowledged, the cut of the last recovery, and the log, where one is open.
 pub record RunState : Type 0 where
@@ -73,7 +80,8 @@ recovered a now s log =
 abbrev pub started_on : ℕ → ℕ → SnapshotModel → LogView
 started_on size len s = record {
   position = position_from size len s;
-  stable = stable_place s.stable;
+  synced = stable_place s.stable;
+  noted = [];
   end = stable_place s.stable;
   waiting = [];
   start = start_from size len s;

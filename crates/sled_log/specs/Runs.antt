@@ -24,6 +24,7 @@ use Rattle.sled_core.specs.Buffers.{most_open}
 use Rattle.sled_core.specs.Causes.{IsFault}
 use Rattle.sled_core.specs.declared.iobuf.SegmentPosition.{SegmentPosition}
 use Rattle.sled_core.specs.Fits.{IsKept}
+use Rattle.sled_core.specs.OpenBatches.{behind_batch, not_whole, stable_below}
 use Rattle.sled_core.specs.OpenPlaces.{places_from}
 use Rattle.sled_core.specs.Positions.{Position, behind_record}
 use Rattle.sled_core.specs.SealedBuffers.{writing}
@@ -38,7 +39,7 @@ use Rattle.sled_log.specs.declared.session.command.Reply.{Reply}
 use Rattle.sled_log.specs.declared.session.command.Reply.TheVariants as reply
 use Rattle.sled_log.specs.Recovery.{RecoveryResult, Recovered, Recovers}
 use Rattle.sled_log.specs.Refusals.{reason_of, refusal_for}
-use Rattle.sled_log.specs.RunStates.{DeviceView, EndsInReach, LogView, RunState, ShowsActive, first_waiting, held, held_among, is_behind, is_present, length_of, message_at, opens, page_now, places_without, recovered, sealed_around, sealed_below, spans_below, spans_from, spans_place, spans_without, start_around, start_below, start_with, started_on, target_in, waiting_with, with_log, without_unheld}
+use Rattle.sled_log.specs.RunStates.{DeviceView, EndsInReach, LogView, RunState, ShowsActive, first_waiting, held, held_among, is_behind, is_present, length_of, message_at, opens, page_now, places_without, recovered, sealed_around, sealed_below, spans_below, spans_from, spans_place, spans_without, stable_of, start_around, start_below, start_with, started_on, target_in, waiting_with, with_log, without_unheld}
 use Rattle.sled_log.specs.WritesBack.{HasWrittenBack}
 use Rattle.sled_log.specs.Restores.{RecoveryCalls}
 
@@ -119,6 +120,15 @@ abbrev pub FlushActs : Option LogView → DeviceView → Reply → DeviceView �
 FlushActs (Some l) old r new = WritesActs l.end (Some l) old r new
 FlushActs None old r new = new ≡ old
 
+-- up to where has to be written for a place to be stable: behind it, and behind the peg of a batch that has it
+abbrev pub target_by : LogView → ℤ → ℕ
+target_by l place = behind_batch (behind_place place) l.noted
+
+-- those up to a place, and up to the peg of a batch that has it
+abbrev pub StableActs : ℤ → Option LogView → DeviceView → Reply → DeviceView → Type 0
+StableActs place (Some l) old r new = WritesActs (target_by l place) (Some l) old r new
+StableActs place None old r new = new ≡ old
+
 -- One sealed buffer was written, the i-th of those that nothing holds up.
 abbrev pub WriteActs : ℕ → Option LogView → DeviceView → Reply → DeviceView → Type 0
 WriteActs i (Some l) old r new = (bs : List BufferAt) × ShowsBuffers (opens l) l.waiting bs × CallsMade (write_pending i bs) l.fault old r new
@@ -140,7 +150,7 @@ StopActs n old _ new = new ≡ old
 abbrev pub ActsBy : (List ℕ → ℕ) → ℕ → RunState → Command → Reply → DeviceView → Type 0
 ActsBy sum size a command.Open r new = OpenActs sum size a.device r new
 ActsBy sum size a command.Flush r new = FlushActs a.log a.device r new
-ActsBy sum size a (command.Stable place) r new = WritesActs (behind_place place) a.log a.device r new
+ActsBy sum size a (command.Stable place) r new = StableActs place a.log a.device r new
 ActsBy sum size a (command.Write i) r new = WriteActs i a.log a.device r new
 ActsBy sum size a (command.Crash choice) r new = CrashActs choice a.device r new
 ActsBy sum size a (command.Stop n) r new = StopActs n a.device r new
@@ -196,7 +206,8 @@ IsAnswerFor m place pointer = (place ≡ pos m.place) × (pointer ≡ m.pointer)
 abbrev pub reserving : ℕ → LogView → Position → Message → LogView
 reserving size l q m = record {
   position = behind_record size q m.size;
-  stable = l.stable;
+  synced = l.synced;
+  noted = l.noted;
   end = m.place + m.size;
   waiting = waiting_with l q;
   start = start_with l q;
@@ -240,7 +251,7 @@ ReserveStep size a l kind page bytes _ new b = ⊥
 -- the log with a ticket spent, with reservations open at these places, and this many pages begun
 abbrev pub spent : LogView → ℕ → List ℕ → ℕ → LogView
 spent l t places begun =
-    record { position = l.position; stable = l.stable; end = l.end; waiting = l.waiting; start = l.start; begun = begun; fault = l.fault; outstanding = places; tickets = set l.tickets t None }
+    record { position = l.position; synced = l.synced; noted = l.noted; end = l.end; waiting = l.waiting; start = l.start; begun = begun; fault = l.fault; outstanding = places; tickets = set l.tickets t None }
 
 -- The message of an open reservation comes to the history. Where it is the first of its page, that is begun.
 pub record HasCompleted (a : RunState) (l : LogView) (t : ℕ) (place : ℤ) (pointer : DiskPtr) (new : DeviceView) (b : RunState) : Type 0 where
@@ -278,11 +289,12 @@ AbortStep a l t (reply.Done place pointer) new b = HasAborted a l t place pointe
 AbortStep a l t (reply.Failed (Io e)) new b = (l.fault ≡ Some e) × (b ≡ with_log a new (Some (spent l t (opens l) l.begun)))
 AbortStep a l t _ new b = ⊥
 
--- the log with these buffers left, the current one from there on, and this failure kept: all before the first of them is stable
+-- the log with these buffers left, the current one from there on, and this failure kept: all before the first of them is on the device
 abbrev pub flushed : LogView → List Span → BufferStart → Option IoError → LogView
 flushed l waiting start fault = record {
   position = l.position;
-  stable = first_waiting waiting start;
+  synced = first_waiting waiting start;
+  noted = not_whole (first_waiting waiting start) l.noted;
   end = l.end;
   waiting = waiting;
   start = start;
@@ -292,23 +304,26 @@ flushed l waiting start fault = record {
   tickets = l.tickets;
 }
 
--- the buffers that are left once those are written that begin below a place, and where all before them is stable then
+-- the buffers that are left once those are written that begin below a place; all before them is on the device then, and this is the place behind the stable end
 abbrev pub left_from : ℕ → LogView → List Span
 left_from to l = spans_from to (sealed_below to l)
 
+abbrev pub synced_from : ℕ → LogView → ℕ
+synced_from to l = first_waiting (left_from to l) (start_below to l)
+
 abbrev pub stable_from : ℕ → LogView → ℕ
-stable_from to l = first_waiting (left_from to l) (start_below to l)
+stable_from to l = stable_below (synced_from to l) (not_whole (synced_from to l) l.noted)
 
 -- the least place of an open reservation that holds that up
 abbrev pub holding : ℕ → LogView → Option ℕ
 holding to l = held_among (opens l) (spans_below to (sealed_below to l))
 
--- All that begins below a place is written and synced. Each completed message of it is acknowledged, and what is answered is by how much the stable end grew.
+-- All that begins below a place is written and synced. Each completed message of what is stable then is acknowledged, and what is answered is by how much the stable end grew.
 pub record HasWrittenTo (a : RunState) (l : LogView) (to n : ℕ) (new : DeviceView) (b : RunState) : Type 0 where
   pub fault : l.fault ≡ None
   pub free : holding to l ≡ None
-  pub growth : l.stable + n ≡ stable_from to l
-  pub reaches : to ≤ stable_from to l
+  pub growth : stable_of l + n ≡ stable_from to l
+  pub reaches : to ≤ synced_from to l
   pub more : a.acknowledged ≤ stable_from to l
   pub leads : b ≡ record {
     device = new;
@@ -351,13 +366,13 @@ FlushStep sum size a l _ new b = ⊥
 
 -- a place is stable, or was reserved
 abbrev pub IsKnownPlace : LogView → ℤ → Type 0
-IsKnownPlace l place = (place <ℤ pos l.stable) ⊎ (place <ℤ pos l.end)
+IsKnownPlace l place = (place <ℤ pos (stable_of l)) ⊎ (place <ℤ pos l.end)
 
 abbrev pub StableStep : ℕ → RunState → LogView → ℤ → Reply → DeviceView → RunState → Type 0
-StableStep size a l place (reply.Flushed n) new b = IsKnownPlace l place × HasWrittenTo a l (behind_place place) n new b
+StableStep size a l place (reply.Flushed n) new b = IsKnownPlace l place × HasWrittenTo a l (target_by l place) n new b × (place <ℤ pos (stable_from (target_by l place) l))
 StableStep size a l place (reply.Failed (NotReserved at)) new b =
-    (at ≡ place) × (pos l.stable ≤ℤ place) × (pos l.end ≤ℤ place) × (l.fault ≡ None) × (new ≡ a.device) × (b ≡ a)
-StableStep size a l place (reply.Failed e) new b = StopsStep size a l (behind_place place) e new b
+    (at ≡ place) × (pos (stable_of l) ≤ℤ place) × (pos l.end ≤ℤ place) × (l.fault ≡ None) × (new ≡ a.device) × (b ≡ a)
+StableStep size a l place (reply.Failed e) new b = StopsStep size a l (target_by l place) e new b
 StableStep size a l place _ new b = ⊥
 
 abbrev pub WriteStep : RunState → LogView → ℕ → Reply → DeviceView → RunState → Type 0
@@ -372,7 +387,7 @@ WriteStep a l i _ new b = ⊥
 
 -- the log once the buffer of a place is on the device, where the place wasn't stable
 abbrev pub read_around : LogView → ℕ → LogView
-read_around l at = if nat_lt at l.stable then l else flushed l (spans_without at (sealed_around at l)) (start_around at l) l.fault
+read_around l at = if nat_lt at l.synced then l else flushed l (spans_without at (sealed_around at l)) (start_around at l) l.fault
 
 -- what holds the buffer of a place up that isn't stable
 abbrev pub held_around_place : List ℕ → ℕ → List Span → Option ℕ
@@ -380,13 +395,13 @@ held_around_place places at [] = None
 held_around_place places at (s ∷ ss) = if spans_place at s then held places s else held_around_place places at ss
 
 abbrev pub holding_read : LogView → ℕ → Option ℕ
-holding_read l at = if nat_lt at l.stable then None else held_around_place (opens l) at (sealed_around at l)
+holding_read l at = if nat_lt at l.synced then None else held_around_place (opens l) at (sealed_around at l)
 
 -- The buffer with a place is on the device: it was written, where the place wasn't stable.
 pub record ReadsAt (l : LogView) (at : ℕ) (old new : DeviceView) : Type 0 where
   pub buffers : List BufferAt
   pub shown : ShowsBuffers (opens l) (sealed_around at l) buffers
-  pub made : new.trace ≡ after_all (if nat_lt at l.stable then [] else write_around at buffers) old.trace
+  pub made : new.trace ≡ after_all (if nat_lt at l.synced then [] else write_around at buffers) old.trace
   pub free : holding_read l at ≡ None
   pub failures : new.failures ≡ old.failures
 
@@ -399,7 +414,7 @@ ReadsAll l (m ∷ ms) old new end = (mid : DeviceView) × ReadsAt l m.place old 
 pub record ReadFails (a : RunState) (l : LogView) (at : ℕ) (fault : Option IoError) (old new : DeviceView) (b : RunState) : Type 0 where
   pub buffers : List BufferAt
   pub shown : ShowsBuffers (opens l) (sealed_around at l) buffers
-  pub calls : Performs (if nat_lt at l.stable then [] else write_around at buffers) old.trace new.trace
+  pub calls : Performs (if nat_lt at l.synced then [] else write_around at buffers) old.trace new.trace
   pub waiting : List Span
   pub start : BufferStart
   pub left : ((waiting ≡ l.waiting) × (start ≡ l.start))

@@ -21,14 +21,15 @@ use Rattle.sled_core.specs.Tickets.{index_of, len_of, place_of, pointer_of, is_m
 use Rattle.sled_core.specs.Manifests.{is_manifest}
 use Rattle.sled_core.specs.Begun.{AreFilled, SegmentView, segment_view, view_at}
 use Rattle.sled_core.specs.Buffers.{IsChain, IsHeaded, Stands, completed_in, message_in}
-use Rattle.sled_core.specs.Fits.{Awaits, HoldBehind, HoldsLine, HoldsNext, current_of, log_parts, next_place, parts_in, reserved_end, synced_end, HoldsSegment, Holds, IsKept}
+use Rattle.sled_core.specs.Fits.{Awaits, HoldBehind, HoldsLine, HoldsNext, current_of, line_end, line_of, log_parts, next_place, noted_in, parts_in, reserved_end, stable_end, synced_end, HoldsSegment, Holds, IsKept}
 use Rattle.sled_core.specs.LogFile.{StaysBelow}
 use Rattle.sled_core.specs.Positions.{is_short, next_segment_at, position_in}
 use Rattle.sled_core.specs.Waiting.{last_of}
 use Rattle.sled_core.specs.Running.{Fits}
 use Rattle.sled_core.specs.Reading.{IsInline}
 use Rattle.sled_core.specs.Recoverable.{LiesInSegment}
-use Rattle.sled_core.proofs.Reached.StableBelow.{stable_low}
+use Rattle.sled_core.proofs.Holds.FitsBatches.{stable_noted}
+use Rattle.sled_core.proofs.Reached.StableBelow.{stable_low, stable_rises}
 use Rattle.sled_core.proofs.Reserve.Ranges.{all_own, at_there, completed_between, chain_grows}
 use Rattle.sled_core.proofs.Reserve.Entries.{completed_plain, reserved_in, some_long}
 use Rattle.sled_core.proofs.Flush.Completed.{all_below, which}
@@ -167,6 +168,16 @@ fits_holds trace sum log H A f U fits = record { holds = fits.parts.holds; batch
 pub fits_acknowledged : {D C : Type 0} (trace : D → Trace) (sum : List ℕ → ℕ) (log : Log D C) (H : History) (A f : ℕ) (U : List Message) → Fits trace sum log H A f U → A ≤ synced_end log
 unfolding Fits
 fits_acknowledged trace sum log H A f U fits = let passes = fits.parts.passes in let low = stable_low fits.reach H.batches in let near = fits.parts.near in omega (arith, passes, low, near)
+
+-- It lies below the stable end, too.
+pub fits_stable : {D C : Type 0} (trace : D → Trace) (sum : List ℕ → ℕ) (log : Log D C) (H : History) (A f : ℕ) (U : List Message) → Fits trace sum log H A f U → A ≤ stable_end log
+unfolding Fits
+fits_stable trace sum log H A f U fits =
+    let passes = fits.parts.passes in
+    let near = fits.parts.near in
+    let up = stable_rises fits.reach (synced_end log) near H.batches in
+    let same = stable_noted (synced_end log) (line_end log.config.config.segment_size (line_of log)) (noted_in log) H fits.batches in
+    omega (arith, passes, up, same)
 
 -- Of tickets and places.
 

@@ -1,8 +1,8 @@
 -- What fills the segments of a log, and which places lie in nothing of that.
-use Rattle.std.proofs.Common.{◌≡◌, ◌⊎◌, ◌∙◌, ◌<◌, ◌≤◌, ◌+◌, ◌*◌, ◌<ℤ◌, ◌≤ℤ◌, sym, ap, arith, subst, inl, inr, ℕ, zero, suc, pos, List, [], ◌∷◌, length, map, Some}
+use Rattle.std.proofs.Common.{◌≡◌, ◌⊎◌, ◌∙◌, ◌<◌, ◌≤◌, ◌+◌, ◌*◌, ◌<ℤ◌, ◌≤ℤ◌, ◌-ℤ◌, sym, ap, arith, subst, inl, inr, ℕ, zero, suc, pos, List, [], ◌∷◌, length, map, Some}
 use Rattle.std.specs.List.{slice_get}
 use Rattle.std.proofs.Math.Nat.{suc-mul}
-use Rattle.std.proofs.lemmas.Bool.{cases_order}
+use Rattle.std.proofs.lemmas.Bool.{cases_lt, cases_order}
 use Rattle.std.proofs.lemmas.Int.{ints}
 use Rattle.sled_core.specs.Batches.{LiesInNoFilling}
 use Rattle.sled_core.specs.Begun.{AreFilled, SegmentView, records_to, segment_view, view_at}
@@ -51,6 +51,21 @@ line_off size to place peg (x ∷ y ∷ ys) are filled low zero v there lies =
     ]) lies
 line_off size to place peg (x ∷ y ∷ ys) are filled low (suc n) v there lies = line_off size to (place + size) peg (y ∷ ys) are.1 filled.2 low n v there lies
 
+-- Where what was reserved ends within a segment, or with it, its records go up to there.
+end_nth : (size to place : ℕ) (vs : List SegmentView) → AreSegments size place vs → AreFilled size to vs → (n : ℕ) (v : SegmentView) → slice_get vs n ≡ Some v → (to ≤ v.parts.site.place + records_to v.parts.filled size) ⊎ (v.parts.site.place + size < to)
+end_nth size to place [] are filled n v there = cc
+end_nth size to place (x ∷ []) are filled zero v there =
+    let same : x ≡ v = cc in
+    let inside = filled.1 in let short = are.0.short in
+    subst (λ (y : SegmentView). (to ≤ y.parts.site.place + records_to y.parts.filled size) ⊎ (y.parts.site.place + size < to)) same (inl (omega (arith, inside, short, unfilled_to x.parts.filled size filled.3)))
+end_nth size to place (x ∷ []) are filled (suc n) v there = cc
+end_nth size to place (x ∷ y ∷ ys) are filled zero v there =
+    let same : x ≡ v = cc in
+    let lies = filled.4 in
+    subst (λ (z : SegmentView). (to ≤ z.parts.site.place + records_to z.parts.filled size) ⊎ (z.parts.site.place + size < to)) same
+    (elim (cases_lt (x.parts.site.place + size) to) [ inl far ↦ inr far | inr inside ↦ inl (lies inside) ])
+end_nth size to place (x ∷ y ∷ ys) are filled (suc n) v there = end_nth size to (place + size) (y ∷ ys) are.1 filled.2 n v there
+
 module _ {D C : Type 0} (log : Log D C) where
   abbrev size : ℕ
   size = segment_size_of log
@@ -84,3 +99,10 @@ module _ {D C : Type 0} (log : Log D C) where
       steps m zero size less = absurd (omega (arith, less))
       steps zero (suc n) size less = omega (arith, suc-mul n size)
       steps (suc m) (suc n) size less = let rest = steps m n size (omega (arith, less)) in omega (arith, suc-mul m size, suc-mul n size, rest)
+
+  -- The greatest place that was reserved lies so.
+  pub end_off : LiesInNoFilling size (line_of log) (pos (reserved_end log) -ℤ pos 1)
+  end_off n v there = elim (end_nth size log.reserved_to log.site.place (line_of log) (line_segments log) log.filled n v there) [
+    | inl front ↦ inl (omega (arith, ints, front))
+    | inr far ↦ inr (omega (arith, ints, far))
+  ]

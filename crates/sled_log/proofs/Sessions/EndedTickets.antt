@@ -18,7 +18,7 @@ use Rattle.sled_store.proofs.Segments.Elements.{all_from_in}
 use Rattle.sled_core.specs.declared.logger.Log.{Log}
 use Rattle.sled_core.specs.declared.reservation.Reservation.{Reservation}
 use Rattle.sled_core.specs.Causes.{FaultAnswers}
-use Rattle.sled_core.specs.Fits.{Awaits, KeepsAll, KeepsBuffers, config_of, fault_of, noted_in, open_places, pins_of, reserved_end, segment_size_of}
+use Rattle.sled_core.specs.Fits.{Awaits, KeepsAll, KeepsBuffers, config_of, fault_of, open_places, pins_of, reserved_end, segment_size_of}
 use Rattle.sled_core.specs.Keeps.{SamePosition}
 use Rattle.sled_core.specs.OpenPlaces.{TakesOut}
 use Rattle.sled_core.specs.Manifests.{is_manifest}
@@ -123,7 +123,6 @@ module _ {D C : Type 0} (view : D → DeviceView) (sum : List ℕ → ℕ) (old 
           unmarked = at.unmarked;
           fits = subst (λ (x : Log D C). Fits (traces view) sum x k.history k.acknowledged k.floor at.unmarked) (sym is) at.fits;
           pinned = subst (λ (x : Log D C). 0 < pins_of x) (sym is) at.pinned;
-          unbatched = ap noted_in is ∙ at.unbatched;
           table = subst (λ (ps : List Page). IsTable ps k.history top) (sym pages_are) at.table;
           tickets = spent_tickets old now k.history k.history k.tickets n m there at.tickets takes.tickets busy (ap reserved_end is)
               (λ t x awaits apart. subst (λ (y : Log D C). Awaits y t.reservation x) (sym is) awaits) (λ x ne may. may)
@@ -174,7 +173,8 @@ module _ {D C : Type 0} (view : D → DeviceView) (sum : List ℕ → ℕ) (old 
         ended_view : (count : ℕ) → length pages.items ≡ count → seen now (set k.tickets n None) ≡ spent (seen old k.tickets) n (places_without m.place (opens (seen old k.tickets))) count
         ended_view count is i = record {
           position = position.position i;
-          stable = same.synced i;
+          synced = same.synced i;
+          noted = same.noted i;
           end = position.reserved i;
           waiting = buffers.waiting i;
           start = buffers.start i;
@@ -191,7 +191,6 @@ module _ {D C : Type 0} (view : D → DeviceView) (sum : List ℕ → ℕ) (old 
           unmarked = U;
           fits = fits;
           pinned = subst (λ p. 0 < p) (sym same.pins) at.pinned;
-          unbatched = same.noted ∙ at.unbatched;
           table = table;
           tickets = spent_tickets old now k.history H' k.tickets n m there at.tickets takes.tickets busy position.reserved
               (λ t x awaits apart. others t.reservation x awaits (other_place t.reservation x awaits apart)) joins
@@ -289,7 +288,6 @@ module _ {D C : Type 0} (view : D → DeviceView) (sum : List ℕ → ℕ) (old 
     unmarked = at.unmarked;
     fits = subst (λ (x : Log D C). Fits (traces view) sum x k.history k.acknowledged k.floor at.unmarked) (sym kept.log) at.fits;
     pinned = subst (λ (x : Log D C). 0 < pins_of x) (sym kept.log) at.pinned;
-    unbatched = ap noted_in kept.log ∙ at.unbatched;
     table = subst (λ (ps : List Page). IsTable ps k.history top) (sym kept.pages) at.table;
     tickets = kept_tickets at.tickets;
     ends = subst (λ (x : Log D C). All (λ y. y.place + y.size ≤ reserved_end x) k.history.messages) (sym kept.log) at.ends;

@@ -24,7 +24,9 @@ use Rattle.sled_store.proofs.Segments.TableEntries.{from_table}
 use Rattle.sled_core.specs.Reading.{IsInline}
 use Rattle.sled_core.specs.declared.logger.Log.{Log}
 use Rattle.sled_core.specs.Begun.{segment_view, view_at}
-use Rattle.sled_core.specs.Fits.{HasRecordOf, buffers_of, current_begin, current_of, device_of, fault_of, held_len, reserved_end, segment_size_of, start_of, synced_end, waiting_of}
+use Rattle.sled_core.specs.OpenBatches.{not_whole}
+use Rattle.sled_core.proofs.Line.LineEnds.{noted_still}
+use Rattle.sled_core.specs.Fits.{HasRecordOf, buffers_of, current_begin, current_of, device_of, fault_of, held_len, noted_in, reserved_end, segment_size_of, start_of, synced_end, waiting_of}
 use Rattle.sled_core.specs.Keeps.{SamePosition, start_sealed}
 use Rattle.sled_core.specs.OpenPlaces.{first_between}
 use Rattle.sled_core.specs.ReadBuffer.{IsUsedUpAt, ReadAnswers, Settles, WritesAround, held_at, sealed_at, settling, start_at}
@@ -136,11 +138,11 @@ module _ {D C : Type 0} (log : Log D C) (sum : List ℕ → ℕ) (at begun : ℕ
         | inr none ↦ ap f (shows_empty sum log (omega (arith, none)))
       ]
 
-  calls_seen : settling sum log (pos at) ≡ (if nat_lt at l.stable then [] else write_around at (sealed_at sum at log))
-  calls_seen = ap (λ (es : List Event). if nat_lt at l.stable then [] else es) (of_sealed (write_around at) (write_front at))
+  calls_seen : settling sum log (pos at) ≡ (if nat_lt at l.synced then [] else write_around at (sealed_at sum at log))
+  calls_seen = ap (λ (es : List Event). if nat_lt at l.synced then [] else es) (of_sealed (write_around at) (write_front at))
 
   holding_seen : held_at sum log (pos at) ≡ holding_read l at
-  holding_seen = ap (λ (o : Option ℕ). if nat_lt at l.stable then None else o)
+  holding_seen = ap (λ (o : Option ℕ). if nat_lt at l.synced then None else o)
       (of_sealed (held_around at) (around_front at) ∙ around_seen (opens l) at (sealed_at sum at log) shows.held ∙ ap (held_around_place (opens l) at) shows.are)
 
 -- One message is read.
@@ -161,7 +163,8 @@ module _ {D C : Type 0} (view : D → DeviceView) (sum : List ℕ → ℕ) (old 
   leaves : (waiting : List Span) (start : BufferStart) (fault : Option IoError) → spans (waiting_of new) ≡ waiting → start_of new ≡ start → fault_of new ≡ fault → after ≡ flushed before waiting start fault
   leaves waiting start fault left first kept = λ i. record {
     position = position.position i;
-    stable = (first_seen new ∙ λ j. first_waiting (left j) (first j)) i;
+    synced = (first_seen new ∙ λ j. first_waiting (left j) (first j)) i;
+    noted = (position.noted ∙ ap (λ n. not_whole n (noted_in old)) (first_seen new ∙ λ j. first_waiting (left j) (first j))) i;
     end = position.reserved i;
     waiting = left i;
     start = first i;
@@ -215,7 +218,7 @@ module _ {D C : Type 0} (view : D → DeviceView) (sum : List ℕ → ℕ) (old 
     by true below =
         let low = writes.still (grind (arith, ints, nat_tests, below)) in
         leaves (spans (waiting_of old)) (start_of old) (fault_of old) (ap spans low.0) low.1 kept
-        ∙ (λ i. record { position = before.position; stable = sym (first_seen old) i; end = before.end; waiting = before.waiting; start = before.start; begun = begun; fault = before.fault; outstanding = before.outstanding; tickets = k.tickets })
+        ∙ (λ i. record { position = before.position; synced = sym (first_seen old) i; noted = sym (noted_still old ∙ ap (λ n. not_whole n (noted_in old)) (first_seen old)) i; end = before.end; waiting = before.waiting; start = before.start; begun = begun; fault = before.fault; outstanding = before.outstanding; tickets = k.tickets })
     by false beyond =
         let high = writes.written (grind (arith, ints, nat_tests, beyond)) in
         leaves (spans_without m.place (sealed_around m.place before)) (start_around m.place before) (fault_of old)
@@ -245,7 +248,7 @@ reads_more [] m l end old mid new is more = (
   record {
     buffers = more.buffers;
     shown = subst (λ (x : LogView). ShowsBuffers (opens x) (sealed_around m.place x) more.buffers) is.2 more.shown;
-    made = more.made ∙ (λ i. after_all (if nat_lt m.place (is.2 i).stable then [] else write_around m.place more.buffers) (is.0 i));
+    made = more.made ∙ (λ i. after_all (if nat_lt m.place (is.2 i).synced then [] else write_around m.place more.buffers) (is.0 i));
     free = subst (λ (x : LogView). holding_read x m.place ≡ None) is.2 more.free;
     failures = more.failures ∙ is.1;
   },

@@ -24,7 +24,7 @@ use Rattle.sled_core.specs.Buffers.{most_open}
 use Rattle.sled_core.specs.Causes.{ReserveAnswers}
 use Rattle.sled_core.specs.declared.logger.Log.{Log}
 use Rattle.sled_core.specs.declared.reservation.Reservation.{Reservation}
-use Rattle.sled_core.specs.Fits.{Awaits, AwaitsIn, FitsInline, KeepsAll, IsLeastOpen, IsUnchanged, IsUsedUpFor, current_begin, current_of, fault_of, is_moved, line_of, message_for, next_place, noted_in, open_for, open_of, open_places, pins_of, position_behind, position_of, reserved_end, segment_size_of, size_for, start_behind, start_of, target_of, waiting_behind, waiting_of}
+use Rattle.sled_core.specs.Fits.{Awaits, AwaitsIn, FitsInline, KeepsAll, IsLeastOpen, IsUnchanged, IsUsedUpFor, current_begin, current_of, fault_of, is_moved, line_of, message_for, next_place, open_for, open_of, open_places, pins_of, position_behind, position_of, reserved_end, segment_size_of, size_for, start_behind, start_of, target_of, waiting_behind, waiting_of}
 use Rattle.sled_core.specs.OpenPlaces.{open_places_along, places_from}
 use Rattle.sled_core.specs.Positions.{Position, is_short, next_segment_at, position_in}
 use Rattle.sled_core.specs.Running.{Fits}
@@ -49,7 +49,7 @@ use Rattle.sled_log.specs.Runs.{IsFullOfOpen, ReserveStep, opens_beside}
 
 -- the last of these segments, of which there is one
 abbrev current_in : List SegmentView → SegmentView
-current_in [] = record { parts = record { site = record { place = 0; slot = 0 }; bytes = []; written_len = 0; sealed = []; reserved = [] }; gone = 0 }
+current_in [] = record { parts = record { site = record { place = 0; slot = 0 }; bytes = []; written_len = 0; filled = None; sealed = []; reserved = [] }; gone = 0 }
 current_in (v ∷ vs) = last_of v vs
 
 -- Lists.
@@ -466,7 +466,6 @@ module _ {D C : Type 0} (view : D → DeviceView) (sum : List ℕ → ℕ) (old 
         unmarked = at.unmarked;
         fits = kept.fits k.history k.acknowledged k.floor at.unmarked at.fits;
         pinned = subst (λ p. 0 < p) (sym kept.same.pins) at.pinned;
-        unbatched = kept.same.noted ∙ at.unbatched;
         table = subst (λ p. IsTable (map page_of p.items) k.history top) (sym pages) at.table;
         tickets = has_tickets;
         ends = All-weaker (λ m. m.place + m.size ≤ reserved_end old.log) (λ m. m.place + m.size ≤ reserved_end new.log) (λ m low. omega (arith, low, up)) k.history.messages at.ends;
@@ -494,7 +493,8 @@ module _ {D C : Type 0} (view : D → DeviceView) (sum : List ℕ → ℕ) (old 
             floor = k.floor;
             log = Some (record {
               position = kept.position i;
-              stable = kept.same.synced i;
+              synced = kept.same.synced i;
+              noted = kept.same.noted i;
               end = kept.reserved i;
               waiting = waiting i;
               start = start i;
@@ -522,14 +522,13 @@ reserve_failed s a l kind page bytes T _ new b used n least changes out full ans
 
 -- the session is as it was
 unchanged_at : {D C : Type 0} (trace : D → Trace) (sum : List ℕ → ℕ) (old new : Opened D C) (k : Unstored) → ((H : History) (A f : ℕ) (U : List Message) → Fits trace sum old.log H A f U → Fits trace sum new.log H A f U)
-    → line_of new.log ≡ line_of old.log → reserved_end new.log ≡ reserved_end old.log → pins_of new.log ≡ pins_of old.log → noted_in new.log ≡ noted_in old.log → fault_of new.log ≡ fault_of old.log → new.pages ≡ old.pages → new.tickets.items ≡ old.tickets.items
+    → line_of new.log ≡ line_of old.log → reserved_end new.log ≡ reserved_end old.log → pins_of new.log ≡ pins_of old.log → fault_of new.log ≡ fault_of old.log → new.pages ≡ old.pages → new.tickets.items ≡ old.tickets.items
     → ((page : ℕ) → get_or new.busy.items page false ≡ get_or old.busy.items page false) → IsOpenAt trace sum old k → IsOpenAt trace sum new k
-unchanged_at trace sum old new k fits line end pins noted fault pages tickets busy at = record {
+unchanged_at trace sum old new k fits line end pins fault pages tickets busy at = record {
   made = at.made;
   unmarked = at.unmarked;
   fits = fits k.history k.acknowledged k.floor at.unmarked at.fits;
   pinned = subst (λ p. 0 < p) (sym pins) at.pinned;
-  unbatched = noted ∙ at.unbatched;
   table = subst (λ p. IsTable (map page_of p.items) k.history top) (sym pages) at.table;
   tickets = record {
     as_many = ap length tickets ∙ at.tickets.as_many;
@@ -577,7 +576,8 @@ module _ {D C : Type 0} (view : D → DeviceView) (sum : List ℕ → ℕ) (old 
               floor = k.floor;
               log = Some (record {
                 position = position i;
-                stable = same.synced i;
+                synced = same.synced i;
+                noted = same.noted i;
                 end = unchanged.reserved i;
                 waiting = spans (unwritten (unchanged.line i));
                 start = start_in (current_in (unchanged.line i));
@@ -587,7 +587,7 @@ module _ {D C : Type 0} (view : D → DeviceView) (sum : List ℕ → ℕ) (old 
                 tickets = k.tickets;
               });
             });
-        at = unchanged_at (traces view) sum old with_new k fits unchanged.line unchanged.reserved unchanged.pins unchanged.noted same.fault refl refl (λ p. refl) at;
+        at = unchanged_at (traces view) sum old with_new k fits unchanged.line unchanged.reserved unchanged.pins same.fault refl refl (λ p. refl) at;
       }
 
 -- Room.
@@ -595,7 +595,7 @@ module _ {D C : Type 0} (view : D → DeviceView) (sum : List ℕ → ℕ) (old 
 -- where only room was made all holds that did
 pub room_at : {D C : Type 0} (trace : D → Trace) (sum : List ℕ → ℕ) (old new : Opened D C) (k : Unstored) → MakesRoom old new → IsOpenAt trace sum old k → IsOpenAt trace sum new k
 room_at trace sum old new k room at =
-    unchanged_at trace sum old new k (λ H A f U. subst (λ x. Fits trace sum x H A f U) (sym room.log)) (ap line_of room.log) (ap reserved_end room.log) (ap pins_of room.log) (ap noted_in room.log) (ap fault_of room.log) room.pages room.tickets room.busy at
+    unchanged_at trace sum old new k (λ H A f U. subst (λ x. Fits trace sum x H A f U) (sym room.log)) (ap line_of room.log) (ap reserved_end room.log) (ap pins_of room.log) (ap fault_of room.log) room.pages room.tickets room.busy at
 
 -- and a reservation comes to the same
 pub room_may : {D C : Type 0} (old new : Opened D C) (k : Unstored) (kind : LogKind) (page n : ℕ) → MakesRoom old new → MayReserve (segment_size_of old.log) k.history (seen old k.tickets) kind page n

@@ -1,5 +1,5 @@
 -- What writing buffers comes to in a session: what is seen of those that are written and of those that are left, what holds them up, and where the run stands then.
-use Rattle.std.proofs.Common.{◌≡◌, ◌∙◌, ◌≤◌, ◌<◌, ◌<ℤ◌, ◌+◌, ◌-◌, ◌==◌, ◌⊎◌, inl, inr, nat_lt, if◌then◌else◌, max, ℕ, ℤ, pos, negsuc, int_lt, zero, suc, Bool, true, false, List, [], ◌∷◌, ◌++◌, length, map, drop, get_or, replicate, append-nil, Option, None, Some, ap, sym, subst, refl, arith}
+use Rattle.std.proofs.Common.{◌≡◌, ◌∙◌, ◌≤◌, ◌<◌, ◌<ℤ◌, ◌+◌, ◌-◌, ◌==◌, ◌⊎◌, inl, inr, nat_lt, if◌then◌else◌, max, ℕ, ℤ, pos, int_lt, zero, suc, Bool, true, false, List, [], ◌∷◌, ◌++◌, length, map, drop, get_or, replicate, append-nil, Option, None, Some, ap, sym, subst, refl, arith}
 use Rattle.std.specs.Prelude.{Err, IsSome}
 use Rattle.std.specs.List.{All}
 use Rattle.std.specs.declared.io.Error.{Error as IoError}
@@ -17,13 +17,15 @@ use Rattle.sled_store.specs.Script.{Performs, after_all}
 use Rattle.sled_core.specs.Begun.{begin_of, segment_view, view_at}
 use Rattle.sled_core.specs.Causes.{Answers, HeldAnswers, IsFault, OnDone}
 use Rattle.sled_core.specs.declared.logger.Log.{Log}
-use Rattle.sled_core.specs.Fits.{FirstWaits, IsUsedUp, IsUsedUpBelow, KeepsTickets, buffers_of, current_begin, current_of, device_of, fault_of, held_len, holding_below, noted_in, open_places, pending_of, position_of, reserved_end, sealing_end, segment_size_of, start_of, synced_end, waiting_of, writing_below}
+use Rattle.sled_core.specs.Fits.{FirstWaits, IsUsedUp, IsUsedUpBelow, KeepsTickets, buffers_of, current_begin, current_of, device_of, fault_of, held_len, holding_below, noted_in, open_places, pending_of, position_of, reserved_end, sealing_end, segment_size_of, stable_end, start_of, synced_end, waiting_of, writing_below}
 use Rattle.sled_core.specs.Keeps.{LeavesAbove, LeavesSome, Preserves, SamePosition, sealed_for, start_for, start_sealed}
 use Rattle.sled_core.specs.OpenPlaces.{first_between}
 use Rattle.sled_core.specs.Positions.{next_segment_at, is_short}
 use Rattle.sled_core.specs.Running.{Fits, end_below}
 use Rattle.sled_core.specs.SealedBuffers.{writing}
-use Rattle.sled_core.specs.Stable.{IsNotReserved, StableAnswers, behind_place, held_for, stabilizing}
+use Rattle.sled_core.specs.OpenBatches.{not_whole, stable_below}
+use Rattle.sled_core.proofs.Stable.Places.{behind_stable}
+use Rattle.sled_core.specs.Stable.{IsNotReserved, StableAnswers, held_for, stabilizing, target_for}
 use Rattle.sled_core.specs.Waiting.{BufferAt, BufferStart, HasLength, Span, begun_below, first_held, held_below, is_unheld, not_below, pending_in, span_of, spans, unless_held, without_pending, writes_below}
 use Rattle.sled_store.proofs.Traces.ScriptLemmas.{performs_nothing}
 use Rattle.sled_core.proofs.Line.Entered.{filled_last}
@@ -32,13 +34,13 @@ use Rattle.sled_core.proofs.Line.Positions.{end_seen, next_seen}
 use Rattle.sled_core.proofs.Line.Settles.{stable_up}
 use Rattle.sled_core.proofs.Line.Shows.{buffers_add}
 use Rattle.sled_core.proofs.PublicLaws.{buffers_held, first_waits, shows_current, shows_empty, shows_long}
-use Rattle.sled_log.proofs.Sessions.Unbatched.{held_behind, stabilizing_behind, still_unbatched}
+use Rattle.sled_log.proofs.Sessions.NotedSeen.{target_reserved}
 use Rattle.sled_log.specs.declared.session.opened.Opened.{Opened}
 use Rattle.sled_log.specs.declared.session.command.Reply.TheVariants as reply
 use Rattle.sled_log.specs.declared.session.command.Refusal.{Refusal}
 use Rattle.sled_log.specs.Refusals.{when}
 use Rattle.sled_log.specs.RunPhases.{IsOpenAt, IsTicketFor, Unstored, seen_log}
-use Rattle.sled_log.specs.Runs.{CallsMade, HasStopped, HasWrittenTo, IsKnownPlace, ShowsBuffers, StableStep, StopsStep, WriteStep, WritesActs, WritesTo, flushed, holding, left_from, stable_from, writes_free}
+use Rattle.sled_log.specs.Runs.{CallsMade, HasStopped, HasWrittenTo, IsKnownPlace, ShowsBuffers, StableStep, StopsStep, WriteStep, WritesActs, WritesTo, flushed, holding, left_from, stable_from, synced_from, writes_free}
 use Rattle.sled_log.specs.RunStates.{DeviceView, EndsInReach, LogView, RunState, count_unheld, current_span, first_waiting, held, held_among, next_start, opens, pending_in_view, sealed_below, spans_below, spans_from, start_below, with_log, without_unheld}
 
 -- The next record of a log begins where it did, what was reserved ends there, and the same reservations are open.
@@ -46,9 +48,11 @@ pub record StaysPut {D C : Type 0} (old new : Log D C) : Type 0 where
   pub position : position_of new ≡ position_of old
   pub reserved : reserved_end new ≡ reserved_end old
   pub opens : open_places new ≡ open_places old
+  -- of the batches those are left that aren't wholly on the device
+  pub noted : noted_in new ≡ not_whole (synced_end new) (noted_in old)
 
-pub stays_put : {D C : Type 0} (old new : Log D C) → KeepsTickets old new → SamePosition old new → StaysPut old new
-stays_put old new tickets position = record { position = position.position; reserved = position.reserved; opens = tickets.opens }
+pub stays_put : {D C : Type 0} (trace : D → Trace) (sum : List ℕ → ℕ) (old new : Log D C) → KeepsTickets old new → SamePosition old new → Preserves trace sum old new → StaysPut old new
+stays_put trace sum old new tickets position keeps = record { position = position.position; reserved = position.reserved; opens = tickets.opens; noted = keeps.noted }
 
 -- a log that keeps no failure kept none, where one that does is left as it was
 pub was_free : {D C : Type 0} (old new : Log D C) → ((e : IoError) → fault_of old ≡ Some e → new ≡ old) → fault_of new ≡ None → fault_of old ≡ None
@@ -149,7 +153,7 @@ module _ (places : List ℕ) where
 
 -- A log as it is seen.
 
--- all is stable before the first buffer that waits, or the current one
+-- all is on the device before the first buffer that waits, or the current one
 pub first_seen : {D C : Type 0} (log : Log D C) → synced_end log ≡ first_waiting (spans (waiting_of log)) (start_of log)
 first_seen log = by (waiting_of log) (first_waits log) where
   by : (bs : List BufferAt) → FirstWaits (synced_end log) (current_begin log) bs → synced_end log ≡ first_waiting (spans bs) (start_of log)
@@ -223,13 +227,14 @@ module _ {D C : Type 0} (log : Log D C) (sum : List ℕ → ℕ) (begun : ℕ) (
     pub leaves : (waiting : List Span) (start : BufferStart) (fault : Option IoError) → spans (waiting_of new) ≡ waiting → start_of new ≡ start → fault_of new ≡ fault
         → after A ≡ with_log before now (Some (flushed l waiting start fault))
     leaves waiting start fault left from kept =
-        let stable : synced_end new ≡ first_waiting waiting start = first_seen new ∙ (λ i. first_waiting (left i) (from i)) in
+        let synced : synced_end new ≡ first_waiting waiting start = first_seen new ∙ (λ i. first_waiting (left i) (from i)) in
+        let noted : noted_in new ≡ not_whole (first_waiting waiting start) (noted_in log) = position.noted ∙ ap (λ n. not_whole n (noted_in log)) synced in
         λ i. record {
           device = now;
           history = H;
           acknowledged = A;
           floor = f;
-          log = Some (record { position = position.position i; stable = stable i; end = position.reserved i; waiting = left i; start = from i; begun = begun; fault = kept i; outstanding = position.opens i; tickets = tickets });
+          log = Some (record { position = position.position i; synced = synced i; noted = noted i; end = position.reserved i; waiting = left i; start = from i; begun = begun; fault = kept i; outstanding = position.opens i; tickets = tickets });
         }
 
   -- Once what begins below a place is sealed.
@@ -291,8 +296,8 @@ module _ {D C : Type 0} (log : Log D C) (sum : List ℕ → ℕ) (begun : ℕ) (
         pub left_seen : LeavesAbove sum to log new → spans (waiting_of new) ≡ left_from to l
         left_seen above = ap spans above.left ∙ above_seen to (sealed_for sum to log) ∙ ap (spans_from to) sealed_seen
 
-        pub stable_seen : LeavesAbove sum to log new → synced_end new ≡ stable_from to l
-        stable_seen above = let waiting = left_seen above in let first = above.start ∙ start_seen in first_seen new ∙ (λ i. first_waiting (waiting i) (first i))
+        pub synced_seen : LeavesAbove sum to log new → synced_end new ≡ synced_from to l
+        synced_seen above = let waiting = left_seen above in let first = above.start ∙ start_seen in first_seen new ∙ (λ i. first_waiting (waiting i) (first i))
 
         abbrev SomeLeft : List Span → BufferStart → Type 0
         SomeLeft waiting start = ((waiting ≡ l.waiting) × (start ≡ l.start)) ⊎ ((n : ℕ) × (waiting ≡ drop n (sealed_below to l)) × (start ≡ start_below to l))
@@ -303,24 +308,32 @@ module _ {D C : Type 0} (log : Log D C) (sum : List ℕ → ℕ) (begun : ℕ) (
 
         -- Where the run stands then.
         module _ (device now : DeviceView) (H : History) (A f : ℕ) (position : StaysPut log new) where
-          pub has_written : (n : ℕ) → fault_of log ≡ None → fault_of new ≡ None → holding_below sum log to ≡ None → synced_end new ≡ synced_end log + n → to ≤ synced_end new → A ≤ synced_end log
-              → LeavesAbove sum to log new → HasWrittenTo (before new device now H A f position) l to n now (after new device now H A f position (max A (end_below (synced_end new) H)))
+          noted_seen : LeavesAbove sum to log new → noted_in new ≡ not_whole (synced_from to l) (noted_in log)
+          noted_seen above = position.noted ∙ ap (λ n. not_whole n (noted_in log)) (synced_seen above)
+
+          pub stable_seen : LeavesAbove sum to log new → stable_end new ≡ stable_from to l
+          stable_seen above = let ends = synced_seen above in let noted = noted_seen above in λ i. stable_below (ends i) (noted i)
+
+          pub has_written : (n : ℕ) → fault_of log ≡ None → fault_of new ≡ None → holding_below sum log to ≡ None → stable_end new ≡ stable_end log + n → to ≤ synced_end new → A ≤ stable_end log
+              → LeavesAbove sum to log new → HasWrittenTo (before new device now H A f position) l to n now (after new device now H A f position (max A (end_below (stable_end new) H)))
           has_written n none still free answer whole past above =
-              let ends = stable_seen above in
+              let ends = synced_seen above in
+              let noted = noted_seen above in
+              let stable = stable_seen above in
               let waiting = left_seen above in
               let first : start_of new ≡ start_below to l = above.start ∙ start_seen in
               record {
                 fault = none;
                 free = sym holding_seen ∙ free;
-                growth = sym answer ∙ ends;
+                growth = sym answer ∙ stable;
                 reaches = omega (arith, whole, ends);
-                more = omega (arith, past, answer, ends);
+                more = omega (arith, past, answer, stable);
                 leads = λ i. record {
                   device = now;
                   history = H;
-                  acknowledged = max A (end_below (ends i) H);
+                  acknowledged = max A (end_below (stable i) H);
                   floor = f;
-                  log = Some (record { position = position.position i; stable = ends i; end = position.reserved i; waiting = waiting i; start = first i; begun = begun; fault = still i; outstanding = position.opens i; tickets = tickets });
+                  log = Some (record { position = position.position i; synced = ends i; noted = noted i; end = position.reserved i; waiting = waiting i; start = first i; begun = begun; fault = still i; outstanding = position.opens i; tickets = tickets });
                 };
               }
 
@@ -404,7 +417,7 @@ module _ {D C : Type 0} (log : Log D C) (sum : List ℕ → ℕ) (begun : ℕ) (
 
   module _ (place : ℤ) where
     abbrev target : ℕ
-    target = behind_place place
+    target = target_for log place
 
     abbrev view_of : LogView
     view_of = seen_log log begun tickets
@@ -412,54 +425,50 @@ module _ {D C : Type 0} (log : Log D C) (sum : List ℕ → ℕ) (begun : ℕ) (
     below_test : (n : ℕ) → int_lt place (pos n) ≡ true → place <ℤ pos n
     below_test n is = grind (arith, ints, is)
 
-    pub behind_end : (n : ℕ) → place <ℤ pos n → target ≤ n
-    behind_end n below = by place below where
-      by : (z : ℤ) → z <ℤ pos n → behind_place z ≤ n
-      by (pos k) low = omega (arith, ints, low)
-      by (negsuc k) low = omega arith
+    -- what has to be written for a stable place is on the device
+    target_synced : place <ℤ pos (stable_end log) → target ≤ synced_end log
+    target_synced = behind_stable sum log place
 
     pub some_known : IsKnownPlace view_of place → current_begin log < target → 0 < held_len log
-    some_known (inl stable) = some_stable log sum begun tickets target (behind_end (synced_end log) stable)
-    some_known (inr reserved) = some_reserved log sum begun tickets target (behind_end (reserved_end log) reserved)
+    some_known (inl stable) = some_stable log sum begun tickets target (target_synced stable)
+    some_known (inr reserved) = some_reserved log sum begun tickets target (target_reserved log place reserved)
 
-    -- Where no batch is noted.
-    module _ (unbatched : noted_in log ≡ []) where
-      -- what makes it stable
-      pub stabilizing_seen : stabilizing sum log place ≡ writes_free (begun_below target (buffers_of sum log))
-      stabilizing_seen = stabilizing_behind log unbatched place sum ∙ by (int_lt place (pos (synced_end log))) refl where
-        by : (o : Bool) → int_lt place (pos (synced_end log)) ≡ o → (if o then [] else writing_below sum log target) ≡ writes_free (begun_below target (buffers_of sum log))
-        by true is = sym (ap writes_free (none_below target (behind_end (synced_end log) (below_test (synced_end log) is))))
-        by false is = below_writes target (buffers_of sum log)
+    -- what makes it stable
+    pub stabilizing_seen : stabilizing sum log place ≡ writes_free (begun_below target (buffers_of sum log))
+    stabilizing_seen = by (int_lt place (pos (stable_end log))) refl where
+      by : (o : Bool) → int_lt place (pos (stable_end log)) ≡ o → (if o then [] else writing_below sum log target) ≡ writes_free (begun_below target (buffers_of sum log))
+      by true is = sym (ap writes_free (none_below target (target_synced (below_test (stable_end log) is))))
+      by false is = below_writes target (buffers_of sum log)
 
-      -- and what holds that up
-      pub held_seen : (known : IsKnownPlace view_of place) → held_for sum log place ≡ holding target view_of
-      held_seen known = held_behind log unbatched place sum ∙ by (int_lt place (pos (synced_end log))) refl where
-        by : (o : Bool) → int_lt place (pos (synced_end log)) ≡ o → (if o then None else holding_below sum log target) ≡ holding target view_of
-        by true is =
-            sym (ap (λ (bs : List BufferAt). held_among (opens view_of) (spans bs)) (none_below target (behind_end (synced_end log) (below_test (synced_end log) is))))
-            ∙ ap (held_among (opens view_of)) (flushed_seen log sum begun tickets target (some_known known))
-        by false is = holding_seen log sum begun tickets target (some_known known)
+    -- and what holds that up
+    pub held_seen : (known : IsKnownPlace view_of place) → held_for sum log place ≡ holding target view_of
+    held_seen known = by (int_lt place (pos (stable_end log))) refl where
+      by : (o : Bool) → int_lt place (pos (stable_end log)) ≡ o → (if o then None else holding_below sum log target) ≡ holding target view_of
+      by true is =
+          sym (ap (λ (bs : List BufferAt). held_among (opens view_of) (spans bs)) (none_below target (target_synced (below_test (stable_end log) is))))
+          ∙ ap (held_among (opens view_of)) (flushed_seen log sum begun tickets target (some_known known))
+      by false is = holding_seen log sum begun tickets target (some_known known)
 
-      -- Where it fails, and was reserved.
-      module _ (reserved : place <ℤ pos (reserved_end log)) where
-        abbrev known : IsKnownPlace view_of place
-        known = inr reserved
+    -- Where it fails, and was reserved.
+    module _ (reserved : place <ℤ pos (reserved_end log)) where
+      abbrev known : IsKnownPlace view_of place
+      known = inr reserved
 
-        module _ (new : Log D C) (device now : DeviceView) (H : History) (A f : ℕ) (position : StaysPut log new) (e : Error) where
-          pub reserved_acts : OnDone {T = ℕ} (Err e) (now.trace ≡ after_all (stabilizing sum log place) device.trace) → Performs (stabilizing sum log place) device.trace now.trace → (IsSome (fault_of log) → now ≡ device)
-              → HeldAnswers {T = ℕ} (Err e) (held_for sum log place) (IsUsedUpBelow log target) (fault_of log) (fault_of new) device.failures now.failures → WritesActs target (Some view_of) device (reply.Failed e) now
-          reserved_acts done made kept answers = (
-            writes_to log sum begun tickets target (some_known known),
-            calls_failed ℕ _ (fault_of log) (fault_of new) e (held_for sum log place) (IsUsedUpBelow log target) device now
-                (subst (λ (es : List Event). OnDone {T = ℕ} (Err e) (now.trace ≡ after_all es device.trace)) stabilizing_seen done)
-                (subst (λ (es : List Event). Performs es device.trace now.trace) stabilizing_seen made) kept answers,
-          )
+      module _ (new : Log D C) (device now : DeviceView) (H : History) (A f : ℕ) (position : StaysPut log new) (e : Error) where
+        pub reserved_acts : OnDone {T = ℕ} (Err e) (now.trace ≡ after_all (stabilizing sum log place) device.trace) → Performs (stabilizing sum log place) device.trace now.trace → (IsSome (fault_of log) → now ≡ device)
+            → HeldAnswers {T = ℕ} (Err e) (held_for sum log place) (IsUsedUpBelow log target) (fault_of log) (fault_of new) device.failures now.failures → WritesActs target (Some view_of) device (reply.Failed e) now
+        reserved_acts done made kept answers = (
+          writes_to log sum begun tickets target (some_known known),
+          calls_failed ℕ _ (fault_of log) (fault_of new) e (held_for sum log place) (IsUsedUpBelow log target) device now
+              (subst (λ (es : List Event). OnDone {T = ℕ} (Err e) (now.trace ≡ after_all es device.trace)) stabilizing_seen done)
+              (subst (λ (es : List Event). Performs es device.trace now.trace) stabilizing_seen made) kept answers,
+        )
 
-          pub reserved_step : HeldAnswers {T = ℕ} (Err e) (held_for sum log place) (IsUsedUpBelow log target) (fault_of log) (fault_of new) device.failures now.failures → LeavesSome sum target log new
-              → StopsStep (segment_size_of log) (before log sum begun tickets new device now H A f position) view_of target e now (after log sum begun tickets new device now H A f position A)
-          reserved_step answers left =
-              writing_stops (segment_size_of log) (before log sum begun tickets new device now H A f position) view_of target ℕ e (held_for sum log place) (IsUsedUpBelow log target) (fault_of new) now _
-              (held_seen known) (λ used. (used.0, flush_out log sum begun tickets used.1)) answers (has_stopped log sum begun tickets target (some_known known) new device now H A f position left)
+        pub reserved_step : HeldAnswers {T = ℕ} (Err e) (held_for sum log place) (IsUsedUpBelow log target) (fault_of log) (fault_of new) device.failures now.failures → LeavesSome sum target log new
+            → StopsStep (segment_size_of log) (before log sum begun tickets new device now H A f position) view_of target e now (after log sum begun tickets new device now H A f position A)
+        reserved_step answers left =
+            writing_stops (segment_size_of log) (before log sum begun tickets new device now H A f position) view_of target ℕ e (held_for sum log place) (IsUsedUpBelow log target) (fault_of new) now _
+            (held_seen known) (λ used. (used.0, flush_out log sum begun tickets used.1)) answers (has_stopped log sum begun tickets target (some_known known) new device now H A f position left)
 
 -- Buffers that are seen so, of which nothing is written.
 module _ (places : List ℕ) where
@@ -533,7 +542,7 @@ module _ {D C : Type 0} (log : Log D C) (sum : List ℕ → ℕ) (begun : ℕ) (
   nothing_made _ device now idle same = absurd idle
 
 -- A call that makes a place stable, and failed: nothing was done, or the place was reserved.
-module _ {D C : Type 0} (view : D → DeviceView) (sum : List ℕ → ℕ) (log new : Log D C) (begun : ℕ) (tickets : List (Option Message)) (place : ℤ) (unbatched : noted_in log ≡ []) (H : History) (A f : ℕ) (position : StaysPut log new) where
+module _ {D C : Type 0} (view : D → DeviceView) (sum : List ℕ → ℕ) (log new : Log D C) (begun : ℕ) (tickets : List (Option Message)) (place : ℤ) (H : History) (A f : ℕ) (position : StaysPut log new) where
   abbrev old_device : DeviceView
   old_device = view (device_of log)
 
@@ -548,33 +557,33 @@ module _ {D C : Type 0} (view : D → DeviceView) (sum : List ℕ → ℕ) (log 
 
   abbrev Fails : Error → Type 0
   Fails e =
-      WritesActs (behind_place place) (Some (seen_log log begun tickets)) old_device (reply.Failed e) new_device
+      WritesActs (target_for log place) (Some (seen_log log begun tickets)) old_device (reply.Failed e) new_device
       × StableStep (segment_size_of log) from (seen_log log begun tickets) place (reply.Failed e) new_device leads_to
 
   same_device : new ≡ log → new_device ≡ old_device
   same_device same = ap (λ (x : Log D C). view (device_of x)) same
 
   abbrev StableFails : Error → Type 0
-  StableFails e = StableAnswers {T = ℕ} (Err e) place (synced_end log) (reserved_end log) (held_for sum log place) (IsUsedUpBelow log (behind_place place)) (fault_of log) (fault_of new) old_device.failures new_device.failures
+  StableFails e = StableAnswers {T = ℕ} (Err e) place (stable_end log) (reserved_end log) (held_for sum log place) (IsUsedUpBelow log (target_for log place)) (fault_of log) (fault_of new) old_device.failures new_device.failures
 
   abbrev known_acts : (e : Error) → place <ℤ pos (reserved_end log) → OnDone {T = ℕ} (Err e) (new_device.trace ≡ after_all (stabilizing sum log place) old_device.trace) → Performs (stabilizing sum log place) old_device.trace new_device.trace
-      → fault_of log ≡ None → HeldAnswers {T = ℕ} (Err e) (held_for sum log place) (IsUsedUpBelow log (behind_place place)) (fault_of log) (fault_of new) old_device.failures new_device.failures
-      → WritesActs (behind_place place) (Some (seen_log log begun tickets)) old_device (reply.Failed e) new_device
+      → fault_of log ≡ None → HeldAnswers {T = ℕ} (Err e) (held_for sum log place) (IsUsedUpBelow log (target_for log place)) (fault_of log) (fault_of new) old_device.failures new_device.failures
+      → WritesActs (target_for log place) (Some (seen_log log begun tickets)) old_device (reply.Failed e) new_device
   known_acts e reserved done made none answers =
-      reserved_acts log sum begun tickets place unbatched reserved new old_device new_device H A f position e done made (λ some. absurd (none_some (fault_of log) none some)) answers
+      reserved_acts log sum begun tickets place reserved new old_device new_device H A f position e done made (λ some. absurd (none_some (fault_of log) none some)) answers
 
   pub stable_failed : (e : Error) → StableFails e
       → OnDone {T = ℕ} (Err e) (new_device.trace ≡ after_all (stabilizing sum log place) old_device.trace) → Performs (stabilizing sum log place) old_device.trace new_device.trace
-      → ((x : IoError) → fault_of log ≡ Some x → new ≡ log) → (IsNotReserved {T = ℕ} (Err e) → new ≡ log) → LeavesSome sum (behind_place place) log new → Fails e
+      → ((x : IoError) → fault_of log ≡ Some x → new ≡ log) → (IsNotReserved {T = ℕ} (Err e) → new ≡ log) → LeavesSome sum (target_for log place) log new → Fails e
   stable_failed (error.NotReserved at) answers done made faulty refused left = (
-    nothing_made log sum begun tickets (behind_place place) (error.NotReserved at) old_device new_device tt (same_device (refused tt)),
+    nothing_made log sum begun tickets (target_for log place) (error.NotReserved at) old_device new_device tt (same_device (refused tt)),
     (answers.0, answers.1, answers.2, answers.3, same_device (refused tt), ap (λ (x : Log D C). record { device = view (device_of x); history = H; acknowledged = A; floor = f; log = Some (seen_log x begun tickets) }) (refused tt)),
   )
   stable_failed (error.Io x) answers done made faulty refused left = by answers.1 where
     by : IsFault x (fault_of log) (fault_of new) old_device.failures new_device.failures → Fails (error.Io x)
     by (inl kept) =
         let same : new ≡ log = faulty x kept.0 in (
-          nothing_made log sum begun tickets (behind_place place) (error.Io x) old_device new_device tt (same_device same),
+          nothing_made log sum begun tickets (target_for log place) (error.Io x) old_device new_device tt (same_device same),
           (
             inl (kept.0, refl, kept.2),
             record {
@@ -587,19 +596,19 @@ module _ {D C : Type 0} (view : D → DeviceView) (sum : List ℕ → ℕ) (log 
         )
     by (inr failed) = (
       known_acts (error.Io x) (answers.0 failed.0) done made failed.0 answers.1,
-      reserved_step log sum begun tickets place unbatched (answers.0 failed.0) new old_device new_device H A f position (error.Io x) answers.1 left,
+      reserved_step log sum begun tickets place (answers.0 failed.0) new old_device new_device H A f position (error.Io x) answers.1 left,
     )
   stable_failed error.OutOfMemory answers done made faulty refused left = (
     known_acts error.OutOfMemory answers.1 done made answers.2 (answers.2, answers.3, answers.4),
-    reserved_step log sum begun tickets place unbatched answers.1 new old_device new_device H A f position error.OutOfMemory (answers.2, answers.3, answers.4) left,
+    reserved_step log sum begun tickets place answers.1 new old_device new_device H A f position error.OutOfMemory (answers.2, answers.3, answers.4) left,
   )
   stable_failed error.PlacesUsedUp answers done made faulty refused left = (
     known_acts error.PlacesUsedUp answers.0 done made answers.1.1 answers.1,
-    reserved_step log sum begun tickets place unbatched answers.0 new old_device new_device H A f position error.PlacesUsedUp answers.1 left,
+    reserved_step log sum begun tickets place answers.0 new old_device new_device H A f position error.PlacesUsedUp answers.1 left,
   )
   stable_failed (error.Held at) answers done made faulty refused left = (
     known_acts (error.Held at) answers.0 done made answers.1.2 answers.1,
-    reserved_step log sum begun tickets place unbatched answers.0 new old_device new_device H A f position (error.Held at) answers.1 left,
+    reserved_step log sum begun tickets place answers.0 new old_device new_device H A f position (error.Held at) answers.1 left,
   )
   stable_failed _ answers done made faulty refused left = absurd answers
 
@@ -631,7 +640,6 @@ module _ {D C : Type 0} (trace : D → Trace) (sum : List ℕ → ℕ) (opened :
     unmarked = at.unmarked;
     fits = fits;
     pinned = subst (λ n. 0 < n) (sym position.pins) at.pinned;
-    unbatched = still_unbatched trace sum opened.log log keeps at.unbatched;
     table = at.table;
     tickets = record {
       as_many = at.tickets.as_many;

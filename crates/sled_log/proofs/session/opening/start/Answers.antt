@@ -38,8 +38,9 @@ returns-in-Ok-clause-starts g c = λ H A f at.
     let some : 0 < size = let least = c.args.config.config.least in omega (arith, least) in
     let place = starts_at size (stable_place s.stable) s.active some at.active in
     let position : position_of new ≡ _ = ap position_of taken ∙ begins.position in
-    let stable : synced_end new ≡ stable_place s.stable = ap synced_end taken ∙ begins.synced ∙ place in
+    let synced : synced_end new ≡ stable_place s.stable = ap synced_end taken ∙ begins.synced ∙ place in
     let end : reserved_end new ≡ stable_place s.stable = ap reserved_end taken ∙ begins.reserved ∙ begins.synced ∙ place in
+    let noted : noted_in new ≡ [] = ap noted_in taken ∙ begins.noted in
     let waiting : spans (waiting_of new) ≡ [] = ap (λ x. spans (waiting_of x)) taken ∙ ap spans begins.unsealed in
     let first : start_of new ≡ _ = ap start_of taken ∙ begins.start in
     let fault : fault_of new ≡ None = ap fault_of taken ∙ begins.fault in
@@ -47,13 +48,12 @@ returns-in-Ok-clause-starts g c = λ H A f at.
     let pages : length c.args.snapshot.pt.items ≡ length s.pages = simp length-map in
     let pinned : pins_of new ≡ 1 = ap pins_of taken ∙ ap (λ n. n + 1) begins.pins in
     record {
-      log = λ i. Some (record { position = position i; stable = stable i; end = end i; waiting = waiting i; start = first i; begun = pages i; fault = fault i; outstanding = empty i; tickets = [] });
+      log = λ i. Some (record { position = position i; synced = synced i; noted = noted i; end = end i; waiting = waiting i; start = first i; begun = pages i; fault = fault i; outstanding = empty i; tickets = [] });
       at = record {
         made = at.closed.made;
         unmarked = [];
         fits = c.pin-guard.ensures.keeps.fits H A f [] (c.in-Ok.ensures.fits H A f at.ready);
         pinned = omega (arith, pinned);
-        unbatched = ap noted_in taken ∙ begins.noted;
         table = at.table;
         tickets = record {
           as_many = search rules;

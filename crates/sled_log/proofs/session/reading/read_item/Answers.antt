@@ -44,7 +44,7 @@ returns-in_err-item-clause-reads g c =
       only = record { keeps = c.read.ensures.keeps; tickets = c.read.ensures.tickets; position = c.read.ensures.position; free = was_free old new c.read.ensures.faulty };
       item = λ k m begun is of here points a.
           let at = here ∙ sym (to_z-of_z w64 c.args.place c.ranges.place) in
-          read_failed view sum old new k m begun c.in-Inline.lid is of (stays_put old new c.read.ensures.tickets c.read.ensures.position) LogRead blobs e
+          read_failed view sum old new k m begun c.in-Inline.lid is of (stays_put trace sum old new c.read.ensures.tickets c.read.ensures.position c.read.ensures.keeps) LogRead blobs e
           (subst (λ (z : ℤ). Settles {T = LogRead} trace sum (Err e) z c.in-Inline.lid old new) (sym at) came.calls)
           (subst (λ (z : ℤ). WritesAround {T = LogRead} sum (Err e) z old new) (sym at) came.buffers.1)
           (subst (λ (z : ℤ). ReadAnswers {T = LogRead} sum blobs (Err e) z (synced_end old) (reserved_end old) (held_at sum old z) (IsUsedUpAt old z) (fault_of old) (fault_of new) (g.D.Device.faults (device_of old)) (g.D.Device.faults (device_of new))) (sym at) came.answers)
@@ -68,7 +68,7 @@ returns-in-Inline-2-clause-reads g c =
           let at = here ∙ sym (to_z-of_z w64 c.args.place c.ranges.place) in
           let gives : GivesMessage m r = came.message k.history m (fits_holds trace sum old k.history k.acknowledged k.floor is.unmarked is.fits) of.there (has_record old k.history (reserved_end old) m of) at (points ∙ c.in-Inline.is) in
           let bytes = subst (GivesMessage m) c.in-Inline-2.is gives in
-          let read = was_read view sum old new k m begun c.in-Inline.lid is of (stays_put old new c.read.ensures.tickets c.read.ensures.position) blobs r
+          let read = was_read view sum old new k m begun c.in-Inline.lid is of (stays_put trace sum old new c.read.ensures.tickets c.read.ensures.position c.read.ensures.keeps) blobs r
           (subst (λ (z : ℤ). Settles trace sum (Ok r) z c.in-Inline.lid old new) (sym at) came.calls)
           (subst (λ (z : ℤ). WritesAround sum (Ok r) z old new) (sym at) came.buffers.1)
           (subst (λ (z : ℤ). ReadAnswers sum blobs (Ok r) z (synced_end old) (reserved_end old) (held_at sum old z) (IsUsedUpAt old z) (fault_of old) (fault_of new) (g.D.Device.faults (device_of old)) (g.D.Device.faults (device_of new))) (sym at) came.answers) in

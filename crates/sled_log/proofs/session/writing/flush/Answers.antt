@@ -4,14 +4,13 @@ use Rattle.std.specs.Prelude.{Err}
 use Rattle.sled_store.specs.Device.{Event, state_of}
 use Rattle.sled_store.specs.Script.{Performs, after_all}
 use Rattle.sled_core.specs.Causes.{OnDone}
-use Rattle.sled_core.specs.Fits.{IsKept, IsUsedUpBelow, current_begin, device_of, fault_of, held_len, holding_below, reserved_end, segment_size_of, synced_end}
-use Rattle.sled_core.specs.Running.{end_below}
-use Rattle.sled_core.proofs.Holds.ReachLemmas.{kept_past, fits_holds, fits_acknowledged}
+use Rattle.sled_core.specs.Fits.{IsKept, IsUsedUpBelow, current_begin, device_of, fault_of, held_len, holding_below, reserved_end, segment_size_of, stable_end, synced_end}
+use Rattle.sled_core.specs.Running.{Fits, end_below}
+use Rattle.sled_core.proofs.Holds.ReachLemmas.{kept_past, fits_holds, fits_stable}
 use Rattle.sled_log.specs.RunPhases.{seen, stands, view_by}
 use Rattle.sled_log.specs.RunStates.{LogView}
 use Rattle.sled_log.specs.Runs.{stable_from}
 use Rattle.sled_log.specs.declared.session.Phase.TheVariants as phase
-use Rattle.sled_log.proofs.Sessions.Unbatched.{stable_synced}
 use Rattle.sled_log.proofs.Sessions.Writing.{calls_failed, flush_out, has_stopped, has_written, holding_seen, some_reserved, stable_seen, stays_put, still_open, was_free, writes_seen, writes_to, writing_stops}
 use Rattle.sled_log.proofs.WriteBack.RestartCauses.{some_of}
 use Rattle.sled_log.proofs.session.writing.flush.Goals as goal
@@ -30,29 +29,30 @@ returns-in-Ok-clause-step g c = λ k at free.
     let to = reserved_end old in
     let some : current_begin old < to → 0 < held_len old = some_reserved old sum begun k.tickets to (omega arith) in
     let holds = fits_holds trace sum old H k.acknowledged k.floor at.unmarked at.fits in
-    let past = fits_acknowledged trace sum old H k.acknowledged k.floor at.unmarked at.fits in
+    let past = fits_stable trace sum old H k.acknowledged k.floor at.unmarked at.fits in
     let above = c.in-Ok.ensures.buffers.above in
-    let ends : synced_end new ≡ stable_from to l = stable_seen old sum begun k.tickets to some new above in
     let answers = c.in-Ok.ensures.answers in
-    let grown : synced_end new ≡ synced_end old + c.in-Ok.grown = sym c.in-Ok.ensures.stable ∙ c.in-Ok.ensures.answer ∙ ap (λ n. n + c.in-Ok.grown) (stable_synced old at.unbatched) in
     let position = c.flush.ensures.position in
+    let put = stays_put trace sum old new c.flush.ensures.tickets position c.flush.ensures.keeps in
+    let ends : synced_end new ≡ stable_from to l = sym c.in-Ok.ensures.stable ∙ stable_seen old sum begun k.tickets to some new (view old.config.device) (view new.config.device) H k.acknowledged k.floor put above in
     let kept : IsKept sum (segment_size_of old) new.site new.buffer.written_len (state_of (trace (device_of new))) H =
     subst (λ n. IsKept sum n new.site new.buffer.written_len (state_of (trace (device_of new))) H) position.size (c.in-Ok.ensures.records H holds) in
-    let reached : ℕ = max k.acknowledged (end_below (synced_end new) H) in
+    let reached : ℕ = max k.acknowledged (end_below (stable_end new) H) in
     record {
       not_refused = refl;
       acts = (writes_to old sum begun k.tickets to some, (c.in-Ok.ensures.calls ∙ ap (λ (es : List Event). after_all es (trace (device_of old))) (writes_seen old sum begun k.tickets to some), answers.4));
       step = λ own. (
         record { history = H; acknowledged = reached; floor = k.floor; tickets = k.tickets },
         record {
-          written = has_written old sum begun k.tickets to some new (view old.config.device) (view new.config.device) H k.acknowledged k.floor (stays_put old new c.flush.ensures.tickets position) c.in-Ok.grown answers.2 answers.3 answers.0 grown c.in-Ok.ensures.whole past above;
+          written = has_written old sum begun k.tickets to some new (view old.config.device) (view new.config.device) H k.acknowledged k.floor put c.in-Ok.grown answers.2 answers.3 answers.0 c.in-Ok.ensures.answer c.in-Ok.ensures.whole past above;
           all = λ i d lt. let low = kept_past sum (segment_size_of old) new.site new.buffer.written_len _ H kept i d lt in omega (arith, low, ends);
           site = new.site;
           from = new.buffer.written_len;
           at = ends;
           kept = kept;
         },
-        still_open trace sum opened new k reached at c.flush.ensures.tickets position (was_free old new c.flush.ensures.faulty) c.flush.ensures.keeps (c.in-Ok.ensures.acknowledges H k.acknowledged k.floor at.unmarked at.fits),
+        still_open trace sum opened new k reached at c.flush.ensures.tickets position (was_free old new c.flush.ensures.faulty) c.flush.ensures.keeps
+            (subst (λ n. Fits trace sum new H (max k.acknowledged (end_below n H)) k.floor at.unmarked) (sym c.in-Ok.ensures.stable) (c.in-Ok.ensures.acknowledges H k.acknowledged k.floor at.unmarked at.fits)),
       );
     }
 
@@ -85,7 +85,7 @@ returns-in-Err-clause-step g c = λ k at free.
         k,
         writing_stops (segment_size_of old) (stands view (phase.Open opened) k) l to ℕ c.in-Err.e (holding_below sum old to) (IsUsedUpBelow old to) (fault_of new) (view new.config.device) _
             (holding_seen old sum begun k.tickets to some) (λ used. (used.0, flush_out old sum begun k.tickets used.1)) c.in-Err.ensures.answers
-            (has_stopped old sum begun k.tickets to some new (view old.config.device) (view new.config.device) H k.acknowledged k.floor (stays_put old new c.flush.ensures.tickets position) c.in-Err.ensures.buffers.some),
+            (has_stopped old sum begun k.tickets to some new (view old.config.device) (view new.config.device) H k.acknowledged k.floor (stays_put trace sum old new c.flush.ensures.tickets position c.flush.ensures.keeps) c.in-Err.ensures.buffers.some),
         still_open trace sum opened new k k.acknowledged at c.flush.ensures.tickets position (was_free old new c.flush.ensures.faulty) c.flush.ensures.keeps (c.flush.ensures.keeps.fits H k.acknowledged k.floor at.unmarked at.fits),
       );
     }

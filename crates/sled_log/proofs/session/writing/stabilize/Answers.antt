@@ -8,11 +8,11 @@ use Rattle.sled_store.specs.Script.{after_all}
 use Rattle.sled_core.specs.Fits.{current_begin, device_of, held_len, stable_end, synced_end}
 use Rattle.sled_core.specs.Keeps.{LeavesAbove, LeavesSome}
 use Rattle.sled_core.specs.Running.{Fits, end_below}
-use Rattle.sled_core.specs.Stable.{behind_place}
-use Rattle.sled_core.proofs.Holds.ReachLemmas.{fits_acknowledged}
+use Rattle.sled_core.specs.Stable.{target_for}
+use Rattle.sled_core.proofs.Holds.ReachLemmas.{fits_stable}
 use Rattle.sled_log.specs.RunPhases.{Does, view_by}
-use Rattle.sled_log.proofs.Sessions.Unbatched.{answers_behind, stable_synced, still_unbatched, target_behind}
-use Rattle.sled_log.proofs.Sessions.Writing.{behind_end, has_written, held_seen, holding_seen, over, some_known, stabilizing_seen, stable_failed, stays_put, still_open, was_free, writes_to}
+use Rattle.sled_log.proofs.Sessions.NotedSeen.{target_written}
+use Rattle.sled_log.proofs.Sessions.Writing.{has_written, held_seen, holding_seen, over, some_known, stabilizing_seen, stable_failed, stable_seen, stays_put, still_open, was_free, writes_to}
 use Rattle.sled_log.specs.declared.session.Phase.TheVariants as phase
 use Rattle.sled_log.specs.declared.session.command.Command.TheVariants as told
 use Rattle.sled_log.specs.declared.session.command.Reply.TheVariants as reply
@@ -29,29 +29,27 @@ returns-in-Ok-clause-step g c = λ k at free.
     let new = c.make_stable.new.self in
     let begun = length opened.pages.items in
     let H = k.history in
-    let to = behind_place place in
-    let kept = still_unbatched trace sum old new c.make_stable.ensures.keeps at.unbatched in
-    let answers = answers_behind old at.unbatched place (Ok c.in-Ok.more) _ _ _ _ _ _ c.in-Ok.ensures.answers in
-    let ends : stable_end new ≡ synced_end new = stable_synced new kept in
-    let grown : synced_end new ≡ synced_end old + c.in-Ok.more = sym ends ∙ c.in-Ok.ensures.answer ∙ ap (λ n. n + c.in-Ok.more) (stable_synced old at.unbatched) in
-    let above : LeavesAbove sum to old new = subst (λ n. LeavesAbove sum n old new) (target_behind old at.unbatched place) c.in-Ok.ensures.buffers.above in
-    let below : place <ℤ pos (synced_end new) = subst (λ n. place <ℤ pos n) ends c.in-Ok.ensures.target in
-    let fits = subst (λ n. Fits trace sum new H (max k.acknowledged (end_below n H)) k.floor at.unmarked) ends (c.in-Ok.ensures.acknowledges H k.acknowledged k.floor at.unmarked at.fits) in
+    let to = target_for old place in
+    let answers = c.in-Ok.ensures.answers in
+    let above = c.in-Ok.ensures.buffers.above in
+    let fits = c.in-Ok.ensures.acknowledges H k.acknowledged k.floor at.unmarked at.fits in
     let some : current_begin old < to → 0 < held_len old = some_known old sum begun k.tickets place answers.0 in
-    let past = fits_acknowledged trace sum old H k.acknowledged k.floor at.unmarked at.fits in
+    let past = fits_stable trace sum old H k.acknowledged k.floor at.unmarked at.fits in
     let position = c.make_stable.ensures.position in
-    let reached : ℕ = max k.acknowledged (end_below (synced_end new) H) in
-    let unheld = holding_seen old sum begun k.tickets to some ∙ sym (held_seen old sum begun k.tickets place at.unbatched answers.0) ∙ answers.1.0 in
+    let put = stays_put trace sum old new c.make_stable.ensures.tickets position c.make_stable.ensures.keeps in
+    let reached : ℕ = max k.acknowledged (end_below (stable_end new) H) in
+    let unheld = holding_seen old sum begun k.tickets to some ∙ sym (held_seen old sum begun k.tickets place answers.0) ∙ answers.1.0 in
     let done : Does view sum (phase.Open opened) (told.Stable place) (phase.Open (over opened new), reply.Flushed c.in-Ok.more) k =
     record {
       not_refused = refl;
-      acts = (writes_to old sum begun k.tickets to some, (c.in-Ok.ensures.made ∙ ap (λ (es : List Event). after_all es (trace (device_of old))) (stabilizing_seen old sum begun k.tickets place at.unbatched), answers.1.4));
+      acts = (writes_to old sum begun k.tickets to some, (c.in-Ok.ensures.made ∙ ap (λ (es : List Event). after_all es (trace (device_of old))) (stabilizing_seen old sum begun k.tickets place), answers.1.4));
       step = λ own. (
         record { history = H; acknowledged = reached; floor = k.floor; tickets = k.tickets },
         (
           answers.0,
-          has_written old sum begun k.tickets to some new (view old.config.device) (view new.config.device) H k.acknowledged k.floor (stays_put old new c.make_stable.ensures.tickets position) c.in-Ok.more answers.1.2 answers.1.3 unheld grown
-              (behind_end old sum begun k.tickets place (synced_end new) below) past above,
+          has_written old sum begun k.tickets to some new (view old.config.device) (view new.config.device) H k.acknowledged k.floor put c.in-Ok.more answers.1.2 answers.1.3 unheld c.in-Ok.ensures.answer
+              (target_written old new place c.make_stable.ensures.keeps.noted c.in-Ok.ensures.target) past above,
+          subst (λ n. place <ℤ pos n) (stable_seen old sum begun k.tickets to some new (view old.config.device) (view new.config.device) H k.acknowledged k.floor put above) c.in-Ok.ensures.target,
         ),
         still_open trace sum opened new k reached at c.make_stable.ensures.tickets position (was_free old new c.make_stable.ensures.faulty) c.make_stable.ensures.keeps fits,
       );
@@ -69,9 +67,9 @@ returns-in-Err-clause-step g c = λ k at free.
     let new = c.make_stable.new.self in
     let position = c.make_stable.ensures.position in
     let place : ℤ = to_z w64 (of_z w64 c.args.place) in
-    let fails = stable_failed view sum old new (length opened.pages.items) k.tickets place at.unbatched k.history k.acknowledged k.floor (stays_put old new c.make_stable.ensures.tickets position) c.in-Err.e (answers_behind old at.unbatched place {T = ℕ} (Err c.in-Err.e) _ _ _ _ _ _ c.in-Err.ensures.answers) c.in-Err.ensures.made c.make_stable.ensures.at_most
+    let fails = stable_failed view sum old new (length opened.pages.items) k.tickets place k.history k.acknowledged k.floor (stays_put trace sum old new c.make_stable.ensures.tickets position c.make_stable.ensures.keeps) c.in-Err.e c.in-Err.ensures.answers c.in-Err.ensures.made c.make_stable.ensures.at_most
     c.make_stable.ensures.faulty c.in-Err.ensures.refused
-    (subst (λ n. LeavesSome sum n old new) (target_behind old at.unbatched place) c.in-Err.ensures.buffers.some) in
+    c.in-Err.ensures.buffers.some in
     let done : Does view sum (phase.Open opened) (told.Stable place) (phase.Open (over opened new), reply.Failed c.in-Err.e) k =
     record {
       not_refused = refl;

@@ -37,7 +37,7 @@ returns-in-Ok-clause-step g c = λ k at free.
       acts = (waiting_of old, shows_waiting old sum (length opened.pages.items) k.tickets, (c.in-Ok.ensures.calls, answers.2));
       step = λ own. (
         k,
-        (answers.0, leaves old sum (length opened.pages.items) k.tickets new (view old.config.device) (view new.config.device) k.history k.acknowledged k.floor (stays_put old new c.write_to_log.ensures.tickets c.write_to_log.ensures.position) _ _ _ left c.write_to_log.ensures.start answers.1),
+        (answers.0, leaves old sum (length opened.pages.items) k.tickets new (view old.config.device) (view new.config.device) k.history k.acknowledged k.floor (stays_put trace sum old new c.write_to_log.ensures.tickets c.write_to_log.ensures.position c.write_to_log.ensures.keeps) _ _ _ left c.write_to_log.ensures.start answers.1),
         still_open trace sum opened new k k.acknowledged at c.write_to_log.ensures.tickets c.write_to_log.ensures.position (was_free old new c.write_to_log.ensures.faulty) c.write_to_log.ensures.keeps (c.write_to_log.ensures.keeps.fits k.history k.acknowledged k.floor at.unmarked at.fits),
       );
     }
@@ -63,7 +63,7 @@ returns-in-Err-clause-step g c = λ k at free.
       step = λ own. (
         k,
         write_stops (stands view (phase.Open opened) k) l c.args.i (Unit {0}) c.in-Err.e (fault_of new) (view new.config.device) _ c.in-Err.ensures.answers
-            (leaves old sum (length opened.pages.items) k.tickets new (view old.config.device) (view new.config.device) k.history k.acknowledged k.floor (stays_put old new c.write_to_log.ensures.tickets c.write_to_log.ensures.position) _ _ _ left c.write_to_log.ensures.start refl),
+            (leaves old sum (length opened.pages.items) k.tickets new (view old.config.device) (view new.config.device) k.history k.acknowledged k.floor (stays_put trace sum old new c.write_to_log.ensures.tickets c.write_to_log.ensures.position c.write_to_log.ensures.keeps) _ _ _ left c.write_to_log.ensures.start refl),
         still_open trace sum opened new k k.acknowledged at c.write_to_log.ensures.tickets c.write_to_log.ensures.position (was_free old new c.write_to_log.ensures.faulty) c.write_to_log.ensures.keeps (c.write_to_log.ensures.keeps.fits k.history k.acknowledged k.floor at.unmarked at.fits),
       );
     }
