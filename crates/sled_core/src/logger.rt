@@ -188,6 +188,13 @@ impl<D: Device, C: Checksum> Log<D, C> {
         self.stable_end() as i64 - 1
     }
 
+    /// Returns the greatest place that was reserved; on a log of which nothing was reserved yet, the last place that is durable.
+    pub fn reserved_offset(&self) -> Lsn
+        ensures { result ≡ pos (reserved_end self.now) -ℤ pos 1 }
+    {
+        self.reserved_to as i64 - 1
+    }
+
     /// Returns the failure of its device that the log keeps, the first one. Such a log changes nothing any more.
     pub fn failure(&self) -> Option<io::Error>
         ensures { result ≡ fault_of self.now }

@@ -1,12 +1,15 @@
 pub mod Carried
+pub mod EndedBatches
 pub mod EndedTickets
 pub mod Endings
+pub mod MadeBatches
 pub mod MadeHistories
 pub mod MadePages
 pub mod MadeTables
 pub mod NotedSeen
 pub mod Reading
 pub mod Reserving
+pub mod ReservedPlaces
 pub mod RunHistories
 pub mod RunLemmas
 pub mod RunLogs

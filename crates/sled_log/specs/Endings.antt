@@ -7,7 +7,7 @@ use Rattle.sled_codec.specs.declared.serialization.snapshot.PageState.{PageState
 use Rattle.sled_codec.specs.declared.serialization.snapshot.PageState.TheVariants as state
 use Rattle.sled_codec.specs.Snapshots.{Entry, Free, Page, Present, Uninitialized, page_of}
 use Rattle.sled_core.specs.Fits.{IsOpen}
-use Rattle.sled_core.specs.Tickets.{is_manifest_of}
+use Rattle.sled_core.specs.Manifests.{manifest_page}
 use Rattle.sled_log.specs.declared.session.opened.Opened.{Opened}
 use Rattle.sled_log.specs.declared.session.opened.Ticket.{Ticket}
 
@@ -53,18 +53,23 @@ pub record KeepsPages {D C : Type 0} (old new : Opened D C) : Type 0 where
   pub pages : map page_of new.pages.items ≡ map page_of old.pages.items
   pub tickets : new.tickets ≡ old.tickets
   pub busy : new.busy ≡ old.busy
+  pub batch : new.batch ≡ old.batch
 
 -- there is room for the entry of the message of a ticket
 abbrev pub HasRoomFor : {D C : Type 0} → Opened D C → ℕ → Type 0
 HasRoomFor opened number = (ticket : Ticket) → slice_get opened.tickets.items number ≡ Some (Some ticket) → HasRoomToApply opened.pages ticket.kind ticket.page
 
--- A ticket is taken, where its reservation is open and of a message. Its page has no open ticket then.
+-- the number of the open manifest's ticket, once a ticket of this page is taken
+abbrev pub batch_left : ℕ → Option ℕ → Option ℕ
+batch_left page batch = if page == manifest_page then None else batch
+
+-- A ticket is taken, where its reservation is open. Its page has no open ticket then, and the batch that it began is ended.
 pub record TakesTicket {D C : Type 0} (old : Opened D C) (number : ℕ) (new : Opened D C) (result : Option Ticket) : Type 0 where
   pub log : new.log ≡ old.log
   pub pages : new.pages ≡ old.pages
   pub tickets : new.tickets.items ≡ set old.tickets.items number None
   pub there : IfSome result (λ ticket. slice_get old.tickets.items number ≡ Some (Some ticket))
   pub is_open : IfSome result (λ ticket. IsOpen new.log ticket.reservation)
-  pub message : IfSome result (λ ticket. is_manifest_of ticket.reservation ≡ false)
   pub busy : IfSome result (λ ticket. new.busy.items ≡ set old.busy.items ticket.page false)
-  pub taken : (ticket : Ticket) → slice_get old.tickets.items number ≡ Some (Some ticket) → is_manifest_of ticket.reservation ≡ false → IsOpen old.log ticket.reservation → result ≡ Some ticket
+  pub batch : IfSome result (λ ticket. new.batch ≡ batch_left ticket.page old.batch)
+  pub taken : (ticket : Ticket) → slice_get old.tickets.items number ≡ Some (Some ticket) → IsOpen old.log ticket.reservation → result ≡ Some ticket

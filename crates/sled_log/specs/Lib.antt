@@ -16,4 +16,5 @@ pub mod Restarts
 pub mod RunPhases
 pub mod RunStates
 pub mod Runs
+pub mod TicketSteps
 pub mod WritesBack

@@ -8,7 +8,7 @@ use Rattle.sled_log.specs.declared.session.command.Refusal.{Refusal}
 use Rattle.sled_log.specs.declared.session.command.Refusal.TheVariants as why
 use Rattle.sled_log.specs.declared.session.command.Reply.{Reply}
 use Rattle.sled_log.specs.declared.session.command.Reply.TheVariants as reply
-use Rattle.sled_log.specs.RunStates.{LogView, RunState, has_page, has_ticket, is_present, open_messages, page_now, pending_in_view}
+use Rattle.sled_log.specs.RunStates.{LogView, RunState, has_message, has_page, has_ticket, in_batch, is_present, open_messages, page_now, pending_in_view}
 
 -- this reason, where it fits, or else another
 abbrev pub when : Bool → Refusal → Option Refusal → Option Refusal
@@ -35,7 +35,9 @@ refused_open size H l (command.Link page item) =
     when (is_absent H page) why.Page (when (is_busy l page) why.Busy (when (nat_le 255 (length (page_now H page))) why.Fragments
     (when (is_too_long size (length (short_bytes item.items))) why.Item None)))
 refused_open size H l (command.Free page) = when (is_absent H page) why.Page (when (is_busy l page) why.Busy None)
-refused_open size H l (command.Complete t) = when (not (has_ticket t l.tickets)) why.Ticket None
+refused_open size H l command.BeginBatch = when (in_batch l.tickets) why.Batch None
+refused_open size H l command.EndBatch = when (not (in_batch l.tickets)) why.Batch None
+refused_open size H l (command.Complete t) = when (not (has_message t l.tickets)) why.Ticket None
 refused_open size H l (command.Abort t) = when (not (has_ticket t l.tickets)) why.Ticket None
 refused_open size H l (command.Write i) = when (nat_le (pending_in_view l) i) why.Index None
 refused_open size H l (command.Read page) = when (nat_le l.begun page) why.Page None
@@ -53,6 +55,8 @@ refused_closed (command.Crash choice) = None
 refused_closed (command.Replace page item) = Some why.Closed
 refused_closed (command.Link page item) = Some why.Closed
 refused_closed (command.Free page) = Some why.Closed
+refused_closed command.BeginBatch = Some why.Closed
+refused_closed command.EndBatch = Some why.Closed
 refused_closed (command.Complete t) = Some why.Closed
 refused_closed (command.Abort t) = Some why.Closed
 refused_closed (command.Write i) = Some why.Closed

@@ -1,10 +1,11 @@
 -- How a session keeps a place for a message.
-use Rattle.std.specs.Prelude.{◌≡◌, ◌⊎◌, ◌≤◌, ℕ, true, false, List, [], ◌∷◌, ◌++◌, length, get_or, set, None, Some}
+use Rattle.std.specs.Prelude.{◌≡◌, ◌⊎◌, ◌≤◌, ◌==◌, if◌then◌else◌, ℕ, true, false, List, [], ◌∷◌, ◌++◌, length, get_or, set, None, Some}
 use Rattle.sled_codec.specs.declared.serialization.message.LogKind.{LogKind}
 use Rattle.sled_codec.specs.declared.serialization.message.LogKind.TheVariants.{Link, Replace}
 use Rattle.sled_codec.specs.History.{History}
 use Rattle.sled_core.specs.declared.reservation.Reservation.{Reservation}
 use Rattle.sled_core.specs.Fits.{FitsInline, segment_size_of}
+use Rattle.sled_core.specs.Manifests.{manifest_page}
 use Rattle.sled_core.specs.Tickets.{place_of, pointer_of}
 use Rattle.sled_log.specs.declared.session.Phase.TheVariants.{Open}
 use Rattle.sled_log.specs.declared.session.opened.Opened.{Opened}
@@ -13,7 +14,7 @@ use Rattle.sled_log.specs.declared.session.command.Reply.TheVariants as reply
 use Rattle.sled_log.specs.Refusals.{is_busy, reason_of}
 use Rattle.sled_log.specs.RunPhases.{IsOpenAt, Unstored, device_in, seen, stands, traces}
 use Rattle.sled_log.specs.RunStates.{DeviceView, LogView, is_present, page_now}
-use Rattle.sled_log.specs.Runs.{ReserveStep}
+use Rattle.sled_log.specs.TicketSteps.{ReserveStep}
 
 -- A message of this kind and page with an item of n bytes isn't refused.
 pub record MayReserve (size : ℕ) (H : History) (l : LogView) (kind : LogKind) (page n : ℕ) : Type 0 where
@@ -28,13 +29,15 @@ pub record MakesRoom {D C : Type 0} (old new : Opened D C) : Type 0 where
   pub pages : new.pages ≡ old.pages
   pub tickets : new.tickets.items ≡ old.tickets.items
   pub busy : (page : ℕ) → get_or new.busy.items page false ≡ get_or old.busy.items page false
+  pub batch : new.batch ≡ old.batch
 
--- A ticket came under the next number, and its page is noted.
+-- A ticket came under the next number; its page is noted, or that it begins a batch.
 pub record HoldsTicket {D C : Type 0} (old new : Opened D C) (kind : LogKind) (page : ℕ) (reservation : Reservation) (result : Reply) : Type 0 where
   pub log : new.log ≡ old.log
   pub pages : new.pages ≡ old.pages
   pub tickets : new.tickets.items ≡ old.tickets.items ++ Some (record { kind = kind; page = page; reservation = reservation }) ∷ []
-  pub busy : new.busy.items ≡ set old.busy.items page true
+  pub busy : new.busy.items ≡ (if page == manifest_page then old.busy.items else set old.busy.items page true)
+  pub batch : new.batch ≡ (if page == manifest_page then Some (length old.tickets.items) else old.batch)
   pub told : result ≡ reply.Reserved (length old.tickets.items) (place_of reservation) (pointer_of reservation)
 
 -- What a reservation comes to.

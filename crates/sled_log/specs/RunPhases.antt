@@ -1,7 +1,8 @@
 -- What stands in each phase of a session.
-use Rattle.std.specs.Prelude.{◌≡◌, ◌+◌, ◌≤◌, ◌<◌, ℕ, Bool, false, List, [], ◌∷◌, length, map, get_or, slice_get, Option, None, Some}
-use Rattle.std.specs.List.{All}
-use Rattle.sled_codec.specs.History.{Message, History}
+use Rattle.std.specs.Prelude.{◌≡◌, ◌≢◌, ◌+◌, ◌≤◌, ◌<◌, ℕ, Bool, false, List, [], ◌∷◌, length, map, get_or, slice_get, Option, None, Some}
+use Rattle.std.specs.List.{All, Contains}
+use Rattle.sled_codec.specs.declared.serialization.message.LogKind.TheVariants.{Skip}
+use Rattle.sled_codec.specs.History.{Batch, Message, History}
 use Rattle.sled_codec.specs.PageTables.{IsTable}
 use Rattle.sled_codec.specs.Snapshots.{SnapshotModel, page_of, stable_place}
 use Rattle.sled_store.specs.Device.{Trace, state_of}
@@ -9,6 +10,7 @@ use Rattle.sled_store.specs.Moments.{IsLater}
 use Rattle.sled_store.specs.declared.config.RunningConfig.{RunningConfig}
 use Rattle.sled_core.specs.declared.logger.Log.{Log}
 use Rattle.sled_core.specs.Fits.{Awaits, config_of, fault_of, noted_in, open_places, pins_of, position_of, reserved_end, start_of, synced_end, waiting_of}
+use Rattle.sled_core.specs.Manifests.{manifest_page}
 use Rattle.sled_core.specs.Waiting.{spans}
 use Rattle.sled_core.specs.Keeps.{ConfigKept}
 use Rattle.sled_core.specs.Recoverable.{LeavesRecoverable}
@@ -22,7 +24,7 @@ use Rattle.sled_log.specs.declared.session.command.Command.{Command}
 use Rattle.sled_log.specs.declared.session.command.Reply.{Reply}
 use Rattle.sled_log.specs.Made.{IsMade, MayJoin}
 use Rattle.sled_log.specs.Refusals.{reason_of, refusal_for}
-use Rattle.sled_log.specs.RunStates.{DeviceView, LogView, RunState, ShowsActive, has_page, open_messages, top}
+use Rattle.sled_log.specs.RunStates.{DeviceView, LogView, RunState, ShowsActive, has_page, in_batch, open_messages, top}
 use Rattle.sled_log.specs.Runs.{IsOwn, Acts, Carries, IsStep}
 
 -- What is seen of what code has.
@@ -92,15 +94,21 @@ pub record IsClosedAt (sum : List ℕ → ℕ) (size : ℕ) (trace : Trace) (k :
   pub made : IsMade k.history
   pub left : LeavesRecoverable sum size k.history k.acknowledged k.floor (state_of trace)
 
--- The ticket of a number is for this message, which may come to the history.
+-- A message is a manifest whose batch can end where what was reserved does: in front of it all batches end that are noted.
+pub record BeginsBatch {D C : Type 0} (log : Log D C) (m : Message) : Type 0 where
+  pub kind : m.kind ≡ Skip
+  pub apart : (b : Batch) → Contains (noted_in log) b → b.peg < m.place
+
+-- The ticket of a number is for this message, which may come to the history or begins a batch.
 pub record IsTicketFor {D C : Type 0} (opened : Opened D C) (H : History) (n : ℕ) (m : Message) : Type 0 where
   pub ticket : Ticket
   pub there : slice_get opened.tickets.items n ≡ Some (Some ticket)
   pub kind : ticket.kind ≡ m.kind
   pub page : ticket.page ≡ m.page
   pub awaits : Awaits opened.log ticket.reservation m
-  pub may_join : MayJoin H m
-  pub begins : m.place < reserved_end opened.log
+  pub joins : m.page ≢ manifest_page → MayJoin H m
+  pub begins_batch : m.page ≡ manifest_page → BeginsBatch opened.log m
+  pub begins : m.place + 1 < reserved_end opened.log
   pub ends : m.place + m.size ≤ reserved_end opened.log
 
 -- places one above another
@@ -108,7 +116,12 @@ abbrev pub AreRising : List ℕ → Type 0
 AreRising [] = Unit {0}
 AreRising (p ∷ ps) = All (λ q. p < q) ps × AreRising ps
 
--- The tickets that are open are for these messages, by number and so by place; no two are of one page, and as long as the log keeps no failure no other reservation of it is open.
+-- the ticket of the open manifest has this number, or none is open
+abbrev pub HasBatch : List (Option Message) → Option ℕ → Type 0
+HasBatch tickets None = in_batch tickets ≡ false
+HasBatch tickets (Some n) = (m : Message) × (slice_get tickets n ≡ Some (Some m)) × (m.page ≡ manifest_page)
+
+-- The tickets that are open are for these messages, by number and so by place; no two are of one page, so one at most is of a manifest, and as long as the log keeps no failure no other reservation of it is open.
 pub record HasTickets {D C : Type 0} (opened : Opened D C) (H : History) (tickets : List (Option Message)) : Type 0 where
   pub as_many : length opened.tickets.items ≡ length tickets
   pub each : (n : ℕ) (m : Message) → slice_get tickets n ≡ Some (Some m) → IsTicketFor opened H n m
@@ -116,7 +129,8 @@ pub record HasTickets {D C : Type 0} (opened : Opened D C) (H : History) (ticket
   pub apart : (i j : ℕ) (m n : Message) → slice_get tickets i ≡ Some (Some m) → slice_get tickets j ≡ Some (Some n) → m.page ≡ n.page → i ≡ j
   pub rising : AreRising (map (λ m. m.place) (open_messages tickets))
   pub are_all : fault_of opened.log ≡ None → open_places opened.log ≡ map (λ m. m.place) (open_messages tickets)
-  pub busy : (page : ℕ) → get_or opened.busy.items page false ≡ has_page page (open_messages tickets)
+  pub busy : (page : ℕ) → page ≢ manifest_page → get_or opened.busy.items page false ≡ has_page page (open_messages tickets)
+  pub batch : HasBatch tickets opened.batch
 
 -- A log is open that fits the history, with a pin out, and with the table of it.
 pub record IsOpenAt {D C : Type 0} (trace : D → Trace) (sum : List ℕ → ℕ) (opened : Opened D C) (k : Unstored) : Type 0 where

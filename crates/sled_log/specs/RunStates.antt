@@ -1,10 +1,11 @@
 -- Where a run of commands stands between two commands.
-use Rattle.std.specs.Prelude.{◌≡◌, ◌≤◌, ◌<◌, ◌+◌, ◌-◌, ◌%◌, ◌^◌, ◌&&◌, ◌==◌, ◌∷◌, ◌++◌, nat_lt, nat_le, zero, suc, if◌then◌else◌, ℕ, Bool, true, false, List, [], length, Option, None, Some}
+use Rattle.std.specs.Prelude.{◌≡◌, ◌≤◌, ◌<◌, ◌+◌, ◌-◌, ◌%◌, ◌^◌, ◌&&◌, ◌==◌, ◌∷◌, ◌++◌, nat_lt, nat_le, not, zero, suc, if◌then◌else◌, ℕ, Bool, true, false, List, [], length, Option, None, Some}
 use Rattle.std.specs.declared.io.Error.{Error as IoError}
 use Rattle.sled_codec.specs.declared.serialization.message.LogKind.{LogKind}
 use Rattle.sled_codec.specs.Snapshots.{SnapshotModel, stable_place}
 use Rattle.sled_codec.specs.History.{Batch, Message, History, no_history, below, is_replace, table}
 use Rattle.sled_store.specs.Device.{Trace, state_of}
+use Rattle.sled_core.specs.Manifests.{manifest_page}
 use Rattle.sled_core.specs.OpenBatches.{stable_below}
 use Rattle.sled_core.specs.Positions.{Position, placed_at, pointer_at, size_at}
 use Rattle.sled_core.specs.Starts.{position_from, start_from}
@@ -201,6 +202,21 @@ abbrev pub has_ticket : ℕ → List (Option Message) → Bool
 has_ticket n [] = false
 has_ticket zero (t ∷ ts) = is_some t
 has_ticket (suc n) (t ∷ ts) = has_ticket n ts
+
+-- a message changes a page: it isn't the manifest of a batch
+abbrev pub is_of_page : Option Message → Bool
+is_of_page None = false
+is_of_page (Some m) = not (m.page == manifest_page)
+
+-- a ticket is open, and for such a message
+abbrev pub has_message : ℕ → List (Option Message) → Bool
+has_message n [] = false
+has_message zero (t ∷ ts) = is_of_page t
+has_message (suc n) (t ∷ ts) = has_message n ts
+
+-- a batch is begun: its manifest has an open ticket
+abbrev pub in_batch : List (Option Message) → Bool
+in_batch tickets = has_page manifest_page (open_messages tickets)
 
 -- the least place of the open reservations of a buffer, and of several
 abbrev pub held : List ℕ → Span → Option ℕ

@@ -24,6 +24,7 @@ use Rattle.sled_core.specs.Buffers.{most_open}
 use Rattle.sled_core.specs.Causes.{IsFault}
 use Rattle.sled_core.specs.declared.iobuf.SegmentPosition.{SegmentPosition}
 use Rattle.sled_core.specs.Fits.{IsKept}
+use Rattle.sled_core.specs.Manifests.{manifest_page}
 use Rattle.sled_core.specs.OpenBatches.{behind_batch, not_whole, stable_below}
 use Rattle.sled_core.specs.OpenPlaces.{places_from}
 use Rattle.sled_core.specs.Positions.{Position, behind_record}
@@ -40,6 +41,7 @@ use Rattle.sled_log.specs.declared.session.command.Reply.TheVariants as reply
 use Rattle.sled_log.specs.Recovery.{RecoveryResult, Recovered, Recovers}
 use Rattle.sled_log.specs.Refusals.{reason_of, refusal_for}
 use Rattle.sled_log.specs.RunStates.{DeviceView, EndsInReach, LogView, RunState, ShowsActive, first_waiting, held, held_among, is_behind, is_present, length_of, message_at, opens, page_now, places_without, recovered, sealed_around, sealed_below, spans_below, spans_from, spans_place, spans_without, stable_of, start_around, start_below, start_with, started_on, target_in, waiting_with, with_log, without_unheld}
+use Rattle.sled_log.specs.TicketSteps.{AbortStep, CompleteStep, EndStep, ReserveStep, blank_manifest}
 use Rattle.sled_log.specs.WritesBack.{HasWrittenBack}
 use Rattle.sled_log.specs.Restores.{RecoveryCalls}
 
@@ -197,97 +199,6 @@ OpenStep sum size a (reply.Failed e) new b =
     (IsCause e a.device.failures new.failures × (b ≡ with_log a new None))
     ⊎ ((s : SnapshotModel) × IsGoodFor sum size a new s × IsStartCause e a.device.failures new.failures × (b ≡ recovered a new s None))
 OpenStep sum size a _ new b = ⊥
-
--- the place and the pointer that are answered are those of a message
-abbrev pub IsAnswerFor : Message → ℤ → DiskPtr → Type 0
-IsAnswerFor m place pointer = (place ≡ pos m.place) × (pointer ≡ m.pointer)
-
--- the log with a reservation for a message that begins at this position
-abbrev pub reserving : ℕ → LogView → Position → Message → LogView
-reserving size l q m = record {
-  position = behind_record size q m.size;
-  synced = l.synced;
-  noted = l.noted;
-  end = m.place + m.size;
-  waiting = waiting_with l q;
-  start = start_with l q;
-  begun = l.begun;
-  fault = l.fault;
-  outstanding = opens l ++ m.place ∷ [];
-  tickets = l.tickets ++ Some m ∷ [];
-}
-
--- the places of the open reservations of the buffer that a record would be of that begins at this position
-abbrev pub opens_beside : LogView → Position → List ℕ
-opens_beside l q = if is_behind l q then [] else places_from l.start.place (opens l)
-
--- A place was kept for this message, under the next number.
-pub record HasReserved (size : ℕ) (a : RunState) (l : LogView) (q : Position) (m : Message) (ticket : ℕ) (place : ℤ) (pointer : DiskPtr) (new : DeviceView) (b : RunState) : Type 0 where
-  pub fault : l.fault ≡ None
-  pub in_reach : EndsInReach size q
-  pub few : length (opens_beside l q) < most_open
-  pub number : ticket ≡ length l.tickets
-  pub answer : IsAnswerFor m place pointer
-  pub leads : b ≡ with_log a new (Some (reserving size l q m))
-
--- The buffer of the record has 127 open reservations, and this is the least place of them.
-pub record IsFullOfOpen (l : LogView) (q : Position) (at : ℤ) : Type 0 where
-  pub fault : l.fault ≡ None
-  pub full : length (opens_beside l q) ≡ most_open
-  pub least : ℕ
-  pub others : List ℕ
-  pub first : opens_beside l q ≡ least ∷ others
-  pub is : at ≡ pos least
-
-abbrev pub ReserveStep : ℕ → RunState → LogView → LogKind → ℕ → List ℕ → Reply → DeviceView → RunState → Type 0
-ReserveStep size a l kind page bytes (reply.Reserved ticket place pointer) new b =
-    HasReserved size a l (target_in size l page (length bytes)) (message_at size l kind page bytes) ticket place pointer new b
-ReserveStep size a l kind page bytes (reply.Failed (Io e)) new b = (l.fault ≡ Some e) × (b ≡ a)
-ReserveStep size a l kind page bytes (reply.Failed OutOfMemory) new b = (l.fault ≡ None) × (b ≡ a)
-ReserveStep size a l kind page bytes (reply.Failed PlacesUsedUp) new b = (l.fault ≡ None) × (EndsInReach size (target_in size l page (length bytes)) → ⊥) × (b ≡ a)
-ReserveStep size a l kind page bytes (reply.Failed (Held at)) new b = IsFullOfOpen l (target_in size l page (length bytes)) at × (b ≡ a)
-ReserveStep size a l kind page bytes _ new b = ⊥
-
--- the log with a ticket spent, with reservations open at these places, and this many pages begun
-abbrev pub spent : LogView → ℕ → List ℕ → ℕ → LogView
-spent l t places begun =
-    record { position = l.position; synced = l.synced; noted = l.noted; end = l.end; waiting = l.waiting; start = l.start; begun = begun; fault = l.fault; outstanding = places; tickets = set l.tickets t None }
-
--- The message of an open reservation comes to the history. Where it is the first of its page, that is begun.
-pub record HasCompleted (a : RunState) (l : LogView) (t : ℕ) (place : ℤ) (pointer : DiskPtr) (new : DeviceView) (b : RunState) : Type 0 where
-  pub message : Message
-  pub reserved : slice_get l.tickets t ≡ Some (Some message)
-  pub fault : l.fault ≡ None
-  pub answer : IsAnswerFor message place pointer
-  pub history : History
-  pub step : Step a.history (Completed message) history
-  pub leads : b ≡ record {
-    device = new;
-    history = history;
-    acknowledged = a.acknowledged;
-    floor = a.floor;
-    log = Some (spent l t (places_without message.place (opens l)) (if message.page == l.begun then l.begun + 1 else l.begun));
-  }
-
--- Without memory for it nothing is done. Where the log keeps a failure the ticket is spent, and the reservation stays open.
-abbrev pub CompleteStep : RunState → LogView → ℕ → Reply → DeviceView → RunState → Type 0
-CompleteStep a l t (reply.Done place pointer) new b = HasCompleted a l t place pointer new b
-CompleteStep a l t (reply.Failed (Io e)) new b = (l.fault ≡ Some e) × (b ≡ with_log a new (Some (spent l t (opens l) l.begun)))
-CompleteStep a l t (reply.Failed OutOfMemory) new b = (l.fault ≡ None) × (b ≡ a)
-CompleteStep a l t _ new b = ⊥
-
--- The message of an open reservation is given up.
-pub record HasAborted (a : RunState) (l : LogView) (t : ℕ) (place : ℤ) (pointer : DiskPtr) (new : DeviceView) (b : RunState) : Type 0 where
-  pub message : Message
-  pub reserved : slice_get l.tickets t ≡ Some (Some message)
-  pub fault : l.fault ≡ None
-  pub answer : IsAnswerFor message place pointer
-  pub leads : b ≡ with_log a new (Some (spent l t (places_without message.place (opens l)) l.begun))
-
-abbrev pub AbortStep : RunState → LogView → ℕ → Reply → DeviceView → RunState → Type 0
-AbortStep a l t (reply.Done place pointer) new b = HasAborted a l t place pointer new b
-AbortStep a l t (reply.Failed (Io e)) new b = (l.fault ≡ Some e) × (b ≡ with_log a new (Some (spent l t (opens l) l.begun)))
-AbortStep a l t _ new b = ⊥
 
 -- the log with these buffers left, the current one from there on, and this failure kept: all before the first of them is on the device
 abbrev pub flushed : LogView → List Span → BufferStart → Option IoError → LogView
@@ -493,6 +404,8 @@ StepBy sum size a None command.Open r new b = OpenStep sum size a r new b
 StepBy sum size a (Some l) (command.Replace page item) r new b = ReserveStep size a l does.Replace page (short_bytes item.items) r new b
 StepBy sum size a (Some l) (command.Link page item) r new b = ReserveStep size a l does.Link page (short_bytes item.items) r new b
 StepBy sum size a (Some l) (command.Free page) r new b = ReserveStep size a l does.Free page [] r new b
+StepBy sum size a (Some l) command.BeginBatch r new b = ReserveStep size a l does.Skip manifest_page blank_manifest r new b
+StepBy sum size a (Some l) command.EndBatch r new b = EndStep a l r new b
 StepBy sum size a (Some l) (command.Complete t) r new b = CompleteStep a l t r new b
 StepBy sum size a (Some l) (command.Abort t) r new b = AbortStep a l t r new b
 StepBy sum size a (Some l) (command.Write i) r new b = WriteStep a l i r new b

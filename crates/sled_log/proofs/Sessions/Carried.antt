@@ -5,6 +5,7 @@ use Rattle.std.specs.declared.alloc.Global.{Global}
 use Rattle.std.proofs.lemmas.Bool.Decides.{nat_tests}
 use Rattle.sled_codec.specs.declared.serialization.message.LogKind.TheVariants as does
 use Rattle.sled_codec.specs.Spelling.{short_bytes}
+use Rattle.sled_core.specs.Manifests.{manifest_page}
 use Rattle.sled_log.specs.declared.session.Phase.TheVariants.{Open}
 use Rattle.sled_log.specs.declared.session.opened.Opened.{Opened}
 use Rattle.sled_log.specs.declared.session.command.Command.{Command}
@@ -14,7 +15,8 @@ use Rattle.sled_log.specs.declared.session.command.Reply.{Reply}
 use Rattle.sled_log.specs.declared.session.command.Reply.TheVariants as reply
 use Rattle.sled_log.specs.Refusals.{is_absent, is_busy, is_too_long, reason_of, refusal_for, when}
 use Rattle.sled_log.specs.Reservations.{HasTried, MayReserve}
-use Rattle.sled_log.specs.RunStates.{DeviceView, LogView, RunState, is_present, page_now}
+use Rattle.sled_log.specs.RunStates.{DeviceView, LogView, RunState, in_batch, is_present, page_now}
+use Rattle.sled_log.specs.TicketSteps.{blank_manifest}
 use Rattle.sled_log.specs.Runs.{Acts, ActsBy, IsStep, StepBy}
 use Rattle.sled_log.specs.RunPhases.{Does, Unstored, device_in, seen, size_of, stands}
 
@@ -105,3 +107,21 @@ module _ {D C : Type 0} (view : D → DeviceView) (sum : List ℕ → ℕ) (old 
       acts = acting sum size a (command.Free page) result now tried.not_refused tried.device;
       step = λ own. (tried.tickets, stepping sum size a (command.Free page) result now (stands view (Open new) tried.tickets) tried.not_refused tried.step, tried.at);
     }
+
+-- The beginning of a batch.
+module _ {D C : Type 0} (view : D → DeviceView) (sum : List ℕ → ℕ) (old : Opened D C) (k : Unstored) where
+  -- Where it isn't refused none is begun,
+  pub begin_idle : refusal_for (size_of (Open old)) (stands view (Open old) k) command.BeginBatch ≡ None → in_batch k.tickets ≡ false
+  begin_idle free = let first = passes _ _ _ free in (passes (in_batch k.tickets) _ _ first.1).0
+
+  -- and it comes to a reservation.
+  pub begin_does : (new : Opened D C) (result : Reply) → HasTried view sum old does.Skip manifest_page blank_manifest new result k → Does view sum (Open old) command.BeginBatch (Open new, result) k
+  begin_does new result tried =
+      let size : ℕ = size_of (Open old) in
+      let a : RunState = stands view (Open old) k in
+      let now : DeviceView = device_in view (Open new) in
+      record {
+        not_refused = tried.not_refused;
+        acts = acting sum size a command.BeginBatch result now tried.not_refused tried.device;
+        step = λ own. (tried.tickets, stepping sum size a command.BeginBatch result now (stands view (Open new) tried.tickets) tried.not_refused tried.step, tried.at);
+      }

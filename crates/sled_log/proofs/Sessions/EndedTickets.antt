@@ -1,6 +1,6 @@
 -- What it comes to where a ticket is ended: its message is completed, or given up.
 use Rattle.std.proofs.Common.{⊎_elim, ◌≡◌, ◌∙◌, ◌≢◌, ◌==◌, ◌&&◌, not, ◌<◌, ◌≤◌, ◌+◌, ℕ, ℤ, Bool, true, false, if◌then◌else◌, List, [], ◌∷◌, ◌++◌, length, map, get_or, set, sym, ap, subst, arith, refl, Option, None, Some, Err, Vec, Global}
-use Rattle.std.specs.List.{All, slice_get}
+use Rattle.std.specs.List.{All, Contains, slice_get}
 use Rattle.std.specs.declared.io.Error.{Error as IoError}
 use Rattle.std.proofs.lemmas.Bool.{ne_eqb}
 use Rattle.std.proofs.lemmas.List.{length-map, length-set, length_push}
@@ -11,7 +11,7 @@ use Rattle.sled_codec.specs.declared.result.Error.TheVariants as error
 use Rattle.sled_codec.specs.declared.serialization.message.LogKind.{LogKind}
 use Rattle.sled_codec.specs.declared.serialization.message.LogKind.TheVariants as does
 use Rattle.sled_codec.specs.declared.serialization.snapshot.PageState.{PageState}
-use Rattle.sled_codec.specs.History.{Message, History, Completed, Step, ChangesPage}
+use Rattle.sled_codec.specs.History.{Batch, Message, History, Completed, Step, ChangesPage}
 use Rattle.sled_codec.specs.PageTables.{IsTable, entry_of}
 use Rattle.sled_codec.specs.Snapshots.{Entry, Page, page_of}
 use Rattle.sled_store.proofs.Segments.Elements.{all_from_in}
@@ -21,9 +21,9 @@ use Rattle.sled_core.specs.Causes.{FaultAnswers}
 use Rattle.sled_core.specs.Fits.{Awaits, KeepsAll, KeepsBuffers, config_of, fault_of, open_places, pins_of, reserved_end, segment_size_of}
 use Rattle.sled_core.specs.Keeps.{SamePosition}
 use Rattle.sled_core.specs.OpenPlaces.{TakesOut}
-use Rattle.sled_core.specs.Manifests.{is_manifest}
+use Rattle.sled_core.specs.Manifests.{is_manifest, manifest_page}
 use Rattle.sled_core.specs.Running.{Fits}
-use Rattle.sled_core.specs.Tickets.{place_of}
+use Rattle.sled_core.specs.Tickets.{is_manifest_of, place_of}
 use Rattle.sled_core.proofs.PublicLaws.{awaited, fits_apart}
 use Rattle.sled_core.proofs.Read.FoundLemmas.{pos_injective}
 use Rattle.sled_log.specs.declared.session.opened.Opened.{Opened}
@@ -34,20 +34,31 @@ use Rattle.sled_log.specs.declared.session.command.Command.TheVariants as comman
 use Rattle.sled_log.specs.declared.session.command.Refusal.TheVariants as why
 use Rattle.sled_log.specs.declared.session.command.Reply.{Reply}
 use Rattle.sled_log.specs.declared.session.command.Reply.TheVariants as reply
-use Rattle.sled_log.specs.Endings.{KeepsPages, TakesTicket, applied_to, put_at}
+use Rattle.sled_log.specs.Endings.{KeepsPages, TakesTicket, applied_to, batch_left, put_at}
 use Rattle.sled_log.specs.Made.{IsMade, MayJoin}
 use Rattle.sled_log.specs.Refusals.{when}
-use Rattle.sled_log.specs.RunPhases.{AreRising, Does, HasTickets, IsOpenAt, IsTicketFor, Unstored, device_in, seen, seen_log, stands, traces}
-use Rattle.sled_log.specs.RunStates.{DeviceView, RunState, has_ticket, open_messages, opens, places_without, top, with_log}
-use Rattle.sled_log.specs.Runs.{IsAnswerFor, IsStep, Acts, spent}
+use Rattle.sled_log.specs.RunPhases.{AreRising, BeginsBatch, Does, HasBatch, HasTickets, IsOpenAt, IsTicketFor, Unstored, device_in, seen, seen_log, stands, traces}
+use Rattle.sled_log.specs.RunStates.{DeviceView, RunState, has_message, has_ticket, open_messages, opens, places_without, top, with_log}
+use Rattle.sled_log.specs.Runs.{IsStep, Acts}
+use Rattle.sled_log.specs.TicketSteps.{IsAnswerFor, spent}
 use Rattle.sled_log.proofs.Sessions.Endings.{one_there}
 use Rattle.sled_log.proofs.Sessions.MadeHistories.{came, join_still, made_completed}
 use Rattle.sled_log.proofs.Sessions.MadeTables.{page_of_replace, table_completed}
 use Rattle.sled_log.proofs.Sessions.SpentTickets.{spent_places, spent_tickets, taken_out, ticket_there}
+use Rattle.sled_log.proofs.Sessions.TicketsSeen.{message_there}
 
 -- A ticket that may be ended is open.
 pub open_there : (stopped : Bool) (n : ℕ) (ts : List (Option Message)) → when (stopped && true) why.Stopped (when (not (has_ticket n ts)) why.Ticket None) ≡ None → (m : Message) × (slice_get ts n ≡ Some (Some m))
 open_there stopped n ts asked = ticket_there n ts (by stopped (has_ticket n ts) asked) where
+  by : (s b : Bool) → when (s && true) why.Stopped (when (not b) why.Ticket None) ≡ None → b ≡ true
+  by s true is = refl
+  by true false is = cc
+  by false false is = cc
+
+-- One that may be completed is, and is no manifest's.
+pub message_open : (stopped : Bool) (n : ℕ) (ts : List (Option Message)) → when (stopped && true) why.Stopped (when (not (has_message n ts)) why.Ticket None) ≡ None
+    → (m : Message) × (slice_get ts n ≡ Some (Some m)) × (m.page ≢ manifest_page)
+message_open stopped n ts asked = message_there n ts (by stopped (has_message n ts) asked) where
   by : (s b : Bool) → when (s && true) why.Stopped (when (not b) why.Ticket None) ≡ None → b ≡ true
   by s true is = refl
   by true false is = cc
@@ -84,7 +95,7 @@ module _ {D C : Type 0} (view : D → DeviceView) (sum : List ℕ → ℕ) (old 
 
   -- it is taken
   pub takes_it : (mid : Opened D C) (result : Option Ticket) → TakesTicket old n mid result → result ≡ Some had.ticket
-  takes_it mid result takes = takes.taken had.ticket had.there ((awaited old.log had.ticket.reservation m had.awaits).3 ∙ no_manifest m.kind m.page had.may_join.changes) (m, had.awaits)
+  takes_it mid result takes = takes.taken had.ticket had.there (m, had.awaits)
 
   module _ (mid : Opened D C) (ticket : Ticket) (takes : TakesTicket old n mid (Some ticket)) where
     same_ticket : had.ticket ≡ ticket
@@ -100,8 +111,15 @@ module _ {D C : Type 0} (view : D → DeviceView) (sum : List ℕ → ℕ) (old 
     pub of_page : ticket.page ≡ m.page
     of_page = sym (ap (λ (t : Ticket). t.page) same_ticket) ∙ had.page
 
+    -- it is no manifest's, where its message changes a page
+    pub is_message : m.page ≢ manifest_page → is_manifest_of ticket.reservation ≡ false
+    is_message changes = (awaited old.log ticket.reservation m awaits_it).3 ∙ no_manifest m.kind m.page (had.joins changes).changes
+
     busy : mid.busy.items ≡ set old.busy.items m.page false
     busy = takes.busy ∙ ap (λ page. set old.busy.items page false) of_page
+
+    batch : mid.batch ≡ batch_left m.page old.batch
+    batch = takes.batch ∙ ap (λ page. batch_left page old.batch) of_page
 
     -- another ticket is for another place
     other_place : (t : Reservation) (x : Message) → Awaits old.log t x → (x.place ≡ m.place → ⊥) → place_of t ≢ place_of ticket.reservation
@@ -113,19 +131,20 @@ module _ {D C : Type 0} (view : D → DeviceView) (sum : List ℕ → ℕ) (old 
 
     module _ (log : Log D C) (pages : Vec PageState Global) where
       abbrev pub now : Opened D C
-      now = record { alloc = mid.alloc; log = log; guard = mid.guard; pages = pages; busy = mid.busy; tickets = mid.tickets }
+      now = record { alloc = mid.alloc; log = log; guard = mid.guard; pages = pages; busy = mid.busy; batch = mid.batch; tickets = mid.tickets }
 
       -- Where the log keeps a failure nothing but the ticket is another.
       module _ (is : log ≡ old.log) (pages_are : map page_of pages.items ≡ map page_of old.pages.items) (e : IoError) (fault : fault_of old.log ≡ Some e) where
-        failed_open : IsOpenAt (traces view) sum now (left k.history)
+        pub failed_open : IsOpenAt (traces view) sum now (left k.history)
         failed_open = record {
           made = at.made;
           unmarked = at.unmarked;
           fits = subst (λ (x : Log D C). Fits (traces view) sum x k.history k.acknowledged k.floor at.unmarked) (sym is) at.fits;
           pinned = subst (λ (x : Log D C). 0 < pins_of x) (sym is) at.pinned;
           table = subst (λ (ps : List Page). IsTable ps k.history top) (sym pages_are) at.table;
-          tickets = spent_tickets old now k.history k.history k.tickets n m there at.tickets takes.tickets busy (ap reserved_end is)
+          tickets = spent_tickets old now k.history k.history k.tickets n m there at.tickets takes.tickets busy batch (ap reserved_end is)
               (λ t x awaits apart. subst (λ (y : Log D C). Awaits y t.reservation x) (sym is) awaits) (λ x ne may. may)
+              (λ x of ne begun. subst (λ (y : Log D C). BeginsBatch y x) (sym is) begun)
               (λ none. absurd (let both : None ≡ Some e = sym none ∙ ap fault_of is ∙ fault in cc));
           ends = subst (λ (x : Log D C). All (λ y. y.place + y.size ≤ reserved_end x) k.history.messages) (sym is) at.ends;
         }
@@ -133,7 +152,7 @@ module _ {D C : Type 0} (view : D → DeviceView) (sum : List ℕ → ℕ) (old 
         begun : length pages.items ≡ length old.pages.items
         begun = sym (length-map pages.items page_of) ∙ ap length pages_are ∙ length-map old.pages.items page_of
 
-        failed_leads : stands view (Open now) (left k.history) ≡ with_log (stands view (Open old) k) (view (config_of log).device) (Some (spent (seen old k.tickets) n (opens (seen old k.tickets)) (length old.pages.items)))
+        pub failed_leads : stands view (Open now) (left k.history) ≡ with_log (stands view (Open old) k) (view (config_of log).device) (Some (spent (seen old k.tickets) n (opens (seen old k.tickets)) (length old.pages.items)))
         failed_leads i = record {
           device = view (config_of log).device;
           history = k.history;
@@ -161,12 +180,31 @@ module _ {D C : Type 0} (view : D → DeviceView) (sum : List ℕ → ℕ) (old 
       complete_fails T _ answers is pages_are = absurd answers
 
       -- Where it keeps none, the reservation is ended.
+      module _ (pins : pins_of log ≡ pins_of old.log) (position : SamePosition old.log log) (fault : fault_of old.log ≡ None)
+          (others : (t : Reservation) (x : Message) → Awaits old.log t x → place_of t ≢ place_of ticket.reservation → Awaits log t x)
+          (opens_left : TakesOut m.place (open_places old.log) (open_places log)) where
+        pub outstanding : open_places log ≡ places_without m.place (open_places old.log)
+        outstanding = taken_out m.place (open_places old.log) (open_places log) (subst AreRising (sym (at.tickets.are_all fault)) at.tickets.rising) opens_left
+
+        pub ended_open : (H' : History) (U : List Message) → IsMade H' → Fits (traces view) sum log H' k.acknowledged k.floor U → IsTable (map page_of pages.items) H' top
+            → ((x : Message) → (m.page ≡ x.page → ⊥) → MayJoin k.history x → MayJoin H' x) → ((x : Message) → x.page ≡ manifest_page → (m.page ≡ x.page → ⊥) → BeginsBatch old.log x → BeginsBatch log x)
+            → All (λ x. x.place + x.size ≤ reserved_end old.log) H'.messages → IsOpenAt (traces view) sum now (left H')
+        ended_open H' U made fits table joins begun ends = record {
+          made = made;
+          unmarked = U;
+          fits = fits;
+          pinned = subst (λ p. 0 < p) (sym pins) at.pinned;
+          table = table;
+          tickets = spent_tickets old now k.history H' k.tickets n m there at.tickets takes.tickets busy batch position.reserved
+              (λ t x awaits apart. others t.reservation x awaits (other_place t.reservation x awaits apart)) joins begun
+              (λ none. outstanding ∙ ap (places_without m.place) (at.tickets.are_all fault) ∙ sym (spent_places k.tickets n m there at.tickets.rising));
+          ends = subst (λ e. All (λ x. x.place + x.size ≤ e) H'.messages) (sym position.reserved) ends;
+        }
+
+      -- A message is, and all else of the log stays.
       module _ (same : KeepsAll old.log log) (position : SamePosition old.log log) (buffers : KeepsBuffers old.log log) (fault : fault_of old.log ≡ None)
           (others : (t : Reservation) (x : Message) → Awaits old.log t x → place_of t ≢ place_of ticket.reservation → Awaits log t x)
           (opens_left : TakesOut m.place (open_places old.log) (open_places log)) where
-        outstanding : open_places log ≡ places_without m.place (open_places old.log)
-        outstanding = taken_out m.place (open_places old.log) (open_places log) (subst AreRising (sym (at.tickets.are_all fault)) at.tickets.rising) opens_left
-
         device : view (config_of log).device ≡ view (config_of old.log).device
         device = ap (λ c. view c.device) same.config
 
@@ -180,23 +218,13 @@ module _ {D C : Type 0} (view : D → DeviceView) (sum : List ℕ → ℕ) (old 
           start = buffers.start i;
           begun = is i;
           fault = same.fault i;
-          outstanding = outstanding i;
+          outstanding = outstanding same.pins position fault others opens_left i;
           tickets = set k.tickets n None;
         }
 
-        ended_open : (H' : History) (U : List Message) → IsMade H' → Fits (traces view) sum log H' k.acknowledged k.floor U → IsTable (map page_of pages.items) H' top
-            → ((x : Message) → (m.page ≡ x.page → ⊥) → MayJoin k.history x → MayJoin H' x) → All (λ x. x.place + x.size ≤ reserved_end old.log) H'.messages → IsOpenAt (traces view) sum now (left H')
-        ended_open H' U made fits table joins ends = record {
-          made = made;
-          unmarked = U;
-          fits = fits;
-          pinned = subst (λ p. 0 < p) (sym same.pins) at.pinned;
-          table = table;
-          tickets = spent_tickets old now k.history H' k.tickets n m there at.tickets takes.tickets busy position.reserved
-              (λ t x awaits apart. others t.reservation x awaits (other_place t.reservation x awaits apart)) joins
-              (λ none. outstanding ∙ ap (places_without m.place) (at.tickets.are_all fault) ∙ sym (spent_places k.tickets n m there at.tickets.rising));
-          ends = subst (λ e. All (λ x. x.place + x.size ≤ e) H'.messages) (sym position.reserved) ends;
-        }
+        -- what is noted stays, so a manifest that is open begins its batch behind it
+        begun_still : (x : Message) → x.page ≡ manifest_page → (m.page ≡ x.page → ⊥) → BeginsBatch old.log x → BeginsBatch log x
+        begun_still x of ne begun = record { kind = begun.kind; apart = λ b known. begun.apart b (subst (λ (bs : List Batch). Contains bs b) same.noted known) }
 
         -- Its message is given up.
         pub aborts : (place : ℤ) (pointer : DiskPtr) → IsAnswerFor m place pointer → map page_of pages.items ≡ map page_of old.pages.items
@@ -216,18 +244,18 @@ module _ {D C : Type 0} (view : D → DeviceView) (sum : List ℕ → ℕ) (old 
                   answer = answer;
                   leads = λ i. record { device = view (config_of log).device; history = k.history; acknowledged = k.acknowledged; floor = k.floor; log = Some (seen_is i) };
                 },
-                ended_open k.history at.unmarked at.made fits (subst (λ (ps : List Page). IsTable ps k.history top) (sym pages_are) at.table) (λ x ne may. may) at.ends,
+                ended_open same.pins position fault others opens_left k.history at.unmarked at.made fits (subst (λ (ps : List Page). IsTable ps k.history top) (sym pages_are) at.table) (λ x ne may. may) begun_still at.ends,
               );
             }
 
         -- It comes to the history.
-        pub completes : (place : ℤ) (pointer : DiskPtr) → IsAnswerFor m place pointer → (H' : History) → Step k.history (Completed m) H'
+        pub completes : m.page ≢ manifest_page → (place : ℤ) (pointer : DiskPtr) → IsAnswerFor m place pointer → (H' : History) → Step k.history (Completed m) H'
             → Fits (traces view) sum log H' k.acknowledged k.floor (m ∷ at.unmarked) → (e : Entry) → e ≡ entry_of m
             → map page_of pages.items ≡ applied_to (map page_of old.pages.items) ticket.kind ticket.page e → Does view sum (Open old) (command.Complete n) (Open now, reply.Done place pointer) k
-        completes place pointer answer H' step fits e e_is applied =
+        completes changes place pointer answer H' step fits e e_is applied =
             let known : List Page = map page_of old.pages.items in
             let entry : map page_of pages.items ≡ applied_to known m.kind m.page (entry_of m) = applied ∙ (λ i. applied_to known (of_kind i) (of_page i) (e_is i)) in
-            let may : MayJoin k.history m = had.may_join in
+            let may : MayJoin k.history m = had.joins changes in
             let made : IsMade H' = made_completed k.history H' m at.made may step (fits_apart (traces view) sum log H' k.acknowledged k.floor (m ∷ at.unmarked) fits) in
             let table : IsTable (map page_of pages.items) H' top = subst (λ (ps : List Page). IsTable ps H' top) (sym entry) (table_completed k.history H' m known at.made may step at.table) in
             let linked : m.kind ≡ does.Link → m.page < length known = λ link. ⊎_elim (λ replaces. absurd (let both : does.Link ≡ does.Replace = sym link ∙ replaces in cc))
@@ -251,7 +279,7 @@ module _ {D C : Type 0} (view : D → DeviceView) (sum : List ℕ → ℕ) (old 
                   step = step;
                   leads = λ i. record { device = view (config_of log).device; history = H'; acknowledged = k.acknowledged; floor = k.floor; log = Some (seen_is i) };
                 },
-                ended_open H' (m ∷ at.unmarked) made fits table (λ x ne next. join_still k.history H' m x may step ne next)
+                ended_open same.pins position fault others opens_left H' (m ∷ at.unmarked) made fits table (λ x ne next. join_still k.history H' m x may step ne next) begun_still
                     (all_from_in (λ x. x.place + x.size ≤ reserved_end old.log) H'.messages (λ x among. ⊎_elim
                     (λ is. subst (λ (z : Message). z.place + z.size ≤ reserved_end old.log) is had.ends)
                     (λ was. All-contains (λ z. z.place + z.size ≤ reserved_end old.log) k.history.messages x at.ends was) (came k.history H' m step x among))),
@@ -270,15 +298,17 @@ module _ {D C : Type 0} (view : D → DeviceView) (sum : List ℕ → ℕ) (old 
       kind = had.kind;
       page = had.page;
       awaits = subst (λ (x : Log D C). Awaits x had.ticket.reservation m) (sym kept.log) had.awaits;
-      may_join = had.may_join;
-      begins = subst (λ (x : Log D C). m.place < reserved_end x) (sym kept.log) had.begins;
+      joins = had.joins;
+      begins_batch = λ is. subst (λ (x : Log D C). BeginsBatch x m) (sym kept.log) (had.begins_batch is);
+      begins = subst (λ (x : Log D C). m.place + 1 < reserved_end x) (sym kept.log) had.begins;
       ends = subst (λ (x : Log D C). m.place + m.size ≤ reserved_end x) (sym kept.log) had.ends;
     };
     gone = λ n at. ap (λ x. slice_get x.items n) kept.tickets ∙ was.gone n at;
     apart = was.apart;
     rising = was.rising;
     are_all = subst (λ (x : Log D C). fault_of x ≡ None → open_places x ≡ map (λ m. m.place) (open_messages k.tickets)) (sym kept.log) was.are_all;
-    busy = λ page. ap (λ x. get_or x.items page false) kept.busy ∙ was.busy page;
+    busy = λ page message. ap (λ x. get_or x.items page false) kept.busy ∙ was.busy page message;
+    batch = subst (HasBatch k.tickets) (sym kept.batch) was.batch;
   }
 
   -- leaves all as it is seen,

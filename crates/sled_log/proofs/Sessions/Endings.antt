@@ -8,11 +8,10 @@ use Rattle.std.proofs.lemmas.Option.{slice_get_read}
 use Rattle.sled_codec.specs.declared.serialization.snapshot.PageState.{PageState}
 use Rattle.sled_codec.specs.Snapshots.{Page, Uninitialized, page_of}
 use Rattle.sled_core.specs.Fits.{IsOpen}
-use Rattle.sled_core.specs.Tickets.{is_manifest_of}
 use Rattle.sled_core.proofs.Line.Nth.{set_get}
 use Rattle.sled_log.specs.declared.session.opened.Opened.{Opened}
 use Rattle.sled_log.specs.declared.session.opened.Ticket.{Ticket}
-use Rattle.sled_log.specs.Endings.{HasRoomOn, TakesTicket, put_at}
+use Rattle.sled_log.specs.Endings.{HasRoomOn, TakesTicket, batch_left, put_at}
 
 -- The table.
 
@@ -51,28 +50,28 @@ one_there xs n x y first second = cc
 module _ {D C : Type 0} (old new : Opened D C) (number : ℕ) (log : new.log ≡ old.log) (pages : new.pages ≡ old.pages) (tickets : new.tickets.items ≡ set old.tickets.items number None) where
   -- none is taken where none of this number is open
   pub takes_none : (result : Option Ticket) → result ≡ None
-      → ((t : Ticket) → slice_get old.tickets.items number ≡ Some (Some t) → is_manifest_of t.reservation ≡ false → IsOpen old.log t.reservation → ⊥) → TakesTicket old number new result
+      → ((t : Ticket) → slice_get old.tickets.items number ≡ Some (Some t) → IsOpen old.log t.reservation → ⊥) → TakesTicket old number new result
   takes_none result is never = record {
     log = log;
     pages = pages;
     tickets = tickets;
     there = if_none (λ t. slice_get old.tickets.items number ≡ Some (Some t)) result is;
     is_open = if_none (λ t. IsOpen new.log t.reservation) result is;
-    message = if_none (λ t. is_manifest_of t.reservation ≡ false) result is;
     busy = if_none (λ t. new.busy.items ≡ set old.busy.items t.page false) result is;
-    taken = λ t at message is_open. absurd (never t at message is_open);
+    batch = if_none (λ t. new.batch ≡ batch_left t.page old.batch) result is;
+    taken = λ t at is_open. absurd (never t at is_open);
   }
 
   -- or the one that is
-  pub takes_some : (t : Ticket) → slice_get old.tickets.items number ≡ Some (Some t) → is_manifest_of t.reservation ≡ false → IsOpen old.log t.reservation → new.busy.items ≡ set old.busy.items t.page false
+  pub takes_some : (t : Ticket) → slice_get old.tickets.items number ≡ Some (Some t) → IsOpen old.log t.reservation → new.busy.items ≡ set old.busy.items t.page false → new.batch ≡ batch_left t.page old.batch
       → TakesTicket old number new (Some t)
-  takes_some t there message is_open busy = record {
+  takes_some t there is_open busy batch = record {
     log = log;
     pages = pages;
     tickets = tickets;
     there = there;
     is_open = subst (λ l. IsOpen l t.reservation) (sym log) is_open;
-    message = message;
     busy = busy;
-    taken = λ u at none also. ap (λ x. Some x) (one_there old.tickets.items number t u there at);
+    batch = batch;
+    taken = λ u at also. ap (λ x. Some x) (one_there old.tickets.items number t u there at);
   }

@@ -1,19 +1,22 @@
 -- Tickets once one of them is spent.
-use Rattle.std.proofs.Common.{⊎_elim, ◌≡◌, ◌∙◌, ◌==◌, ◌<◌, ◌≤◌, ◌+◌, ℕ, zero, suc, Bool, true, false, if◌then◌else◌, List, [], ◌∷◌, ◌++◌, length, map, get_or, set, sym, ap, subst, arith, refl, inl, inr, Option, None, Some, eq-eqb}
+use Rattle.std.proofs.Common.{⊎_elim, ◌≡◌, ◌≢◌, ◌∙◌, ◌==◌, ◌<◌, ◌≤◌, ◌+◌, ℕ, zero, suc, Bool, true, false, if◌then◌else◌, List, [], ◌∷◌, ◌++◌, length, map, get_or, set, sym, ap, subst, arith, refl, inl, inr, Option, None, Some, eq-eqb}
 use Rattle.std.specs.List.{All, Contains, slice_get}
 use Rattle.std.proofs.lemmas.Bool.{cases_lt, ne_eqb}
 use Rattle.std.proofs.lemmas.List.{get_or-set_same, get_or-set_other, length-set, map-append, get_or_past}
 use Rattle.std.proofs.lemmas.List.Elements.{All-cons, All-head, All-tail, All-contains, Contains-append_right}
 use Rattle.std.proofs.lemmas.Bool.Decides.{nat_tests}
+use Rattle.std.proofs.lemmas.Option.{same_Some}
 use Rattle.sled_codec.specs.History.{Message, History}
 use Rattle.sled_store.proofs.Segments.Elements.{in_first, in_cases}
 use Rattle.sled_core.specs.Fits.{Awaits, fault_of, open_places, reserved_end}
+use Rattle.sled_core.specs.Manifests.{manifest_page}
 use Rattle.sled_core.specs.OpenPlaces.{TakesOut}
 use Rattle.sled_core.proofs.Line.Nth.{set_other, set_get}
 use Rattle.sled_log.specs.declared.session.opened.Opened.{Opened}
 use Rattle.sled_log.specs.declared.session.opened.Ticket.{Ticket}
+use Rattle.sled_log.specs.Endings.{batch_left}
 use Rattle.sled_log.specs.Made.{MayJoin}
-use Rattle.sled_log.specs.RunPhases.{AreRising, HasTickets, IsTicketFor}
+use Rattle.sled_log.specs.RunPhases.{AreRising, BeginsBatch, HasBatch, HasTickets, IsTicketFor}
 use Rattle.sled_log.specs.RunStates.{has_page, has_ticket, open_messages, places_without}
 
 -- Places that rise.
@@ -127,9 +130,10 @@ ticket_there (suc n) (t ∷ ts) has = ticket_there n ts has
 -- What holds of the tickets once one of them is spent: those that are left are for their messages still.
 module _ {D C : Type 0} (old new : Opened D C) (H H' : History) (ts : List (Option Message)) (n : ℕ) (m : Message) (there : slice_get ts n ≡ Some (Some m)) (was : HasTickets old H ts)
     (tickets : new.tickets.items ≡ set old.tickets.items n None) (busy : new.busy.items ≡ set old.busy.items m.page false)
-    (reserved : reserved_end new.log ≡ reserved_end old.log)
+    (batch : new.batch ≡ batch_left m.page old.batch) (reserved : reserved_end new.log ≡ reserved_end old.log)
     (still : (t : Ticket) (x : Message) → Awaits old.log t.reservation x → (x.place ≡ m.place → ⊥) → Awaits new.log t.reservation x)
     (joins : (x : Message) → (m.page ≡ x.page → ⊥) → MayJoin H x → MayJoin H' x)
+    (begun : (x : Message) → x.page ≡ manifest_page → (m.page ≡ x.page → ⊥) → BeginsBatch old.log x → BeginsBatch new.log x)
     (are_all : fault_of new.log ≡ None → open_places new.log ≡ places (set ts n None)) where
   abbrev us : List (Option Message)
   us = set ts n None
@@ -141,6 +145,9 @@ module _ {D C : Type 0} (old new : Opened D C) (H H' : History) (ts : List (Opti
   before : (j : ℕ) (x : Message) → slice_get us j ≡ Some (Some x) → slice_get ts j ≡ Some (Some x)
   before j x at = sym (set_other ts n j None (other j x at)) ∙ at
 
+  page_apart : (j : ℕ) (x : Message) → slice_get us j ≡ Some (Some x) → m.page ≡ x.page → ⊥
+  page_apart j x at same = other j x at (sym (was.apart n j m x there (before j x at) same))
+
   each : (j : ℕ) (x : Message) → slice_get us j ≡ Some (Some x) → IsTicketFor new H' j x
   each j x at =
       let ne = other j x at in
@@ -151,8 +158,9 @@ module _ {D C : Type 0} (old new : Opened D C) (H H' : History) (ts : List (Opti
         kind = had.kind;
         page = had.page;
         awaits = still had.ticket x had.awaits (λ same. places_differ ts j n x m was.rising (before j x at) there ne same);
-        may_join = joins x (λ same. ne (sym (was.apart n j m x there (before j x at) same))) had.may_join;
-        begins = subst (λ e. x.place < e) (sym reserved) had.begins;
+        joins = λ changes. joins x (page_apart j x at) (had.joins changes);
+        begins_batch = λ is. begun x is (page_apart j x at) (had.begins_batch is);
+        begins = subst (λ e. x.place + 1 < e) (sym reserved) had.begins;
         ends = subst (λ e. x.place + x.size ≤ e) (sym reserved) had.ends;
       }
 
@@ -164,18 +172,37 @@ module _ {D C : Type 0} (old new : Opened D C) (H H' : History) (ts : List (Opti
         ap (slice_get (set old.tickets.items n None)) same ∙ set_get old.tickets.items n _ None (was.each n m there).there
     by false is = let ne : j ≡ n → ⊥ = λ same. grind (arith, nat_tests, is, same) in set_other old.tickets.items n j None ne ∙ was.gone j (sym (set_other ts n j None ne) ∙ at)
 
-  busy_now : (page : ℕ) → get_or new.busy.items page false ≡ has_page page (open_messages us)
-  busy_now page = ap (λ (l : List Bool). get_or l page false) busy ∙ by (page == m.page) refl where
+  -- another page has an open ticket where it had
+  others_have : (page : ℕ) → (m.page ≡ page → ⊥) → has_page page (open_messages us) ≡ has_page page (open_messages ts)
+  others_have page ne = let split = split_at ts n m there in ap (has_page page) split.is ∙ has_without page split.before m split.after ne ∙ ap (has_page page) (sym split.was)
+
+  -- and its own has none
+  own_has : (page : ℕ) → page ≡ m.page → has_page page (open_messages us) ≡ false
+  own_has page same = none_has page us (λ j x at is_of. other j x at (was.apart j n x m (before j x at) there (is_of ∙ same)))
+
+  busy_now : (page : ℕ) → page ≢ manifest_page → get_or new.busy.items page false ≡ has_page page (open_messages us)
+  busy_now page message = ap (λ (l : List Bool). get_or l page false) busy ∙ by (page == m.page) refl where
     by : (o : Bool) → (page == m.page) ≡ o → get_or (set old.busy.items m.page false) page false ≡ has_page page (open_messages us)
-    by true is =
-        let same : page ≡ m.page = grind (arith, nat_tests, is) in
-        ap (λ p. get_or (set old.busy.items m.page false) p false) same ∙ unset old.busy.items m.page
-        ∙ sym (none_has page us (λ j x at is_of. other j x at (was.apart j n x m (before j x at) there (is_of ∙ same))))
+    by true is = let same : page ≡ m.page = grind (arith, nat_tests, is) in ap (λ p. get_or (set old.busy.items m.page false) p false) same ∙ unset old.busy.items m.page ∙ sym (own_has page same)
     by false is =
         let ne : page ≡ m.page → ⊥ = λ same. grind (arith, nat_tests, is, same) in
-        let split = split_at ts n m there in
-        get_or-set_other old.busy.items m.page page false false ne ∙ was.busy page ∙ ap (has_page page) split.was
-        ∙ sym (has_without page split.before m split.after (λ same. ne (sym same))) ∙ ap (has_page page) (sym split.is)
+        get_or-set_other old.busy.items m.page page false false ne ∙ was.busy page message ∙ sym (others_have page (λ same. ne (sym same)))
+
+  batch_now : HasBatch us new.batch
+  batch_now = subst (HasBatch us) (sym batch) (by (m.page == manifest_page) refl) where
+    left : (o : Option ℕ) → HasBatch ts o → (m.page ≡ manifest_page → ⊥) → HasBatch us o
+    left None is ne = others_have manifest_page ne ∙ is
+    left (Some b) is ne = (
+      is.0,
+      set_other ts n b None (λ same.
+      let twice : Some (Some is.0) ≡ Some (Some m) = sym is.1 ∙ ap (slice_get ts) same ∙ there in
+      ne (sym (ap (λ (x : Message). x.page) (same_Some is.0 m (same_Some (Some is.0) (Some m) twice))) ∙ is.2)) ∙ is.1,
+      is.2,
+    )
+
+    by : (o : Bool) → (m.page == manifest_page) ≡ o → HasBatch us (if o then None else old.batch)
+    by true is = own_has manifest_page (let same : m.page ≡ manifest_page = grind (arith, nat_tests, is) in sym same)
+    by false is = left old.batch was.batch (λ same. grind (arith, nat_tests, is, same))
 
   pub spent_tickets : HasTickets new H' us
   spent_tickets = record {
@@ -186,4 +213,5 @@ module _ {D C : Type 0} (old new : Opened D C) (H H' : History) (ts : List (Opti
     rising = subst AreRising (sym (spent_places ts n m there was.rising)) (rising_without m.place (places ts) was.rising);
     are_all = are_all;
     busy = busy_now;
+    batch = batch_now;
   }

@@ -1,11 +1,16 @@
--- Which tickets are open is seen of the messages that are awaited.
-use Rattle.std.proofs.Common.{◌≡◌, ◌<◌, ◌≤◌, ◌∙◌, get_or, sym, refl, ℕ, zero, suc, true, false, List, [], ◌∷◌, length, arith, Option, None, Some}
+-- Which tickets are open, and whether a batch is, is seen of the messages that are awaited.
+use Rattle.std.proofs.Common.{◌≡◌, ◌≢◌, ◌==◌, ◌<◌, ◌≤◌, ◌∙◌, ap, eq-eqb, get_or, if◌then◌else◌, not, sym, refl, ℕ, zero, suc, Bool, true, false, List, [], ◌∷◌, length, arith, Option, None, Some}
 use Rattle.std.specs.List.{slice_get}
+use Rattle.std.specs.Option.{is_some}
+use Rattle.std.proofs.lemmas.Bool.{false≢true, ne_eqb}
+use Rattle.std.proofs.lemmas.Bool.Decides.{nat_tests}
+use Rattle.std.proofs.lemmas.Option.{same_Some}
 use Rattle.sled_codec.specs.History.{Message, History}
 use Rattle.sled_log.specs.declared.session.opened.Opened.{Opened}
 use Rattle.sled_log.specs.declared.session.opened.Ticket.{Ticket}
-use Rattle.sled_log.specs.RunPhases.{HasTickets}
-use Rattle.sled_log.specs.RunStates.{has_ticket}
+use Rattle.sled_core.specs.Manifests.{manifest_page}
+use Rattle.sled_log.specs.RunPhases.{HasBatch, HasTickets}
+use Rattle.sled_log.specs.RunStates.{has_message, has_page, has_ticket, in_batch, open_messages}
 
 has_got : (n : ℕ) (ts : List (Option Message)) (m : Message) → slice_get ts n ≡ Some (Some m) → has_ticket n ts ≡ true
 has_got n [] m got = cc
@@ -38,6 +43,67 @@ pub got_or : {X : Type 0} (n : ℕ) (xs : List (Option X)) (o : Option X) → sl
 got_or n [] o got = cc
 got_or zero (x ∷ xs) o got = cc
 got_or (suc n) (x ∷ xs) o got = got_or n xs o got
+
+-- the page of an open one is among theirs
+pub page_has : (ts : List (Option Message)) (i page : ℕ) (m : Message) → slice_get ts i ≡ Some (Some m) → m.page ≡ page → has_page page (open_messages ts) ≡ true
+page_has [] i page m there of = cc
+page_has (None ∷ ts) zero page m there of = cc
+page_has (None ∷ ts) (suc i) page m there of = page_has ts i page m there of
+page_has (Some x ∷ ts) zero page m there of = by (x.page == page) refl where
+  same : x ≡ m
+  same = same_Some x m (same_Some (Some x) (Some m) there)
+
+  by : (o : Bool) → (x.page == page) ≡ o → (if o then true else has_page page (open_messages ts)) ≡ true
+  by true is = refl
+  by false is = absurd (let at = ap (λ (y : Message). y.page) same in grind (arith, nat_tests, is, at, of))
+page_has (Some x ∷ ts) (suc i) page m there of = by (x.page == page) (page_has ts i page m there of) where
+  by : (o : Bool) → has_page page (open_messages ts) ≡ true → (if o then true else has_page page (open_messages ts)) ≡ true
+  by true rest = refl
+  by false rest = rest
+
+-- A ticket that isn't a manifest's is one of a message where it is open,
+message_when : (n : ℕ) (ts : List (Option Message)) → ((m : Message) → slice_get ts n ≡ Some (Some m) → m.page ≢ manifest_page) → has_message n ts ≡ has_ticket n ts
+message_when n [] other = refl
+message_when zero (None ∷ ts) other = refl
+message_when zero (Some m ∷ ts) other = ap not (ne_eqb m.page manifest_page (other m refl))
+message_when (suc n) (t ∷ ts) other = message_when n ts other
+
+-- and a manifest's isn't.
+no_message : (n : ℕ) (ts : List (Option Message)) (m : Message) → slice_get ts n ≡ Some (Some m) → m.page ≡ manifest_page → has_message n ts ≡ false
+no_message n [] m there is = cc
+no_message zero (None ∷ ts) m there is = cc
+no_message zero (Some x ∷ ts) m there is =
+    let same : x ≡ m = same_Some x m (same_Some (Some x) (Some m) there) in ap not (eq-eqb x.page manifest_page (ap (λ (y : Message). y.page) same ∙ is))
+no_message (suc n) (t ∷ ts) m there is = no_message n ts m there is
+
+-- one that is known to be of a message is open, and no manifest's
+pub message_there : (n : ℕ) (ts : List (Option Message)) → has_message n ts ≡ true → (m : Message) × (slice_get ts n ≡ Some (Some m)) × (m.page ≢ manifest_page)
+message_there n [] has = cc
+message_there zero (None ∷ ts) has = cc
+message_there zero (Some m ∷ ts) has = (m, refl, λ is. false≢true (sym (ap not (eq-eqb m.page manifest_page is)) ∙ has))
+message_there (suc n) (t ∷ ts) has = message_there n ts has
+
+module _ {D C : Type 0} (opened : Opened D C) (H : History) (tickets : List (Option Message)) (has : HasTickets opened H tickets) where
+  -- Whether a batch is begun is seen,
+  pub batch_seen : is_some opened.batch ≡ in_batch tickets
+  batch_seen = by opened.batch has.batch where
+    by : (o : Option ℕ) → HasBatch tickets o → is_some o ≡ in_batch tickets
+    by None is = sym is
+    by (Some n) is = sym (page_has tickets n manifest_page is.0 is.1 is.2)
+
+  -- and another ticket is a message's, as one that isn't open is.
+  pub other_message : (n : ℕ) → (opened.batch ≡ Some n → ⊥) → has_message n tickets ≡ has_ticket n tickets
+  other_message n other = message_when n tickets (λ m there is. by opened.batch has.batch refl m there is) where
+    by : (o : Option ℕ) → HasBatch tickets o → opened.batch ≡ o → (m : Message) → slice_get tickets n ≡ Some (Some m) → m.page ≡ manifest_page → ⊥
+    by None begun at m there is = absurd (false≢true (sym begun ∙ page_has tickets n manifest_page m there is))
+    by (Some b) begun at m there is = other (at ∙ ap (λ x. Some x) (has.apart b n begun.0 m begun.1 there (begun.2 ∙ sym is)))
+
+  -- That of the manifest is none.
+  pub batch_message : (n : ℕ) → opened.batch ≡ Some n → has_message n tickets ≡ false
+  batch_message n is = by opened.batch has.batch is where
+    by : (o : Option ℕ) → HasBatch tickets o → o ≡ Some n → has_message n tickets ≡ false
+    by None begun at = cc
+    by (Some b) begun at = let same : b ≡ n = same_Some b n at in no_message n tickets begun.0 (ap (slice_get tickets) (sym same) ∙ begun.1) begun.2
 
 module _ {D C : Type 0} (opened : Opened D C) (H : History) (tickets : List (Option Message)) (has : HasTickets opened H tickets) (n : ℕ) where
   -- A ticket that is there is open,

@@ -1,7 +1,7 @@
 -- What writing buffers comes to in a session: what is seen of those that are written and of those that are left, what holds them up, and where the run stands then.
 use Rattle.std.proofs.Common.{◌≡◌, ◌∙◌, ◌≤◌, ◌<◌, ◌<ℤ◌, ◌+◌, ◌-◌, ◌==◌, ◌⊎◌, inl, inr, nat_lt, if◌then◌else◌, max, ℕ, ℤ, pos, int_lt, zero, suc, Bool, true, false, List, [], ◌∷◌, ◌++◌, length, map, drop, get_or, replicate, append-nil, Option, None, Some, ap, sym, subst, refl, arith}
 use Rattle.std.specs.Prelude.{Err, IsSome}
-use Rattle.std.specs.List.{All}
+use Rattle.std.specs.List.{All, Contains}
 use Rattle.std.specs.declared.io.Error.{Error as IoError}
 use Rattle.std.proofs.lemmas.Bool.Decides.{nat_tests}
 use Rattle.std.proofs.lemmas.Bool.{cases_lt}
@@ -10,7 +10,7 @@ use Rattle.std.proofs.lemmas.List.{length-replicate}
 use Rattle.std.proofs.lemmas.List.Elements.{All-append, All-cons, All-head, All-map, All-nil, All-tail}
 use Rattle.sled_codec.specs.declared.result.Error.{Error}
 use Rattle.sled_codec.specs.declared.result.Error.TheVariants as error
-use Rattle.sled_codec.specs.History.{History, Message}
+use Rattle.sled_codec.specs.History.{Batch, History, Message}
 use Rattle.sled_store.specs.Accounts.{machine_of}
 use Rattle.sled_store.specs.Device.{Event, Trace}
 use Rattle.sled_store.specs.Script.{Performs, after_all}
@@ -34,6 +34,7 @@ use Rattle.sled_core.proofs.Line.Positions.{end_seen, next_seen}
 use Rattle.sled_core.proofs.Line.Settles.{stable_up}
 use Rattle.sled_core.proofs.Line.Shows.{buffers_add}
 use Rattle.sled_core.proofs.PublicLaws.{buffers_held, first_waits, shows_current, shows_empty, shows_long}
+use Rattle.sled_core.proofs.Reached.OpenBatch.{whole_not}
 use Rattle.sled_log.proofs.Sessions.NotedSeen.{target_reserved}
 use Rattle.sled_log.specs.declared.session.opened.Opened.{Opened}
 use Rattle.sled_log.specs.declared.session.command.Reply.TheVariants as reply
@@ -614,21 +615,23 @@ module _ {D C : Type 0} (view : D → DeviceView) (sum : List ℕ → ℕ) (log 
 
 -- what is open, with another log
 abbrev pub over : {D C : Type 0} → Opened D C → Log D C → Opened D C
-over opened log = record { alloc = opened.alloc; log = log; guard = opened.guard; pages = opened.pages; busy = opened.busy; tickets = opened.tickets }
+over opened log = record { alloc = opened.alloc; log = log; guard = opened.guard; pages = opened.pages; busy = opened.busy; batch = opened.batch; tickets = opened.tickets }
 
 -- It stays open so, where that has the same tickets and the same position.
 module _ {D C : Type 0} (trace : D → Trace) (sum : List ℕ → ℕ) (opened : Opened D C) (log : Log D C) (k : Unstored) (A : ℕ) where
   abbrev kept : Unstored
   kept = record { history = k.history; acknowledged = A; floor = k.floor; tickets = k.tickets }
 
-  ticket_still : KeepsTickets opened.log log → SamePosition opened.log log → (n : ℕ) (m : Message) → IsTicketFor opened k.history n m → IsTicketFor (over opened log) k.history n m
-  ticket_still tickets position n m is = record {
+  ticket_still : KeepsTickets opened.log log → SamePosition opened.log log → noted_in log ≡ not_whole (synced_end log) (noted_in opened.log) → (n : ℕ) (m : Message) → IsTicketFor opened k.history n m → IsTicketFor (over opened log) k.history n m
+  ticket_still tickets position noted n m is = record {
     ticket = is.ticket;
     there = is.there;
     kind = is.kind;
     page = is.page;
     awaits = tickets.awaits is.ticket.reservation m is.awaits;
-    may_join = is.may_join;
+    joins = is.joins;
+    begins_batch = λ batch. let begun = is.begins_batch batch in
+        record { kind = begun.kind; apart = λ b known. begun.apart b (whole_not (synced_end log) (noted_in opened.log) b (subst (λ (bs : List Batch). Contains bs b) noted known)).0 };
     begins = (let low = is.begins in let same = position.reserved in omega (arith, low, same));
     ends = (let low = is.ends in let same = position.reserved in omega (arith, low, same));
   }
@@ -643,12 +646,13 @@ module _ {D C : Type 0} (trace : D → Trace) (sum : List ℕ → ℕ) (opened :
     table = at.table;
     tickets = record {
       as_many = at.tickets.as_many;
-      each = λ n m there. ticket_still tickets position n m (at.tickets.each n m there);
+      each = λ n m there. ticket_still tickets position keeps.noted n m (at.tickets.each n m there);
       gone = at.tickets.gone;
       apart = at.tickets.apart;
       rising = at.tickets.rising;
       are_all = λ none. tickets.opens ∙ at.tickets.are_all (free none);
       busy = at.tickets.busy;
+      batch = at.tickets.batch;
     };
     ends = λ i d lt. let low = at.ends i d lt in let same = position.reserved in omega (arith, low, same);
   }

@@ -15,9 +15,13 @@ pub enum Command {
     Link(PageId, Vec<u8>),
     /// Keeps a place for a message that gives a page back that is present.
     Free(PageId),
+    /// Begins a batch: keeps a place for its manifest. What is reserved from then on, up to its end, is of the batch.
+    BeginBatch,
+    /// Ends the batch with the greatest place that was reserved.
+    EndBatch,
     /// Completes the message of a ticket.
     Complete(usize),
-    /// Gives the message of a ticket up.
+    /// Gives the message of a ticket up. That of a manifest ends its batch, which is none then.
     Abort(usize),
     /// Writes one of the sealed buffers that can be written, counted by place, and syncs it.
     Write(usize),
@@ -50,7 +54,8 @@ pub enum Reply {
     },
     /// A place is kept for a message: the number of its ticket, its place, and where it lies on the disk.
     Reserved(usize, Lsn, DiskPtr),
-    /// The message of a ticket was completed or given up, which has this place and lies there.
+    /// The message of a ticket was completed or given up, or a batch was ended: the place of the message, or of the batch's
+    /// manifest, and where that lies.
     Done(Lsn, DiskPtr),
     /// The buffer was written.
     Written,
@@ -90,7 +95,9 @@ pub enum Refusal {
     Busy,
     /// The page has 254 fragments.
     Fragments,
-    /// No such ticket is open.
+    /// A `BeginBatch` in a batch, or an `EndBatch` outside one.
+    Batch,
+    /// No such ticket is open, or the command is a `Complete`, and it is that of a manifest.
     Ticket,
     /// There are no more buffers that can be written.
     Index,

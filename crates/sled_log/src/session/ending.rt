@@ -1,16 +1,17 @@
-//! Completing messages, and giving them up.
+//! Completing messages, giving them up, and ending batches.
 ghost use Rattle.std.specs.Prelude.{◌≡◌, None, OnErr, OnOk};
 ghost use Rattle.sled_core.specs.Fits.{config_of, fault_of};
 ghost use Rattle.sled_log.specs.declared.session.command.Command.TheVariants as told;
-ghost use Rattle.sled_log.specs.Endings.{HasRoomFor, KeepsPages, TakesTicket};
+ghost use Rattle.sled_log.specs.Endings.{HasRoomFor, KeepsPages, TakesTicket, batch_left};
 ghost use Rattle.sled_log.specs.RunPhases.{CarriesOut, RunsOn, view_by};
 
 use crate::session::Phase;
 use crate::session::command::{Refusal, Reply};
 use crate::session::known::{apply, room_to_apply};
 use crate::session::opened::{Opened, Ticket};
-use sled_codec::result::{Error, Result};
+use sled_codec::result::{Error, PageId, Result};
 use sled_codec::serialization::Checksum;
+use sled_codec::serialization::message::BATCH_MANIFEST_PID;
 use sled_store::CrashDevice;
 
 /// Completes the message of a ticket. The room for its entry in the table is made first.
@@ -35,6 +36,10 @@ pub(crate) fn complete<D: CrashDevice, C: Checksum>(
     else {
         return Reply::Refused(Refusal::Ticket);
     };
+    if reservation.is_manifest() {
+        reservation.abandon();
+        return Reply::Refused(Refusal::Ticket);
+    }
     let size = reservation.reservation_len() as u64;
     match opened.log.complete(reservation) {
         Ok((place, pointer)) => {
@@ -83,7 +88,38 @@ pub(crate) fn abort<D: CrashDevice, C: Checksum>(opened: &mut Opened<D, C>, numb
     }
 }
 
-/// Takes the ticket of this number, where its reservation is open and of a message. Its page has no open ticket then.
+/// Ends the batch that is begun with the greatest place that was reserved.
+pub(crate) fn end<D: CrashDevice, C: Checksum>(opened: &mut Opened<D, C>) -> Reply
+    ensures step { CarriesOut (view_by D.trace D.faults D.is_stopped D.stops_in) C.sum_of
+        (Phase.Open opened.old) told.EndBatch (Phase.Open opened.new, result) }
+    ensures on { RunsOn D.trace (config_of opened.old.log) (config_of opened.new.log) }
+{
+    let Some(number) = opened.batch else {
+        return Reply::Refused(Refusal::Batch);
+    };
+    let Some(
+        Ticket {
+            kind: _,
+            page: _,
+            reservation,
+        },
+    ) = take_open(opened, number)
+    else {
+        return Reply::Refused(Refusal::Batch);
+    };
+    let peg = opened.log.reserved_offset();
+    if !(reservation.is_manifest() && opened.log.may_end_at(&reservation, peg)) {
+        reservation.abandon();
+        return Reply::Refused(Refusal::Batch);
+    }
+    match opened.log.mark_writebatch(reservation, peg) {
+        Ok((low, pointer)) => Reply::Done(low, pointer),
+        Err(e) => Reply::Failed(e),
+    }
+}
+
+/// Takes the ticket of this number, where its reservation is open. Its page has no open ticket then; where that is the page
+/// of manifests, no batch is begun.
 fn take_open<D: CrashDevice, C: Checksum>(
     opened: &mut Opened<D, C>,
     number: usize,
@@ -91,16 +127,24 @@ fn take_open<D: CrashDevice, C: Checksum>(
     ensures { TakesTicket opened.old number opened.new result }
 {
     let ticket = opened.tickets.get_mut(number)?.take()?;
-    if ticket.reservation.is_manifest() {
-        ticket.abandon();
-        return None;
-    }
     if !opened.log.is_open(&ticket.reservation) {
         ticket.abandon();
         return None;
     }
+    opened.batch = batch_left(ticket.page, opened.batch);
     if let Some(is_busy) = opened.busy.get_mut(ticket.page as usize) {
         *is_busy = false;
     }
     Some(ticket)
+}
+
+/// The number of the open manifest's ticket, once a ticket of this page is taken.
+fn batch_left(page: PageId, batch: Option<usize>) -> Option<usize>
+    ensures { result ≡ batch_left page batch }
+{
+    if page == BATCH_MANIFEST_PID {
+        None
+    } else {
+        batch
+    }
 }

@@ -10,6 +10,7 @@ ghost use Rattle.sled_log.specs.RunPhases.{IsOpenAt, Unstored, seen};
 
 use crate::session::command::{Command, Refusal};
 use sled_codec::result::PageId;
+use sled_codec::serialization::message::BATCH_MANIFEST_PID;
 use sled_codec::serialization::snapshot::PageState;
 use sled_codec::serialization::{Checksum, LogKind};
 use sled_core::logger::Log;
@@ -26,6 +27,8 @@ pub(crate) struct Opened<D, C> {
     pub(crate) pages: Vec<PageState>,
     /// Which pages have an open ticket, by number. Pages behind its end have none.
     pub(crate) busy: Vec<bool>,
+    /// The number of the open manifest's ticket, in a batch.
+    pub(crate) batch: Option<usize>,
     /// By number. One that was spent is gone.
     pub(crate) tickets: Vec<Option<Ticket>>,
 }
@@ -51,7 +54,10 @@ impl<D: CrashDevice, C: Checksum> Opened<D, C> {
             Command::Replace(page, item) => self.refuse_replace(*page, item),
             Command::Link(page, item) => self.refuse_link(*page, item),
             Command::Free(page) => self.refuse_free(*page),
-            Command::Complete(t) | Command::Abort(t) => self.refuse_ticket(*t),
+            Command::BeginBatch => self.refuse_begin(),
+            Command::EndBatch => self.refuse_end(),
+            Command::Complete(t) => self.refuse_message(*t),
+            Command::Abort(t) => self.refuse_ticket(*t),
             Command::Write(i) => self.refuse_index(*i),
             Command::Read(page) => self.refuse_read(*page),
             Command::Flush
@@ -115,9 +121,42 @@ impl<D: CrashDevice, C: Checksum> Opened<D, C> {
         }
     }
 
-    fn refuse_ticket(&self, number: usize) -> Option<Refusal>
+    fn refuse_begin(&self) -> Option<Refusal>
+        ensures why { (k : Unstored) → IsOpenAt D.trace C.sum_of self.now k
+            → result ≡ refused_open (segment_size_of self.now.log) k.history (seen self.now k.tickets) told.BeginBatch }
+    {
+        if self.batch.is_some() {
+            Some(Refusal::Batch)
+        } else {
+            None
+        }
+    }
+
+    fn refuse_end(&self) -> Option<Refusal>
+        ensures why { (k : Unstored) → IsOpenAt D.trace C.sum_of self.now k
+            → result ≡ refused_open (segment_size_of self.now.log) k.history (seen self.now k.tickets) told.EndBatch }
+    {
+        if self.batch.is_some() {
+            None
+        } else {
+            Some(Refusal::Batch)
+        }
+    }
+
+    /// Refuses a ticket that isn't open, and that of a manifest.
+    fn refuse_message(&self, number: usize) -> Option<Refusal>
         ensures why { (k : Unstored) → IsOpenAt D.trace C.sum_of self.now k
             → result ≡ refused_open (segment_size_of self.now.log) k.history (seen self.now k.tickets) (told.Complete number) }
+    {
+        if self.batch == Some(number) {
+            return Some(Refusal::Ticket);
+        }
+        self.refuse_ticket(number)
+    }
+
+    fn refuse_ticket(&self, number: usize) -> Option<Refusal>
+        ensures why { (k : Unstored) → IsOpenAt D.trace C.sum_of self.now k
+            → result ≡ refused_open (segment_size_of self.now.log) k.history (seen self.now k.tickets) (told.Abort number) }
     {
         if number >= self.tickets.len() || self.tickets[number].is_none() {
             return Some(Refusal::Ticket);
@@ -151,6 +190,9 @@ impl<D: CrashDevice, C: Checksum> Opened<D, C> {
     fn is_busy(&self, page: PageId) -> bool
         ensures { (k : Unstored) → IsOpenAt D.trace C.sum_of self.now k → result ≡ is_busy (seen self.now k.tickets) page }
     {
+        if page == BATCH_MANIFEST_PID {
+            return self.batch.is_some();
+        }
         match self.busy.get(page as usize) {
             Some(is_busy) => *is_busy,
             None => false,
@@ -178,6 +220,7 @@ impl<D: CrashDevice, C: Checksum> Opened<D, C> {
             guard,
             pages: _,
             busy: _,
+            batch: _,
             mut tickets,
         } = self;
         while let Some(ticket) = tickets.pop() {

@@ -52,6 +52,7 @@ fn start<D: CrashDevice, C: Checksum>(
                 guard,
                 pages: snapshot.pt,
                 busy: Vec::new(alloc),
+                batch: None,
                 tickets: Vec::new(alloc),
             };
             (Phase::Open(opened), reply)

@@ -1,15 +1,20 @@
-//! Keeping places for messages.
-ghost use Rattle.std.specs.Prelude.{◌≡◌, ◌<◌, ◌≤◌, false, get_or, length, vec_capacity, vec_len, None, OnErr, OnOk};
+//! Keeping places for messages, and beginning batches.
+ghost use Rattle.std.specs.Prelude.{◌≡◌, ◌≢◌, ◌<◌, ◌≤◌, false, get_or, length, vec_capacity, vec_len, None, OnErr, OnOk};
 ghost use Rattle.sled_codec.specs.History.{ChangesPage};
+ghost use Rattle.sled_codec.specs.declared.serialization.message.LogKind.TheVariants.{Skip};
+ghost use Rattle.sled_core.specs.Manifests.{manifest_page};
 ghost use Rattle.sled_core.specs.Tickets.{place_of, pointer_of};
+ghost use Rattle.sled_log.specs.declared.session.command.Command.TheVariants as told;
 ghost use Rattle.sled_log.specs.Reservations.{HoldsTicket, MakesRoom, Reserves};
-ghost use Rattle.sled_log.specs.RunPhases.{RunsOn, view_by};
+ghost use Rattle.sled_log.specs.RunPhases.{CarriesOut, RunsOn, view_by};
 ghost use Rattle.sled_core.specs.Fits.{config_of, fault_of};
 
+use crate::session::Phase;
 use crate::session::command::{Refusal, Reply};
 use crate::session::opened::{Opened, Ticket};
 use sled_codec::result::{Error, PageId, Result};
-use sled_codec::serialization::{Checksum, LogKind, Serialize};
+use sled_codec::serialization::message::BATCH_MANIFEST_PID;
+use sled_codec::serialization::{BatchManifest, Checksum, LogKind, Serialize};
 use sled_core::reservation::Reservation;
 use sled_store::CrashDevice;
 
@@ -35,6 +40,35 @@ pub(crate) fn reserve<D: CrashDevice, C: Checksum, T: Serialize>(
         Ok(reservation) => hold(opened, kind, page, reservation),
         Err(e) => Reply::Failed(e),
     }
+}
+
+/// Begins a batch: keeps a place for its manifest, and numbers the ticket of that. The room for it is made first.
+pub(crate) fn begin<D: CrashDevice, C: Checksum>(opened: &mut Opened<D, C>) -> Reply
+    ensures step { CarriesOut (view_by D.trace D.faults D.is_stopped D.stops_in) C.sum_of
+        (Phase.Open opened.old) told.BeginBatch (Phase.Open opened.new, result) }
+    ensures on { RunsOn D.trace (config_of opened.old.log) (config_of opened.new.log) }
+{
+    if room_for_ticket(opened).is_err() {
+        return Reply::Failed(Error::OutOfMemory);
+    }
+    let manifest = BatchManifest(0);
+    let log = &mut opened.log;
+    match log.reserve(LogKind::Skip, BATCH_MANIFEST_PID, &manifest, &opened.guard) {
+        Ok(reservation) => hold_manifest(opened, reservation),
+        Err(e) => Reply::Failed(e),
+    }
+}
+
+/// Makes room for one more ticket, unless the log keeps a failure.
+fn room_for_ticket<D: CrashDevice, C: Checksum>(opened: &mut Opened<D, C>) -> Result<()>
+    ensures room { MakesRoom opened.old opened.new }
+    ensures enough { OnOk result (fault_of opened.old.log ≡ None → vec_len opened.new.tickets < vec_capacity opened.new.tickets) }
+    ensures whole { OnErr result (fault_of opened.old.log ≡ None) }
+{
+    if opened.log.failure().is_some() {
+        return Ok(());
+    }
+    Ok(opened.tickets.reserve(1)?)
 }
 
 /// Makes room for one more ticket, and for the note that its page has one, unless the log keeps a failure.
@@ -63,6 +97,7 @@ fn hold<D: CrashDevice, C: Checksum>(
 ) -> Reply
     requires room { vec_len opened.old.tickets < vec_capacity opened.old.tickets }
     requires page { page < length opened.old.busy.items }
+    requires message { page ≢ manifest_page }
     ensures held { HoldsTicket opened.old opened.new kind page reservation result }
 {
     let number = opened.tickets.len();
@@ -71,6 +106,25 @@ fn hold<D: CrashDevice, C: Checksum>(
     opened.tickets.push_reserved(Some(Ticket {
         kind,
         page,
+        reservation,
+    }));
+    reply
+}
+
+/// Keeps the ticket of a manifest under the next number, where there is room for it.
+fn hold_manifest<D: CrashDevice, C: Checksum>(
+    opened: &mut Opened<D, C>,
+    reservation: Reservation,
+) -> Reply
+    requires { vec_len opened.old.tickets < vec_capacity opened.old.tickets }
+    ensures { HoldsTicket opened.old opened.new Skip manifest_page reservation result }
+{
+    let number = opened.tickets.len();
+    let reply = Reply::Reserved(number, reservation.lsn(), reservation.pointer());
+    opened.batch = Some(number);
+    opened.tickets.push_reserved(Some(Ticket {
+        kind: LogKind::Skip,
+        page: BATCH_MANIFEST_PID,
         reservation,
     }));
     reply

@@ -8,11 +8,11 @@ ghost use Rattle.sled_log.specs.RunPhases.{AnswersIn, CarriesOut, IsAt, RunsOn, 
 
 use crate::session::Phase;
 use crate::session::command::{Command, Refusal, Reply};
-use crate::session::ending::{abort, complete};
+use crate::session::ending::{abort, complete, end};
 use crate::session::opened::Opened;
 use crate::session::opening::open;
 use crate::session::reading::read;
-use crate::session::reserving::reserve;
+use crate::session::reserving::{begin, reserve};
 use crate::session::writing::{flush, stabilize, write};
 use sled_codec::result::Error;
 use sled_codec::serialization::{Checksum, LogKind};
@@ -57,6 +57,8 @@ fn refuse_closed(command: &Command) -> Option<Refusal>
         Command::Replace(_, _)
         | Command::Link(_, _)
         | Command::Free(_)
+        | Command::BeginBatch
+        | Command::EndBatch
         | Command::Complete(_)
         | Command::Abort(_)
         | Command::Write(_)
@@ -147,6 +149,8 @@ fn carry_out_open<D: CrashDevice, C: Checksum>(
         Command::Replace(page, item) => reserve(&mut opened, LogKind::Replace, *page, item),
         Command::Link(page, item) => reserve(&mut opened, LogKind::Link, *page, item),
         Command::Free(page) => reserve(&mut opened, LogKind::Free, *page, &()),
+        Command::BeginBatch => begin(&mut opened),
+        Command::EndBatch => end(&mut opened),
         Command::Complete(number) => complete(&mut opened, *number),
         Command::Abort(number) => abort(&mut opened, *number),
         Command::Write(i) => write(&mut opened, *i),

@@ -1,6 +1,7 @@
 use Rattle.std.proofs.Common.{◌≡◌, ◌∙◌, ap, sym, subst, ◌<◌, None, Some, Err, map, ℤ}
 use Rattle.sled_codec.specs.Snapshots.{Entry, page_of}
 use Rattle.std.specs.Int.{w64, cast_signed, cast_unsigned}
+use Rattle.std.proofs.lemmas.Bool.{false≢true}
 use Rattle.sled_core.specs.Fits.{Awaits, KeepsAll, KeepsBuffers, fault_of, open_places, pins_of}
 use Rattle.sled_core.specs.Keeps.{SamePosition}
 use Rattle.sled_core.specs.OpenPlaces.{TakesOut}
@@ -10,7 +11,7 @@ use Rattle.sled_core.proofs.PublicLaws.{awaited, awaited_small, fits_holds, plac
 use Rattle.sled_codec.specs.declared.result.DiskPtr.{DiskPtr}
 use Rattle.sled_log.specs.Endings.{HasRoomFor, HasRoomToApply, TakesTicket, applied_to}
 use Rattle.sled_log.specs.RunPhases.{view_by}
-use Rattle.sled_log.proofs.Sessions.EndedTickets.{complete_fails, completes, awaits_it, open_there, room_does, room_fails, room_open, takes_it}
+use Rattle.sled_log.proofs.Sessions.EndedTickets.{complete_fails, completes, awaits_it, is_message, message_open, room_does, room_fails, room_open, takes_it}
 use Rattle.sled_log.proofs.Sessions.RunLemmas.{on_failure, on_success}
 use Rattle.sled_log.proofs.session.ending.complete.Goals as goal
 
@@ -25,9 +26,22 @@ returns-in_default-clause-step g c = λ k at asked.
     let sum = g.C.Checksum.sum_of in
     let given = c.args.opened.now in
     let old = c.room_for.new.opened in
-    let its = open_there (view given.log.config.device).is_stopped c.args.number k.tickets asked in
+    let its = message_open (view given.log.config.device).is_stopped c.args.number k.tickets asked in
     let roomy = room_open view sum given old c.room_for.ensures.kept k at in
     absurd (c.in_default.not-Some _ (takes_it view sum old k roomy c.args.number its.0 its.1 c.take_open.new.opened c.take_open.result c.take_open.ensures))
+
+-- A manifest's ticket was refused before.
+pub returns-then-is_manifest-clause-step : goal.returns-then-is_manifest-clause-step
+returns-then-is_manifest-clause-step g c = λ k at asked.
+    let view = view_by g.D.Device.trace g.D.Device.faults g.D.CrashDevice.is_stopped g.D.CrashDevice.stops_in in
+    let sum = g.C.Checksum.sum_of in
+    let given = c.args.opened.now in
+    let old = c.room_for.new.opened in
+    let mid = c.take_open.new.opened in
+    let its = message_open (view given.log.config.device).is_stopped c.args.number k.tickets asked in
+    let roomy = room_open view sum given old c.room_for.ensures.kept k at in
+    let takes : TakesTicket old c.args.number mid (Some c.in-Some.field-0) = subst (TakesTicket old c.args.number mid) c.in-Some.is c.take_open.ensures in
+    absurd (false≢true (sym (is_message view sum old k roomy c.args.number its.0 its.1 mid c.in-Some.field-0 takes its.2) ∙ sym c.is_manifest.ensures ∙ c.if-is_manifest.true))
 
 pub apply-requires : goal.apply-requires
 apply-requires g c =
@@ -45,7 +59,7 @@ returns-in-Err-clause-step g c = λ k at asked.
     let given = c.args.opened.now in
     let old = c.room_for.new.opened in
     let mid = c.take_open.new.opened in
-    let its = open_there (view given.log.config.device).is_stopped c.args.number k.tickets asked in
+    let its = message_open (view given.log.config.device).is_stopped c.args.number k.tickets asked in
     let roomy = room_open view sum given old c.room_for.ensures.kept k at in
     let takes : TakesTicket old c.args.number mid (Some c.in-Some.field-0) = subst (TakesTicket old c.args.number mid) c.in-Some.is c.take_open.ensures in
     room_does view sum given old c.room_for.ensures.kept k c.args.number _
@@ -61,7 +75,7 @@ returns-in-Ok-clause-step g c = λ k at asked.
     let old = c.room_for.new.opened in
     let mid = c.take_open.new.opened in
     let new = c.complete.new.self in
-    let its = open_there (view given.log.config.device).is_stopped c.args.number k.tickets asked in
+    let its = message_open (view given.log.config.device).is_stopped c.args.number k.tickets asked in
     let roomy = room_open view sum given old c.room_for.ensures.kept k at in
     let takes : TakesTicket old c.args.number mid (Some c.in-Some.field-0) = subst (TakesTicket old c.args.number mid) c.in-Some.is c.take_open.ensures in
     let ticket = c.in-Some.field-0.reservation in
@@ -84,5 +98,5 @@ returns-in-Ok-clause-step g c = λ k at asked.
     (sym (ap (λ x. fault_of x) takes.log) ∙ done.answers)
     (λ t x holds ne. c.complete.ensures.others k.history t x (fits_holds trace sum mid.log k.history k.acknowledged k.floor roomy.unmarked fits) (subst (λ y. Awaits y t x) (sym takes.log) holds) ne)
     (subst (λ x. TakesOut m.place (open_places x) (open_places new)) takes.log (done.opens m.place says.0))
-    _ c.in-Ok.pointer (sym place, pointer) gives.0 gives.1 gives.2 entry (λ i. (sym place i, pointer i, size i))
+    its.2 _ c.in-Ok.pointer (sym place, pointer) gives.0 gives.1 gives.2 entry (λ i. (sym place i, pointer i, size i))
     (c.apply.ensures ∙ ap (λ x. applied_to (map page_of x.items) c.in-Some.field-0.kind c.in-Some.field-0.page entry) takes.pages))

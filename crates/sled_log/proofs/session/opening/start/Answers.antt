@@ -62,7 +62,8 @@ returns-in-Ok-clause-starts g c = λ H A f at.
           apart = λ i j m n there. cc;
           rising = tt;
           are_all = λ none. empty;
-          busy = λ page. search rules;
+          busy = λ page message. search rules;
+          batch = refl;
         };
         ends = subst (λ e. All (λ m. m.place + m.size ≤ e) H.messages) (sym end) at.ends;
       };

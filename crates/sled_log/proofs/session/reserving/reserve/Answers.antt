@@ -1,11 +1,12 @@
 -- A place is kept for a message, or nothing is done but that room is made.
-use Rattle.std.proofs.Common.{◌≡◌, ◌∙◌, false, None, ap, length, sym}
+use Rattle.std.proofs.Common.{◌≡◌, ◌≢◌, ◌<◌, ◌∙◌, ℕ, Bool, Vec, Global, arith, false, None, ap, length, sym}
+use Rattle.sled_core.specs.Manifests.{manifest_page}
 use Rattle.std.specs.Prelude.{Result, OnOk, is_err}
 use Rattle.sled_core.specs.Fits.{fault_of}
 use Rattle.sled_log.specs.declared.session.opened.Opened.{Opened}
 use Rattle.sled_log.specs.RunPhases.{view_by}
 use Rattle.sled_core.specs.declared.reservation.Reservation.{Reservation}
-use Rattle.sled_log.proofs.Sessions.Reserving.{failed_tried, held_tried, room_at, room_may, room_tried, roomless_tried}
+use Rattle.sled_log.proofs.Sessions.Reserving.{failed_tried, held_tried, kind_some, room_at, room_may, room_tried, roomless_tried}
 use Rattle.sled_log.proofs.Sessions.RunLemmas.{on_failure, on_success}
 use Rattle.sled_log.proofs.session.reserving.reserve.Goals as goal
 
@@ -27,6 +28,14 @@ pub hold-requires-clause-page : goal.hold-requires-clause-page
 hold-requires-clause-page g c =
     (enough c.room_for.result c.args.opened.now c.room_for.new.opened _ (sym c.is_err.ensures.value ∙ c.if-is_err.false) c.room_for.ensures.enough c.room_for.ensures.room.log c.in-Ok.ensures.answers.0).1
 
+-- A page that is noted is never that of manifests.
+noted_page : (busy : Vec Bool Global) (page : ℕ) → page < length busy.items → page ≢ manifest_page
+noted_page busy page low is = let most = busy.small in omega (arith, low, most, is)
+
+pub hold-requires-clause-message : goal.hold-requires-clause-message
+hold-requires-clause-message g c = noted_page c.room_for.new.opened.busy c.args.page
+    (enough c.room_for.result c.args.opened.now c.room_for.new.opened _ (sym c.is_err.ensures.value ∙ c.if-is_err.false) c.room_for.ensures.enough c.room_for.ensures.room.log c.in-Ok.ensures.answers.0).1
+
 -- The place that the log kept has a ticket.
 pub returns-in-Ok-clause-step : goal.returns-in-Ok-clause-step
 returns-in-Ok-clause-step g c = λ k at may.
@@ -38,7 +47,7 @@ returns-in-Ok-clause-step g c = λ k at may.
     let room = c.room_for.ensures.room in
     let n = length bytes in
     room_tried view sum old mid c.hold.new.opened c.args.kind c.args.page bytes c.hold.result k room
-    (held_tried view sum mid c.hold.new.opened c.reserve.new.self c.args.kind c.args.page bytes c.in-Ok.reservation c.hold.result k c.requires.kind
+    (held_tried view sum mid c.hold.new.opened c.reserve.new.self c.args.kind c.args.page bytes c.in-Ok.reservation c.hold.result k
     (record {
       ticket = c.in-Ok.ensures.ticket;
       position = c.in-Ok.ensures.position;
@@ -53,8 +62,10 @@ returns-in-Ok-clause-step g c = λ k at may.
       fits = c.reserve.ensures.keeps.fits;
       same = c.reserve.ensures.same;
     })
-    c.hold.ensures.held (enough c.room_for.result old mid _ (sym c.is_err.ensures.value ∙ c.if-is_err.false) c.room_for.ensures.enough room.log c.in-Ok.ensures.answers.0).1
-    (room_at _ sum old mid k room at) (room_may old mid k c.args.kind c.args.page n room may))
+    c.hold.ensures.held (room_at _ sum old mid k room at) c.requires.kind
+    (enough c.room_for.result old mid _ (sym c.is_err.ensures.value ∙ c.if-is_err.false) c.room_for.ensures.enough room.log c.in-Ok.ensures.answers.0).1
+    (hold-requires-clause-message g c.before)
+    (room_may old mid k c.args.kind c.args.page n room may))
 
 -- A log that kept no place is as it was.
 pub returns-in-Err-clause-step : goal.returns-in-Err-clause-step
@@ -66,5 +77,5 @@ returns-in-Err-clause-step g c = λ k at may.
     let mid = c.room_for.new.opened in
     let room = c.room_for.ensures.room in
     room_tried view sum old mid _ c.args.kind c.args.page bytes _ k room
-    (failed_tried view sum mid c.reserve.new.self c.args.kind c.args.page bytes k (room_at _ sum old mid k room at) Reservation c.in-Err.e c.requires.kind (room_may old mid k c.args.kind c.args.page (length bytes) room may)
+    (failed_tried view sum mid c.reserve.new.self c.args.kind c.args.page bytes k (room_at _ sum old mid k room at) Reservation c.in-Err.e (kind_some c.args.kind c.args.page (length bytes) c.requires.kind) (room_may old mid k c.args.kind c.args.page (length bytes) room may).fits
     c.reserve.ensures.keeps.fits c.in-Err.ensures.err c.reserve.ensures.same c.in-Err.ensures.answers)

@@ -15,7 +15,7 @@ use Rattle.sled_log.specs.Refusals.{when}
 use Rattle.sled_log.specs.RunPhases.{CarriesOut, RunsOn, view_by}
 use Rattle.sled_log.proofs.Sessions.Carried.{free_does, free_may, link_does, link_may, passes, replace_does, replace_may}
 use Rattle.sled_log.proofs.Sessions.RunLemmas.{carried, halted, runs_on_same}
-use Rattle.sled_log.proofs.session.step.carry_out_open.Goals.{in-Replace, in-Link, in-Free, in-Complete, in-Abort, in-Write, in-Flush, in-Stable, in-Read, in-Stop, in-Open}
+use Rattle.sled_log.proofs.session.step.carry_out_open.Goals.{in-Replace, in-Link, in-Free, in-BeginBatch, in-EndBatch, in-Complete, in-Abort, in-Write, in-Flush, in-Stable, in-Read, in-Stop, in-Open}
 use Rattle.sled_log.proofs.session.step.carry_out_open.Goals as goal
 
 -- an opening is refused while a log is open
@@ -43,6 +43,8 @@ returns-clause-step g c =
     λ o r opened_is reply_is done. subst (λ x. Goal x c.match-command.reply) (sym opened_is) (subst (Goal o) (sym reply_is) done) in
     elim c.match-command.branch [
       | in-Complete w ↦ put w.complete-reply.new.opened w.complete-reply.result w.opened-is w.reply-is (carried view sum (phase.Open old) (command.Complete w.in-Complete.number) cmd (phase.Open w.complete-reply.new.opened, w.complete-reply.result) w.in-Complete.is w.complete-reply.ensures.step)
+      | in-BeginBatch w ↦ put w.begin-reply.new.opened w.begin-reply.result w.opened-is w.reply-is (carried view sum (phase.Open old) command.BeginBatch cmd (phase.Open w.begin-reply.new.opened, w.begin-reply.result) w.in-BeginBatch.is w.begin-reply.ensures.step)
+      | in-EndBatch w ↦ put w.end-reply.new.opened w.end-reply.result w.opened-is w.reply-is (carried view sum (phase.Open old) command.EndBatch cmd (phase.Open w.end-reply.new.opened, w.end-reply.result) w.in-EndBatch.is w.end-reply.ensures.step)
       | in-Abort w ↦ put w.abort-reply.new.opened w.abort-reply.result w.opened-is w.reply-is (carried view sum (phase.Open old) (command.Abort w.in-Abort.number) cmd (phase.Open w.abort-reply.new.opened, w.abort-reply.result) w.in-Abort.is w.abort-reply.ensures.step)
       | in-Write w ↦ put w.write-reply.new.opened w.write-reply.result w.opened-is w.reply-is (carried view sum (phase.Open old) (command.Write w.in-Write.i) cmd (phase.Open w.write-reply.new.opened, w.write-reply.result) w.in-Write.is w.write-reply.ensures.step)
       | in-Flush w ↦ put w.flush-reply.new.opened w.flush-reply.result w.opened-is w.reply-is (carried view sum (phase.Open old) command.Flush cmd (phase.Open w.flush-reply.new.opened, w.flush-reply.result) w.in-Flush.is w.flush-reply.ensures.step)
@@ -67,6 +69,8 @@ returns-clause-on g c =
     let Goes : Opened g.row.D.Denot g.row.C.Denot → Type 0 = λ o. RunsOn g.D.Device.trace (config_of old.log) (config_of o.log) in
     elim c.match-command.branch [
       | in-Complete w ↦ subst Goes (sym w.opened-is) w.complete-reply.ensures.on
+      | in-BeginBatch w ↦ subst Goes (sym w.opened-is) w.begin-reply.ensures.on
+      | in-EndBatch w ↦ subst Goes (sym w.opened-is) w.end-reply.ensures.on
       | in-Abort w ↦ subst Goes (sym w.opened-is) w.abort-reply.ensures.on
       | in-Write w ↦ subst Goes (sym w.opened-is) w.write-reply.ensures.on
       | in-Flush w ↦ subst Goes (sym w.opened-is) w.flush-reply.ensures.on

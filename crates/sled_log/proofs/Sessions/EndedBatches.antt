@@ -1,0 +1,167 @@
+-- What it comes to where a batch is ended.
+use Rattle.std.proofs.Common.{◌≡◌, ◌≢◌, ◌∙◌, ◌<◌, ◌≤◌, ◌&&◌, ◌-◌, ◌+◌, ◌-ℤ◌, ◌<ℤ◌, ◌≤ℤ◌, ◌++◌, ◌∷◌, [], int_lt, unsigned_abs, ⊎_elim, inl, inr, ℕ, ℤ, pos, zero, suc, Bool, true, false, not, if◌then◌else◌, List, length, map, set, refl, sym, ap, subst, arith, Option, None, Some, Err}
+use Rattle.std.specs.List.{All, slice_get}
+use Rattle.std.proofs.lemmas.Int.{ints}
+use Rattle.sled_codec.specs.declared.result.DiskPtr.{DiskPtr}
+use Rattle.sled_codec.specs.declared.result.Error.{Error}
+use Rattle.sled_codec.specs.declared.result.Error.TheVariants as error
+use Rattle.sled_codec.specs.History.{AddsBatch, Batch, Batched, History, Message, Step}
+use Rattle.sled_codec.specs.PageTables.{IsTable}
+use Rattle.sled_codec.specs.Snapshots.{page_of}
+use Rattle.sled_core.specs.declared.logger.Log.{Log}
+use Rattle.sled_core.specs.declared.reservation.Reservation.{Reservation}
+use Rattle.sled_core.specs.Batches.{EndsBatch, MayEndAt, NotesBatchOf, batch_for, with_batch_for}
+use Rattle.sled_core.specs.Causes.{FaultAnswers}
+use Rattle.sled_core.specs.Fits.{Awaits, KeepsBuffers, config_of, fault_of, noted_in, open_places, reserved_end}
+use Rattle.sled_core.specs.Keeps.{SamePosition}
+use Rattle.sled_core.specs.Manifests.{is_manifest, manifest_page}
+use Rattle.sled_core.specs.OpenPlaces.{TakesOut}
+use Rattle.sled_core.specs.Running.{Fits}
+use Rattle.sled_core.specs.Tickets.{is_manifest_of, place_of}
+use Rattle.sled_core.proofs.PublicLaws.{awaited, end_off}
+use Rattle.sled_log.specs.declared.session.opened.Opened.{Opened}
+use Rattle.sled_log.specs.declared.session.opened.Ticket.{Ticket}
+use Rattle.sled_log.specs.declared.session.Phase.TheVariants.{Open}
+use Rattle.sled_log.specs.declared.session.command.Command.TheVariants as command
+use Rattle.sled_log.specs.declared.session.command.Refusal.TheVariants as why
+use Rattle.sled_log.specs.declared.session.command.Reply.TheVariants as reply
+use Rattle.sled_log.specs.Endings.{TakesTicket}
+use Rattle.sled_log.specs.Refusals.{when}
+use Rattle.sled_log.specs.RunPhases.{Does, HasBatch, HasTickets, IsOpenAt, IsTicketFor, Unstored, seen, stands, traces}
+use Rattle.sled_log.specs.RunStates.{DeviceView, LogView, in_batch, opens, places_without, top}
+use Rattle.sled_log.specs.TicketSteps.{HasBegun, IsAnswerFor, batch_of, noting, spent}
+use Rattle.sled_log.proofs.Sessions.EndedTickets.{awaits_it, ended_open, failed_leads, failed_open, left, now, outstanding}
+use Rattle.sled_log.proofs.Sessions.MadeBatches.{joins_still, made_still, table_still}
+
+-- one less than a place that isn't the first
+one_less : (e : ℕ) → 0 < e → pos e -ℤ pos 1 ≡ pos (e - 1)
+one_less zero some = absurd (omega (arith, some))
+one_less (suc e) some = omega (arith, ints)
+
+-- The manifest of a batch that may be ended has an open ticket, which the session knows.
+pub batch_there : (stopped : Bool) (ts : List (Option Message)) (batch : Option ℕ) → HasBatch ts batch → when (stopped && true) why.Stopped (when (not (in_batch ts)) why.Batch None) ≡ None
+    → (n : ℕ) × (batch ≡ Some n) × ((m : Message) × (slice_get ts n ≡ Some (Some m)) × (m.page ≡ manifest_page))
+batch_there stopped ts (Some n) has asked = (n, refl, has)
+batch_there stopped ts None has asked = absurd (by stopped (in_batch ts) has asked) where
+  by : (s b : Bool) → b ≡ false → when (s && true) why.Stopped (when (not b) why.Batch None) ≡ None → ⊥
+  by true b none is = cc
+  by false true none is = cc
+  by false false none is = cc
+
+module _ {D C : Type 0} (view : D → DeviceView) (sum : List ℕ → ℕ) (old : Opened D C) (k : Unstored) (at : IsOpenAt (traces view) sum old k) (n : ℕ) (m : Message) (there : slice_get k.tickets n ≡ Some (Some m)) (manifest : m.page ≡ manifest_page)
+    (mid : Opened D C) (ticket : Ticket) (takes : TakesTicket old n mid (Some ticket)) where
+  abbrev l : LogView
+  l = seen old k.tickets
+
+  abbrev begun : HasBegun l
+  begun = record { ticket = n; message = m; reserved = there; manifest = manifest }
+
+  abbrev peg : ℤ
+  peg = pos (reserved_end old.log) -ℤ pos 1
+
+  had : IsTicketFor old k.history n m
+  had = at.tickets.each n m there
+
+  awaits : Awaits old.log ticket.reservation m
+  awaits = awaits_it view sum old k at n m there mid ticket takes
+
+  placed : pos m.place ≡ place_of ticket.reservation
+  placed = (awaited old.log ticket.reservation m awaits).0
+
+  -- It is a manifest's,
+  pub is_batch : is_manifest_of ticket.reservation ≡ true
+  is_batch = (awaited old.log ticket.reservation m awaits).3 ∙ (λ i. is_manifest ((had.begins_batch manifest).kind i) (manifest i))
+
+  -- which lies in front of its peg,
+  behind : place_of ticket.reservation <ℤ peg
+  behind = let low = had.begins in subst (λ (z : ℤ). z <ℤ peg) placed (omega (arith, ints, low))
+
+  -- and its batch may end there.
+  pub may_end : MayEndAt old.log ticket.reservation peg
+  may_end = record {
+    above = (let low = behind in omega (arith, ints, low));
+    reserved = omega (arith, ints);
+    filled = end_off old.log;
+    apart = λ b known. inl (subst (λ (z : ℤ). pos b.peg <ℤ z) placed (let low = (had.begins_batch manifest).apart b known in omega (arith, ints, low)));
+  }
+
+  -- The batch is seen.
+  batch_is : batch_for ticket.reservation peg ≡ batch_of l m
+  batch_is =
+      let some : 0 < reserved_end old.log = (let low = had.begins in omega (arith, low)) in
+      λ i. record { low = unsigned_abs (sym placed i); peg = unsigned_abs (one_less (reserved_end old.log) some i) }
+
+  noted_one : (bs : List Batch) → with_batch_for ticket.reservation peg bs ≡ bs ++ batch_of l m ∷ []
+  noted_one bs = by (int_lt (place_of ticket.reservation) peg) refl ∙ ap (λ b. bs ++ b ∷ []) batch_is where
+    by : (o : Bool) → int_lt (place_of ticket.reservation) peg ≡ o → (if o then bs ++ batch_for ticket.reservation peg ∷ [] else bs) ≡ bs ++ batch_for ticket.reservation peg ∷ []
+    by true is = refl
+    by false is = absurd (let low = behind in grind (arith, ints, is, low))
+
+  -- Where the log keeps a failure the ticket is spent.
+  pub end_fails : (log : Log D C) (T : Type 0) (e : Error) → FaultAnswers {T = T} (Err e) (fault_of old.log) → log ≡ old.log
+      → Does view sum (Open old) command.EndBatch (Open (now view sum old k at n m there mid ticket takes log mid.pages), reply.Failed e) k
+  end_fails log T (error.Io x) answers is =
+      let pages = ap (λ p. map page_of p.items) takes.pages in
+      record {
+        not_refused = refl;
+        acts = ap (λ (y : Log D C). view (config_of y).device) is;
+        step = λ own. (
+          left view sum old k at n m there mid ticket takes k.history,
+          (answers, (begun, failed_leads view sum old k at n m there mid ticket takes log mid.pages is pages x answers)),
+          failed_open view sum old k at n m there mid ticket takes log mid.pages is pages x answers,
+        );
+      }
+  end_fails log T _ answers is = absurd answers
+
+  -- Where it keeps none, the batch comes to the history, and is noted.
+  module _ (log : Log D C) (notes : NotesBatchOf ticket.reservation peg old.log log) (position : SamePosition old.log log) (buffers : KeepsBuffers old.log log) (fault : fault_of old.log ≡ None)
+      (others : (t : Reservation) (x : Message) → Awaits old.log t x → place_of t ≢ place_of ticket.reservation → Awaits log t x) (opens_left : TakesOut m.place (open_places old.log) (open_places log)) where
+    ended_view : seen (now view sum old k at n m there mid ticket takes log mid.pages) (set k.tickets n None) ≡ noting (batch_of l m) (spent l n (places_without m.place (opens l)) (length old.pages.items))
+    ended_view i = record {
+      position = position.position i;
+      synced = notes.synced i;
+      noted = (notes.noted ∙ noted_one (noted_in old.log)) i;
+      end = position.reserved i;
+      waiting = buffers.waiting i;
+      start = buffers.start i;
+      begun = length (takes.pages i).items;
+      fault = notes.fault i;
+      outstanding = outstanding view sum old k at n m there mid ticket takes log mid.pages notes.pins position fault others opens_left i;
+      tickets = set k.tickets n None;
+    }
+
+    step_from : (H' : History) → EndsBatch k.history ticket.reservation peg H' → Step k.history (Batched (batch_of l m)) H'
+    step_from H' ends = ⊎_elim
+        (λ canceled. absurd (let low = behind in let same = canceled.0 in omega (arith, ints, low, same)))
+        (λ step. subst (λ b. Step k.history (Batched b) H') batch_is step.1) ends
+
+    messages_stay : (H' : History) → Step k.history (Batched (batch_of l m)) H' → H'.messages ≡ k.history.messages
+    unfolding Step
+    messages_stay H' step = step.messages
+
+    pub ends_batch : (place : ℤ) (pointer : DiskPtr) → IsAnswerFor m place pointer → (H' : History) → EndsBatch k.history ticket.reservation peg H' → Fits (traces view) sum log H' k.acknowledged k.floor at.unmarked
+        → Does view sum (Open old) command.EndBatch (Open (now view sum old k at n m there mid ticket takes log mid.pages), reply.Done place pointer) k
+    ends_batch place pointer answer H' ends fits =
+        let step = step_from H' ends in
+        let same = messages_stay H' step in
+        record {
+          not_refused = refl;
+          acts = ap (λ c. view c.device) notes.config;
+          step = λ own. (
+            left view sum old k at n m there mid ticket takes H',
+            record {
+              begun = begun;
+              fault = fault;
+              answer = answer;
+              history = H';
+              step = step;
+              leads = λ i. record { device = view (config_of log).device; history = H'; acknowledged = k.acknowledged; floor = k.floor; log = Some (ended_view i) };
+            },
+            ended_open view sum old k at n m there mid ticket takes log mid.pages notes.pins position fault others opens_left H' at.unmarked
+                (made_still k.history H' same at.made) fits
+                (subst (λ p. IsTable (map page_of p.items) H' top) (sym takes.pages) (table_still k.history H' same (map page_of old.pages.items) top at.table))
+                (λ x ne may. joins_still k.history H' same x may)
+                (λ x of ne was. absurd (ne (manifest ∙ sym of)))
+                (subst (λ ms. All (λ x. x.place + x.size ≤ reserved_end old.log) ms) (sym same) at.ends),
+          );
+        }

@@ -1,0 +1,146 @@
+-- What the commands come to that keep places for messages, complete these, give them up, and begin and end batches.
+use Rattle.std.specs.Prelude.{◌≡◌, ◌+◌, ◌-◌, ◌<◌, ◌==◌, ◌∷◌, ◌++◌, ℕ, ℤ, pos, set, if◌then◌else◌, List, [], length, slice_get, Option, None, Some}
+use Rattle.sled_codec.specs.declared.result.DiskPtr.{DiskPtr}
+use Rattle.sled_codec.specs.declared.result.Error.TheVariants.{Held, Io, OutOfMemory, PlacesUsedUp}
+use Rattle.sled_codec.specs.declared.serialization.message.LogKind.{LogKind}
+use Rattle.sled_codec.specs.Spelling.{short_signed}
+use Rattle.sled_codec.specs.History.{Batch, Batched, Completed, History, Message, Step}
+use Rattle.sled_core.specs.Buffers.{most_open}
+use Rattle.sled_core.specs.Manifests.{manifest_page}
+use Rattle.sled_core.specs.OpenPlaces.{places_from}
+use Rattle.sled_core.specs.Positions.{Position, behind_record}
+use Rattle.sled_log.specs.declared.session.command.Reply.{Reply}
+use Rattle.sled_log.specs.declared.session.command.Reply.TheVariants as reply
+use Rattle.sled_log.specs.RunStates.{DeviceView, EndsInReach, LogView, RunState, is_behind, message_at, opens, places_without, start_with, target_in, waiting_with, with_log}
+
+-- the place and the pointer that are answered are those of a message
+abbrev pub IsAnswerFor : Message → ℤ → DiskPtr → Type 0
+IsAnswerFor m place pointer = (place ≡ pos m.place) × (pointer ≡ m.pointer)
+
+-- the log with a reservation for a message that begins at this position
+abbrev pub reserving : ℕ → LogView → Position → Message → LogView
+reserving size l q m = record {
+  position = behind_record size q m.size;
+  synced = l.synced;
+  noted = l.noted;
+  end = m.place + m.size;
+  waiting = waiting_with l q;
+  start = start_with l q;
+  begun = l.begun;
+  fault = l.fault;
+  outstanding = opens l ++ m.place ∷ [];
+  tickets = l.tickets ++ Some m ∷ [];
+}
+
+-- the places of the open reservations of the buffer that a record would be of that begins at this position
+abbrev pub opens_beside : LogView → Position → List ℕ
+opens_beside l q = if is_behind l q then [] else places_from l.start.place (opens l)
+
+-- A place was kept for this message, under the next number.
+pub record HasReserved (size : ℕ) (a : RunState) (l : LogView) (q : Position) (m : Message) (ticket : ℕ) (place : ℤ) (pointer : DiskPtr) (new : DeviceView) (b : RunState) : Type 0 where
+  pub fault : l.fault ≡ None
+  pub in_reach : EndsInReach size q
+  pub few : length (opens_beside l q) < most_open
+  pub number : ticket ≡ length l.tickets
+  pub answer : IsAnswerFor m place pointer
+  pub leads : b ≡ with_log a new (Some (reserving size l q m))
+
+-- The buffer of the record has 127 open reservations, and this is the least place of them.
+pub record IsFullOfOpen (l : LogView) (q : Position) (at : ℤ) : Type 0 where
+  pub fault : l.fault ≡ None
+  pub full : length (opens_beside l q) ≡ most_open
+  pub least : ℕ
+  pub others : List ℕ
+  pub first : opens_beside l q ≡ least ∷ others
+  pub is : at ≡ pos least
+
+abbrev pub ReserveStep : ℕ → RunState → LogView → LogKind → ℕ → List ℕ → Reply → DeviceView → RunState → Type 0
+ReserveStep size a l kind page bytes (reply.Reserved ticket place pointer) new b =
+    HasReserved size a l (target_in size l page (length bytes)) (message_at size l kind page bytes) ticket place pointer new b
+ReserveStep size a l kind page bytes (reply.Failed (Io e)) new b = (l.fault ≡ Some e) × (b ≡ a)
+ReserveStep size a l kind page bytes (reply.Failed OutOfMemory) new b = (l.fault ≡ None) × (b ≡ a)
+ReserveStep size a l kind page bytes (reply.Failed PlacesUsedUp) new b = (l.fault ≡ None) × (EndsInReach size (target_in size l page (length bytes)) → ⊥) × (b ≡ a)
+ReserveStep size a l kind page bytes (reply.Failed (Held at)) new b = IsFullOfOpen l (target_in size l page (length bytes)) at × (b ≡ a)
+ReserveStep size a l kind page bytes _ new b = ⊥
+
+-- the log with a ticket spent, with reservations open at these places, and this many pages begun
+abbrev pub spent : LogView → ℕ → List ℕ → ℕ → LogView
+spent l t places begun =
+    record { position = l.position; synced = l.synced; noted = l.noted; end = l.end; waiting = l.waiting; start = l.start; begun = begun; fault = l.fault; outstanding = places; tickets = set l.tickets t None }
+
+-- The message of an open reservation comes to the history. Where it is the first of its page, that is begun.
+pub record HasCompleted (a : RunState) (l : LogView) (t : ℕ) (place : ℤ) (pointer : DiskPtr) (new : DeviceView) (b : RunState) : Type 0 where
+  pub message : Message
+  pub reserved : slice_get l.tickets t ≡ Some (Some message)
+  pub fault : l.fault ≡ None
+  pub answer : IsAnswerFor message place pointer
+  pub history : History
+  pub step : Step a.history (Completed message) history
+  pub leads : b ≡ record {
+    device = new;
+    history = history;
+    acknowledged = a.acknowledged;
+    floor = a.floor;
+    log = Some (spent l t (places_without message.place (opens l)) (if message.page == l.begun then l.begun + 1 else l.begun));
+  }
+
+-- Without memory for it nothing is done. Where the log keeps a failure the ticket is spent, and the reservation stays open.
+abbrev pub CompleteStep : RunState → LogView → ℕ → Reply → DeviceView → RunState → Type 0
+CompleteStep a l t (reply.Done place pointer) new b = HasCompleted a l t place pointer new b
+CompleteStep a l t (reply.Failed (Io e)) new b = (l.fault ≡ Some e) × (b ≡ with_log a new (Some (spent l t (opens l) l.begun)))
+CompleteStep a l t (reply.Failed OutOfMemory) new b = (l.fault ≡ None) × (b ≡ a)
+CompleteStep a l t _ new b = ⊥
+
+-- The message of an open reservation is given up.
+pub record HasAborted (a : RunState) (l : LogView) (t : ℕ) (place : ℤ) (pointer : DiskPtr) (new : DeviceView) (b : RunState) : Type 0 where
+  pub message : Message
+  pub reserved : slice_get l.tickets t ≡ Some (Some message)
+  pub fault : l.fault ≡ None
+  pub answer : IsAnswerFor message place pointer
+  pub leads : b ≡ with_log a new (Some (spent l t (places_without message.place (opens l)) l.begun))
+
+abbrev pub AbortStep : RunState → LogView → ℕ → Reply → DeviceView → RunState → Type 0
+AbortStep a l t (reply.Done place pointer) new b = HasAborted a l t place pointer new b
+AbortStep a l t (reply.Failed (Io e)) new b = (l.fault ≡ Some e) × (b ≡ with_log a new (Some (spent l t (opens l) l.begun)))
+AbortStep a l t _ new b = ⊥
+
+-- the item of a manifest that is reserved, whose peg isn't known yet
+abbrev pub blank_manifest : List ℕ
+blank_manifest = short_signed (pos 0)
+
+-- The open ticket of a manifest.
+pub record HasBegun (l : LogView) : Type 0 where
+  pub ticket : ℕ
+  pub message : Message
+  pub reserved : slice_get l.tickets ticket ≡ Some (Some message)
+  pub manifest : message.page ≡ manifest_page
+
+-- its batch ends with the greatest place that was reserved
+abbrev pub batch_of : LogView → Message → Batch
+batch_of l m = record { low = m.place; peg = l.end - 1 }
+
+-- the log with one more batch noted
+abbrev pub noting : Batch → LogView → LogView
+noting batch l =
+    record { position = l.position; synced = l.synced; noted = l.noted ++ batch ∷ []; end = l.end; waiting = l.waiting; start = l.start; begun = l.begun; fault = l.fault; outstanding = l.outstanding; tickets = l.tickets }
+
+-- A batch that was begun comes to the history, and is noted.
+pub record HasEnded (a : RunState) (l : LogView) (place : ℤ) (pointer : DiskPtr) (new : DeviceView) (b : RunState) : Type 0 where
+  pub begun : HasBegun l
+  pub fault : l.fault ≡ None
+  pub answer : IsAnswerFor begun.message place pointer
+  pub history : History
+  pub step : Step a.history (Batched (batch_of l begun.message)) history
+  pub leads : b ≡ record {
+    device = new;
+    history = history;
+    acknowledged = a.acknowledged;
+    floor = a.floor;
+    log = Some (noting (batch_of l begun.message) (spent l begun.ticket (places_without begun.message.place (opens l)) l.begun));
+  }
+
+-- Where the log keeps a failure its ticket is spent, and the reservation stays open.
+abbrev pub EndStep : RunState → LogView → Reply → DeviceView → RunState → Type 0
+EndStep a l (reply.Done place pointer) new b = HasEnded a l place pointer new b
+EndStep a l (reply.Failed (Io e)) new b = (l.fault ≡ Some e) × ((begun : HasBegun l) × (b ≡ with_log a new (Some (spent l begun.ticket (opens l) l.begun))))
+EndStep a l _ new b = ⊥
