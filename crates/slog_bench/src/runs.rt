@@ -36,6 +36,8 @@ pub fn command(alloc: Global, line: &str) -> Outcome<Command> {
 fn command_of(alloc: Global, words: &mut Words<'_>) -> Command {
     match words.word() {
         "open" => Command::Open,
+        "begin" => Command::BeginBatch,
+        "end" => Command::EndBatch,
         "replace" => Command::Replace(words.number(), words.bytes(alloc)),
         "link" => Command::Link(words.number(), words.bytes(alloc)),
         "free" => Command::Free(words.number()),
@@ -172,6 +174,7 @@ fn word_of(why: Refusal) -> &'static str {
         Refusal::Page => "page",
         Refusal::Busy => "busy",
         Refusal::Fragments => "fragments",
+        Refusal::Batch => "batch",
         Refusal::Ticket => "ticket",
         Refusal::Index => "index",
         Refusal::Item => "item",

@@ -38,6 +38,8 @@ pub fn parse(alloc: Global, line: &[u8]) -> Result<Option<Asked>, AllocError> {
 fn alone(word: &str) -> Option<Asked> {
     let command = match word {
         "open" => Command::Open,
+        "begin" => Command::BeginBatch,
+        "end" => Command::EndBatch,
         "flush" => Command::Flush,
         "halt" => Command::Halt,
         _ => return None,

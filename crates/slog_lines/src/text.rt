@@ -285,6 +285,7 @@ fn word_of(refusal: Refusal) -> &'static str {
         Refusal::Page => "page",
         Refusal::Busy => "busy",
         Refusal::Fragments => "fragments",
+        Refusal::Batch => "batch",
         Refusal::Ticket => "ticket",
         Refusal::Index => "index",
         Refusal::Item => "item",
