@@ -13,7 +13,7 @@
 //! Behind each set of whole buffers a second recovery has to find the same, and so has one that has a snapshot of the durable
 //! records. Behind torn buffers that isn't tried.
 //!
-//! `logged` has the log itself make two of the files, and writes its buffers in each order.
+//! `logged` has the log itself make some of the files, and writes its buffers in each order; `pegs` asks where a batch may end.
 
 use crate::batches::parts::{Part, text_of};
 use case_lines::devices::log_of;
@@ -26,6 +26,7 @@ use std::alloc::Global;
 
 mod logged;
 mod parts;
+mod pegs;
 
 /// Whether each recovery finds what it has to.
 pub fn hold(alloc: Global) -> Result<bool> {
@@ -35,7 +36,8 @@ pub fn hold(alloc: Global) -> Result<bool> {
             && over_two_segments(alloc)?
             && over_three_segments(alloc)?
             && one_behind_another(alloc)?
-            && over_a_whole_segment(alloc)?,
+            && over_a_whole_segment(alloc)?
+            && pegs::hold(alloc)?,
     )
 }
 
@@ -404,10 +406,21 @@ fn clear(bytes: &mut [u8], from: u64, to: u64) {
 
 // The table with this cut, where each page has one record of twenty bytes at its place.
 fn table(alloc: Global, cut: Lsn, active: Option<u64>, places: &[u64]) -> Result<Snapshot> {
+    table_of(alloc, cut, active, places, 20)
+}
+
+// The same with records of another length.
+fn table_of(
+    alloc: Global,
+    cut: Lsn,
+    active: Option<u64>,
+    places: &[u64],
+    len: u64,
+) -> Result<Snapshot> {
     let mut pt = Vec::new(alloc);
     for place in places {
         pt.push(PageState::Present {
-            base: (place.cast_signed(), DiskPtr::Inline(*place), 20),
+            base: (place.cast_signed(), DiskPtr::Inline(*place), len),
             frags: Vec::new(alloc),
         })?;
     }
