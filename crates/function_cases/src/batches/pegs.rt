@@ -1,5 +1,5 @@
-//! Where a batch may end: in any record from its manifest on, which may be the manifest's own or one that was aborted, and in
-//! nothing that fills a segment, whatever of that is on the device.
+//! Where a batch may end: in any record from its manifest on, which may be the manifest's own or one that was aborted, or in the
+//! header of a segment; but in nothing that fills a segment, whatever of that is on the device.
 //!
 //! All places are worked out by hand. The header of a segment has 20 bytes and a manifest 24; a message has 9 bytes and its item.
 //! A record begins where at least 32 bytes of its segment are left. A place is also the offset in the file.
@@ -15,6 +15,7 @@ use std::alloc::Global;
 pub fn hold(alloc: Global) -> Result<bool> {
     Ok(
         of_no_messages(alloc)?
+            && over_one_given_up(alloc)?
             && torn_without_messages(alloc)?
             && up_to_an_aborted_one(alloc)?
             && torn_with_an_aborted_one(alloc)?
@@ -35,7 +36,25 @@ fn of_no_messages(alloc: Global) -> Result<bool> {
 fn ends_in_its_own_record(alloc: Global, writer: &mut Writer) -> Result<bool> {
     writer.make(alloc, Part::Manifest(43))?;
     let is_told = tells(writer, &[(19, false), (20, true), (43, true), (44, false)]);
-    Ok(is_told && is_ended(writer, 43)? && is_flushed(writer, 44)?)
+    Ok(is_told && is_ended(writer, 20, 43)? && is_flushed(writer, 44)?)
+}
+
+// Two manifests, of which the second one gets its own place, 44, as the peg. So it begins no batch, and that of the first one
+// may end behind it.
+fn over_one_given_up(alloc: Global) -> Result<bool> {
+    let mut writer = Writer::new(alloc, begun(alloc, 256)?);
+    let came = ends_over_one_given_up(alloc, &mut writer);
+    let mut config = writer.end();
+    let wanted = table(alloc, 68, Some(0), &[])?;
+    Ok(came? && finds(&mut config, &wanted)? && finds(&mut config, &wanted)?)
+}
+
+fn ends_over_one_given_up(alloc: Global, writer: &mut Writer) -> Result<bool> {
+    writer.make(alloc, Part::Manifest(67))?;
+    writer.make(alloc, Part::Manifest(44))?;
+    let is_given_up = is_ended(writer, 44, 44)?;
+    let is_told = tells(writer, &[(43, true), (44, true), (67, true), (68, false)]);
+    Ok(is_given_up && is_told && is_ended(writer, 20, 67)? && is_flushed(writer, 68)?)
 }
 
 // A message that is in no batch follows in the second buffer. The peg, 183, has seven bytes of zeros, so the manifest is there
@@ -79,7 +98,7 @@ fn ends_in_an_aborted_one(alloc: Global, writer: &mut Writer) -> Result<bool> {
             && is_aborted
             && is_ready
             && is_told
-            && is_ended(writer, 83)?
+            && is_ended(writer, 20, 83)?
             && is_flushed(writer, 84)?,
     )
 }
@@ -126,10 +145,14 @@ fn in_front_of_zeros(alloc: Global) -> Result<bool> {
             (243, true),
             (244, false),
             (255, false),
+            (256, true),
+            (275, true),
             (276, true),
             (495, true),
             (496, false),
             (511, false),
+            (512, true),
+            (531, true),
             (532, true),
             (551, true),
             (552, false),
@@ -154,10 +177,14 @@ fn in_front_of_caps(alloc: Global) -> Result<bool> {
             (463, true),
             (464, false),
             (511, false),
+            (512, true),
+            (531, true),
             (532, true),
             (951, true),
             (952, false),
             (1023, false),
+            (1024, true),
+            (1043, true),
             (1044, true),
             (1127, true),
             (1128, false),
@@ -226,7 +253,7 @@ fn is_told_throughout(
             && is_told
             && is_told_behind
             && tells(writer, filling.told)
-            && is_ended(writer, peg)?
+            && is_ended(writer, 20, peg)?
             && is_flushed(writer, filling.end)?,
     )
 }
@@ -265,8 +292,8 @@ fn tells(writer: &Writer, told: &[(Lsn, bool)]) -> bool {
     is_so
 }
 
-// Ends the manifest, which is at place 20 in each log, and says whether that is what the log answers. It is all that is open.
-fn is_ended(writer: &mut Writer, peg: Lsn) -> Result<bool> {
+// Ends the manifest that was reserved last, and says whether the log answers with this place.
+fn is_ended(writer: &mut Writer, at: u64, peg: Lsn) -> Result<bool> {
     let Some((_, ticket)) = writer.tickets.pop() else {
         return Ok(false);
     };
@@ -278,7 +305,7 @@ fn is_ended(writer: &mut Writer, peg: Lsn) -> Result<bool> {
         return Ok(false);
     }
     let (place, pointer) = writer.log.mark_writebatch(ticket, peg)?;
-    Ok(place == 20 && pointer == DiskPtr::Inline(20))
+    Ok(place == at.cast_signed() && pointer == DiskPtr::Inline(at))
 }
 
 // Whether nothing is stable in front of the flush, and all up to this place behind it.
