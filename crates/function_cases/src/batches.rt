@@ -13,7 +13,7 @@
 //! Behind each set of whole buffers a second recovery has to find the same, and so has one that has a snapshot of the durable
 //! records. Behind torn buffers that isn't tried.
 //!
-//! `logged` has the log itself make two of the files, and writes its buffers in each order.
+//! `logged` has the log itself make some of the files, and writes its buffers in each order; `pegs` asks where a batch may end.
 
 use crate::batches::parts::{Part, text_of};
 use case_lines::devices::log_of;
@@ -26,6 +26,7 @@ use std::alloc::Global;
 
 mod logged;
 mod parts;
+mod pegs;
 
 /// Whether each recovery finds what it has to.
 pub fn hold(alloc: Global) -> Result<bool> {
@@ -35,7 +36,8 @@ pub fn hold(alloc: Global) -> Result<bool> {
             && over_two_segments(alloc)?
             && over_three_segments(alloc)?
             && one_behind_another(alloc)?
-            && over_a_whole_segment(alloc)?,
+            && over_a_whole_segment(alloc)?
+            && pegs::hold(alloc)?,
     )
 }
 
@@ -191,58 +193,64 @@ fn one_behind_another(alloc: Global) -> Result<bool> {
     Ok(holds(alloc, &case)? && logged::holds(alloc, &case)?)
 }
 
-// The batch has all of the second segment, with a message that was aborted, and its last message in the third one. The peg is
-// 551, and a message follows in the last buffer.
+// The pages 3 to 12 and a message that was aborted have all of the second segment.
+const WHOLE_SEGMENT: [(usize, u64, Part, u64); 19] = [
+    (0, 160, Part::Page(0), 180),
+    (0, 180, Part::Manifest(551), 198),
+    (0, 204, Part::Page(1), 224),
+    (0, 224, Part::Page(2), 244),
+    (1, 256, Part::Header, 276),
+    (1, 276, Part::Page(3), 296),
+    (1, 296, Part::Page(4), 316),
+    (1, 316, Part::Canceled, 336),
+    (1, 336, Part::Page(5), 356),
+    (1, 356, Part::Page(6), 376),
+    (1, 376, Part::Page(7), 396),
+    (2, 396, Part::Page(8), 416),
+    (2, 416, Part::Page(9), 436),
+    (2, 436, Part::Page(10), 456),
+    (2, 456, Part::Page(11), 476),
+    (2, 476, Part::Page(12), 496),
+    (3, 512, Part::Header, 532),
+    (3, 532, Part::Page(13), 552),
+    (3, 552, Part::Page(14), 572),
+];
+
+// Up to the peg nothing behind the first message counts.
+const FOUND_OF_WHOLE_SEGMENT: [(Lsn, Option<u64>, usize); 20] = [
+    (160, Some(0), 0),
+    (180, Some(0), 1),
+    (180, Some(0), 1),
+    (180, Some(0), 1),
+    (180, Some(0), 1),
+    (180, Some(0), 1),
+    (180, Some(0), 1),
+    (180, Some(0), 1),
+    (180, Some(0), 1),
+    (180, Some(0), 1),
+    (180, Some(0), 1),
+    (180, Some(0), 1),
+    (180, Some(0), 1),
+    (180, Some(0), 1),
+    (180, Some(0), 1),
+    (180, Some(0), 1),
+    (180, Some(0), 1),
+    (180, Some(0), 1),
+    (552, Some(512), 14),
+    (572, Some(512), 15),
+];
+
+// The batch has all of the second segment, and its last message in the third one. The peg is 551, and a message follows in the
+// last buffer.
 fn over_a_whole_segment(alloc: Global) -> Result<bool> {
     let case = Case {
         len: 768,
-        parts: &[
-            (0, 160, Part::Page(0), 180),
-            (0, 180, Part::Manifest(551), 198),
-            (0, 204, Part::Page(1), 224),
-            (0, 224, Part::Page(2), 244),
-            (1, 256, Part::Header, 276),
-            (1, 276, Part::Page(3), 296),
-            (1, 296, Part::Page(4), 316),
-            (1, 316, Part::Canceled, 336),
-            (1, 336, Part::Page(5), 356),
-            (1, 356, Part::Page(6), 376),
-            (1, 376, Part::Page(7), 396),
-            (2, 396, Part::Page(8), 416),
-            (2, 416, Part::Page(9), 436),
-            (2, 436, Part::Page(10), 456),
-            (2, 456, Part::Page(11), 476),
-            (2, 476, Part::Page(12), 496),
-            (3, 512, Part::Header, 532),
-            (3, 532, Part::Page(13), 552),
-            (3, 552, Part::Page(14), 572),
-        ],
+        parts: &WHOLE_SEGMENT,
         buffers: &[(160, 244), (256, 396), (396, 496), (512, 572)],
         messages: &[
             160, 204, 224, 276, 296, 336, 356, 376, 396, 416, 436, 456, 476, 532, 552,
         ],
-        found: &[
-            (160, Some(0), 0),
-            (180, Some(0), 1),
-            (180, Some(0), 1),
-            (180, Some(0), 1),
-            (180, Some(0), 1),
-            (180, Some(0), 1),
-            (180, Some(0), 1),
-            (180, Some(0), 1),
-            (180, Some(0), 1),
-            (180, Some(0), 1),
-            (180, Some(0), 1),
-            (180, Some(0), 1),
-            (180, Some(0), 1),
-            (180, Some(0), 1),
-            (180, Some(0), 1),
-            (180, Some(0), 1),
-            (180, Some(0), 1),
-            (180, Some(0), 1),
-            (552, Some(512), 14),
-            (572, Some(512), 15),
-        ],
+        found: &FOUND_OF_WHOLE_SEGMENT,
     };
     Ok(holds(alloc, &case)? && logged::holds(alloc, &case)?)
 }
@@ -398,10 +406,21 @@ fn clear(bytes: &mut [u8], from: u64, to: u64) {
 
 // The table with this cut, where each page has one record of twenty bytes at its place.
 fn table(alloc: Global, cut: Lsn, active: Option<u64>, places: &[u64]) -> Result<Snapshot> {
+    table_of(alloc, cut, active, places, 20)
+}
+
+// The same with records of another length.
+fn table_of(
+    alloc: Global,
+    cut: Lsn,
+    active: Option<u64>,
+    places: &[u64],
+    len: u64,
+) -> Result<Snapshot> {
     let mut pt = Vec::new(alloc);
     for place in places {
         pt.push(PageState::Present {
-            base: (place.cast_signed(), DiskPtr::Inline(*place), 20),
+            base: (place.cast_signed(), DiskPtr::Inline(*place), len),
             frags: Vec::new(alloc),
         })?;
     }

@@ -81,7 +81,7 @@ fn recovers(
     written: &[u64],
     buffer: u64,
 ) -> Result<bool> {
-    let log = begun(alloc)?;
+    let log = begun(alloc, 256)?;
     let mut writer = Writer::new(alloc, log);
     let came = writer.run(alloc, case, written, buffer, ends);
     let mut config = writer.end();
@@ -105,11 +105,11 @@ fn torn(alloc: Global, case: &Case<'_>, ends: &[u64], buffer: u64) -> Result<Cho
     Ok(Choice::New(patch))
 }
 
-// A log on an empty device, with segments of 256 bytes.
-fn begun(alloc: Global) -> Result<Log<MemDevice, PlaceSum>>
+/// A log on an empty device, with segments of this size.
+pub fn begun(alloc: Global, size: u64) -> Result<Log<MemDevice, PlaceSum>>
     ensures { IfOk result (λ log. pins_of log ≡ 0) }
 {
-    let Some(size) = Config::new(256) else {
+    let Some(size) = Config::new(size) else {
         return Err(Error::Corruption { at: None });
     };
     let config = RunningConfig::new(alloc, size, MemDevice::new(alloc), PlaceSum);
@@ -119,24 +119,26 @@ fn begun(alloc: Global) -> Result<Log<MemDevice, PlaceSum>>
     }
 }
 
-// A log that makes the parts of a case. It is to be ended.
-struct Writer {
-    log: Log<MemDevice, PlaceSum>,
+/// A log that makes the parts of a case. It is to be ended.
+pub struct Writer {
+    /// The log.
+    pub log: Log<MemDevice, PlaceSum>,
+    /// Those that are open, with what they are of.
+    pub tickets: Vec<(Part, Reservation)>,
     guard: Guard,
-    // Those that are open, with what they are of.
-    tickets: Vec<(Part, Reservation)>,
 }
 
 impl Writer {
-    fn new(alloc: Global, log: Log<MemDevice, PlaceSum>) -> Writer
+    /// One that has made nothing yet.
+    pub fn new(alloc: Global, log: Log<MemDevice, PlaceSum>) -> Writer
         requires { pins_of log ≡ 0 }
     {
         let mut log = log;
         let guard = log.pin();
         Writer {
             log,
-            guard,
             tickets: Vec::new(alloc),
+            guard,
         }
     }
 
@@ -204,8 +206,8 @@ impl Writer {
         self.end_all()
     }
 
-    // Reserves what a part needs. The log makes headers itself, and no log makes a cap of so many bytes.
-    fn make(&mut self, alloc: Global, part: Part) -> Result<()> {
+    /// Reserves what a part needs. The log makes headers itself, and no log makes a cap of so many bytes.
+    pub fn make(&mut self, alloc: Global, part: Part) -> Result<()> {
         match part {
             Part::Header | Part::Cap => Ok(()),
             Part::Manifest(_) => {
@@ -216,7 +218,8 @@ impl Writer {
         }
     }
 
-    fn reserve<T: Serialize>(
+    /// Reserves the record of a part with this item.
+    pub fn reserve<T: Serialize>(
         &mut self,
         kind: LogKind,
         page: PageId,
@@ -250,7 +253,8 @@ impl Writer {
         Ok(())
     }
 
-    fn end_one(&mut self, part: Part, ticket: Reservation) -> Result<()> {
+    /// Ends the reservation of a part.
+    pub fn end_one(&mut self, part: Part, ticket: Reservation) -> Result<()> {
         if !self.log.is_open(&ticket) {
             ticket.abandon();
             return Err(Error::Corruption { at: None });
@@ -289,12 +293,12 @@ impl Writer {
         Ok(())
     }
 
-    // Gives all up, and writes nothing.
-    fn end(self) -> RunningConfig<MemDevice, PlaceSum> {
+    /// Gives all up, and writes nothing.
+    pub fn end(self) -> RunningConfig<MemDevice, PlaceSum> {
         let Writer {
             log,
-            guard,
             mut tickets,
+            guard,
         } = self;
         guard.abandon();
         while let Some((_, ticket)) = tickets.pop() {
