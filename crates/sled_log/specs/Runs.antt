@@ -1,16 +1,14 @@
 -- What runs of commands come to: what each command does to the device, what it is answered, and where the run stands then.
-use Rattle.std.specs.Prelude.{◌≡◌, ◌⊎◌, ◌↔◌, ◌+◌, ◌≤◌, ◌≤ℤ◌, ◌<ℤ◌, ◌<◌, ◌%◌, ◌^◌, ◌==◌, ◌∷◌, ◌++◌, nat_lt, ℕ, ℤ, pos, max, set, if◌then◌else◌, Bool, true, false, IsTrue, IsSome, List, [], length, map, drop, slice_get, Option, None, Some, Vec}
+use Rattle.std.specs.Prelude.{◌≡◌, ◌⊎◌, ◌↔◌, ◌+◌, ◌≤◌, ◌≤ℤ◌, ◌<ℤ◌, ◌<◌, ◌%◌, ◌^◌, ◌∷◌, ◌++◌, nat_lt, ℕ, ℤ, pos, max, if◌then◌else◌, Bool, true, false, IsTrue, IsSome, List, [], length, map, drop, Option, None, Some, Vec}
 use Rattle.std.specs.List.{All}
 use Rattle.std.specs.declared.alloc.Global.{Global}
 use Rattle.std.specs.declared.io.Error.{Error as IoError}
-use Rattle.sled_codec.specs.declared.result.DiskPtr.{DiskPtr}
 use Rattle.sled_codec.specs.declared.result.Error.{Error}
 use Rattle.sled_codec.specs.declared.result.Error.TheVariants.{Held, Io, NotReserved, OutOfMemory, PlacesUsedUp}
-use Rattle.sled_codec.specs.declared.serialization.message.LogKind.{LogKind}
 use Rattle.sled_codec.specs.declared.serialization.message.LogKind.TheVariants as does
 use Rattle.sled_codec.specs.Spelling.{short_bytes}
 use Rattle.sled_codec.specs.Snapshots.{SnapshotModel, stable_place}
-use Rattle.sled_codec.specs.History.{Message, History, Step, Completed}
+use Rattle.sled_codec.specs.History.{Message}
 use Rattle.sled_store.specs.declared.device.choice.Choice.{Choice}
 use Rattle.sled_store.specs.Device.{Event, Left, Trace, State, Synced, NamesSynced, Crashed, Settled, state_of, content_of, content_left}
 use Rattle.sled_store.specs.Answers.{is_fault}
@@ -20,14 +18,11 @@ use Rattle.sled_store.specs.Script.{Performs, after_all}
 use Rattle.sled_store.specs.Begin.{IsStartable, IsInReach}
 use Rattle.sled_store.specs.Started.{started}
 use Rattle.sled_store.specs.Causes.{StartRefuses}
-use Rattle.sled_core.specs.Buffers.{most_open}
 use Rattle.sled_core.specs.Causes.{IsFault}
 use Rattle.sled_core.specs.declared.iobuf.SegmentPosition.{SegmentPosition}
 use Rattle.sled_core.specs.Fits.{IsKept}
 use Rattle.sled_core.specs.Manifests.{manifest_page}
 use Rattle.sled_core.specs.OpenBatches.{behind_batch, not_whole, stable_below}
-use Rattle.sled_core.specs.OpenPlaces.{places_from}
-use Rattle.sled_core.specs.Positions.{Position, behind_record}
 use Rattle.sled_core.specs.SealedBuffers.{writing}
 use Rattle.sled_core.specs.Stable.{behind_place}
 use Rattle.sled_core.specs.Waiting.{BufferAt, BufferStart, HasLength, Span, spans, unless_held, write_around, write_pending}
@@ -40,7 +35,7 @@ use Rattle.sled_log.specs.declared.session.command.Reply.{Reply}
 use Rattle.sled_log.specs.declared.session.command.Reply.TheVariants as reply
 use Rattle.sled_log.specs.Recovery.{RecoveryResult, Recovered, Recovers}
 use Rattle.sled_log.specs.Refusals.{reason_of, refusal_for}
-use Rattle.sled_log.specs.RunStates.{DeviceView, EndsInReach, LogView, RunState, ShowsActive, first_waiting, held, held_among, is_behind, is_present, length_of, message_at, opens, page_now, places_without, recovered, sealed_around, sealed_below, spans_below, spans_from, spans_place, spans_without, stable_of, start_around, start_below, start_with, started_on, target_in, waiting_with, with_log, without_unheld}
+use Rattle.sled_log.specs.RunStates.{DeviceView, EndsInReach, LogView, RunState, ShowsActive, first_waiting, held, held_among, is_present, length_of, opens, page_now, recovered, sealed_around, sealed_below, spans_below, spans_from, spans_place, spans_without, stable_of, start_around, start_below, started_on, with_log, without_unheld}
 use Rattle.sled_log.specs.TicketSteps.{AbortStep, CompleteStep, EndStep, ReserveStep, blank_manifest}
 use Rattle.sled_log.specs.WritesBack.{HasWrittenBack}
 use Rattle.sled_log.specs.Restores.{RecoveryCalls}

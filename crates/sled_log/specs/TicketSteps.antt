@@ -1,5 +1,5 @@
 -- What the commands come to that keep places for messages, complete these, give them up, and begin and end batches.
-use Rattle.std.specs.Prelude.{◌≡◌, ◌+◌, ◌-◌, ◌<◌, ◌==◌, ◌∷◌, ◌++◌, ℕ, ℤ, pos, set, if◌then◌else◌, List, [], length, slice_get, Option, None, Some}
+use Rattle.std.specs.Prelude.{◌≡◌, ◌+◌, ◌-◌, ◌<◌, ◌==◌, ◌∷◌, ◌++◌, ℕ, ℤ, pos, set, if◌then◌else◌, List, [], length, slice_get, None, Some}
 use Rattle.sled_codec.specs.declared.result.DiskPtr.{DiskPtr}
 use Rattle.sled_codec.specs.declared.result.Error.TheVariants.{Held, Io, OutOfMemory, PlacesUsedUp}
 use Rattle.sled_codec.specs.declared.serialization.message.LogKind.{LogKind}

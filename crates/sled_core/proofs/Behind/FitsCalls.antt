@@ -60,7 +60,7 @@ module _ (sum : List ℕ → ℕ) (size : ℕ) (site : SegmentPosition) (device 
   -- It is filled to its end.
   pub behind-fits-filled : length s.bytes < size → s.site.place / size < 2 ^ 64
       → FitsIn sum (log_parts size site device fault bytes from bs rs)
-          (pre ++ filled_at (Some (length s.bytes)) (now_with s (s.bytes ++ segment_rest sum size (s.site.place / size) (length s.bytes)) s.written_len s.sealed (s.reserved ++ padding_at size (length s.bytes) ∷ [])) ∷ post) reach pins H A f U
+      (pre ++ filled_at (Some (length s.bytes)) (now_with s (s.bytes ++ segment_rest sum size (s.site.place / size) (length s.bytes)) s.written_len s.sealed (s.reserved ++ padding_at size (length s.bytes) ∷ [])) ∷ post) reach pins H A f U
   behind-fits-filled less small =
       let rest : List ℕ = segment_rest sum size (s.site.place / size) (length s.bytes) in
       let filled : SegmentParts = now_with s (s.bytes ++ rest) s.written_len s.sealed (s.reserved ++ padding_at size (length s.bytes) ∷ []) in

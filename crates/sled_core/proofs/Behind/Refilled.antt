@@ -1,6 +1,5 @@
 -- Where what fills a segment behind the first one begins is noted, while that isn't full on the device: what a log holds it holds then, and what it fits it fits.
-use Rattle.std.proofs.Common.{◌≡◌, ◌<◌, ◌+◌, ◌∙◌, ℕ, List, ◌∷◌, ◌++◌, map, Option, refl, sym, ap, subst, arith, inl, inr}
-use Rattle.std.specs.List.{Contains}
+use Rattle.std.proofs.Common.{◌<◌, ◌+◌, ◌∙◌, ℕ, List, ◌∷◌, ◌++◌, map, Option, refl, sym, ap, subst, arith, inl, inr}
 use Rattle.std.specs.declared.io.Error.{Error as IoError}
 use Rattle.std.proofs.lemmas.List.{map-append}
 use Rattle.std.proofs.lemmas.List.Elements.{Contains-append_right}

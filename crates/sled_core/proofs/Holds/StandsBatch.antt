@@ -1,6 +1,6 @@
 -- A log file that stands up to a place does so for the history with one more batch, which is to begin behind what is written of one of the segments that were begun.
 use Rattle.std.proofs.lemmas.Bool.{cases_lt}
-use Rattle.std.proofs.Common.{◌≢◌, ◌/◌, ◌*◌, ⊎_elim, ◌≡◌, ◌⊎◌, ◌∙◌, ◌+◌, ◌<◌, ◌<ℤ◌, ◌%◌, ◌≤◌, ℕ, pos, List, sym, ap, subst, arith, inl, inr}
+use Rattle.std.proofs.Common.{◌≢◌, ⊎_elim, ◌≡◌, ◌⊎◌, ◌∙◌, ◌+◌, ◌<◌, ◌<ℤ◌, ◌%◌, ◌≤◌, ℕ, pos, List, sym, ap, subst, arith, inl, inr}
 use Rattle.std.specs.List.{Contains}
 use Rattle.sled_codec.specs.History.{AddsBatch, Batch, History, Message, table}
 use Rattle.sled_codec.specs.Snapshots.{SnapshotModel}
@@ -13,7 +13,7 @@ use Rattle.sled_core.specs.declared.iterator.Segment.{Segment}
 use Rattle.sled_core.specs.declared.iterator.scan.ScannedRecord.{ScannedRecord}
 use Rattle.sled_core.specs.declared.iterator.scan.ScanEnd.TheVariants.{Broken, Capped}
 use Rattle.sled_core.specs.Reached.{BegunSegment, ReachesIn, StandsAmong, StandsTo}
-use Rattle.sled_core.specs.Recoverable.{NothingBehind, LiesInSegment, BeginsInSegment, IsMarkBelow, IsMarkOf, IsOfHistory, IsPlacedBatch, IsSegmentOf, NoBatchBegins, NoHeaderOfZeros, NoMessageBegins, StandsInline}
+use Rattle.sled_core.specs.Recoverable.{NothingBehind, BeginsInSegment, IsMarkBelow, IsMarkOf, IsOfHistory, IsPlacedBatch, IsSegmentOf, NoBatchBegins, NoHeaderOfZeros, NoMessageBegins, StandsInline}
 use Rattle.sled_core.specs.SealedBuffers.{AreZeros}
 use Rattle.sled_core.specs.Scan.{IsFoundSegment, IsScan}
 use Rattle.sled_core.specs.Tail.{least_place, Scanned}

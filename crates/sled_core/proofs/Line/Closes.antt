@@ -100,8 +100,8 @@ module _ (sum : List ℕ → ℕ) (size : ℕ) where
   closed_records v short unfilled whole = by_filled (λ (x : SegmentView). records_to (sealed_now x).parts.filled size ≤ records_end (sealed_now x).parts.reserved size) v
       (λ less. let more = records_more v.parts.reserved (padding_at size (length v.parts.bytes)) (length v.parts.bytes) size short (omega arith) in omega (arith, more, whole))
       (λ full.
-        let all = subst (λ n. n ≤ records_end v.parts.reserved n) (let long : length v.parts.bytes ≡ size = omega (arith, full, short) in long) whole in
-        omega (arith, all, unfilled_to v.parts.filled size unfilled))
+      let all = subst (λ n. n ≤ records_end v.parts.reserved n) (let long : length v.parts.bytes ≡ size = omega (arith, full, short) in long) whole in
+      omega (arith, all, unfilled_to v.parts.filled size unfilled))
 
   pub closed_ends : (to to' : ℕ) (v : SegmentView) → length v.parts.bytes ≤ size → to ≤ v.parts.site.place + length v.parts.bytes → IsUnfilled v.parts.filled → (to' ≡ to) ⊎ (v.parts.site.place + size < to') → LiesBehind size to' (closed_now sum size v)
   closed_ends to to' v short low unfilled moved = by_filled (λ (x : SegmentView). LiesBehind size to' (sealed_now x)) v

@@ -1,17 +1,17 @@
 -- What fills the segments of a log, and which places lie in nothing of that.
-use Rattle.std.proofs.Common.{◌≡◌, ◌⊎◌, ◌∙◌, ◌<◌, ◌≤◌, ◌+◌, ◌*◌, ◌<ℤ◌, ◌≤ℤ◌, ◌-ℤ◌, sym, ap, arith, subst, inl, inr, ℕ, zero, suc, pos, List, [], ◌∷◌, length, map, Some}
+use Rattle.std.proofs.Common.{◌≡◌, ◌⊎◌, ◌∙◌, ◌<◌, ◌≤◌, ◌+◌, ◌*◌, ◌<ℤ◌, ◌-ℤ◌, sym, ap, arith, subst, inl, inr, ℕ, zero, suc, pos, List, [], ◌∷◌, length, Some}
 use Rattle.std.specs.List.{slice_get}
 use Rattle.std.proofs.Math.Nat.{suc-mul}
 use Rattle.std.proofs.lemmas.Bool.{cases_lt, cases_order}
 use Rattle.std.proofs.lemmas.Int.{ints}
 use Rattle.sled_core.specs.Batches.{LiesInNoFilling}
-use Rattle.sled_core.specs.Begun.{AreFilled, SegmentView, records_to, segment_view, view_at}
+use Rattle.sled_core.specs.Begun.{AreFilled, SegmentView, records_to}
 use Rattle.sled_core.specs.Buffers.{records_end}
 use Rattle.sled_core.specs.declared.logger.Log.{Log}
 use Rattle.sled_core.specs.Fits.{line_of, reserved_end, segment_size_of}
 use Rattle.sled_core.proofs.Holds.PegLemmas.{IsOff, LiesOff}
 use Rattle.sled_core.proofs.Line.Entered.{unfilled_to}
-use Rattle.sled_core.proofs.Line.Facts.{IsSegment, nth_facts}
+use Rattle.sled_core.proofs.Line.Facts.{nth_facts}
 use Rattle.sled_core.proofs.Line.Segments.{AreSegments, line_segments}
 
 -- The records of a segment go up to what fills it, if anything does.

@@ -24,8 +24,8 @@ impl<D: Device, C: Checksum> Log<D, C> {
     /// the device. With the manifest's own place as the peg there is no batch, and the manifest is given up as by `abort`.
     /// Returns the place and the pointer of the manifest. It takes no memory.
     ///
-    /// The peg lies in a record, mostly in that of the batch's last message; that may be the manifest's own, for a batch of no
-    /// messages, or one that was given up.
+    /// The peg lies mostly in the record of the batch's last message. It may lie in the manifest's own, for a batch of no messages, in
+    /// one that was given up, and in the header of a segment, but not in what fills one behind its records.
     ///
     /// # Errors
     ///
@@ -54,8 +54,8 @@ impl<D: Device, C: Checksum> Log<D, C> {
     }
 
     /// Returns whether the batch of a ticket's manifest may end at a place, as `mark_writebatch` asks: the place isn't below the
-    /// manifest, was reserved, and lies in a record, so in nothing that fills a segment; and up to there no batch has a place that
-    /// isn't wholly on the device.
+    /// manifest, was reserved, and lies in nothing that fills a segment behind its records; and it has no place in common with a
+    /// batch that was noted and isn't wholly on the device.
     pub fn may_end_at(&self, ticket: &Reservation, peg: Lsn) -> bool
         ensures { IsTrue result ↔ MayEndAt self.now ticket.now peg }
     {

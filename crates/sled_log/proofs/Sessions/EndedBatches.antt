@@ -1,11 +1,11 @@
 -- What it comes to where a batch is ended.
-use Rattle.std.proofs.Common.{◌≡◌, ◌≢◌, ◌∙◌, ◌<◌, ◌≤◌, ◌&&◌, ◌-◌, ◌+◌, ◌-ℤ◌, ◌<ℤ◌, ◌≤ℤ◌, ◌++◌, ◌∷◌, [], int_lt, unsigned_abs, ⊎_elim, inl, inr, ℕ, ℤ, pos, zero, suc, Bool, true, false, not, if◌then◌else◌, List, length, map, set, refl, sym, ap, subst, arith, Option, None, Some, Err}
+use Rattle.std.proofs.Common.{◌≡◌, ◌≢◌, ◌∙◌, ◌<◌, ◌≤◌, ◌&&◌, ◌-◌, ◌+◌, ◌-ℤ◌, ◌<ℤ◌, ◌++◌, ◌∷◌, [], int_lt, unsigned_abs, ⊎_elim, inl, ℕ, ℤ, pos, zero, suc, Bool, true, false, not, if◌then◌else◌, List, length, map, set, refl, sym, ap, subst, arith, Option, None, Some, Err}
 use Rattle.std.specs.List.{All, slice_get}
 use Rattle.std.proofs.lemmas.Int.{ints}
 use Rattle.sled_codec.specs.declared.result.DiskPtr.{DiskPtr}
 use Rattle.sled_codec.specs.declared.result.Error.{Error}
 use Rattle.sled_codec.specs.declared.result.Error.TheVariants as error
-use Rattle.sled_codec.specs.History.{AddsBatch, Batch, Batched, History, Message, Step}
+use Rattle.sled_codec.specs.History.{Batch, Batched, History, Message, Step}
 use Rattle.sled_codec.specs.PageTables.{IsTable}
 use Rattle.sled_codec.specs.Snapshots.{page_of}
 use Rattle.sled_core.specs.declared.logger.Log.{Log}
@@ -27,7 +27,7 @@ use Rattle.sled_log.specs.declared.session.command.Refusal.TheVariants as why
 use Rattle.sled_log.specs.declared.session.command.Reply.TheVariants as reply
 use Rattle.sled_log.specs.Endings.{TakesTicket}
 use Rattle.sled_log.specs.Refusals.{when}
-use Rattle.sled_log.specs.RunPhases.{Does, HasBatch, HasTickets, IsOpenAt, IsTicketFor, Unstored, seen, stands, traces}
+use Rattle.sled_log.specs.RunPhases.{Does, HasBatch, IsOpenAt, IsTicketFor, Unstored, seen, traces}
 use Rattle.sled_log.specs.RunStates.{DeviceView, LogView, in_batch, opens, places_without, top}
 use Rattle.sled_log.specs.TicketSteps.{HasBegun, IsAnswerFor, batch_of, noting, spent}
 use Rattle.sled_log.proofs.Sessions.EndedTickets.{awaits_it, ended_open, failed_leads, failed_open, left, now, outstanding}

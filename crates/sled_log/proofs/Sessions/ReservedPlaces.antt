@@ -1,51 +1,24 @@
 -- What a reservation seals, and where its record is put, as a caller sees it.
-use Rattle.std.proofs.Common.{◌≡◌, ◌∙◌, ◌≤◌, ◌<◌, ◌+◌, ◌-◌, ◌*◌, ◌^◌, ◌==◌, ◌⊎◌, inl, inr, ℕ, ℤ, pos, zero, suc, Bool, true, false, if◌then◌else◌, List, [], ◌∷◌, ◌++◌, length, map, set, get_or, Option, Some, None, Err, refl, sym, ap, subst, arith, length-append}
-use Rattle.std.specs.List.{All, slice_get}
+use Rattle.std.proofs.Common.{◌≡◌, ◌∙◌, ◌≤◌, ◌<◌, ◌+◌, ◌-◌, ◌*◌, ◌^◌, ◌⊎◌, inl, inr, ℕ, ℤ, Bool, true, false, if◌then◌else◌, List, [], ◌∷◌, ◌++◌, length, map, Option, None, refl, sym, ap, arith}
 use Rattle.std.proofs.lemmas.Bool.Decides.{nat_tests}
 use Rattle.std.proofs.lemmas.Bool.{cases_lt}
-use Rattle.std.proofs.lemmas.List.{get_or-set_other, get_or-set_same, length-map, map-append}
-use Rattle.std.proofs.lemmas.List.Elements.{All-cons, All-contains, All-nil, All-push, All-weaker}
-use Rattle.std.proofs.lemmas.Option.{same_Some}
-use Rattle.std.proofs.Math.ListN.{get_or-eq_default}
-use Rattle.sled_codec.specs.declared.serialization.message.LogKind.{LogKind}
-use Rattle.sled_codec.specs.declared.serialization.message.LogKind.TheVariants as does
-use Rattle.sled_codec.specs.declared.serialization.message.MessageKind.TheVariants.{Counter, InlineMeta, InlineNode}
-use Rattle.sled_codec.specs.declared.result.Error.{Error}
-use Rattle.sled_codec.specs.declared.result.Error.TheVariants as error
-use Rattle.sled_codec.specs.History.{ChangesPage, History, Message}
-use Rattle.sled_core.specs.Manifests.{kind_for}
-use Rattle.sled_codec.specs.PageTables.{IsTable, entry_of, page_with}
-use Rattle.sled_codec.specs.Snapshots.{Free, Page, Present, Uninitialized, page_of}
+use Rattle.sled_codec.specs.History.{Message}
 use Rattle.sled_store.specs.Accounts.{machine_of}
-use Rattle.sled_store.specs.Device.{Trace}
 use Rattle.sled_store.specs.SegmentStates.{Machine, next_slot}
 use Rattle.sled_core.specs.Begun.{SegmentView, begin_of, segment_view, view_at}
 use Rattle.sled_core.specs.Buffers.{most_open}
-use Rattle.sled_core.specs.Causes.{ReserveAnswers}
 use Rattle.sled_core.specs.declared.logger.Log.{Log}
-use Rattle.sled_core.specs.declared.reservation.Reservation.{Reservation}
-use Rattle.sled_core.specs.Fits.{Awaits, AwaitsIn, FitsInline, KeepsAll, IsLeastOpen, IsUnchanged, IsUsedUpFor, current_begin, current_of, fault_of, is_moved, line_of, message_for, next_place, open_for, open_of, open_places, pins_of, position_behind, position_of, reserved_end, segment_size_of, size_for, start_behind, start_of, target_of, waiting_behind, waiting_of}
-use Rattle.sled_core.specs.OpenPlaces.{open_places_along, places_from}
+use Rattle.sled_core.specs.Fits.{FitsInline, IsLeastOpen, IsUsedUpFor, current_begin, current_of, fault_of, is_moved, line_of, next_place, open_for, open_of, open_places, position_of, reserved_end, segment_size_of, start_behind, start_of, waiting_behind, waiting_of}
+use Rattle.sled_core.specs.OpenPlaces.{places_from}
 use Rattle.sled_core.specs.Positions.{Position, is_short, next_segment_at, position_in}
-use Rattle.sled_core.specs.Running.{Fits}
-use Rattle.sled_core.specs.Tickets.{place_of, pointer_of}
-use Rattle.sled_core.specs.Waiting.{at_last, closed_now, last_of, spans, start_in, unwritten}
+use Rattle.sled_core.specs.Waiting.{at_last, closed_now, spans, unwritten}
 use Rattle.sled_core.proofs.Line.Entered.{filled_last}
 use Rattle.sled_core.proofs.Line.Facts.{current_facts}
 use Rattle.sled_core.proofs.Line.Targets.{LiesHere, LiesNext, lies}
-use Rattle.sled_core.proofs.PublicLaws.{awaited, awaited_inline, awaited_small, current_count, current_least, fits_reach, shows_behind, target_above as put_above}
-use Rattle.sled_core.proofs.Reserve.ReserveLemmas.{there_append, there_last}
-use Rattle.sled_store.proofs.Histories.TableParts.{from_page}
-use Rattle.sled_log.specs.declared.session.opened.Opened.{Opened}
-use Rattle.sled_log.specs.declared.session.opened.Ticket.{Ticket}
-use Rattle.sled_log.specs.declared.session.command.Reply.{Reply}
-use Rattle.sled_log.specs.declared.session.command.Reply.TheVariants as reply
-use Rattle.sled_log.specs.declared.session.Phase.TheVariants as phase
-use Rattle.sled_log.specs.Made.{HasReplaceBelow, MayJoin}
-use Rattle.sled_log.specs.Reservations.{HasTried, HoldsTicket, MakesRoom, MayReserve}
-use Rattle.sled_log.specs.RunPhases.{AreRising, HasTickets, IsOpenAt, IsTicketFor, Unstored, device_in, seen, seen_log, stands, traces}
-use Rattle.sled_log.specs.RunStates.{DeviceView, EndsInReach, LogView, RunState, current_span, has_page, is_behind, is_present, next_start, open_messages, page_now, start_with, target_in, top, waiting_with}
-use Rattle.sled_log.specs.TicketSteps.{IsFullOfOpen, ReserveStep, opens_beside}
+use Rattle.sled_core.proofs.PublicLaws.{current_count, current_least, shows_behind, target_above as put_above}
+use Rattle.sled_log.specs.RunPhases.{seen_log}
+use Rattle.sled_log.specs.RunStates.{EndsInReach, LogView, current_span, is_behind, next_start, start_with, target_in, waiting_with}
+use Rattle.sled_log.specs.TicketSteps.{IsFullOfOpen, opens_beside}
 
 -- a test that isn't one answer is the other
 only_true : (b : Bool) → (b ≡ false → ⊥) → b ≡ true

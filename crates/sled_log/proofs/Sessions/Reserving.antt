@@ -1,5 +1,5 @@
 -- What a reservation makes of a session: the tickets with the one that comes, or all as it was.
-use Rattle.std.proofs.Common.{◌≡◌, ◌≢◌, eq-eqb, ◌∙◌, ◌≤◌, ◌<◌, ◌+◌, ◌-◌, ◌*◌, ◌^◌, ◌==◌, ◌⊎◌, inl, inr, ℕ, ℤ, pos, zero, suc, Bool, true, false, if◌then◌else◌, List, [], ◌∷◌, ◌++◌, length, map, set, get_or, Option, Some, None, Err, refl, sym, ap, subst, arith, length-append}
+use Rattle.std.proofs.Common.{◌≡◌, ◌≢◌, eq-eqb, ◌∙◌, ◌≤◌, ◌<◌, ◌+◌, ◌==◌, ◌⊎◌, inl, inr, ℕ, ℤ, pos, zero, suc, Bool, true, false, if◌then◌else◌, List, [], ◌∷◌, ◌++◌, length, map, set, get_or, Option, Some, None, Err, refl, sym, ap, subst, arith, length-append}
 use Rattle.std.specs.List.{All, Contains, slice_get}
 use Rattle.std.proofs.lemmas.Bool.Decides.{nat_tests}
 use Rattle.std.proofs.lemmas.Bool.{cases_lt, ne_eqb}
@@ -16,24 +16,19 @@ use Rattle.sled_codec.specs.History.{Batch, ChangesPage, History, Message}
 use Rattle.sled_core.specs.Manifests.{kind_for, manifest_page}
 use Rattle.sled_codec.specs.PageTables.{IsTable, entry_of, page_with}
 use Rattle.sled_codec.specs.Snapshots.{Free, Page, Present, Uninitialized, page_of}
-use Rattle.sled_store.specs.Accounts.{machine_of}
 use Rattle.sled_store.specs.Device.{Trace}
-use Rattle.sled_store.specs.SegmentStates.{Machine, next_slot}
-use Rattle.sled_core.specs.Begun.{SegmentView, begin_of, segment_view, view_at}
+use Rattle.sled_core.specs.Begun.{SegmentView}
 use Rattle.sled_core.specs.Buffers.{most_open}
 use Rattle.sled_core.specs.Causes.{ReserveAnswers}
 use Rattle.sled_core.specs.declared.logger.Log.{Log}
 use Rattle.sled_core.specs.declared.reservation.Reservation.{Reservation}
-use Rattle.sled_core.specs.Fits.{Awaits, AwaitsIn, FitsInline, KeepsAll, IsLeastOpen, IsUnchanged, IsUsedUpFor, current_begin, current_of, fault_of, is_moved, line_of, message_for, next_place, noted_in, open_for, open_of, open_places, pins_of, position_behind, position_of, reserved_end, segment_size_of, size_for, start_behind, start_of, target_of, waiting_behind, waiting_of}
-use Rattle.sled_core.specs.OpenPlaces.{open_places_along, places_from}
-use Rattle.sled_core.specs.Positions.{Position, is_short, next_segment_at, position_in}
+use Rattle.sled_core.specs.Fits.{Awaits, AwaitsIn, FitsInline, KeepsAll, IsLeastOpen, IsUnchanged, IsUsedUpFor, fault_of, line_of, message_for, next_place, noted_in, open_for, open_places, pins_of, position_behind, position_of, reserved_end, segment_size_of, size_for, start_behind, start_of, target_of, waiting_behind, waiting_of}
+use Rattle.sled_core.specs.OpenPlaces.{open_places_along}
+use Rattle.sled_core.specs.Positions.{position_in}
 use Rattle.sled_core.specs.Running.{Fits}
 use Rattle.sled_core.specs.Tickets.{place_of, pointer_of}
-use Rattle.sled_core.specs.Waiting.{at_last, closed_now, last_of, spans, start_in, unwritten}
-use Rattle.sled_core.proofs.Line.Entered.{filled_last}
-use Rattle.sled_core.proofs.Line.Facts.{current_facts}
-use Rattle.sled_core.proofs.Line.Targets.{LiesHere, LiesNext, lies}
-use Rattle.sled_core.proofs.PublicLaws.{awaited, awaited_inline, awaited_small, current_count, current_least, fits_reach, noted_pegs, shows_behind, target_above as put_above}
+use Rattle.sled_core.specs.Waiting.{last_of, spans, start_in, unwritten}
+use Rattle.sled_core.proofs.PublicLaws.{awaited, awaited_inline, awaited_small, fits_reach, noted_pegs, target_above as put_above}
 use Rattle.sled_core.proofs.Reserve.ReserveLemmas.{there_append, there_last}
 use Rattle.sled_store.proofs.Histories.TableParts.{from_page}
 use Rattle.sled_log.specs.declared.session.opened.Opened.{Opened}
@@ -44,10 +39,10 @@ use Rattle.sled_log.specs.declared.session.Phase.TheVariants as phase
 use Rattle.sled_log.specs.Made.{HasReplaceBelow, MayJoin}
 use Rattle.sled_log.specs.Reservations.{HasTried, HoldsTicket, MakesRoom, MayReserve}
 use Rattle.sled_log.specs.RunPhases.{AreRising, BeginsBatch, HasBatch, HasTickets, IsOpenAt, IsTicketFor, Unstored, device_in, seen, seen_log, stands, traces}
-use Rattle.sled_log.specs.RunStates.{DeviceView, EndsInReach, LogView, RunState, current_span, has_page, is_behind, is_present, next_start, open_messages, page_now, start_with, target_in, top, waiting_with}
-use Rattle.sled_log.specs.TicketSteps.{IsFullOfOpen, ReserveStep, opens_beside}
+use Rattle.sled_log.specs.RunStates.{DeviceView, EndsInReach, LogView, RunState, has_page, is_present, open_messages, page_now, target_in, top}
+use Rattle.sled_log.specs.TicketSteps.{IsFullOfOpen, ReserveStep}
 use Rattle.sled_log.proofs.Sessions.TicketsSeen.{page_has}
-use Rattle.sled_log.proofs.Sessions.ReservedPlaces.{beside_count, beside_least, in_reach, out_of_reach, reserved_below, start_with_seen, target_above, waiting_seen}
+use Rattle.sled_log.proofs.Sessions.ReservedPlaces.{beside_count, beside_least, in_reach, out_of_reach, reserved_below, start_with_seen, waiting_seen}
 
 -- the last of these segments, of which there is one
 abbrev current_in : List SegmentView → SegmentView

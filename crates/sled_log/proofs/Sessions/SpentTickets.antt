@@ -195,8 +195,8 @@ module _ {D C : Type 0} (old new : Opened D C) (H H' : History) (ts : List (Opti
     left (Some b) is ne = (
       is.0,
       set_other ts n b None (λ same.
-      let twice : Some (Some is.0) ≡ Some (Some m) = sym is.1 ∙ ap (slice_get ts) same ∙ there in
-      ne (sym (ap (λ (x : Message). x.page) (same_Some is.0 m (same_Some (Some is.0) (Some m) twice))) ∙ is.2)) ∙ is.1,
+          let twice : Some (Some is.0) ≡ Some (Some m) = sym is.1 ∙ ap (slice_get ts) same ∙ there in
+          ne (sym (ap (λ (x : Message). x.page) (same_Some is.0 m (same_Some (Some is.0) (Some m) twice))) ∙ is.2)) ∙ is.1,
       is.2,
     )
 

@@ -1,5 +1,5 @@
 -- What was reserved ends below 2^63.
-use Rattle.std.proofs.Common.{◌≡◌, ◌-ℤ◌, ◌∙◌, ap, sym, subst, pos, ℕ, ℤ, to_z, of_z, w64, arith}
+use Rattle.std.proofs.Common.{◌≡◌, ◌-ℤ◌, ◌∙◌, ap, sym, subst, pos, ℤ, to_z, of_z, w64, arith}
 use Rattle.std.specs.Prelude.{FitsSigned}
 use Rattle.std.proofs.lemmas.Int.{ints, to_z-of_z, to_z_pos}
 use Rattle.sled_core.specs.declared.logger.Log.{Log}

@@ -1,5 +1,5 @@
 -- The batch that is begun ends with the greatest place that was reserved.
-use Rattle.std.proofs.Common.{◌≡◌, ◌∙◌, ◌<ℤ◌, ◌-ℤ◌, ℕ, ℤ, pos, to_z, of_z, w64, ap, sym, subst, None, Some, Err}
+use Rattle.std.proofs.Common.{◌≡◌, ◌∙◌, ◌-ℤ◌, ℤ, pos, to_z, of_z, w64, ap, sym, subst, Some, Err}
 use Rattle.std.specs.Prelude.{FitsSigned}
 use Rattle.std.proofs.lemmas.Bool.{false≢true}
 use Rattle.std.proofs.lemmas.Int.{to_z-of_z}
@@ -56,7 +56,7 @@ returns-then-not-may_end_at-clause-step g c = λ k at asked.
     ]
 
 pub returns-in-Ok-clause-step : goal.returns-in-Ok-clause-step
-returns-in-Ok-clause-step g c = λ k at asked. 
+returns-in-Ok-clause-step g c = λ k at asked.
     let view = view_by g.D.Device.trace g.D.Device.faults g.D.CrashDevice.is_stopped g.D.CrashDevice.stops_in in
     let sum = g.C.Checksum.sum_of in
     let trace = g.D.Device.trace in

@@ -1,7 +1,5 @@
 use Rattle.std.proofs.Common.{rules, ◌≤◌, ◌≡◌, ◌∙◌, length, set, None, Some, ap, refl, sym, subst, Bool, true, false}
 use Rattle.sled_core.specs.Fits.{IsOpen}
-use Rattle.sled_core.specs.Tickets.{is_manifest_of}
-use Rattle.sled_log.specs.declared.session.opened.Ticket.{Ticket}
 use Rattle.std.specs.List.{slice_get}
 use Rattle.std.proofs.lemmas.List.{set_past}
 use Rattle.std.proofs.lemmas.Option.{slice_get_past, slice_get_read}

@@ -1,6 +1,5 @@
 -- A place is kept for the manifest of a batch, or nothing is done but that room is made.
-use Rattle.std.proofs.Common.{◌≡◌, ◌≤◌, ◌∙◌, ℕ, List, false, None, ap, arith, length, refl, sym}
-use Rattle.std.specs.Prelude.{Result, OnOk, is_err}
+use Rattle.std.proofs.Common.{◌∙◌, ap, arith, length, refl, sym}
 use Rattle.sled_codec.specs.declared.serialization.message.LogKind.TheVariants as does
 use Rattle.sled_core.specs.declared.reservation.Reservation.{Reservation}
 use Rattle.sled_core.specs.Fits.{FitsInline, fault_of, segment_size_of}

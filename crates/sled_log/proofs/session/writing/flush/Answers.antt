@@ -1,5 +1,5 @@
 -- All that was reserved is written and synced, and all completed messages are acknowledged, unless a reservation is open, memory or a further segment is wanting, the device fails, or the log keeps a failure.
-use Rattle.std.proofs.Common.{◌≡◌, ◌<◌, ◌∙◌, ◌+◌, max, ℕ, List, length, arith, subst, sym, refl, ap}
+use Rattle.std.proofs.Common.{◌≡◌, ◌<◌, ◌∙◌, max, ℕ, List, length, arith, subst, sym, refl, ap}
 use Rattle.std.specs.Prelude.{Err}
 use Rattle.sled_store.specs.Device.{Event, state_of}
 use Rattle.sled_store.specs.Script.{Performs, after_all}

@@ -1,13 +1,11 @@
 -- All up to a place is written and synced, unless a reservation of it is open, it wasn't reserved, memory or a further segment is wanting, the device fails, or the log keeps a failure.
-use Rattle.std.proofs.Common.{◌≡◌, ◌<◌, ◌<ℤ◌, ◌+◌, ◌∙◌, pos, max, ℕ, ℤ, to_z, of_z, List, length, subst, sym, ap, refl}
+use Rattle.std.proofs.Common.{◌<◌, ◌<ℤ◌, ◌∙◌, pos, max, ℕ, ℤ, to_z, of_z, List, length, subst, sym, ap, refl}
 use Rattle.std.specs.Int.{w64}
-use Rattle.std.specs.Prelude.{Ok, Err}
 use Rattle.std.proofs.lemmas.Int.{to_z-of_z}
 use Rattle.sled_store.specs.Device.{Event}
 use Rattle.sled_store.specs.Script.{after_all}
-use Rattle.sled_core.specs.Fits.{current_begin, device_of, held_len, stable_end, synced_end}
-use Rattle.sled_core.specs.Keeps.{LeavesAbove, LeavesSome}
-use Rattle.sled_core.specs.Running.{Fits, end_below}
+use Rattle.sled_core.specs.Fits.{current_begin, device_of, held_len, stable_end}
+use Rattle.sled_core.specs.Running.{end_below}
 use Rattle.sled_core.specs.Stable.{target_for}
 use Rattle.sled_core.proofs.Holds.ReachLemmas.{fits_stable}
 use Rattle.sled_log.specs.RunPhases.{Does, view_by}

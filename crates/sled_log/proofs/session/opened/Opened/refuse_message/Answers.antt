@@ -1,5 +1,5 @@
 -- The ticket of the manifest is refused, and of the others those that aren't open.
-use Rattle.std.proofs.Common.{◌≡◌, ◌==◌, ap, arith, eq-eqb, sym, ◌∙◌, ℕ, Bool, true, false, not, Option, None, Some}
+use Rattle.std.proofs.Common.{◌≡◌, ◌==◌, ap, arith, eq-eqb, sym, ◌∙◌, ℕ, Bool, true, not, Option, None, Some}
 use Rattle.std.specs.Option.{option_eq}
 use Rattle.std.proofs.lemmas.Bool.{false≢true}
 use Rattle.std.proofs.lemmas.Bool.Decides.{nat_tests}
