@@ -5,11 +5,13 @@ pub mod Endings
 pub mod MadeBatches
 pub mod MadeHistories
 pub mod MadePages
+pub mod MadeStable
 pub mod MadeTables
+pub mod MoreTickets
 pub mod NotedSeen
 pub mod Reading
-pub mod Reserving
 pub mod ReservedPlaces
+pub mod Reserving
 pub mod RunHistories
 pub mod RunLemmas
 pub mod RunLogs

@@ -65,6 +65,7 @@ impl Opened {
             "read" => self.read(words.number(), words.signed(), words.pointer(), out),
             "pins" => out.text.number(self.log.pins()),
             "stable" => out.text.signed(self.log.stable_offset()),
+            "reserved" => out.text.signed(self.log.reserved_offset()),
             "none_open" => out.text.truth(self.log.none_open()),
             _ => words.bad("no such call of a log"),
         }

@@ -10,7 +10,8 @@ use Rattle.sled_core.specs.Stable.{target_for}
 use Rattle.sled_core.proofs.Holds.ReachLemmas.{fits_stable}
 use Rattle.sled_log.specs.RunPhases.{Does, view_by}
 use Rattle.sled_log.proofs.Sessions.NotedSeen.{target_written}
-use Rattle.sled_log.proofs.Sessions.Writing.{has_written, held_seen, holding_seen, over, some_known, stabilizing_seen, stable_failed, stable_seen, stays_put, still_open, was_free, writes_to}
+use Rattle.sled_log.proofs.Sessions.Writing.{has_written, holding_seen, over, stable_seen, stays_put, still_open, was_free, writes_to}
+use Rattle.sled_log.proofs.Sessions.MadeStable.{held_seen, some_known, stabilizing_seen, stable_failed}
 use Rattle.sled_log.specs.declared.session.Phase.TheVariants as phase
 use Rattle.sled_log.specs.declared.session.command.Command.TheVariants as told
 use Rattle.sled_log.specs.declared.session.command.Reply.TheVariants as reply
