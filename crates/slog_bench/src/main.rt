@@ -36,6 +36,7 @@ const FILES: [&str; 15] = [
     "calls.txt",
     "batches.txt",
     "slog.txt",
+    "runs.txt",
     "own.txt",
     "accountant.txt",
     "accountant_blobs.txt",
@@ -94,7 +95,7 @@ fn run(alloc: Global, name: &str, text: &str, tally: &mut Tally<'_>) {
                 tally.case(0, "lines", why);
             }
         }
-        "slog.txt" => scripts::run(alloc, text, tally),
+        "slog.txt" | "runs.txt" => scripts::run(alloc, text, tally),
         "accountant.txt" | "accountant_blobs.txt" | "accountant_start.txt" => {
             accountant::run(alloc, text, tally)
         }
