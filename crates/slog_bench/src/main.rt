@@ -25,7 +25,7 @@ use std::process::ExitCode;
 use store_cases::{accountant, codecs, segment_headers, words};
 
 // The files under `data/`, one a kind.
-const FILES: [&str; 15] = [
+const FILES: [&str; 16] = [
     "codecs.txt",
     "segment_headers.txt",
     "words.txt",
