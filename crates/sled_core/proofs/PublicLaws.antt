@@ -13,7 +13,7 @@ use Rattle.sled_store.proofs.LogFile.LogLemmas.{at_rest_left}
 use Rattle.sled_store.proofs.Names.NamesLemmas.{settled_name_left, settled_name_at_rest}
 use Rattle.sled_store.proofs.Crashes.SettledLemmas.{read_left}
 use Rattle.sled_core.specs.declared.logger.Log.{Log}
-use Rattle.sled_core.specs.Fits.{KeepsAll, stable_end, FitsInline, NoneOpen, NoneOpenIn, IsUnchanged, IsWritten, synced_end, segment_size_of, buffers_of, current_begin, current_of, held_len, holding_below, is_moved, line_of, machine_at, next_place, reserved_end, sealing_end, start_behind, start_of, target_of, waiting_behind, waiting_of}
+use Rattle.sled_core.specs.Fits.{KeepsAll, stable_end, FitsInline, NoneOpen, NoneOpenIn, IsUnchanged, IsWritten, synced_end, segment_size_of, buffers_of, current_begin, current_of, held_len, holding_below, is_moved, line_of, machine_at, next_place, noted_in, reserved_end, sealing_end, start_behind, start_of, target_of, waiting_behind, waiting_of}
 use Rattle.sled_core.specs.Waiting.{BufferAt, BufferStart, HasLength, at_last, closed_now, first_held, held_below, spans, unwritten}
 use Rattle.sled_store.specs.SegmentStates.{next_slot}
 use Rattle.sled_core.specs.Recoverable.{NoForeign, Recoverable, LeavesRecoverable}
@@ -31,6 +31,7 @@ pub use Rattle.sled_core.proofs.Holds.KeptCalls.{goes_on_still, goes_on_further,
 use Rattle.sled_core.specs.Keeps.{Preserves}
 use Rattle.sled_core.specs.OpenBatches.{stable_below}
 use Rattle.sled_core.proofs.Line.LineEnds.{stable_kept}
+use Rattle.sled_core.proofs.Reached.StableBelow.{stable_low}
 pub use Rattle.sled_core.proofs.Holds.LastEnds.{message_acknowledged, batch_acknowledged, acknowledged_least}
 pub use Rattle.sled_core.proofs.Holds.ReachLemmas.{fits_holds, fits_acknowledged, fits_stable, fits_reach, fits_apart, fits_inline, awaited, awaited_inline, awaited_small, reserved_small}
 pub use Rattle.sled_core.proofs.Holds.RunningLemmas.{fits_leaves}
@@ -139,6 +140,10 @@ ready_place sum size device s H A f some ready = goes_on_at size (stable_place s
 pub own_behind_crash : (sum : List ℕ → ℕ) (size : ℕ) (left : Left) (trace : Trace) → NoForeign sum size (state_of trace) (content_left left (state_of trace))
     → NoForeign sum size (state_of (Crashed left ∷ trace)) (content_of (state_of (Crashed left ∷ trace)))
 own_behind_crash sum size left trace own = own_after_crash sum size left (state_of trace) own
+
+-- All below the stable end is on the device.
+pub stable_reached_at : {D C : Type 0} (log : Log D C) → stable_end log ≤ synced_end log
+stable_reached_at log = stable_low (synced_end log) (noted_in log)
 
 -- The stable end doesn't fall where a call notes no batch, and stays where what is written and noted stays.
 pub stable_never_falls : {D C : Type 0} (trace : D → Trace) (sum : List ℕ → ℕ) (old new : Log D C) → Preserves trace sum old new → stable_end old ≤ stable_end new

@@ -146,8 +146,10 @@ pub fn batches_end_in_what_was_reserved<D: Device, C: Checksum>()
     ensures noted { (log : Log D C) (b : Batch) → Contains (noted_in log) b → b.peg < reserved_end log }
 {}
 
-/// The stable end never falls, where a call notes no batch; it stays where what is written and noted stays.
+/// The stable end isn't behind what is on the device without a gap. It never falls, where a call notes no batch; it stays where
+/// what is written and noted stays.
 pub fn the_stable_end_never_falls<D: Device, C: Checksum>()
+    ensures reached { (log : Log D C) → stable_end log ≤ synced_end log }
     ensures keeps { (old new : Log D C) → Preserves D.trace C.sum_of old new → stable_end old ≤ stable_end new }
     ensures same { (old new : Log D C) → KeepsAll old new → stable_end new ≡ stable_end old }
 {}

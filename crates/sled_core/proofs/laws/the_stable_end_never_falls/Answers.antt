@@ -1,4 +1,4 @@
-use Rattle.sled_core.proofs.PublicLaws.{stable_never_falls, stable_stays}
+use Rattle.sled_core.proofs.PublicLaws.{stable_never_falls, stable_reached_at, stable_stays}
 use Rattle.sled_core.proofs.laws.the_stable_end_never_falls.Goals as goal
 
 pub returns-clause-keeps : goal.returns-clause-keeps
@@ -6,3 +6,6 @@ returns-clause-keeps g c = λ old new keeps. stable_never_falls g.D.Device.trace
 
 pub returns-clause-same : goal.returns-clause-same
 returns-clause-same g c = λ old new same. stable_stays old new same
+
+pub returns-clause-reached : goal.returns-clause-reached
+returns-clause-reached g c = λ log. stable_reached_at log
