@@ -1,5 +1,5 @@
 -- What the code of an iterator keeps of the segments that it reads, and what is ahead of it.
-use Rattle.std.specs.Prelude.{◌≡◌, ◌≢◌, ◌+◌, ◌-◌, ◌*◌, ◌^◌, ◌%◌, ◌≤◌, ◌<◌, ℕ, ℤ, Bool, false, List, [], ◌∷◌, length, drop, Option, Some, None, Result, Ok, Err, Contains}
+use Rattle.std.specs.Prelude.{◌≡◌, ◌≢◌, ◌+◌, ◌-◌, ◌*◌, ◌^◌, ◌%◌, ◌≤◌, ◌<◌, ℕ, ℤ, Bool, true, false, List, [], ◌∷◌, length, drop, Option, Some, None, Result, Ok, Err, Contains}
 use Rattle.std.specs.List.{All}
 use Rattle.sled_codec.specs.declared.result.Error.{Error}
 use Rattle.sled_codec.specs.declared.serialization.message.MessageKind.{MessageKind}
@@ -9,6 +9,8 @@ use Rattle.sled_store.specs.Device.{Trace, state_of}
 use Rattle.sled_core.specs.declared.iterator.scan.ScannedRecord.{ScannedRecord}
 use Rattle.sled_core.specs.declared.iterator.scan.RecordContent.{RecordContent}
 use Rattle.sled_core.specs.declared.iterator.scan.RecordContent.TheVariants.{NamesBlob}
+use Rattle.sled_core.specs.declared.iterator.scan.ScanEnd.{ScanEnd}
+use Rattle.sled_core.specs.declared.iterator.scan.ScanEnd.TheVariants.{Full, Capped, Broken}
 use Rattle.sled_core.specs.declared.iterator.Segment.{Segment}
 use Rattle.sled_core.specs.declared.iterator.rest.Rest.{Rest}
 use Rattle.sled_core.specs.Iterates.{Item, GivesOf, IsIteration, SaysDamage}
@@ -37,13 +39,23 @@ IsSpent r = (length r.segments.items ≤ r.read) × (length r.met.items ≤ r.gi
 abbrev pub most_left : Rest → ℕ
 most_left r = (length r.segments.items - r.read) * 2 ^ 64 + (length r.met.items - r.given)
 
--- What is left gives these messages, and then damage or the end: the records that were read and not given, and then the segments that were not read.
+abbrev pub reads_behind : Bool → ScanEnd → ℕ → ℕ → ℕ
+reads_behind true Broken read count = count
+reads_behind true Full read count = read
+reads_behind true Capped read count = read
+reads_behind false why read count = read
+
+-- how many segments count as read behind one whose reading ended so: all, where a strict iterator reads one that is broken
+abbrev pub read_behind : Rest → ScanEnd → ℕ
+read_behind r why = reads_behind r.strict why r.read (length r.segments.items)
+
+-- What is left gives these messages, and then damage or the end: the records that were read and not given, and then the segments that were not read. (A strict iterator may have segments whose slots the file doesn't have yet.)
 unfoldable pub IsLeft : {D C : Type 0} → (D → Trace) → (List ℕ → ℕ) → RunningConfig D C → Rest → List Item → Bool → Type 0
 IsLeft trace sum config r items damaged =
     let size = config.config.segment_size in
     let s = state_of (trace config.device) in
-    ((x : Segment) → Contains r.segments.items x → x.slot ≤ length s.log.bytes)
-    × GivesOf sum s.blobs.file r.end (drop r.given r.met.items) (IsIteration sum size s.log.bytes s.blobs.file r.end (drop r.read r.segments.items)) items damaged
+    (r.strict ≡ false → (x : Segment) → Contains r.segments.items x → x.slot ≤ length s.log.bytes)
+    × GivesOf sum s.blobs.file r.end (drop r.given r.met.items) (IsIteration sum size s.log.bytes s.blobs.file r.end r.strict (drop r.read r.segments.items)) items damaged
 
 -- What is found where these are ahead: a message, or none that is left in what was read, and what is ahead then.
 abbrev pub Finds : (List Item → Bool → Type 0) → (List Item → Bool → Type 0) → List Item → Bool → Result (Option Item) Error → Type 0

@@ -1,15 +1,19 @@
--- What an iterator gives of a log file: the messages of the segments that begin below the end of the tail, by place, and whether it
+-- What an iterator gives of a log file: the messages of segments that begin below an end, by place, and whether it
 -- ends at damage. Stated for any number of segments and for all kinds of messages.
-use Rattle.std.specs.Prelude.{◌≡◌, ◌⊎◌, ℕ, ℤ, pos, Bool, true, false, List, [], ◌∷◌, ◌++◌, Option, Some, None, Result, Ok, Err}
+use Rattle.std.specs.Prelude.{◌≡◌, ◌⊎◌, ℕ, ℤ, pos, nat_le, Bool, true, false, ◌||◌, List, [], ◌∷◌, ◌++◌, Option, Some, None, Result, Ok, Err}
 use Rattle.std.specs.Bool.{MatchBool}
 use Rattle.sled_codec.specs.declared.serialization.message.LogKind.{LogKind}
 use Rattle.sled_codec.specs.declared.result.DiskPtr.{DiskPtr}
 use Rattle.sled_codec.specs.declared.result.Error.{Error}
 use Rattle.sled_codec.specs.declared.result.Error.TheVariants.{Corruption}
+use Rattle.sled_codec.specs.Places.{part}
+use Rattle.sled_codec.specs.Record.{IsHeader}
 use Rattle.sled_store.specs.Blobs.{ItemAnswers}
 use Rattle.sled_core.specs.declared.iterator.scan.ScannedRecord.{ScannedRecord}
 use Rattle.sled_core.specs.declared.iterator.scan.RecordContent.{RecordContent}
 use Rattle.sled_core.specs.declared.iterator.scan.RecordContent.TheVariants.{Gives, NamesBlob, Skipped, BatchStart}
+use Rattle.sled_core.specs.declared.iterator.scan.ScanEnd.{ScanEnd}
+use Rattle.sled_core.specs.declared.iterator.scan.ScanEnd.TheVariants.{Full, Capped, Broken}
 use Rattle.sled_core.specs.declared.iterator.Segment.{Segment}
 use Rattle.sled_core.specs.Replayed.{IsDamagedBefore, IsReplayed, HasBadBlob, with_blob}
 use Rattle.sled_core.specs.Tail.{Scanned, opens}
@@ -25,20 +29,43 @@ items_of m (NamesBlob kind page lid place) = []
 items_of m Skipped = []
 items_of m (BatchStart peg) = []
 
--- What is given of records that were met in a segment, one by one, and then this. It ends at a batch that is open, and at a blob that doesn't pass for its record.
+-- An iterator ends at a record that lies at the end or behind it, or begins a batch that does not end below it.
+abbrev pub stops : ℕ → ScannedRecord → Bool
+stops end m = nat_le end m.place || opens end m.what
+
+-- What is given of records that were met in a segment, one by one, and then this. It ends at a record that stops it, and at a blob that doesn't pass for its record.
 abbrev pub GivesOf : (List ℕ → ℕ) → (ℤ → Option (List ℕ)) → ℕ → List ScannedRecord → (List Item → Bool → Type 0) → List Item → Bool → Type 0
 GivesOf sum blobs end [] on items damaged = on items damaged
-GivesOf sum blobs end (m ∷ ms) on items damaged = MatchBool (opens end m.what) ((items ≡ []) × (damaged ≡ false))
+GivesOf sum blobs end (m ∷ ms) on items damaged = MatchBool (stops end m) ((items ≡ []) × (damaged ≡ false))
     ((HasBadBlob sum blobs m.what × (items ≡ []) × (damaged ≡ true))
     ⊎ ((HasBadBlob sum blobs m.what → ⊥) × ((rest : List Item) × (items ≡ items_of m (with_blob blobs m.what) ++ rest) × GivesOf sum blobs end ms on rest damaged)))
 
--- What an iterator gives of these segments, up to where the tail ends, and whether it ends at damage. Of a segment in which a damaged
+-- the header of a segment stands in its slot
+abbrev pub HasItsHeader : (List ℕ → ℕ) → List ℕ → Segment → Type 0
+HasItsHeader sum log s = (mark : ℤ) × IsHeader sum (part log s.slot 20) (pos s.place) mark
+
+-- a strict iterator ends at a segment whose header isn't there
+abbrev pub IsMissing : Bool → (List ℕ → ℕ) → List ℕ → Segment → Type 0
+IsMissing true sum log s = HasItsHeader sum log s → ⊥
+IsMissing false sum log s = ⊥
+
+-- and behind a segment that isn't read to its end; else this is given behind it
+abbrev pub GivesBehind : Bool → ScanEnd → (List Item → Bool → Type 0) → List Item → Bool → Type 0
+GivesBehind true Broken on items damaged = (items ≡ []) × (damaged ≡ false)
+GivesBehind true Full on items damaged = on items damaged
+GivesBehind true Capped on items damaged = on items damaged
+GivesBehind false why on items damaged = on items damaged
+
+-- What an iterator gives of these segments, up to an end, and whether it ends at damage. Of a segment in which a damaged
 -- record is met, before a batch that is open, it gives nothing.
-abbrev pub IsIteration : (List ℕ → ℕ) → ℕ → List ℕ → (ℤ → Option (List ℕ)) → ℕ → List Segment → List Item → Bool → Type 0
-IsIteration sum size log blobs end [] items damaged = (items ≡ []) × (damaged ≡ false)
-IsIteration sum size log blobs end (s ∷ ss) items damaged =
-    (IsDamagedBefore sum size log end s × (items ≡ []) × (damaged ≡ true))
-    ⊎ ((x : Scanned) × (x.segment ≡ s) × IsReplayed sum size log end x × GivesOf sum blobs end x.met (IsIteration sum size log blobs end ss) items damaged)
+abbrev pub IsIteration : (List ℕ → ℕ) → ℕ → List ℕ → (ℤ → Option (List ℕ)) → ℕ → Bool → List Segment → List Item → Bool → Type 0
+IsIteration sum size log blobs end strict [] items damaged = (items ≡ []) × (damaged ≡ false)
+IsIteration sum size log blobs end strict (s ∷ ss) items damaged =
+    (IsMissing strict sum log s × (items ≡ []) × (damaged ≡ false))
+    ⊎ ((IsMissing strict sum log s → ⊥)
+    × ((IsDamagedBefore sum size log end s × (items ≡ []) × (damaged ≡ true))
+    ⊎ ((x : Scanned) × (x.segment ≡ s) × IsReplayed sum size log end x
+    × GivesOf sum blobs end x.met (GivesBehind strict x.why (IsIteration sum size log blobs end strict ss)) items damaged)))
 
 -- an error of damage says that no message is ahead of it; a failure of the device and want of memory say nothing
 abbrev pub SaysDamage : Error → List Item → Bool → Type 0

@@ -1,36 +1,102 @@
--- What a caller sees of an iterator: what it runs on, and what is ahead of it.
-use Rattle.std.specs.Prelude.{◌≡◌, ℕ, List, Bool, Option, None, Result}
+-- What a caller sees of an iterator: what it borrows, and what is ahead of it.
+use Rattle.std.specs.Prelude.{◌≡◌, ◌+◌, ℕ, ℤ, true, List, Bool, Option, None, Some, Result, Err, IfNone, IfSome}
 use Rattle.std.specs.Borrow.{MutBor}
+use Rattle.std.specs.declared.io.Error.{Error as IoError}
 use Rattle.sled_store.specs.declared.config.RunningConfig.{RunningConfig}
 use Rattle.sled_codec.specs.declared.result.Error.{Error}
+use Rattle.sled_codec.specs.declared.result.Error.TheVariants.{Io, OutOfMemory}
 use Rattle.sled_store.specs.Device.{Trace, state_of}
-use Rattle.sled_core.specs.Keeps.{OnlyReads}
+use Rattle.sled_core.specs.declared.iterator.Segment.{Segment}
 use Rattle.sled_core.specs.declared.iterator.log_iter.LogIter.{LogIter}
-use Rattle.sled_core.specs.Iterates.{Item, NextGives, NextAnswers, BehindLast}
+use Rattle.sled_core.specs.declared.iterator.log_iter.Source.{Source}
+use Rattle.sled_core.specs.declared.iterator.log_iter.Source.TheVariants as source
+use Rattle.sled_core.specs.declared.logger.Log.{Log}
+use Rattle.sled_core.specs.Causes.{failure_in}
+use Rattle.sled_core.specs.Fits.{KeepsBuffers, KeepsTickets, config_of, device_of, fault_of, machine_at, segment_size_of, stable_end}
+use Rattle.sled_core.specs.Keeps.{OnlyReads, Preserves, SamePosition}
+use Rattle.sled_core.specs.Iterates.{Item, IsIteration, NextGives, NextAnswers, BehindLast}
 use Rattle.sled_core.specs.Ahead.{IsLeft, IsSpent, most_left}
+use Rattle.sled_core.specs.LogSegments.{AreSegments, begins_from}
+use Rattle.sled_core.specs.Sources.{config_in, name_in}
 
--- the configuration that it borrows
-abbrev pub borrowed_by : {D C : Type 0} → LogIter D C → MutBor (RunningConfig D C)
-borrowed_by it = it.config
+-- why nothing can be gone over, where that is so: the one item of the iterator
+abbrev pub refusal_of : {D C : Type 0} → LogIter D C → Option Error
+refusal_of it = it.refusal
 
--- These messages are ahead of an iterator, and then damage or the end.
+-- what it reads
+abbrev pub reads_of : {D C : Type 0} → LogIter D C → RunningConfig D C
+reads_of it = config_in it.source
+
+-- it borrows what a log file is on, or a log, which is this one now
+abbrev pub BorrowsFile : {D C : Type 0} → MutBor (RunningConfig D C) → RunningConfig D C → LogIter D C → Type 0
+BorrowsFile entry now it = it.source ≡ source.File (record entry { now = now })
+
+abbrev pub BorrowsLog : {D C : Type 0} → MutBor (Log D C) → Log D C → LogIter D C → Type 0
+BorrowsLog entry now it = it.source ≡ source.Log (record entry { now = now })
+
+-- These messages are ahead of an iterator that wasn't refused, and then damage or the end.
 unfoldable pub IsAhead : {D C : Type 0} → (D → Trace) → (List ℕ → ℕ) → LogIter D C → List Item → Bool → Type 0
-IsAhead trace sum it items damaged = IsLeft trace sum it.config.now it.rest items damaged
+IsAhead trace sum it items damaged = IfNone it.refusal (IsLeft trace sum (config_in it.source) it.rest items damaged)
 
 -- No message is ahead of an iterator, and nothing is read any more.
 unfoldable pub IsOver : {D C : Type 0} → LogIter D C → Type 0
-IsOver it = IsSpent it.rest
+IsOver it = (it.refusal ≡ None) × IsSpent it.rest
 
--- not more messages than this are ahead of an iterator
+-- a refusal is one item
+abbrev pub items_for : Option Error → ℕ
+items_for None = 0
+items_for (Some e) = 1
+
+-- not more items than this are ahead of an iterator
 unfoldable pub most_ahead : {D C : Type 0} → LogIter D C → ℕ
-most_ahead it = most_left it.rest
+most_ahead it = most_left it.rest + items_for it.refusal
+
+-- the first failure of a device: the one that was kept, or that of this item
+abbrev pub first_failure : Option IoError → Option (Result Item Error) → Option IoError
+first_failure (Some e) item = Some e
+first_failure None (Some result) = failure_in result
+first_failure None None = None
+
+-- A log was only read for an item: it goes on from what it was, and keeps a failure of its device.
+pub record IsReadFor {D C : Type 0} (trace : D → Trace) (sum : List ℕ → ℕ) (item : Option (Result Item Error)) (old new : Log D C) : Type 0 where
+  pub keeps : Preserves trace sum old new
+  pub tickets : KeepsTickets old new
+  pub position : SamePosition old new
+  pub buffers : KeepsBuffers old new
+  pub machine : machine_at new ≡ machine_at old
+  pub fault : fault_of new ≡ first_failure (fault_of old) item
+
+-- so was the log that an iterator borrows, where it borrows one
+abbrev pub LogIsReadFor : {D C : Type 0} → (D → Trace) → (List ℕ → ℕ) → Option (Result Item Error) → Source D C → Source D C → Type 0
+LogIsReadFor trace sum item (source.File r) (source.File s) = Unit {0}
+LogIsReadFor trace sum item (source.File r) (source.Log s) = ⊥
+LogIsReadFor trace sum item (source.Log r) (source.File s) = ⊥
+LogIsReadFor trace sum item (source.Log r) (source.Log s) = IsReadFor trace sum item r.now s.now
 
 -- What a call of an iterator gives: the next message of those that are ahead, or none where it is over, or an error. Behind an error and
--- where none came it is over. Its device was only read, and it goes on borrowing the same configuration.
+-- where none came it is over. What it borrows was only read, and it goes on borrowing the same.
 pub record IsNext {D C : Type 0} (trace : D → Trace) (faults : D → ℕ) (sum : List ℕ → ℕ) (old : LogIter D C) (result : Option (Result Item Error)) (new : LogIter D C) : Type 0 where
   pub gives : (items : List Item) (damaged : Bool) → IsAhead trace sum old items damaged → NextGives (IsAhead trace sum new) items damaged result
   pub ended : BehindLast result (IsOver new)
   pub over : IsOver old → result ≡ None
-  pub answers : NextAnswers sum (state_of (trace old.config.now.device)).blobs.file result (faults old.config.now.device) (faults new.config.now.device)
-  pub reads : OnlyReads trace old.config.now new.config.now
-  pub same_reference : new.config.ghost_name ≡ old.config.ghost_name
+  -- a refusal is the one item
+  pub refused : IfSome (refusal_of old) (λ e. (result ≡ Some (Err e)) × (faults (reads_of new).device ≡ faults (reads_of old).device))
+  pub answers : IfNone (refusal_of old) (NextAnswers sum (state_of (trace (reads_of old).device)).blobs.file result (faults (reads_of old).device) (faults (reads_of new).device))
+  pub reads : OnlyReads trace (reads_of old) (reads_of new)
+  pub log : IfNone (refusal_of old) (LogIsReadFor trace sum result old.source new.source)
+  pub same_reference : name_in new.source ≡ name_in old.source
+
+-- Why an iterator of a log was refused, where this is the failure that the log keeps: exactly by that, or for want of memory.
+abbrev pub IsRefusedFor : Option Error → Option IoError → Type 0
+IsRefusedFor None fault = fault ≡ None
+IsRefusedFor (Some (Io e)) fault = fault ≡ Some e
+IsRefusedFor (Some OutOfMemory) fault = fault ≡ None
+IsRefusedFor (Some _) fault = ⊥
+
+-- An iterator goes over the segments that a log has, by place, from the one that holds a place on, up to the stable end.
+abbrev pub GoesOver : {D C : Type 0} → (D → Trace) → (List ℕ → ℕ) → Log D C → ℤ → LogIter D C → Type 0
+GoesOver trace sum log lsn it =
+    let size = segment_size_of log in
+    let s = state_of (trace (device_of log)) in
+    (ss : List Segment) × AreSegments size (machine_at log) (begins_from size lsn) (stable_end log) ss
+    × ((items : List Item) (damaged : Bool) → IsIteration sum size s.log.bytes s.blobs.file (stable_end log) true ss items damaged → IsAhead trace sum it items damaged)

@@ -15,6 +15,7 @@ pub mod Iterates
 pub mod Iterators
 pub mod Keeps
 pub mod LogFile
+pub mod LogSegments
 pub mod Manifests
 pub mod OpenBatches
 pub mod OpenPlaces
@@ -30,6 +31,7 @@ pub mod Running
 pub mod Scan
 pub mod SealedBuffers
 pub mod SealedProps
+pub mod Sources
 pub mod Stable
 pub mod StableEnds
 pub mod Starts

@@ -28,6 +28,7 @@ mod abort;
 pub(crate) mod batches;
 mod crash;
 mod ending;
+mod iterating;
 mod mark_writebatch;
 pub mod read_at;
 pub mod read_message;

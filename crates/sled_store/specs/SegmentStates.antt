@@ -83,6 +83,10 @@ taken_slot lsn = record { state = Active; lsn = lsn; held = 0; pages = []; gone 
 abbrev pub slot_at : Machine → ℕ → SlotState
 slot_at m k = slice_index_or m.slots k free_slot
 
+-- where the segment in a slot begins, where one lies there
+abbrev pub segment_in : SlotState → Option ℕ
+segment_in s = if is_free s.state then None else Some s.lsn
+
 -- the same machine but for one slot
 abbrev pub with_slot : ℕ → SlotState → Machine → Machine
 with_slot k s m = record { slots = set m.slots k s; tip = m.tip; cleaner = m.cleaner }

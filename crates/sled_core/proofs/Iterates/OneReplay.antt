@@ -1,15 +1,15 @@
 -- Up to a batch that is open, a segment is met in one way: what is given of it is so of each reading, and no reading has a damaged record before that.
-use Rattle.std.proofs.Common.{◌≡◌, ◌⊎◌, ◌∙◌, ◌+◌, ◌/◌, ◌≤◌, ◌++◌, ℕ, ℤ, Bool, true, false, List, [], ◌∷◌, Option, Some, None, IfNone, if◌then◌else◌, refl, sym, ap, subst, inl, inr}
+use Rattle.std.proofs.Common.{◌≡◌, ◌⊎◌, ◌∙◌, ◌+◌, ◌/◌, ◌≤◌, ◌++◌, ◌||◌, nat_le, ℕ, ℤ, Bool, true, false, List, [], ◌∷◌, Option, Some, None, IfNone, if◌then◌else◌, refl, sym, ap, subst, inl, inr}
 use Rattle.std.specs.Bool.{MatchBool}
 use Rattle.sled_core.specs.declared.iterator.Segment.{Segment}
 use Rattle.sled_core.specs.declared.iterator.scan.ScannedRecord.{ScannedRecord}
 use Rattle.sled_core.specs.declared.iterator.scan.ScanEnd.{ScanEnd}
 use Rattle.sled_core.specs.Reading.{IsMalformed}
-use Rattle.sled_core.specs.Scan.{IsPath, IsEnd}
+use Rattle.sled_core.specs.Scan.{IsPath, IsEnd, IsScan}
 use Rattle.sled_core.specs.Replayed.{IsReplayed, HasBadBlob, with_blob, IsDamagedBefore}
 use Rattle.sled_core.specs.Tail.{Scanned, opens, open_at}
-use Rattle.sled_core.specs.Iterates.{Item, items_of, GivesOf}
-use Rattle.sled_core.proofs.Tail.OneReading.{one_met, met_formed, no_end_at, end_formed}
+use Rattle.sled_core.specs.Iterates.{Item, items_of, stops, GivesOf}
+use Rattle.sled_core.proofs.Tail.OneReading.{one_met, met_formed, no_end_at, end_formed, one_scan, path_begins}
 
 -- what holds by a test, where another thing does in the second case
 pub second_case : (b : Bool) (A B X : Type 0) → (b ≡ false → B → X) → MatchBool b A B → MatchBool b A X
@@ -22,6 +22,25 @@ none_open end m ms none = by_test (opens end m.what) none where
   by_test : (b : Bool) → (if b then Some m.place else open_at end ms) ≡ None → (b ≡ false) × (open_at end ms ≡ None)
   by_test true is = absurd (cc)
   by_test false is = (refl, is)
+
+-- and where none is open among them and others behind, none is among them
+open_before : (end : ℕ) (ms rest : List ScannedRecord) → open_at end (ms ++ rest) ≡ None → open_at end ms ≡ None
+open_before end [] rest none = refl
+open_before end (m ∷ ms) rest none =
+    let parts = none_open end m (ms ++ rest) none in
+    subst (λ (b : Bool). (if b then Some m.place else open_at end ms) ≡ None) (sym parts.0) (open_before end ms rest parts.1)
+
+-- what holds where there is none
+if_none_so : {A : Type 0} (o : Option A) (P : Type 0) → (o ≡ None → P) → IfNone o P
+if_none_so None P so = so refl
+if_none_so (Some a) P so = tt
+
+-- a record that doesn't stop an iterator begins no batch that is open
+pub no_stop : (end : ℕ) (m : ScannedRecord) → stops end m ≡ false → opens end m.what ≡ false
+no_stop end m is = by (nat_le end m.place) is where
+  by : (b : Bool) → b || opens end m.what ≡ false → opens end m.what ≡ false
+  by true at = absurd (cc)
+  by false at = at
 
 -- what is asked behind a record that begins none
 shut : (end : ℕ) (m : ScannedRecord) (ms : List ScannedRecord) (P : Type 0) → opens end m.what ≡ false → IfNone (open_at end (m ∷ ms)) P → IfNone (open_at end ms) P
@@ -50,8 +69,8 @@ module _ (sum : List ℕ → ℕ) (size : ℕ) (log : List ℕ) (end slot place 
         let Left : List ScannedRecord → Type 0 = λ ks.
         (HasBadBlob sum blobs m.what × (items ≡ []) × (damaged ≡ true))
         ⊎ ((HasBadBlob sum blobs m.what → ⊥) × ((rest : List Item) × (items ≡ items_of m (with_blob blobs m.what) ++ rest) × GivesOf sum blobs end ks on rest damaged)) in
-        second_case (opens end m.what) ((items ≡ []) × (damaged ≡ false)) (Left ns) (Left ms)
-        (λ is left. by is left
+        second_case (stops end m) ((items ≡ []) × (damaged ≡ false)) (Left ns) (Left ms)
+        (λ end_not left. let is = no_stop end m end_not in by is left
         (λ rest. gives_of_other (at + m.len) ms stop why ns last reason path.3 (shut end m ms (IsEnd sum size log slot place stop why) is ends)
         (subst (λ k. Path k ns last) len other.3)
         (shut end n ns (IsEnd sum size log slot place last reason) (ap (λ (y : ScannedRecord). opens end y.what) same ∙ is) behind) rest damaged))
@@ -63,6 +82,22 @@ module _ (sum : List ℕ → ℕ) (size : ℕ) (log : List ℕ) (end slot place 
             → (HasBadBlob sum blobs m.what × (items ≡ []) × (damaged ≡ true)) ⊎ ((HasBadBlob sum blobs m.what → ⊥) × ((rest : List Item) × (items ≡ items_of m (with_blob blobs m.what) ++ rest) × GivesOf sum blobs end ms on rest damaged))
         by is (inl bad) more = inl bad
         by is (inr (fine, (rest, parts, gives))) more = inr (fine, (rest, parts, more rest gives))
+
+  module _ (blobs : ℤ → Option (List ℕ)) (some : List Item → Bool → Type 0) (others : List Item → Bool → Type 0) where
+    -- what is given behind these records may be said in another way, where no batch among them is open
+    pub gives_as : (ms : List ScannedRecord) → IfNone (open_at end ms) ((items : List Item) (damaged : Bool) → some items damaged → others items damaged)
+        → (items : List Item) (damaged : Bool) → GivesOf sum blobs end ms some items damaged → GivesOf sum blobs end ms others items damaged
+    gives_as [] so items damaged gives = so items damaged gives
+    gives_as (m ∷ ms) so items damaged gives =
+        let Left : (List Item → Bool → Type 0) → Type 0 = λ on.
+        (HasBadBlob sum blobs m.what × (items ≡ []) × (damaged ≡ true))
+        ⊎ ((HasBadBlob sum blobs m.what → ⊥) × ((rest : List Item) × (items ≡ items_of m (with_blob blobs m.what) ++ rest) × GivesOf sum blobs end ms on rest damaged)) in
+        second_case (stops end m) ((items ≡ []) × (damaged ≡ false)) (Left some) (Left others)
+        (λ end_not left. elim left [
+          | inl bad ↦ inl bad
+          | inr on ↦ inr (on.0, (on.1.0, on.1.1, gives_as ms (shut end m ms ((is : List Item) (d : Bool) → some is d → others is d) (no_stop end m end_not) so) on.1.0 damaged on.1.2))
+        ])
+        gives
 
   -- no damaged record stands before a batch that is open
   undamaged : (at : ℕ) (ms : List ScannedRecord) (stop : ℕ) (why : ScanEnd) (ns : List ScannedRecord) (next : ℕ) → Path at ms stop → Ends ms stop why → Path at ns next → open_at end ns ≡ None → next + 32 ≤ size
@@ -94,3 +129,21 @@ module _ (sum : List ℕ → ℕ) (size : ℕ) (log : List ℕ) (end : ℕ) (x :
   replayed_gives blobs on y other again items damaged gives =
       let there = subst (λ (t : Segment). IsPath sum size log t.slot t.place 20 y.met y.stop × IfNone (open_at end y.met) (IsEnd sum size log t.slot t.place y.stop y.why)) (other ∙ sym at) again in
       gives_of_other sum size log end x.segment.slot x.segment.place blobs on 20 x.met x.stop x.why y.met y.stop y.why read.0 read.1 there.0 there.1 items damaged gives
+
+  -- no batch is open in the one where none is in the other, and then both end for one reason
+  pub replayed_ends : (y : Scanned) → y.segment ≡ s → IsReplayed sum size log end y → IfNone (open_at end x.met) (y.why ≡ x.why)
+  unfolding IsScan
+  replayed_ends y other again = if_none_so (open_at end x.met) (y.why ≡ x.why) (λ none. by none) where
+    there : IsPath sum size log x.segment.slot x.segment.place 20 y.met y.stop × IfNone (open_at end y.met) (IsEnd sum size log x.segment.slot x.segment.place y.stop y.why)
+    there = subst (λ (t : Segment). IsPath sum size log t.slot t.place 20 y.met y.stop × IfNone (open_at end y.met) (IsEnd sum size log t.slot t.place y.stop y.why)) (other ∙ sym at) again
+    by : open_at end x.met ≡ None → y.why ≡ x.why
+    by none =
+        let slot : ℕ = x.segment.slot in
+        let place : ℕ = x.segment.place in
+        let ends : IsEnd sum size log slot place x.stop x.why = subst (λ (o : Option ℕ). IfNone o (IsEnd sum size log slot place x.stop x.why)) none read.1 in
+        let begins = path_begins sum size log slot place 20 y.met y.stop x.met x.stop x.why there.0 read.0 ends in
+        let shut_too = open_before end y.met begins.0 (ap (open_at end) (sym begins.1) ∙ none) in
+        let its_end : IsEnd sum size log slot place y.stop y.why = subst (λ (o : Option ℕ). IfNone o (IsEnd sum size log slot place y.stop y.why)) shut_too there.1 in
+        let xs : Scanned = record { segment = x.segment; met = x.met; stop = x.stop; why = x.why } in
+        let ys : Scanned = record { segment = x.segment; met = y.met; stop = y.stop; why = y.why } in
+        ap (λ (t : Scanned). t.why) (one_scan sum size log ys xs refl (there.0, its_end) (read.0, ends))

@@ -2,33 +2,83 @@
 //!
 //! An iterator keeps the segments that it goes over, and of one of them the records. A segment is read when its first record
 //! is asked for, and a blob when it is the turn of the record that names it.
-ghost use Rattle.std.specs.Prelude.{◌≡◌};
+ghost use Rattle.std.specs.Prelude.{◌≡◌, None, Some, IfSome};
 ghost use Rattle.std.specs.Iterator.{at_most};
-ghost use Rattle.sled_core.specs.Ahead.{CanGoOn};
+ghost use Rattle.sled_codec.specs.Errors.{IsCorrupt};
+ghost use Rattle.sled_core.specs.Ahead.{CanGoOn, IsSpent};
+ghost use Rattle.sled_core.specs.Sources.{size_in};
 
 use crate::iterator::rest::Rest;
-use sled_codec::result::{DiskPtr, Lsn, PageId, Result};
+use crate::logger::Log;
+use sled_codec::result::{DiskPtr, Error, Lsn, PageId, Result};
 use sled_codec::serialization::{Checksum, LogKind};
 use sled_store::{Device, RunningConfig};
+
+/// What an iterator borrows: what a log file is on, or the log itself, which keeps a failure of its device.
+#[derive(Drop)]
+pub(crate) enum Source<'a, D, C> {
+    /// No log runs on it.
+    File(&'a mut RunningConfig<D, C>),
+    /// A log.
+    Log(&'a mut Log<D, C>),
+}
 
 /// Goes over the messages of a log file, and borrows what that is on. It ends: a number bounds what is ahead of it. What a
 /// call of `next` gives is `IsNext` of `specs/Iterators.antt`.
 #[derive(Drop)]
 pub struct LogIter<'a, D, C> {
-    pub(crate) config: &'a mut RunningConfig<D, C>,
+    pub(crate) source: Source<'a, D, C>,
+    /// Why nothing can be gone over. That is its one item then.
+    pub(crate) refusal: Option<Error>,
     pub(crate) rest: Rest,
-    ghost fits: { CanGoOn config.now.config.segment_size rest },
+    ghost fits: { CanGoOn (size_in source) rest },
+    ghost refused: { IfSome refusal (λ e. (IsCorrupt e → ⊥) × IsSpent rest) },
 }
 
 impl<'a, D, C> LogIter<'a, D, C> {
+    ghost use Rattle.sled_core.specs.Iterators.{BorrowsFile, BorrowsLog};
+
     /// Returns an iterator over what is left, on the device of this configuration.
     pub fn new(config: &'a mut RunningConfig<D, C>, rest: Rest) -> LogIter<'a, D, C>
         requires { CanGoOn config.old.config.segment_size rest }
         ensures rest { result.rest ≡ rest }
-        ensures config { result.config.now ≡ config.old }
-        ensures same_reference { result.config.ghost_name ≡ config.entry.ghost_name }
+        ensures begun { result.refusal ≡ None }
+        ensures borrows { BorrowsFile config.entry config.old result }
     {
-        LogIter { config, rest }
+        LogIter {
+            source: Source::File(config),
+            refusal: None,
+            rest,
+        }
+    }
+
+    /// Returns an iterator over what is left of a log.
+    pub(crate) fn over_log(log: &'a mut Log<D, C>, rest: Rest) -> LogIter<'a, D, C>
+        requires { CanGoOn log.old.config.config.segment_size rest }
+        ensures rest { result.rest ≡ rest }
+        ensures begun { result.refusal ≡ None }
+        ensures borrows { BorrowsLog log.entry log.old result }
+    {
+        LogIter {
+            source: Source::Log(log),
+            refusal: None,
+            rest,
+        }
+    }
+
+    /// Returns an iterator of a log with this error for its one item. Nothing is left.
+    pub(crate) fn refused(log: &'a mut Log<D, C>, rest: Rest, e: Error) -> LogIter<'a, D, C>
+        requires can { CanGoOn log.old.config.config.segment_size rest }
+        requires spent { IsSpent rest }
+        requires undamaged { IsCorrupt e → ⊥ }
+        ensures refusal { result.refusal ≡ Some e }
+        ensures borrows { BorrowsLog log.entry log.old result }
+    {
+        LogIter {
+            source: Source::Log(log),
+            refusal: Some(e),
+            rest,
+        }
     }
 }
 
@@ -46,9 +96,16 @@ impl<D: Device, C: Checksum> Iterator for LogIter<'_, D, C> {
     ///
     /// # Errors
     ///
-    /// `Io` where the device failed in this call, and `OutOfMemory`; `Corruption` where a damaged record is met in the next
-    /// segment, or where the blob of the next record doesn't pass for it (named where its checksum fails).
+    /// `Io` where the device failed in this call, which a log keeps, and `OutOfMemory`; `Corruption` where a damaged record is met in the next
+    /// segment, or where the blob of the next record doesn't pass for it (named where its checksum fails). The first item of an
+    /// iterator of a log may be the failure that the log kept before, or want of memory for the list of its segments.
     fn next(&mut self) -> Option<Result<(LogKind, PageId, Lsn, DiskPtr, u64)>> {
-        self.rest.next(self.config)
+        if let Some(e) = self.refusal.take() {
+            return Some(Err(e));
+        }
+        match &mut self.source {
+            Source::File(config) => self.rest.next(config),
+            Source::Log(log) => log.next_of(&mut self.rest),
+        }
     }
 }

@@ -1,17 +1,19 @@
 //! What is left of a log file for an iterator to give (`specs/Ahead.antt`).
-ghost use Rattle.std.specs.Prelude.{◌≡◌, ◌+◌, ◌^◌, ◌≤◌, ◌<◌, ℕ, List, [], Bool, Ok, None, length, IfOk, OnOk, IfNone, OnSome};
+ghost use Rattle.std.specs.Prelude.{◌≡◌, ◌↔◌, ◌+◌, ◌^◌, ◌≤◌, ◌<◌, ℕ, ℤ, pos, List, [], Bool, Ok, None, length, take, IsTrue, IfOk, OnOk, IfNone, OnSome};
 ghost use Rattle.sled_codec.specs.Errors.{IsCorruption};
 ghost use Rattle.sled_store.specs.Causes.{DeviceAnswers};
 ghost use Rattle.sled_store.specs.Device.{state_of};
 ghost use Rattle.sled_core.specs.Causes.{ItemAnswersOver};
 ghost use Rattle.sled_core.specs.Keeps.{OnlyReads};
-ghost use Rattle.sled_core.specs.Iterates.{Item, items_of, NextGives, NextAnswers, BehindLast};
-ghost use Rattle.sled_core.specs.Ahead.{CanGoOn, IsLeft, IsSpent, Finds, IsEnd, ReadsOn, most_left, those_of};
+ghost use Rattle.sled_codec.specs.Record.{IsHeader};
+ghost use Rattle.sled_core.specs.Iterates.{Item, items_of, NextGives, NextAnswers, BehindLast, stops};
+ghost use Rattle.sled_core.specs.Ahead.{CanGoOn, IsLeft, IsSpent, Finds, IsEnd, ReadsOn, most_left, read_behind, those_of};
 
 use crate::iterator::blobs::with_blob;
 use crate::iterator::records::{opens, scan_slot};
-use crate::iterator::scan::{RecordContent, ScannedRecord};
-use crate::iterator::{Segment, read_slot};
+use crate::iterator::scan::{RecordContent, ScanEnd, ScannedRecord, SegmentScan};
+use crate::iterator::{Segment, read_slot, segment_in};
+use crate::logger::read_at::BasedBuf;
 use sled_codec::result::{DiskPtr, Lsn, PageId, Result};
 use sled_codec::serialization::{Checksum, LogKind};
 use sled_store::{Device, RunningConfig};
@@ -20,6 +22,8 @@ use std::alloc::Global;
 /// What is left to be given.
 #[derive(Drop)]
 pub struct Rest {
+    /// Whether it ends at a segment whose header isn't there, and behind one that isn't read to its end.
+    pub(crate) strict: bool,
     /// The segments that begin below the end of the tail, by place.
     pub(crate) segments: Vec<Segment>,
     /// How many of them were read.
@@ -28,13 +32,15 @@ pub struct Rest {
     pub(crate) met: Vec<ScannedRecord>,
     /// How many of these records had their turn.
     pub(crate) given: usize,
-    /// Where the tail ends.
+    /// Nothing is given from here on.
     pub(crate) end: u64,
 }
 
 impl Rest {
-    /// Returns what is left of segments of which none was read yet. They are those that begin below the end of the tail, by place.
-    pub fn new(alloc: Global, segments: Vec<Segment>, end: u64) -> Rest
+    /// Returns what is left of segments of which none was read yet. They are those that begin below the end, by place. It is strict where
+    /// they are to lie behind one another as a log wrote them.
+    pub fn new(alloc: Global, segments: Vec<Segment>, end: u64, strict: bool) -> Rest
+        ensures strict { result.strict ≡ strict }
         ensures segments { result.segments ≡ segments }
         ensures end { result.end ≡ end }
         ensures read { result.read ≡ 0 }
@@ -42,6 +48,7 @@ impl Rest {
         ensures given { result.given ≡ 0 }
     {
         Rest {
+            strict,
             segments,
             read: 0,
             met: Vec::new(alloc),
@@ -108,8 +115,8 @@ impl Rest {
         }
     }
 
-    /// The next message of those that were met in the segment that was read last. At a batch that does not end below the end
-    /// of the tail nothing is left. `Corruption` comes where a blob doesn't pass for its record.
+    /// The next message of those that were met in the segment that was read last. At the end, and at a batch that does not end below it,
+    /// nothing is left. `Corruption` comes where a blob doesn't pass for its record.
     fn next_met<D: Device, C: Checksum>(
         &mut self,
         config: &mut RunningConfig<D, C>,
@@ -129,7 +136,7 @@ impl Rest {
     {
         while self.given < self.met.len() {
             let met = self.met[self.given];
-            if opens(&met.what, self.end) {
+            if stops(&met, self.end) {
                 self.finish();
                 return Ok(None);
             }
@@ -147,7 +154,7 @@ impl Rest {
     }
 
     /// Reads the next segment, and keeps what is met in it. `Corruption` comes where a damaged record is met, before a batch
-    /// that does not end below the end of the tail.
+    /// that does not end below the end. Where the header isn't there that was asked for, nothing is left.
     fn read_segment<D: Device, C: Checksum>(
         &mut self,
         config: &mut RunningConfig<D, C>,
@@ -158,7 +165,7 @@ impl Rest {
         ensures fits { CanGoOn config.old.config.segment_size self.new }
         ensures ahead { (items : List Item) (damaged : Bool) → IsLeft D.trace C.sum_of config.old self.old items damaged
             → ReadsOn (IsLeft D.trace C.sum_of config.old self.new) items damaged result }
-        ensures on { self.new.read ≡ self.old.read + 1 }
+        ensures on { self.old.read < self.new.read }
         ensures segments { self.new.segments ≡ self.old.segments }
         ensures no_more { OnOk result (most_left self.new ≤ most_left self.old) }
         ensures answers { DeviceAnswers result (D.faults config.old.device) (D.faults config.new.device) }
@@ -167,27 +174,58 @@ impl Rest {
         let segment = self.segments[self.read];
         self.read += 1;
         match read_slot(config, segment.slot) {
-            Ok(buf) => match scan_slot(config, &buf, &segment, self.end) {
-                Ok(scan) => {
-                    self.met = scan.met;
-                    self.given = 0;
-                    Ok(())
+            Ok(buf) => {
+                if self.strict && !begins_at(&config.checksum, &buf, segment.place) {
+                    self.finish();
+                    return Ok(());
                 }
-                Err(e) => Err(e),
-            },
+                match scan_slot(config, &buf, &segment, self.end) {
+                    Ok(scan) => {
+                        self.keep(scan);
+                        Ok(())
+                    }
+                    Err(e) => Err(e),
+                }
+            }
             Err(e) => Err(e),
         }
     }
 
+    /// Keeps what was met in a segment. Behind one that wasn't read to its end a strict iterator goes no further.
+    fn keep(&mut self, scan: SegmentScan)
+        ensures kept { self.new ≡ record self.old { read = read_behind self.old scan.ending; met = scan.met; given = 0 } }
+    {
+        if self.strict && scan.ending == ScanEnd::Broken {
+            self.read = self.segments.len();
+        }
+        self.met = scan.met;
+        self.given = 0;
+    }
+
     /// Leaves nothing.
     fn finish(&mut self)
-        ensures spent { IsSpent self.new }
-        ensures segments { self.new.segments ≡ self.old.segments }
-        ensures met { self.new.met ≡ self.old.met }
-        ensures end { self.new.end ≡ self.old.end }
+        ensures { self.new ≡ record self.old { read = length self.old.segments.items; given = length self.old.met.items } }
     {
         self.read = self.segments.len();
         self.given = self.met.len();
+    }
+}
+
+/// Whether an iterator ends at a record: it lies at the end or behind it, or begins a batch that does not end below it.
+fn stops(met: &ScannedRecord, end: u64) -> bool
+    requires { end < 2 ^ 63 }
+    ensures { result ≡ stops end met.now }
+{
+    end <= met.place || opens(&met.what, end)
+}
+
+/// Whether the header stands at the beginning of a slot of the segment that begins at a place.
+fn begins_at<C: Checksum>(checksum: &C, buf: &BasedBuf, place: u64) -> bool
+    ensures { IsTrue result ↔ ((mark : ℤ) × IsHeader C.sum_of (take 20 buf.now.buf.items) (pos place) mark) }
+{
+    match segment_in(checksum, buf, place) {
+        Some(segment) => segment.place == place,
+        None => false,
     }
 }
 

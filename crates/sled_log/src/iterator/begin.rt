@@ -122,5 +122,5 @@ fn rest_of<D, C>(config: &RunningConfig<D, C>, segments: Vec<Segment>, end: Opti
     let end = end.unwrap_or(0);
     let count = count_below(&segments, end);
     segments.truncate(count);
-    Rest::new(config.alloc(), segments, end)
+    Rest::new(config.alloc(), segments, end, false)
 }

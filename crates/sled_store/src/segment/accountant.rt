@@ -7,7 +7,7 @@ ghost use Rattle.std.specs.Prelude.{◌≡◌, ◌↔◌, ◌≤ℤ◌, ◌≤�
 ghost use Rattle.std.specs.List.{All};
 ghost use Rattle.sled_codec.specs.Pointers.{lid_of};
 ghost use Rattle.sled_store.specs.declared.segment.slot.Slot.{Slot as SlotRecord};
-ghost use Rattle.sled_store.specs.SegmentStates.{LiesIn, MayMark, is_active, slot_at, unused_machine, with_free_slot, next_slot, handed_out, linked, popped, first_page};
+ghost use Rattle.sled_store.specs.SegmentStates.{LiesIn, MayMark, is_active, segment_in, slot_at, unused_machine, with_free_slot, next_slot, handed_out, linked, popped, first_page};
 ghost use Rattle.sled_store.specs.Accounts.{IsAccountant, machine_of, size_of, MayHandOut, NextAnswers};
 ghost use Rattle.sled_store.specs.Accounts.{HasRooms, HasRoomToClean, HasRoomToLink, HasRoomForBlobs, GoneFits};
 
@@ -104,6 +104,21 @@ impl SegmentAccountant {
         ensures in_reach { result * size_of self.now < 2 ^ 63 }
     {
         self.free.first().unwrap_or(self.tip)
+    }
+
+    /// Returns how many slots were ever handed out or found, also those that were cut off since.
+    pub fn slot_count(&self) -> u64
+        ensures { result ≡ length (machine_of self.now).slots }
+    {
+        self.slots.len() as u64
+    }
+
+    /// Returns the place where the segment in a slot begins, where one lies there. The slots are counted from 0.
+    pub fn segment_in(&self, slot: u64) -> Option<u64>
+        requires { slot < length (machine_of self.now).slots }
+        ensures { result ≡ segment_in (slot_at (machine_of self.now) slot) }
+    {
+        self.slots[slot as usize].segment()
     }
 
     /// One more slot, behind all others, and room for it wherever a slot may be noted.

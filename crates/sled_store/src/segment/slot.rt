@@ -2,7 +2,7 @@
 ghost use Rattle.std.specs.Prelude.{ℕ, ◌≡◌, ◌↔◌, false, [], ◌∷◌, ◌≤◌, ◌<◌, ◌+◌, ◌++◌, ◌⊎◌, IsTrue, IfErr, OnOk, Some, filter, length, ◌==◌, if◌then◌else◌, vec_capacity, not};
 ghost use Rattle.std.specs.Ordering.{nat_cmp};
 ghost use Rattle.std.specs.BTreeSet.{insert_key};
-ghost use Rattle.sled_store.specs.SegmentStates.{inactive_slot, free_slot, taken_slot, linked_slot, replaced_slot, outdated, has_page, is_free, is_active, is_sparse, is_done, is_draining, waited_place, left_pages, drained_slot};
+ghost use Rattle.sled_store.specs.SegmentStates.{inactive_slot, free_slot, taken_slot, linked_slot, replaced_slot, outdated, has_page, is_free, is_active, is_sparse, is_done, is_draining, waited_place, left_pages, drained_slot, segment_in};
 ghost use Rattle.sled_store.specs.Accounts.{slot_state, HasRoomToDrain, HasRoomForGone, HasRoomForBlobs, HasRoomToLink};
 
 use crate::segment::sorted::SortedSet;
@@ -197,6 +197,16 @@ impl Slot {
         match self.state {
             State::Active => true,
             _ => false,
+        }
+    }
+
+    /// The place where its segment begins, where one lies there.
+    pub(crate) fn segment(&self) -> Option<u64>
+        ensures { result ≡ segment_in (slot_state self.now) }
+    {
+        match self.state {
+            State::Free => None,
+            _ => Some(self.lsn),
         }
     }
 

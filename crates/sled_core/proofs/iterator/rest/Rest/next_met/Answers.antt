@@ -1,30 +1,27 @@
 use Rattle.std.proofs.Common.{◌≡◌, ◌∙◌, ◌+◌, ◌<◌, ◌++◌, ℕ, ℤ, List, length, Option, refl, sym, ap, subst, arith}
-use Rattle.std.specs.List.{Contains}
 use Rattle.sled_store.specs.Device.{Trace, state_of}
 use Rattle.sled_core.specs.declared.iterator.scan.ScannedRecord.{ScannedRecord}
 use Rattle.sled_core.specs.declared.iterator.rest.Rest.{Rest}
 use Rattle.sled_core.specs.Replayed.{HasBadBlob, resolved}
 use Rattle.sled_core.specs.Iterates.{Item}
 use Rattle.sled_core.specs.Ahead.{IsLeft, those_of}
-use Rattle.sled_core.proofs.Iterates.LeftLemmas.{left_inside, left_spent, turn_ends, turn_bad, turn_given}
+use Rattle.sled_core.proofs.Iterates.LeftLemmas.{left_finished, turn_ends, turn_bad, turn_given}
 use Rattle.sled_core.proofs.Iterates.TurnLemmas.{damage_said, fine_still, found_gives}
 use Rattle.sled_core.proofs.iterator.rest.Rest.next_met.Goals as goal
 
-pub returns-then-opens-clause-finds : goal.returns-then-opens-clause-finds
-returns-then-opens-clause-finds g c = λ items damaged left.
+pub returns-then-stops-clause-finds : goal.returns-then-stops-clause-finds
+returns-then-stops-clause-finds g c = λ items damaged left.
     let r : Rest = c.loop-self.self in
     let here = c.loop-self.invariant.left items damaged left in
     let lt : r.given < length r.met.items = omega (arith, c.loop-self-test.true, c.len.ensures) in
-    let ends = turn_ends g.D.Device.trace g.C.Checksum.sum_of c.args.config.now r c.index.result.now lt c.index.ensures items damaged here (sym c.opens.ensures ∙ c.if-opens.true) in
-    left_spent g.D.Device.trace g.C.Checksum.sum_of c.args.config.now c.finish.new.self items damaged
-    (λ x there. left_inside g.D.Device.trace g.C.Checksum.sum_of c.args.config.now r items damaged here x (subst (λ v. Contains v.items x) c.finish.ensures.segments there))
-    c.finish.ensures.spent ends.0 ends.1
+    let ends = turn_ends g.D.Device.trace g.C.Checksum.sum_of c.args.config.now r c.index.result.now lt c.index.ensures items damaged here (sym c.stops.ensures ∙ c.if-stops.true) in
+    left_finished g.D.Device.trace g.C.Checksum.sum_of c.args.config.now r items damaged here c.finish.new.self c.finish.ensures ends.0 ends.1
 
 pub returns-in-Some-clause-finds : goal.returns-in-Some-clause-finds
 returns-in-Some-clause-finds g c = λ items damaged left.
     let r : Rest = c.loop-self.self in
     let m : ScannedRecord = c.index.result.now in
-    let q : Rest = record { segments = r.segments; read = r.read; met = r.met; given = r.given + 1; end = r.end } in
+    let q : Rest = record r { given = r.given + 1 } in
     let now : Trace = g.D.Device.trace c.loop-self.config.device in
     let old : Trace = g.D.Device.trace c.args.config.now.device in
     let blobs : ℤ → Option (List ℕ) = (state_of old).blobs.file in
@@ -33,14 +30,14 @@ returns-in-Some-clause-finds g c = λ items damaged left.
     let fine = fine_still g.C.Checksum.sum_of now old m.what c.loop-self.invariant.trace c.in-Ok.ensures.good in
     let is = c.in-Ok.ensures.met ∙ ap (λ (t : Trace). resolved (state_of t).blobs.file m) c.loop-self.invariant.trace in
     let gives = found_gives blobs m c.in-Ok.found is c.message_of.result c.message_of.ensures in
-    let turn = turn_given g.D.Device.trace g.C.Checksum.sum_of c.args.config.now r m lt c.index.ensures items damaged here (sym c.opens.ensures ∙ c.if-opens.false) fine q refl refl refl refl refl in
+    let turn = turn_given g.D.Device.trace g.C.Checksum.sum_of c.args.config.now r m lt c.index.ensures items damaged here (sym c.stops.ensures ∙ c.if-stops.false) fine in
     (turn.0, turn.1 ∙ ap (λ (l : List Item). l ++ turn.0) (gives ∙ ap those_of c.in-Some.is), turn.2)
 
 pub loop-self-preserved : goal.loop-self-preserved
 loop-self-preserved g c =
     let r : Rest = c.loop-self.self in
     let m : ScannedRecord = c.index.result.now in
-    let q : Rest = record { segments = r.segments; read = r.read; met = r.met; given = r.given + 1; end = r.end } in
+    let q : Rest = record r { given = r.given + 1 } in
     let now : Trace = g.D.Device.trace c.loop-self.config.device in
     let old : Trace = g.D.Device.trace c.args.config.now.device in
     let blobs : ℤ → Option (List ℕ) = (state_of old).blobs.file in
@@ -52,7 +49,7 @@ loop-self-preserved g c =
     record {
       left = λ items damaged left.
           let here = c.loop-self.invariant.left items damaged left in
-          let turn = turn_given g.D.Device.trace g.C.Checksum.sum_of c.args.config.now r m lt c.index.ensures items damaged here (sym c.opens.ensures ∙ c.if-opens.false) fine q refl refl refl refl refl in
+          let turn = turn_given g.D.Device.trace g.C.Checksum.sum_of c.args.config.now r m lt c.index.ensures items damaged here (sym c.stops.ensures ∙ c.if-stops.false) fine in
           let all : items ≡ turn.0 = turn.1 ∙ ap (λ (l : List Item). l ++ turn.0) (gives ∙ ap those_of none) in
           subst (λ (l : List Item). IsLeft g.D.Device.trace g.C.Checksum.sum_of c.args.config.now q l damaged) (sym all) turn.2;
       fits = c.loop-self.invariant.fits;
@@ -74,5 +71,5 @@ returns-in-Err-clause-finds g c = λ items damaged left.
     let here = c.loop-self.invariant.left items damaged left in
     let lt : r.given < length r.met.items = omega (arith, c.loop-self-test.true, c.len.ensures) in
     damage_said c.in-Err.e items damaged (λ corrupt.
-    turn_bad g.D.Device.trace g.C.Checksum.sum_of c.args.config.now r m lt c.index.ensures items damaged here (sym c.opens.ensures ∙ c.if-opens.false)
+    turn_bad g.D.Device.trace g.C.Checksum.sum_of c.args.config.now r m lt c.index.ensures items damaged here (sym c.stops.ensures ∙ c.if-stops.false)
     (subst (λ (t : Trace). HasBadBlob g.C.Checksum.sum_of (state_of t).blobs.file m.what) c.loop-self.invariant.trace (c.in-Err.ensures.bad corrupt)))

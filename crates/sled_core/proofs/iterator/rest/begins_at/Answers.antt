@@ -1,0 +1,14 @@
+use Rattle.std.proofs.Common.{◌≡◌, ◌∙◌, ℕ, ℤ, pos, List, take, sym, subst}
+use Rattle.std.proofs.Math.Facts.{eqb_yes, yes_eqb}
+use Rattle.sled_codec.specs.Record.{IsHeader}
+use Rattle.sled_codec.proofs.Segments.{one_header}
+use Rattle.sled_core.proofs.iterator.rest.begins_at.Goals as goal
+
+pub returns-in-Some : goal.returns-in-Some
+returns-in-Some g c =
+    let sum = g.C.Checksum.sum_of in
+    let bytes : List ℕ = take 20 c.args.buf.now.buf.items in
+    let found = c.in-Some.ensures.found in (
+      λ yes. (c.in-Some.segment.mark, subst (λ n. IsHeader sum bytes (pos n) c.in-Some.segment.mark) (eqb_yes yes) found),
+      λ own. yes_eqb (let same = (one_header sum bytes (pos c.in-Some.segment.place) _ (pos c.args.place) own.0 found own.1).0 in cc),
+    )

@@ -1,0 +1,139 @@
+//! The messages of a running log by place: those of the segments that the log has, up to its stable end.
+ghost use Rattle.std.specs.Prelude.{◌≡◌, ◌<◌, ℕ, All, List, Bool, IfNone, IfOk, IsOkUnless, None, OnSome};
+ghost use Rattle.sled_codec.specs.declared.result.Error.TheVariants.{OutOfMemory};
+ghost use Rattle.sled_store.specs.Accounts.{IsAccountant, machine_of};
+ghost use Rattle.sled_store.specs.Device.{state_of};
+ghost use Rattle.sled_core.specs.Ahead.{CanGoOn, HasEnds, IsLeft, IsSpent, most_left};
+ghost use Rattle.sled_core.specs.Iterates.{Item, NextGives, NextAnswers, BehindLast};
+ghost use Rattle.sled_core.specs.Iterators.{first_failure};
+ghost use Rattle.sled_core.specs.Keeps.{OnlyReads};
+ghost use Rattle.sled_core.specs.LogSegments.{segments_among};
+
+use crate::iterator::Segment;
+use crate::iterator::log_iter::LogIter;
+use crate::iterator::rest::Rest;
+use crate::logger::Log;
+use sled_codec::result::{DiskPtr, Error, Lsn, PageId, Result};
+use sled_codec::serialization::{Checksum, LogKind};
+use sled_store::segment::accountant::SegmentAccountant;
+use sled_store::{Device, RunningConfig};
+use std::alloc::Global;
+use std::io;
+
+impl<D: Device, C: Checksum> Log<D, C> {
+    ghost use Rattle.sled_core.specs.Fits.{config_of, device_of, fault_of, machine_at, segment_size_of, stable_end};
+    ghost use Rattle.sled_core.specs.Causes.{FaultOrMemory};
+    ghost use Rattle.sled_core.specs.Iterators.{BorrowsLog, GoesOver, IsReadFor, IsRefusedFor, refusal_of};
+    ghost use Rattle.sled_core.specs.LogSegments.{AreSegments, begins_from};
+
+    /// Returns an iterator over the messages of the log by place, from the beginning of the segment that holds a place up to
+    /// the stable end; a negative place counts as 0. It passes over messages that were given up, manifests, and messages whose blob is
+    /// gone. It ends at a batch that doesn't end below the stable end, and at a segment whose header isn't there or a record that doesn't read. A failure
+    /// of the device, which the log keeps, and want of memory are items of it, and never its end.
+    ///
+    /// It goes over the segments that the log has in its slots. A segment is read as a whole when its first message is
+    /// asked for. The list of segments takes memory: where that is refused, `OutOfMemory` is the one item. Where the log keeps a failure of
+    /// its device, that is.
+    pub fn iter_from(&mut self, lsn: Lsn) -> LogIter<'_, D, C>
+        ensures goes_over { IfNone (refusal_of result) (GoesOver D.trace C.sum_of self.old lsn result) }
+        ensures refused { IsRefusedFor (refusal_of result) (fault_of self.old) }
+        ensures borrows { BorrowsLog self.entry self.old result }
+    {
+        let alloc = self.config.alloc();
+        let end = self.stable_end();
+        match self.segments_from(lsn, end) {
+            Ok(segments) => LogIter::over_log(self, Rest::new(alloc, segments, end, true)),
+            Err(e) => {
+                let none = Rest::new(alloc, Vec::new(alloc), 0, true);
+                LogIter::refused(self, none, e)
+            }
+        }
+    }
+
+    /// The segments that begin from that of a place on, up to another place, by place.
+    fn segments_from(&self, lsn: Lsn, to: u64) -> Result<Vec<Segment>>
+        ensures segments { let size = segment_size_of self.now in
+            IfOk result (λ v. AreSegments size (machine_at self.now) (begins_from size lsn) to v.items) }
+        ensures ends { IfOk result (λ v. All (HasEnds (segment_size_of self.now)) v.items) }
+        ensures answers { FaultOrMemory result ⊥ (fault_of self.now) }
+    {
+        if let Some(e) = self.fault {
+            return Err(Error::Io(e));
+        }
+        let size = self.config.config.segment_size;
+        let from = u64::try_from(lsn).unwrap_or(0) / size * size;
+        let alloc = self.config.alloc();
+        let mut segments = segments_within(&self.accountant, alloc, size, from, to)?;
+        segments.sort_by_key(|segment| segment.place)?;
+        Ok(segments)
+    }
+
+    /// The next item of what is left of the log. A failure of the device is kept.
+    pub(crate) fn next_of(
+        &mut self,
+        rest: &mut Rest,
+    ) -> Option<Result<(LogKind, PageId, Lsn, DiskPtr, u64)>>
+        requires fits { CanGoOn (segment_size_of self.old) rest.old }
+        ensures fits { CanGoOn (segment_size_of self.old) rest.new }
+        ensures gives { (items : List Item) (damaged : Bool) → IsLeft D.trace C.sum_of (config_of self.old) rest.old items damaged
+            → NextGives (IsLeft D.trace C.sum_of (config_of self.old) rest.new) items damaged result }
+        ensures ended { BehindLast result (IsSpent rest.new) }
+        ensures over { IsSpent rest.old → result ≡ None }
+        ensures fewer { OnSome result (most_left rest.new < most_left rest.old) }
+        ensures answers { let blobs = (state_of (D.trace (device_of self.old))).blobs.file in
+            NextAnswers C.sum_of blobs result (D.faults (device_of self.old)) (D.faults (device_of self.new)) }
+        ensures reads { OnlyReads D.trace (config_of self.old) (config_of self.new) }
+        ensures log { IsReadFor D.trace C.sum_of result self.old self.new }
+    {
+        let item = rest.next(&mut self.config);
+        self.fault = first_failure(self.fault, &item);
+        item
+    }
+}
+
+/// The first failure of a device: the one that was kept, or that of an item.
+fn first_failure(
+    kept: Option<io::Error>,
+    item: &Option<Result<(LogKind, PageId, Lsn, DiskPtr, u64)>>,
+) -> Option<io::Error>
+    ensures { result ≡ first_failure kept item.now }
+{
+    match (kept, item) {
+        (Some(e), _) => Some(e),
+        (None, Some(Err(Error::Io(e)))) => Some(*e),
+        (None, _) => None,
+    }
+}
+
+/// The segments that begin from one place up to another, slot by slot.
+fn segments_within(
+    accountant: &SegmentAccountant,
+    alloc: Global,
+    size: u64,
+    from: u64,
+    to: u64,
+) -> Result<Vec<Segment>>
+    requires { IsAccountant size accountant.now }
+    ensures segments { IfOk result (λ v. v.items ≡ segments_among size from to 0 (machine_of accountant.now).slots) }
+    ensures ends { IfOk result (λ v. All (HasEnds size) v.items) }
+    ensures memory { IsOkUnless result OutOfMemory }
+{
+    let mut segments = Vec::new(alloc);
+    let count = accountant.slot_count();
+    let mut slot = 0;
+    while slot < count {
+        if let Some(place) = accountant.segment_in(slot)
+            && from <= place
+            && place < to
+            && place < (1 << 63) - size
+        {
+            segments.push(Segment {
+                place,
+                slot: slot * size,
+                mark: -1,
+            })?;
+        }
+        slot += 1;
+    }
+    Ok(segments)
+}
