@@ -1,6 +1,8 @@
+pub mod Headers
 pub mod KeptLemmas
 pub mod Kinds
 pub mod LeftLemmas
+pub mod OfSlots
 pub mod OneReplay
 pub mod Records
 pub mod Slots

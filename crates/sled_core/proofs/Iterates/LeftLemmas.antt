@@ -49,12 +49,11 @@ module _ {D C : Type 0} (trace : D → Trace) (sum : List ℕ → ℕ) (config :
   )
 
   -- so it is where all was passed over at the end of the messages
-  pub left_finished : (r : Rest) (items : List Item) (damaged : Bool) → IsLeft trace sum config r items damaged → (q : Rest) → q ≡ record r { read = length r.segments.items; given = length r.met.items } → (ends : List Item) (no : Bool)
-      → ends ≡ [] → no ≡ false → IsLeft trace sum config q ends no
+  pub left_finished : (r : Rest) (items : List Item) (damaged : Bool) → IsLeft trace sum config r items damaged → (q : Rest) → q ≡ record r { read = length r.segments.items; given = length r.met.items } → items ≡ [] → damaged ≡ false → IsLeft trace sum config q items damaged
   unfolding IsLeft
-  left_finished r items damaged left q is ends no none fine =
+  left_finished r items damaged left q is none fine =
       let end : Rest = record r { read = length r.segments.items; given = length r.met.items } in
-      subst (λ (x : Rest). IsLeft trace sum config x ends no) (sym is) (left_spent end ends no left.0 (omega arith, omega arith) none fine)
+      subst (λ (x : Rest). IsLeft trace sum config x items damaged) (sym is) (left_spent end items damaged left.0 (omega arith, omega arith) none fine)
 
   -- and then no message comes
   pub spent_ends : (r : Rest) (items : List Item) (damaged : Bool) → IsSpent r → IsLeft trace sum config r items damaged → (items ≡ []) × (damaged ≡ false)

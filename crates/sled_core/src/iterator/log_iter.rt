@@ -4,6 +4,7 @@
 //! is asked for, and a blob when it is the turn of the record that names it.
 ghost use Rattle.std.specs.Prelude.{◌≡◌, None, Some, IfSome};
 ghost use Rattle.std.specs.Iterator.{at_most};
+ghost use Rattle.std.proofs.Props.{props};
 ghost use Rattle.sled_codec.specs.Errors.{IsCorrupt};
 ghost use Rattle.sled_core.specs.Ahead.{CanGoOn, IsSpent};
 ghost use Rattle.sled_core.specs.Sources.{size_in};
@@ -32,7 +33,8 @@ pub struct LogIter<'a, D, C> {
     pub(crate) refusal: Option<Error>,
     pub(crate) rest: Rest,
     ghost fits: { CanGoOn (size_in source) rest },
-    ghost refused: { IfSome refusal (λ e. (IsCorrupt e → ⊥) × IsSpent rest) },
+    ghost undamaged: { IfSome refusal (λ e. IsCorrupt e → ⊥) } by { Prim.hlevel props },
+    ghost spent: { IfSome refusal (λ e. IsSpent rest) } by { Prim.hlevel props },
 }
 
 impl<'a, D, C> LogIter<'a, D, C> {

@@ -1,5 +1,5 @@
 //! What is left of a log file for an iterator to give (`specs/Ahead.antt`).
-ghost use Rattle.std.specs.Prelude.{◌≡◌, ◌↔◌, ◌+◌, ◌^◌, ◌≤◌, ◌<◌, ℕ, ℤ, pos, List, [], Bool, Ok, None, length, take, IsTrue, IfOk, OnOk, IfNone, OnSome};
+ghost use Rattle.std.specs.Prelude.{◌≡◌, ◌↔◌, ◌+◌, ◌^◌, ◌≤◌, ◌<◌, ℕ, ℤ, pos, List, [], Bool, true, Ok, None, length, take, IsTrue, IfOk, OnOk, IfNone, OnSome};
 ghost use Rattle.sled_codec.specs.Errors.{IsCorruption};
 ghost use Rattle.sled_store.specs.Causes.{DeviceAnswers};
 ghost use Rattle.sled_store.specs.Device.{state_of};
@@ -175,7 +175,7 @@ impl Rest {
         self.read += 1;
         match read_slot(config, segment.slot) {
             Ok(buf) => {
-                if self.strict && !begins_at(&config.checksum, &buf, segment.place) {
+                if !self.finds(&config.checksum, &buf, segment.place) {
                     self.finish();
                     return Ok(());
                 }
@@ -189,6 +189,13 @@ impl Rest {
             }
             Err(e) => Err(e),
         }
+    }
+
+    /// Whether a segment that begins at a place is found in the bytes of its slot. One that isn't strict knows that it was.
+    fn finds<C: Checksum>(&self, checksum: &C, buf: &BasedBuf, place: u64) -> bool
+        ensures { IsTrue result ↔ (self.now.strict ≡ true → (mark : ℤ) × IsHeader C.sum_of (take 20 buf.now.buf.items) (pos place) mark) }
+    {
+        !self.strict || begins_at(checksum, buf, place)
     }
 
     /// Keeps what was met in a segment. Behind one that wasn't read to its end a strict iterator goes no further.

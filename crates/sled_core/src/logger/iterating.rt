@@ -1,5 +1,5 @@
 //! The messages of a running log by place: those of the segments that the log has, up to its stable end.
-ghost use Rattle.std.specs.Prelude.{◌≡◌, ◌<◌, ℕ, All, List, Bool, IfNone, IfOk, IsOkUnless, None, OnSome};
+ghost use Rattle.std.specs.Prelude.{◌≡◌, ◌<◌, ℕ, All, List, Bool, length, IfNone, IfSome, IfOk, IsOkUnless, None, OnSome};
 ghost use Rattle.sled_codec.specs.declared.result.Error.TheVariants.{OutOfMemory};
 ghost use Rattle.sled_store.specs.Accounts.{IsAccountant, machine_of};
 ghost use Rattle.sled_store.specs.Device.{state_of};
@@ -7,7 +7,8 @@ ghost use Rattle.sled_core.specs.Ahead.{CanGoOn, HasEnds, IsLeft, IsSpent, most_
 ghost use Rattle.sled_core.specs.Iterates.{Item, NextGives, NextAnswers, BehindLast};
 ghost use Rattle.sled_core.specs.Iterators.{first_failure};
 ghost use Rattle.sled_core.specs.Keeps.{OnlyReads};
-ghost use Rattle.sled_core.specs.LogSegments.{segments_among};
+ghost use Rattle.sled_core.specs.LogSegments.{list_of, segment_within, segments_among};
+ghost use Rattle.sled_store.specs.SegmentStates.{slot_at};
 
 use crate::iterator::Segment;
 use crate::iterator::log_iter::LogIter;
@@ -122,18 +123,34 @@ fn segments_within(
     let count = accountant.slot_count();
     let mut slot = 0;
     while slot < count {
-        if let Some(place) = accountant.segment_in(slot)
-            && from <= place
-            && place < to
-            && place < (1 << 63) - size
-        {
-            segments.push(Segment {
-                place,
-                slot: slot * size,
-                mark: -1,
-            })?;
+        if let Some(segment) = segment_within(accountant, slot, size, from, to) {
+            segments.push(segment)?;
         }
         slot += 1;
     }
     Ok(segments)
+}
+
+/// The segment in a slot, where it begins from one place up to another.
+fn segment_within(
+    accountant: &SegmentAccountant,
+    slot: u64,
+    size: u64,
+    from: u64,
+    to: u64,
+) -> Option<Segment>
+    requires account { IsAccountant size accountant.now }
+    requires slot { slot < length (machine_of accountant.now).slots }
+    ensures is { list_of result ≡ segment_within size from to slot (slot_at (machine_of accountant.now) slot) }
+    ensures ends { IfSome result (HasEnds size) }
+{
+    let place = accountant.segment_in(slot)?;
+    if place < from || place >= to || place >= (1 << 63) - size {
+        return None;
+    }
+    Some(Segment {
+        place,
+        slot: slot * size,
+        mark: -1,
+    })
 }
