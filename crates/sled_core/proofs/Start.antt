@@ -6,6 +6,7 @@ pub mod FreshReady
 pub mod GoodStarted
 pub mod KeptActive
 pub mod OpenLemmas
+pub mod OwnSlots
 pub mod PaddedActive
 pub mod PlacedEntries
 pub mod Places

@@ -14,7 +14,7 @@ use Rattle.sled_core.specs.declared.iobuf.SegmentPosition.{SegmentPosition}
 use Rattle.sled_core.specs.Begun.{SegmentParts, SegmentView}
 use Rattle.sled_core.specs.Buffers.{canceling, completing, message_in}
 use Rattle.sled_core.specs.Fits.{FitsBatches, line_end, written_to, HoldsIn, HoldsLine, HoldsSegment, HoldsWith, LogParts, log_parts, parts_in}
-use Rattle.sled_core.specs.FreeSlots.{HasSlot, HasSlots}
+use Rattle.sled_core.specs.FreeSlots.{HasSlot, HasSlots, HaveOwn}
 use Rattle.sled_core.specs.Running.{FitsIn, FitsLine, FitsWith}
 use Rattle.sled_core.specs.Turned.{ended_now}
 use Rattle.sled_core.proofs.Behind.Calls.{behind-aborted, ended_long, held_here}
@@ -159,7 +159,7 @@ module _ (sum : List ℕ → ℕ) (size : ℕ) (device : State) (fault : Option 
 pub slots_set : (size : ℕ) (line : List SegmentView) (log : List ℕ) (fault : Option IoError) (m : Machine) (n : ℕ) (v w : SegmentView) → slice_get line n ≡ Some v → w.parts.site ≡ v.parts.site → HasSlots size line log fault m → HasSlots size (set line n w) log fault m
 slots_set size line log fault m n v w there site slots =
     let its : HasSlot size m v = at_there (HasSlot size m) line n v there slots.taken in
-    record { taken = All-set (HasSlot size m) line n w (record { number = its.number; lies = ap (λ (p : SegmentPosition). p.slot) site ∙ its.lies; taken = its.taken }) slots.taken; zeros = slots.zeros }
+    record { taken = All-set (HasSlot size m) line n w (record { number = its.number; lies = ap (λ (p : SegmentPosition). p.slot) site ∙ its.lies; taken = its.taken; is = its.is ∙ ap (λ (p : SegmentPosition). p.place) (sym site) }) slots.taken; zeros = slots.zeros; own = subst (λ e. HaveOwn size e m) (sym (end_set size line n v w there site)) slots.own }
 
 -- So is what is written of the first segment.
 pub written_set : (line : List SegmentView) (n : ℕ) (v w : SegmentView) → slice_get line n ≡ Some v → w.parts.site ≡ v.parts.site → w.parts.written_len ≡ v.parts.written_len → written_to (set line n w) ≡ written_to line

@@ -30,7 +30,7 @@ fits_line_faulty sum size device fault (v ∷ vs) reach pins H A f U fits new e 
     fits_faulty sum size v.parts.site device fault v.parts.bytes v.parts.written_len v.parts.sealed v.parts.reserved pins H A f U fits new e now is blobs names left
 
 pub slots_line_faulty : (size : ℕ) (line : List SegmentView) (log log' : List ℕ) (fault : Option IoError) (m : Machine) → HasSlots size line log fault m → (e : IoError) (now : Option IoError) → now ≡ Some e → HasSlots size line log' now m
-slots_line_faulty size line log log' fault m slots e now is = record { taken = slots.taken; zeros = λ none. cc }
+slots_line_faulty size line log log' fault m slots e now is = record { taken = slots.taken; zeros = λ none. cc; own = slots.own }
 
 -- The same, where all that it says is of equal parts.
 pub holds_with_same : (sum : List ℕ → ℕ) (noted noted' : List Batch) (size size' : ℕ) (device : State) (fault : Option IoError) (line line' : List SegmentView) (m m' : Machine) (H : History) → noted' ≡ noted → size' ≡ size → line' ≡ line → m' ≡ m

@@ -27,6 +27,10 @@ pub end_last : (size : ℕ) (f : SegmentView → SegmentView) → ((x : SegmentV
 end_last size f stays v [] = ap (λ (p : SegmentPosition). p.place + 1 * size) (stays v)
 end_last size f stays v (w ∷ ws) = ap (λ n. v.parts.site.place + suc n * size) (length_last f w ws)
 
+pub end_at_last : (size : ℕ) (f : SegmentView → SegmentView) → ((x : SegmentView) → (f x).parts.site ≡ x.parts.site) → (line : List SegmentView) → line_end size (at_last f line) ≡ line_end size line
+end_at_last size f stays [] = refl
+end_at_last size f stays (v ∷ vs) = end_last size f stays v vs
+
 -- One of them is another, where it lies.
 pub end_set : (size : ℕ) (line : List SegmentView) (n : ℕ) (v w : SegmentView) → slice_get line n ≡ Some v → w.parts.site ≡ v.parts.site → line_end size (set line n w) ≡ line_end size line
 end_set size [] n v w there stays = refl
