@@ -5,6 +5,7 @@ pub mod FreshLemmas
 pub mod FreshReady
 pub mod GoodStarted
 pub mod KeptActive
+pub mod OlderStarted
 pub mod OpenLemmas
 pub mod OwnSlots
 pub mod PaddedActive

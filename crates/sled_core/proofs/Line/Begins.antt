@@ -28,6 +28,7 @@ use Rattle.sled_core.specs.Positions.{is_short, next_segment_at, position_in}
 use Rattle.sled_core.specs.Recoverable.{IsMarkOf}
 use Rattle.sled_core.specs.OpenBatches.{stable_below}
 use Rattle.sled_core.specs.Running.{Fits, FitsIn, FitsLine, FitsWith}
+use Rattle.sled_core.specs.Slots.{AreBegun, HaveEntries}
 use Rattle.sled_core.specs.Turned.{ChangesSlots, begun_view, next_line}
 use Rattle.sled_core.specs.Waiting.{at_last, closed_now, filled_now, last_of, unwritten}
 use Rattle.sled_core.proofs.Behind.Around.{behind_place, behind_place_is}
@@ -36,12 +37,14 @@ use Rattle.sled_core.proofs.Behind.FitsBegun.{behind-fits-begun}
 use Rattle.sled_core.proofs.Holds.FitsBatches.{batches_up, stable_noted}
 use Rattle.sled_core.proofs.Holds.KeptCalls.{goes_on_quietly}
 use Rattle.sled_core.proofs.Line.Closes.{IsClosable, filled_gone, filled_length, filled_message, filled_site, filled_there, filled_written, line_closed, line_fits_closed}
+use Rattle.sled_core.proofs.Line.Ends.{line_holds}
 use Rattle.sled_core.proofs.Line.Facts.{IsSegment, current_facts, nth_facts}
 use Rattle.sled_core.proofs.Line.Last.{All-at_last, last_behind_all, last_get_of, unwritten-append}
 use Rattle.sled_core.proofs.Line.LineEnds.{end_at_last, noted_later, noted_same}
 use Rattle.sled_core.proofs.Line.Moves.{fits_as, holds_as}
 use Rattle.sled_core.proofs.Line.OpenPlaces.{places_begun, places_closed}
-use Rattle.sled_core.proofs.Line.Slots.{next_free, next_other, next_others, slots_begun}
+use Rattle.sled_core.proofs.Line.OlderSlots.{begun_handed, entries_handed, newest_low}
+use Rattle.sled_core.proofs.Line.Slots.{next_free, next_other, next_others, next_within, slots_begun}
 use Rattle.sled_core.proofs.Reached.BufferPath.{buffer_mark, mark_lower}
 use Rattle.sled_core.proofs.Reached.Marks.{less_than}
 use Rattle.sled_core.proofs.Reached.OpenBatch.{stable_ends}
@@ -60,6 +63,11 @@ FirstShort size (v ∷ vs) = length v.parts.bytes ≤ size
 written_append : (vs ws : List SegmentView) → 0 < length vs → written_to (vs ++ ws) ≡ written_to vs
 written_append [] ws some = absurd (omega (arith, some))
 written_append (v ∷ vs) ws some = refl
+
+-- Nor does where it begins.
+first_append : (vs ws : List SegmentView) → 0 < length vs → first_place (vs ++ ws) ≡ first_place vs
+first_append [] ws some = absurd (omega (arith, some))
+first_append (v ∷ vs) ws some = refl
 
 -- A segment begins behind segments one behind another, in the slot that is handed out next, with a mark below what is written of the first one.
 module _ (sum : List ℕ → ℕ) (size : ℕ) (device : State) (fault : Option IoError) (m : Machine) (big : 256 ≤ size) (H : History) where
@@ -195,6 +203,16 @@ module _ (sum : List ℕ → ℕ) (size : ℕ) where
       next_written : written_to next ≡ written_to (v ∷ vs)
       next_written = written_append (closed (v ∷ vs)) (begun_view sum size m stable (last_of v vs) ∷ []) (closed_some v vs) ∙ closed_written v vs
 
+      -- The first one lies where it lay, and older slots are those that they were.
+      first_there : first_place next ≡ v.parts.site.place
+      first_there = first_append (closed (v ∷ vs)) (begun_view sum size m stable (last_of v vs) ∷ []) (closed_some v vs) ∙ closed_first v vs
+
+      begun_next : AreBegun sum size device.log.bytes v.parts.site.place m → AreBegun sum size device.log.bytes (first_place next) (handed_out place m)
+      begun_next begun = subst (λ p. AreBegun sum size device.log.bytes p (handed_out place m)) (sym first_there) (begun_handed sum size m (next_within m slots) place device.log.bytes v.parts.site.place (omega (arith, lies)) begun)
+
+      entries_next : (H : History) → HoldsLine sum size device fault (v ∷ vs) H → HaveEntries sum size device.snapshots.file H m → HaveEntries sum size device.snapshots.file H (handed_out place m)
+      entries_next H holds e = entries_handed sum size m (next_within m slots) place device.snapshots.file H e (let low = (newest_low sum size device fault (v ∷ vs) H holds e.first e.begins).0 in omega (arith, low, lies))
+
       slots_next : HasSlots size (v ∷ vs) device.log.bytes fault m → HasSlots size next device.log.bytes fault (handed_out place m)
       slots_next has =
           let first = All-head (HasSlot size m) v vs has.taken in
@@ -240,6 +258,8 @@ module _ (sum : List ℕ → ℕ) (size : ℕ) where
             (line_fits_closed sum size device fault fits.reach pins H A f U v vs closable fits.parts);
         batches = batches_next H fits.batches;
         slots = slots_next fits.slots;
+        begun = λ none. begun_next (fits.begun none);
+        entries = entries_next H (line_holds sum size device fault (v ∷ vs) fits.reach pins H A f U fits.parts) fits.entries;
       }
 
   -- Tickets are for what they were for,

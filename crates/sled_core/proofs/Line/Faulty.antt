@@ -13,6 +13,7 @@ use Rattle.sled_core.specs.FreeSlots.{HasSlots}
 use Rattle.sled_core.specs.OpenBatches.{stable_below}
 use Rattle.sled_core.specs.Recoverable.{LeavesRecoverable}
 use Rattle.sled_core.specs.Running.{FitsLine, FitsWith}
+use Rattle.sled_core.specs.Slots.{HaveEntries}
 use Rattle.sled_core.proofs.Flush.FlushLemmas.{fault_or_none, holds-faulty}
 use Rattle.sled_core.proofs.Flush.SameFits.{fits_faulty}
 
@@ -81,6 +82,8 @@ fits_with_answer sum noted size size' device new fault now line line' m m' pins 
         (subst (LeavesRecoverable sum size H (stable_below fits.reach H.batches) f) (sym d) (line_leaves sum size device fault line fits.reach pins H A f U fits.parts));
     batches = fits.batches;
     slots = slots_line_faulty size line device.log.bytes new.log.bytes fault m fits.slots e now is;
+    begun = λ none. cc;
+    entries = subst (λ (s : State). HaveEntries sum size s.snapshots.file H m) (sym d) fits.entries;
   }
 ])
 

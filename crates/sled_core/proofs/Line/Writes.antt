@@ -62,7 +62,7 @@ module _ (sum : List ℕ → ℕ) (size : ℕ) (big : 256 ≤ size) (device : St
   calls_are line n among =
       ap (write_of k) among ∙ ap (λ e. writing (v.parts.site.slot + buffer_begin) (bytes_between v.parts.bytes buffer_begin e) []) (end_to v.parts.written_len v.parts.sealed k b there)
 
-  rises : (place : ℕ) → IsSegment size place v → EndsRise v.parts.written_len v.parts.sealed (length v.parts.bytes)
+  pub rises : (place : ℕ) → IsSegment size place v → EndsRise v.parts.written_len v.parts.sealed (length v.parts.bytes)
   rises place is =
       let up = written_within size place v is in
       let begins = is.begins in

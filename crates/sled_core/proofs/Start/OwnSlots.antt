@@ -52,37 +52,32 @@ module _ (m : Machine) (within : next_slot m ≤ length m.slots) (place : ℕ) w
   pub handed_other : (k : ℕ) → k ≢ next_slot m → slot_at (handed_out place m) k ≡ slot_at m k
   handed_other k other = put_other (next_slot m) (taken_slot place) m.slots k within other
 
+  -- A slot that isn't free then is that one, or it was as it is.
+  pub taken_cases : (k : ℕ) → is_free (slot_at (handed_out place m) k).state ≡ false
+      → (((slot_at (handed_out place m) k).lsn ≡ place) × (k ≡ next_slot m)) ⊎ (((slot_at (handed_out place m) k).lsn ≡ (slot_at m k).lsn) × (is_free (slot_at m k).state ≡ false))
+  taken_cases k taken = elim (cases_eq k (next_slot m)) [
+    | inl new ↦ inl (ap (λ n. (slot_at (handed_out place m) n).lsn) new ∙ ap (λ (x : SlotState). x.lsn) handed_there, new)
+    | inr old ↦ inr (ap (λ (x : SlotState). x.lsn) (handed_other k old), ap (λ (x : SlotState). is_free x.state) (sym (handed_other k old)) ∙ taken)
+  ]
+
   -- Where it lies behind all others, each has a segment of its own.
   module _ (size : ℕ) (some : 0 < size) (at : place % size ≡ 0) (own : HaveOwn size place m) where
-    -- that of a slot: it is the one at that place, or as it was
-    abbrev IsOwn : ℕ → Type 0
-    IsOwn k = ((slot_at (handed_out place m) k).lsn ≡ place) × (k ≡ next_slot m)
-
-    abbrev WasOwn : ℕ → Type 0
-    WasOwn k = ((slot_at (handed_out place m) k).lsn ≡ (slot_at m k).lsn) × (is_free (slot_at m k).state ≡ false)
-
-    own_cases : (k : ℕ) → is_free (slot_at (handed_out place m) k).state ≡ false → IsOwn k ⊎ WasOwn k
-    own_cases k taken = elim (cases_eq k (next_slot m)) [
-      | inl new ↦ inl (ap (λ n. (slot_at (handed_out place m) n).lsn) new ∙ ap (λ (x : SlotState). x.lsn) handed_there, new)
-      | inr old ↦ inr (ap (λ (x : SlotState). x.lsn) (handed_other k old), ap (λ (x : SlotState). is_free x.state) (sym (handed_other k old)) ∙ taken)
-    ]
-
     pub own_handed : HaveOwn size (place + size) (handed_out place m)
     own_handed = record {
-      aligned = λ k taken. elim (own_cases k taken) [
+      aligned = λ k taken. elim (taken_cases k taken) [
         | inl new ↦ ap (λ n. n % size) new.0 ∙ at
         | inr old ↦ ap (λ n. n % size) old.0 ∙ own.aligned k old.1
       ];
-      below = λ k taken. elim (own_cases k taken) [
+      below = λ k taken. elim (taken_cases k taken) [
         | inl new ↦ (let is = new.0 in omega (arith, is))
         | inr old ↦ (let is = old.0 in let low = own.below k old.1 in omega (arith, is, low))
       ];
-      one = λ j k taken_j taken_k same. elim (own_cases j taken_j) [
-        | inl new_j ↦ elim (own_cases k taken_k) [
+      one = λ j k taken_j taken_k same. elim (taken_cases j taken_j) [
+        | inl new_j ↦ elim (taken_cases k taken_k) [
           | inl new_k ↦ new_j.1 ∙ sym new_k.1
           | inr old_k ↦ absurd (let a = new_j.0 in let b = old_k.0 in let low = own.below k old_k.1 in omega (arith, a, b, low, same, some))
         ]
-        | inr old_j ↦ elim (own_cases k taken_k) [
+        | inr old_j ↦ elim (taken_cases k taken_k) [
           | inl new_k ↦ absurd (let a = old_j.0 in let b = new_k.0 in let low = own.below j old_j.1 in omega (arith, a, b, low, same, some))
           | inr old_k ↦ own.one j k old_j.1 old_k.1 (sym old_j.0 ∙ same ∙ old_k.0)
         ]
@@ -172,3 +167,29 @@ module _ (size len : ℕ) (some : 0 < size) (s : SnapshotModel) where
     by (Some a) active = own_started startable (stable / size * size + size) (λ e there. low_active startable a e (subst (λ (o : Option ℕ). Contains (active_entry stable o ++ entries_of s.pages) e) active there))
     by None none = own_handed start within (raised size stable) size some (mul-mod_left ((stable + (size - 1)) / size) size)
         (own_started startable (raised size stable) (λ e there. low_raised startable e (subst (λ (o : Option ℕ). Contains (active_entry stable o ++ entries_of s.pages) e) none there)))
+
+  -- A slot whose segment is older than that of the log has an entry of the snapshot.
+  pub older : IsStartable size len s → next_slot start ≤ length start.slots → (k : ℕ) → is_free (slot_at (begun_machine size len s) k).state ≡ false → (slot_at (begun_machine size len s) k).lsn < place_at size stable s.active
+      → (e : Entry) × Contains (entries_of s.pages) e × (slot_of size e ≡ k) × ((slot_at (begun_machine size len s) k).lsn ≡ segment_number_of size e * size)
+  older startable within k = by s.active refl where
+    by : (o : Option ℕ) → s.active ≡ o → is_free (slot_at (with_current (place_at size stable o) o start) k).state ≡ false → (slot_at (with_current (place_at size stable o) o start) k).lsn < place_at size stable o
+        → (e : Entry) × Contains (entries_of s.pages) e × (slot_of size e ≡ k) × ((slot_at (with_current (place_at size stable o) o start) k).lsn ≡ segment_number_of size e * size)
+    by (Some a) active taken low =
+        let e = found_taken k taken in
+        elim (in_cases (pos stable, Inline a, 0) e.entry (entries_of s.pages) (subst (λ (o : Option ℕ). Contains (active_entry stable o ++ entries_of s.pages) e.entry) active e.among)) [
+          | inl first ↦ absurd (let same = ap (λ (x : Entry). segment_number_of size x * size) first in let is = e.is in omega (arith, same, is, low))
+          | inr among ↦ (e.entry, among, e.slot, e.is)
+        ]
+    by None none taken low = elim (taken_cases start within (raised size stable) k taken) [
+      | inl new ↦ absurd (let at = new.0 in omega (arith, at, low))
+      | inr old ↦ (
+          let e = found_taken k old.1 in
+          (e.entry, subst (λ (o : Option ℕ). Contains (active_entry stable o ++ entries_of s.pages) e.entry) none e.among, e.slot, old.0 ∙ e.is))
+    ]
+
+  -- The segment of the stable place doesn't begin above it.
+  pub least_low : stable / size * size ≤ place_at size stable s.active
+  least_low = by s.active where
+    by : (o : Option ℕ) → stable / size * size ≤ place_at size stable o
+    by (Some a) = omega arith
+    by None = let up : stable + (size - 1) < raised size stable + size = lt-div-mul-add some in let whole = mod-add-div' stable size in omega (arith, up, whole, some)

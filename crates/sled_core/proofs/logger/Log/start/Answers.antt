@@ -34,6 +34,7 @@ use Rattle.sled_core.specs.Running.{Ready, Fits, FitsIn, FitsLine}
 use Rattle.sled_store.proofs.Segments.StartedFile.{started_file, started-log, started-snapshots, started-blobs}
 use Rattle.sled_core.proofs.Holds.FitsBatches.{batches_begun}
 use Rattle.sled_core.proofs.Start.BegunSlots.{begun_slots}
+use Rattle.sled_core.proofs.Start.OlderStarted.{start_begun, start_entries}
 use Rattle.sled_core.proofs.Start.StartedMoments.{started_throughout}
 use Rattle.sled_core.proofs.Start.ReadyStarts.{ready_starts}
 use Rattle.sled_core.proofs.Start.StartFits.{start_fits}
@@ -177,6 +178,10 @@ returns-in-Ok-clause-fits g c = λ H A f ready.
           (begins_closed g.C.Checksum.sum_of size (state_of old) now s H c.in-Ok.buffer.bytes.items c.args.config.config.least ready.ready c.in-Ok.ensures.answers.0 log_now (ap (λ (t : Trace). (state_of t).snapshots.file) c.in-Ok.ensures.made ∙ ap (λ (n : NamesState). n.file) (started-snapshots size some (state_of old).log.bytes s old)) c.in-Ok.beginning c.in-Ok.ensures.beginning first.header first.resumed));
       slots = subst (λ (ss : List SegmentBuffer). HasSlots c.begin.new.config.config.segment_size (line_at site c.in-Ok.buffer ss) now.log.bytes None (machine_of c.in-Ok.accountant)) (sym c.no_segments.ensures)
           (start_slots size same some s (state_of old).log.bytes now.log.bytes c.in-Ok.ensures.answers.0 (ap (λ (l : LogState). l.bytes) log_now) (view_at site c.in-Ok.buffer) (ap (λ (x : Beginning). record { place = x.place; slot = x.slot }) c.in-Ok.ensures.beginning) c.in-Ok.ensures.machine);
+      begun = λ none. start_begun g.C.Checksum.sum_of size c.args.config.config.least (state_of old) s H ready.ready ready.alone c.in-Ok.ensures.answers.0 same (ap (λ (l : LogState). l.bytes) log_now)
+          (ap (λ (x : Beginning). x.place) c.in-Ok.ensures.beginning ∙ begins_place size (slots_of size (length (state_of old).log.bytes)) (stable_place s.stable) (unused size (slots_of size (length (state_of old).log.bytes)) s) s.active) c.in-Ok.ensures.machine;
+      entries = start_entries g.C.Checksum.sum_of size c.args.config.config.least (state_of old) s H ready.ready ready.alone c.in-Ok.ensures.answers.0 same now.snapshots.file
+          (ap (λ (t : Trace). (state_of t).snapshots.file) c.in-Ok.ensures.made ∙ ap (λ (n : NamesState). n.file) (started-snapshots size some (state_of old).log.bytes s old)) c.in-Ok.ensures.machine;
     }
 
 -- damage comes only where a log can't begin
