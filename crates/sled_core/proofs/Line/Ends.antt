@@ -164,7 +164,11 @@ module _ (sum : List ℕ → ℕ) (size : ℕ) (device : State) (fault : Option 
 pub slots_set : (size : ℕ) (line : List SegmentView) (log : List ℕ) (fault : Option IoError) (m : Machine) (n : ℕ) (v w : SegmentView) → slice_get line n ≡ Some v → w.parts.site ≡ v.parts.site → HasSlots size line log fault m → HasSlots size (set line n w) log fault m
 slots_set size line log fault m n v w there site slots =
     let its : HasSlot size m v = at_there (HasSlot size m) line n v there slots.taken in
-    record { taken = All-set (HasSlot size m) line n w (record { number = its.number; lies = ap (λ (p : SegmentPosition). p.slot) site ∙ its.lies; taken = its.taken; is = its.is ∙ ap (λ (p : SegmentPosition). p.place) (sym site) }) slots.taken; zeros = slots.zeros; own = subst (λ e. HaveOwn size e m) (sym (end_set size line n v w there site)) slots.own }
+    record {
+      taken = All-set (HasSlot size m) line n w (record { number = its.number; lies = ap (λ (p : SegmentPosition). p.slot) site ∙ its.lies; taken = its.taken; is = its.is ∙ ap (λ (p : SegmentPosition). p.place) (sym site) }) slots.taken;
+      zeros = slots.zeros;
+      own = subst (λ e. HaveOwn size e m) (sym (end_set size line n v w there site)) slots.own;
+    }
 
 -- So is what is written of the first segment.
 pub written_set : (line : List SegmentView) (n : ℕ) (v w : SegmentView) → slice_get line n ≡ Some v → w.parts.site ≡ v.parts.site → w.parts.written_len ≡ v.parts.written_len → written_to (set line n w) ≡ written_to line
@@ -234,7 +238,12 @@ module _ (sum : List ℕ → ℕ) (size : ℕ) (device : State) (fault : Option 
       → (H' : History) × AddsMessage H (message_in v.parts.site v.parts.bytes r) H' × FitsWith sum noted size device fault (set line n (ended_now i r (completing r) Completed v)) machine pins H' A f (message_in v.parts.site v.parts.bytes r ∷ U)
   fits_completed none pins H A f U least ok out fits =
       let done = complete_fits sum size device fault v i r at is_open none line n place fits.reach pins H A f U least ok out there facts fits.parts in
-      (done.0, done.1, record { reach = fits.reach; parts = done.2; batches = batches_set (ended_now i r (completing r) Completed v) refl refl done.0 (batches_completed (written_to line) (line_end size line) noted H done.0 (message_in v.parts.site v.parts.bytes r) done.1 (beside H (line_holds sum size device fault line fits.reach pins H A f U fits.parts)) fits.batches); slots = slots_set size line device.log.bytes fault machine n v (ended_now i r (completing r) Completed v) there refl fits.slots;
+      (done.0, done.1, record {
+        reach = fits.reach;
+        parts = done.2;
+        batches = batches_set (ended_now i r (completing r) Completed v) refl refl done.0 (batches_completed (written_to line) (line_end size line) noted H done.0 (message_in v.parts.site v.parts.bytes r) done.1 (beside H (line_holds sum size device fault line fits.reach pins H A f U fits.parts)) fits.batches);
+        slots = slots_set size line device.log.bytes fault machine n v (ended_now i r (completing r) Completed v) there refl fits.slots;
         begun = λ none. subst (λ p. AreBegun sum size device.log.bytes p machine) (sym (first_set line n v (ended_now i r (completing r) Completed v) there refl)) (fits.begun none);
         entries = entries_adds sum size device.snapshots.file H done.0 (message_in v.parts.site v.parts.bytes r) machine done.1 fits.entries
-            (newest_before H (line_holds sum size device fault line fits.reach pins H A f U fits.parts) fits.entries.first fits.entries.begins) })
+            (newest_before H (line_holds sum size device fault line fits.reach pins H A f U fits.parts) fits.entries.first fits.entries.begins);
+      })

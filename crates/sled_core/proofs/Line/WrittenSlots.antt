@@ -40,7 +40,8 @@ header_beside sum log at xs lid place mark beside header =
 
 module _ (sum : List ℕ → ℕ) (size : ℕ) where
   -- A segment that is written has its header in the file.
-  pub headers_line : (device : State) (fault : Option IoError) → fault ≡ None → (line : List SegmentView) (n : ℕ) (v : SegmentView) (H : History) → HoldsLine sum size device fault line H → slice_get line n ≡ Some v → 0 < v.parts.written_len → HasHeader sum device.log.bytes v.parts.site
+  pub headers_line : (device : State) (fault : Option IoError) → fault ≡ None → (line : List SegmentView) (n : ℕ) (v : SegmentView) (H : History) → HoldsLine sum size device fault line H
+      → slice_get line n ≡ Some v → 0 < v.parts.written_len → HasHeader sum device.log.bytes v.parts.site
   headers_line device fault whole line n v H holds there some = with_part sum size device fault line n v H holds there (λ stays own segment.
       let on = segment.written whole in
       subst (λ (l : List ℕ). HasHeader sum l v.parts.site) (sym (ap (λ (l : LogState). l.bytes) on.settled)) (on.file.header some))
@@ -93,8 +94,8 @@ module _ (sum : List ℕ → ℕ) (size : ℕ) where
   first_at place (x ∷ xs) are n v there = are.0.at
 
   -- A segment is written to: the older ones have their headers still.
-  pub begun_beside : (log : List ℕ) (m : Machine) (place : ℕ) (line : List SegmentView) → AreSegments size place line → (n : ℕ) (v : SegmentView) → slice_get line n ≡ Some v → All (HasSlot size m) line → (at : ℕ) (xs : List ℕ) → v.parts.site.slot ≤ at → at + length xs ≤ v.parts.site.slot + size
-      → 20 ≤ size → AreBegun sum size log (first_place line) m → AreBegun sum size (overwritten log at xs) (first_place line) m
+  pub begun_beside : (log : List ℕ) (m : Machine) (place : ℕ) (line : List SegmentView) → AreSegments size place line → (n : ℕ) (v : SegmentView) → slice_get line n ≡ Some v → All (HasSlot size m) line
+      → (at : ℕ) (xs : List ℕ) → v.parts.site.slot ≤ at → at + length xs ≤ v.parts.site.slot + size → 20 ≤ size → AreBegun sum size log (first_place line) m → AreBegun sum size (overwritten log at xs) (first_place line) m
   begun_beside log m place line are n v there slots at xs low high long begun k taken older =
       let had = begun k taken older in
       let own : HasSlot size m v = at_there (HasSlot size m) line n v there slots in
