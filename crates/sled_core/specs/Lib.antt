@@ -31,6 +31,7 @@ pub mod Running
 pub mod Scan
 pub mod SealedBuffers
 pub mod SealedProps
+pub mod Slots
 pub mod Sources
 pub mod Stable
 pub mod StableEnds
