@@ -1,7 +1,10 @@
+pub mod AheadLemmas
+pub mod Failures
 pub mod Headers
 pub mod KeptLemmas
 pub mod Kinds
 pub mod LeftLemmas
+pub mod NextLemmas
 pub mod OfSlots
 pub mod OneReplay
 pub mod Records

@@ -7,6 +7,7 @@ ghost use Rattle.sled_codec.specs.Places.{part};
 ghost use Rattle.sled_codec.specs.Record.{IsHeader};
 ghost use Rattle.sled_store.specs.Device.{state_of};
 ghost use Rattle.sled_store.specs.Causes.{DeviceAnswers};
+ghost use Rattle.sled_core.specs.LogSegments.{begins_from};
 
 pub mod blobs;
 pub mod log_iter;
@@ -30,6 +31,14 @@ pub struct Segment {
     pub slot: LogOffset,
     /// The mark of its header: up to here the log was stable when the segment was begun, or -1.
     pub mark: Lsn,
+}
+
+/// Returns where the segment begins that holds a place, from which an iterator begins; a negative one counts as 0.
+pub fn begins_from(size: u64, lsn: Lsn) -> u64
+    requires { 0 < size }
+    ensures { result ≡ begins_from size lsn }
+{
+    u64::try_from(lsn).unwrap_or(0) / size * size
 }
 
 /// Returns the bytes of a slot of the log file, as far as the file has them.

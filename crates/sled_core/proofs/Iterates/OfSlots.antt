@@ -1,14 +1,21 @@
 -- The segments of the slots of a log, one slot behind another.
-use Rattle.std.proofs.Common.{◌≡◌, ◌∙◌, ◌+◌, ◌<◌, ℕ, suc, List, [], ◌∷◌, ◌++◌, length, take, get_or, ap, sym, refl, arith}
-use Rattle.std.proofs.lemmas.List.{append-assoc, append-nil}
+use Rattle.std.proofs.Common.{◌≡◌, ◌∙◌, ◌+◌, ◌<◌, ℕ, zero, suc, List, [], ◌∷◌, ◌++◌, length, take, get_or, Option, Some, None, IfSome, ap, sym, refl, arith}
+use Rattle.std.specs.List.{All}
+use Rattle.std.proofs.lemmas.List.Elements.{All-cons, All-nil}
+use Rattle.std.proofs.lemmas.List.{append_assoc, append-nil}
 use Rattle.sled_store.specs.SegmentStates.{SlotState, free_slot}
 use Rattle.sled_core.specs.declared.iterator.Segment.{Segment}
-use Rattle.sled_core.specs.LogSegments.{segment_within, segments_among}
+use Rattle.sled_core.specs.LogSegments.{list_of, segment_within, segments_among}
 
 -- those of one slot more
-pub among_further : (size from to i : ℕ) (slots : List SlotState) (k : ℕ) → k < length slots → segments_among size from to i (take (k + 1) slots) ≡ segments_among size from to i (take k slots) ++ segment_within size from to (i + k) (get_or slots k free_slot)
+pub among_further : (size from to i : ℕ) (slots : List SlotState) (k : ℕ) → k < length slots → segments_among size from to i (take (suc k) slots) ≡ segments_among size from to i (take k slots) ++ segment_within size from to (i + k) (get_or slots k free_slot)
 among_further size from to i [] k lt = absurd (omega (arith, lt))
-among_further size from to i (s ∷ ss) 0 lt = append-nil (segment_within size from to i s) ∙ ap (λ n. segment_within size from to n s) (omega arith)
+among_further size from to i (s ∷ ss) zero lt = append-nil (segment_within size from to i s) ∙ ap (λ n. segment_within size from to n s) (omega arith)
 among_further size from to i (s ∷ ss) (suc k) lt =
     ap (λ (l : List Segment). segment_within size from to i s ++ l) (among_further size from to (suc i) ss k (omega (arith, lt)) ∙ ap (λ n. segments_among size from to (suc i) (take k ss) ++ segment_within size from to n (get_or ss k free_slot)) (omega arith))
-    ∙ sym (append-assoc (segment_within size from to i s) (segments_among size from to (suc i) (take k ss)) (segment_within size from to (i + suc k) (get_or ss k free_slot)))
+    ∙ sym (append_assoc (segment_within size from to i s) (segments_among size from to (suc i) (take k ss)) (segment_within size from to (i + suc k) (get_or ss k free_slot)))
+
+-- what holds of what there is holds of all of it
+pub all_of : {A : Type 0} (P : A → Type 0) (o : Option A) → IfSome o P → All P (list_of o)
+all_of P None holds = All-nil P
+all_of P (Some a) holds = All-cons P a [] holds (All-nil P)

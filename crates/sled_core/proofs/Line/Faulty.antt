@@ -1,5 +1,5 @@
 -- A log whose device failed in a call holds and fits what it did, and so does one with the same segments and slots.
-use Rattle.std.proofs.Common.{◌≡◌, ◌∙◌, ◌∷◌, inl, inr, [], ap, sym, subst, ℕ, List, Option, None, Some, refl}
+use Rattle.std.proofs.Common.{◌≡◌, ◌⊎◌, ◌∙◌, ◌∷◌, inl, inr, [], ap, sym, subst, ℕ, List, Option, None, Some, refl}
 use Rattle.std.specs.declared.io.Error.{Error as IoError}
 use Rattle.sled_codec.specs.History.{Batch, Message, History}
 use Rattle.sled_store.specs.Device.{Event, NamesState, State, Trace, Synced, Wrote, state_of, step}
@@ -54,12 +54,12 @@ pub fits_with_device : (sum : List ℕ → ℕ) (noted : List Batch) (size : ℕ
 fits_with_device sum noted size device new fault now line m pins H A f U d o fits =
     subst (λ (s : State). FitsWith sum noted size s now line m pins H A f U) (sym d) (subst (λ (x : Option IoError). FitsWith sum noted size device x line m pins H A f U) (sym o) fits)
 
--- A call that reads its device alone, and keeps a failure of it.
+-- A call that reads its device alone, and keeps what failure there was, or one more.
 
-pub holds_with_answer : (sum : List ℕ → ℕ) (noted : List Batch) (size size' : ℕ) (device new : State) (fault now : Option IoError) (line line' : List SegmentView) (m m' : Machine) (H : History) → size' ≡ size → line' ≡ line → m' ≡ m → new ≡ device → fault ≡ None
+pub holds_with_kept : (sum : List ℕ → ℕ) (noted : List Batch) (size size' : ℕ) (device new : State) (fault now : Option IoError) (line line' : List SegmentView) (m m' : Machine) (H : History) → size' ≡ size → line' ≡ line → m' ≡ m → new ≡ device → (now ≡ fault) ⊎ ((e : IoError) × (now ≡ Some e))
     → HoldsWith sum noted size device fault line m H → HoldsWith sum noted size' new now line' m' H
-holds_with_answer sum noted size size' device new fault now line line' m m' H s l a d none holds = holds_with_same sum noted noted size size' new now line line' m m' H refl s l a (elim (fault_or_none now) [
-  | inl still ↦ holds_with_device sum noted size device new fault now line m H d (still ∙ sym none) holds
+holds_with_kept sum noted size size' device new fault now line line' m m' H s l a d kept holds = holds_with_same sum noted noted size size' new now line line' m m' H refl s l a (elim kept [
+  | inl still ↦ holds_with_device sum noted size device new fault now line m H d still holds
   | inr (e, is) ↦ record {
     holds = holds_line_faulty sum size device fault line H holds.holds new e now is (ap (λ (x : State). x.snapshots) d);
     batches = holds.batches;
@@ -72,10 +72,10 @@ line_leaves : (sum : List ℕ → ℕ) (size : ℕ) (device : State) (fault : Op
 line_leaves sum size device fault [] reach pins H A f U fits = absurd fits
 line_leaves sum size device fault (v ∷ vs) reach pins H A f U fits = fits.left
 
-pub fits_with_answer : (sum : List ℕ → ℕ) (noted : List Batch) (size size' : ℕ) (device new : State) (fault now : Option IoError) (line line' : List SegmentView) (m m' : Machine) (pins pins' : ℕ) (H : History) (A f : ℕ) (U : List Message) → size' ≡ size → line' ≡ line → m' ≡ m → pins' ≡ pins → new ≡ device
-    → fault ≡ None → FitsWith sum noted size device fault line m pins H A f U → FitsWith sum noted size' new now line' m' pins' H A f U
-fits_with_answer sum noted size size' device new fault now line line' m m' pins pins' H A f U s l a p d none fits = fits_with_same sum noted noted size size' new now line line' m m' pins pins' H A f U refl s l a p (elim (fault_or_none now) [
-  | inl still ↦ fits_with_device sum noted size device new fault now line m pins H A f U d (still ∙ sym none) fits
+pub fits_with_kept : (sum : List ℕ → ℕ) (noted : List Batch) (size size' : ℕ) (device new : State) (fault now : Option IoError) (line line' : List SegmentView) (m m' : Machine) (pins pins' : ℕ) (H : History) (A f : ℕ) (U : List Message) → size' ≡ size → line' ≡ line → m' ≡ m → pins' ≡ pins → new ≡ device
+    → (now ≡ fault) ⊎ ((e : IoError) × (now ≡ Some e)) → FitsWith sum noted size device fault line m pins H A f U → FitsWith sum noted size' new now line' m' pins' H A f U
+fits_with_kept sum noted size size' device new fault now line line' m m' pins pins' H A f U s l a p d kept fits = fits_with_same sum noted noted size size' new now line line' m m' pins pins' H A f U refl s l a p (elim kept [
+  | inl still ↦ fits_with_device sum noted size device new fault now line m pins H A f U d still fits
   | inr (e, is) ↦ record {
     reach = fits.reach;
     parts = fits_line_faulty sum size device fault line fits.reach pins H A f U fits.parts new e now is (ap (λ (x : State). x.blobs) d) (ap (λ (x : State). x.snapshots) d)
@@ -86,6 +86,10 @@ fits_with_answer sum noted size size' device new fault now line line' m m' pins 
     entries = subst (λ (s : State). HaveEntries sum size s.snapshots.file H m) (sym d) fits.entries;
   }
 ])
+
+-- where there was none, what there is now is none or a failure
+pub none_or_kept : (fault now : Option IoError) → fault ≡ None → (now ≡ fault) ⊎ ((e : IoError) × (now ≡ Some e))
+none_or_kept fault now none = elim (fault_or_none now) [ inl still ↦ inl (still ∙ sym none) | inr some ↦ inr some ]
 
 -- A write and a sync of the log file leave blobs and snapshots as they were.
 pub names_written : (at : ℕ) (xs : List ℕ) (old new : Trace) → Performs (Wrote at xs xs ∷ Synced ∷ []) old new → ((state_of new).blobs ≡ (state_of old).blobs) × ((state_of new).snapshots ≡ (state_of old).snapshots)

@@ -1,5 +1,5 @@
 //! The messages of a running log by place: those of the segments that the log has, up to its stable end.
-ghost use Rattle.std.specs.Prelude.{◌≡◌, ◌<◌, ℕ, All, List, Bool, length, IfNone, IfSome, IfOk, IsOkUnless, None, OnSome};
+ghost use Rattle.std.specs.Prelude.{◌≡◌, ◌<◌, ◌++◌, ℕ, All, List, Bool, length, IfNone, IfSome, IfOk, IsOkUnless, None, OnOk, OnSome};
 ghost use Rattle.sled_codec.specs.declared.result.Error.TheVariants.{OutOfMemory};
 ghost use Rattle.sled_store.specs.Accounts.{IsAccountant, machine_of};
 ghost use Rattle.sled_store.specs.Device.{state_of};
@@ -10,7 +10,7 @@ ghost use Rattle.sled_core.specs.Keeps.{OnlyReads};
 ghost use Rattle.sled_core.specs.LogSegments.{list_of, segment_within, segments_among};
 ghost use Rattle.sled_store.specs.SegmentStates.{slot_at};
 
-use crate::iterator::Segment;
+use crate::iterator::{Segment, begins_from};
 use crate::iterator::log_iter::LogIter;
 use crate::iterator::rest::Rest;
 use crate::logger::Log;
@@ -62,7 +62,7 @@ impl<D: Device, C: Checksum> Log<D, C> {
             return Err(Error::Io(e));
         }
         let size = self.config.config.segment_size;
-        let from = u64::try_from(lsn).unwrap_or(0) / size * size;
+        let from = begins_from(size, lsn);
         let alloc = self.config.alloc();
         let mut segments = segments_within(&self.accountant, alloc, size, from, to)?;
         segments.sort_by_key(|segment| segment.place)?;
@@ -123,12 +123,24 @@ fn segments_within(
     let count = accountant.slot_count();
     let mut slot = 0;
     while slot < count {
-        if let Some(segment) = segment_within(accountant, slot, size, from, to) {
-            segments.push(segment)?;
-        }
+        put(
+            &mut segments,
+            segment_within(accountant, slot, size, from, to),
+        )?;
         slot += 1;
     }
     Ok(segments)
+}
+
+/// Puts a segment behind others, where there is one.
+fn put(segments: &mut Vec<Segment>, found: Option<Segment>) -> Result<()>
+    ensures put { OnOk result (segments.new.items ≡ segments.old.items ++ list_of found) }
+    ensures memory { IsOkUnless result OutOfMemory }
+{
+    if let Some(segment) = found {
+        segments.push(segment)?;
+    }
+    Ok(())
 }
 
 /// The segment in a slot, where it begins from one place up to another.

@@ -8,9 +8,9 @@ use Rattle.sled_core.proofs.logger.iterating.segments_within.Given as goal
 abbrev pub invariant-loop-slot : goal.invariant-loop-slot
 invariant-loop-slot l =
     record {
-      are : l.segments.items ≡ segments_among l.fn.size l.fn.from l.fn.to 0 (take l.slot (machine_of l.fn.accountant.now).slots);
+      are : l.segments.items ≡ segments_among l.fn.size l.fn.from l.fn.to 0 (take l.slot (machine_of l.fn.accountant).slots);
       ends : All (HasEnds l.fn.size) l.segments.items;
-      within : l.slot ≤ length (machine_of l.fn.accountant.now).slots;
+      within : l.slot ≤ length (machine_of l.fn.accountant).slots;
     }
 
 abbrev pub decreases-loop-slot : goal.decreases-loop-slot

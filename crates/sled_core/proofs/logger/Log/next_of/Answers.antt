@@ -1,0 +1,33 @@
+use Rattle.std.proofs.Common.{ap, arith, refl}
+use Rattle.sled_store.specs.Device.{state_of}
+use Rattle.sled_store.specs.declared.config.Config.{Config}
+use Rattle.sled_store.specs.Accounts.{machine_of}
+use Rattle.sled_core.specs.Fits.{Holds, current_of}
+use Rattle.sled_core.specs.Positions.{position_in}
+use Rattle.sled_core.specs.Running.{Fits}
+use Rattle.sled_core.proofs.Holds.KeptCalls.{goes_on_quietly}
+use Rattle.sled_core.proofs.Iterates.Failures.{first_kept}
+use Rattle.sled_core.proofs.Line.Faulty.{fits_with_kept, holds_with_kept}
+use Rattle.sled_core.proofs.Line.LineEnds.{noted_still}
+use Rattle.sled_core.proofs.logger.Log.next_of.Goals as goal
+
+pub returns-clause-log : goal.returns-clause-log
+unfolding Holds Fits
+returns-clause-log g c =
+    let old = c.args.self.now in
+    let reads = c.next-item.ensures.reads in
+    let size = ap (λ (x : Config). x.segment_size) reads.config in
+    let kept = first_kept old.fault c.next-item.result _ c.first_failure-self.ensures in
+    record {
+      keeps = record {
+        goes_on = goes_on_quietly g.D.Device.trace g.C.Checksum.sum_of old _ (record { config = reads.config; checksum = reads.checksum }) reads.unwritten (omega arith);
+        history = λ H holds. holds_with_kept g.C.Checksum.sum_of _ _ _ _ _ _ _ _ _ _ _ H size refl refl (ap state_of reads.unwritten) kept holds;
+        fits = λ H A f U fits. fits_with_kept g.C.Checksum.sum_of _ _ _ _ _ _ _ _ _ _ _ _ _ H A f U size refl refl refl (ap state_of reads.unwritten) kept fits;
+        noted = noted_still old;
+      };
+      tickets = record { awaits = λ ticket m awaits. awaits; opens = refl };
+      position = record { position = ap (λ n. position_in n (current_of old) (machine_of old.accountant)) size; reserved = refl; pins = refl; size = size };
+      buffers = record { waiting = refl; start = refl };
+      machine = refl;
+      fault = c.first_failure-self.ensures;
+    }
