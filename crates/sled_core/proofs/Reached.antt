@@ -12,6 +12,7 @@ pub mod NotedSteps
 pub mod OpenBatch
 pub mod OpenEnds
 pub mod PutIn
+pub mod ReadOn
 pub mod ReachedCut
 pub mod ReachedEntries
 pub mod Recoverable

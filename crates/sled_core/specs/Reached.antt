@@ -33,8 +33,8 @@ pub record StandsTo (sum : List ℕ → ℕ) (size : ℕ) (log : List ℕ) (H : 
   -- each segment that begins below the place that was reached is there, and is read up to it or leads to the next one
   pub gapless : (z : ℕ) → z % size ≡ 0 → least_place size first ≤ z → z < reach
       → (t : Scanned) × Contains scanned t × (t.segment.place ≡ z) × ((reach ≤ z + t.stop) ⊎ ((t.why ≢ Broken) × (u : Segment) × Contains ordering u × (u.place ≡ z + size)))
-  -- the entries of the table are there, at the stable place and at each cut up to the place that was reached
-  pub needed : (cut : ℕ) → A ≤ cut → cut ≤ reach → (page : ℕ) (m : Message) → Contains (table H cut page) m → IsSegmentOf sum size log H cut m × StandsInline sum size log m m.pointer
+  -- the entries of the table are there, at each cut from the place of the snapshot up to the one that was reached
+  pub needed : (cut : ℕ) → stable_place first.stable ≤ cut → cut ≤ reach → (page : ℕ) (m : Message) → Contains (table H cut page) m → IsSegmentOf sum size log H cut m × StandsInline sum size log m m.pointer
 
 -- A segment that was read to an offset, in this slot and with this place, and why reading ended there.
 pub record IsReadTo (scanned : List Scanned) (slot place stop : ℕ) (why : ScanEnd) : Type 0 where

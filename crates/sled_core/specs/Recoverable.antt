@@ -23,7 +23,7 @@ use Rattle.sled_core.specs.declared.iterator.scan.ScanEnd.{ScanEnd}
 use Rattle.sled_core.specs.declared.iterator.scan.ScanEnd.TheVariants.{Capped, Broken}
 use Rattle.sled_core.specs.declared.iterator.Segment.{Segment}
 use Rattle.sled_core.specs.Scan.{IsFoundSegment, IsMet, IsPath}
-use Rattle.sled_core.specs.Tail.{IsOrdering, Scanned, AreScanned, IsTail, tail_begins, tail_end, open_at, stops_in, cut_of, least_place}
+use Rattle.sled_core.specs.Tail.{IsOrdering, Scanned, IsScanned, AreScanned, IsTail, tail_begins, tail_end, open_at, stops_in, cut_of, least_place}
 use Rattle.sled_core.specs.LogFile.{MessageStands}
 use Rattle.sled_core.specs.Good.{HasOwnBlob}
 
@@ -115,6 +115,14 @@ pub record IsReachedIn (sum : List ℕ → ℕ) (size : ℕ) (log : List ℕ) (s
   pub is_met : IsMet sum size log (s.slot + at) (s.place / size) met
   pub meets : MeetsMessage met m
 
+-- A segment is read to its end, and leads on to the next one. All that is met in it is of the history.
+pub record IsReadOn (sum : List ℕ → ℕ) (size : ℕ) (log : List ℕ) (H : History) (s : Segment) : Type 0 where
+  pub scan : Scanned
+  pub of : scan.segment ≡ s
+  pub read : IsScanned sum size log scan
+  pub goes : scan.why ≢ Broken
+  pub truth : (x : ScannedRecord) → Contains scan.met x → IsOfHistory sum size log H x
+
 -- the segment of a message is there, and in it each message below the cut is reached
 pub record IsSegmentOf (sum : List ℕ → ℕ) (size : ℕ) (log : List ℕ) (H : History) (cut : ℕ) (m : Message) : Type 0 where
   pub segment : Segment
@@ -122,6 +130,8 @@ pub record IsSegmentOf (sum : List ℕ → ℕ) (size : ℕ) (log : List ℕ) (H
   pub place : segment.place ≡ m.place / size * size
   pub reached : IsReachedIn sum size log segment m
   pub whole : (n : Message) → Contains H.messages n → n.place / size ≡ m.place / size → n.place < cut → IsReachedIn sum size log segment n
+  -- where it ends below the cut, it is read to its end
+  pub full : segment.place + size ≤ cut → IsReadOn sum size log H segment
 
 -- a mark lies below its segment, and in no batch
 pub record IsMarkOf (H : History) (s : Segment) : Type 0 where

@@ -2,7 +2,7 @@
 use Rattle.std.proofs.Common.{⊎_elim, ◌≡◌, ◌⊎◌, ◌+◌, ◌<◌, ◌<ℤ◌, ◌%◌, ◌≤◌, ℕ, pos, List, sym, ap, subst, arith, inl, inr}
 use Rattle.std.specs.List.{Contains}
 use Rattle.sled_codec.specs.History.{Message, Batch, History, AddsMessage, table}
-use Rattle.sled_codec.specs.Snapshots.{SnapshotModel}
+use Rattle.sled_codec.specs.Snapshots.{SnapshotModel, stable_place}
 use Rattle.sled_codec.proofs.Histories.{among}
 use Rattle.sled_core.specs.OpenBatches.{stable_below}
 use Rattle.sled_core.specs.declared.iobuf.SegmentPosition.{SegmentPosition}
@@ -10,10 +10,11 @@ use Rattle.sled_core.specs.declared.iterator.Segment.{Segment}
 use Rattle.sled_core.specs.declared.iterator.scan.ScannedRecord.{ScannedRecord}
 use Rattle.sled_core.specs.declared.iterator.scan.ScanEnd.TheVariants.{Capped}
 use Rattle.sled_core.specs.Reached.{BegunSegment, ReachesIn, StandsAmong, StandsTo}
-use Rattle.sled_core.specs.Recoverable.{NothingBehind, NoHeaderOfZeros, NoMessageBegins, NoBatchBegins, StandsInline, IsMarkBelow, IsOfHistory, IsSegmentOf, LiesInSegment}
+use Rattle.sled_core.specs.Recoverable.{NothingBehind, NoHeaderOfZeros, NoMessageBegins, NoBatchBegins, StandsInline, IsMarkBelow, IsOfHistory, IsReadOn, IsSegmentOf, LiesInSegment}
 use Rattle.sled_core.specs.SealedBuffers.{AreZeros}
 use Rattle.sled_core.specs.Tail.{Scanned}
 use Rattle.sled_core.proofs.Reached.Marks.{less_than}
+use Rattle.sled_core.proofs.Reached.ReadOn.{met_within, reads_on_in}
 use Rattle.sled_core.proofs.Reached.SegmentsBeside.{follows}
 use Rattle.sled_core.proofs.Sealed.HeadWritten.{reached_near}
 use Rattle.sled_core.proofs.Tail.GreatestMark.{mark_below}
@@ -40,13 +41,17 @@ module _ (sum : List ℕ → ℕ) (size : ℕ) (log : List ℕ) (some : 256 ≤ 
   met_apart : (s : Scanned) (x : ScannedRecord) → Contains is.scanned s → Contains s.met x → (low : ℕ) → x.place ≤ low → (m.place < low) ⊎ (x.place + x.len ≤ m.place)
   met_apart = met_beside sum size log some H A first reach is m.place beside
 
+  -- A record beside which the message lies is of the new history.
+  of_apart : (x : ScannedRecord) → ((low : ℕ) → x.place ≤ low → (m.place < low) ⊎ (x.place + x.len ≤ m.place)) → IsOfHistory sum size log H x → IsOfHistory sum size log H' x
+  of_apart x apart (inl own) =
+      inl (own.0, stays_there H H' m adds own.0 own.1, own.2, own.3, none_begins (x.place + 1) (x.place + x.len) (apart (x.place + 1) (omega arith)) own.4, no_batch x.place (x.place + x.len) own.5)
+  of_apart x apart (inr (inl batch)) =
+      inr (inl (batch.0, batch_stays batch.0 batch.1, batch.2, batch.3, none_begins x.place (x.place + x.len) (apart x.place (omega arith)) batch.4, no_batch (x.place + 1) (x.place + x.len) batch.5))
+  of_apart x apart (inr (inr given_up)) =
+      inr (inr (given_up.0, none_begins x.place (x.place + x.len) (apart x.place (omega arith)) given_up.1, no_batch x.place (x.place + x.len) given_up.2))
+
   of_new : (s : Scanned) (x : ScannedRecord) → Contains is.scanned s → Contains s.met x → IsOfHistory sum size log H x → IsOfHistory sum size log H' x
-  of_new s x here there (inl own) =
-      inl (own.0, stays_there H H' m adds own.0 own.1, own.2, own.3, none_begins (x.place + 1) (x.place + x.len) (met_apart s x here there (x.place + 1) (omega arith)) own.4, no_batch x.place (x.place + x.len) own.5)
-  of_new s x here there (inr (inl batch)) =
-      inr (inl (batch.0, batch_stays batch.0 batch.1, batch.2, batch.3, none_begins x.place (x.place + x.len) (met_apart s x here there x.place (omega arith)) batch.4, no_batch (x.place + 1) (x.place + x.len) batch.5))
-  of_new s x here there (inr (inr given_up)) =
-      inr (inr (given_up.0, none_begins x.place (x.place + x.len) (met_apart s x here there x.place (omega arith)) given_up.1, no_batch x.place (x.place + x.len) given_up.2))
+  of_new s x here there = of_apart x (met_apart s x here there)
 
   -- where a segment ended in a Cap, the message lies in another one
   capped_new : (s : Scanned) → Contains is.scanned s → s.why ≡ Capped → NoMessageBegins H' (s.segment.place + s.stop) (s.segment.place + size) × NoBatchBegins H' (s.segment.place + s.stop) (s.segment.place + size)
@@ -67,6 +72,10 @@ module _ (sum : List ℕ → ℕ) (size : ℕ) (log : List ℕ) (some : 256 ≤ 
         inr (n, at, under, none_begins A (n + 1) (inr (omega (arith, low))) message, no_batch A (n + 1) batch, λ b at_b. ended b (batch_was b at_b)))
   ]
 
+  -- a segment that ends below the place is read to its end as before
+  reads_on : (s : Segment) → s.slot % size ≡ 0 → s.place + size ≤ reach → IsReadOn sum size log H s → IsReadOn sum size log H' s
+  reads_on s aligned under on = reads_on_in sum size log H H' s on (λ x met. of_apart x (λ low up. let within = met_within sum size log some H s aligned on x met in inr (omega (arith, within, under, above))))
+
   segment_of_new : (cut : ℕ) → cut ≤ reach → (n : Message) → IsSegmentOf sum size log H cut n → IsSegmentOf sum size log H' cut n
   segment_of_new cut high n of = record {
     segment = of.segment;
@@ -74,9 +83,10 @@ module _ (sum : List ℕ → ℕ) (size : ℕ) (log : List ℕ) (some : 256 ≤ 
     place = of.place;
     reached = of.reached;
     whole = λ x there same under. of.whole x (among H H' m cut adds (omega (arith, high, above)) x there under) same under;
+    full = λ under. reads_on of.segment of.found.slot (omega (arith, under, high)) (of.full under);
   }
 
-  needed_new : (cut : ℕ) → A ≤ cut → cut ≤ reach → (page : ℕ) (n : Message) → Contains (table H' cut page) n → IsSegmentOf sum size log H' cut n × StandsInline sum size log n n.pointer
+  needed_new : (cut : ℕ) → stable_place first.stable ≤ cut → cut ≤ reach → (page : ℕ) (n : Message) → Contains (table H' cut page) n → IsSegmentOf sum size log H' cut n × StandsInline sum size log n n.pointer
   needed_new cut low high page n entry =
       let had = is.needed cut low high page n (entry_stays H H' m adds cut page (omega (arith, high, above)) n entry) in
       (segment_of_new cut high n had.0, had.1)
@@ -98,7 +108,7 @@ module _ (sum : List ℕ → ℕ) (size : ℕ) (log : List ℕ) (some : 256 ≤ 
     batched = λ b there. let placed = is.batched b (batch_was b there) in record { begins = placed.begins; alone = λ c at. placed.alone c (batch_was c at); nested = λ c at. placed.nested c (batch_was c at) };
     closed = λ b there low. let under = is.closed b (batch_was b there) (omega (arith, low, same)) in omega (arith, under, same);
     gapless = is.gapless;
-    needed = λ cut low high. needed_new cut (omega (arith, low, same)) high;
+    needed = needed_new;
   }
 
 -- And a write goes on in each segment that was begun where it did, where the message is to lie behind what is written of the first one, and beside all that is found.

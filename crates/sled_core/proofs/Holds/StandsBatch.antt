@@ -3,7 +3,7 @@ use Rattle.std.proofs.lemmas.Bool.{cases_lt}
 use Rattle.std.proofs.Common.{◌≢◌, ⊎_elim, ◌≡◌, ◌⊎◌, ◌∙◌, ◌+◌, ◌<◌, ◌<ℤ◌, ◌%◌, ◌≤◌, ℕ, pos, List, sym, ap, subst, arith, inl, inr}
 use Rattle.std.specs.List.{Contains}
 use Rattle.sled_codec.specs.History.{AddsBatch, Batch, History, Message, table}
-use Rattle.sled_codec.specs.Snapshots.{SnapshotModel}
+use Rattle.sled_codec.specs.Snapshots.{SnapshotModel, stable_place}
 use Rattle.sled_codec.specs.Places.{part}
 use Rattle.sled_codec.specs.Record.{IsHeader}
 use Rattle.sled_core.specs.Begun.{records_to}
@@ -13,7 +13,7 @@ use Rattle.sled_core.specs.declared.iterator.Segment.{Segment}
 use Rattle.sled_core.specs.declared.iterator.scan.ScannedRecord.{ScannedRecord}
 use Rattle.sled_core.specs.declared.iterator.scan.ScanEnd.TheVariants.{Broken, Capped}
 use Rattle.sled_core.specs.Reached.{BegunSegment, ReachesIn, StandsAmong, StandsTo}
-use Rattle.sled_core.specs.Recoverable.{NothingBehind, BeginsInSegment, IsMarkBelow, IsMarkOf, IsOfHistory, IsPlacedBatch, IsSegmentOf, NoBatchBegins, NoHeaderOfZeros, NoMessageBegins, StandsInline}
+use Rattle.sled_core.specs.Recoverable.{NothingBehind, BeginsInSegment, IsMarkBelow, IsMarkOf, IsOfHistory, IsPlacedBatch, IsReadOn, IsSegmentOf, NoBatchBegins, NoHeaderOfZeros, NoMessageBegins, StandsInline}
 use Rattle.sled_core.specs.SealedBuffers.{AreZeros}
 use Rattle.sled_core.specs.Scan.{IsFoundSegment, IsScan}
 use Rattle.sled_core.specs.Tail.{least_place, Scanned}
@@ -21,6 +21,7 @@ use Rattle.sled_core.proofs.Holds.AddedBatch.{batch_stays, batch_there, entry_wa
 use Rattle.sled_core.proofs.Holds.PlacesBeside.{LiesBeside, cap_beside, first_below, lies_beside, met_beside}
 use Rattle.sled_core.proofs.Holds.PegLemmas.{LiesBesideFilling}
 use Rattle.sled_core.proofs.Reached.Marks.{less_than}
+use Rattle.sled_core.proofs.Reached.ReadOn.{met_within, reads_on_in}
 use Rattle.sled_core.proofs.Reached.SegmentsBeside.{follows}
 use Rattle.sled_core.proofs.Reached.StableBelow.{stable_one_more}
 use Rattle.sled_core.proofs.Sealed.HeadWritten.{reached_near}
@@ -89,32 +90,36 @@ module _ (sum : List ℕ → ℕ) (size : ℕ) (log : List ℕ) (some : 256 ≤ 
   met_apart : (s : Scanned) (x : ScannedRecord) → Contains is.scanned s → Contains s.met x → (low : ℕ) → x.place ≤ low → (b.low < low) ⊎ (x.place + x.len ≤ b.low)
   met_apart = met_beside sum size log some H A first reach is b.low beside
 
-  -- the batch begins in no record that is met
-  of_new : (s : Scanned) (x : ScannedRecord) → Contains is.scanned s → Contains s.met x → IsOfHistory sum size log H x → IsOfHistory sum size log H' x
-  of_new s x here there (inl own) =
+  -- A record beside which the batch begins is of the new history.
+  of_apart : (x : ScannedRecord) → ((low : ℕ) → x.place ≤ low → (b.low < low) ⊎ (x.place + x.len ≤ b.low)) → IsOfHistory sum size log H x → IsOfHistory sum size log H' x
+  of_apart x apart (inl own) =
       inl (
         own.0,
         message_stays H H' b adds own.0 own.1,
         own.2,
         own.3,
         no_message H H' b adds (x.place + 1) (x.place + x.len) own.4,
-        no_batch H H' b adds x.place (x.place + x.len) (met_apart s x here there x.place (omega arith)) own.5,
+        no_batch H H' b adds x.place (x.place + x.len) (apart x.place (omega arith)) own.5,
       )
-  of_new s x here there (inr (inl batch)) =
+  of_apart x apart (inr (inl batch)) =
       inr (inl (
         batch.0,
         batch_stays H H' b adds batch.0 batch.1,
         batch.2,
         batch.3,
         no_message H H' b adds x.place (x.place + x.len) batch.4,
-        no_batch H H' b adds (x.place + 1) (x.place + x.len) (met_apart s x here there (x.place + 1) (omega arith)) batch.5,
+        no_batch H H' b adds (x.place + 1) (x.place + x.len) (apart (x.place + 1) (omega arith)) batch.5,
       ))
-  of_new s x here there (inr (inr given_up)) =
+  of_apart x apart (inr (inr given_up)) =
       inr (inr (
         given_up.0,
         no_message H H' b adds x.place (x.place + x.len) given_up.1,
-        no_batch H H' b adds x.place (x.place + x.len) (met_apart s x here there x.place (omega arith)) given_up.2,
+        no_batch H H' b adds x.place (x.place + x.len) (apart x.place (omega arith)) given_up.2,
       ))
+
+  -- the batch begins in no record that is met
+  of_new : (s : Scanned) (x : ScannedRecord) → Contains is.scanned s → Contains s.met x → IsOfHistory sum size log H x → IsOfHistory sum size log H' x
+  of_new s x here there = of_apart x (met_apart s x here there)
 
   -- where a segment ended in a Cap, the batch begins in another one
   capped_new : (s : Scanned) → Contains is.scanned s → s.why ≡ Capped → NoMessageBegins H' (s.segment.place + s.stop) (s.segment.place + size) × NoBatchBegins H' (s.segment.place + s.stop) (s.segment.place + size)
@@ -156,11 +161,22 @@ module _ (sum : List ℕ → ℕ) (size : ℕ) (log : List ℕ) (some : 256 ≤ 
         ))
   ]
 
-  segment_of_new : (cut : ℕ) (n : Message) → IsSegmentOf sum size log H cut n → IsSegmentOf sum size log H' cut n
-  segment_of_new cut n of = record { segment = of.segment; found = of.found; place = of.place; reached = of.reached; whole = λ x there same under. of.whole x (message_was H H' b adds x there) same under }
+  -- a segment that ends below the place is read to its end as before
+  reads_on : (s : Segment) → s.slot % size ≡ 0 → s.place + size ≤ reach → IsReadOn sum size log H s → IsReadOn sum size log H' s
+  reads_on s aligned under on = reads_on_in sum size log H H' s on (λ x met. of_apart x (λ low up. let within = met_within sum size log some H s aligned on x met in inr (omega (arith, within, under, above))))
 
-  needed_new : (cut : ℕ) → A ≤ cut → cut ≤ reach → (page : ℕ) (n : Message) → Contains (table H' cut page) n → IsSegmentOf sum size log H' cut n × StandsInline sum size log n n.pointer
-  needed_new cut low high page n entry = let had = is.needed cut low high page n (entry_was H H' b adds cut page n entry) in (segment_of_new cut n had.0, had.1)
+  segment_of_new : (cut : ℕ) → cut ≤ reach → (n : Message) → IsSegmentOf sum size log H cut n → IsSegmentOf sum size log H' cut n
+  segment_of_new cut high n of = record {
+    segment = of.segment;
+    found = of.found;
+    place = of.place;
+    reached = of.reached;
+    whole = λ x there same under. of.whole x (message_was H H' b adds x there) same under;
+    full = λ under. reads_on of.segment of.found.slot (omega (arith, under, high)) (of.full under);
+  }
+
+  needed_new : (cut : ℕ) → stable_place first.stable ≤ cut → cut ≤ reach → (page : ℕ) (n : Message) → Contains (table H' cut page) n → IsSegmentOf sum size log H' cut n × StandsInline sum size log n n.pointer
+  needed_new cut low high page n entry = let had = is.needed cut low high page n (entry_was H H' b adds cut page n entry) in (segment_of_new cut high n had.0, had.1)
 
   -- no other batch begins below the place than did
   closed_new : (c : Batch) → Contains H'.batches c → c.low < A → c.peg < A
@@ -186,7 +202,7 @@ module _ (sum : List ℕ → ℕ) (size : ℕ) (log : List ℕ) (some : 256 ≤ 
     batched = placed;
     closed = λ c there low. let under = closed_new c there (omega (arith, low, same)) in omega (arith, under, same);
     gapless = is.gapless;
-    needed = λ cut low high. needed_new cut (omega (arith, low, same)) high;
+    needed = needed_new;
   }
 
 -- And a write goes on in each segment that was begun where it did, where the batch is to begin behind what is written of the first one, and beside all that is found.

@@ -3,11 +3,11 @@ use Rattle.std.proofs.Common.{◌≡◌, ◌≢◌, ◌⊎◌, ◌∙◌, ◌+�
 use Rattle.std.specs.List.{Contains}
 use Rattle.std.proofs.lemmas.Bool.{cases_lt, cases_order}
 use Rattle.sled_codec.specs.History.{Message, Batch, History, table}
-use Rattle.sled_codec.specs.Snapshots.{SnapshotModel}
+use Rattle.sled_codec.specs.Snapshots.{SnapshotModel, stable_place}
 use Rattle.sled_store.proofs.Segments.TableEntries.{from_table}
 use Rattle.sled_core.specs.declared.iterator.Segment.{Segment}
 use Rattle.sled_core.specs.declared.iterator.scan.ScanEnd.TheVariants.{Broken}
-use Rattle.sled_core.specs.Recoverable.{NoMessageBegins, StandsInline, IsReachedIn, IsSegmentOf}
+use Rattle.sled_core.specs.Recoverable.{NoMessageBegins, StandsInline, IsReachedIn, IsReadOn, IsSegmentOf}
 use Rattle.sled_core.specs.Scan.{IsFoundSegment, IsScan}
 use Rattle.sled_core.specs.Tail.{Scanned, IsScanned, least_place}
 use Rattle.sled_store.proofs.Histories.Ascending.{Ascends}
@@ -18,6 +18,7 @@ use Rattle.sled_core.proofs.Tail.Rows.{path_covers, stop_inside}
 use Rattle.sled_core.proofs.Tail.Multiples.{put_down, one_multiple}
 use Rattle.sled_core.proofs.Tail.Tails.{further, whole}
 use Rattle.sled_core.proofs.Reached.ReachedEntries.{reached_of}
+use Rattle.sled_core.proofs.Reached.ReadOn.{full_goes, read_on}
 use Rattle.sled_core.proofs.Reached.Marks.{mark_higher}
 use Rattle.sled_core.specs.OpenBatches.{stable_below}
 use Rattle.sled_core.proofs.Reached.StableBelow.{stable_closed, stable_low, stable_rises}
@@ -58,7 +59,7 @@ stands_raised sum size log some H A first reach is to up within closed = record 
   batched = is.batched;
   closed = closed;
   gapless = is.gapless;
-  needed = λ cut low high. is.needed cut (omega (arith, low, up)) high;
+  needed = is.needed;
 }
 
 -- what leads to a segment does so where it is read as before
@@ -150,6 +151,15 @@ module _ (sum : List ℕ → ℕ) (size : ℕ) (log : List ℕ) (some : 256 ≤ 
         | inr le ↦ (le, one_multiple size some place n.place aligned le (omega (arith, lower, short)))
       ]
 
+  -- a segment that ends below the place is read to its end
+  read_on_here : (s : Segment) → IsFoundSegment sum size log 0 s → s.place % size ≡ 0 → least ≤ s.place → s.place + size ≤ high → IsReadOn sum size log H s
+  read_on_here s found at low under =
+      let g = gapless s.place at low (omega (arith, under, some)) in
+      read_on sum size log H least is.ordering is.numbers is.scanned is.reads is.truth s found low g.0 g.1 g.2 (elim g.3 [
+        | inl far ↦ full_goes sum size log some g.0 (whole sum size log some least is.ordering is.numbers is.scanned is.reads g.0 g.1) (omega (arith, far, under))
+        | inr leads ↦ leads.0
+      ])
+
   high_entry : (cut : ℕ) → cut ≤ high → (m : Message) → Contains H.messages m → reach ≤ m.place → m.place < cut → IsSegmentOf sum size log H cut m × StandsInline sum size log m m.pointer
   high_entry cut up m there above lower =
       let here = begins_here m there above (omega (arith, lower, up)) in
@@ -160,6 +170,7 @@ module _ (sum : List ℕ → ℕ) (size : ℕ) (log : List ℕ) (some : 256 ≤ 
           place = sym here.1;
           reached = its.0;
           whole = λ n at_n same under. (let own = put_down size n.place in (read_here n at_n (omega (arith, own.0, ap (λ k. k * size) same, here.1)) (omega (arith, under, up))).0);
+          full = λ under. read_on_here y.segment (record { slot = y_found.slot; header = y_found.header; not_below = omega arith }) aligned y_found.not_below (omega (arith, under, up));
         },
         its.1,
       )
@@ -175,6 +186,18 @@ module _ (sum : List ℕ → ℕ) (size : ℕ) (log : List ℕ) (some : 256 ≤ 
       let one : y.segment ≡ of.segment = one_at_place is.ordering (rises_of is.ordering is.numbers.ascending) y.segment of.segment y_known.0 also (sym places) in
       subst (λ (u : Segment). IsReachedIn sum size log u n) one (read_here n there here.0 lower).0
 
+  -- a segment that ends above what was reached isn't below that of the snapshot
+  not_under : (z : ℕ) → z % size ≡ 0 → reach < z + size → least ≤ z
+  not_under z at over = elim (cases_lt z least) [
+    | inl under ↦ (
+        let low = put_down size (stable_place first.stable) in
+        let far = multiples z least at low.1 under in
+        let near = is.not_below in
+        let passes = is.passes in
+        absurd (omega (arith, far, low.0, near, passes, over)))
+    | inr le ↦ le
+  ]
+
   low_entry : (cut : ℕ) → cut ≤ high → (m : Message) → IsSegmentOf sum size log H reach m → IsSegmentOf sum size log H cut m
   low_entry cut up m of = record {
     segment = of.segment;
@@ -182,6 +205,12 @@ module _ (sum : List ℕ → ℕ) (size : ℕ) (log : List ℕ) (some : 256 ≤ 
     place = of.place;
     reached = of.reached;
     whole = λ n there same under. elim (cases_lt n.place reach) [ inl low ↦ of.whole n there same low | inr above ↦ low_segment m of n there same above (omega (arith, under, up)) ];
+    full = λ under. elim (cases_lt reach (of.segment.place + size)) [
+      | inl over ↦ (
+          let at = ap (λ n. n % size) of.place ∙ (put_down size m.place).1 in
+          read_on_here of.segment of.found at (not_under of.segment.place at over) (omega (arith, under, up)))
+      | inr within ↦ of.full within
+    ];
   }
 
   -- at a cut behind what was reached
@@ -190,13 +219,14 @@ module _ (sum : List ℕ → ℕ) (size : ℕ) (log : List ℕ) (some : 256 ≤ 
       let from_H = from_table H cut page m entry in
       elim (cases_lt m.place reach) [
         | inl low ↦ (
+            let low_place = is.not_below in
             let near = is.passes in
-            let had = is.needed reach near (omega arith) page m (entry_earlier H ordered reach cut page above m low entry) in
+            let had = is.needed reach (omega (arith, low_place, near)) (omega arith) page m (entry_earlier H ordered reach cut page above m low entry) in
             (low_entry cut up m had.0, had.1))
         | inr behind ↦ high_entry cut up m from_H.0 behind from_H.2
       ]
 
-  needed : (cut : ℕ) → A ≤ cut → cut ≤ high → (page : ℕ) (m : Message) → Contains (table H cut page) m → IsSegmentOf sum size log H cut m × StandsInline sum size log m m.pointer
+  needed : (cut : ℕ) → stable_place first.stable ≤ cut → cut ≤ high → (page : ℕ) (m : Message) → Contains (table H cut page) m → IsSegmentOf sum size log H cut m × StandsInline sum size log m m.pointer
   needed cut low up = elim (cases_lt cut reach) [ inl under ↦ is.needed cut low (omega (arith, under)) | inr above ↦ needed_above cut above up ]
 
   -- What is read reaches further. A batch may be open in that.

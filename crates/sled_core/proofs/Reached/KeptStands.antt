@@ -1,5 +1,5 @@
 -- What has the segments in some slots of another log file, with the bytes that lay there, stands up to the same place, where these slots have each segment that is found and each that a table needs.
-use Rattle.std.proofs.Common.{◌≡◌, ◌∙◌, ◌+◌, ◌*◌, ◌/◌, ◌%◌, ◌<◌, ◌≤◌, ℕ, pos, List, [], ◌∷◌, length, refl, sym, ap, subst, arith}
+use Rattle.std.proofs.Common.{◌≡◌, ◌≢◌, ◌∙◌, ◌+◌, ◌*◌, ◌/◌, ◌%◌, ◌<◌, ◌≤◌, ℕ, pos, List, [], ◌∷◌, length, refl, sym, ap, subst, arith}
 use Rattle.std.specs.List.{Contains}
 use Rattle.sled_codec.specs.declared.result.DiskPtr.{DiskPtr}
 use Rattle.sled_codec.specs.declared.result.DiskPtr.TheVariants.{Inline, Blob}
@@ -8,13 +8,14 @@ use Rattle.sled_codec.specs.History.{Message, History, table}
 use Rattle.sled_codec.specs.Places.{part}
 use Rattle.sled_codec.specs.Pointers.{lid_of}
 use Rattle.sled_codec.specs.Record.{IsHeader}
-use Rattle.sled_codec.specs.Snapshots.{SnapshotModel}
+use Rattle.sled_codec.specs.Snapshots.{SnapshotModel, stable_place}
 use Rattle.sled_core.specs.declared.iterator.Segment.{Segment}
 use Rattle.sled_core.specs.declared.iterator.scan.ScannedRecord.{ScannedRecord}
 use Rattle.sled_core.specs.declared.iterator.scan.ScanEnd.{ScanEnd}
+use Rattle.sled_core.specs.declared.iterator.scan.ScanEnd.TheVariants.{Full, Capped, Broken}
 use Rattle.sled_core.specs.Reading.{StandsAt}
-use Rattle.sled_core.specs.Recoverable.{StandsInline, IsReachedIn, IsSegmentOf}
-use Rattle.sled_core.specs.Scan.{IsFoundSegment, IsMet, IsPath, IsScan}
+use Rattle.sled_core.specs.Recoverable.{StandsInline, IsReachedIn, IsReadOn, IsSegmentOf}
+use Rattle.sled_core.specs.Scan.{IsFoundSegment, IsMet, IsPath, IsEnd, EndsThere, IsScan}
 use Rattle.sled_core.proofs.Flush.LogFileLemmas.{record_moved}
 use Rattle.sled_core.proofs.Torn.AlikeSlots.{SameIn, slot_found}
 use Rattle.sled_core.proofs.Torn.KeptSlots.{KeepsSlots}
@@ -94,6 +95,32 @@ module _ (sum : List ℕ → ℕ) (size : ℕ) (old left : List ℕ) (slot : ℕ
         message_moved sum size old left lid (n.place / size) n (subst (λ k. part left k n.size ≡ part old k n.size) (sym at) kept.0) (omega (arith, at, kept.1)) stands
     by (Blob lid place) pointer stands = tt
 
+  -- where the reading ended and led on, it does so
+  end_kept : (place from : ℕ) (why : ScanEnd) → why ≢ Broken → IsEnd sum size old slot place from why → IsEnd sum size left slot place from why
+  unfolding EndsThere
+  end_kept place from Full goes full = full
+  end_kept place from Capped goes (room, (h, body, len, s, is_cap)) =
+      let kept = record_kept from (place / size) (omega (arith, room)) h body len s in
+      (room, (h, body, len, record_moved sum size old left (slot + from) (place / size) h body len kept.0 kept.1 s, is_cap))
+  end_kept place from Broken goes broken = absurd (goes refl)
+
+  -- So a segment that is read to its end is read so, and what is met in it is of the history.
+  pub read_on_kept : (H : History) (s : Segment) → s.slot ≡ slot → IsReadOn sum size old H s → IsReadOn sum size left H s
+  unfolding IsScan
+  read_on_kept H s here on =
+      let t : Scanned = on.scan in
+      let in_slot : t.segment.slot ≡ slot = ap (λ (u : Segment). u.slot) on.of ∙ here in
+      let path = subst (λ k. IsPath sum size old k t.segment.place 20 t.met t.stop) in_slot on.read.0 in
+      let end = subst (λ k. IsEnd sum size old k t.segment.place t.stop t.why) in_slot on.read.1 in
+      let again = path_kept t.segment.place 20 t.met t.stop path in
+      record {
+        scan = t;
+        of = on.of;
+        read = subst (λ k. IsScan sum size left k t.segment.place t.met t.stop t.why) (sym in_slot) (again, end_kept t.segment.place t.stop t.why on.goes end);
+        goes = on.goes;
+        truth = truth_alike sum size old left H slot t.segment.place 20 t.met t.stop (alike_kept t.segment.place 20 t.met t.stop path) again on.truth;
+      }
+
 module _ (sum : List ℕ → ℕ) (size : ℕ) (Used : ℕ → Type 0) (old left : List ℕ) (keeps : KeepsSlots sum size Used old left) (same : SameInUsed size Used old left) where
   -- One segment in a used slot.
   module _ (least : ℕ) (s : Segment) (found : IsFoundSegment sum size old least s) (used : Used (s.slot / size)) where
@@ -129,13 +156,14 @@ module _ (sum : List ℕ → ℕ) (size : ℕ) (Used : ℕ → Type 0) (old left
           place = of.place;
           reached = reached_kept sum size old left s.slot was.slot bytes s refl m of.reached;
           whole = λ n known number lower. reached_kept sum size old left s.slot was.slot bytes s refl n (of.whole n known number lower);
+          full = λ under. read_on_kept sum size old left s.slot was.slot bytes H s refl (of.full under);
         },
         item_kept sum size old left s.slot was.slot bytes s refl m of.reached item,
       )
 
   -- The log file stands up to the same place.
   module _ (H : History) (A : ℕ) (first : SnapshotModel) (reach : ℕ) (is : StandsTo sum size old H A first reach) (listed : (s : Segment) → Contains is.ordering s → Used (s.slot / size))
-      (entered : (cut : ℕ) (low : A ≤ cut) (high : cut ≤ reach) (page : ℕ) (m : Message) (entry : Contains (table H cut page) m) → Used ((is.needed cut low high page m entry).0.segment.slot / size)) where
+      (entered : (cut : ℕ) (low : stable_place first.stable ≤ cut) (high : cut ≤ reach) (page : ℕ) (m : Message) (entry : Contains (table H cut page) m) → Used ((is.needed cut low high page m entry).0.segment.slot / size)) where
     abbrev least : ℕ
     least = least_place size first
 
@@ -183,7 +211,7 @@ module _ (sum : List ℕ → ℕ) (size : ℕ) (Used : ℕ → Type 0) (old left
       leads = λ goes. goes;
     }
 
-    needed : (cut : ℕ) → A ≤ cut → cut ≤ reach → (page : ℕ) (m : Message) → Contains (table H cut page) m → IsSegmentOf sum size left H cut m × StandsInline sum size left m m.pointer
+    needed : (cut : ℕ) → stable_place first.stable ≤ cut → cut ≤ reach → (page : ℕ) (m : Message) → Contains (table H cut page) m → IsSegmentOf sum size left H cut m × StandsInline sum size left m m.pointer
     needed cut low high page m entry = let had = is.needed cut low high page m entry in needed_kept H cut m had.0 (entered cut low high page m entry) had.1
 
     pub kept_stands : StandsTo sum size left H A first reach

@@ -14,7 +14,7 @@ use Rattle.sled_store.specs.Foreign.{NoForeignLog}
 use Rattle.sled_store.proofs.Segments.Elements.{in_first, in_rest, in_cases, in_nothing}
 use Rattle.sled_core.specs.declared.iterator.Segment.{Segment}
 use Rattle.sled_core.specs.declared.iterator.scan.ScannedRecord.{ScannedRecord}
-use Rattle.sled_core.specs.Recoverable.{NothingBehind, StandsInline, IsOfHistory, IsReachedIn, IsSegmentOf}
+use Rattle.sled_core.specs.Recoverable.{NothingBehind, StandsInline, IsOfHistory, IsReachedIn, IsReadOn, IsSegmentOf}
 use Rattle.sled_core.specs.Scan.{IsFoundSegment, IsMet, IsPath, IsScan}
 use Rattle.sled_core.proofs.Read.ScanLemmas.{met_fits, aligned_offset}
 use Rattle.sled_core.proofs.Torn.TornLemmas.{after_write, left_grows, part_left}
@@ -68,6 +68,12 @@ module _ (sum : List ℕ → ℕ) (size : ℕ) (some : 256 ≤ size) (old : List
     | inr (inr higher) ↦ (let far = apart size (omega (arith, some)) (slot * size) a (mul-mod_left slot size) aligned higher in inr (omega (arith, far, inside)))
   ]
 
+  -- and have the bytes that they had
+  pub bytes_beside : (a : ℕ) → a % size ≡ 0 → a ≢ slot * size → (lid len : ℕ) → a ≤ lid → lid + len ≤ a + size → lid + len ≤ length old → part left lid len ≡ part old lid len
+  bytes_beside a aligned other lid len low high there =
+      let apart_here : (lid + len ≤ at) ⊎ (at + length asked ≤ lid) = elim (beside a aligned other) [ inl before ↦ inl (omega (arith, before, high)) | inr past ↦ inr (omega (arith, past, low)) ] in
+      part_left old at asked now left no_more leaves lid len there apart_here
+
   -- The messages that a reader comes to.
 
   module _ (s : Segment) (aligned : s.slot % size ≡ 0) (n : Message) (r : IsReachedIn sum size old s n) where
@@ -110,11 +116,12 @@ module _ (sum : List ℕ → ℕ) (size : ℕ) (some : 256 ≤ size) (old : List
             message_moved sum size old left lid (n.place / size) n (part_left old at asked now left no_more leaves lid n.size there apart_here) (omega (arith, there, grown)) stands
         by (Blob lid place) pointer stands = tt
 
-  -- Where each of them lies apart from the write, what a table needs is there.
+  -- Where each of them lies apart from the write, and what is read to its end still is, what a table needs is there.
   pub segment_left : (H : History) (cut : ℕ) → ((s : Segment) → IsFoundSegment sum size old 0 s → IsFoundSegment sum size left 0 s)
-      → ((s : Segment) → IsFoundSegment sum size old 0 s → (n : Message) (r : IsReachedIn sum size old s n) → (s.slot + min (r.at + r.met.len) size ≤ at) ⊎ (at + length asked ≤ s.slot)) → (m : Message)
+      → ((s : Segment) → IsFoundSegment sum size old 0 s → (n : Message) (r : IsReachedIn sum size old s n) → (s.slot + min (r.at + r.met.len) size ≤ at) ⊎ (at + length asked ≤ s.slot))
+      → ((s : Segment) → IsFoundSegment sum size old 0 s → IsReadOn sum size old H s → IsReadOn sum size left H s) → (m : Message)
       → IsSegmentOf sum size old H cut m × StandsInline sum size old m m.pointer → IsSegmentOf sum size left H cut m × StandsInline sum size left m m.pointer
-  segment_left H cut found lies m (of, item) =
+  segment_left H cut found lies reads_on m (of, item) =
       let s : Segment = of.segment in
       let was = of.found in (
         record {
@@ -123,6 +130,7 @@ module _ (sum : List ℕ → ℕ) (size : ℕ) (some : 256 ≤ size) (old : List
           place = of.place;
           reached = reached_left s was.slot m of.reached (lies s was m of.reached);
           whole = λ n known number lower. (let r = of.whole n known number lower in reached_left s was.slot n r (lies s was n r));
+          full = λ under. reads_on s was (of.full under);
         },
         item_left s was.slot m of.reached (lies s was m of.reached) item,
       )

@@ -3,13 +3,13 @@ use Rattle.std.proofs.Common.{◌≡◌, ◌+◌, ◌≤◌, ℕ, List, ◌++◌
 use Rattle.std.specs.List.{Contains}
 use Rattle.sled_codec.specs.History.{Message, History, table}
 use Rattle.sled_codec.specs.Places.{part}
-use Rattle.sled_codec.specs.Snapshots.{SnapshotModel}
+use Rattle.sled_codec.specs.Snapshots.{SnapshotModel, stable_place}
 use Rattle.sled_core.specs.declared.iterator.Segment.{Segment}
 use Rattle.sled_core.specs.Recoverable.{IsSegmentOf, StandsInline}
 use Rattle.sled_core.specs.Scan.{IsFoundSegment, IsScan}
 use Rattle.sled_core.specs.Tail.{IsOrdering, IsScanned, Scanned, least_place}
 use Rattle.sled_core.proofs.Read.FoundLemmas.{found_there}
-use Rattle.sled_core.proofs.Reached.KeptStands.{alike_kept, item_kept, reached_kept}
+use Rattle.sled_core.proofs.Reached.KeptStands.{alike_kept, item_kept, reached_kept, read_on_kept}
 use Rattle.sled_core.proofs.Reached.LeftBeside.{truth_alike}
 use Rattle.sled_core.proofs.Reached.Reread.{IsAsFar, IsReading, stands_still}
 use Rattle.sled_core.proofs.Reached.StandsTo.{StandsTo}
@@ -64,7 +64,7 @@ module _ (sum : List ℕ → ℕ) (size : ℕ) (log more : List ℕ) (H : Histor
   as_far : (t : Scanned) → Contains is.scanned t → IsAsFar sum size left is.ordering t
   as_far t there = record { scan = t; segment = refl; there = (known t there).0; read = again t there; far = omega arith; leads = λ goes. goes }
 
-  needed : (cut : ℕ) → A ≤ cut → cut ≤ reach → (page : ℕ) (m : Message) → Contains (table H cut page) m → IsSegmentOf sum size left H cut m × StandsInline sum size left m m.pointer
+  needed : (cut : ℕ) → stable_place first.stable ≤ cut → cut ≤ reach → (page : ℕ) (m : Message) → Contains (table H cut page) m → IsSegmentOf sum size left H cut m × StandsInline sum size left m m.pointer
   needed cut low high page m entry =
       let had = is.needed cut low high page m entry in
       let of = had.0 in
@@ -76,6 +76,7 @@ module _ (sum : List ℕ → ℕ) (size : ℕ) (log more : List ℕ) (H : Histor
           place = of.place;
           reached = reached_kept sum size log left u.slot found.slot (same u.slot) u refl m of.reached;
           whole = λ n known_n number lower. reached_kept sum size log left u.slot found.slot (same u.slot) u refl n (of.whole n known_n number lower);
+          full = λ under. read_on_kept sum size log left u.slot found.slot (same u.slot) H u refl (of.full under);
         },
         item_kept sum size log left u.slot found.slot (same u.slot) u refl m of.reached had.1,
       )

@@ -1,5 +1,5 @@
 -- The entries of a table below the cut of such a log file are there, each in its segment, and so is all of that segment below the cut.
-use Rattle.std.proofs.Common.{⊎_elim, ◌≡◌, ◌∙◌, ◌+◌, ◌*◌, ◌/◌, ◌<◌, ◌≤◌, ℕ, List, [], ◌∷◌, refl, sym, ap, subst, arith, inl, inr}
+use Rattle.std.proofs.Common.{⊎_elim, ◌≡◌, ◌≢◌, ◌∙◌, ◌+◌, ◌*◌, ◌/◌, ◌%◌, ◌<◌, ◌≤◌, ℕ, List, [], ◌∷◌, refl, sym, ap, subst, arith, inl, inr}
 use Rattle.std.specs.List.{Contains}
 use Rattle.std.proofs.lemmas.Bool.{cases_lt}
 use Rattle.sled_codec.specs.Pointers.{lid_of}
@@ -9,17 +9,21 @@ use Rattle.sled_store.proofs.Segments.Elements.{in_cases, in_nothing}
 use Rattle.sled_store.proofs.Segments.TableEntries.{from_table}
 use Rattle.sled_core.specs.declared.iterator.Segment.{Segment}
 use Rattle.sled_core.specs.declared.iterator.scan.ScannedRecord.{ScannedRecord}
-use Rattle.sled_core.specs.Recoverable.{MeetsMessage, StandsInline, IsReachedIn, IsSegmentOf}
-use Rattle.sled_core.specs.Scan.{IsMet, IsPath, IsScan, Says}
+use Rattle.sled_core.specs.declared.iterator.scan.ScanEnd.{ScanEnd}
+use Rattle.sled_core.specs.declared.iterator.scan.ScanEnd.TheVariants.{Broken}
+use Rattle.sled_core.specs.Recoverable.{MeetsMessage, StandsInline, IsReachedIn, IsReadOn, IsSegmentOf}
+use Rattle.sled_core.specs.Scan.{IsEnd, IsFoundSegment, IsMet, IsPath, IsScan, Says}
 use Rattle.sled_core.specs.Tail.{Scanned, IsScanned}
 use Rattle.sled_store.proofs.Histories.Ascending.{Ascends}
 use Rattle.sled_store.proofs.Histories.EarlierEntries.{entry_earlier}
 use Rattle.sled_core.proofs.Tail.Covered.{PassEnds, IsCovered, covered}
 use Rattle.sled_core.proofs.Tail.OfHistory.{message_of}
 use Rattle.sled_core.proofs.Tail.OneTail.{Rises, rises_of, one_at_place, segment_there}
-use Rattle.sled_core.proofs.Tail.Multiples.{put_down, lower_multiple}
+use Rattle.sled_core.proofs.Tail.Multiples.{apart, put_down, lower_multiple}
+use Rattle.sled_core.proofs.Tail.Rows.{cut_cases, end_there}
 use Rattle.sled_core.proofs.Tail.Tails.{one_reading}
-use Rattle.sled_core.proofs.Reached.StandsTo.{StandsTo, least, begins, begins_below}
+use Rattle.sled_core.proofs.Reached.ReadOn.{read_on}
+use Rattle.sled_core.proofs.Reached.StandsTo.{StandsTo, least, begins, begins_above, begins_below}
 
 -- The records of a path before one of them lead to it.
 pub path_to : (sum : List ℕ → ℕ) (size : ℕ) (log : List ℕ) (slot place at : ℕ) (ms : List ScannedRecord) (next : ℕ) → IsPath sum size log slot place at ms next → (x : ScannedRecord) → Contains ms x
@@ -88,6 +92,27 @@ module _ (sum : List ℕ → ℕ) (size : ℕ) (log : List ℕ) (some : 256 ≤ 
       let own = put_down size n.place in
       omega (arith, low, multiple, own.0, ap (λ k. k * size) same)
 
+  -- A segment of the tail that ends below the cut is read to its end.
+
+  -- it isn't broken, since the pass would stop in it, below the cut
+  leads_on : (t : Scanned) → Contains is.scanned t → t.segment.place + size ≤ cut → (t.why ≡ Broken → end ≡ t.segment.place + t.stop) → t.why ≢ Broken
+  leads_on t there under broken_last broken =
+      let room = (subst (λ (why : ScanEnd). IsEnd sum size log t.segment.slot t.segment.place t.stop why) broken (end_there sum size log some t (ends.whole t there))).0 in
+      let low = ends.low in
+      let place = ends.place in
+      elim (cut_cases size ends.at) [
+        | inl same ↦ omega (arith, same, ends.is_cut, low, broken_last broken, under, room)
+        | inr filled ↦ omega (arith, filled, ends.is_cut, low, broken_last broken, under, room)
+      ]
+
+  read_on_below : (s : Segment) → IsFoundSegment sum size log 0 s → s.place % size ≡ 0 → begin ≤ s.place → s.place + size ≤ cut → IsReadOn sum size log H s
+  read_on_below s found at low under =
+      let high = ends.no_higher s.place at (omega (arith, under, some)) in
+      let begun = ends.begun in
+      let t = ends.has s.place at low (omega (arith, high, begun)) in
+      let bottom = begins_above sum size log some H first reach is in
+      read_on sum size log H from is.ordering is.numbers is.scanned is.reads is.truth s found (omega (arith, bottom, low)) t.0 t.1.0 t.1.1 (leads_on t.0 t.1.0 (omega (arith, under, t.1.1)) t.1.2)
+
   -- Entries at that place or above it.
 
   high_entry : (m : Message) → Contains H.messages m → reach ≤ m.place → m.place < cut → IsSegmentOf sum size log H cut m × StandsInline sum size log m m.pointer
@@ -106,6 +131,11 @@ module _ (sum : List ℕ → ℕ) (size : ℕ) (log : List ℕ) (some : 256 ≤ 
               let one : other.0 ≡ t =
               one_reading sum size log some from is.ordering is.numbers is.scanned is.reads other.0 t other.1.0 known (other.1.1 ∙ ap (λ k. k * size) same ∙ sym its.1.1) in
               subst (λ (u : Scanned). IsReachedIn sum size log u.segment n) one other.1.2;
+          full = λ under.
+              let at = ap (λ n. n % size) its.1.1 ∙ (put_down size m.place).1 in
+              let bottom = begins_below sum size log some H first reach is in
+              let over = lower_multiple size some reach m.place above in
+              read_on_below t.segment (record { slot = found.slot; header = found.header; not_below = omega arith }) at (omega (arith, bottom, over, its.1.1)) under;
         },
         its.1.3,
       )
@@ -125,6 +155,17 @@ module _ (sum : List ℕ → ℕ) (size : ℕ) (log : List ℕ) (some : 256 ≤ 
       let one : other.0.segment ≡ of.segment = one_at_place is.ordering rises other.0.segment of.segment known there_too (sym places) in
       subst (λ (u : Segment). IsReachedIn sum size log u n) one other.1.2
 
+  -- a segment that ends above the place that was reached isn't below the tail
+  not_under : (z : ℕ) → z % size ≡ 0 → reach < z + size → begin ≤ z
+  not_under z at over = elim (cases_lt z begin) [
+    | inl under ↦ (
+        let far = apart size (omega (arith, some)) z begin at ends.aligned under in
+        let low = begins_below sum size log some H first reach is in
+        let parts = put_down size reach in
+        absurd (omega (arith, far, low, parts.0, over)))
+    | inr le ↦ le
+  ]
+
   low_entry : (m : Message) → IsSegmentOf sum size log H reach m → IsSegmentOf sum size log H cut m
   low_entry m of = record {
     segment = of.segment;
@@ -135,6 +176,12 @@ module _ (sum : List ℕ → ℕ) (size : ℕ) (log : List ℕ) (some : 256 ≤ 
       | inl low ↦ of.whole n there same low
       | inr high ↦ low_segment m of n there same high under
     ];
+    full = λ under. elim (cases_lt reach (of.segment.place + size)) [
+      | inl over ↦ (
+          let at = ap (λ n. n % size) of.place ∙ (put_down size m.place).1 in
+          read_on_below of.segment of.found at (not_under of.segment.place at over) under)
+      | inr within ↦ of.full within
+    ];
   }
 
   pub entries_there : (page : ℕ) (m : Message) → Contains (table H cut page) m → IsSegmentOf sum size log H cut m × StandsInline sum size log m m.pointer
@@ -142,7 +189,7 @@ module _ (sum : List ℕ → ℕ) (size : ℕ) (log : List ℕ) (some : 256 ≤ 
       let from_H = from_table H cut page m entry in
       elim (cases_lt m.place reach) [
         | inl low ↦ (
-            let had = is.needed reach (omega arith) (omega arith) page m (entry_earlier H ordered reach cut page far m low entry) in
+            let had = is.needed reach is.not_below (omega arith) page m (entry_earlier H ordered reach cut page far m low entry) in
             (low_entry m had.0, had.1))
         | inr high ↦ high_entry m from_H.0 high from_H.2
       ]

@@ -82,7 +82,7 @@ module _ (sum : List ℕ → ℕ) (size : ℕ) (log : List ℕ) (some : 256 ≤ 
     (stable_place first.stable, first.active),
     omega (arith, place),
     recoverable tail is_tail (inr (at ∙ sym place)) (stable_place first.stable, first.active) (sym (ap (cut_from size first is.scanned) none)) (omega (arith, place))
-        (λ page m entry. subst (λ n. IsSegmentOf sum size log H n m × StandsInline sum size log m m.pointer) (sym place) (is.needed reach (omega arith) (omega arith) page m (subst (λ n. Contains (table H n page) m) place entry))),
+        (λ page m entry. subst (λ n. IsSegmentOf sum size log H n m × StandsInline sum size log m m.pointer) (sym place) (is.needed reach is.not_below (omega arith) page m (subst (λ n. Contains (table H n page) m) place entry))),
   )
   by_tail tail is_tail (inr (end, ends, far)) =
       let read = some_read sum size log some H first reach is tail is_tail end ends far in

@@ -6,14 +6,14 @@ use Rattle.std.proofs.lemmas.Bool.{cases_eq, cases_lt}
 use Rattle.sled_codec.specs.History.{Message, History, table}
 use Rattle.sled_codec.specs.Places.{part}
 use Rattle.sled_codec.specs.Record.{IsHeader}
-use Rattle.sled_codec.specs.Snapshots.{SnapshotModel}
+use Rattle.sled_codec.specs.Snapshots.{SnapshotModel, stable_place}
 use Rattle.sled_codec.proofs.Segments.{one_header}
 use Rattle.sled_store.specs.Device.{overwritten, LeavesLog}
 use Rattle.sled_store.specs.Foreign.{NoForeignLog}
 use Rattle.sled_core.specs.declared.iterator.Segment.{Segment}
 use Rattle.sled_core.specs.declared.iterator.scan.ScannedRecord.{ScannedRecord}
 use Rattle.sled_core.specs.declared.iterator.scan.ScanEnd.{ScanEnd}
-use Rattle.sled_core.specs.Recoverable.{NothingBehind, NoHeaderOfZeros, StandsInline, IsOfHistory, IsReachedIn, IsSegmentOf, IsMarkOf, IsMarkBelow}
+use Rattle.sled_core.specs.Recoverable.{NothingBehind, NoHeaderOfZeros, StandsInline, IsOfHistory, IsReachedIn, IsReadOn, IsSegmentOf, IsMarkOf, IsMarkBelow}
 use Rattle.sled_core.specs.Scan.{IsFoundSegment, IsMisplaced, IsPath, IsEnd, IsScan}
 use Rattle.sled_core.proofs.Read.FoundLemmas.{pos_injective}
 use Rattle.sled_core.proofs.Torn.TornLemmas.{after_write}
@@ -21,7 +21,8 @@ use Rattle.sled_core.proofs.Torn.WrittenRecords.{AreClear, MeetsFirst}
 use Rattle.sled_core.proofs.Torn.WrittenBegun.{none_stood, begun_or_none, meets_begun}
 use Rattle.sled_core.specs.Tail.{Scanned, IsScanned, IsOrdering, least_place}
 use Rattle.sled_core.proofs.Tail.OneTail.{scan_there, segment_there}
-use Rattle.sled_core.proofs.Reached.LeftBeside.{IsSameBeside, truth_alike, beside, segment_left, found_beside, same_beside, reading_beside}
+use Rattle.sled_core.proofs.Reached.KeptStands.{read_on_kept}
+use Rattle.sled_core.proofs.Reached.LeftBeside.{IsSameBeside, truth_alike, beside, bytes_beside, segment_left, found_beside, same_beside, reading_beside}
 use Rattle.sled_core.proofs.Reached.PutIn.{put_in, others_there, put_cases, ordering_with}
 use Rattle.sled_core.proofs.Reached.Reread.{IsReading, IsAsFar, stands_still}
 use Rattle.sled_core.proofs.Reached.StandsTo.{StandsTo}
@@ -80,8 +81,12 @@ module _ (sum : List ℕ → ℕ) (size : ℕ) (some : 256 ≤ size) (old : List
   lies : (s : Segment) → IsFoundSegment sum size old 0 s → (n : Message) (r : IsReachedIn sum size old s n) → (s.slot + min (r.at + r.met.len) size ≤ at) ⊎ (at + length asked ≤ s.slot)
   lies s found n r = elim (beside sum size some old slot from asked now left inside no_more leaves s.slot found.slot (other_slot 0 s found)) [ inl low ↦ inl (omega (arith, low)) | inr past ↦ inr past ]
 
-  needed : (cut : ℕ) → A ≤ cut → cut ≤ reach → (page : ℕ) (m : Message) → Contains (table H cut page) m → IsSegmentOf sum size left H cut m × StandsInline sum size left m m.pointer
-  needed cut below high page m entry = segment_left sum size some old slot from asked now left inside no_more leaves H cut (all_found 0) lies m (is.needed cut below high page m entry)
+  -- and what was read to its end still is
+  reads_on : (s : Segment) → IsFoundSegment sum size old 0 s → IsReadOn sum size old H s → IsReadOn sum size left H s
+  reads_on s found on = read_on_kept sum size old left s.slot found.slot (bytes_beside sum size some old slot from asked now left inside no_more leaves s.slot found.slot (other_slot 0 s found)) H s refl on
+
+  needed : (cut : ℕ) → stable_place first.stable ≤ cut → cut ≤ reach → (page : ℕ) (m : Message) → Contains (table H cut page) m → IsSegmentOf sum size left H cut m × StandsInline sum size left m m.pointer
+  needed cut below high page m entry = segment_left sum size some old slot from asked now left inside no_more leaves H cut (all_found 0) lies reads_on m (is.needed cut below high page m entry)
 
   -- Its header didn't come, or lies below the segments that are asked for.
   pub stands_without : ((s : Segment) → IsFoundSegment sum size left least s → s.slot ≢ slot * size) → StandsTo sum size left H A first reach

@@ -1,5 +1,5 @@
 -- Behind a write to a segment that was found, torn or whole, the log file stands up to the same place.
-use Rattle.std.proofs.Common.{◌≡◌, ◌≢◌, ◌⊎◌, ◌∙◌, ◌+◌, ◌*◌, ◌%◌, ◌<◌, ◌≤◌, ℕ, pos, min, List, [], ◌∷◌, ◌++◌, length, take, drop, get_or, refl, sym, subst, arith, inl, inr}
+use Rattle.std.proofs.Common.{◌≡◌, ◌≢◌, ◌⊎◌, ◌∙◌, ◌+◌, ◌*◌, ◌%◌, ◌<◌, ◌≤◌, ℕ, pos, min, List, [], ◌∷◌, ◌++◌, length, take, drop, get_or, refl, sym, ap, subst, arith, inl, inr}
 use Rattle.std.specs.List.{Contains}
 use Rattle.std.proofs.Math.Nat.{mul-mod_left}
 use Rattle.std.proofs.lemmas.Bool.{cases_eq}
@@ -15,7 +15,7 @@ use Rattle.sled_core.specs.declared.iterator.Segment.{Segment}
 use Rattle.sled_core.specs.declared.iterator.scan.ScannedRecord.{ScannedRecord}
 use Rattle.sled_core.specs.declared.iterator.scan.ScanEnd.{ScanEnd}
 use Rattle.sled_core.specs.declared.iterator.scan.ScanEnd.TheVariants.{Capped, Broken}
-use Rattle.sled_core.specs.Recoverable.{NoBatchEnds, NothingBehind, NoMessageBegins, NoBatchBegins, IsOfHistory, IsReachedIn}
+use Rattle.sled_core.specs.Recoverable.{NoBatchEnds, NothingBehind, NoMessageBegins, NoBatchBegins, IsOfHistory, IsReachedIn, IsReadOn}
 use Rattle.sled_core.specs.Scan.{IsFoundSegment, IsPath, IsEnd, IsScan}
 use Rattle.sled_core.proofs.Read.ScanLemmas.{one_more}
 use Rattle.sled_core.proofs.Torn.TornLemmas.{after_write}
@@ -23,11 +23,12 @@ use Rattle.sled_core.proofs.Torn.WrittenParts.{path_rises, path_stays, paths_joi
 use Rattle.sled_core.proofs.Torn.WrittenRecords.{AreClear, MeetsFirst, meets_within}
 use Rattle.sled_core.proofs.Torn.WrittenBehind.{header_same, header_left, meets_on}
 use Rattle.sled_core.specs.Tail.{Scanned, IsScanned, IsOrdering, least_place}
-use Rattle.sled_core.proofs.Tail.OneReading.{path_begins}
-use Rattle.sled_core.proofs.Tail.OneTail.{scan_there, segment_there}
+use Rattle.sled_core.proofs.Tail.OneReading.{one_scan, path_begins}
+use Rattle.sled_core.proofs.Tail.OneTail.{one_at_place, rises_of, scan_there, segment_there}
 use Rattle.sled_core.proofs.Tail.Tails.{one_reading}
 use Rattle.sled_core.proofs.Tail.Moved.{one_in_slot}
-use Rattle.sled_core.proofs.Reached.LeftBeside.{IsSameBeside, truth_alike, alike_apart, beside, segment_left, found_beside, same_beside, reading_beside}
+use Rattle.sled_core.proofs.Reached.KeptStands.{read_on_kept}
+use Rattle.sled_core.proofs.Reached.LeftBeside.{IsSameBeside, truth_alike, alike_apart, beside, bytes_beside, segment_left, found_beside, same_beside, reading_beside}
 use Rattle.sled_core.proofs.Reached.Reread.{IsReading, IsAsFar, stands_still}
 use Rattle.sled_core.proofs.Reached.StandsTo.{StandsTo}
 
@@ -165,6 +166,19 @@ module _ (sum : List ℕ → ℕ) (size : ℕ) (some : 256 ≤ size) (old : List
     y_reading : IsReading sum size left H z.segment
     y_reading = record { scan = y; segment = refl; read = y_scan; truth = y_truth; caps = caps_met sum size new left H (slot * size) place e more stop why w caps }
 
+    -- What was read to its end still is: a segment in another slot, or that of the write, which leads on where it did.
+    reads_on : (s : Segment) → IsFoundSegment sum size old 0 s → IsReadOn sum size old H s → IsReadOn sum size left H s
+    reads_on s found on = elim (cases_eq s.slot (slot * size)) [
+      | inl here ↦ (
+          let low = z_found.not_below in
+          let places : s.place ≡ place = one_in_slot sum size old 0 least s z.segment found z_found (here ∙ sym in_slot) in
+          let also = (is.numbers.found s).1 (record { slot = found.slot; header = found.header; not_below = omega (arith, low, places) }) in
+          let one : z.segment ≡ s = one_at_place is.ordering (rises_of is.ordering is.numbers.ascending) z.segment s z_known.0 also (sym places) in
+          let same_scan : on.scan ≡ z = one_scan sum size old on.scan z (on.of ∙ sym one) on.read z_known.1 in
+          record { scan = y; of = one; read = y_scan; goes = goes (λ broken. on.goes (ap (λ (t : Scanned). t.why) same_scan ∙ broken)); truth = y_truth })
+      | inr other ↦ read_on_kept sum size old left s.slot found.slot (bytes_beside sum size some old slot from asked now left inside no_more leaves s.slot found.slot other) H s refl on
+    ]
+
     reading_of : (t : Scanned) → Contains is.scanned t → IsReading sum size left H t.segment
     reading_of t there = elim (which t there) [
       | inl one ↦ subst (λ (u : Scanned). IsReading sum size left H u.segment) (sym one) y_reading
@@ -200,7 +214,7 @@ module _ (sum : List ℕ → ℕ) (size : ℕ) (some : 256 ≤ size) (old : List
 
     pub stands_behind : StandsTo sum size left H A first reach
     stands_behind = stands_still sum size old left H A first reach is is.ordering numbers each is.marks as_far is.marks_below
-        (λ cut low high page m entry. segment_left sum size some old slot from asked now left inside no_more leaves H cut (all_found 0) lies m (is.needed cut low high page m entry))
+        (λ cut low high page m entry. segment_left sum size some old slot from asked now left inside no_more leaves H cut (all_found 0) lies reads_on m (is.needed cut low high page m entry))
 
 -- Where only what the log wrote passes as its own, a crash leaves the first of the records that were written.
 pub torn_behind : (sum : List ℕ → ℕ) (size : ℕ) (some : 256 ≤ size) (old : List ℕ) (slot from : ℕ) (asked now left : List ℕ) (inside : from + length asked ≤ size) (no_more : length now ≤ length asked)

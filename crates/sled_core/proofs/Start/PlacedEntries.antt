@@ -117,5 +117,6 @@ module _ (sum : List ℕ → ℕ) (size : ℕ) (log : List ℕ) (s : SnapshotMod
           place = j.segment.place ∙ ap (λ n. n * size) number;
           reached = j.segment.whole k.message (from_table H stable k.page k.message k.entry).0 (sym number) k.below;
           whole = λ n has is lower. j.segment.whole n has (is ∙ sym number) lower;
+          full = j.segment.full;
         } in
         slot_is d j ∙ slot_needed sum size log H stable k.message there ∙ ap (λ n. n / size) (sym (lid_is e k))

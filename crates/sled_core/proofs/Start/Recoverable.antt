@@ -38,7 +38,7 @@ same_place sum size log H first other reach at A same here all is = (
     gapless = λ z aligned low under.
         let found = is.gapless z aligned (let least = ap (λ n. n / size * size) same in omega (arith, low, least)) (omega (arith, under, here)) in
         (found.0, found.1, found.2, ⊎_elim (λ far. inl (omega (arith, far, here))) (λ leads. inr leads) found.3);
-    needed = λ cut low high. is.needed cut (omega (arith, low, all)) (omega (arith, high, here));
+    needed = λ cut low high. is.needed cut (omega (arith, low, same)) (omega (arith, high, here));
   },
   refl,
 )

@@ -4,6 +4,7 @@ use Rattle.std.proofs.lemmas.Bool.{cases_order}
 use Rattle.sled_codec.specs.declared.result.DiskPtr.{DiskPtr}
 use Rattle.sled_codec.specs.declared.result.DiskPtr.TheVariants.{Inline, Blob}
 use Rattle.sled_codec.specs.History.{Message, History}
+use Rattle.sled_codec.specs.Places.{part}
 use Rattle.sled_codec.specs.Pointers.{lid_of}
 use Rattle.sled_codec.specs.Record.{IsHeader}
 use Rattle.sled_store.specs.Device.{LeavesLog}
@@ -12,6 +13,7 @@ use Rattle.sled_core.specs.Recoverable.{StandsInline, IsReachedIn, IsSegmentOf}
 use Rattle.sled_core.specs.Scan.{IsFoundSegment, IsPath}
 use Rattle.sled_core.proofs.Read.FoundLemmas.{found_there}
 use Rattle.sled_core.proofs.Read.ScanLemmas.{met_fits, aligned_offset}
+use Rattle.sled_core.proofs.Reached.KeptStands.{read_on_kept}
 use Rattle.sled_core.proofs.Torn.TornLemmas.{after_write}
 use Rattle.sled_core.proofs.Torn.ZeroedSlots.{grows, kept, path_stays}
 use Rattle.sled_core.proofs.Tail.Multiples.{apart}
@@ -32,6 +34,12 @@ module _ (sum : List ℕ → ℕ) (size : ℕ) (old : List ℕ) (some : 256 ≤ 
       let apart_here : (s.slot + 20 ≤ at) ⊎ (at + count ≤ s.slot) = ⊎_elim (λ before. inl (omega (arith, before, some))) (λ past. inr past) (beside s.slot is.slot other) in
       let alike = kept sum size old at count now left no_more leaves s.slot 20 (found_there sum size old least s is) apart_here in
       record { slot = is.slot; header = subst (λ (l : List ℕ). IsHeader sum l (pos s.place) s.mark) (sym alike) is.header; not_below = is.not_below }
+
+  -- what lies there has the bytes that it had
+  bytes_beside : (a : ℕ) → a % size ≡ 0 → a ≢ slot → (lid len : ℕ) → a ≤ lid → lid + len ≤ a + size → lid + len ≤ length old → part left lid len ≡ part old lid len
+  bytes_beside a aligned other lid len low high there =
+      let apart_here : (lid + len ≤ at) ⊎ (at + count ≤ lid) = ⊎_elim (λ before. inl (omega (arith, before, high))) (λ past. inr (omega (arith, past, low))) (beside a aligned other) in
+      kept sum size old at count now left no_more leaves lid len there apart_here
 
   in_slot : (s : Segment) → IsFoundSegment sum size old 0 s → (n : Message) → (r : IsReachedIn sum size old s n) → r.at + n.size ≤ size
   in_slot s found n r =
@@ -72,6 +80,7 @@ module _ (sum : List ℕ → ℕ) (size : ℕ) (old : List ℕ) (some : 256 ≤ 
           place = seg.place;
           reached = reached_left seg.segment seg.found other m seg.reached;
           whole = λ n known number lower. reached_left seg.segment seg.found other n (seg.whole n known number lower);
+          full = λ under. read_on_kept sum size old left seg.segment.slot seg.found.slot (bytes_beside seg.segment.slot seg.found.slot other) H seg.segment refl (seg.full under);
         },
         stands_left seg.reached.at seg.segment.slot m.pointer refl seg.reached.lid (in_slot seg.segment seg.found m seg.reached) (beside seg.segment.slot seg.found.slot other) had.1,
       )

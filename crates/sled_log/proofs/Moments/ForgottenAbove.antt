@@ -1,12 +1,15 @@
 -- Where nothing of the log file lies at or above the cut, it stays recoverable when the history forgets what lies there.
-use Rattle.std.proofs.Common.{◌≡◌, ◌+◌, ◌<◌, ℕ, ℤ, nat_lt, List, Option, ap, subst, arith, inl, inr, ltb-true, lt-ltb}
+use Rattle.std.proofs.Common.{◌≡◌, ◌+◌, ◌≤◌, ◌<◌, ℕ, ℤ, nat_lt, List, Option, ap, subst, arith, inl, inr, ltb-true, lt-ltb}
 use Rattle.std.specs.List.{Contains}
 use Rattle.sled_codec.specs.History.{Message, Batch, History, table, page_state, below}
 use Rattle.sled_codec.specs.Snapshots.{SnapshotModel}
 use Rattle.sled_store.proofs.Segments.Elements.{in_filter, from_filter}
 use Rattle.sled_core.specs.declared.iterator.Segment.{Segment}
 use Rattle.sled_core.specs.declared.iterator.scan.ScannedRecord.{ScannedRecord}
-use Rattle.sled_core.specs.Recoverable.{NoMessageBegins, NoBatchBegins, NoBatchEnds, IsOfHistory, IsSegmentOf, IsMarkOf, IsMarkBelow, IsPlacedBatch, IsRecoverableLog, AreRecoverableBlobs}
+use Rattle.sled_core.specs.Recoverable.{NoMessageBegins, NoBatchBegins, NoBatchEnds, IsOfHistory, IsReadOn, IsSegmentOf, IsMarkOf, IsMarkBelow, IsPlacedBatch, IsRecoverableLog, AreRecoverableBlobs}
+use Rattle.sled_core.specs.Scan.{IsScan}
+use Rattle.sled_core.proofs.Reached.ReachedEntries.{path_to}
+use Rattle.sled_core.proofs.Reached.ReadOn.{reads_on_in}
 use Rattle.sled_log.specs.Recovery.{Scanned}
 use Rattle.sled_log.proofs.PageTable.TableCuts.{below_same}
 
@@ -77,6 +80,16 @@ module _ (H : History) (cut : ℕ) where
     of_kept x under (inr (inr (what, message, batch))) =
         inr (inr (what, no_message x.place (x.place + x.len) message, no_batch x.place (x.place + x.len) batch))
 
+    -- what is met in a segment that ends below the cut lies below it
+    reads_on : (s : Segment) → s.place + size ≤ cut → IsReadOn sum size log H s → IsReadOn sum size log kept s
+    unfolding IsScan
+    reads_on s under on = reads_on_in sum size log H kept s on (λ x met.
+        let t : Scanned = on.scan in
+        let to = path_to sum size log t.segment.slot t.segment.place 20 t.met t.stop on.read.0 x met in
+        let room = to.2.1 in
+        let at = to.2.2 in
+        of_kept x (omega (arith, room, at, under, ap (λ (u : Segment). u.place) on.of)))
+
     segment_of : (m : Message) → IsSegmentOf sum size log H cut m → IsSegmentOf sum size log kept cut m
     segment_of m is = record {
       segment = is.segment;
@@ -84,6 +97,7 @@ module _ (H : History) (cut : ℕ) where
       place = is.place;
       reached = is.reached;
       whole = λ n there. is.whole n (message_from n there).0;
+      full = λ under. reads_on is.segment under (is.full under);
     }
 
 -- The log file.

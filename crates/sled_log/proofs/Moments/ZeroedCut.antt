@@ -18,9 +18,10 @@ use Rattle.sled_core.specs.declared.iterator.Segment.{Segment}
 use Rattle.sled_core.specs.declared.iterator.scan.ScannedRecord.{ScannedRecord}
 use Rattle.sled_core.specs.declared.iterator.scan.ScanEnd.{ScanEnd}
 use Rattle.sled_core.specs.declared.iterator.scan.ScanEnd.TheVariants.{Full, Capped, Broken}
-use Rattle.sled_core.specs.Recoverable.{NoHeaderOfZeros, StandsInline, IsOfHistory, IsReachedIn, IsSegmentOf, IsRecoverableLog}
+use Rattle.sled_core.specs.Recoverable.{NoHeaderOfZeros, StandsInline, IsOfHistory, IsReachedIn, IsReadOn, IsSegmentOf, IsRecoverableLog}
 use Rattle.sled_core.specs.Scan.{IsFoundSegment, IsPath, IsEnd, EndsThere, IsScan}
 use Rattle.sled_core.proofs.Read.ScanLemmas.{met_fits, aligned_offset}
+use Rattle.sled_core.proofs.Reached.KeptStands.{read_on_kept}
 use Rattle.sled_core.proofs.Torn.TornLemmas.{after_write}
 use Rattle.sled_core.proofs.Torn.ZeroedSlots.{grows, kept, stood, path_stood, path_stays}
 use Rattle.sled_core.proofs.Torn.ZeroedScans.{ReadsFirst, scan_left, comes_on}
@@ -124,6 +125,16 @@ module _ (sum : List ℕ → ℕ) (size : ℕ) (old : List ℕ) (some : 256 ≤ 
           meets = r.meets;
         }
 
+    -- a segment that ends below the cut lies in another slot, and is read to its end as before
+    reads_on : (s : Segment) → IsFoundSegment sum size old 0 s → s.place + size ≤ cut.0 → IsReadOn sum size old H s → IsReadOn sum size left H s
+    reads_on s found under on =
+        let inside : cut.0 % size < size = omega (arith, some) in
+        let other : s.slot ≢ slot = λ same. (let places = one_in_slot sum size old 0 least s z.segment found z_found (same ∙ sym its.slot_is) in omega (arith, places, under, parts.0, inside)) in
+        let beside = other_slot sum size old at count now left no_more leaves some slot slot_at begins to_end s.slot found.slot other in
+        read_on_kept sum size old left s.slot found.slot
+        (λ lid len low high there. kept sum size old at count now left no_more leaves lid len there (⊎_elim (λ before. inl (omega (arith, before, high))) (λ past. inr (omega (arith, past, low))) beside))
+        H s refl on
+
     pub needed_left : (page : ℕ) (m : Message) → Contains (table H cut.0 page) m → IsSegmentOf sum size left H cut.0 m × StandsInline sum size left m m.pointer
     needed_left page m there =
         let from = from_table H cut.0 page m there in
@@ -135,6 +146,7 @@ module _ (sum : List ℕ → ℕ) (size : ℕ) (old : List ℕ) (some : 256 ≤ 
             place = seg.place;
             reached = reached_left seg.segment seg.found m from.0 from.2 seg.reached;
             whole = λ n known number lower. reached_left seg.segment seg.found n known lower (seg.whole n known number lower);
+            full = λ under. reads_on seg.segment seg.found under (seg.full under);
           },
           stands_left seg.reached.at seg.segment.slot m.pointer refl seg.reached.lid (reached_apart seg.segment seg.found m from.0 from.2 seg.reached) had.1,
         )

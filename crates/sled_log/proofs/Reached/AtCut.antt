@@ -67,7 +67,7 @@ module _ (sum : List ℕ → ℕ) (size : ℕ) (log : List ℕ) (some : 256 ≤ 
         (λ found. (found.0, found.1, found.2 ∙ sym at, inl (omega (arith, found.3, at))))
         its_segment;
     needed = λ at low high. subst (λ n. (page : ℕ) (m : Message) → Contains (table H n page) m → IsSegmentOf sum size log H n m × StandsInline sum size log m m.pointer)
-        (omega (arith, low, high)) is.needed;
+        (omega (arith, low, high, place)) is.needed;
   }
 
   -- what is read of it is the same
