@@ -34,10 +34,12 @@ module _ (size from to : ℕ) where
 
   passes_listed : (s : SlotState) → Passes s ≡ true → IsListed s
   passes_listed s test =
-      let a = and_parts (not (is_free s.state)) (nat_le from s.lsn && nat_lt s.lsn to && nat_lt (s.lsn + size) (2 ^ 63)) test in
-      let b = and_parts (nat_le from s.lsn) (nat_lt s.lsn to && nat_lt (s.lsn + size) (2 ^ 63)) a.1 in
-      let c = and_parts (nat_lt s.lsn to) (nat_lt (s.lsn + size) (2 ^ 63)) b.1 in
-      record { taken = not_true (is_free s.state) a.0; above = grind (arith, nat_tests, b.0); below = grind (arith, nat_tests, c.0) }
+      let a = and_parts (not (is_free s.state) && nat_le from s.lsn && nat_lt s.lsn to) (nat_lt (s.lsn + size) (2 ^ 63)) test in
+      let b = and_parts (not (is_free s.state) && nat_le from s.lsn) (nat_lt s.lsn to) a.0 in
+      let c = and_parts (not (is_free s.state)) (nat_le from s.lsn) b.0 in
+      let above = c.1 in
+      let below = b.1 in
+      record { taken = not_true (is_free s.state) c.0; above = grind (arith, nat_tests, above); below = grind (arith, nat_tests, below) }
     where
       not_true : (b : Bool) → not b ≡ true → b ≡ false
       not_true true is = cc
@@ -71,7 +73,7 @@ module _ (size from to : ℕ) where
 
   among_of : (slots : List SlotState) (k : ℕ) (s : Segment) → Contains (segments_among size from to k slots) s → IsOfSlot slots k s
   among_of [] k s there = absurd (in_nothing s there)
-  among_of (x ∷ xs) k s there = ⊎_elim here later (Contains-append_cases (segment_within size from to k x) (segments_among size from to (suc k) xs) s there) where
+  among_of (x ∷ xs) k s there = ⊎_elim here (λ rest. later (among_of xs (suc k) s rest)) (Contains-append_cases (segment_within size from to k x) (segments_among size from to (suc k) xs) s there) where
     here : Contains (segment_within size from to k x) s → IsOfSlot (x ∷ xs) k s
     here own = elim (within_cases k x) [
       | inl listed ↦ (
@@ -89,10 +91,8 @@ module _ (size from to : ℕ) where
       | inr none ↦ absurd (in_nothing s (subst (λ (l : List Segment). Contains l s) none.1 own))
     ]
 
-    later : Contains (segments_among size from to (suc k) xs) s → IsOfSlot (x ∷ xs) k s
-    later rest =
-        let of = among_of xs (suc k) s rest in
-        record { index = suc of.index; taken = of.taken; place = of.place; slot = of.slot ∙ ap (λ n. n * size) (omega arith); above = of.above; below = of.below }
+    later : IsOfSlot xs (suc k) s → IsOfSlot (x ∷ xs) k s
+    later of = record { index = suc of.index; taken = of.taken; place = of.place; slot = of.slot ∙ ap (λ n. n * size) (omega arith); above = of.above; below = of.below }
 
   -- and what lies in a slot is listed
   among_has : (slots : List SlotState) (k j : ℕ) → IsListed (at slots j) → (at slots j).lsn + size < 2 ^ 63 → (s : Segment) × Contains (segments_among size from to k slots) s × (s.place ≡ (at slots j).lsn)
@@ -151,7 +151,7 @@ module _ (size from to : ℕ) (p : ℕ) where
         | inl listed ↦ (
             let is = listed.0 in
             omega (arith, rest, parts, ap Sum listed.1, sum_by-cons (counts p) (segment_of size k x) [], counts_none p (segment_of size k x) (none 0 is.taken)))
-        | inr no ↦ omega (arith, rest, parts, ap Sum no.1)
+        | inr passed ↦ omega (arith, rest, parts, ap Sum passed.1)
       ]
 
   -- where no two slots have segments of one place, at most one has
@@ -170,7 +170,7 @@ module _ (size from to : ℕ) (p : ℕ) where
                   omega (arith, none, parts, ap Sum listed.1, own, counts_one p (segment_of size k x) same))
               | inr other ↦ omega (arith, rest, parts, ap Sum listed.1, own, counts_none p (segment_of size k x) other)
             ])
-        | inr no ↦ omega (arith, rest, parts, ap Sum no.1)
+        | inr passed ↦ omega (arith, rest, parts, ap Sum passed.1)
       ]
 
 module _ (size : ℕ) (m : Machine) (from to : ℕ) (ss : List Segment) (is : AreSegments size m from to ss) where
