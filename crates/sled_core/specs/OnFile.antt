@@ -1,4 +1,4 @@
--- Which messages of a history an iterator of a log gives. Stated for any number of segments and for all kinds of messages.
+-- Which messages of a history an iterator of a log gives.
 use Rattle.std.specs.Prelude.{◌≡◌, ◌↔◌, ◌*◌, ◌/◌, ◌≤◌, ◌<◌, ℕ, ℤ, pos, true, false, is_some, List, Option, Contains}
 use Rattle.sled_codec.specs.declared.result.DiskPtr.{DiskPtr}
 use Rattle.sled_codec.specs.declared.result.DiskPtr.TheVariants.{Inline, Blob}

@@ -5,10 +5,9 @@ use Rattle.std.specs.List.{Contains}
 use Rattle.std.proofs.lemmas.Bool.{cases_lt}
 use Rattle.std.proofs.lemmas.Bool.Decides.{nat_tests}
 use Rattle.sled_codec.specs.declared.result.DiskPtr.{DiskPtr}
-use Rattle.sled_codec.specs.declared.result.DiskPtr.TheVariants.{Inline, Blob}
+use Rattle.sled_codec.specs.declared.result.DiskPtr.TheVariants.{Blob}
 use Rattle.sled_codec.specs.declared.serialization.message.LogKind.{LogKind}
 use Rattle.sled_codec.specs.declared.serialization.message.LogKind.TheVariants as does
-use Rattle.sled_codec.specs.declared.serialization.message.MessageHeader.{MessageHeader}
 use Rattle.sled_codec.specs.declared.serialization.message.MessageKind.{MessageKind}
 use Rattle.sled_codec.specs.declared.serialization.message.MessageKind.TheVariants as kind
 use Rattle.sled_codec.specs.Kinds.{kind_written, log_kind_of}
@@ -40,6 +39,7 @@ blob_kind_back does.Corrupted page k is = cc
 abbrev pub GivesInline : (ℤ → Option (List ℕ)) → ScannedRecord → Type 0
 GivesInline blobs x = (k : LogKind) (page : ℕ) (pointer : DiskPtr) → x.what ≡ Gives k page pointer → HasBlobThere blobs pointer
 
+-- since a record that is met gives the item that stands in it
 pub met_inline : (sum : List ℕ → ℕ) (size : ℕ) (log : List ℕ) (blobs : ℤ → Option (List ℕ)) (lid number : ℕ) (x : ScannedRecord) → IsMet sum size log lid number x → GivesInline blobs x
 unfolding IsMet
 met_inline sum size log blobs lid number x (h, body, stands, says) k page pointer is =
@@ -64,6 +64,7 @@ module _ (sum : List ℕ → ℕ) (size : ℕ) (log : List ℕ) (blobs : ℤ →
     pub all : (x : ScannedRecord) (m : Message) → Contains ms x → Contains H.messages m → MeetsMessage x m → m.place < end → HasBlobThere blobs m.pointer → Contains L m
     pub gives : GivesOf sum blobs end ms on (map item_of L ++ rest) false
 
+  -- a record of the history
   abbrev IsKnown : ScannedRecord → Type 0
   IsKnown x = IsOfHistory sum size log H x × GivesInline blobs x
 
@@ -86,6 +87,7 @@ module _ (sum : List ℕ → ℕ) (size : ℕ) (log : List ℕ) (blobs : ℤ →
         let ends = closed o.0 o.1 (omega (arith, under, o.2)) in
         absurd (omega (arith, ends, o.3))
 
+  -- what is given of a record that doesn't stop an iterator, and of those behind it
   abbrev Passed : ScannedRecord → List ScannedRecord → List Item → Type 0
   Passed x ms items =
       (HasBadBlob sum blobs x.what × (items ≡ []) × (false ≡ true))
@@ -110,6 +112,7 @@ module _ (sum : List ℕ → ℕ) (size : ℕ) (log : List ℕ) (blobs : ℤ →
         }
 
     module _ (under : x.place < end) (L : List Message) (are : AreGiven (x.place + x.len) ms L) where
+      -- this is given of it and of those behind it
       on_given : (items : List Item) → Passed x ms items → GivesOf sum blobs end (x ∷ ms) on items false
       on_given items passed =
           let test : nat_le end x.place ≡ false = grind (arith, nat_tests, under) in
@@ -149,9 +152,11 @@ module _ (sum : List ℕ → ℕ) (size : ℕ) (log : List ℕ) (blobs : ℤ →
             gives = on_given (item_of m ∷ (map item_of L ++ rest)) (inr (none_bad x known.0, (map item_of L ++ rest, ap (λ (l : List Item). l ++ (map item_of L ++ rest)) (sym is), are.gives)));
           }
 
+      -- the messages that are given of it and of those behind it
       Out : Type 0
       Out = (L : List Message) × AreGiven from (x ∷ ms) L
 
+      -- what is given of a record is given of what it is
       what_given : (what : RecordContent) → x.what ≡ what → items_of x (with_blob blobs x.what) ≡ items_of x (with_blob blobs what)
       what_given what is = ap (λ w. items_of x (with_blob blobs w)) is
 
@@ -185,6 +190,7 @@ module _ (sum : List ℕ → ℕ) (size : ℕ) (log : List ℕ) (blobs : ℤ →
             let kinds : log_kind_of k ≡ m.kind = blob_kind_back m.kind m.page k written in
             (m ∷ L, taken m there meets (subst (HasBlobThere blobs) (sym pointer) is) (with_test true is ∙ (λ i. (kinds i, m.page, pos (at i), sym pointer i, len i) ∷ [])))
 
+      -- of a record of the history
       by_truth : IsOfHistory sum size log H x → Out
       unfolding Out
       by_truth (inl (m, there, meets, stands, alone, apart)) = elim meets.what [

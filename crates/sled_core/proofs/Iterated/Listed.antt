@@ -1,5 +1,5 @@
 -- The segments that a log has, as a list: each lies in a slot that isn't free, each such slot has its own, and each begins below all later ones.
-use Rattle.std.proofs.Common.{⊎_elim, ◌≡◌, ◌≢◌, ◌∙◌, ◌⊎◌, ◌+◌, ◌*◌, ◌^◌, ◌<◌, ◌≤◌, ◌&&◌, ◌==◌, nat_le, nat_lt, not, ℕ, zero, suc, negsuc, Bool, true, false, if◌then◌else◌, List, [], ◌∷◌, ◌++◌, refl, sym, ap, subst, arith, inl, inr}
+use Rattle.std.proofs.Common.{⊎_elim, ◌≡◌, ◌≢◌, ◌∙◌, ◌⊎◌, ◌+◌, ◌*◌, ◌^◌, ◌<◌, ◌≤◌, ◌&&◌, ◌==◌, nat_le, nat_lt, not, ℕ, zero, suc, negsuc, Bool, true, false, if◌then◌else◌, List, [], ◌∷◌, refl, sym, ap, subst, arith, inl, inr}
 use Rattle.std.specs.List.{Contains, sum_by}
 use Rattle.std.specs.List.Sorted.{IsNonDecreasingBy}
 use Rattle.std.proofs.lemmas.Bool.{and_parts, cases_eq}
@@ -9,7 +9,7 @@ use Rattle.std.proofs.lemmas.List.Sums.{sum_by-cons, sum_by-append}
 use Rattle.std.proofs.lemmas.List.Sorted.{IsPermutation-sym, Contains-permutation, sum_by-IsPermutation}
 use Rattle.sled_store.specs.SegmentStates.{Machine, SlotState, is_free}
 use Rattle.sled_store.proofs.Marks.SlotLemmas.{at}
-use Rattle.sled_store.proofs.Segments.Elements.{in_first, in_rest, in_cases, in_nothing}
+use Rattle.sled_store.proofs.Segments.Elements.{in_first, in_cases, in_nothing}
 use Rattle.sled_core.specs.declared.iterator.Segment.{Segment}
 use Rattle.sled_core.specs.LogSegments.{segment_within, segments_among, AreSegments}
 use Rattle.sled_core.proofs.Tail.OneTail.{Rises}
@@ -23,6 +23,7 @@ abbrev pub segment_of : ℕ → ℕ → SlotState → Segment
 segment_of size k s = record { place = s.lsn; slot = k * size; mark = negsuc 0 }
 
 module _ (size from to : ℕ) where
+  -- the test by which it is listed
   abbrev Passes : SlotState → Bool
   Passes s = not (is_free s.state) && nat_le from s.lsn && nat_lt s.lsn to && nat_lt (s.lsn + size) (2 ^ 63)
 
@@ -32,6 +33,7 @@ module _ (size from to : ℕ) where
     above : from ≤ s.lsn
     below : s.lsn < to
 
+  -- what passes the test is to be listed
   passes_listed : (s : SlotState) → Passes s ≡ true → IsListed s
   passes_listed s test =
       let a = and_parts (not (is_free s.state) && nat_le from s.lsn && nat_lt s.lsn to) (nat_lt (s.lsn + size) (2 ^ 63)) test in
@@ -45,6 +47,7 @@ module _ (size from to : ℕ) where
       not_true true is = cc
       not_true false is = refl
 
+  -- and the other way round
   listed_passes : (s : SlotState) → IsListed s → s.lsn + size < 2 ^ 63 → Passes s ≡ true
   listed_passes s is fits =
       let above : nat_le from s.lsn ≡ true = (let le = is.above in grind (arith, nat_tests, le)) in
@@ -62,7 +65,7 @@ module _ (size from to : ℕ) where
     by true test = inl (passes_listed s test, ap (λ b. if b then segment_of size k s ∷ [] else []) test)
     by false test = inr (test, ap (λ b. if b then segment_of size k s ∷ [] else []) test)
 
-  -- What is listed lies in a slot.
+  -- A segment lies in one of these slots, and begins from the one place up to the other.
   pub record IsOfSlot (slots : List SlotState) (k : ℕ) (s : Segment) : Type 0 where
     pub index : ℕ
     pub taken : IsTaken slots index
@@ -71,6 +74,7 @@ module _ (size from to : ℕ) where
     pub above : from ≤ s.place
     pub below : s.place < to
 
+  -- what is listed lies in a slot
   among_of : (slots : List SlotState) (k : ℕ) (s : Segment) → Contains (segments_among size from to k slots) s → IsOfSlot slots k s
   among_of [] k s there = absurd (in_nothing s there)
   among_of (x ∷ xs) k s there = ⊎_elim here (λ rest. later (among_of xs (suc k) s rest)) (Contains-append_cases (segment_within size from to k x) (segments_among size from to (suc k) xs) s there) where
@@ -109,12 +113,15 @@ module _ (size from to : ℕ) where
 
 -- How many begin at a place.
 
+-- 1 where it begins there, else 0
 abbrev counts : ℕ → Segment → ℕ
 counts p s = if s.place == p then 1 else 0
 
+-- it does
 counts_one : (p : ℕ) (s : Segment) → s.place ≡ p → counts p s ≡ 1
 counts_one p s is = let test : (s.place == p) ≡ true = grind (arith, nat_tests, is) in ap (λ b. if b then 1 else 0) test
 
+-- it doesn't
 counts_none : (p : ℕ) (s : Segment) → s.place ≢ p → counts p s ≡ 0
 counts_none p s other = let test : (s.place == p) ≡ false = grind (arith, nat_tests, other) in ap (λ b. if b then 1 else 0) test
 
@@ -138,6 +145,7 @@ rising (s ∷ ss) order once = (
 )
 
 module _ (size from to : ℕ) (p : ℕ) where
+  -- how many of these begin at the place
   abbrev Sum : List Segment → ℕ
   Sum ss = sum_by (counts p) ss
 
@@ -174,6 +182,7 @@ module _ (size from to : ℕ) (p : ℕ) where
       ]
 
 module _ (size : ℕ) (m : Machine) (from to : ℕ) (ss : List Segment) (is : AreSegments size m from to ss) where
+  -- all that are listed, by slot
   abbrev All : List Segment
   All = segments_among size from to 0 m.slots
 

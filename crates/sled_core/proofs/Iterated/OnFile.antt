@@ -17,7 +17,7 @@ use Rattle.sled_core.specs.declared.iterator.Segment.{Segment}
 use Rattle.sled_core.specs.declared.iterator.scan.ScannedRecord.{ScannedRecord}
 use Rattle.sled_core.specs.declared.iterator.scan.ScanEnd.{ScanEnd}
 use Rattle.sled_core.specs.declared.iterator.scan.ScanEnd.TheVariants.{Full, Capped, Broken}
-use Rattle.sled_core.specs.Iterates.{Item, HasItsHeader, IsMissing, GivesOf, GivesBehind, IsIteration}
+use Rattle.sled_core.specs.Iterates.{Item, HasItsHeader, GivesOf, GivesBehind, IsIteration}
 use Rattle.sled_core.specs.LogSegments.{AreSegments}
 use Rattle.sled_core.specs.OnFile.{HasBlobThere, item_of, AreOnFile}
 use Rattle.sled_core.specs.Reached.{StandsTo}
@@ -26,12 +26,12 @@ use Rattle.sled_core.specs.Replayed.{IsReplayed}
 use Rattle.sled_core.specs.Scan.{IsPath, IsScan}
 use Rattle.sled_core.specs.Tail.{Scanned, least_place, open_at}
 use Rattle.sled_core.proofs.Iterated.Given.{AreGiven, GivesInline, met_inline, messages_given}
-use Rattle.sled_core.proofs.Iterated.Listed.{IsOfSlot, listed_of, listed_has, listed_rises}
+use Rattle.sled_core.proofs.Iterated.Listed.{listed_of, listed_has, listed_rises}
 use Rattle.sled_core.proofs.Iterated.ReadHere.{IsReadHere, read_here}
 use Rattle.sled_core.proofs.Reached.ReachedEntries.{path_to}
 use Rattle.sled_core.proofs.Tail.Multiples.{put_down, apart, lower_multiple, one_multiple}
 use Rattle.sled_core.proofs.Tail.OneTail.{Rises}
-use Rattle.sled_core.proofs.Tail.Rows.{Stand, path_stands, path_within}
+use Rattle.sled_core.proofs.Tail.Rows.{path_stands, path_within}
 
 -- Messages by place that are of a list in which they lie apart lie apart.
 
@@ -50,6 +50,7 @@ sized : (ys : List Message) → LieApart ys → (m : Message) → Contains ys m 
 sized [] lie m there = absurd (in_nothing m there)
 sized (y ∷ ys) lie m there = ⊎_elim (λ same. subst (λ (z : Message). 0 < z.size) same lie.0) (λ later. sized ys lie.2 m later) (in_cases y m ys there)
 
+-- so they lie apart too
 apart_among : (ys : List Message) → LieApart ys → (xs : List Message) → Ascends xs → ((m : Message) → Contains xs m → Contains ys m) → LieApart xs
 apart_among ys lie [] up there = tt
 apart_among ys lie (x ∷ xs) up there = (
@@ -94,19 +95,24 @@ module _ (sum : List ℕ → ℕ) (size : ℕ) (log : List ℕ) (some : 256 ≤ 
 
   -- One segment more.
   module _ (s : Segment) (ss : List Segment) (first : CanBeGivenOf s) (each : (u : Segment) → Contains ss u → CanBeGivenOf u) (rises : (u : Segment) → Contains ss u → s.place < u.place) (L : List Message) (are : AreGivenOf ss L) where
+    -- what is read of it
     abbrev r : IsReadHere sum size log H reach end s.slot s.place
     r = first.reads
 
+    -- up to where
     abbrev to : ℕ
     to = s.place + r.stop
 
+    -- what is given behind it
     abbrev On : List Item → Bool → Type 0
     On = GivesBehind true r.why (IsIteration sum size log blobs end true ss)
 
+    -- the records that are met in it
     path : IsPath sum size log s.slot s.place 20 r.met r.stop
     unfolding IsScan
     path = r.read.0
 
+    -- they lie in it
     within : r.stop ≤ size
     within = path_within sum size log s.slot s.place first.slot 20 r.met r.stop (omega (arith, some)) path
 
@@ -126,24 +132,30 @@ module _ (sum : List ℕ → ℕ) (size : ℕ) (log : List ℕ) (some : 256 ≤ 
     none_behind : ((u : Segment) → Contains ss u → ⊥) → map item_of L ≡ []
     none_behind none = ap (map item_of) (no_element L (λ n there. let u = (are.of n there).3 in none u.0 u.1))
 
+    -- it leads on, or nothing is given behind it
     leads : (r.why ≢ Broken) ⊎ (map item_of L ≡ [])
     leads = elim r.goes [
       | inl on ↦ inl on
       | inr far ↦ inr (none_behind (λ u there. let next = later_far u there in let near = (each u there).near in omega (arith, next, near, far, within)))
     ]
 
+    -- where it is read beyond the end nothing is given behind it
     last : end < to → map item_of L ≡ []
     last over = none_behind (λ u there. let next = later_far u there in let below = (each u there).below in omega (arith, next, below, over, within))
 
+    -- no record that is met gives a message with a blob
     known : (x : ScannedRecord) → Contains r.met x → GivesInline blobs x
     known x there = let at = path_to sum size log s.slot s.place 20 r.met r.stop path x there in met_inline sum size log blobs (s.slot + at.1) (s.place / size) x at.2.3
 
+    -- what is given of the others is given behind it
     goes : On (map item_of L) false
     goes = behind_goes r.why (IsIteration sum size log blobs end true ss) (map item_of L) leads are.gives
 
+    -- these are given of its records
     abbrev IsOwn : List Message → Type 0
     IsOwn own = AreGiven sum size log blobs H ordered good end closed On (map item_of L) goes to last (s.place + 20) r.met own
 
+    -- some are
     own_given : (own : List Message) × IsOwn own
     own_given =
         messages_given sum size log blobs H ordered good end closed On (map item_of L) goes to last (s.place + 20) r.met (path_stands sum size log s.slot s.place 20 r.met r.stop path) (λ x there. (r.truth x there, known x there))
@@ -161,6 +173,7 @@ module _ (sum : List ℕ → ℕ) (size : ℕ) (log : List ℕ) (some : 256 ≤ 
           by_multiple : (n : Message) → s.place ≤ n.place → n.place < s.place + size → n.place / size * size ≡ s.place
           by_multiple n above below = one_multiple size some s.place n.place first.aligned above below
 
+      -- these, and then those of the others
       one_more : AreGivenOf (s ∷ ss) (own ++ L)
       unfolding IsScan
       one_more = record {
@@ -200,22 +213,31 @@ HasEntryIn size H first m k = (page : ℕ) × (e : Message) × Contains (table H
 
 -- What is asked of the end of an iterator: below it the log has reached each message, and no batch is open there.
 pub record IsEndOf (H : History) (reach end : ℕ) : Type 0 where
+  -- each message that begins below it begins below what was reached
   pub reached : (n : Message) → Contains H.messages n → n.place < end → n.place < reach
+  -- each batch that begins below it ends below it
   pub closed : (b : Batch) → Contains H.batches b → b.low < end → b.peg < end
 
--- What is asked of the slots: each has its own segment, which begins in the log file where it begins below the end. One from before the snapshot's has an entry of its table.
+-- What is asked of the slots that aren't free, of the segment in each of them.
 pub record AreSlotsOf (sum : List ℕ → ℕ) (size : ℕ) (log : List ℕ) (H : History) (first : SnapshotModel) (reach end : ℕ) (m : Machine) : Type 0 where
+  -- it begins at a multiple of the size
   pub aligned : (k : ℕ) → IsTakenIn m k → (slot_at m k).lsn % size ≡ 0
+  -- no other slot has one that begins there
   pub one : (j k : ℕ) → IsTakenIn m j → IsTakenIn m k → (slot_at m j).lsn ≡ (slot_at m k).lsn → j ≡ k
+  -- below the end it begins below what was reached
   pub reached : (k : ℕ) → IsTakenIn m k → (slot_at m k).lsn < end → (slot_at m k).lsn < reach
+  -- and its header stands in its slot
   pub begun : (k : ℕ) → IsTakenIn m k → (slot_at m k).lsn < end → (mark : ℤ) × IsHeader sum (part log (k * size) 20) (pos (slot_at m k).lsn) mark
+  -- below that of the snapshot an entry of the table lies in it
   pub entry : (k : ℕ) → IsTakenIn m k → (slot_at m k).lsn < least_place size first → HasEntryIn size H first m k
+  -- it ends below the last place
   pub fits : (k : ℕ) → IsTakenIn m k → (slot_at m k).lsn + size < 2 ^ 63
 
 module _ (sum : List ℕ → ℕ) (size : ℕ) (log : List ℕ) (some : 256 ≤ size) (H : History) (lie : LieApart H.messages) (A : ℕ) (first : SnapshotModel) (reach : ℕ) (stands : StandsTo sum size log H A first reach)
     (end : ℕ) (is_end : IsEndOf H reach end) (m : Machine) (slots : AreSlotsOf sum size log H first reach end m)
     (blobs : ℤ → Option (List ℕ)) (good : (n : Message) → Contains H.messages n → PassesIfThere sum blobs n n.pointer)
     (from : ℕ) (begins : from % size ≡ 0) (ss : List Segment) (are : AreSegments size m from end ss) where
+  -- each segment of the list can be given
   can_be_given : (s : Segment) → Contains ss s → CanBeGivenOf sum size log some H lie reach blobs good end is_end.closed s
   can_be_given s there =
       let of = listed_of size m from end ss are s there in

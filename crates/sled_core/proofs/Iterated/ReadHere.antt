@@ -1,14 +1,13 @@
 -- The segment in a slot of a settled log, as an iterator reads it: its header is there, all that is met in it is of the history, and each message of it below the iterator's end is met.
-use Rattle.std.proofs.Common.{⊎_elim, ◌≡◌, ◌≢◌, ◌⊎◌, ◌∙◌, ◌+◌, ◌*◌, ◌/◌, ◌%◌, ◌<◌, ◌≤◌, ℕ, ℤ, pos, false, List, sym, ap, subst, arith, inl, inr, refl}
+use Rattle.std.proofs.Common.{⊎_elim, ◌≡◌, ◌≢◌, ◌⊎◌, ◌∙◌, ◌+◌, ◌*◌, ◌/◌, ◌%◌, ◌<◌, ◌≤◌, ℕ, ℤ, pos, List, sym, ap, subst, arith, inl, inr, refl}
 use Rattle.std.specs.List.{Contains}
 use Rattle.std.proofs.Math.Nat.{mul-mod_left}
 use Rattle.std.proofs.lemmas.Bool.{cases_lt}
-use Rattle.sled_codec.specs.History.{Message, Batch, History, table}
+use Rattle.sled_codec.specs.History.{Message, History, table}
 use Rattle.sled_codec.specs.Places.{part}
 use Rattle.sled_codec.specs.Pointers.{lid_of}
 use Rattle.sled_codec.specs.Record.{IsHeader}
 use Rattle.sled_codec.specs.Snapshots.{SnapshotModel, stable_place}
-use Rattle.sled_store.specs.SegmentStates.{Machine, is_free, slot_at}
 use Rattle.sled_store.proofs.Histories.Ascending.{Ascends}
 use Rattle.sled_core.specs.declared.iterator.Segment.{Segment}
 use Rattle.sled_core.specs.declared.iterator.scan.ScannedRecord.{ScannedRecord}
@@ -47,6 +46,7 @@ module _ (sum : List ℕ → ℕ) (size : ℕ) (log : List ℕ) (some : 256 ≤ 
 
   -- Of one that isn't below that of the snapshot.
   module _ (t : Scanned) (known : Contains stands.scanned t) (at : t.segment.place ≡ z) (goes : (t.why ≢ Broken) ⊎ (reach ≤ z + t.stop)) where
+    -- it is one of those that are found, and is read
     t_known : Contains stands.ordering t.segment × IsScanned sum size log t
     t_known = segment_there sum size log stands.ordering stands.scanned stands.reads t known
 
@@ -67,6 +67,7 @@ module _ (sum : List ℕ → ℕ) (size : ℕ) (log : List ℕ) (some : 256 ≤ 
         by room parts Capped leads caps capped = ⊎_elim (λ before. omega (arith, before, at, past)) (λ behind. omega (arith, behind, at, own, parts, room)) ((caps.0 refl).0 n there)
         by room parts Broken leads caps broken = leads refl
 
+    -- each message of it below the end is met
     high_has : (n : Message) → Contains H.messages n → n.place / size * size ≡ z → n.place < end → (x : ScannedRecord) × Contains t.met x × MeetsMessage x n
     unfolding IsScan
     high_has n there own under = elim (cases_lt n.place (z + t.stop)) [
@@ -78,6 +79,7 @@ module _ (sum : List ℕ → ℕ) (size : ℕ) (log : List ℕ) (some : 256 ≤ 
       | inr past ↦ absurd (not_past n there own under past)
     ]
 
+  -- it is read
   high : least ≤ z → z < reach → (mark : ℤ) → IsHeader sum (part log (k * size) 20) (pos z) mark → IsReadHere sum size log H reach end (k * size) z
   high low near mark header =
       let g = stands.gapless z aligned low near in
@@ -102,12 +104,15 @@ module _ (sum : List ℕ → ℕ) (size : ℕ) (log : List ℕ) (some : 256 ≤ 
     abbrev stable : ℕ
     stable = stable_place first.stable
 
+    -- the segment of the entry
     of : IsSegmentOf sum size log H stable e
     of = let low = stands.not_below in let near = stands.passes in (stands.needed stable (omega arith) (omega (arith, low, near)) page e entry).0
 
+    -- it lies in that slot
     in_slot : of.segment.slot ≡ k * size
     in_slot = slot_found sum size log 0 of.segment of.found ∙ ap (λ n. n * size) (slot_needed sum size log H stable e of ∙ lid)
 
+    -- and begins at that place
     at_place : of.segment.place ≡ z
     at_place = of.place ∙ at
 
@@ -118,6 +123,7 @@ module _ (sum : List ℕ → ℕ) (size : ℕ) (log : List ℕ) (some : 256 ≤ 
         let far = apart size (omega (arith, some)) z least aligned low.1 below in
         omega (arith, far, low.0)
 
+    -- it is read
     low : IsReadHere sum size log H reach end (k * size) z
     low =
         let on = of.full (omega (arith, at_place, within)) in
