@@ -2,6 +2,7 @@ pub mod Behind
 pub mod Crash
 pub mod Flush
 pub mod Holds
+pub mod Iterated
 pub mod Iterates
 pub mod Line
 pub mod PublicLaws

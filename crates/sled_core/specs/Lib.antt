@@ -17,6 +17,7 @@ pub mod Keeps
 pub mod LogFile
 pub mod LogSegments
 pub mod Manifests
+pub mod OnFile
 pub mod OpenBatches
 pub mod OpenPlaces
 pub mod Own

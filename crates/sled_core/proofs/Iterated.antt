@@ -1,0 +1,4 @@
+pub mod Given
+pub mod Listed
+pub mod OnFile
+pub mod ReadHere
