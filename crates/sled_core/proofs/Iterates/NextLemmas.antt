@@ -35,8 +35,8 @@ module _ {D C : Type 0} (trace : D → Trace) (faults : D → ℕ) (sum : List �
     next_refused = record {
       gives = λ items damaged ahead. damage_said e items damaged (λ corrupt. absurd (fine corrupt));
       ended = (given, spent);
-      over = λ over. (let no = sym over.0 ∙ is in cc);
-      refused = subst (λ (o : Option Error). IfSome o (λ x. (Some (Err e) ≡ Some (Err x)) × (faults (config_in new.source).device ≡ faults (config_in old.source).device))) (sym is)
+      over = λ over. (let both : None ≡ Some e = sym over.0 ∙ is in cc);
+      refused = subst (λ (o : Option Error). IfSome o (λ x. (◌≡◌ {A = Option (Result Item Error)} (Some (Err e)) (Some (Err x))) × (faults (config_in new.source).device ≡ faults (config_in old.source).device))) (sym is)
           (refl, ap (λ (x : RunningConfig D C). faults x.device) same_config);
       answers = subst (λ (o : Option Error). IfNone o (NextAnswers sum (state_of (trace (config_in old.source).device)).blobs.file (Some (Err e)) (faults (config_in old.source).device) (faults (config_in new.source).device))) (sym is) tt;
       reads = record {
@@ -56,11 +56,11 @@ module _ {D C : Type 0} (trace : D → Trace) (faults : D → ℕ) (sum : List �
   module _ (none : old.refusal ≡ None) (still : new.refusal ≡ None) (item : Option (Result Item Error)) where
     ahead_left : (it : LogIter D C) → it.refusal ≡ None → (items : List Item) (damaged : Bool) → IsAhead trace sum it items damaged → IsLeft trace sum (config_in it.source) it.rest items damaged
     unfolding IsAhead
-    ahead_left it no items damaged = subst (λ (o : Option Error). IfNone o (IsLeft trace sum (config_in it.source) it.rest items damaged)) no
+    ahead_left it none_there items damaged = subst (λ (o : Option Error). IfNone o (IsLeft trace sum (config_in it.source) it.rest items damaged)) none_there
 
     left_ahead : (it : LogIter D C) → it.refusal ≡ None → (items : List Item) (damaged : Bool) → IsLeft trace sum (config_in it.source) it.rest items damaged → IsAhead trace sum it items damaged
     unfolding IsAhead
-    left_ahead it no items damaged = subst (λ (o : Option Error). IfNone o (IsLeft trace sum (config_in it.source) it.rest items damaged)) (sym no)
+    left_ahead it none_there items damaged = subst (λ (o : Option Error). IfNone o (IsLeft trace sum (config_in it.source) it.rest items damaged)) (sym none_there)
 
     behind_as : (x : Option (Result Item Error)) (P Q : Type 0) → (P → Q) → BehindLast x P → BehindLast x Q
     behind_as (Some (Ok y)) P Q so holds = tt

@@ -8,12 +8,12 @@ use Rattle.sled_core.specs.declared.iterator.Segment.{Segment}
 use Rattle.sled_core.specs.LogSegments.{list_of, segment_within, segments_among}
 
 -- those of one slot more
-pub among_further : (size from to i : ℕ) (slots : List SlotState) (k : ℕ) → k < length slots → segments_among size from to i (take (suc k) slots) ≡ segments_among size from to i (take k slots) ++ segment_within size from to (i + k) (get_or slots k free_slot)
-among_further size from to i [] k lt = absurd (omega (arith, lt))
-among_further size from to i (s ∷ ss) zero lt = append-nil (segment_within size from to i s) ∙ ap (λ n. segment_within size from to n s) (omega arith)
-among_further size from to i (s ∷ ss) (suc k) lt =
-    ap (λ (l : List Segment). segment_within size from to i s ++ l) (among_further size from to (suc i) ss k (omega (arith, lt)) ∙ ap (λ n. segments_among size from to (suc i) (take k ss) ++ segment_within size from to n (get_or ss k free_slot)) (omega arith))
-    ∙ sym (append_assoc (segment_within size from to i s) (segments_among size from to (suc i) (take k ss)) (segment_within size from to (i + suc k) (get_or ss k free_slot)))
+pub among_further : (size from to i : ℕ) (slots : List SlotState) (k j : ℕ) → j ≡ i + k → k < length slots → segments_among size from to i (take (suc k) slots) ≡ segments_among size from to i (take k slots) ++ segment_within size from to j (get_or slots k free_slot)
+among_further size from to i [] k j is lt = absurd (omega (arith, lt))
+among_further size from to i (s ∷ ss) zero j is lt = append-nil (segment_within size from to i s) ∙ ap (λ n. segment_within size from to n s) (omega (arith, is))
+among_further size from to i (s ∷ ss) (suc k) j is lt =
+    ap (λ (l : List Segment). segment_within size from to i s ++ l) (among_further size from to (suc i) ss k j (omega (arith, is)) (omega (arith, lt)))
+    ∙ sym (append_assoc (segment_within size from to i s) (segments_among size from to (suc i) (take k ss)) (segment_within size from to j (get_or ss k free_slot)))
 
 -- what holds of what there is holds of all of it
 pub all_of : {A : Type 0} (P : A → Type 0) (o : Option A) → IfSome o P → All P (list_of o)

@@ -1,4 +1,6 @@
-use Rattle.std.proofs.Common.{◌≡◌, ◌∙◌, ℕ, List, Bool, true, false, Option, None, IfNone, refl, ap, sym, subst, arith}
+use Rattle.std.proofs.Common.{◌≡◌, ◌∙◌, ℕ, ℤ, List, Bool, true, false, Option, None, IfNone, refl, ap, sym, subst, arith}
+use Rattle.std.specs.Int.{w64}
+use Rattle.std.proofs.lemmas.Int.{to_z-of_z}
 use Rattle.sled_codec.specs.declared.result.Error.{Error}
 use Rattle.sled_store.specs.Device.{state_of}
 use Rattle.sled_core.specs.Fits.{machine_at, segment_size_of, stable_end}
@@ -14,5 +16,6 @@ returns-in-Ok-clause-goes_over g c =
     let log = c.args.self.now in
     subst (λ (o : Option Error). IfNone o (GoesOver g.D.Device.trace g.C.Checksum.sum_of log c.args.lsn c.over_log.result)) (sym c.over_log.ensures.begun)
     (goes_over g.D.Device.trace g.C.Checksum.sum_of log c.args.lsn c.over_log.result c.in-Ok.segments.items
-    (subst (λ n. AreSegments (segment_size_of log) (machine_at log) (begins_from (segment_size_of log) c.args.lsn) n c.in-Ok.segments.items) c.stable_end-end.ensures.is c.in-Ok.ensures.segments)
+    (subst (λ n. AreSegments (segment_size_of log) (machine_at log) (begins_from (segment_size_of log) c.args.lsn) n c.in-Ok.segments.items) c.stable_end-end.ensures.is
+    (subst (λ (z : ℤ). AreSegments (segment_size_of log) (machine_at log) (begins_from (segment_size_of log) z) c.stable_end-end.result c.in-Ok.segments.items) (to_z-of_z w64 c.args.lsn c.ranges.lsn) c.in-Ok.ensures.segments))
     c.args.self c.over_log.ensures.borrows c.new.result c.over_log.ensures.rest c.new.ensures.strict (ap (λ v. v.items) c.new.ensures.segments) (c.new.ensures.end ∙ c.stable_end-end.ensures.is) c.new.ensures.read c.new.ensures.met c.new.ensures.given)

@@ -14,11 +14,12 @@ loop-slot-preserved c =
     let k : ℕ = c.loop-slot.slot in
     let lt : k < length slots = omega (arith, c.loop-slot-test.true, c.slot_count-count.ensures) in
     let put = c.in_ok-put.ensures.put in
+    let next : suc k ≡ k + 1 = omega arith in
     record {
       are = put ∙ ap (λ (l : List Segment). l ++ list_of c.segment_within.result) c.loop-slot.invariant.are
           ∙ ap (λ (l : List Segment). segments_among c.args.size c.args.from c.args.to 0 (take k slots) ++ l) c.segment_within.ensures.is
-          ∙ sym (among_further c.args.size c.args.from c.args.to 0 slots k lt)
-          ∙ ap (λ n. segments_among c.args.size c.args.from c.args.to 0 (take n slots)) (omega arith);
+          ∙ sym (among_further c.args.size c.args.from c.args.to 0 slots k k (omega arith) lt)
+          ∙ ap (λ n. segments_among c.args.size c.args.from c.args.to 0 (take n slots)) next;
       ends = subst (All (HasEnds c.args.size)) (sym put)
           (All-append (HasEnds c.args.size) c.loop-slot.segments.items (list_of c.segment_within.result) c.loop-slot.invariant.ends (all_of (HasEnds c.args.size) c.segment_within.result c.segment_within.ensures.ends));
       within = omega (arith, lt);
