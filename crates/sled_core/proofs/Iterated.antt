@@ -1,4 +1,5 @@
 pub mod Given
 pub mod Listed
+pub mod OfLog
 pub mod OnFile
 pub mod ReadHere

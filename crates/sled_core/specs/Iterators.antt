@@ -1,7 +1,8 @@
 -- What a caller sees of an iterator: what it borrows, and what is ahead of it.
-use Rattle.std.specs.Prelude.{◌≡◌, ◌+◌, ℕ, ℤ, true, List, Bool, Option, None, Some, Result, Err, IfNone, IfSome}
+use Rattle.std.specs.Prelude.{◌≡◌, ◌+◌, ℕ, ℤ, true, false, List, map, Bool, Option, None, Some, Result, Err, IfNone, IfSome}
 use Rattle.std.specs.Borrow.{MutBor}
 use Rattle.std.specs.declared.io.Error.{Error as IoError}
+use Rattle.sled_codec.specs.History.{History, Message}
 use Rattle.sled_store.specs.declared.config.RunningConfig.{RunningConfig}
 use Rattle.sled_codec.specs.declared.result.Error.{Error}
 use Rattle.sled_codec.specs.declared.result.Error.TheVariants.{Io, OutOfMemory}
@@ -17,6 +18,7 @@ use Rattle.sled_core.specs.Keeps.{OnlyReads, Preserves, SamePosition}
 use Rattle.sled_core.specs.Iterates.{Item, IsIteration, NextGives, NextAnswers, BehindLast}
 use Rattle.sled_core.specs.Ahead.{IsLeft, IsSpent, most_left}
 use Rattle.sled_core.specs.LogSegments.{AreSegments, begins_from}
+use Rattle.sled_core.specs.OnFile.{AreOnFile, item_of}
 use Rattle.sled_core.specs.Sources.{config_in, name_in}
 
 -- why nothing can be gone over, where that is so: the one item of the iterator
@@ -100,3 +102,10 @@ GoesOver trace sum log lsn it =
     let s = state_of (trace (device_of log)) in
     (ss : List Segment) × AreSegments size (machine_at log) (begins_from size lsn) (stable_end log) ss
     × ((items : List Item) (damaged : Bool) → IsIteration sum size s.log.bytes s.blobs.file (stable_end log) true ss items damaged → IsAhead trace sum it items damaged)
+
+-- It gives the messages of a history from the segment that holds a place on and below the stable end, of which a slot has the segment and, where they name a blob, that is there; by place. And it doesn't end at damage.
+abbrev pub GivesMessages : {D C : Type 0} → (D → Trace) → (List ℕ → ℕ) → Log D C → History → ℤ → LogIter D C → Type 0
+GivesMessages trace sum log H lsn it =
+    let size = segment_size_of log in
+    let s = state_of (trace (device_of log)) in
+    (ms : List Message) × AreOnFile size (machine_at log) s.blobs.file H (begins_from size lsn) (stable_end log) ms × IsAhead trace sum it (map item_of ms) false

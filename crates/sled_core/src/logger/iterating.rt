@@ -2,7 +2,10 @@
 ghost use Rattle.std.specs.Prelude.{◌≡◌, ◌<◌, ◌++◌, ℕ, All, List, Bool, length, IfNone, IfSome, IfOk, IsOkUnless, None, OnOk, OnSome};
 ghost use Rattle.sled_codec.specs.declared.result.Error.TheVariants.{OutOfMemory};
 ghost use Rattle.sled_store.specs.Accounts.{IsAccountant, machine_of};
-ghost use Rattle.sled_store.specs.Device.{state_of};
+ghost use Rattle.sled_codec.specs.History.{History, Message};
+ghost use Rattle.sled_store.specs.Device.{content_of, state_of};
+ghost use Rattle.sled_core.specs.Recoverable.{NoForeign};
+ghost use Rattle.sled_core.specs.Running.{Fits};
 ghost use Rattle.sled_core.specs.Ahead.{CanGoOn, HasEnds, IsLeft, IsSpent, most_left};
 ghost use Rattle.sled_core.specs.Iterates.{Item, NextGives, NextAnswers, BehindLast};
 ghost use Rattle.sled_core.specs.Iterators.{first_failure};
@@ -24,7 +27,7 @@ use std::io;
 impl<D: Device, C: Checksum> Log<D, C> {
     ghost use Rattle.sled_core.specs.Fits.{config_of, device_of, fault_of, machine_at, segment_size_of, stable_end};
     ghost use Rattle.sled_core.specs.Causes.{FaultOrMemory};
-    ghost use Rattle.sled_core.specs.Iterators.{BorrowsLog, GoesOver, IsReadFor, IsRefusedFor, refusal_of};
+    ghost use Rattle.sled_core.specs.Iterators.{BorrowsLog, GivesMessages, GoesOver, IsReadFor, IsRefusedFor, refusal_of};
     ghost use Rattle.sled_core.specs.LogSegments.{AreSegments, begins_from};
 
     /// Returns an iterator over the messages of the log by place, from the beginning of the segment that holds a place up to
@@ -36,6 +39,9 @@ impl<D: Device, C: Checksum> Log<D, C> {
     /// asked for. The list of segments takes memory: where that is refused, `OutOfMemory` is the one item. Where the log keeps a failure of
     /// its device, that is.
     pub fn iter_from(&mut self, lsn: Lsn) -> LogIter<'_, D, C>
+        ensures messages { let s = state_of (D.trace (device_of self.old)) in
+            (H : History) (A f : ℕ) (U : List Message) → Fits D.trace C.sum_of self.old H A f U → NoForeign C.sum_of (segment_size_of self.old) s (content_of s)
+            → IfNone (refusal_of result) (GivesMessages D.trace C.sum_of self.old H lsn result) }
         ensures goes_over { IfNone (refusal_of result) (GoesOver D.trace C.sum_of self.old lsn result) }
         ensures refused { IsRefusedFor (refusal_of result) (fault_of self.old) }
         ensures borrows { BorrowsLog self.entry self.old result }

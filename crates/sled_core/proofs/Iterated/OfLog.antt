@@ -1,0 +1,167 @@
+-- What stands in the file of a log that fits a history is what an iterator of it asks for.
+use Rattle.std.proofs.Common.{◌≡◌, ◌⊎◌, ◌∙◌, ◌+◌, ◌*◌, ◌/◌, ◌%◌, ◌^◌, ◌<◌, ◌≤◌, ℕ, suc, ℤ, pos, Bool, true, false, List, [], ◌∷◌, map, length, Option, None, refl, sym, ap, subst, arith, inl, inr}
+use Rattle.std.specs.declared.io.Error.{Error as IoError}
+use Rattle.std.specs.List.{All, Contains}
+use Rattle.std.proofs.Math.Nat.{mul-mod_left, suc-mul}
+use Rattle.std.proofs.lemmas.Bool.{cases_lt, cases_order}
+use Rattle.std.proofs.lemmas.List.{length-map}
+use Rattle.std.proofs.lemmas.List.Elements.{All-head}
+use Rattle.sled_codec.specs.Coords.{raised}
+use Rattle.sled_codec.specs.History.{Batch, Message, History, table}
+use Rattle.sled_codec.specs.Places.{part}
+use Rattle.sled_codec.specs.Record.{IsHeader}
+use Rattle.sled_codec.specs.Snapshots.{SnapshotModel, stable_place}
+use Rattle.sled_codec.specs.WellFormed.{LieApart}
+use Rattle.sled_store.specs.Device.{LogState, State, Trace, content_of, state_of}
+use Rattle.sled_store.specs.SegmentStates.{Machine, is_free, slot_at}
+use Rattle.sled_store.proofs.Crashes.SettledLemmas.{name_read_left}
+use Rattle.sled_store.proofs.Names.OneBegin.{one_begin}
+use Rattle.sled_core.specs.declared.iterator.log_iter.LogIter.{LogIter}
+use Rattle.sled_core.specs.declared.logger.Log.{Log}
+use Rattle.sled_core.specs.Begun.{FollowOn, SegmentView, line_end, segment_view}
+use Rattle.sled_core.specs.declared.logger.segments.SegmentBuffer.{SegmentBuffer}
+use Rattle.sled_core.specs.Fits.{begun_segment, line_of, machine_at, noted_in, parts_in, stable_end, synced_end}
+use Rattle.sled_core.specs.FreeSlots.{HasSlot}
+use Rattle.sled_core.specs.Iterators.{GivesMessages, GoesOver, IsAhead}
+use Rattle.sled_core.specs.LogFile.{HasHeader}
+use Rattle.sled_core.specs.LogSegments.{begins_from}
+use Rattle.sled_core.specs.OnFile.{item_of}
+use Rattle.sled_core.specs.OpenBatches.{stable_below}
+use Rattle.sled_core.specs.Reached.{ReachesIn, StandsAmong}
+use Rattle.sled_core.specs.Recoverable.{NoForeign, PassesIfThere}
+use Rattle.sled_core.specs.Running.{Fits, FitsWith}
+use Rattle.sled_core.specs.Tail.{least_place, place_of_mark}
+use Rattle.sled_core.proofs.Holds.BufferEnds.{written_behind}
+use Rattle.sled_core.proofs.Holds.FitsBatches.{stable_noted}
+use Rattle.sled_core.proofs.Holds.WholeHistory.{whole_apart}
+use Rattle.sled_core.proofs.Iterated.OnFile.{AreSlotsOf, HasEntryIn, IsEndOf, gives_on_file}
+use Rattle.sled_core.proofs.Line.WrittenSlots.{headers_line}
+use Rattle.sled_core.proofs.Reached.StableBelow.{stable_closed, stable_low}
+use Rattle.sled_core.proofs.Start.ReadyLemmas.{raised_same}
+use Rattle.sled_core.proofs.Tail.Multiples.{apart, put_down, raised_within}
+
+-- the last of segments that follow one another ends below 2^63
+follow_end : (size place : ℕ) (ss : List SegmentBuffer) → place < 2 ^ 63 → FollowOn size place ss → place + length ss * size < 2 ^ 63
+follow_end size place [] below follow = omega (arith, below)
+follow_end size place (s ∷ ss) below follow =
+    let at = follow.0 in
+    let reach = follow.2 in
+    let more = follow_end size (place + size) ss (omega (arith, at, reach)) follow.4 in
+    omega (arith, more)
+
+module _ (sum : List ℕ → ℕ) (size : ℕ) (some : 256 ≤ size) where
+  -- A segment that begins below the next multiple behind a place begins below that place.
+  below_raised : (reach place lsn : ℕ) → place ≤ raised size reach → lsn % size ≡ 0 → lsn < place → lsn < reach
+  below_raised reach place lsn near aligned lower = elim (cases_order reach lsn) [
+    | inl same ↦ (let is = raised_same size reach (omega (arith, some)) (ap (λ n. n % size) same ∙ aligned) in absurd (omega (arith, is, same, near, lower)))
+    | inr (inl under) ↦ (
+        let begin : ℕ = reach / size * size in
+        let down = put_down size reach in
+        let far = apart size (omega (arith, some)) begin lsn down.1 aligned (omega (arith, down.0, under)) in
+        let within = raised_within size some reach in
+        absurd (omega (arith, far, within, near, lower)))
+    | inr (inr above) ↦ above
+  ]
+
+  -- what was reached of a segment, and a segment below all that is written of it
+  below_reach : (H : History) (place from reach lsn : ℕ) → ReachesIn size H place from reach → lsn % size ≡ 0 → lsn < place + from → lsn < reach
+  below_reach H place from reach lsn (inl all) aligned lower = omega (arith, all, lower)
+  below_reach H place from reach lsn (inr (none, next)) aligned lower =
+      let near = next.next in
+      below_raised reach place lsn near aligned (omega (arith, lower, none))
+
+module _ {D C : Type 0} (trace : D → Trace) (sum : List ℕ → ℕ) (log : Log D C) (H : History) (A f : ℕ) (U : List Message) where
+  abbrev size : ℕ
+  size = log.config.config.segment_size
+
+  abbrev state : State
+  state = state_of (trace log.config.device)
+
+  abbrev m : Machine
+  m = machine_at log
+
+  abbrev line : List SegmentView
+  line = line_of log
+
+  abbrev some : 256 ≤ size
+  some = log.config.config.least
+
+  module _ (fits : FitsWith sum (noted_in log) size state log.fault line m log.pins H A f U) (none : log.fault ≡ None) (own : NoForeign sum size state (content_of state)) where
+    abbrev first : SnapshotModel
+    first = fits.parts.holds.begun.first
+
+    among : StandsAmong sum size state.log.bytes log.site log.buffer.written_len (map begun_segment (map parts_in (map segment_view log.behind.items))) fits.reach H first
+    among = fits.parts.among none own.zeros
+
+    -- the stable end is that of the history
+    same_end : stable_below (synced_end log) H.batches ≡ stable_end log
+    same_end = stable_noted (synced_end log) (line_end size line) (noted_in log) H fits.batches
+
+    end_low : stable_end log ≤ synced_end log
+    end_low = stable_low (synced_end log) (noted_in log)
+
+    is_end : IsEndOf H fits.reach (stable_end log)
+    is_end = record {
+      reached = λ n there low. (fits.parts.ends n there (omega (arith, low, end_low))).0;
+      closed = λ b there low.
+          let under = stable_closed size H among.stands.batched (synced_end log) b there (omega (arith, low, same_end)) in
+          omega (arith, under, same_end);
+    }
+
+    -- the header stands in the slot of the first segment, where any of it is written
+    first_header : (k : ℕ) → is_free (slot_at m k).state ≡ false → (slot_at m k).lsn ≡ log.site.place → 0 < log.buffer.written_len → (mark : ℤ) × IsHeader sum (part state.log.bytes (k * size) 20) (pos (slot_at m k).lsn) mark
+    first_header k taken at some_written =
+        let h = All-head (HasSlot size m) _ _ fits.slots.taken in
+        let same : h.number ≡ k = fits.slots.own.one h.number k h.taken taken (h.is ∙ sym at) in
+        let has : HasHeader sum state.log.bytes log.site = headers_line sum size state log.fault none line 0 _ H fits.parts.holds refl some_written in
+        let slot : log.site.slot ≡ k * size = h.lies ∙ ap (λ n. n * size) same in (
+          has.mark,
+          subst (λ n. IsHeader sum (part state.log.bytes n 20) (pos (slot_at m k).lsn) has.mark) slot (subst (λ n. IsHeader sum (part state.log.bytes log.site.slot 20) (pos n) has.mark) (sym at) has.header),
+        )
+
+    begun : (k : ℕ) → is_free (slot_at m k).state ≡ false → (slot_at m k).lsn < stable_end log → (mark : ℤ) × IsHeader sum (part state.log.bytes (k * size) 20) (pos (slot_at m k).lsn) mark
+    begun k taken low = elim (cases_lt (slot_at m k).lsn log.site.place) [
+      | inl lower ↦ fits.begun none k taken lower
+      | inr above ↦ (
+          let aligned = fits.slots.own.aligned k taken in
+          let begins = fits.parts.holds.own.place_begins in
+          let inside = log.in_segment in
+          let held = written_behind log.buffer in
+          let at : (slot_at m k).lsn ≡ log.site.place = elim (cases_lt log.site.place (slot_at m k).lsn) [
+            | inl over ↦ (let far = apart size (omega (arith, some)) log.site.place (slot_at m k).lsn begins aligned over in absurd (omega (arith, far, low, end_low, inside, held)))
+            | inr le ↦ omega (arith, le, above)
+          ] in
+          first_header k taken at (omega (arith, at, low, end_low)))
+    ]
+
+    entry : (k : ℕ) → is_free (slot_at m k).state ≡ false → (slot_at m k).lsn < least_place size first → HasEntryIn size H first m k
+    entry = subst (λ (s : SnapshotModel). (k : ℕ) → is_free (slot_at m k).state ≡ false → (slot_at m k).lsn < least_place size s → HasEntryIn size H s m k)
+        (one_begin sum state.snapshots.file fits.entries.first first fits.entries.begins fits.parts.holds.begun.begins) fits.entries.entry
+
+    slots : AreSlotsOf sum size state.log.bytes H first fits.reach (stable_end log) m
+    slots = record {
+      aligned = fits.slots.own.aligned;
+      one = fits.slots.own.one;
+      reached = λ k taken low. below_reach sum size some H log.site.place log.buffer.written_len fits.reach (slot_at m k).lsn among.reached (fits.slots.own.aligned k taken) (omega (arith, low, end_low));
+      begun = begun;
+      entry = entry;
+      fits = λ k taken.
+          let below = fits.slots.own.below k taken in
+          let ends = follow_end size (log.site.place + size) log.behind.items log.place_in_reach log.follow in
+          let all : length line * size ≡ suc (length log.behind.items) * size = ap (λ n. suc n * size) (length-map log.behind.items segment_view) in
+          omega (arith, below, ends, all, suc-mul (length log.behind.items) size);
+    }
+
+    -- each blob that is there passes for its message
+    good : (n : Message) → Contains H.messages n → PassesIfThere sum state.blobs.file n n.pointer
+    good = (fits.parts.blobs state.blobs.file (name_read_left state.blobs) own.blobs).named
+
+    apart_messages : LieApart H.messages
+    apart_messages = whole_apart sum size log.site state log.fault log.buffer.bytes.items log.buffer.written_len log.buffer.sealed.items log.buffer.reserved.items H fits.parts.holds log.in_segment
+
+    -- So an iterator that goes over the segments of the log gives its messages.
+    pub gives_messages : (lsn : ℤ) (it : LogIter D C) → GoesOver trace sum log lsn it → GivesMessages trace sum log H lsn it
+    gives_messages lsn it over =
+        let given = gives_on_file sum size state.log.bytes some H apart_messages (stable_below fits.reach H.batches) first fits.reach among.stands (stable_end log) is_end m slots state.blobs.file good (begins_from size lsn)
+            (mul-mod_left (place_of_mark lsn / size) size) over.0 over.1 in
+        (given.0, given.1, over.2 (map item_of given.0) false given.2)
