@@ -1,7 +1,7 @@
 //! Reading a log file: which segments are found in it, what is met in each, and an iterator over the messages.
 //!
 //! `specs/Scan.antt` says what is met, for any log file, and `specs/Iterates.antt` what an iterator gives.
-ghost use Rattle.std.specs.Prelude.{take, ℤ, IfNone, ◌≡◌, ◌-◌, ◌/◌, ◌≤◌, ◌<◌, ℕ, None, pos, IfOk, IfSome, OnOk};
+ghost use Rattle.std.specs.Prelude.{take, ℤ, IfNone, ◌≡◌, ◌-◌, ◌/◌, ◌%◌, ◌≤◌, ◌<◌, ℕ, None, pos, IfOk, IfSome, OnOk};
 ghost use Rattle.sled_codec.specs.Errors.{IsCorruption};
 ghost use Rattle.sled_codec.specs.Places.{part};
 ghost use Rattle.sled_codec.specs.Record.{IsHeader};
@@ -36,7 +36,8 @@ pub struct Segment {
 /// Returns where the segment begins that holds a place, from which an iterator begins; a negative one counts as 0.
 pub fn begins_from(size: u64, lsn: Lsn) -> u64
     requires { 0 < size }
-    ensures { result ≡ begins_from size lsn }
+    ensures is { result ≡ begins_from size lsn }
+    ensures aligned { result % size ≡ 0 }
 {
     u64::try_from(lsn).unwrap_or(0) / size * size
 }

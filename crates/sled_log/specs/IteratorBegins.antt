@@ -1,20 +1,19 @@
 -- Where an iterator begins that no log makes: the segments are found and the tail is read, from a place on.
-use Rattle.std.specs.Prelude.{◌⊎◌, ◌*◌, ◌/◌, ℕ, ℤ, Bool, false, List, [], Option, Some, None, Result}
+use Rattle.std.specs.Prelude.{◌⊎◌, ℕ, ℤ, Bool, false, List, [], Option, Some, None, Result}
 use Rattle.sled_codec.specs.declared.result.Error.{Error}
 use Rattle.sled_store.specs.Blobs.{ItemAnswers}
 use Rattle.sled_core.specs.declared.iterator.Segment.{Segment}
 use Rattle.sled_core.specs.Iterates.{Item, IsIteration}
-use Rattle.sled_log.specs.Recovery.{Scanned, IsUnordered, IsOrdering, IsTail, IsDamagedTail, HaveGoodBlobs, tail_begins, tail_end, begun_below, place_of_mark}
+use Rattle.sled_log.specs.Recovery.{Scanned, IsUnordered, IsOrdering, IsTail, IsDamagedTail, HaveGoodBlobs, tail_begins, tail_end, begun_below}
 
 -- the segment that holds the place from which an iterator begins; a negative one counts as 0
-abbrev pub begins_from : ℕ → ℤ → ℕ
-begins_from size lsn = place_of_mark lsn / size * size
+pub use Rattle.sled_core.specs.LogSegments.{begins_from}
 
 -- what is ahead of an iterator where the tail ends there, or where no segment of it was read
 abbrev pub IsBegun : (List ℕ → ℕ) → ℕ → List ℕ → (ℤ → Option (List ℕ)) → List Segment → Option ℕ → (List Item → Bool → Type 0) → Type 0
 IsBegun sum size log blobs ordering None ahead = ahead [] false
 IsBegun sum size log blobs ordering (Some end) ahead =
-    (items : List Item) (damaged : Bool) → IsIteration sum size log blobs end (begun_below end ordering) items damaged → ahead items damaged
+    (items : List Item) (damaged : Bool) → IsIteration sum size log blobs end false (begun_below end ordering) items damaged → ahead items damaged
 
 -- The segments are found and the tail is read, from a place on, and what comes of it is ahead of an iterator.
 abbrev pub Begins : (List ℕ → ℕ) → ℕ → List ℕ → (ℤ → Option (List ℕ)) → ℕ → (List Item → Bool → Type 0) → Type 0

@@ -5,7 +5,7 @@ ghost use Rattle.sled_codec.specs.Errors.{IsCorruption};
 ghost use Rattle.sled_store.specs.Device.{state_of};
 ghost use Rattle.sled_core.specs.Causes.{ItemAnswersOver};
 ghost use Rattle.sled_core.specs.Keeps.{OnlyReads};
-ghost use Rattle.sled_core.specs.Iterators.{borrowed_by, IsAhead};
+ghost use Rattle.sled_core.specs.Iterators.{BorrowsFile, IsAhead, reads_of, refusal_of};
 ghost use Rattle.sled_core.specs.Ahead.{CanGoOn, IsLeft};
 ghost use Rattle.sled_log.specs.Recovery.{Scanned, IsTail, IsDamagedTail, HaveGoodBlobs, begun_below, is_ascending, place_of_mark, tail_end};
 ghost use Rattle.sled_log.specs.Passes.{CanAllBeRead};
@@ -16,7 +16,7 @@ use crate::snapshot::tail::{check_passes, count_below, read_tail, tail_begins};
 use sled_codec::result::{Lsn, Result};
 use sled_codec::serialization::Checksum;
 use sled_core::iterator::rest::Rest;
-use sled_core::iterator::{LogIter, Segment};
+use sled_core::iterator::{LogIter, Segment, begins_from};
 use sled_store::{Device, RunningConfig};
 
 /// Returns an iterator over the messages of a device's log file, from the beginning of the segment that holds a place;
@@ -38,35 +38,29 @@ pub fn raw_segment_iter_from<'a, D: Device, C: Checksum>(
         IsCorruption result → IsDamagedFrom C.sum_of size s.log.bytes s.blobs.file (begins_from size lsn) }
     ensures answers { let blobs = (state_of (D.trace config.old.device)).blobs.file in
         BeginAnswers C.sum_of blobs result (D.faults config.old.device) }
-    ensures faults { IfOk result (λ it. D.faults (borrowed_by it).now.device ≡ D.faults config.old.device) }
-    ensures reads { IfOk result (λ it. OnlyReads D.trace config.old (borrowed_by it).now) }
-    ensures same_reference { IfOk result (λ it. (borrowed_by it).ghost_name ≡ config.entry.ghost_name) }
+    ensures begun { IfOk result (λ it. refusal_of it ≡ None) }
+    ensures faults { IfOk result (λ it. D.faults (reads_of it).device ≡ D.faults config.old.device) }
+    ensures reads { IfOk result (λ it. OnlyReads D.trace config.old (reads_of it)) }
+    ensures borrows { IfOk result (λ it. BorrowsFile config.entry (reads_of it) it) }
 {
-    match begin_at(config, place_from(lsn)) {
+    match begin_at(config, begins_from(config.config.segment_size, lsn)) {
         Ok(rest) => Ok(LogIter::new(config, rest)),
         Err(e) => Err(e),
     }
 }
 
-/// The place that an iterator begins from.
-fn place_from(lsn: Lsn) -> u64
-    ensures { result ≡ place_of_mark lsn }
-{
-    u64::try_from(lsn).unwrap_or(0)
-}
-
-/// What is left for an iterator from a place on.
-fn begin_at<D: Device, C: Checksum>(config: &mut RunningConfig<D, C>, stable: u64) -> Result<Rest>
+/// What is left for an iterator from where a segment begins.
+fn begin_at<D: Device, C: Checksum>(config: &mut RunningConfig<D, C>, least: u64) -> Result<Rest>
+    requires { least % config.old.config.segment_size ≡ 0 }
     ensures begins { let size = config.old.config.segment_size in let s = state_of (D.trace config.old.device) in
-        IfOk result (λ r. Begins C.sum_of size s.log.bytes s.blobs.file (stable / size * size) (IsLeft D.trace C.sum_of config.old r)) }
+        IfOk result (λ r. Begins C.sum_of size s.log.bytes s.blobs.file least (IsLeft D.trace C.sum_of config.old r)) }
     ensures fits { IfOk result (CanGoOn config.old.config.segment_size) }
     ensures corrupt { let size = config.old.config.segment_size in let s = state_of (D.trace config.old.device) in
-        IsCorruption result → IsDamagedFrom C.sum_of size s.log.bytes s.blobs.file (stable / size * size) }
+        IsCorruption result → IsDamagedFrom C.sum_of size s.log.bytes s.blobs.file least }
     ensures answers { ItemAnswersOver D.trace D.faults C.sum_of result config.old config.new }
     ensures reads { OnlyReads D.trace config.old config.new }
 {
     let size = config.config.segment_size;
-    let least = stable / size * size;
     match find_segments(config, least) {
         Ok(segments) => {
             let begin = tail_begins(size, least, &segments);

@@ -13,7 +13,7 @@ pub returns-clause-segments : goal.returns-clause-segments
 returns-clause-segments g c =
     let size : ℕ = c.args.self.now.config.config.segment_size in
     let m = machine_of c.args.self.now.accountant in
-    let from : c.begins_from-from.result ≡ begins_from size c.args.lsn = c.begins_from-from.ensures ∙ ap (begins_from size) (to_z-of_z w64 c.args.lsn c.ranges.lsn) in
+    let from : c.begins_from-from.result ≡ begins_from size c.args.lsn = c.begins_from-from.ensures.is ∙ ap (begins_from size) (to_z-of_z w64 c.args.lsn c.ranges.lsn) in
     record {
       are = subst (λ n. IsPermutation (segments_among size n c.args.to 0 m.slots) c.sort_by_key.new.self.items) from
           (subst (λ (ss : List Segment). IsPermutation ss c.sort_by_key.new.self.items) c.in_ok-segments.ensures.segments c.in_ok-sort_by_key.ensures.permutation);
