@@ -29,6 +29,7 @@ pub mod Nexts
 pub mod NoneLeft
 pub mod Noted
 pub mod Nth
+pub mod OlderSlots
 pub mod OpenBetween
 pub mod OpenManifests
 pub mod OpenPlaces
@@ -52,4 +53,5 @@ pub mod Targets
 pub mod Turns
 pub mod Unchanged
 pub mod Writes
+pub mod WrittenSlots
 pub mod WrittenTickets

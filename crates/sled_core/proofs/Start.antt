@@ -5,7 +5,9 @@ pub mod FreshLemmas
 pub mod FreshReady
 pub mod GoodStarted
 pub mod KeptActive
+pub mod OlderStarted
 pub mod OpenLemmas
+pub mod OwnSlots
 pub mod PaddedActive
 pub mod PlacedEntries
 pub mod Places

@@ -1,5 +1,5 @@
 -- The segments that a log has begun, and what it has of each: the first one that isn't wholly on the device, and those behind it.
-use Rattle.std.specs.Prelude.{◌≡◌, ◌≤◌, ◌<◌, ◌+◌, ◌^◌, ℕ, List, [], ◌∷◌, length, map, drop, Option, None, Some, refl}
+use Rattle.std.specs.Prelude.{◌≡◌, ◌≤◌, ◌<◌, ◌+◌, ◌*◌, ◌^◌, ℕ, List, [], ◌∷◌, length, map, drop, Option, None, Some, refl}
 use native.Mathlib.Nat.{ℕ_set}
 use native.Mathlib.Bridge.{le_prop}
 use Rattle.sled_core.specs.Buffers.{records_end}
@@ -57,6 +57,16 @@ last_buffer b (s ∷ ss) = last_buffer s.buffer ss
 -- all segments of a log, by place
 abbrev pub line_at : SegmentPosition → IoBuf → List SegmentBuffer → List SegmentView
 line_at site b behind = view_at site b ∷ map segment_view behind
+
+-- where the first of segments begins
+abbrev pub first_place : List SegmentView → ℕ
+first_place [] = 0
+first_place (v ∷ vs) = v.parts.site.place
+
+-- where the last one ends of segments of this size
+abbrev pub line_end : ℕ → List SegmentView → ℕ
+line_end size [] = 0
+line_end size (v ∷ vs) = v.parts.site.place + length (v ∷ vs) * size
 
 -- Each buffer of a segment at this place that has an entry begins below a place: the sealed ones, which begin at an offset, and the current one.
 abbrev pub AreEntered : ℕ → ℕ → ℕ → List Sealed → List Reserved → Type 0

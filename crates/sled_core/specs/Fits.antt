@@ -19,6 +19,7 @@ use Rattle.sled_core.specs.declared.reservation.Reservation.{Reservation}
 use Rattle.sled_core.specs.declared.logger.Log.{Log}
 use Rattle.sled_store.specs.declared.config.RunningConfig.{RunningConfig}
 use Rattle.sled_core.specs.Begun.{SegmentParts, SegmentView, begin_of, line_at, segment_view, view_at}
+pub use Rattle.sled_core.specs.Begun.{line_end}
 use Rattle.sled_core.specs.Buffers.{Stands, IsChain, batches_in, completed_in, message_in, none_open, open_in, first_open_in, records_end}
 use Rattle.sled_core.specs.FreeSlots.{HasSlots}
 use Rattle.sled_core.specs.LogFile.{IsLogFile, StaysBelow, StaysFrom}
@@ -324,11 +325,6 @@ HoldsLine sum size device fault (v ∷ vs) H = HoldsIn sum (log_parts size v.par
 abbrev pub written_to : List SegmentView → ℕ
 written_to [] = 0
 written_to (v ∷ vs) = v.parts.site.place + v.parts.written_len
-
--- where the last one ends of segments of this size
-abbrev pub line_end : ℕ → List SegmentView → ℕ
-line_end size [] = 0
-line_end size (v ∷ vs) = v.parts.site.place + length (v ∷ vs) * size
 
 -- The batches of a history of which all up to one place is written, and which has places below another one. Those that aren't wholly written are noted. Each of these has no place in common with another one, and no message that begins in front of it ends in it.
 pub record FitsBatches (end last : ℕ) (noted : List Batch) (H : History) : Type 0 where

@@ -30,6 +30,7 @@ pub mod Running
 pub mod Scan
 pub mod SealedBuffers
 pub mod SealedProps
+pub mod Slots
 pub mod Stable
 pub mod StableEnds
 pub mod Starts

@@ -12,7 +12,7 @@ use Rattle.sled_store.specs.Foreign.{NoForeignNames}
 use Rattle.sled_store.specs.SegmentStates.{Machine}
 use Rattle.sled_store.specs.SnapshotFiles.{IsSnapshotFile}
 use Rattle.sled_core.specs.declared.logger.Log.{Log}
-use Rattle.sled_core.specs.Begun.{SegmentParts, SegmentView}
+use Rattle.sled_core.specs.Begun.{SegmentParts, SegmentView, first_place}
 use Rattle.sled_core.specs.Fits.{FitsBatches, HasInline, LogParts, begun_segment, line_end, line_of, log_parts, noted_in, parts_in, HoldsIn, written_to}
 use Rattle.sled_core.specs.FreeSlots.{HasSlots}
 use Rattle.sled_core.specs.OpenBatches.{stable_below}
@@ -20,6 +20,7 @@ use Rattle.sled_core.specs.Recoverable.{ActiveFits, AreRecoverableSnapshots, Are
 use Rattle.sled_core.specs.Reached.{StandsAmong, StandsActive}
 use Rattle.sled_core.specs.LogFile.{padded}
 use Rattle.sled_core.specs.Ready.{IsReady}
+use Rattle.sled_core.specs.Slots.{AreBegun, HaveEntries}
 
 -- whatever snapshots a crash leaves of which only those pass that the log wrote, recovery begins from this one
 abbrev pub NamesFit : (List ℕ → ℕ) → ℕ → NamesState → History → ℕ → SnapshotModel → Type 0
@@ -80,6 +81,9 @@ pub record FitsWith (sum : List ℕ → ℕ) (noted : List Batch) (size : ℕ) (
   pub parts : FitsLine sum size device fault line reach pins H A f U
   pub batches : FitsBatches (written_to line) (line_end size line) noted H
   pub slots : HasSlots size line device.log.bytes fault m
+  -- the segments before the first of these have their headers
+  pub begun : fault ≡ None → AreBegun sum size device.log.bytes (first_place line) m
+  pub entries : HaveEntries sum size device.snapshots.file H m
 
 -- The log fits this history, the end of what was acknowledged, the floor and the messages that were not marked yet.
 unfoldable pub Fits : {D C : Type 0} → (D → Trace) → (List ℕ → ℕ) → Log D C → History → ℕ → ℕ → List Message → Type 0

@@ -1,8 +1,8 @@
 -- A further segment is begun: the one that was being filled is filled to its end and sealed, and the log holds and fits what it did.
-use Rattle.std.proofs.Common.{None, ◌≡◌, ◌∙◌, ◌<◌, ◌≤◌, ◌+◌, ◌-◌, ◌*◌, ◌/◌, ◌^◌, ◌-ℤ◌, ap, sym, refl, arith, subst, inl, inr, ℕ, zero, suc, pos, List, [], ◌∷◌, ◌++◌, length, map, Option, Some, false, if◌then◌else◌, Bool}
+use Rattle.std.proofs.Common.{None, ◌≡◌, ◌∙◌, ◌<◌, ◌≤◌, ◌+◌, ◌-◌, ◌*◌, ◌/◌, ◌%◌, ◌^◌, ◌-ℤ◌, ap, sym, refl, arith, subst, inl, inr, ℕ, zero, suc, pos, List, [], ◌∷◌, ◌++◌, length, map, Option, Some, false, if◌then◌else◌, Bool}
 use Rattle.std.specs.List.{Contains, slice_get}
 use Rattle.std.specs.declared.io.Error.{Error as IoError}
-use Rattle.std.proofs.Math.Nat.{div-le_self, mul-mod_left, suc-mul}
+use Rattle.std.proofs.Math.Nat.{add-mul-mod_self_right, div-le_self, mul-mod_left, suc-mul}
 use Rattle.std.proofs.lemmas.List.{append-nil, length-append, map-append, length-map, take_all}
 use Rattle.std.proofs.lemmas.Bool.Decides.{nat_tests}
 use Rattle.std.proofs.lemmas.List.Elements.{All-head, All-tail}
@@ -16,18 +16,19 @@ use Rattle.sled_store.specs.SegmentStates.{Machine, handed_out, next_slot}
 use Rattle.sled_core.specs.declared.iobuf.SegmentPosition.{SegmentPosition}
 use Rattle.sled_core.specs.declared.logger.Log.{Log}
 use Rattle.sled_core.specs.declared.reservation.Reservation.{Reservation}
-use Rattle.sled_core.specs.Begun.{SegmentParts, SegmentView, begin_of, segment_view, view_at}
+use Rattle.sled_core.specs.Begun.{SegmentParts, SegmentView, begin_of, first_place, segment_view, view_at}
 use Rattle.sled_core.specs.Buffers.{IsHeaded}
 use Rattle.sled_core.specs.Tickets.{IsFor, index_of}
 use Rattle.sled_core.specs.declared.iobuf.Reserved.{Reserved}
 use Rattle.sled_core.specs.Fits.{written_to, AwaitsIn, CloseBelow, FitsBatches, HasMark, Holds, HoldsIn, HoldsLine, HoldsWith, KeepsAll, KeepsTickets, current_of, device_of, fault_of, line_end, line_of, noted_in, log_parts, machine_at, parts_in, pins_of, position_of, segment_size_of, stable_end, synced_end, waiting_of}
-use Rattle.sled_core.specs.FreeSlots.{HasSlot, HasSlots}
+use Rattle.sled_core.specs.FreeSlots.{HasSlot, HasSlots, HaveOwn}
 use Rattle.sled_core.specs.Keeps.{Preserves}
 use Rattle.sled_core.specs.OpenPlaces.{open_places_along}
 use Rattle.sled_core.specs.Positions.{is_short, next_segment_at, position_in}
 use Rattle.sled_core.specs.Recoverable.{IsMarkOf}
 use Rattle.sled_core.specs.OpenBatches.{stable_below}
 use Rattle.sled_core.specs.Running.{Fits, FitsIn, FitsLine, FitsWith}
+use Rattle.sled_core.specs.Slots.{AreBegun, HaveEntries}
 use Rattle.sled_core.specs.Turned.{ChangesSlots, begun_view, next_line}
 use Rattle.sled_core.specs.Waiting.{at_last, closed_now, filled_now, last_of, unwritten}
 use Rattle.sled_core.proofs.Behind.Around.{behind_place, behind_place_is}
@@ -36,12 +37,14 @@ use Rattle.sled_core.proofs.Behind.FitsBegun.{behind-fits-begun}
 use Rattle.sled_core.proofs.Holds.FitsBatches.{batches_up, stable_noted}
 use Rattle.sled_core.proofs.Holds.KeptCalls.{goes_on_quietly}
 use Rattle.sled_core.proofs.Line.Closes.{IsClosable, filled_gone, filled_length, filled_message, filled_site, filled_there, filled_written, line_closed, line_fits_closed}
+use Rattle.sled_core.proofs.Line.Ends.{line_holds}
 use Rattle.sled_core.proofs.Line.Facts.{IsSegment, current_facts, nth_facts}
 use Rattle.sled_core.proofs.Line.Last.{All-at_last, last_behind_all, last_get_of, unwritten-append}
-use Rattle.sled_core.proofs.Line.LineEnds.{noted_later, noted_same}
+use Rattle.sled_core.proofs.Line.LineEnds.{end_at_last, noted_later, noted_same}
 use Rattle.sled_core.proofs.Line.Moves.{fits_as, holds_as}
 use Rattle.sled_core.proofs.Line.OpenPlaces.{places_begun, places_closed}
-use Rattle.sled_core.proofs.Line.Slots.{next_free, next_other, next_others, slots_begun}
+use Rattle.sled_core.proofs.Line.OlderSlots.{begun_handed, entries_handed, newest_low}
+use Rattle.sled_core.proofs.Line.Slots.{next_free, next_other, next_others, next_within, slots_begun}
 use Rattle.sled_core.proofs.Reached.BufferPath.{buffer_mark, mark_lower}
 use Rattle.sled_core.proofs.Reached.Marks.{less_than}
 use Rattle.sled_core.proofs.Reached.OpenBatch.{stable_ends}
@@ -50,11 +53,6 @@ use Rattle.sled_core.proofs.Sealed.Ended.{ends_rise, ends_up}
 use Rattle.sled_core.proofs.Reserve.Ranges.{at_there}
 use Rattle.sled_core.proofs.Flush.Completed.{grows}
 use Rattle.sled_core.proofs.Line.Entered.{filled_last}
-
--- where the first of segments begins
-abbrev first_place : List SegmentView → ℕ
-first_place [] = 0
-first_place (v ∷ vs) = v.parts.site.place
 
 -- the first of them is no longer than this
 abbrev FirstShort : ℕ → List SegmentView → Type 0
@@ -65,6 +63,11 @@ FirstShort size (v ∷ vs) = length v.parts.bytes ≤ size
 written_append : (vs ws : List SegmentView) → 0 < length vs → written_to (vs ++ ws) ≡ written_to vs
 written_append [] ws some = absurd (omega (arith, some))
 written_append (v ∷ vs) ws some = refl
+
+-- Nor does where it begins.
+first_append : (vs ws : List SegmentView) → 0 < length vs → first_place (vs ++ ws) ≡ first_place vs
+first_append [] ws some = absurd (omega (arith, some))
+first_append (v ∷ vs) ws some = refl
 
 -- A segment begins behind segments one behind another, in the slot that is handed out next, with a mark below what is written of the first one.
 module _ (sum : List ℕ → ℕ) (size : ℕ) (device : State) (fault : Option IoError) (m : Machine) (big : 256 ≤ size) (H : History) where
@@ -166,10 +169,14 @@ module _ (sum : List ℕ → ℕ) (size : ℕ) where
   closed_short v [] short small = let long = filled_length sum size v short small in omega (arith, long)
   closed_short v (w ∷ ws) short small = short
 
+  closed_end : (line : List SegmentView) → line_end size (closed line) ≡ line_end size line
+  closed_end line = end_at_last size (closed_now sum size) (filled_site sum size) line
+
   closed_slots : (line : List SegmentView) (log : List ℕ) (fault : Option IoError) (m : Machine) → HasSlots size line log fault m → HasSlots size (closed line) log fault m
   closed_slots line log fault m has = record {
-    taken = All-at_last (HasSlot size m) (closed_now sum size) (λ v here. record { number = here.number; lies = ap (λ p. p.slot) (filled_site sum size v) ∙ here.lies; taken = here.taken }) line has.taken;
+    taken = All-at_last (HasSlot size m) (closed_now sum size) (λ v here. record { number = here.number; lies = ap (λ p. p.slot) (filled_site sum size v) ∙ here.lies; taken = here.taken; is = here.is ∙ ap (λ p. p.place) (sym (filled_site sum size v)) }) line has.taken;
     zeros = has.zeros;
+    own = subst (λ e. HaveOwn size e m) (sym (closed_end line)) has.own;
   }
 
   -- What segments hold, in these slots, is held by those and one more.
@@ -189,15 +196,29 @@ module _ (sum : List ℕ → ℕ) (size : ℕ) where
       abbrev next : List SegmentView
       next = next_line sum size m stable (v ∷ vs)
 
-      next_written : written_to next ≡ written_to (v ∷ vs)
-      next_written = written_append (closed (v ∷ vs)) (begun_view sum size m stable (last_of v vs) ∷ []) (closed_some v vs) ∙ closed_written v vs
-
-      slots_next : HasSlots size (v ∷ vs) device.log.bytes fault m → HasSlots size next device.log.bytes fault (handed_out place m)
-      slots_next has = slots_begun m slots size (closed (v ∷ vs)) device.log.bytes fault place (begun_view sum size m stable (last_of v vs)) refl (closed_slots (v ∷ vs) device.log.bytes fault m has)
-
       -- The segments end where the new one begins.
       ends_there : place ≡ line_end size (v ∷ vs)
       ends_there = omega (arith, lies, suc-mul (length vs) size)
+
+      next_written : written_to next ≡ written_to (v ∷ vs)
+      next_written = written_append (closed (v ∷ vs)) (begun_view sum size m stable (last_of v vs) ∷ []) (closed_some v vs) ∙ closed_written v vs
+
+      -- The first one lies where it lay, and older slots are those that they were.
+      first_there : first_place next ≡ v.parts.site.place
+      first_there = first_append (closed (v ∷ vs)) (begun_view sum size m stable (last_of v vs) ∷ []) (closed_some v vs) ∙ closed_first v vs
+
+      begun_next : AreBegun sum size device.log.bytes v.parts.site.place m → AreBegun sum size device.log.bytes (first_place next) (handed_out place m)
+      begun_next begun = subst (λ p. AreBegun sum size device.log.bytes p (handed_out place m)) (sym first_there) (begun_handed sum size m (next_within m slots) place device.log.bytes v.parts.site.place (omega (arith, lies)) begun)
+
+      entries_next : (H : History) → HoldsLine sum size device fault (v ∷ vs) H → HaveEntries sum size device.snapshots.file H m → HaveEntries sum size device.snapshots.file H (handed_out place m)
+      entries_next H holds e = entries_handed sum size m (next_within m slots) place device.snapshots.file H e (let low = (newest_low sum size device fault (v ∷ vs) H holds e.first e.begins).0 in omega (arith, low, lies))
+
+      slots_next : HasSlots size (v ∷ vs) device.log.bytes fault m → HasSlots size next device.log.bytes fault (handed_out place m)
+      slots_next has =
+          let first = All-head (HasSlot size m) v vs has.taken in
+          let begins : v.parts.site.place % size ≡ 0 = ap (λ n. n % size) (sym first.is) ∙ has.own.aligned first.number first.taken in
+          slots_begun m slots size (omega (arith, big)) (closed (v ∷ vs)) device.log.bytes fault place (begun_view sum size m stable (last_of v vs)) (ap (λ n. n % size) ends_there ∙ add-mul-mod_self_right v.parts.site.place (suc (length vs)) size ∙ begins)
+          (ends_there ∙ sym (closed_end (v ∷ vs))) refl refl (closed_slots (v ∷ vs) device.log.bytes fault m has)
 
       next_end : line_end size (v ∷ vs) ≤ line_end size next
       next_end = longer (closed (v ∷ vs)) (begun_view sum size m stable (last_of v vs)) (closed_some v vs) at where
@@ -237,6 +258,8 @@ module _ (sum : List ℕ → ℕ) (size : ℕ) where
             (line_fits_closed sum size device fault fits.reach pins H A f U v vs closable fits.parts);
         batches = batches_next H fits.batches;
         slots = slots_next fits.slots;
+        begun = λ none. begun_next (fits.begun none);
+        entries = entries_next H (line_holds sum size device fault (v ∷ vs) fits.reach pins H A f U fits.parts) fits.entries;
       }
 
   -- Tickets are for what they were for,

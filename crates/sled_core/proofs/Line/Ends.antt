@@ -1,12 +1,15 @@
 -- One of the reservations of the n-th of a log's segments ends, whichever that is: what the log holds and fits then, and what it keeps.
-use Rattle.std.proofs.Common.{◌⊎◌, ◌≡◌, ◌∙◌, ◌≤◌, ◌<◌, ◌+◌, ◌*◌, ap, sym, refl, arith, subst, ℕ, zero, suc, List, [], ◌∷◌, ◌++◌, length, take, drop, set, map, Option, None, Some, false}
+use Rattle.std.proofs.Common.{◌⊎◌, ◌≡◌, ◌∙◌, ◌≤◌, ◌<◌, ◌+◌, ◌*◌, ap, sym, refl, arith, subst, ℕ, zero, suc, max, List, [], ◌∷◌, ◌++◌, length, take, drop, set, map, Option, None, Some, false}
 use Rattle.std.specs.declared.io.Error.{Error as IoError}
 use Rattle.std.specs.List.{Contains, slice_get}
+use Rattle.std.proofs.Math.Nat.{suc-mul}
 use Rattle.std.proofs.lemmas.List.Elements.{All-set}
 use Rattle.sled_codec.specs.Written.{written}
 use Rattle.sled_codec.specs.History.{Batch, AddsMessage, History, Message}
+use Rattle.sled_codec.specs.Snapshots.{SnapshotModel, stable_place}
 use Rattle.sled_store.specs.Device.{State}
 use Rattle.sled_store.specs.SegmentStates.{Machine}
+use Rattle.sled_store.specs.SnapshotFiles.{BeginsFrom}
 use Rattle.sled_core.specs.Manifests.{is_manifest}
 use Rattle.sled_core.specs.declared.iobuf.ReservationState.TheVariants.{Open, Canceled, Completed}
 use Rattle.sled_core.specs.declared.iobuf.Reserved.{Reserved}
@@ -14,8 +17,9 @@ use Rattle.sled_core.specs.declared.iobuf.SegmentPosition.{SegmentPosition}
 use Rattle.sled_core.specs.Begun.{SegmentParts, SegmentView}
 use Rattle.sled_core.specs.Buffers.{canceling, completing, message_in}
 use Rattle.sled_core.specs.Fits.{FitsBatches, line_end, written_to, HoldsIn, HoldsLine, HoldsSegment, HoldsWith, LogParts, log_parts, parts_in}
-use Rattle.sled_core.specs.FreeSlots.{HasSlot, HasSlots}
+use Rattle.sled_core.specs.FreeSlots.{HasSlot, HasSlots, HaveOwn}
 use Rattle.sled_core.specs.Running.{FitsIn, FitsLine, FitsWith}
+use Rattle.sled_core.specs.Slots.{AreBegun}
 use Rattle.sled_core.specs.Turned.{ended_now}
 use Rattle.sled_core.proofs.Behind.Calls.{behind-aborted, ended_long, held_here}
 use Rattle.sled_core.proofs.Behind.Completes.{adds_here, behind-complete, completed_history}
@@ -28,9 +32,10 @@ use Rattle.sled_core.proofs.Holds.RunningLemmas.{fits-completed, fits-moved}
 use Rattle.sled_core.proofs.Holds.WholeHistory.{of_head}
 use Rattle.sled_core.proofs.Holds.WholeLemmas.{holds-aborted, holds-complete}
 use Rattle.sled_core.proofs.Line.Facts.{IsSegment}
-use Rattle.sled_core.proofs.Line.LineEnds.{end_set}
+use Rattle.sled_core.proofs.Line.LineEnds.{end_set, first_set}
 use Rattle.sled_core.proofs.Line.Nth.{parts_set, parts_split}
-use Rattle.sled_core.proofs.Reserve.Ranges.{at_there}
+use Rattle.sled_core.proofs.Line.OlderSlots.{entries_adds, newest_low}
+use Rattle.sled_core.proofs.Reserve.Ranges.{at_there, chain_within}
 use Rattle.sled_core.proofs.Sealed.Ended.{ends_up}
 
 -- What the one that is set has as the one before it had it, each has as before.
@@ -159,13 +164,30 @@ module _ (sum : List ℕ → ℕ) (size : ℕ) (device : State) (fault : Option 
 pub slots_set : (size : ℕ) (line : List SegmentView) (log : List ℕ) (fault : Option IoError) (m : Machine) (n : ℕ) (v w : SegmentView) → slice_get line n ≡ Some v → w.parts.site ≡ v.parts.site → HasSlots size line log fault m → HasSlots size (set line n w) log fault m
 slots_set size line log fault m n v w there site slots =
     let its : HasSlot size m v = at_there (HasSlot size m) line n v there slots.taken in
-    record { taken = All-set (HasSlot size m) line n w (record { number = its.number; lies = ap (λ (p : SegmentPosition). p.slot) site ∙ its.lies; taken = its.taken }) slots.taken; zeros = slots.zeros }
+    record {
+      taken = All-set (HasSlot size m) line n w (record { number = its.number; lies = ap (λ (p : SegmentPosition). p.slot) site ∙ its.lies; taken = its.taken; is = its.is ∙ ap (λ (p : SegmentPosition). p.place) (sym site) }) slots.taken;
+      zeros = slots.zeros;
+      own = subst (λ e. HaveOwn size e m) (sym (end_set size line n v w there site)) slots.own;
+    }
 
 -- So is what is written of the first segment.
 pub written_set : (line : List SegmentView) (n : ℕ) (v w : SegmentView) → slice_get line n ≡ Some v → w.parts.site ≡ v.parts.site → w.parts.written_len ≡ v.parts.written_len → written_to (set line n w) ≡ written_to line
 written_set [] n v w there site from = refl
 written_set (x ∷ xs) zero v w there site from = let same : x ≡ v = cc in (λ i. (site i).place + from i) ∙ ap (λ (y : SegmentView). y.parts.site.place + y.parts.written_len) (sym same)
 written_set (x ∷ xs) (suc n) v w there site from = refl
+
+-- No more is written of the first segment than of each.
+written_least : (size place : ℕ) (line : List SegmentView) → ((k : ℕ) (x : SegmentView) → slice_get line k ≡ Some x → IsSegment size (place + k * size) x) → (n : ℕ) (v : SegmentView) → slice_get line n ≡ Some v → written_to line ≤ v.parts.site.place + v.parts.written_len
+written_least size place [] facts n v there = cc
+written_least size place (w ∷ ws) facts zero v there = let same : w ≡ v = cc in let both = ap (λ (x : SegmentView). x.parts.site.place + x.parts.written_len) same in omega (arith, both)
+written_least size place (w ∷ ws) facts (suc k) v there =
+    let first = facts zero w refl in
+    let its = facts (suc k) v there in
+    let one = first.at in
+    let other = its.at in
+    let grown = written_inside w first in
+    let short = first.short in
+    omega (arith, one, other, grown, short, suc-mul k size)
 
 -- What a log holds and fits where one of its reservations has ended.
 module _ (sum : List ℕ → ℕ) (size : ℕ) (device : State) (fault : Option IoError) (line : List SegmentView) (n : ℕ) (v : SegmentView) (there : slice_get line n ≡ Some v) (place : ℕ)
@@ -193,7 +215,18 @@ module _ (sum : List ℕ → ℕ) (size : ℕ) (device : State) (fault : Option 
     parts = abort_fits sum size device fault v i r at is_open line n fits.reach pins H A f U there (facts n v there) fits.parts;
     batches = batches_set (ended_now i r (canceling sum v.parts.bytes r) Canceled v) refl refl H fits.batches;
     slots = slots_set size line device.log.bytes fault machine n v (ended_now i r (canceling sum v.parts.bytes r) Canceled v) there refl fits.slots;
+    begun = λ none. subst (λ p. AreBegun sum size device.log.bytes p machine) (sym (first_set line n v (ended_now i r (canceling sum v.parts.bytes r) Canceled v) there refl)) (fits.begun none);
+    entries = fits.entries;
   }
+
+  -- The newest snapshot's stable place isn't above where it begins.
+  newest_before : (H : History) → HoldsLine sum size device fault line H → (first : SnapshotModel) → BeginsFrom sum device.snapshots.file first → stable_place first.stable ≤ v.parts.site.place + r.from
+  newest_before H holds first begins =
+      let low = (newest_low sum size device fault line H holds first begins).1 in
+      let least = written_least size place line facts n v there in
+      let behind : max 20 v.parts.written_len ≤ r.from = with_part sum size device fault line n v H holds there (λ stays own segment.
+          (at_there (λ (z : Reserved). (max 20 v.parts.written_len ≤ z.from) × (z.from + z.len ≤ length v.parts.bytes)) v.parts.reserved i r at (chain_within (max 20 v.parts.written_len) (length v.parts.bytes) v.parts.reserved segment.chain)).0) in
+      omega (arith, low, least, behind)
 
   pub holds_completed : is_manifest r.log_kind r.page ≡ false → (H : History) → HoldsWith sum noted size device fault line machine H
       → (H' : History) × AddsMessage H (message_in v.parts.site v.parts.bytes r) H' × HoldsWith sum noted size device fault (set line n (ended_now i r (completing r) Completed v)) machine H'
@@ -205,4 +238,12 @@ module _ (sum : List ℕ → ℕ) (size : ℕ) (device : State) (fault : Option 
       → (H' : History) × AddsMessage H (message_in v.parts.site v.parts.bytes r) H' × FitsWith sum noted size device fault (set line n (ended_now i r (completing r) Completed v)) machine pins H' A f (message_in v.parts.site v.parts.bytes r ∷ U)
   fits_completed none pins H A f U least ok out fits =
       let done = complete_fits sum size device fault v i r at is_open none line n place fits.reach pins H A f U least ok out there facts fits.parts in
-      (done.0, done.1, record { reach = fits.reach; parts = done.2; batches = batches_set (ended_now i r (completing r) Completed v) refl refl done.0 (batches_completed (written_to line) (line_end size line) noted H done.0 (message_in v.parts.site v.parts.bytes r) done.1 (beside H (line_holds sum size device fault line fits.reach pins H A f U fits.parts)) fits.batches); slots = slots_set size line device.log.bytes fault machine n v (ended_now i r (completing r) Completed v) there refl fits.slots })
+      (done.0, done.1, record {
+        reach = fits.reach;
+        parts = done.2;
+        batches = batches_set (ended_now i r (completing r) Completed v) refl refl done.0 (batches_completed (written_to line) (line_end size line) noted H done.0 (message_in v.parts.site v.parts.bytes r) done.1 (beside H (line_holds sum size device fault line fits.reach pins H A f U fits.parts)) fits.batches);
+        slots = slots_set size line device.log.bytes fault machine n v (ended_now i r (completing r) Completed v) there refl fits.slots;
+        begun = λ none. subst (λ p. AreBegun sum size device.log.bytes p machine) (sym (first_set line n v (ended_now i r (completing r) Completed v) there refl)) (fits.begun none);
+        entries = entries_adds sum size device.snapshots.file H done.0 (message_in v.parts.site v.parts.bytes r) machine done.1 fits.entries
+            (newest_before H (line_holds sum size device fault line fits.reach pins H A f U fits.parts) fits.entries.first fits.entries.begins);
+      })

@@ -1,5 +1,5 @@
 -- A log whose segments fit a history notes a batch: with the manifest's record ended they fit the history with the batch, which is noted besides.
-use Rattle.std.proofs.Common.{◌≡◌, ◌⊎◌, ◌≤◌, ◌<◌, ◌+◌, ◌*◌, ◌^◌, ap, refl, arith, subst, inl, inr, ℕ, zero, suc, max, true, List, [], ◌∷◌, ◌++◌, length, map, set, Option, None, Some}
+use Rattle.std.proofs.Common.{◌≡◌, ◌⊎◌, ◌≤◌, ◌<◌, ◌+◌, ◌*◌, ◌^◌, ap, sym, refl, arith, subst, inl, inr, ℕ, zero, suc, max, true, List, [], ◌∷◌, ◌++◌, length, map, set, Option, None, Some}
 use Rattle.std.specs.List.{Contains, slice_get}
 use Rattle.std.specs.declared.io.Error.{Error as IoError}
 use Rattle.std.proofs.Math.Nat.{suc-mul}
@@ -16,6 +16,7 @@ use Rattle.sled_core.specs.Buffers.{marking}
 use Rattle.sled_core.specs.Fits.{FitsBatches, HoldBehind, HoldsLine, line_end, parts_in, written_to}
 use Rattle.sled_core.specs.Manifests.{is_manifest}
 use Rattle.sled_core.specs.Running.{FitsWith}
+use Rattle.sled_core.specs.Slots.{AreBegun}
 use Rattle.sled_core.specs.Turned.{ended_now}
 use Rattle.sled_core.proofs.Flush.Completed.{all_below}
 use Rattle.sled_core.proofs.Holds.FitsBatches.{batches_noted, batches_up}
@@ -26,8 +27,9 @@ use Rattle.sled_core.proofs.Holds.PegLemmas.{IsOff}
 use Rattle.sled_core.proofs.Line.EndedTickets.{entry_low, segment_chain}
 use Rattle.sled_core.proofs.Line.Ends.{line_holds, slots_set, written_inside, written_set}
 use Rattle.sled_core.proofs.Line.Facts.{IsSegment}
-use Rattle.sled_core.proofs.Line.LineEnds.{end_set}
+use Rattle.sled_core.proofs.Line.LineEnds.{end_set, first_set}
 use Rattle.sled_core.proofs.Line.Noted.{mark_fits, mark_placed, marks_in}
+use Rattle.sled_core.proofs.Line.OlderSlots.{entries_noted}
 use Rattle.sled_core.proofs.Reserve.Ranges.{at_there, chain_within}
 
 -- one of these parts is of one of the segments
@@ -151,4 +153,6 @@ module _ (sum : List ℕ → ℕ) (size : ℕ) (device : State) (fault : Option 
             (λ placed. mark_placed sum size device fault v i r at is_open manifest peg small later line n place H there facts offs marks holds placed (others H fits.batches)) fits.parts;
         batches = batches_now H holds fits.batches;
         slots = slots_set size line device.log.bytes fault machine n v (ended_now i r (marking sum v.parts.bytes r peg) Manifest v) there (λ j. v.parts.site) fits.slots;
+        begun = λ none. subst (λ p. AreBegun sum size device.log.bytes p machine) (sym (first_set line n v (ended_now i r (marking sum v.parts.bytes r peg) Manifest v) there (λ j. v.parts.site))) (fits.begun none);
+        entries = entries_noted sum size device.snapshots.file H (noted_history H b) machine refl fits.entries;
       }

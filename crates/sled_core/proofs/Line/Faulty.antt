@@ -13,6 +13,7 @@ use Rattle.sled_core.specs.FreeSlots.{HasSlots}
 use Rattle.sled_core.specs.OpenBatches.{stable_below}
 use Rattle.sled_core.specs.Recoverable.{LeavesRecoverable}
 use Rattle.sled_core.specs.Running.{FitsLine, FitsWith}
+use Rattle.sled_core.specs.Slots.{HaveEntries}
 use Rattle.sled_core.proofs.Flush.FlushLemmas.{fault_or_none, holds-faulty}
 use Rattle.sled_core.proofs.Flush.SameFits.{fits_faulty}
 
@@ -30,7 +31,7 @@ fits_line_faulty sum size device fault (v ∷ vs) reach pins H A f U fits new e 
     fits_faulty sum size v.parts.site device fault v.parts.bytes v.parts.written_len v.parts.sealed v.parts.reserved pins H A f U fits new e now is blobs names left
 
 pub slots_line_faulty : (size : ℕ) (line : List SegmentView) (log log' : List ℕ) (fault : Option IoError) (m : Machine) → HasSlots size line log fault m → (e : IoError) (now : Option IoError) → now ≡ Some e → HasSlots size line log' now m
-slots_line_faulty size line log log' fault m slots e now is = record { taken = slots.taken; zeros = λ none. cc }
+slots_line_faulty size line log log' fault m slots e now is = record { taken = slots.taken; zeros = λ none. cc; own = slots.own }
 
 -- The same, where all that it says is of equal parts.
 pub holds_with_same : (sum : List ℕ → ℕ) (noted noted' : List Batch) (size size' : ℕ) (device : State) (fault : Option IoError) (line line' : List SegmentView) (m m' : Machine) (H : History) → noted' ≡ noted → size' ≡ size → line' ≡ line → m' ≡ m
@@ -81,6 +82,8 @@ fits_with_answer sum noted size size' device new fault now line line' m m' pins 
         (subst (LeavesRecoverable sum size H (stable_below fits.reach H.batches) f) (sym d) (line_leaves sum size device fault line fits.reach pins H A f U fits.parts));
     batches = fits.batches;
     slots = slots_line_faulty size line device.log.bytes new.log.bytes fault m fits.slots e now is;
+    begun = λ none. cc;
+    entries = subst (λ (s : State). HaveEntries sum size s.snapshots.file H m) (sym d) fits.entries;
   }
 ])
 

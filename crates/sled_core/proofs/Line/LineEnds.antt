@@ -5,7 +5,7 @@ use Rattle.std.proofs.lemmas.Bool.{cases_lt}
 use Rattle.std.proofs.lemmas.List.{length-set}
 use Rattle.std.proofs.Math.Nat.{suc-mul}
 use Rattle.sled_codec.specs.History.{Batch}
-use Rattle.sled_core.specs.Begun.{SegmentView}
+use Rattle.sled_core.specs.Begun.{SegmentView, first_place}
 use Rattle.sled_core.specs.declared.iobuf.SegmentPosition.{SegmentPosition}
 use Rattle.sled_core.specs.declared.logger.batches.NotedBatch.{NotedBatch}
 use Rattle.sled_core.specs.declared.logger.Log.{Log}
@@ -27,6 +27,10 @@ pub end_last : (size : ℕ) (f : SegmentView → SegmentView) → ((x : SegmentV
 end_last size f stays v [] = ap (λ (p : SegmentPosition). p.place + 1 * size) (stays v)
 end_last size f stays v (w ∷ ws) = ap (λ n. v.parts.site.place + suc n * size) (length_last f w ws)
 
+pub end_at_last : (size : ℕ) (f : SegmentView → SegmentView) → ((x : SegmentView) → (f x).parts.site ≡ x.parts.site) → (line : List SegmentView) → line_end size (at_last f line) ≡ line_end size line
+end_at_last size f stays [] = refl
+end_at_last size f stays (v ∷ vs) = end_last size f stays v vs
+
 -- One of them is another, where it lies.
 pub end_set : (size : ℕ) (line : List SegmentView) (n : ℕ) (v w : SegmentView) → slice_get line n ≡ Some v → w.parts.site ≡ v.parts.site → line_end size (set line n w) ≡ line_end size line
 end_set size [] n v w there stays = refl
@@ -34,6 +38,17 @@ end_set size (x ∷ xs) zero v w there stays =
     let same : x ≡ v = cc in
     ap (λ (p : SegmentPosition). p.place + suc (length xs) * size) stays ∙ ap (λ (y : SegmentView). y.parts.site.place + suc (length xs) * size) (sym same)
 end_set size (x ∷ xs) (suc n) v w there stays = ap (λ k. x.parts.site.place + suc k * size) (length-set xs n w)
+
+-- The first one begins where it did.
+pub first_at_last : (f : SegmentView → SegmentView) → ((x : SegmentView) → (f x).parts.site ≡ x.parts.site) → (line : List SegmentView) → first_place (at_last f line) ≡ first_place line
+first_at_last f stays [] = refl
+first_at_last f stays (v ∷ []) = ap (λ (p : SegmentPosition). p.place) (stays v)
+first_at_last f stays (v ∷ w ∷ ws) = refl
+
+pub first_set : (line : List SegmentView) (n : ℕ) (v w : SegmentView) → slice_get line n ≡ Some v → w.parts.site ≡ v.parts.site → first_place (set line n w) ≡ first_place line
+first_set [] n v w there stays = refl
+first_set (x ∷ xs) zero v w there stays = let same : x ≡ v = cc in ap (λ (p : SegmentPosition). p.place) stays ∙ ap (λ (y : SegmentView). y.parts.site.place) (sym same)
+first_set (x ∷ xs) (suc n) v w there stays = refl
 
 -- Those at the front that are wholly on the device have gone.
 pub end_left : (size place : ℕ) (vs : List SegmentView) → AreSegments size place vs → line_end size (promoted size vs) ≡ line_end size vs

@@ -20,13 +20,14 @@ use Rattle.sled_core.specs.Keeps.{Preserves}
 use Rattle.sled_core.specs.OpenPlaces.{open_places_along}
 use Rattle.sled_core.specs.Positions.{Position, behind_record, is_short, moved_on, next_segment_at, placed_at, position_in}
 use Rattle.sled_core.specs.Running.{Fits}
+use Rattle.sled_core.specs.Slots.{AreBegun}
 use Rattle.sled_core.specs.Turned.{ChangesSlots, HasPlace, reserved_now}
 use Rattle.sled_core.specs.Waiting.{at_last, last_of}
 use Rattle.sled_core.proofs.Holds.FitsBatches.{batches_up}
 use Rattle.sled_core.proofs.Holds.KeptCalls.{goes_on_quietly}
 use Rattle.sled_core.proofs.Line.Facts.{current_facts}
 use Rattle.sled_core.proofs.Line.Last.{last_changed}
-use Rattle.sled_core.proofs.Line.LineEnds.{end_last, noted_later, noted_same}
+use Rattle.sled_core.proofs.Line.LineEnds.{end_last, first_at_last, noted_later, noted_same}
 use Rattle.sled_core.proofs.Line.Moves.{fits_as, holds_as}
 use Rattle.sled_core.proofs.Line.OpenPlaces.{places_reserved}
 use Rattle.sled_core.proofs.Line.Reserves.{HasPlaceFor, awaits_reserved, line_fits_reserved, line_reserved, slots_reserved}
@@ -190,6 +191,8 @@ module _ {D C : Type 0} (trace : D → Trace) (sum : List ℕ → ℕ) (old new 
           parts = line_fits_reserved sum its_size more r (state_of (trace (device_of old))) (fault_of old) its.reach (pins_of old) H A f U v vs fits its.parts;
           batches = batches_up (written_to (line_of old)) (written_to (at_last (reserved_now more r) (line_of old))) (line_end its_size (line_of old)) (line_end its_size (at_last (reserved_now more r) (line_of old))) (noted_in old) H (let same = kept_written v vs in omega (arith, same)) (let same = end_last its_size (reserved_now more r) (λ _. refl) v vs in omega (arith, same)) its.batches;
           slots = slots_reserved sum its_size more r (line_of old) (state_of (trace (device_of old))).log.bytes (fault_of old) (machine_at old) its.slots;
+          begun = λ none. subst (λ p. AreBegun sum its_size (state_of (trace (device_of old))).log.bytes p (machine_at old)) (sym (first_at_last (reserved_now more r) (λ _. refl) (line_of old))) (its.begun none);
+          entries = its.entries;
         });
     noted = noted_later old new rest.noted (let same = reserves_synced in omega (arith, same));
   }

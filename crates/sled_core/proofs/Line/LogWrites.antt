@@ -5,7 +5,7 @@ use Rattle.std.specs.declared.io.Error.{Error as IoError}
 use Rattle.std.proofs.lemmas.List.{length-map}
 use Rattle.sled_codec.specs.History.{Batch, Message, History}
 use Rattle.sled_store.specs.Accounts.{machine_of}
-use Rattle.sled_store.specs.Device.{Event, State, Trace, state_of}
+use Rattle.sled_store.specs.Device.{Event, NamesState, State, Trace, state_of}
 use Rattle.sled_store.specs.Moments.{Throughout}
 use Rattle.sled_store.specs.Script.{Along, Performs, after_all}
 use Rattle.sled_store.specs.SegmentStates.{Machine}
@@ -20,11 +20,13 @@ use Rattle.sled_core.specs.declared.logger.segments.SegmentBuffer.{SegmentBuffer
 use Rattle.sled_core.specs.Fits.{FitsBatches, written_to, Holds, HoldsWith, device_of, fault_of, line_end, line_of, noted_in, segment_size_of}
 use Rattle.sled_core.specs.Recoverable.{LeavesRecoverable}
 use Rattle.sled_core.specs.Running.{Fits, FitsLine, FitsWith}
+use Rattle.sled_core.specs.Slots.{HaveEntries}
 use Rattle.sled_core.specs.Turned.{ChangesDevice, IsReadyIn, promoted, write_in, written_now}
 use Rattle.sled_core.proofs.Flush.FlushLemmas.{fault_or_none}
 use Rattle.sled_core.proofs.Flush.Settled.{leaves_less}
 use Rattle.sled_core.proofs.Holds.FitsBatches.{batches_left, batches_up}
 use Rattle.sled_core.proofs.Holds.BufferEnds.{written_behind}
+use Rattle.sled_core.proofs.Line.Ends.{line_holds}
 use Rattle.sled_core.proofs.Line.Faulty.{fits_line_faulty, fits_with_device, holds_line_faulty, holds_with_device, names_written, slots_line_faulty}
 use Rattle.sled_core.proofs.Line.LineEnds.{end_left, end_set}
 use Rattle.sled_core.proofs.Line.Promotes.{end_promoted, holds_promoted}
@@ -32,6 +34,7 @@ use Rattle.sled_core.proofs.Line.Facts.{nth_facts}
 use Rattle.sled_core.proofs.Line.Fillings.{log_recorded}
 use Rattle.sled_core.proofs.Line.Segments.{AreSegments, filled_promoted, filled_written, follow_segments, line_segments, promoted_waits, run_written, segments_promoted, set_segment, written_segment}
 use Rattle.sled_core.proofs.Line.Writes.{along_write, buffer_begin, buffer_bytes, buffer_calls, buffer_synced, calls_are, fits_write, holds_write, passes_line, slots_write}
+use Rattle.sled_core.proofs.Line.WrittenSlots.{begun_write}
 
 module _ {D C : Type 0} (log : Log D C) (n k : ℕ) (r : IsReadyIn (line_of log) n k) where
   abbrev line : List SegmentView
@@ -177,6 +180,8 @@ module _ {D C : Type 0} (log : Log D C) (n k : ℕ) (r : IsReadyIn (line_of log)
             (at_last (LeavesRecoverable sum size H (stable_below fits.reach H.batches) f) before new (left new came fits.reach H A f U fits.parts));
         batches = fits.batches;
         slots = slots_line_faulty size line device.log.bytes (state_of new).log.bytes log.fault slots fits.slots some.0 now some.1;
+        begun = λ none. let never = some.1 in cc;
+        entries = subst (λ (s : NamesState). HaveEntries sum size s.file H slots) (sym (names new came).1) fits.entries;
       }
     ]
 
@@ -205,6 +210,9 @@ module _ {D C : Type 0} (log : Log D C) (n k : ℕ) (r : IsReadyIn (line_of log)
           parts = after.1;
           batches = batches_after H fits.batches;
           slots = slots_write sum size log.config.config.least device log.fault whole v k r.buffer r.there r.ready log.site.place line (line_segments log) n r.among slots None fits.slots;
+          begun = λ none. begun_write sum size log.config.config.least device log.fault whole v k r.buffer r.there r.ready log.site.place line (line_segments log) n r.among slots fits.slots H
+              (line_holds sum size device log.fault line fits.reach log.pins H A f U fits.parts) (fits.begun whole);
+          entries = fits.entries;
         }))
 
 -- A call that changed the device alone left the line as it was.

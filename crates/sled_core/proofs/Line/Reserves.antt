@@ -14,7 +14,7 @@ use Rattle.sled_core.specs.declared.iobuf.Sealed.{Sealed}
 use Rattle.sled_core.specs.declared.iobuf.SegmentPosition.{SegmentPosition}
 use Rattle.sled_core.specs.declared.reservation.Reservation.{Reservation}
 use Rattle.sled_core.specs.Fits.{AwaitsIn, HoldsIn, HoldsLine, log_parts, parts_in}
-use Rattle.sled_core.specs.FreeSlots.{HasSlot, HasSlots}
+use Rattle.sled_core.specs.FreeSlots.{HasSlot, HasSlots, HaveOwn}
 use Rattle.sled_core.specs.Running.{FitsIn, FitsLine}
 use Rattle.sled_core.specs.SealedBuffers.{AreSealed, sealed_end}
 use Rattle.sled_core.specs.Tickets.{IsFor, index_of}
@@ -28,6 +28,7 @@ use Rattle.sled_core.proofs.Holds.WholeLemmas.{holds-append}
 use Rattle.sled_core.proofs.Line.Entered.{behind_filling, entered_up}
 use Rattle.sled_core.proofs.Line.Segments.{AreSegments}
 use Rattle.sled_core.proofs.Reserve.RecordEnds.{records_open}
+use Rattle.sled_core.proofs.Line.LineEnds.{end_at_last}
 use Rattle.sled_core.proofs.Line.Last.{All-at_last, by_last, last_get_of}
 use Rattle.sled_core.proofs.Reserve.Ranges.{at_there}
 use Rattle.sled_core.proofs.Reserve.ReserveLemmas.{there_append, there_last}
@@ -87,8 +88,9 @@ module _ (sum : List ℕ → ℕ) (size : ℕ) (more : List ℕ) (r : Reserved) 
   -- Their slots are the same.
   pub slots_reserved : (line : List SegmentView) (log : List ℕ) (fault : Option IoError) (m : Machine) → HasSlots size line log fault m → HasSlots size (at_last now line) log fault m
   slots_reserved line log fault m slots = record {
-    taken = All-at_last (HasSlot size m) now (λ v here. record { number = here.number; lies = here.lies; taken = here.taken }) line slots.taken;
+    taken = All-at_last (HasSlot size m) now (λ v here. record { number = here.number; lies = here.lies; taken = here.taken; is = here.is }) line slots.taken;
     zeros = slots.zeros;
+    own = subst (λ n. HaveOwn size n m) (sym (end_at_last size now (λ _. refl) line)) slots.own;
   }
 
   -- Tickets are for what they were for,

@@ -12,12 +12,13 @@ use Rattle.sled_core.specs.Begun.{SegmentParts, SegmentView, begin_of, segment_v
 use Rattle.sled_core.specs.declared.logger.Log.{Log}
 use Rattle.sled_core.specs.declared.reservation.Reservation.{Reservation}
 use Rattle.sled_core.specs.Fits.{written_to, AwaitsIn, Holds, HoldsIn, HoldsLine, KeepsAll, KeepsTickets, buffers_of, current_begin, current_of, device_of, fault_of, line_end, line_of, noted_in, log_parts, machine_at, parts_in, pins_of, segment_size_of, synced_end, waiting_of}
-use Rattle.sled_core.specs.FreeSlots.{HasSlot, HasSlots}
+use Rattle.sled_core.specs.FreeSlots.{HasSlot, HasSlots, HaveOwn}
 use Rattle.sled_core.specs.Keeps.{Preserves, SamePosition}
 use Rattle.sled_core.specs.OpenPlaces.{open_places_along}
 use Rattle.sled_core.specs.Positions.{is_short, position_in}
 use Rattle.sled_core.specs.Running.{Fits, FitsIn, FitsLine}
 use Rattle.sled_core.specs.SealedBuffers.{seal_at, sealed_count}
+use Rattle.sled_core.specs.Slots.{AreBegun}
 use Rattle.sled_core.specs.Turned.{ChangesLine}
 use Rattle.sled_core.specs.Waiting.{as_sealed, at_last, closed_now, holds_any, last_of, sealed_now, turned_now, unwritten}
 use Rattle.sled_core.proofs.Behind.Calls.{behind-sealed}
@@ -28,7 +29,7 @@ use Rattle.sled_core.proofs.Holds.RunningLemmas.{fits-moved}
 use Rattle.sled_core.proofs.Holds.WholeLemmas.{holds-sealed}
 use Rattle.sled_core.proofs.Line.Facts.{current_facts}
 use Rattle.sled_core.proofs.Line.Last.{All-at_last, at_last_same, at_last_twice, by_last, last_changed, last_get_of}
-use Rattle.sled_core.proofs.Line.LineEnds.{end_last, noted_later, noted_same}
+use Rattle.sled_core.proofs.Line.LineEnds.{end_at_last, end_last, first_at_last, noted_later, noted_same}
 use Rattle.sled_core.proofs.Line.Moves.{fits_as, holds_as}
 use Rattle.sled_core.proofs.Line.OpenPlaces.{places_sealed}
 use Rattle.sled_core.proofs.Sealed.Appended.{end_one}
@@ -65,8 +66,9 @@ module _ (sum : List ℕ → ℕ) (size : ℕ) (device : State) (fault : Option 
 -- Their slots are the same.
 pub slots_sealed : (size : ℕ) (line : List SegmentView) (log : List ℕ) (fault : Option IoError) (m : Machine) → HasSlots size line log fault m → HasSlots size (at_last sealed_now line) log fault m
 slots_sealed size line log fault m slots = record {
-  taken = All-at_last (HasSlot size m) sealed_now (λ v here. record { number = here.number; lies = here.lies; taken = here.taken }) line slots.taken;
+  taken = All-at_last (HasSlot size m) sealed_now (λ v here. record { number = here.number; lies = here.lies; taken = here.taken; is = here.is }) line slots.taken;
   zeros = slots.zeros;
+  own = subst (λ n. HaveOwn size n m) (sym (end_at_last size sealed_now (λ _. refl) line)) slots.own;
 }
 
 -- Tickets are for what they were for.
@@ -154,6 +156,8 @@ module _ {D C : Type 0} (trace : D → Trace) (sum : List ℕ → ℕ) (old new 
           parts = line_fits_sealed sum size (state_of (trace (device_of old))) (fault_of old) fits.reach (pins_of old) H A f U v vs its fits.parts;
           batches = batches_up (written_to (line_of old)) (written_to (at_last sealed_now (line_of old))) (line_end size (line_of old)) (line_end size (at_last sealed_now (line_of old))) (noted_in old) H (let same = kept_written v vs in omega (arith, same)) (let same = end_last size sealed_now (λ _. refl) v vs in omega (arith, same)) fits.batches;
           slots = slots_sealed size (line_of old) (state_of (trace (device_of old))).log.bytes (fault_of old) (machine_at old) fits.slots;
+          begun = λ none. subst (λ p. AreBegun sum size (state_of (trace (device_of old))).log.bytes p (machine_at old)) (sym (first_at_last sealed_now (λ _. refl) (line_of old))) (fits.begun none);
+          entries = fits.entries;
         });
     noted = noted_later old new rest.noted (let same = sealed_synced in omega (arith, same));
   }

@@ -9,11 +9,11 @@ use Rattle.sled_codec.specs.History.{Message, History}
 use Rattle.sled_store.specs.Device.{Event, State, Wrote, Synced, overwritten, step}
 use Rattle.sled_store.specs.Script.{Along}
 use Rattle.sled_store.specs.SegmentStates.{Machine, is_free, slot_at}
-use Rattle.sled_core.specs.Begun.{AreFilled, SegmentParts, SegmentView, begin_of, records_to}
+use Rattle.sled_core.specs.Begun.{AreFilled, SegmentParts, SegmentView, begin_of, line_end, records_to}
 use Rattle.sled_core.specs.Buffers.{records_end}
 use Rattle.sled_core.specs.declared.iobuf.Sealed.{Sealed}
 use Rattle.sled_core.specs.Fits.{HoldsIn, HoldsLine, log_parts, parts_in}
-use Rattle.sled_core.specs.FreeSlots.{FreeAreZeros, HasSlot, HasSlots}
+use Rattle.sled_core.specs.FreeSlots.{FreeAreZeros, HasSlot, HasSlots, HaveOwn}
 use Rattle.sled_core.specs.Full.{FitsFull}
 use Rattle.sled_core.specs.Recoverable.{LeavesRecoverable}
 use Rattle.sled_core.specs.Running.{FitsIn, FitsLine}
@@ -25,9 +25,10 @@ use Rattle.sled_core.proofs.Behind.FullWrites.{fits_written_full, written_plain}
 use Rattle.sled_core.proofs.Behind.Writes.{behind-written}
 use Rattle.sled_core.proofs.Flush.SealedFits.{fits_written_one, holds_written_one, write_along}
 use Rattle.sled_core.proofs.Line.Facts.{IsSegment}
+use Rattle.sled_core.proofs.Line.LineEnds.{end_left, end_set}
 use Rattle.sled_core.proofs.Line.Nth.{parts_set, parts_split}
 use Rattle.sled_core.proofs.Line.Promotes.{fits_full}
-use Rattle.sled_core.proofs.Line.Segments.{AreSegments, all_promoted, nth_segment, promoted_same, written_segment, written_within}
+use Rattle.sled_core.proofs.Line.Segments.{AreSegments, all_promoted, nth_segment, promoted_same, set_segment, written_segment, written_within}
 use Rattle.sled_core.proofs.Sealed.Ended.{ends_rise}
 use Rattle.sled_core.proofs.Sealed.LaidLemmas.{EndsRise}
 use Rattle.sled_core.proofs.Sealed.OneWritten.{length-between}
@@ -61,7 +62,7 @@ module _ (sum : List ℕ → ℕ) (size : ℕ) (big : 256 ≤ size) (device : St
   calls_are line n among =
       ap (write_of k) among ∙ ap (λ e. writing (v.parts.site.slot + buffer_begin) (bytes_between v.parts.bytes buffer_begin e) []) (end_to v.parts.written_len v.parts.sealed k b there)
 
-  rises : (place : ℕ) → IsSegment size place v → EndsRise v.parts.written_len v.parts.sealed (length v.parts.bytes)
+  pub rises : (place : ℕ) → IsSegment size place v → EndsRise v.parts.written_len v.parts.sealed (length v.parts.bytes)
   rises place is =
       let up = written_within size place v is in
       let begins = is.begins in
@@ -155,10 +156,14 @@ module _ (sum : List ℕ → ℕ) (size : ℕ) (big : 256 ≤ size) (device : St
       let end = end_to v.parts.written_len v.parts.sealed k b there in
       let long = length-between v.parts.bytes buffer_begin b.end (omega (arith, span.1, end)) in
       record {
-        taken = all_promoted size (HasSlot size m) (set line n now) (All-set (HasSlot size m) line n now (record { number = own.number; lies = own.lies; taken = own.taken }) slots.taken);
+        taken = all_promoted size (HasSlot size m) (set line n now) (All-set (HasSlot size m) line n now (record { number = own.number; lies = own.lies; taken = own.taken; is = own.is }) slots.taken);
         zeros = λ none. written_any buffer_bytes m own.number own.taken (omega (arith, lies)) (omega (arith, long, lies, span.0, span.1, end, short)) (slots.zeros whole);
+        own = subst (λ e. HaveOwn size e m) (sym (ends line are n among)) slots.own;
       }
     where
+      ends : (l : List SegmentView) → AreSegments size place l → (j : ℕ) → slice_get l j ≡ Some v → line_end size (promoted size (set l j now)) ≡ line_end size l
+      ends l line_are j at = end_left size place (set l j now) (set_segment size place l line_are j v now at (λ p is. written_segment k v b there ready size p is)) ∙ end_set size l j v now at refl
+
       taken_at : (l : List SegmentView) (j : ℕ) → slice_get l j ≡ Some v → All (HasSlot size m) l → HasSlot size m v
       taken_at [] j at all = cc
       taken_at (x ∷ xs) zero at all = let same : x ≡ v = cc in subst (HasSlot size m) same (all 0 x (omega arith))

@@ -26,7 +26,7 @@ use Rattle.sled_core.proofs.Read.ScanLemmas.{aligned_number}
 use Rattle.sled_core.proofs.Tail.Moved.{message_moved}
 
 -- a header that passes lies in the file
-header_inside : (sum : List ℕ → ℕ) (log : List ℕ) (slot : ℕ) (lsn mark : ℤ) → IsHeader sum (part log slot 20) lsn mark → slot + 20 ≤ length log
+pub header_inside : (sum : List ℕ → ℕ) (log : List ℕ) (slot : ℕ) (lsn mark : ℤ) → IsHeader sum (part log slot 20) lsn mark → slot + 20 ≤ length log
 header_inside sum log slot lsn mark header =
     let long : length (part log slot 20) ≡ 20 = ap length header.is ∙ length-short_header sum lsn mark in
     omega (arith, long, length-take 20 (drop slot log), length-drop slot log)

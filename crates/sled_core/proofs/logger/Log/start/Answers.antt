@@ -34,6 +34,7 @@ use Rattle.sled_core.specs.Running.{Ready, Fits, FitsIn, FitsLine}
 use Rattle.sled_store.proofs.Segments.StartedFile.{started_file, started-log, started-snapshots, started-blobs}
 use Rattle.sled_core.proofs.Holds.FitsBatches.{batches_begun}
 use Rattle.sled_core.proofs.Start.BegunSlots.{begun_slots}
+use Rattle.sled_core.proofs.Start.OlderStarted.{start_begun, start_entries}
 use Rattle.sled_core.proofs.Start.StartedMoments.{started_throughout}
 use Rattle.sled_core.proofs.Start.ReadyStarts.{ready_starts}
 use Rattle.sled_core.proofs.Start.StartFits.{start_fits}
@@ -53,12 +54,12 @@ abbrev position_by : ℕ → SegmentPosition → ℕ → Machine → Position
 position_by size site len m = if is_short size len then next_segment_at size site.place m else record { place = site.place + len; begins = site.place; slot = site.slot; machine = m }
 
 -- the slots of a log with this segment alone, where the machine and the file are those of its start
-start_slots : (size : ℕ) {size' : ℕ} → size' ≡ size → 0 < size → (s : SnapshotModel) (old now : List ℕ) → IsStartable size (length old) s → now ≡ started_file size old s → (v : SegmentView) → v.parts.site.slot ≡ (beginning_of size (length old) s).slot
+start_slots : (size : ℕ) {size' : ℕ} → size' ≡ size → 0 < size → (s : SnapshotModel) (old now : List ℕ) → IsStartable size (length old) s → now ≡ started_file size old s → (v : SegmentView) → v.parts.site ≡ site_from size (length old) s
     → {m : Machine} → m ≡ begun_machine size (length old) s → HasSlots size' (v ∷ []) now None m
-start_slots size same some s old now startable file v slot {m} machine =
+start_slots size same some s old now startable file v at {m} machine =
     subst (λ n. HasSlots n (v ∷ []) now None m) (sym same)
     (subst (λ (l : List ℕ). HasSlots size (v ∷ []) l None m) (sym file)
-    (subst (λ (x : Machine). HasSlots size (v ∷ []) (started_file size old s) None x) (sym machine) (begun_slots size some old s None startable v slot)))
+    (subst (λ (x : Machine). HasSlots size (v ∷ []) (started_file size old s) None x) (sym machine) (begun_slots size some old s None startable v at)))
 
 -- Nothing is entered where nothing is reserved and sealed.
 entered_none : (to place from : ℕ) (bs : List Sealed) (rs : List Reserved) → bs ≡ [] → rs ≡ [] → AreEntered to place from bs rs
@@ -141,7 +142,7 @@ returns-in-Ok-clause-history g c = λ H ready.
           (subst (λ n. CloseBelow (c.in-Ok.beginning.place + n) H.batches) (sym first.from)
           (begins_closed g.C.Checksum.sum_of size old now s H c.in-Ok.buffer.bytes.items c.args.config.config.least ready c.in-Ok.ensures.answers.0 log_now names_now c.in-Ok.beginning c.in-Ok.ensures.beginning first.header first.resumed));
       slots = subst (λ (ss : List SegmentBuffer). HasSlots c.begin.new.config.config.segment_size (line_at (record { place = c.in-Ok.beginning.place; slot = c.in-Ok.beginning.slot }) c.in-Ok.buffer ss) now.log.bytes None (machine_of c.in-Ok.accountant)) (sym c.no_segments.ensures)
-          (start_slots size (ap (λ (x : Config). x.segment_size) c.begin.ensures.config) some s old.log.bytes now.log.bytes c.in-Ok.ensures.answers.0 (ap (λ (l : LogState). l.bytes) log_now) (view_at (record { place = c.in-Ok.beginning.place; slot = c.in-Ok.beginning.slot }) c.in-Ok.buffer) (ap (λ (x : Beginning). x.slot) c.in-Ok.ensures.beginning) c.in-Ok.ensures.machine);
+          (start_slots size (ap (λ (x : Config). x.segment_size) c.begin.ensures.config) some s old.log.bytes now.log.bytes c.in-Ok.ensures.answers.0 (ap (λ (l : LogState). l.bytes) log_now) (view_at (record { place = c.in-Ok.beginning.place; slot = c.in-Ok.beginning.slot }) c.in-Ok.buffer) (ap (λ (x : Beginning). record { place = x.place; slot = x.slot }) c.in-Ok.ensures.beginning) c.in-Ok.ensures.machine);
     }
 
 pub returns-in-Ok-clause-crash : goal.returns-in-Ok-clause-crash
@@ -176,7 +177,11 @@ returns-in-Ok-clause-fits g c = λ H A f ready.
           (subst (λ n. CloseBelow (c.in-Ok.beginning.place + n) H.batches) (sym first.from)
           (begins_closed g.C.Checksum.sum_of size (state_of old) now s H c.in-Ok.buffer.bytes.items c.args.config.config.least ready.ready c.in-Ok.ensures.answers.0 log_now (ap (λ (t : Trace). (state_of t).snapshots.file) c.in-Ok.ensures.made ∙ ap (λ (n : NamesState). n.file) (started-snapshots size some (state_of old).log.bytes s old)) c.in-Ok.beginning c.in-Ok.ensures.beginning first.header first.resumed));
       slots = subst (λ (ss : List SegmentBuffer). HasSlots c.begin.new.config.config.segment_size (line_at site c.in-Ok.buffer ss) now.log.bytes None (machine_of c.in-Ok.accountant)) (sym c.no_segments.ensures)
-          (start_slots size same some s (state_of old).log.bytes now.log.bytes c.in-Ok.ensures.answers.0 (ap (λ (l : LogState). l.bytes) log_now) (view_at site c.in-Ok.buffer) (ap (λ (x : Beginning). x.slot) c.in-Ok.ensures.beginning) c.in-Ok.ensures.machine);
+          (start_slots size same some s (state_of old).log.bytes now.log.bytes c.in-Ok.ensures.answers.0 (ap (λ (l : LogState). l.bytes) log_now) (view_at site c.in-Ok.buffer) (ap (λ (x : Beginning). record { place = x.place; slot = x.slot }) c.in-Ok.ensures.beginning) c.in-Ok.ensures.machine);
+      begun = λ none. start_begun g.C.Checksum.sum_of size c.args.config.config.least (state_of old) s H ready.ready ready.alone c.in-Ok.ensures.answers.0 same (ap (λ (l : LogState). l.bytes) log_now)
+          (ap (λ (x : Beginning). x.place) c.in-Ok.ensures.beginning ∙ begins_place size (slots_of size (length (state_of old).log.bytes)) (stable_place s.stable) (unused size (slots_of size (length (state_of old).log.bytes)) s) s.active) c.in-Ok.ensures.machine;
+      entries = start_entries g.C.Checksum.sum_of size c.args.config.config.least (state_of old) s H ready.ready ready.alone c.in-Ok.ensures.answers.0 same now.snapshots.file
+          (ap (λ (t : Trace). (state_of t).snapshots.file) c.in-Ok.ensures.made ∙ ap (λ (n : NamesState). n.file) (started-snapshots size some (state_of old).log.bytes s old)) c.in-Ok.ensures.machine;
     }
 
 -- damage comes only where a log can't begin
