@@ -28,7 +28,7 @@ use Rattle.sled_core.proofs.Line.EndedTickets.{entry_low, segment_chain}
 use Rattle.sled_core.proofs.Line.Ends.{line_holds, slots_set, written_inside, written_set}
 use Rattle.sled_core.proofs.Line.Facts.{IsSegment}
 use Rattle.sled_core.proofs.Line.LineEnds.{end_set, first_set}
-use Rattle.sled_core.proofs.Line.Noted.{mark_fits, mark_placed, marks_in}
+use Rattle.sled_core.proofs.Line.Noted.{mark_fits, mark_placed}
 use Rattle.sled_core.proofs.Line.OlderSlots.{entries_noted}
 use Rattle.sled_core.proofs.Reserve.Ranges.{at_there, chain_within}
 
@@ -146,11 +146,10 @@ module _ (sum : List ℕ → ℕ) (size : ℕ) (device : State) (fault : Option 
       → FitsWith sum (noted ++ record { low = v.parts.site.place + r.from; peg = peg } ∷ []) size device fault (set line n (ended_now i r (marking sum v.parts.bytes r peg) Manifest v)) machine pins (noted_history H (record { low = v.parts.site.place + r.from; peg = peg })) A f U
   fits_noted pins H A f U least ok offs fits =
       let holds = line_holds sum size device fault line fits.reach pins H A f U fits.parts in
-      let marks = marks_in sum size device fault line fits.reach pins H A f U fits.parts in
       record {
         reach = fits.reach;
         parts = mark_fits sum size device fault v i r at is_open manifest peg small later line n place fits.reach pins H A f U least ok there facts offs
-            (λ placed. mark_placed sum size device fault v i r at is_open manifest peg small later line n place H there facts offs marks holds placed (others H fits.batches)) fits.parts;
+            (λ placed. mark_placed sum size device fault v i r at is_open manifest peg small later line n place H there facts offs holds placed (others H fits.batches)) fits.parts;
         batches = batches_now H holds fits.batches;
         slots = slots_set size line device.log.bytes fault machine n v (ended_now i r (marking sum v.parts.bytes r peg) Manifest v) there (λ j. v.parts.site) fits.slots;
         begun = λ none. subst (λ p. AreBegun sum size device.log.bytes p machine) (sym (first_set line n v (ended_now i r (marking sum v.parts.bytes r peg) Manifest v) there (λ j. v.parts.site))) (fits.begun none);
