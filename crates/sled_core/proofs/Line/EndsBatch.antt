@@ -142,6 +142,8 @@ module _ (sum : List ℕ → ℕ) (size : ℕ) (device : State) (fault : Option 
       (batches_noted (written_to line) (line_end size line) noted H now b (noted_adds H b later) unwritten short (λ c known open_yet. others H fits c known)
       (line_before sum size device fault v i r at is_open (facts n v there) line n place H there facts holds) fits)
 
+  -- What is held then, and fitted, is the history with the batch.
+
   pub holds_noted : (H : History) → ((k : ℕ) (x : SegmentView) → slice_get line k ≡ Some x → IsOff size peg x.parts) → HoldsWith sum noted size device fault line machine H
       → HoldsWith sum (noted ++ record { low = v.parts.site.place + r.from; peg = peg } ∷ []) size device fault (set line n (ended_now i r (marking sum v.parts.bytes r peg) Manifest v)) machine (noted_history H (record { low = v.parts.site.place + r.from; peg = peg }))
   holds_noted H offs holds = record {
