@@ -1,9 +1,9 @@
 -- What a log has to do with the history of what was completed, and with its device. Its segments lie one behind another; the first one isn't wholly on the device, and the last one is being filled.
-use Rattle.std.specs.Prelude.{◌≡◌, ◌⊎◌, ◌+◌, ◌-◌, ◌*◌, ◌/◌, ◌%◌, ◌^◌, ◌≤◌, ◌<◌, if◌then◌else◌, nat_le, Bool, ℕ, ℤ, pos, max, true, List, [], ◌++◌, ◌∷◌, length, map, take, drop, All, Option, None, Some, slice_get, Contains}
+use Rattle.std.specs.Prelude.{◌≡◌, ◌⊎◌, ◌+◌, ◌-◌, ◌*◌, ◌/◌, ◌%◌, ◌^◌, ◌≤◌, ◌<◌, ◌<ℤ◌, if◌then◌else◌, nat_le, Bool, ℕ, ℤ, pos, max, true, List, [], ◌++◌, ◌∷◌, length, map, take, drop, All, Option, None, Some, slice_get, Contains}
 use Rattle.std.specs.declared.io.Error.{Error as IoError}
 use Rattle.sled_codec.specs.declared.result.DiskPtr.TheVariants.{Inline}
 use Rattle.sled_codec.specs.declared.serialization.message.LogKind.{LogKind}
-use Rattle.sled_codec.specs.Record.{short_header}
+use Rattle.sled_codec.specs.Record.{IsHeader, short_header}
 use Rattle.sled_codec.specs.History.{Message, Batch, History, CutFits, table}
 use Rattle.sled_codec.specs.WellFormed.{LieApart}
 use Rattle.sled_codec.specs.Snapshots.{SnapshotModel, stable_place}
@@ -315,6 +315,8 @@ pub record HoldsIn (sum : List ℕ → ℕ) (parts : LogParts) (behind : List Se
   pub own : HoldsSegment sum parts (StaysFrom H (stable_place begun.first.stable)) (record { messages = head; batches = H.batches })
   pub others : HoldBehind sum parts.size parts.device parts.fault (parts.site.place + parts.size) behind (StaysBelow H (stable_place begun.first.stable) parts.site.place) H.batches later
   pub apart : FollowApart parts.site (map begun_segment behind)
+  -- the header of a segment behind of which nothing is written has a mark below the stable end
+  pub marked : (s : SegmentParts) → Contains behind s → s.written_len ≡ 0 → (mark : ℤ) → IsHeader sum (take 20 s.bytes) (pos s.site.place) mark → mark <ℤ pos (parts.site.place + parts.written_len)
 
 -- Segments one behind another hold a history, over a device.
 abbrev pub HoldsLine : (List ℕ → ℕ) → ℕ → State → Option IoError → List SegmentView → History → Type 0

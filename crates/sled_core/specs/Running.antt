@@ -1,9 +1,8 @@
 -- The invariant of a running log, and what a recovery leaves for it: over a history, the end of what was acknowledged, the floor, and the completed messages that were not marked yet.
 use Rattle.std.specs.declared.io.Error.{Error as IoError}
-use Rattle.std.specs.Prelude.{◌≡◌, ◌≢◌, ◌≤◌, ◌<◌, ◌<ℤ◌, ◌+◌, nat_lt, max, if◌then◌else◌, ℕ, ℤ, pos, List, [], ◌∷◌, map, take, Option, None, Contains}
+use Rattle.std.specs.Prelude.{◌≡◌, ◌≢◌, ◌≤◌, ◌<◌, ◌+◌, nat_lt, max, if◌then◌else◌, ℕ, ℤ, List, [], ◌∷◌, map, Option, None, Contains}
 use Rattle.sled_codec.specs.declared.serialization.message.MessageKind.{MessageKind}
 use Rattle.sled_codec.specs.History.{Message, Batch, History}
-use Rattle.sled_codec.specs.Record.{IsHeader}
 use Rattle.sled_codec.specs.Snapshots.{SnapshotModel, stable_place}
 use Rattle.sled_store.specs.Accounts.{machine_of}
 use Rattle.sled_store.specs.Blobs.{IsBlob}
@@ -55,8 +54,6 @@ pub record FitsIn (sum : List ℕ → ℕ) (parts : LogParts) (behind : List Seg
   -- no batch begins or ends between
   pub no_batch : NoBatchBegins H reach (parts.site.place + parts.written_len)
   pub no_end : NoBatchEnds H reach (parts.site.place + parts.written_len)
-  -- the header of a segment behind of which nothing is written has a mark below the stable end
-  pub marked : (s : SegmentParts) → Contains behind s → s.written_len ≡ 0 → (mark : ℤ) → IsHeader sum (take 20 s.bytes) (pos s.site.place) mark → mark <ℤ pos (parts.site.place + parts.written_len)
   pub among : parts.fault ≡ None → NoHeaderOfZeros sum → StandsAmong sum parts.size parts.device.log.bytes parts.site parts.written_len (map begun_segment behind) reach H holds.begun.first
   -- and so does the file with zeros behind its end, as a write there makes it
   pub beyond : (to : ℕ) → parts.site.slot ≤ to → parts.fault ≡ None → NoHeaderOfZeros sum → StandsAmong sum parts.size (padded to parts.device.log.bytes) parts.site parts.written_len (map begun_segment behind) reach H holds.begun.first

@@ -1,5 +1,5 @@
 -- What the segments behind the first one hold around one of them: those before it, it and those behind it; and what a log holds where something happens to that one alone.
-use Rattle.std.proofs.Common.{◌≡◌, ◌≢◌, ◌∙◌, ◌≤◌, ◌<◌, ◌+◌, ◌*◌, ℕ, List, [], ◌∷◌, ◌++◌, length, map, Option, refl, sym, ap, subst, arith, append_assoc, inl, inr}
+use Rattle.std.proofs.Common.{◌≡◌, ◌≢◌, ◌∙◌, ◌≤◌, ◌<◌, ◌+◌, ◌*◌, ℕ, List, [], ◌∷◌, ◌++◌, length, map, take, Option, refl, sym, ap, subst, arith, append_assoc, inl, inr}
 use Rattle.std.proofs.Math.Nat.{suc-mul}
 use Rattle.std.specs.List.{All, Contains}
 use Rattle.std.specs.declared.io.Error.{Error as IoError}
@@ -17,6 +17,7 @@ use Rattle.sled_core.specs.Fits.{HoldBehind, HoldsIn, HoldsNext, HoldsSegment, b
 use Rattle.sled_core.specs.LogFile.{StaysBelow}
 use Rattle.sled_core.specs.Reached.{BegunSegment, FollowApart}
 use Rattle.sled_core.specs.SealedBuffers.{AreSealed, sealed_end}
+use Rattle.sled_core.proofs.Behind.FitsMoved.{marks_same}
 use Rattle.sled_core.proofs.Flush.Completed.{all_below}
 use Rattle.sled_core.proofs.Reached.SegmentsBeside.{follow_still, follows}
 
@@ -142,10 +143,10 @@ module _ (sum : List ℕ → ℕ) (size : ℕ) (site : SegmentPosition) (device 
   pub held_around : HoldAround sum size device fault (site.place + size) pre s post stays_below H.batches holds.later
   held_around = around sum size device fault (site.place + size) pre s post stays_below H.batches holds.later holds.others
 
-  -- Where that one holds its messages with other bytes and buffers, the log holds what it held, begun from the same snapshot.
-  abbrev pub holds_with : (bytes' : List ℕ) (from' : ℕ) (bs' : List Sealed) (rs' : List Reserved)
+  -- Where that one holds its messages with other bytes and buffers, and its header is the same if nothing of it is written, the log holds what it held, begun from the same snapshot.
+  abbrev pub holds_with : (bytes' : List ℕ) (from' : ℕ) (bs' : List Sealed) (rs' : List Reserved) → (from' ≡ 0 → (s.written_len ≡ 0) × (take 20 bytes' ≡ take 20 s.bytes))
       → HoldsNext sum size device fault (behind_place size (site.place + size) pre) (now_with s bytes' from' bs' rs') stays_below H.batches held_around.own → HoldsIn sum (log_parts size site device fault bytes from bs rs) (pre ++ now_with s bytes' from' bs' rs' ∷ post) H
-  holds_with bytes' from' bs' rs' here = record {
+  holds_with bytes' from' bs' rs' head here = record {
     begun = holds.begun;
     head = holds.head;
     later = held_around.before ++ (held_around.own ++ held_around.after);
@@ -153,4 +154,5 @@ module _ (sum : List ℕ → ℕ) (size : ℕ) (site : SegmentPosition) (device 
     own = holds.own;
     others = together sum size device fault (site.place + size) pre (now_with s bytes' from' bs' rs') post stays_below H.batches held_around.before held_around.own held_around.after held_around.front here held_around.rest;
     apart = apart_with pre s post site bytes' from' bs' rs' holds.apart;
+    marked = marks_same sum (site.place + from) pre s (now_with s bytes' from' bs' rs') post refl head holds.marked;
   }

@@ -1,12 +1,14 @@
 -- A further segment begins behind all that were begun, in a slot that has zeros: it holds no message yet, and the log holds what it held.
-use Rattle.std.proofs.Common.{◌≡◌, ◌≢◌, ◌⊎◌, ◌∙◌, ◌≤◌, ◌<◌, ◌+◌, ◌*◌, ◌/◌, ◌%◌, ℕ, List, [], ◌∷◌, ◌++◌, length, map, Option, None, refl, sym, ap, subst, arith, inl, inr}
+use Rattle.std.proofs.Common.{◌≡◌, ◌≢◌, ◌⊎◌, ◌∙◌, ◌≤◌, ◌<◌, ◌<ℤ◌, ◌+◌, ◌*◌, ◌/◌, ◌%◌, ◌^◌, ℕ, pos, List, [], ◌∷◌, ◌++◌, length, map, take, Option, None, refl, sym, ap, subst, arith, inl, inr}
 use Rattle.std.specs.List.{Contains}
 use Rattle.std.specs.declared.io.Error.{Error as IoError}
 use Rattle.std.proofs.lemmas.Bool.{cases_order}
 use Rattle.std.proofs.lemmas.List.{append-nil, map-append}
 use Rattle.std.proofs.lemmas.List.Elements.{All-contains, All-nil, Contains-append_cases}
 use Rattle.sled_codec.specs.History.{Batch, History, Message}
+use Rattle.sled_codec.specs.Record.{IsHeader}
 use Rattle.sled_codec.specs.Snapshots.{stable_place}
+use Rattle.sled_codec.proofs.Segments.{one_header}
 use Rattle.sled_store.specs.Device.{State}
 use Rattle.sled_store.proofs.Segments.Elements.{in_cases, in_first, in_nothing, in_rest}
 use Rattle.sled_core.specs.declared.iobuf.Reserved.{Reserved}
@@ -22,7 +24,7 @@ use Rattle.sled_core.proofs.Behind.Around.{behind_below, behind_place, together}
 use Rattle.sled_core.proofs.Flush.FlushLemmas.{on_file}
 use Rattle.sled_core.proofs.Flush.LogFileLemmas.{stands_some}
 use Rattle.sled_core.proofs.Flush.Settled.{rests}
-use Rattle.sled_core.proofs.Reached.BufferPath.{mark_same}
+use Rattle.sled_core.proofs.Reached.BufferPath.{buffer_header, mark_same}
 use Rattle.sled_core.proofs.Read.PathLemmas.{zeros_empty}
 use Rattle.sled_core.proofs.Tail.Multiples.{next_multiple, put_down}
 use Rattle.sled_core.proofs.Tail.Multiples as multiples
@@ -150,9 +152,9 @@ module _ (sum : List ℕ → ℕ) (size : ℕ) (site : SegmentPosition) (device 
     inline = All-nil HasInline;
   }
 
-  -- The log holds what it held, begun from the same snapshot.
-  abbrev pub behind-begins : HoldsIn sum (log_parts size site device fault bytes from bs rs) (behind ++ begun_with next text ∷ []) H
-  behind-begins = record {
+  -- The log holds what it held, begun from the same snapshot, where the mark of the new segment lies below what is written.
+  abbrev pub behind-begins : mark.mark <ℤ pos (site.place + from) → next.place < 2 ^ 63 → HoldsIn sum (log_parts size site device fault bytes from bs rs) (behind ++ begun_with next text ∷ []) H
+  behind-begins low_mark place_small = record {
     begun = holds.begun;
     head = holds.head;
     later = holds.later ++ ([] ++ []);
@@ -160,4 +162,14 @@ module _ (sum : List ℕ → ℕ) (size : ℕ) (site : SegmentPosition) (device 
     own = holds.own;
     others = together sum size device fault (site.place + size) behind (begun_with next text) [] stays H.batches holds.later [] [] holds.others next_holds refl;
     apart = subst (FollowApart site) (sym (map-append begun_segment behind (begun_with next text ∷ []))) next_apart;
+    marked = λ x among unwritten m header. elim (Contains-append_cases behind (begun_with next text ∷ []) x among) [
+      | inl had ↦ holds.marked x had unwritten m header
+      | inr added ↦ elim (in_cases (begun_with next text) x [] added) [
+        | inl same ↦ (
+            let here : IsHeader sum (take 20 text) (pos next.place) m = subst (λ (w : SegmentParts). IsHeader sum (take 20 w.bytes) (pos w.site.place) m) (sym same) header in
+            let one = one_header sum (take 20 text) (pos next.place) mark.mark (pos next.place) m (buffer_header sum next text H mark place_small) here in
+            subst (λ z. z <ℤ pos (site.place + from)) one.1 low_mark)
+        | inr never ↦ absurd (in_nothing x never)
+      ]
+    ];
   }

@@ -1,6 +1,6 @@
 -- What a log holds where the current buffer of a segment behind the first one is sealed, where a place is reserved in it or it is filled to its end, and where one of its reservations is aborted: the messages are the same.
 use Rattle.sled_core.proofs.Reserve.RecordEnds.{no_end_up, records_more}
-use Rattle.std.proofs.Common.{◌≡◌, ◌≤◌, ◌<◌, ◌+◌, ◌-◌, ◌/◌, ◌^◌, ◌∙◌, ℕ, max, false, List, [], ◌∷◌, ◌++◌, length, drop, set, Option, Some, refl, sym, ap, subst, arith, length-append}
+use Rattle.std.proofs.Common.{◌≡◌, ◌≤◌, ◌<◌, ◌+◌, ◌-◌, ◌/◌, ◌^◌, ◌∙◌, ℕ, max, false, List, [], ◌∷◌, ◌++◌, length, take, drop, set, Option, Some, refl, sym, ap, subst, arith, length-append}
 use Rattle.std.specs.List.{slice_get}
 use Rattle.std.specs.declared.io.Error.{Error as IoError}
 use Rattle.std.proofs.lemmas.List.{take-append-le, take_all}
@@ -32,7 +32,7 @@ use Rattle.sled_core.proofs.Reserve.CompletesLemmas.{fits}
 use Rattle.sled_core.proofs.Reserve.Entries.{open_plain, reserved_in}
 use Rattle.sled_core.proofs.Reserve.Filled.{filled_batches, filled_chain, filled_long, filled_messages, filled_stand}
 use Rattle.sled_core.proofs.Reserve.OpenCounts.{open_fewer}
-use Rattle.sled_core.proofs.Reserve.Ranges.{at_there, chain_within, length-written}
+use Rattle.sled_core.proofs.Reserve.Ranges.{at_there, chain_within, length-written, part-written_before}
 use Rattle.sled_core.proofs.Sealed.Appended.{end_one, seal_are}
 use Rattle.sled_core.proofs.Sealed.Around.{parts_at}
 use Rattle.sled_core.proofs.Sealed.Ended.{ends_rise, sealed_ended, sealed_more}
@@ -70,7 +70,12 @@ segment-filled sum size site device fault bytes from bs rs H less small rise {st
       laid = λ ok. laid_append device.log.bytes site.slot bytes more from bs size rise (holds.laid ok);
     }
 
--- A reservation of a segment ends: the bytes are as many, and the buffers have it still.
+-- A segment has the same header with more behind its bytes.
+pub more_head : (sum : List ℕ → ℕ) (size : ℕ) (device : State) (fault : Option IoError) (s : SegmentParts) (H : History) {stays : Message → Type 0} → HoldsSegment sum (log_parts size s.site device fault s.bytes s.written_len s.sealed s.reserved) stays H
+    → (more : List ℕ) → take 20 (s.bytes ++ more) ≡ take 20 s.bytes
+more_head sum size device fault s H segment more = let begun = grows sum size s.site device fault s.bytes s.written_len s.sealed s.reserved H segment in take-append-le 20 s.bytes more (omega (arith, begun))
+
+-- A reservation of a segment ends: the bytes are as many, the header is the same, and the buffers have it still.
 module _ (sum : List ℕ → ℕ) (size : ℕ) (device : State) (fault : Option IoError) (s : SegmentParts) (H : History) {stays : Message → Type 0}
     (segment : HoldsSegment sum (log_parts size s.site device fault s.bytes s.written_len s.sealed s.reserved) stays H)
     (i : ℕ) (r : Reserved) (there : slice_get s.reserved i ≡ Some r) (is_open : r.state ≡ Open) where
@@ -79,6 +84,13 @@ module _ (sum : List ℕ → ℕ) (size : ℕ) (device : State) (fault : Option 
       let text : HasText sum (s.site.place / size) s.bytes r = (reserved_in sum size (s.site.place / size) s.bytes r (open_plain r.state is_open) (at_there (Stands sum size (s.site.place / size) s.bytes) s.reserved i r there segment.stand)).text in
       let inside = at_there (λ z. (max 20 s.written_len ≤ z.from) × (z.from + z.len ≤ length s.bytes)) s.reserved i r there (chain_within (max 20 s.written_len) (length s.bytes) s.reserved segment.chain) in
       length-written s.bytes (ending word k) r.from (fits sum (s.site.place / size) s.bytes r inside.1 text word k)
+
+  pub ended_head : (word : ℕ) (k : MessageKind) → take 20 (written s.bytes r.from (ending word k)) ≡ take 20 s.bytes
+  ended_head word k =
+      let text : HasText sum (s.site.place / size) s.bytes r = (reserved_in sum size (s.site.place / size) s.bytes r (open_plain r.state is_open) (at_there (Stands sum size (s.site.place / size) s.bytes) s.reserved i r there segment.stand)).text in
+      let inside = at_there (λ z. (max 20 s.written_len ≤ z.from) × (z.from + z.len ≤ length s.bytes)) s.reserved i r there (chain_within (max 20 s.written_len) (length s.bytes) s.reserved segment.chain) in
+      let behind = inside.0 in
+      part-written_before s.bytes (ending word k) r.from 0 20 (omega (arith, behind)) (fits sum (s.site.place / size) s.bytes r inside.1 text word k)
 
   pub ended_are : (state : ReservationState) → open_state state ≡ false → AreSealed s.written_len s.reserved s.sealed → AreSealed s.written_len (set s.reserved i (ended state r)) (one_ended i s.sealed)
   ended_are state closed are = sealed_ended r (ended state r) refl refl (λ xs j at. open_fewer xs j r (ended state r) at is_open closed) s.written_len s.reserved s.sealed i there are
@@ -119,7 +131,7 @@ module _ (sum : List ℕ → ℕ) (size : ℕ) (site : SegmentPosition) (device 
       (segment-sealed sum size s.site device fault s.bytes s.written_len s.sealed s.reserved rest own_history held_here.inside held_here.held held_here.segment)
 
   abbrev pub behind-sealed : sealed_end s.written_len s.sealed < length s.bytes → HoldsIn sum (log_parts size site device fault bytes from bs rs) (pre ++ now_with s s.bytes s.written_len sealed_now s.reserved ∷ post) H
-  behind-sealed some = holds_with sum size site device fault bytes from bs rs H pre s post holds s.bytes s.written_len sealed_now s.reserved (sealed_next some)
+  behind-sealed some = holds_with sum size site device fault bytes from bs rs H pre s post holds s.bytes s.written_len sealed_now s.reserved (λ none. (none, refl)) (sealed_next some)
 
   -- A place is reserved in it: its placeholder stands behind what is there.
   pub append_next : (more : List ℕ) (r : Reserved) → r.from ≡ length s.bytes → r.len ≡ length more → r.state ≡ Open → r.from + 32 ≤ size → HasText sum (s.site.place / size) (s.bytes ++ more) r → length (s.bytes ++ more) ≤ size
@@ -136,7 +148,8 @@ module _ (sum : List ℕ → ℕ) (size : ℕ) (site : SegmentPosition) (device 
   abbrev pub behind-append : (more : List ℕ) (r : Reserved) → r.from ≡ length s.bytes → r.len ≡ length more → r.state ≡ Open → r.from + 32 ≤ size → HasText sum (s.site.place / size) (s.bytes ++ more) r → length (s.bytes ++ more) ≤ size
       → HoldsIn sum (log_parts size site device fault bytes from bs rs) (pre ++ now_with s (s.bytes ++ more) s.written_len s.sealed (s.reserved ++ r ∷ []) ∷ post) H
   behind-append more r at long is_open has_room text inside =
-      holds_with sum size site device fault bytes from bs rs H pre s post holds (s.bytes ++ more) s.written_len s.sealed (s.reserved ++ r ∷ []) (append_next more r at long is_open has_room text inside)
+      holds_with sum size site device fault bytes from bs rs H pre s post holds (s.bytes ++ more) s.written_len s.sealed (s.reserved ++ r ∷ [])
+      (λ none. (none, more_head sum size device fault s own_history held_here.segment more)) (append_next more r at long is_open has_room text inside)
 
   -- It is filled to its end.
   abbrev filled_bytes : List ℕ
@@ -155,7 +168,8 @@ module _ (sum : List ℕ → ℕ) (size : ℕ) (site : SegmentPosition) (device 
       (segment-filled sum size s.site device fault s.bytes s.written_len s.sealed s.reserved own_history less small its_rise held_here.segment)
 
   abbrev pub behind-pad : length s.bytes < size → s.site.place / size < 2 ^ 64 → HoldsIn sum (log_parts size site device fault bytes from bs rs) (pre ++ now_with s filled_bytes s.written_len s.sealed with_padding ∷ post) H
-  behind-pad less small = holds_with sum size site device fault bytes from bs rs H pre s post holds filled_bytes s.written_len s.sealed with_padding (pad_next less small)
+  behind-pad less small = holds_with sum size site device fault bytes from bs rs H pre s post holds filled_bytes s.written_len s.sealed with_padding
+      (λ none. (none, more_head sum size device fault s own_history held_here.segment (segment_rest sum size (s.site.place / size) (length s.bytes)))) (pad_next less small)
 
   abbrev pub behind-filled : length s.bytes < size → s.site.place / size < 2 ^ 64
       → HoldsIn sum (log_parts size site device fault bytes from bs rs) (pre ++ filled_at (Some (length s.bytes)) (now_with s filled_bytes s.written_len s.sealed with_padding) ∷ post) H
@@ -177,4 +191,5 @@ module _ (sum : List ℕ → ℕ) (size : ℕ) (site : SegmentPosition) (device 
         (segment-aborted sum size s.site device fault s.bytes canceled s.written_len s.written_len s.sealed (one_ended i s.sealed) s.reserved (set s.reserved i (ended Canceled r)) i r own_history refl refl refl refl held_here.segment there is_open behind held_here.are)
 
     abbrev pub behind-aborted : HoldsIn sum (log_parts size site device fault bytes from bs rs) (pre ++ now_with s canceled s.written_len (one_ended i s.sealed) (set s.reserved i (ended Canceled r)) ∷ post) H
-    behind-aborted = holds_with sum size site device fault bytes from bs rs H pre s post holds canceled s.written_len (one_ended i s.sealed) (set s.reserved i (ended Canceled r)) aborted_next
+    behind-aborted = holds_with sum size site device fault bytes from bs rs H pre s post holds canceled s.written_len (one_ended i s.sealed) (set s.reserved i (ended Canceled r))
+        (λ none. (none, ended_head sum size device fault s own_history held_here.segment i r there is_open (sum (body_in s.bytes r ++ code_of kind.Canceled ∷ part s.bytes (r.from + 5) (r.header_len - 5))) kind.Canceled)) aborted_next

@@ -19,7 +19,8 @@ use Rattle.sled_core.specs.Fits.{HasInline, HoldBehind, HoldsIn, HoldsNext, Hold
 use Rattle.sled_core.specs.LogFile.{StaysBelow, StaysFrom}
 use Rattle.sled_core.specs.SealedBuffers.{one_ended}
 use Rattle.sled_core.proofs.Behind.Around.{HoldAround, apart_with, behind_below, behind_place, held_around, now_with, stays_below, together}
-use Rattle.sled_core.proofs.Behind.Calls.{ended_are, ended_long, held_here}
+use Rattle.sled_core.proofs.Behind.Calls.{ended_are, ended_head, ended_long, held_here}
+use Rattle.sled_core.proofs.Behind.FitsMoved.{marks_same}
 use Rattle.sled_core.proofs.Flush.Completed.{all_below, grows}
 use Rattle.sled_core.proofs.Holds.Added.{was_or_added}
 use Rattle.sled_core.proofs.Holds.BegunLemmas.{begun-adds, stays_adds}
@@ -194,4 +195,6 @@ module _ (sum : List ℕ → ℕ) (size : ℕ) (site : SegmentPosition) (device 
     own = first_completed;
     others = behind_completed;
     apart = apart_with pre s post site completed s.written_len (one_ended i s.sealed) (set s.reserved i (ended Completed r)) holds.apart;
+    marked = marks_same sum (site.place + from) pre s (now_with s completed s.written_len (one_ended i s.sealed) (set s.reserved i (ended Completed r))) post refl
+        (λ first. (first, ended_head sum size device fault s own_history here.segment i r there is_open r.sum r.kind)) holds.marked;
   }

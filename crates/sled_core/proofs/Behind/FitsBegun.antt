@@ -1,13 +1,10 @@
 -- A further segment begins behind all that were begun, in a slot that has zeros: the log fits the history that it fitted.
-use Rattle.std.proofs.Common.{◌≡◌, ◌≢◌, ◌∙◌, ◌≤◌, ◌<◌, ◌+◌, ◌<ℤ◌, ◌%◌, ◌^◌, ℕ, pos, List, [], ◌∷◌, ◌++◌, length, map, take, Option, None, sym, subst, arith, inl, inr}
+use Rattle.std.proofs.Common.{◌≡◌, ◌≢◌, ◌∙◌, ◌≤◌, ◌<◌, ◌+◌, ◌<ℤ◌, ◌%◌, ◌^◌, ℕ, pos, List, [], ◌∷◌, ◌++◌, length, map, Option, None, sym, subst, arith}
 use Rattle.std.specs.List.{Contains}
 use Rattle.std.specs.declared.io.Error.{Error as IoError}
 use Rattle.std.proofs.lemmas.List.{map-append}
-use Rattle.std.proofs.lemmas.List.Elements.{Contains-append_cases}
 use Rattle.sled_codec.specs.History.{Message, History}
-use Rattle.sled_codec.specs.Record.{IsHeader}
 use Rattle.sled_store.specs.Device.{State}
-use Rattle.sled_store.proofs.Segments.Elements.{in_cases, in_nothing}
 use Rattle.sled_core.specs.declared.iobuf.Reserved.{Reserved}
 use Rattle.sled_core.specs.declared.iobuf.Sealed.{Sealed}
 use Rattle.sled_core.specs.declared.iobuf.SegmentPosition.{SegmentPosition}
@@ -21,8 +18,6 @@ use Rattle.sled_core.specs.SealedBuffers.{AreZeros}
 use Rattle.sled_core.proofs.Behind.Around.{behind_place}
 use Rattle.sled_core.proofs.Behind.Begins.{begun_with, behind-begins, far, next_above, next_apart}
 use Rattle.sled_core.proofs.Flush.Padded.{padded_get}
-use Rattle.sled_codec.proofs.Segments.{one_header}
-use Rattle.sled_core.proofs.Reached.BufferPath.{buffer_header}
 use Rattle.sled_core.proofs.Reached.NextSegment.{begins_behind}
 
 module _ (sum : List ℕ → ℕ) (size : ℕ) (site : SegmentPosition) (device : State) (fault : Option IoError) (bytes : List ℕ) (from : ℕ) (bs : List Sealed) (rs : List Reserved) (pins : ℕ) (H : History) (A f : ℕ) (U : List Message)
@@ -41,7 +36,7 @@ module _ (sum : List ℕ → ℕ) (size : ℕ) (site : SegmentPosition) (device 
   begun_is = sym (map-append begun_segment behind (begun ∷ []))
 
   abbrev holds_begun : HoldsIn sum (log_parts size site device fault bytes from bs rs) (behind ++ begun ∷ []) H
-  holds_begun = behind-begins sum size site device fault bytes from bs rs H behind fits.holds big short next text at aligned header_long mark other others zeros closed
+  holds_begun = behind-begins sum size site device fault bytes from bs rs H behind fits.holds big short next text at aligned header_long mark other others zeros closed low_mark place_small
 
   above : site.place + size ≤ next.place
   above = far sum size site device fault bytes from bs rs H behind fits.holds big short next text at aligned header_long mark other others zeros closed
@@ -63,16 +58,6 @@ module _ (sum : List ℕ → ℕ) (size : ℕ) (site : SegmentPosition) (device 
     ends = fits.ends;
     no_batch = fits.no_batch;
     no_end = fits.no_end;
-    marked = λ x among unwritten m header. elim (Contains-append_cases behind (begun ∷ []) x among) [
-      | inl had ↦ fits.marked x had unwritten m header
-      | inr added ↦ elim (in_cases begun x [] added) [
-        | inl same ↦ (
-            let here : IsHeader sum (take 20 text) (pos next.place) m = subst (λ (w : SegmentParts). IsHeader sum (take 20 w.bytes) (pos w.site.place) m) (sym same) header in
-            let one = one_header sum (take 20 text) (pos next.place) mark.mark (pos next.place) m (buffer_header sum next text H mark place_small) here in
-            subst (λ z. z <ℤ pos (site.place + from)) one.1 low_mark)
-        | inr never ↦ absurd (in_nothing x never)
-      ]
-    ];
     among = λ ok none. stands_begun none device.log.bytes (zeros ok) (fits.among ok none);
     beyond = λ to far ok none. stands_begun none (padded to device.log.bytes) (λ i low high. padded_get to device.log.bytes i ∙ zeros ok i low high) (fits.beyond to far ok none);
     blobs = fits.blobs;

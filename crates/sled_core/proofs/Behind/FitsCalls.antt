@@ -1,21 +1,16 @@
 -- What is done to a segment behind the first one, each where the log fits a history: its current buffer is sealed, a place is reserved in it, it is filled to its end, and a reservation of it is aborted or completed.
-use Rattle.std.proofs.Common.{◌≡◌, ◌≤◌, ◌<◌, ◌+◌, ◌-◌, ◌/◌, ◌^◌, ℕ, max, List, [], ◌∷◌, ◌++◌, length, set, take, drop, Option, None, Some, refl, arith, false}
+use Rattle.std.proofs.Common.{◌≡◌, ◌≤◌, ◌<◌, ◌+◌, ◌-◌, ◌/◌, ◌^◌, ℕ, List, [], ◌∷◌, ◌++◌, length, set, drop, Option, None, Some, refl, arith, false}
 use Rattle.std.specs.List.{slice_get}
 use Rattle.std.specs.declared.io.Error.{Error as IoError}
-use Rattle.std.proofs.lemmas.List.{take-append-le}
 use Rattle.sled_codec.specs.History.{History, Message}
-use Rattle.sled_codec.specs.Kinds.{code_of}
-use Rattle.sled_codec.specs.Places.{part}
 use Rattle.sled_codec.specs.Written.{written}
-use Rattle.sled_codec.specs.declared.serialization.message.MessageKind.{MessageKind}
-use Rattle.sled_codec.specs.declared.serialization.message.MessageKind.TheVariants as kind
 use Rattle.sled_store.specs.Device.{State}
 use Rattle.sled_core.specs.Manifests.{is_manifest}
 use Rattle.sled_core.specs.declared.iobuf.ReservationState.TheVariants.{Open, Canceled, Completed}
 use Rattle.sled_core.specs.declared.iobuf.Reserved.{Reserved}
 use Rattle.sled_core.specs.declared.iobuf.Sealed.{Sealed}
 use Rattle.sled_core.specs.declared.iobuf.SegmentPosition.{SegmentPosition}
-use Rattle.sled_core.specs.Buffers.{HasText, Stands, body_in, canceling, completing, ended, ending, message_in, padding_at}
+use Rattle.sled_core.specs.Buffers.{HasText, canceling, completing, ended, message_in, padding_at}
 use Rattle.sled_core.specs.Caps.{segment_rest}
 use Rattle.sled_core.specs.Begun.{SegmentParts}
 use Rattle.sled_core.specs.Fits.{HoldsNext, log_parts}
@@ -27,11 +22,7 @@ use Rattle.sled_core.proofs.Behind.Completes.{adds_here, behind-complete, comple
 use Rattle.sled_core.proofs.Behind.FitsCompleted.{behind-completed}
 use Rattle.sled_core.proofs.Behind.FitsMoved.{behind-moved}
 use Rattle.sled_core.proofs.Behind.Refilled.{filled_at, fits-refilled}
-use Rattle.sled_core.proofs.Flush.Completed.{grows}
 use Rattle.sled_core.proofs.Holds.CompletedLemmas.{behind_written, ends_within}
-use Rattle.sled_core.proofs.Reserve.CompletesLemmas.{fits}
-use Rattle.sled_core.proofs.Reserve.Entries.{open_plain, reserved_in}
-use Rattle.sled_core.proofs.Reserve.Ranges.{at_there, chain_within, part-written_before}
 
 module _ (sum : List ℕ → ℕ) (size : ℕ) (site : SegmentPosition) (device : State) (fault : Option IoError) (bytes : List ℕ) (from : ℕ) (bs : List Sealed) (rs : List Reserved) (pins : ℕ) (H : History) (A f : ℕ) (U : List Message)
     (pre : List SegmentParts) (s : SegmentParts) (post : List SegmentParts) {reach : ℕ} (its : FitsIn sum (log_parts size site device fault bytes from bs rs) (pre ++ s ∷ post) reach pins H A f U) where
@@ -41,20 +32,16 @@ module _ (sum : List ℕ → ℕ) (size : ℕ) (site : SegmentPosition) (device 
   abbrev here : HoldsNext sum size device fault (behind_place size (site.place + size) pre) s (stays_below sum size site device fault bytes from bs rs H pre s post its.holds) H.batches own_history.messages
   here = held_here sum size site device fault bytes from bs rs H pre s post its.holds
 
-  -- its header is the same with more behind its bytes
-  head_more : (more : List ℕ) → take 20 (s.bytes ++ more) ≡ take 20 s.bytes
-  head_more more = let begun = grows sum size s.site device fault s.bytes s.written_len s.sealed s.reserved own_history here.segment in take-append-le 20 s.bytes more (omega (arith, begun))
-
   -- Its current buffer is sealed, which holds something.
   pub behind-fits-sealed : sealed_end s.written_len s.sealed < length s.bytes
       → FitsIn sum (log_parts size site device fault bytes from bs rs) (pre ++ now_with s s.bytes s.written_len (s.sealed ++ seal_at (length s.bytes) (drop (sealed_count s.sealed) s.reserved) ∷ []) s.reserved ∷ post) reach pins H A f U
-  behind-fits-sealed some = behind-moved sum size site device fault bytes from bs rs pins H A f U pre s post its (now_with s s.bytes s.written_len (s.sealed ++ seal_at (length s.bytes) (drop (sealed_count s.sealed) s.reserved) ∷ []) s.reserved) refl refl refl (λ none. refl)
+  behind-fits-sealed some = behind-moved sum size site device fault bytes from bs rs pins H A f U pre s post its (now_with s s.bytes s.written_len (s.sealed ++ seal_at (length s.bytes) (drop (sealed_count s.sealed) s.reserved) ∷ []) s.reserved) refl refl refl
       (behind-sealed sum size site device fault bytes from bs rs H pre s post its.holds some)
 
   -- A place is reserved in it.
   pub behind-fits-reserved : (more : List ℕ) (r : Reserved) → r.from ≡ length s.bytes → r.len ≡ length more → r.state ≡ Open → r.from + 32 ≤ size → HasText sum (s.site.place / size) (s.bytes ++ more) r → length (s.bytes ++ more) ≤ size
       → FitsIn sum (log_parts size site device fault bytes from bs rs) (pre ++ now_with s (s.bytes ++ more) s.written_len s.sealed (s.reserved ++ r ∷ []) ∷ post) reach pins H A f U
-  behind-fits-reserved more r at long is_open room text inside = behind-moved sum size site device fault bytes from bs rs pins H A f U pre s post its (now_with s (s.bytes ++ more) s.written_len s.sealed (s.reserved ++ r ∷ [])) refl refl refl (λ none. head_more more)
+  behind-fits-reserved more r at long is_open room text inside = behind-moved sum size site device fault bytes from bs rs pins H A f U pre s post its (now_with s (s.bytes ++ more) s.written_len s.sealed (s.reserved ++ r ∷ [])) refl refl refl
       (behind-append sum size site device fault bytes from bs rs H pre s post its.holds more r at long is_open room text inside)
 
   -- It is filled to its end.
@@ -66,23 +53,15 @@ module _ (sum : List ℕ → ℕ) (size : ℕ) (site : SegmentPosition) (device 
       let filled : SegmentParts = now_with s (s.bytes ++ rest) s.written_len s.sealed (s.reserved ++ padding_at size (length s.bytes) ∷ []) in
       let behind = here.behind in
       fits-refilled sum size site device fault bytes from bs rs H pre filled post (Some (length s.bytes)) reach pins A f U (omega (arith, behind, less))
-      (behind-moved sum size site device fault bytes from bs rs pins H A f U pre s post its filled refl refl refl (λ none. head_more rest)
+      (behind-moved sum size site device fault bytes from bs rs pins H A f U pre s post its filled refl refl refl
       (behind-pad sum size site device fault bytes from bs rs H pre s post its.holds less small))
 
   -- One of its reservations ends.
   module _ (i : ℕ) (r : Reserved) (there : slice_get s.reserved i ≡ Some r) (is_open : r.state ≡ Open) where
-    -- that lies behind the header of the segment
-    head_kept : (word : ℕ) (k : MessageKind) → take 20 (written s.bytes r.from (ending word k)) ≡ take 20 s.bytes
-    head_kept word k =
-        let text : HasText sum (s.site.place / size) s.bytes r = (reserved_in sum size (s.site.place / size) s.bytes r (open_plain r.state is_open) (at_there (Stands sum size (s.site.place / size) s.bytes) s.reserved i r there here.segment.stand)).text in
-        let inside = at_there (λ z. (max 20 s.written_len ≤ z.from) × (z.from + z.len ≤ length s.bytes)) s.reserved i r there (chain_within (max 20 s.written_len) (length s.bytes) s.reserved here.segment.chain) in
-        let behind = inside.0 in
-        part-written_before s.bytes (ending word k) r.from 0 20 (omega (arith, behind)) (fits sum (s.site.place / size) s.bytes r inside.1 text word k)
-
     -- It is aborted,
     pub behind-fits-aborted : FitsIn sum (log_parts size site device fault bytes from bs rs) (pre ++ now_with s (written s.bytes r.from (canceling sum s.bytes r)) s.written_len (one_ended i s.sealed) (set s.reserved i (ended Canceled r)) ∷ post) reach pins H A f U
     behind-fits-aborted = behind-moved sum size site device fault bytes from bs rs pins H A f U pre s post its (now_with s (written s.bytes r.from (canceling sum s.bytes r)) s.written_len (one_ended i s.sealed) (set s.reserved i (ended Canceled r))) refl refl refl
-        (λ none. head_kept (sum (body_in s.bytes r ++ code_of kind.Canceled ∷ part s.bytes (r.from + 5) (r.header_len - 5))) kind.Canceled) (behind-aborted sum size site device fault bytes from bs rs H pre s post its.holds i r there is_open)
+        (behind-aborted sum size site device fault bytes from bs rs H pre s post its.holds i r there is_open)
 
     -- or its message is completed.
     pub behind-fits-completed : (none : is_manifest r.log_kind r.page ≡ false) → 256 ≤ size → (short : length bytes ≤ size) → fault ≡ None → FirstUnwritten s.sealed → 0 < pins
@@ -90,7 +69,7 @@ module _ (sum : List ℕ → ℕ) (size : ℕ) (site : SegmentPosition) (device 
         (completed_history sum size site device fault bytes from bs rs H pre s post its.holds short i r there is_open none) A f (message_in s.site s.bytes r ∷ U)
     behind-fits-completed none big short whole fresh out =
         let inside = here.inside in
-        behind-completed sum size site device fault bytes from bs rs pins H A f U pre s post its (now_with s (written s.bytes r.from (completing r)) s.written_len (one_ended i s.sealed) (set s.reserved i (ended Completed r))) refl refl refl (λ none. head_kept r.sum r.kind)
+        behind-completed sum size site device fault bytes from bs rs pins H A f U pre s post its (now_with s (written s.bytes r.from (completing r)) s.written_len (one_ended i s.sealed) (set s.reserved i (ended Completed r))) refl refl refl
         (completed_history sum size site device fault bytes from bs rs H pre s post its.holds short i r there is_open none) (message_in s.site s.bytes r) big short whole
         (behind-complete sum size site device fault bytes from bs rs H pre s post its.holds short i r there is_open none) (adds_here sum size site device fault bytes from bs rs H pre s post its.holds short i r there is_open none)
         (behind_written sum size s.site device fault s.bytes s.written_len s.sealed s.reserved i r own_history here.segment there)

@@ -1,5 +1,5 @@
 -- A message is completed in a segment behind the first one: the log fits the history with it, and a reader finds what he found.
-use Rattle.std.proofs.Common.{◌≡◌, ◌∙◌, ◌≤◌, ◌<◌, ◌+◌, ℕ, List, ◌∷◌, ◌++◌, length, map, take, Option, None, sym, ap, subst, arith, inl, inr}
+use Rattle.std.proofs.Common.{◌≡◌, ◌∙◌, ◌≤◌, ◌<◌, ◌+◌, ℕ, List, ◌∷◌, ◌++◌, length, map, Option, None, sym, ap, subst, arith, inl, inr}
 use Rattle.std.specs.List.{All, Contains}
 use Rattle.std.specs.declared.io.Error.{Error as IoError}
 use Rattle.std.proofs.lemmas.List.Elements.{All-contains, Contains-append_cases, Contains-append_right}
@@ -21,7 +21,7 @@ use Rattle.sled_core.specs.Running.{BlobsFit, FitsIn, NamesFit}
 use Rattle.sled_core.specs.SealedBuffers.{AreZeros, FirstUnwritten}
 use Rattle.sled_core.proofs.Behind.Around.{HoldAround, begun_is, behind_below, behind_place, held_around, stays_below}
 use Rattle.sled_core.proofs.Behind.Calls.{held_here}
-use Rattle.sled_core.proofs.Behind.FitsMoved.{begun_same, marks_same}
+use Rattle.sled_core.proofs.Behind.FitsMoved.{begun_same}
 use Rattle.sled_core.proofs.Flush.Completed.{all_below, grows}
 use Rattle.sled_core.proofs.Flush.Padded.{padded_get}
 use Rattle.sled_core.proofs.Flush.Settled.{InlineFrom, rests, settled_recoverable}
@@ -73,7 +73,7 @@ module _ (sum : List ℕ → ℕ) (size : ℕ) (site : SegmentPosition) (device 
 
 module _ (sum : List ℕ → ℕ) (size : ℕ) (site : SegmentPosition) (device : State) (fault : Option IoError) (bytes : List ℕ) (from : ℕ) (bs : List Sealed) (rs : List Reserved) (pins : ℕ) (H : History) (A f : ℕ) (U : List Message)
     (pre : List SegmentParts) (s : SegmentParts) (post : List SegmentParts) {reach : ℕ} (fits : FitsIn sum (log_parts size site device fault bytes from bs rs) (pre ++ s ∷ post) reach pins H A f U)
-    (s' : SegmentParts) (its_site : s'.site ≡ s.site) (so_far : s'.written_len ≡ s.written_len) (filling : s'.filled ≡ s.filled) (head : s.written_len ≡ 0 → take 20 s'.bytes ≡ take 20 s.bytes)
+    (s' : SegmentParts) (its_site : s'.site ≡ s.site) (so_far : s'.written_len ≡ s.written_len) (filling : s'.filled ≡ s.filled)
     (H' : History) (m : Message) (least : 256 ≤ size) (short : length bytes ≤ size) (ok : fault ≡ None) (holds : HoldsIn sum (log_parts size site device fault bytes from bs rs) (pre ++ s' ∷ post) H') (adds : AddsMessage H m H')
     (above : s.site.place + s.written_len ≤ m.place) (inside : m.place < s.site.place + size) (fresh : FirstUnwritten s.sealed) where
   abbrev first : SnapshotModel
@@ -176,7 +176,6 @@ module _ (sum : List ℕ → ℕ) (size : ℕ) (site : SegmentPosition) (device 
         ends = ends_new;
         no_batch = λ b there. fits.no_batch b (subst (λ (l : List Batch). Contains l b) adds.batches there);
         no_end = λ b there. fits.no_end b (subst (λ (l : List Batch). Contains l b) adds.batches there);
-        marked = marks_same sum (site.place + from) pre s s' post its_site (λ none. let was : s.written_len ≡ 0 = sym so_far ∙ none in (was, head was)) fits.marked;
         among = λ fine none. subst (λ (z : SnapshotModel). StandsAmong sum size device.log.bytes site from others' reach H' z) same (alone_new none);
         beyond = λ to far fine none. subst (λ (z : SnapshotModel). StandsAmong sum size (padded to device.log.bytes) site from others' reach H' z) same (beyond_new to far none);
         blobs = blobs_new;

@@ -1,5 +1,5 @@
 -- A batch is marked whose manifest lies in a segment behind the first one: the log fits the history with it, and a reader finds what he found.
-use Rattle.std.proofs.Common.{◌≡◌, ◌∙◌, ◌≤◌, ◌<◌, ◌+◌, ℕ, List, ◌∷◌, ◌++◌, length, map, take, Option, None, sym, ap, subst, arith, inr}
+use Rattle.std.proofs.Common.{◌≡◌, ◌∙◌, ◌≤◌, ◌<◌, ◌+◌, ℕ, List, ◌∷◌, ◌++◌, length, map, Option, None, sym, ap, subst, arith, inr}
 use Rattle.std.specs.List.{All, Contains}
 use Rattle.std.specs.declared.io.Error.{Error as IoError}
 use Rattle.std.proofs.lemmas.List.Elements.{Contains-append_right}
@@ -22,7 +22,7 @@ use Rattle.sled_core.specs.SealedBuffers.{AreZeros, FirstUnwritten}
 use Rattle.sled_core.proofs.Behind.Around.{begun_is, behind_place, held_around, stays_below}
 use Rattle.sled_core.proofs.Behind.Calls.{held_here}
 use Rattle.sled_core.proofs.Behind.FitsCompleted.{front_low}
-use Rattle.sled_core.proofs.Behind.FitsMoved.{begun_same, marks_same}
+use Rattle.sled_core.proofs.Behind.FitsMoved.{begun_same}
 use Rattle.sled_core.proofs.Flush.Completed.{grows}
 use Rattle.sled_core.proofs.Flush.Padded.{padded_get}
 use Rattle.sled_core.proofs.Flush.Settled.{InlineFrom, rests, settled_recoverable}
@@ -36,7 +36,7 @@ use Rattle.sled_core.proofs.Sealed.Zeros.{begin_zeros}
 
 module _ (sum : List ℕ → ℕ) (size : ℕ) (site : SegmentPosition) (device : State) (fault : Option IoError) (bytes : List ℕ) (from : ℕ) (bs : List Sealed) (rs : List Reserved) (pins : ℕ) (H : History) (A f : ℕ) (U : List Message)
     (pre : List SegmentParts) (s : SegmentParts) (post : List SegmentParts) {reach : ℕ} (fits : FitsIn sum (log_parts size site device fault bytes from bs rs) (pre ++ s ∷ post) reach pins H A f U)
-    (s' : SegmentParts) (its_site : s'.site ≡ s.site) (so_far : s'.written_len ≡ s.written_len) (filling : s'.filled ≡ s.filled) (head : s.written_len ≡ 0 → take 20 s'.bytes ≡ take 20 s.bytes)
+    (s' : SegmentParts) (its_site : s'.site ≡ s.site) (so_far : s'.written_len ≡ s.written_len) (filling : s'.filled ≡ s.filled)
     (H' : History) (b : Batch) (least : 256 ≤ size) (short : length bytes ≤ size) (ok : fault ≡ None) (holds : HoldsIn sum (log_parts size site device fault bytes from bs rs) (pre ++ s' ∷ post) H') (adds : AddsBatch H b H')
     (placing : ((c : Batch) → Contains H.batches c → IsPlacedBatch size H c) → (c : Batch) → Contains H'.batches c → IsPlacedBatch size H' c) (later : b.low < b.peg) (offs : All (IsOff size b.peg) (pre ++ s ∷ post)) (above : s.site.place + s.written_len ≤ b.low) (inside : b.low < s.site.place + size) (fresh : FirstUnwritten s.sealed) where
   abbrev first : SnapshotModel
@@ -112,7 +112,6 @@ module _ (sum : List ℕ → ℕ) (size : ℕ) (site : SegmentPosition) (device 
         ends = λ x there below. fits.ends x (message_was H H' b adds x there) below;
         no_batch = no_batch H H' b adds reach (site.place + from) (inr past) fits.no_batch;
         no_end = no_end H H' b adds reach (site.place + from) past fits.no_end;
-        marked = marks_same sum (site.place + from) pre s s' post its_site (λ none. let was : s.written_len ≡ 0 = sym so_far ∙ none in (was, head was)) fits.marked;
         among = λ fine none. subst (λ (z : SnapshotModel). StandsAmong sum size device.log.bytes site from others' reach H' z) same (alone_new none);
         beyond = λ to far fine none. subst (λ (z : SnapshotModel). StandsAmong sum size (padded to device.log.bytes) site from others' reach H' z) same (beyond_new to far none);
         blobs = blobs_new;

@@ -45,7 +45,7 @@ marks_same sum end pre s s' post site head marked x among none mark header = eli
 
 module _ (sum : List ℕ → ℕ) (size : ℕ) (site : SegmentPosition) (device : State) (fault : Option IoError) (bytes : List ℕ) (from : ℕ) (bs : List Sealed) (rs : List Reserved) (pins : ℕ) (H : History) (A f : ℕ) (U : List Message)
     (pre : List SegmentParts) (s : SegmentParts) (post : List SegmentParts) {reach : ℕ} (fits : FitsIn sum (log_parts size site device fault bytes from bs rs) (pre ++ s ∷ post) reach pins H A f U)
-    (s' : SegmentParts) (its_site : s'.site ≡ s.site) (so_far : s'.written_len ≡ s.written_len) (filling : s'.filled ≡ s.filled) (head : s.written_len ≡ 0 → take 20 s'.bytes ≡ take 20 s.bytes) where
+    (s' : SegmentParts) (its_site : s'.site ≡ s.site) (so_far : s'.written_len ≡ s.written_len) (filling : s'.filled ≡ s.filled) where
   abbrev others : List BegunSegment
   others = map begun_segment (pre ++ s ∷ post)
 
@@ -63,7 +63,6 @@ module _ (sum : List ℕ → ℕ) (size : ℕ) (site : SegmentPosition) (device 
         ends = fits.ends;
         no_batch = fits.no_batch;
         no_end = fits.no_end;
-        marked = marks_same sum (site.place + from) pre s s' post its_site (λ none. let was : s.written_len ≡ 0 = sym so_far ∙ none in (was, head was)) fits.marked;
         among = λ ok none. subst (λ (first : SnapshotModel). StandsAmong sum size device.log.bytes site from others' reach H first) same (subst (λ (l : List BegunSegment). StandsAmong sum size device.log.bytes site from l reach H fits.holds.begun.first) lie (fits.among ok none));
         beyond = λ to far ok none. subst (λ (first : SnapshotModel). StandsAmong sum size (padded to device.log.bytes) site from others' reach H first) same
             (subst (λ (l : List BegunSegment). StandsAmong sum size (padded to device.log.bytes) site from l reach H fits.holds.begun.first) lie (fits.beyond to far ok none));

@@ -24,7 +24,6 @@ use Rattle.sled_core.specs.Running.{FitsIn}
 use Rattle.sled_core.specs.SealedBuffers.{AreSealed, FirstUnwritten, behind_run, bytes_between, is_ready, now_written, run_count, run_end, sealed_end, written_at}
 use Rattle.sled_core.proofs.Behind.Around.{begun_is, now_with}
 use Rattle.sled_core.proofs.Behind.Calls.{held_here}
-use Rattle.sled_core.proofs.Behind.FitsMoved.{marks_same}
 use Rattle.sled_core.proofs.Behind.OneWrite.{reaches, some_asked, torn_one, whole_one}
 use Rattle.sled_core.proofs.Behind.Shorter.{shorter_stands}
 use Rattle.sled_core.proofs.Behind.Writes.{behind-written}
@@ -34,8 +33,7 @@ use Rattle.sled_core.proofs.Holds.WholeHistory.{whole_ascends}
 use Rattle.sled_core.proofs.Reached.SegmentsBeside.{grown_one}
 use Rattle.sled_core.proofs.Reached.StandsTo.{StandsTo}
 use Rattle.sled_core.proofs.Reserve.Ranges.{there_split}
-use Rattle.sled_core.proofs.Sealed.Marked.{ready_closed, written_are, written_around}
-use Rattle.sled_core.proofs.Sealed.Runs.{run_of}
+use Rattle.sled_core.proofs.Sealed.Marked.{ready_closed, written_around}
 use Rattle.sled_core.proofs.Sealed.WriteMoments as moments
 use Rattle.sled_core.proofs.Torn.TornLemmas.{after_write}
 
@@ -98,22 +96,22 @@ module _ (sum : List ℕ → ℕ) (size : ℕ) (site : SegmentPosition) (device 
   slot_begins = (held_here sum size site device fault bytes from bs rs H pre s post fits.holds).segment.slot_begins
 
   its_reach : s.site.slot ≤ length new
-  its_reach = reaches sum size site device fault bytes from bs rs H pre s post fits.holds fits.marked big whole short place_small slot_small fresh b rest closed recorded (take k s.sealed) split
+  its_reach = reaches sum size site device fault bytes from bs rs H pre s post fits.holds big whole short place_small slot_small fresh b rest closed recorded (take k s.sealed) split
 
   some : 0 < length asked
-  some = some_asked sum size site device fault bytes from bs rs H pre s post fits.holds fits.marked big whole short place_small slot_small fresh b rest closed recorded (take k s.sealed) split
+  some = some_asked sum size site device fault bytes from bs rs H pre s post fits.holds big whole short place_small slot_small fresh b rest closed recorded (take k s.sealed) split
 
   -- What a crash leaves of the write.
   torn : NoHeaderOfZeros sum → (part left : List ℕ) → length part ≤ length asked → LeavesLog (after_write old (s.site.slot + at) asked part) left → (placed : List (ℕ × List ℕ))
       → NoForeignLog sum size (after_write old (s.site.slot + at) asked part) placed left → StandsTo sum size left H (stable_below reach H.batches) first reach
-  torn none = torn_one sum size site device fault bytes from bs rs H pre s post fits.holds fits.marked big whole short place_small slot_small fresh b rest closed recorded (take k s.sealed) split none reach first
+  torn none = torn_one sum size site device fault bytes from bs rs H pre s post fits.holds big whole short place_small slot_small fresh b rest closed recorded (take k s.sealed) split none reach first
       (subst (λ (l : List BegunSegment). StandsAmong sum size old site from l reach H first) (begun_is pre s post) (fits.among whole none))
 
   -- All of it, where the file with zeros behind its end reaches the slot.
   written_in : NoHeaderOfZeros sum → (to : ℕ) → s.site.slot ≤ length (padded to old) → StandsAmong sum size (padded to old) site from (map begun_segment (pre ++ s ∷ post)) reach H first → StandsAmong sum size (padded to new) site from (map begun_segment (pre ++ grown ∷ post)) reach H first
   written_in none to reached among =
       let least = fits.holds.begun.least in
-      let one = whole_one sum size site device fault bytes from bs rs H pre s post fits.holds fits.marked big whole short place_small slot_small fresh b rest closed recorded (take k s.sealed) split none reach first least to reached
+      let one = whole_one sum size site device fault bytes from bs rs H pre s post fits.holds big whole short place_small slot_small fresh b rest closed recorded (take k s.sealed) split none reach first least to reached
       (subst (λ (l : List BegunSegment). StandsAmong sum size (padded to old) site from l reach H first) (begun_is pre s post) among) in
       subst (λ (l : List BegunSegment). StandsAmong sum size (padded to new) site from l reach H first) (sym (begun_is pre grown post))
       (subst (λ (cs : List Sealed). StandsAmong sum size (padded to new) site from (map begun_segment pre ++ grown_one (begun_segment s) (run_end s.written_len cs) ∷ map begun_segment post) reach H first) (sym (written_around k s.sealed b there))
@@ -168,7 +166,6 @@ module _ (sum : List ℕ → ℕ) (size : ℕ) (site : SegmentPosition) (device 
     ends = fits.ends;
     no_batch = fits.no_batch;
     no_end = fits.no_end;
-    marked = marks_same sum (site.place + from) pre s grown post refl (λ none. let up = (run_of s.written_len s.reserved now (written_are s.written_len s.reserved s.sealed k b there closed (held_here sum size site device fault bytes from bs rs H pre s post fits.holds).are)).rises in (omega (arith, up, none), refl)) fits.marked;
     among = λ ok none. among_new none;
     beyond = λ to far ok none. beyond_new none to far;
     blobs = fits.blobs;

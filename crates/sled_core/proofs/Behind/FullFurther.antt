@@ -8,7 +8,6 @@ use Rattle.sled_codec.specs.Coords.{raised}
 use Rattle.sled_codec.specs.History.{History, Message}
 use Rattle.sled_store.specs.Device.{State}
 use Rattle.sled_store.proofs.Histories.Ascending.{Ascends}
-use Rattle.sled_store.proofs.Segments.Elements.{in_rest}
 use Rattle.sled_core.specs.OpenBatches.{stable_below}
 use Rattle.sled_core.specs.declared.iterator.scan.ScannedRecord.{ScannedRecord}
 use Rattle.sled_core.specs.declared.iterator.scan.ScanEnd.{ScanEnd}
@@ -31,7 +30,6 @@ use Rattle.sled_core.proofs.Flush.Settled.{InlineFrom, blobs_higher, settled_rec
 use Rattle.sled_core.proofs.Holds.WholeHistory.{later_above, of_first, which_part}
 use Rattle.sled_core.proofs.Flush.Completed.{all_below}
 use Rattle.sled_core.proofs.Reached.NextSegment.{next_full, read}
-use Rattle.sled_core.proofs.Reached.Marks.{less_than}
 use Rattle.sled_core.proofs.Reached.StableBelow.{stable_rises}
 use Rattle.sled_core.proofs.Sealed.Ended.{ends_rise}
 use Rattle.sled_core.proofs.Sealed.FullSegment.{full_why}
@@ -86,7 +84,7 @@ module _ (sum : List ℕ → ℕ) (size : ℕ) (device : State) (fault : Option 
       ends = ends';
       no_batch = no_batch';
       no_end = no_end';
-      marked = λ x there none mark header. less_than mark place (s.site.place + size) (let at = begins in omega (arith, at)) (fits.marked x (in_rest s x ss there) none mark header);
+      marked = holds_full.marked;
       beyond = λ to none zeros. stands to zeros;
       blobs = blobs_now;
       inline = inline_now;

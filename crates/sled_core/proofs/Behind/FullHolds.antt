@@ -1,5 +1,5 @@
 -- All of a segment is written: it has no sealed buffers and no reservations any more.
-use Rattle.std.proofs.Common.{◌≡◌, ◌≤◌, ◌/◌, ℕ, max, Bool, true, false, if◌then◌else◌, List, [], ◌∷◌, length, Option, refl, subst, arith}
+use Rattle.std.proofs.Common.{◌≡◌, ◌≤◌, ◌+◌, ◌/◌, ℕ, max, Bool, true, false, if◌then◌else◌, List, [], ◌∷◌, length, Option, refl, subst, arith}
 use Rattle.std.specs.declared.io.Error.{Error as IoError}
 use Rattle.sled_codec.specs.History.{History, Message}
 use Rattle.sled_codec.specs.Snapshots.{stable_place}
@@ -11,6 +11,7 @@ use Rattle.sled_core.specs.Begun.{SegmentParts}
 use Rattle.sled_core.specs.Fits.{HoldsIn, HoldsSegment, log_parts}
 use Rattle.sled_core.specs.LogFile.{StaysFrom}
 use Rattle.sled_core.specs.SealedBuffers.{behind_run, run_end}
+use Rattle.sled_core.proofs.Behind.FitsMoved.{MarksBelow}
 use Rattle.sled_core.proofs.Reserve.Entries.{some_long}
 use Rattle.sled_core.proofs.Sealed.LaidLemmas.{EndsRise, ends_below}
 use Rattle.sled_core.proofs.Sealed.RecordsEnd.{none_behind}
@@ -53,4 +54,5 @@ emptied sum size site device fault bytes from bs rs behind H holds full unsealed
       subst (λ n. Holds n [] []) full (subst (λ (cs : List Sealed). Holds from cs []) unsealed (subst (λ (l : List Reserved). Holds from bs l) unreserved holds.own)));
   others = holds.others;
   apart = holds.apart;
+  marked = subst (λ n. MarksBelow sum (site.place + n) behind) full holds.marked;
 }

@@ -8,7 +8,6 @@ use Rattle.sled_codec.specs.History.{History, Message}
 use Rattle.sled_codec.specs.Snapshots.{SnapshotModel, stable_place}
 use Rattle.sled_store.specs.Device.{State, at_rest}
 use Rattle.sled_store.proofs.Histories.Ascending.{Ascends}
-use Rattle.sled_store.proofs.Segments.Elements.{in_rest}
 use Rattle.sled_core.specs.Begun.{SegmentParts}
 use Rattle.sled_core.specs.Fits.{HoldsIn, HoldsNext, begun_segment, log_parts}
 use Rattle.sled_core.specs.Full.{FitsFull, StandsFull}
@@ -23,7 +22,6 @@ use Rattle.sled_core.proofs.Flush.Settled.{InlineFrom, blobs_higher, rests, sett
 use Rattle.sled_core.proofs.Holds.ReachLemmas.{written_before}
 use Rattle.sled_core.proofs.Holds.WholeHistory.{later_above, of_first, which_part, whole_ascends}
 use Rattle.sled_core.proofs.Reached.NextSegment.{next_begins, next_goes, read}
-use Rattle.sled_core.proofs.Reached.Marks.{less_than}
 use Rattle.sled_core.proofs.Reached.StableBelow.{stable_rises}
 
 module _ (sum : List ℕ → ℕ) (size : ℕ) (device : State) (fault : Option IoError) (place : ℕ) (s : SegmentParts) (ss : List SegmentParts) {reach pins : ℕ} {H : History} {A f : ℕ} {U : List Message}
@@ -79,7 +77,6 @@ module _ (sum : List ℕ → ℕ) (size : ℕ) (device : State) (fault : Option 
       ends = ends';
       no_batch = no_batch';
       no_end = no_end';
-      marked = λ x there none mark header. less_than mark place (s.site.place + s.written_len) (let at = at_place in omega (arith, at)) (fits.marked x (in_rest s x ss there) none mark header);
       among = λ none zeros. stands device.log.bytes (full_file zeros);
       beyond = λ to far none zeros. stands (padded to device.log.bytes) (fits.beyond to none zeros);
       blobs = blobs_now;

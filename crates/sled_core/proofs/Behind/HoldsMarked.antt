@@ -21,7 +21,7 @@ use Rattle.sled_core.specs.SealedBuffers.{one_ended}
 use Rattle.sled_core.proofs.Behind.Around.{HoldAround, apart_with, behind_below, behind_place, held_around, now_with, stays_below, together}
 use Rattle.sled_core.proofs.Behind.Calls.{ended_are, held_here}
 use Rattle.sled_core.proofs.Behind.FitsCompleted.{front_low}
-use Rattle.sled_core.proofs.Behind.FitsMoved.{MarksBelow}
+use Rattle.sled_core.proofs.Behind.FitsMoved.{MarksBelow, marks_same}
 use Rattle.sled_core.proofs.Flush.Completed.{grows}
 use Rattle.sled_core.proofs.Holds.BegunMarks.{begun-marks, stays-marks, stays_below-marks}
 use Rattle.sled_core.proofs.Holds.BehindKept.{behind_fewer}
@@ -47,7 +47,7 @@ end_before sum size device fault place (y ∷ ys) stays batches ms (own, later, 
 
 module _ (sum : List ℕ → ℕ) (size : ℕ) (site : SegmentPosition) (device : State) (fault : Option IoError) (bytes : List ℕ) (from : ℕ) (bs : List Sealed) (rs : List Reserved) (H : History)
     (pre : List SegmentParts) (s : SegmentParts) (post : List SegmentParts) (holds : HoldsIn sum (log_parts size site device fault bytes from bs rs) (pre ++ s ∷ post) H)
-    (short : length bytes ≤ size) (small_places : All InReach (pre ++ s ∷ post)) (marked : MarksBelow sum (site.place + from) (pre ++ s ∷ post))
+    (short : length bytes ≤ size) (small_places : All InReach (pre ++ s ∷ post))
     (i : ℕ) (r : Reserved) (there : slice_get s.reserved i ≡ Some r) (is_open : r.state ≡ Open) (manifest : is_manifest r.log_kind r.page ≡ true)
     (peg : ℕ) (small : peg < 2 ^ 63) (later : s.site.place + r.from < peg) (off_first : LiesOff size site rs bytes peg) (offs : All (IsOff size peg) (pre ++ s ∷ post)) where
   abbrev stable : ℕ
@@ -101,7 +101,7 @@ module _ (sum : List ℕ → ℕ) (size : ℕ) (site : SegmentPosition) (device 
   long = marks_long sum size s.site device fault s.bytes s.written_len s.sealed s.reserved parts.own H.batches here.segment i r there is_open manifest here.are peg small off_here
 
   -- The header is the same, and no other batch begins there.
-  pub batch_head : take 20 new ≡ take 20 s.bytes
+  batch_head : take 20 new ≡ take 20 s.bytes
   batch_head = marks_head sum size s.site device fault s.bytes s.written_len s.sealed s.reserved parts.own H.batches here.segment i r there is_open manifest here.are peg small off_here
 
   pub batch_alone : (c : Batch) → Contains H.batches c → c.low ≡ b.low → ⊥
@@ -138,7 +138,7 @@ module _ (sum : List ℕ → ℕ) (size : ℕ) (site : SegmentPosition) (device 
 
   -- The marks of all these segments lie below the batch.
   below : MarksBelow sum b.low (pre ++ s ∷ post)
-  below = marks_higher sum (site.place + from) b.low (pre ++ s ∷ post) batch_past marked
+  below = marks_higher sum (site.place + from) b.low (pre ++ s ∷ post) batch_past holds.marked
 
   front_marked : HoldBehind sum size device fault (site.place + size) pre stays' now.batches parts.before
   front_marked =
@@ -195,4 +195,5 @@ module _ (sum : List ℕ → ℕ) (size : ℕ) (site : SegmentPosition) (device 
     own = first_marked;
     others = others_marked;
     apart = apart_with pre s post site new s.written_len (one_ended i s.sealed) (set s.reserved i (ended Manifest r)) holds.apart;
+    marked = marks_same sum (site.place + from) pre s marked_now post refl (λ none. (none, batch_head)) holds.marked;
   }

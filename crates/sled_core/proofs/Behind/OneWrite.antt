@@ -27,7 +27,6 @@ use Rattle.sled_core.specs.Tail.{least_place}
 use Rattle.sled_core.proofs.Behind.Around.{HoldAround, behind_place, held_around, stays_below}
 use Rattle.sled_core.proofs.Behind.Calls.{held_here}
 use Rattle.sled_core.proofs.Behind.FitsCompleted.{front_low, of_segment}
-use Rattle.sled_core.proofs.Behind.FitsMoved.{MarksBelow}
 use Rattle.sled_core.proofs.Flush.Completed.{front_only, has_only}
 use Rattle.sled_core.proofs.Flush.FirstWritten.{none_or_begun}
 use Rattle.sled_core.proofs.Flush.FlushLemmas.{on_file}
@@ -48,7 +47,7 @@ use Rattle.sled_core.proofs.Sealed.OtherSealed.{other_sealed_written, torn_other
 use Rattle.sled_core.proofs.Torn.TornLemmas.{after_write}
 
 module _ (sum : List ℕ → ℕ) (size : ℕ) (site : SegmentPosition) (device : State) (fault : Option IoError) (bytes : List ℕ) (from : ℕ) (bs : List Sealed) (rs : List Reserved) (H : History)
-    (pre : List SegmentParts) (s : SegmentParts) (post : List SegmentParts) (holds : HoldsIn sum (log_parts size site device fault bytes from bs rs) (pre ++ s ∷ post) H) (marked : MarksBelow sum (site.place + from) (pre ++ s ∷ post))
+    (pre : List SegmentParts) (s : SegmentParts) (post : List SegmentParts) (holds : HoldsIn sum (log_parts size site device fault bytes from bs rs) (pre ++ s ∷ post) H)
     (big : 256 ≤ size) (whole : fault ≡ None) (short : length bytes ≤ size) (place_small : s.site.place + size < 2 ^ 63) (slot_small : s.site.slot + size < 2 ^ 63) (fresh : FirstUnwritten s.sealed)
     (b : Sealed) (rest : List Sealed) (closed : b.open_count ≡ 0) (recorded : records_to s.filled (length s.bytes) ≤ records_end s.reserved (length s.bytes)) where
   abbrev stays : Message → Type 0
@@ -90,7 +89,7 @@ module _ (sum : List ℕ → ℕ) (size : ℕ) (site : SegmentPosition) (device 
   header none =
       let m = here.segment.header none in (
         record { mark = m.mark; is = m.is; of_history = mark_same own_history H (record { place = s.site.place; slot = s.site.slot; mark = m.mark }) refl m.of_history },
-        marked s (Contains-append_right pre (s ∷ post) s (in_first s post)) none m.mark (buffer_header sum s.site s.bytes own_history m (omega (arith, place_small))),
+        holds.marked s (Contains-append_right pre (s ∷ post) s (in_first s post)) none m.mark (buffer_header sum s.site s.bytes own_history m (omega (arith, place_small))),
       )
 
   begins : (s.written_len ≡ 0) ⊎ (20 ≤ s.written_len)

@@ -22,6 +22,7 @@ use Rattle.sled_core.proofs.Behind.Stays.{behind_stays, elsewhere_of, segment-ea
 use Rattle.sled_core.proofs.Flush.Completed.{all_apart, all_below}
 use Rattle.sled_core.proofs.Flush.FlushLemmas.{on_file}
 use Rattle.sled_core.proofs.Holds.WholeHistory.{behind_above}
+use Rattle.sled_core.proofs.Reached.Marks.{less_than}
 use Rattle.sled_core.proofs.Reached.SegmentsBeside.{follows}
 
 module _ (sum : List ℕ → ℕ) (size : ℕ) (site : SegmentPosition) (device : State) (fault : Option IoError) (bytes : List ℕ) (from : ℕ) (bs : List Sealed) (rs : List Reserved) (H : History)
@@ -117,4 +118,5 @@ module _ (sum : List ℕ → ℕ) (size : ℕ) (site : SegmentPosition) (device 
     own = promoted_own;
     others = promoted_others;
     apart = holds.apart.1;
+    marked = λ x among none mark header. less_than mark (site.place + from) (s.site.place + s.written_len) (let next = here.next in omega (arith, next, full)) (holds.marked x (in_rest s x ss among) none mark header);
   }

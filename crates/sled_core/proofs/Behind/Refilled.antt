@@ -63,6 +63,7 @@ module _ (sum : List ℕ → ℕ) (size : ℕ) (site : SegmentPosition) (device 
           (record { next = parts.here.next; inside = parts.here.inside; are = parts.here.are; held = parts.here.held; behind = parts.here.behind; segment = parts.here.segment; above = parts.here.above; inline = parts.here.inline }) parts.rest;
       apart = subst (FollowApart site) (sym (map-append begun_segment pre (filled_at o s ∷ post)))
           (follow_still site (map begun_segment pre) (begun_segment s) (map begun_segment post) s.written_len o (apart_around pre s post site holds.apart));
+      marked = marks_same sum (site.place + from) pre s (filled_at o s) post refl (λ none. (none, refl)) holds.marked;
     }
 
   pub fits-refilled : (reach pins A f : ℕ) (U : List Message) → s.written_len < size → FitsIn sum (log_parts size site device fault bytes from bs rs) (pre ++ s ∷ post) reach pins H A f U
@@ -73,7 +74,6 @@ module _ (sum : List ℕ → ℕ) (size : ℕ) (site : SegmentPosition) (device 
     ends = fits.ends;
     no_batch = fits.no_batch;
     no_end = fits.no_end;
-    marked = marks_same sum (site.place + from) pre s (filled_at o s) post refl (λ none. (none, refl)) fits.marked;
     among = λ ok none. stands device.log.bytes (fits.among ok none);
     beyond = λ to far ok none. stands (padded to device.log.bytes) (fits.beyond to far ok none);
     blobs = fits.blobs;

@@ -1,5 +1,5 @@
 -- A sealed buffer of a segment behind the first one is written at its place, and synced: the log holds what it held, since each other segment lies in another slot, and what stays of earlier ones too.
-use Rattle.std.proofs.Common.{◌≡◌, ◌⊎◌, ◌∙◌, ◌≤◌, ◌<◌, ◌+◌, ◌^◌, ℕ, true, suc, List, ◌∷◌, ◌++◌, length, map, take, drop, Option, None, Some, sym, ap, subst, arith, inl, inr}
+use Rattle.std.proofs.Common.{◌≡◌, ◌⊎◌, ◌∙◌, ◌≤◌, ◌<◌, ◌+◌, ◌^◌, ℕ, true, suc, List, ◌∷◌, ◌++◌, length, map, take, drop, Option, None, Some, refl, sym, ap, subst, arith, inl, inr}
 use Rattle.std.specs.List.{slice_get}
 use Rattle.std.specs.declared.io.Error.{Error as IoError}
 use Rattle.sled_codec.specs.declared.result.DiskPtr.TheVariants.{Inline}
@@ -17,6 +17,7 @@ use Rattle.sled_core.specs.SealedBuffers.{AreSealed, FirstUnwritten, behind_run,
 use Rattle.sled_core.proofs.Behind.Around.{HoldAround, apart_around, apart_before, apart_behind, apart_with, behind_below, behind_place, held_around, next_with, now_with, stays_below, together}
 use Rattle.sled_core.proofs.Behind.Calls.{held_here}
 use Rattle.sled_core.proofs.Flush.Completed.{grows}
+use Rattle.sled_core.proofs.Behind.FitsMoved.{marks_same}
 use Rattle.sled_core.proofs.Flush.FlushLemmas.{begun-more, on_file}
 use Rattle.sled_core.proofs.Flush.LogFileKept.{elsewhere_kept}
 use Rattle.sled_core.proofs.Flush.SealedFits.{segment_written_one}
@@ -158,4 +159,6 @@ module _ (sum : List ℕ → ℕ) (size : ℕ) (site : SegmentPosition) (device 
       own = first_written;
       others = together sum size new fault (site.place + size) pre (now_with s s.bytes (run_end s.written_len now) (behind_run now) left) post stays H.batches parts.before parts.own parts.after front_written next_written rest_written;
       apart = apart_with pre s post site s.bytes (run_end s.written_len now) (behind_run now) left holds.apart;
+      marked = marks_same sum (site.place + from) pre s (now_with s s.bytes (run_end s.written_len now) (behind_run now) left) post refl
+          (λ none. let up = (run_of s.written_len s.reserved now (written_are s.written_len s.reserved s.sealed k b there (ready_closed b ready) here.are)).rises in (omega (arith, up, none), refl)) holds.marked;
     }

@@ -20,6 +20,7 @@ use Rattle.sled_core.specs.Buffers.{IsChain, Stands, completed_in}
 use Rattle.sled_core.specs.Begun.{SegmentParts}
 use Rattle.sled_core.specs.Fits.{CloseBelow, log_parts, HoldBehind, HoldsIn, HoldsSegment, IsOnDevice, IsBegunFrom, IsKept, EndBelow}
 use Rattle.sled_core.specs.LogFile.{IsLogFile, StaysBelow, StaysFrom}
+use Rattle.sled_core.proofs.Reached.Marks.{less_than}
 use Rattle.sled_core.proofs.Reserve.Entries.{some_in}
 use Rattle.sled_core.proofs.Reserve.Ranges.{chain_grows}
 use Rattle.sled_core.specs.SealedBuffers.{AreSealed, FirstUnwritten}
@@ -88,6 +89,7 @@ holds_over sum size site device fault bytes from bs rs behind H holds new now by
   own = own;
   others = others;
   apart = holds.apart;
+  marked = λ s there none mark header. less_than mark (site.place + from) (site.place + from') (omega (arith, more)) (holds.marked s there none mark header);
 }
 
 -- The segments behind the first one, in a log that keeps a failure of its device.

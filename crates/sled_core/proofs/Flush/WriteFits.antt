@@ -23,7 +23,6 @@ use Rattle.sled_core.specs.Running.{BlobsFit, FitsIn, NamesFit}
 use Rattle.sled_core.proofs.Flush.Padded.{padded_none}
 use Rattle.sled_core.proofs.Flush.Settled.{InlineFrom, rests}
 use Rattle.sled_core.proofs.Holds.WholeHistory.{whole_ascends}
-use Rattle.sled_core.proofs.Reached.Marks.{less_than}
 use Rattle.sled_core.proofs.Reached.StandsTo.{StandsTo}
 use Rattle.sled_core.proofs.Sealed.WriteMoments as moments
 use Rattle.sled_core.proofs.Reached.StableBelow.{stable_rises}
@@ -89,7 +88,6 @@ module _ (sum : List ℕ → ℕ) (size : ℕ) (site : SegmentPosition) (device 
     ends = ends';
     no_batch = beside'.0;
     no_end = beside'.1;
-    marked = λ x there none mark header. less_than mark (site.place + from) (site.place + to) (omega (arith, grown)) (fits.marked x there none mark header);
     among = λ none zeros. subst (λ (s : SnapshotModel). StandsAmong sum size (overwritten device.log.bytes at asked) site to (map begun_segment behind) reach' H s) (sym same) (among (overwritten device.log.bytes at asked) (alone_now zeros));
     beyond = λ end far none zeros. subst (λ (s : SnapshotModel). StandsAmong sum size (padded end (overwritten device.log.bytes at asked)) site to (map begun_segment behind) reach' H s) (sym same) (among (padded end (overwritten device.log.bytes at asked)) (padded_now zeros end));
     blobs = blobs_now;
@@ -113,7 +111,7 @@ module _ (sum : List ℕ → ℕ) (size : ℕ) (site : SegmentPosition) (device 
     ends = λ m there under. ends' m there (omega (arith, under, filled));
     no_batch = subst (λ n. NoBatchBegins H reach' (site.place + n)) filled beside'.0;
     no_end = subst (λ n. NoBatchEnds H reach' (site.place + n)) filled beside'.1;
-    marked = λ x there none mark header. less_than mark (site.place + from) (site.place + size) (omega (arith, grown, filled)) (fits.marked x there none mark header);
+    marked = holds.marked;
     beyond = λ end none zeros. subst (λ (s : SnapshotModel). StandsFull sum size (padded end (overwritten device.log.bytes at asked)) (site.place + size) (map begun_segment behind) reach' H s) (sym same) (full (padded end (overwritten device.log.bytes at asked)) (padded_now zeros end));
     blobs = blobs_now;
     inline = inline_now;

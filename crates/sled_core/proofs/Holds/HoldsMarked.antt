@@ -88,7 +88,7 @@ pub marks_higher : (sum : List ℕ → ℕ) (low high : ℕ) (ss : List SegmentP
 marks_higher sum low high ss up marked s among none mark header = less_than mark low high up (marked s among none mark header)
 
 module _ (sum : List ℕ → ℕ) (size : ℕ) (site : SegmentPosition) (device : State) (fault : Option IoError) (bytes : List ℕ) (from : ℕ) (bs : List Sealed) (rs : List Reserved) (H : History)
-    {behind : List SegmentParts} (holds : HoldsIn sum (log_parts size site device fault bytes from bs rs) behind H) (short : length bytes ≤ size) (small_places : All InReach behind) (marked : MarksBelow sum (site.place + from) behind)
+    {behind : List SegmentParts} (holds : HoldsIn sum (log_parts size site device fault bytes from bs rs) behind H) (short : length bytes ≤ size) (small_places : All InReach behind)
     (i : ℕ) (r : Reserved) (there : slice_get rs i ≡ Some r) (is_open : r.state ≡ Open) (manifest : is_manifest r.log_kind r.page ≡ true) (are : AreSealed from rs bs)
     (peg : ℕ) (small : peg < 2 ^ 63) (later : site.place + r.from < peg) (off : LiesOff size site rs bytes peg) (offs : All (IsOff size peg) behind) where
   -- the batch
@@ -132,7 +132,7 @@ module _ (sum : List ℕ → ℕ) (size : ℕ) (site : SegmentPosition) (device 
       behind_fewer sum size device fault (site.place + size) behind (StaysBelow H stable site.place) (StaysBelow now stable site.place) now.batches holds.later (λ x its. stays_below-marks H now b adds stable site.place x its)
       (behind-with sum size device fault (site.place + size) behind (StaysBelow H stable site.place) H.batches holds.later b
       (λ s among. let far = begin_from sum size device fault (site.place + size) behind (StaysBelow H stable site.place) H.batches holds.later holds.others s among in let inside = first_inside in inl (omega (arith, far, inside)))
-      (λ s among. (All-contains (IsOff size peg) behind s offs among).off) small_places (marks_higher sum (site.place + from) b.low behind first_above marked) holds.others)
+      (λ s among. (All-contains (IsOff size peg) behind s offs among).off) small_places (marks_higher sum (site.place + from) b.low behind first_above holds.marked) holds.others)
 
   -- The log holds the history with the batch, begun from the same snapshot.
   pub holds-marked : HoldsIn sum (log_parts size site device fault (written bytes r.from (marking sum bytes r peg)) from (one_ended i bs) (set rs i (ended Manifest r))) behind (noted_history H (record { low = site.place + r.from; peg = peg }))
@@ -144,4 +144,5 @@ module _ (sum : List ℕ → ℕ) (size : ℕ) (site : SegmentPosition) (device 
     own = own_marked;
     others = others_marked;
     apart = holds.apart;
+    marked = holds.marked;
   }

@@ -1,5 +1,5 @@
 -- A log goes on fitting its history at the mark of a batch whose manifest lies in the first segment: it fits the history with the batch.
-use Rattle.std.proofs.Common.{◌≡◌, ◌∙◌, ◌≤◌, ◌<◌, ◌<ℤ◌, pos, ◌+◌, ℕ, List, length, map, Option, None, sym, ap, arith, subst, inr}
+use Rattle.std.proofs.Common.{◌≡◌, ◌∙◌, ◌≤◌, ◌<◌, ◌+◌, ℕ, List, length, map, Option, None, sym, ap, arith, subst, inr}
 use Rattle.std.specs.List.{All, Contains}
 use Rattle.std.specs.declared.io.Error.{Error as IoError}
 use Rattle.sled_codec.specs.History.{AddsBatch, Batch, History, Message}
@@ -83,7 +83,6 @@ module _ (sum : List ℕ → ℕ) (size : ℕ) (site : SegmentPosition) (device 
         ends = λ x there below. fits.ends x (message_was H H' b adds x there) (omega (arith, below, is));
         no_batch = subst (λ n. NoBatchBegins H' reach (site.place + n)) (sym is) (no_batch H H' b adds reach (site.place + from) (inr above) fits.no_batch);
         no_end = subst (λ n. NoBatchEnds H' reach (site.place + n)) (sym is) (no_end H H' b adds reach (site.place + from) above fits.no_end);
-        marked = λ s there none mark header. subst (λ n. mark <ℤ pos (site.place + n)) (sym is) (fits.marked s there none mark header);
         among = λ fine none. subst (λ (s : SnapshotModel). StandsAmong sum size device.log.bytes site from' others reach H' s) same (subst (λ n. StandsAmong sum size device.log.bytes site n others reach H' first) (sym is) (alone_new none));
         beyond = λ to far fine none. subst (λ (s : SnapshotModel). StandsAmong sum size (padded to device.log.bytes) site from' others reach H' s) same
             (subst (λ n. StandsAmong sum size (padded to device.log.bytes) site n others reach H' first) (sym is) (beyond_new to far none));

@@ -1,5 +1,5 @@
 -- How a running log goes on fitting its history at the calls that write nothing.
-use Rattle.std.proofs.Common.{◌≡◌, ◌⊎◌, ◌≢◌, ◌≤◌, ◌<◌, ◌<ℤ◌, pos, ◌+◌, ◌∙◌, max, ℕ, List, [], ◌∷◌, length, map, Option, None, sym, ap, arith, subst, inl, inr}
+use Rattle.std.proofs.Common.{◌≡◌, ◌⊎◌, ◌≢◌, ◌≤◌, ◌<◌, ◌+◌, ◌∙◌, max, ℕ, List, [], ◌∷◌, length, map, Option, None, sym, ap, arith, subst, inl, inr}
 use Rattle.std.specs.List.{Contains}
 use Rattle.std.specs.declared.io.Error.{Error as IoError}
 use Rattle.sled_codec.specs.History.{Message, Batch, History, AddsMessage}
@@ -52,7 +52,6 @@ module _ (sum : List ℕ → ℕ) (size : ℕ) (site : SegmentPosition) (device 
         ends = λ m there below. fits.ends m there (omega (arith, below, is));
         no_batch = subst (λ n. NoBatchBegins H reach (site.place + n)) (sym is) fits.no_batch;
         no_end = subst (λ n. NoBatchEnds H reach (site.place + n)) (sym is) fits.no_end;
-        marked = λ s there none mark header. subst (λ n. mark <ℤ pos (site.place + n)) (sym is) (fits.marked s there none mark header);
         among = λ ok none. subst (λ (s : SnapshotModel). StandsAmong sum size device.log.bytes site from' others reach H s) same (subst (λ n. StandsAmong sum size device.log.bytes site n others reach H first) (sym is) (fits.among ok none));
         beyond = λ to far ok none. subst (λ (s : SnapshotModel). StandsAmong sum size (padded to device.log.bytes) site from' others reach H s) same
             (subst (λ n. StandsAmong sum size (padded to device.log.bytes) site n others reach H first) (sym is) (fits.beyond to far ok none));
@@ -76,7 +75,6 @@ module _ (sum : List ℕ → ℕ) (size : ℕ) (site : SegmentPosition) (device 
     ends = fits.ends;
     no_batch = fits.no_batch;
     no_end = fits.no_end;
-    marked = fits.marked;
     among = fits.among;
     beyond = fits.beyond;
     blobs = fits.blobs;
@@ -104,7 +102,6 @@ module _ (sum : List ℕ → ℕ) (size : ℕ) (site : SegmentPosition) (device 
     ends = fits.ends;
     no_batch = fits.no_batch;
     no_end = fits.no_end;
-    marked = fits.marked;
     among = fits.among;
     beyond = fits.beyond;
     blobs = fits.blobs;
@@ -178,7 +175,6 @@ module _ (sum : List ℕ → ℕ) (size : ℕ) (site : SegmentPosition) (device 
           ends = λ x there below. ends_new x there (omega (arith, below, is));
           no_batch = λ b there. subst (λ n. (b.low < reach) ⊎ (site.place + n ≤ b.low)) (sym is) (fits.no_batch b (subst (λ (l : List Batch). Contains l b) adds.batches there));
           no_end = λ b there. subst (λ n. (b.peg < reach) ⊎ (site.place + n ≤ b.peg)) (sym is) (fits.no_end b (subst (λ (l : List Batch). Contains l b) adds.batches there));
-          marked = λ s there none mark header. subst (λ n. mark <ℤ pos (site.place + n)) (sym is) (fits.marked s there none mark header);
           among = λ fine none. subst (λ (s : SnapshotModel). StandsAmong sum size device.log.bytes site from' others reach H' s) same (subst (λ n. StandsAmong sum size device.log.bytes site n others reach H' first) (sym is) (alone_new none));
           beyond = λ to far fine none. subst (λ (s : SnapshotModel). StandsAmong sum size (padded to device.log.bytes) site from' others reach H' s) same
               (subst (λ n. StandsAmong sum size (padded to device.log.bytes) site n others reach H' first) (sym is) (beyond_new to far none));

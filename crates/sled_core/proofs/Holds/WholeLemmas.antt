@@ -136,5 +136,6 @@ module _ (sum : List ℕ → ℕ) (size : ℕ) (site : SegmentPosition) (device 
               (behind_fewer sum size device fault (site.place + size) behind (StaysBelow H stable site.place) (StaysBelow now stable site.place) H.batches holds.later
               (λ x its. let low = its.1 in (stays_adds H now m adds stable past x (omega (arith, low, above)) its.0, its.1)) holds.others);
           apart = holds.apart;
+          marked = holds.marked;
         },
       )

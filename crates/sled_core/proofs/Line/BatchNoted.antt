@@ -1,4 +1,4 @@
--- The manifest of a ticket ends, and its batch is noted: what is seen of the log then, and that it fits the history with the batch.
+-- The manifest of a ticket ends, and its batch is noted: what is seen of the log then, and that it holds and fits the history with the batch.
 use Rattle.std.proofs.Common.{◌≡◌, ◌∙◌, ◌⊎◌, ◌≤◌, ◌<◌, ◌+◌, ◌-◌, ◌*◌, ◌/◌, ◌<ℤ◌, ◌++◌, ◌∷◌, [], ap, sym, refl, arith, subst, inl, inr, ℕ, suc, pos, Bool, true, List, length, map, set, None, Some}
 use Rattle.std.specs.Prelude.{int_lt, unsigned_abs, if◌then◌else◌}
 use Rattle.std.specs.List.{Contains, slice_get}
@@ -31,11 +31,11 @@ use Rattle.sled_core.proofs.Holds.KeptCalls.{goes_on_quietly, position_further}
 use Rattle.sled_core.proofs.Line.EndedKeeps.{keeps_ended, position_ended}
 use Rattle.sled_core.proofs.Line.EndedLine.{marking_short}
 use Rattle.sled_core.proofs.Line.EndedTickets.{ended_takes, others_await, ticket_among, ticket_there}
-use Rattle.sled_core.proofs.Line.EndsBatch.{fits_noted, line_unwritten}
+use Rattle.sled_core.proofs.Line.EndsBatch.{fits_noted, holds_noted, line_unwritten}
 use Rattle.sled_core.proofs.Line.Facts.{IsSegment, nth_facts}
 use Rattle.sled_core.proofs.Line.Fillings.{log_off}
 use Rattle.sled_core.proofs.Line.LogSpans.{ended_buffers}
-use Rattle.sled_core.proofs.Line.Moves.{fits_as}
+use Rattle.sled_core.proofs.Line.Moves.{fits_as, holds_as}
 use Rattle.sled_core.proofs.Line.OpenManifests.{manifests_ended}
 use Rattle.sled_core.proofs.Reached.OpenBatch.{not_whole-with}
 use Rattle.sled_core.proofs.Reached.StableBelow.{stable_one_more}
@@ -199,7 +199,24 @@ module _ {D C : Type 0} (trace : D → Trace) (sum : List ℕ → ℕ) (old mid 
         subst (λ (l : List SegmentView). AwaitsIn l other m) (sym (noted_line mid new rest ∙ line))
         (others_await old.config.config.segment_size (line_of old) old.site.place n v f.among (nth_facts old) i r f.there f.own.open_yet (marking sum v.parts.bytes r peg) short Manifest sum (state_of (trace old.config.device)) old.fault H holds.holds ticket other m f.own.place awaits elsewhere)
 
-    -- and the log fits the history with the batch.
+    -- and the log holds the history with the batch,
+    pub batch_holds : peg < reserved_end old → ((b : Batch) → Contains (noted_in old) b → (pos b.peg <ℤ place_of ticket) ⊎ (peg < b.low)) → LiesInNoFilling old.config.config.segment_size (line_of old) (pos peg) → (H : History) → Holds trace sum old H
+        → (H' : History) × Step H (Batched (batch_for ticket (pos peg))) H' × Holds trace sum new H'
+    unfolding Holds Step
+    batch_holds within apart lies H holds =
+        let b : Batch = record { low = v.parts.site.place + r.from; peg = peg } in
+        let at = f.own.place in
+        let reach = reserved_in_reach old in
+        let ends = reserved_ends old in
+        let now = holds_noted sum old.config.config.segment_size (state_of (trace old.config.device)) old.fault (line_of old) n v f.among old.site.place (nth_facts old) i r f.there f.own.open_yet (of_manifest old ticket n index f manifest) peg (omega (arith, within, reach)) later (omega (arith, within, ends)) (machine_of old.accountant) (noted_in old)
+        (λ c known. elim (apart c known) [ inl front ↦ inl (omega (arith, ints, front, at)) | inr behind ↦ inr behind ]) H (log_off old peg within lies) holds in (
+          noted_history H b,
+          subst (λ (x : Batch). AddsBatch H x (noted_history H b)) (λ j. record { low = (sym begins ∙ low_is) j; peg = peg }) (noted_adds H b later),
+          holds_as trace sum old new now_config (rest.fault ∙ ended.fault) (noted_in old ++ b ∷ []) now_noted (set (line_of old) n (ended_now i r (marking sum v.parts.bytes r peg) Manifest v)) (noted_line mid new rest ∙ line) (machine_of old.accountant)
+              (ap machine_of (rest.accountant ∙ ended.accountant)) (noted_history H b) now,
+        )
+
+    -- and fits it.
     pub batch_fits : fault_of old ≡ None → peg < reserved_end old → ((b : Batch) → Contains (noted_in old) b → (pos b.peg <ℤ place_of ticket) ⊎ (peg < b.low)) → LiesInNoFilling old.config.config.segment_size (line_of old) (pos peg) → (H : History) (A f' : ℕ) (U : List Message) → Fits trace sum old H A f' U
         → (H' : History) × Step H (Batched (batch_for ticket (pos peg))) H' × Fits trace sum new H' A f' U
     unfolding Fits Step

@@ -121,15 +121,17 @@ module _ (sum : List ℕ → ℕ) (size : ℕ) (device : State) (fault : Option 
 
     -- What the others hold is held with it,
     pub line_begun : (stable : ℕ) (line : List SegmentView) → stable ≤ written_to line → ((b : Batch) → Contains H.batches b → b.low < stable → b.peg < stable) → CloseBelow place H.batches
-        → place ≡ first_place line + length line * size → FirstShort size line → HasSlots size line device.log.bytes fault m → HoldsLine sum size device fault line H
+        → place ≡ first_place line + length line * size → place < 2 ^ 63 → FirstShort size line → HasSlots size line device.log.bytes fault m → HoldsLine sum size device fault line H
         → HoldsLine sum size device fault (line ++ begun_at place stable ∷ []) H
-    line_begun stable [] low ended within at short has holds = absurd holds
-    line_begun stable (v ∷ vs) low ended within at short has holds =
+    unfolding mark_of marked
+    line_begun stable [] low ended within at small short has holds = absurd holds
+    line_begun stable (v ∷ vs) low ended within at small short has holds =
         subst (λ (ss : List SegmentParts). HoldsIn sum (log_parts size v.parts.site device fault v.parts.bytes v.parts.written_len v.parts.sealed v.parts.reserved) ss H) (sym (map-append parts_in vs (begun_at place stable ∷ [])))
         (behind-begins sum size v.parts.site device fault v.parts.bytes v.parts.written_len v.parts.sealed v.parts.reserved H (map parts_in vs) holds big short
         (record { place = place; slot = next_slot m * size }) (header_at place stable) (place_is v vs at) (mul-mod_left (next_slot m) size) (length-short_header sum (pos place) (pos stable -ℤ pos 1))
         (mark_of stable (v ∷ vs) low ended within at short has v vs refl holds) (next_other m slots size (omega (arith, big)) v (All-head (HasSlot size m) v vs has.taken))
-        (next_others m slots size (omega (arith, big)) vs (All-tail (HasSlot size m) v vs has.taken)) (λ none. has.zeros none (next_slot m) (next_free m slots)) within)
+        (next_others m slots size (omega (arith, big)) vs (All-tail (HasSlot size m) v vs has.taken)) (λ none. has.zeros none (next_slot m) (next_free m slots)) within
+        (mark_lower stable (v.parts.site.place + v.parts.written_len) low) small)
 
     -- and what they fit is fitted.
     pub line_fits_begun : (reach pins A f : ℕ) (U : List Message) (stable : ℕ) (line : List SegmentView) → stable ≤ written_to line → ((b : Batch) → Contains H.batches b → b.low < stable → b.peg < stable) → CloseBelow place H.batches
@@ -245,7 +247,7 @@ module _ (sum : List ℕ → ℕ) (size : ℕ) where
 
       pub holds_next : (H : History) → HoldsWith sum noted size device fault (v ∷ vs) m H → HoldsWith sum noted size device fault next (handed_out place m) H
       holds_next H holds = record {
-        holds = line_begun sum size device fault m big H slots place stable (closed (v ∷ vs)) low (ended H holds.batches) (within H holds.batches) at (closed_short v vs short small) (closed_slots (v ∷ vs) device.log.bytes fault m holds.slots)
+        holds = line_begun sum size device fault m big H slots place stable (closed (v ∷ vs)) low (ended H holds.batches) (within H holds.batches) at in_reach (closed_short v vs short small) (closed_slots (v ∷ vs) device.log.bytes fault m holds.slots)
             (line_closed sum size device fault H v vs closable holds.holds);
         batches = batches_next H holds.batches;
         slots = slots_next holds.slots;

@@ -1,4 +1,4 @@
--- A log whose segments fit a history notes a batch: with the manifest's record ended they fit the history with the batch, which is noted besides.
+-- A log whose segments hold or fit a history notes a batch: with the manifest's record ended they hold or fit the history with the batch, which is noted besides.
 use Rattle.std.proofs.Common.{◌≡◌, ◌⊎◌, ◌≤◌, ◌<◌, ◌+◌, ◌*◌, ◌^◌, ap, sym, refl, arith, subst, inl, inr, ℕ, zero, suc, max, true, List, [], ◌∷◌, ◌++◌, length, map, set, Option, None, Some}
 use Rattle.std.specs.List.{Contains, slice_get}
 use Rattle.std.specs.declared.io.Error.{Error as IoError}
@@ -13,7 +13,7 @@ use Rattle.sled_core.specs.declared.iobuf.ReservationState.TheVariants.{Manifest
 use Rattle.sled_core.specs.declared.iobuf.Reserved.{Reserved}
 use Rattle.sled_core.specs.Begun.{SegmentView}
 use Rattle.sled_core.specs.Buffers.{marking}
-use Rattle.sled_core.specs.Fits.{FitsBatches, HoldBehind, HoldsLine, line_end, parts_in, written_to}
+use Rattle.sled_core.specs.Fits.{FitsBatches, HoldBehind, HoldsLine, HoldsWith, line_end, parts_in, written_to}
 use Rattle.sled_core.specs.Manifests.{is_manifest}
 use Rattle.sled_core.specs.Running.{FitsWith}
 use Rattle.sled_core.specs.Slots.{AreBegun}
@@ -28,7 +28,7 @@ use Rattle.sled_core.proofs.Line.EndedTickets.{entry_low, segment_chain}
 use Rattle.sled_core.proofs.Line.Ends.{line_holds, slots_set, written_inside, written_set}
 use Rattle.sled_core.proofs.Line.Facts.{IsSegment}
 use Rattle.sled_core.proofs.Line.LineEnds.{end_set, first_set}
-use Rattle.sled_core.proofs.Line.Noted.{mark_fits, mark_placed, marks_in}
+use Rattle.sled_core.proofs.Line.Noted.{mark_fits, mark_holds, mark_placed}
 use Rattle.sled_core.proofs.Line.OlderSlots.{entries_noted}
 use Rattle.sled_core.proofs.Reserve.Ranges.{at_there, chain_within}
 
@@ -142,15 +142,24 @@ module _ (sum : List ℕ → ℕ) (size : ℕ) (device : State) (fault : Option 
       (batches_noted (written_to line) (line_end size line) noted H now b (noted_adds H b later) unwritten short (λ c known open_yet. others H fits c known)
       (line_before sum size device fault v i r at is_open (facts n v there) line n place H there facts holds) fits)
 
+  -- What is held then, and fitted, is the history with the batch.
+
+  pub holds_noted : (H : History) → ((k : ℕ) (x : SegmentView) → slice_get line k ≡ Some x → IsOff size peg x.parts) → HoldsWith sum noted size device fault line machine H
+      → HoldsWith sum (noted ++ record { low = v.parts.site.place + r.from; peg = peg } ∷ []) size device fault (set line n (ended_now i r (marking sum v.parts.bytes r peg) Manifest v)) machine (noted_history H (record { low = v.parts.site.place + r.from; peg = peg }))
+  holds_noted H offs holds = record {
+    holds = mark_holds sum size device fault v i r at is_open manifest peg small later line n place H there facts offs holds.holds;
+    batches = batches_now H holds.holds holds.batches;
+    slots = slots_set size line device.log.bytes fault machine n v (ended_now i r (marking sum v.parts.bytes r peg) Manifest v) there (λ j. v.parts.site) holds.slots;
+  }
+
   pub fits_noted : (pins : ℕ) (H : History) (A f : ℕ) (U : List Message) → 256 ≤ size → fault ≡ None → ((k : ℕ) (x : SegmentView) → slice_get line k ≡ Some x → IsOff size peg x.parts) → FitsWith sum noted size device fault line machine pins H A f U
       → FitsWith sum (noted ++ record { low = v.parts.site.place + r.from; peg = peg } ∷ []) size device fault (set line n (ended_now i r (marking sum v.parts.bytes r peg) Manifest v)) machine pins (noted_history H (record { low = v.parts.site.place + r.from; peg = peg })) A f U
   fits_noted pins H A f U least ok offs fits =
       let holds = line_holds sum size device fault line fits.reach pins H A f U fits.parts in
-      let marks = marks_in sum size device fault line fits.reach pins H A f U fits.parts in
       record {
         reach = fits.reach;
         parts = mark_fits sum size device fault v i r at is_open manifest peg small later line n place fits.reach pins H A f U least ok there facts offs
-            (λ placed. mark_placed sum size device fault v i r at is_open manifest peg small later line n place H there facts offs marks holds placed (others H fits.batches)) fits.parts;
+            (λ placed. mark_placed sum size device fault v i r at is_open manifest peg small later line n place H there facts offs holds placed (others H fits.batches)) fits.parts;
         batches = batches_now H holds fits.batches;
         slots = slots_set size line device.log.bytes fault machine n v (ended_now i r (marking sum v.parts.bytes r peg) Manifest v) there (λ j. v.parts.site) fits.slots;
         begun = λ none. subst (λ p. AreBegun sum size device.log.bytes p machine) (sym (first_set line n v (ended_now i r (marking sum v.parts.bytes r peg) Manifest v) there (λ j. v.parts.site))) (fits.begun none);

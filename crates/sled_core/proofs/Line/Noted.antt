@@ -15,8 +15,7 @@ use Rattle.sled_core.specs.Recoverable.{BeginsInSegment, IsPlacedBatch}
 use Rattle.sled_core.specs.Running.{FitsIn, FitsLine}
 use Rattle.sled_core.specs.Turned.{ended_now}
 use Rattle.sled_core.proofs.Behind.FitsMarked.{behind-fits-marked}
-use Rattle.sled_core.proofs.Behind.FitsMoved.{MarksBelow}
-use Rattle.sled_core.proofs.Behind.HoldsMarked.{batch_above, batch_alone, batch_head, batch_inside, behind-holds-marked}
+use Rattle.sled_core.proofs.Behind.HoldsMarked.{batch_above, batch_alone, batch_inside, behind-holds-marked}
 use Rattle.sled_core.proofs.Holds.HoldsMarked.{InReach, first_above, first_alone, first_inside, first_long, holds-marked, noted_adds, noted_history}
 use Rattle.sled_core.proofs.Holds.MarkedLemmas.{fits-marked}
 use Rattle.sled_core.proofs.Holds.PegLemmas.{IsOff}
@@ -24,16 +23,6 @@ use Rattle.sled_core.proofs.Holds.PlacedBatches.{begins_there, placed-with}
 use Rattle.sled_core.proofs.Line.Ends.{with_segment}
 use Rattle.sled_core.proofs.Line.Facts.{IsSegment}
 use Rattle.sled_core.proofs.Line.Nth.{parts_set, parts_split}
-
--- Segments behind the first one of which nothing is written have marks below what is written of that.
-abbrev pub MarksIn : (List ℕ → ℕ) → List SegmentView → Type 0
-MarksIn sum [] = Unit {0}
-MarksIn sum (v ∷ vs) = MarksBelow sum (v.parts.site.place + v.parts.written_len) (map parts_in vs)
-
--- So it is with the segments that fit a history.
-pub marks_in : (sum : List ℕ → ℕ) (size : ℕ) (device : State) (fault : Option IoError) (line : List SegmentView) (reach pins : ℕ) (H : History) (A f : ℕ) (U : List Message) → FitsLine sum size device fault line reach pins H A f U → MarksIn sum line
-marks_in sum size device fault [] reach pins H A f U fits = tt
-marks_in sum size device fault (v ∷ vs) reach pins H A f U fits = fits.marked
 
 -- A place lies in nothing that fills one of the segments.
 pub all_off : (size peg : ℕ) (vs : List SegmentView) → ((k : ℕ) (x : SegmentView) → slice_get vs k ≡ Some x → IsOff size peg x.parts) → All (IsOff size peg) (map parts_in vs)
@@ -62,37 +51,33 @@ module _ (sum : List ℕ → ℕ) (size : ℕ) (device : State) (fault : Option 
     noted = ended_now i r (marking sum v.parts.bytes r peg) Manifest v
 
     -- The segments hold the history with its batch,
-    pub mark_holds : (line : List SegmentView) (n place : ℕ) (H : History) → slice_get line n ≡ Some v → ((k : ℕ) (x : SegmentView) → slice_get line k ≡ Some x → IsSegment size (place + k * size) x) → ((k : ℕ) (x : SegmentView) → slice_get line k ≡ Some x → IsOff size peg x.parts) → MarksIn sum line
+    pub mark_holds : (line : List SegmentView) (n place : ℕ) (H : History) → slice_get line n ≡ Some v → ((k : ℕ) (x : SegmentView) → slice_get line k ≡ Some x → IsSegment size (place + k * size) x) → ((k : ℕ) (x : SegmentView) → slice_get line k ≡ Some x → IsOff size peg x.parts)
         → HoldsLine sum size device fault line H → HoldsLine sum size device fault (set line n (ended_now i r (marking sum v.parts.bytes r peg) Manifest v)) (noted_history H (record { low = v.parts.site.place + r.from; peg = peg }))
-    mark_holds [] n place H there facts offs marked holds = cc
-    mark_holds (w ∷ ws) zero place H there facts offs marked holds =
+    mark_holds [] n place H there facts offs holds = cc
+    mark_holds (w ∷ ws) zero place H there facts offs holds =
         let same : w ≡ v = cc in
         let its : HoldsLine sum size device fault (v ∷ ws) H = subst (λ (x : SegmentView). HoldsLine sum size device fault (x ∷ ws) H) same holds in
-        let marks : MarksIn sum (v ∷ ws) = subst (λ (x : SegmentView). MarksIn sum (x ∷ ws)) same marked in
         let own = facts zero v there in
-        holds-marked sum size v.parts.site device fault v.parts.bytes v.parts.written_len v.parts.sealed v.parts.reserved H its own.short (behind_reach w ws place facts) marks i r at is_open manifest own.are peg small later (offs zero v there).off (all_off size peg ws (λ k x among. offs (suc k) x among))
-    mark_holds (w ∷ ws) (suc k) place H there facts offs marked holds =
+        holds-marked sum size v.parts.site device fault v.parts.bytes v.parts.written_len v.parts.sealed v.parts.reserved H its own.short (behind_reach w ws place facts) i r at is_open manifest own.are peg small later (offs zero v there).off (all_off size peg ws (λ k x among. offs (suc k) x among))
+    mark_holds (w ∷ ws) (suc k) place H there facts offs holds =
         let its : HoldsIn sum (parts_of w) (map parts_in (take k ws) ++ v.parts ∷ map parts_in (drop (suc k) ws)) H = subst (λ (l : List SegmentParts). HoldsIn sum (parts_of w) l H) (parts_split ws k v there) holds in
         let reached : All InReach (map parts_in (take k ws) ++ v.parts ∷ map parts_in (drop (suc k) ws)) = subst (All InReach) (parts_split ws k v there) (behind_reach w ws place facts) in
-        let marks : MarksBelow sum (w.parts.site.place + w.parts.written_len) (map parts_in (take k ws) ++ v.parts ∷ map parts_in (drop (suc k) ws)) = subst (MarksBelow sum (w.parts.site.place + w.parts.written_len)) (parts_split ws k v there) marked in
         subst (λ (l : List SegmentParts). HoldsIn sum (parts_of w) l (noted_history H b)) (sym (parts_set ws k v noted there))
-        (behind-holds-marked sum size w.parts.site device fault w.parts.bytes w.parts.written_len w.parts.sealed w.parts.reserved H (map parts_in (take k ws)) v.parts (map parts_in (drop (suc k) ws)) its (facts zero w refl).short reached marks i r at is_open manifest peg small later (offs zero w refl).off (subst (All (IsOff size peg)) (parts_split ws k v there) (all_off size peg ws (λ j x among. offs (suc j) x among))))
+        (behind-holds-marked sum size w.parts.site device fault w.parts.bytes w.parts.written_len w.parts.sealed w.parts.reserved H (map parts_in (take k ws)) v.parts (map parts_in (drop (suc k) ws)) its (facts zero w refl).short reached i r at is_open manifest peg small later (offs zero w refl).off (subst (All (IsOff size peg)) (parts_split ws k v there) (all_off size peg ws (λ j x among. offs (suc j) x among))))
 
     -- in which no other batch begins where it does,
-    pub mark_alone : (line : List SegmentView) (n place : ℕ) (H : History) → slice_get line n ≡ Some v → ((k : ℕ) (x : SegmentView) → slice_get line k ≡ Some x → IsSegment size (place + k * size) x) → ((k : ℕ) (x : SegmentView) → slice_get line k ≡ Some x → IsOff size peg x.parts) → MarksIn sum line
+    pub mark_alone : (line : List SegmentView) (n place : ℕ) (H : History) → slice_get line n ≡ Some v → ((k : ℕ) (x : SegmentView) → slice_get line k ≡ Some x → IsSegment size (place + k * size) x) → ((k : ℕ) (x : SegmentView) → slice_get line k ≡ Some x → IsOff size peg x.parts)
         → HoldsLine sum size device fault line H → (c : Batch) → Contains H.batches c → c.low ≡ v.parts.site.place + r.from → ⊥
-    mark_alone [] n place H there facts offs marked holds c among alike = cc
-    mark_alone (w ∷ ws) zero place H there facts offs marked holds c among alike =
+    mark_alone [] n place H there facts offs holds c among alike = cc
+    mark_alone (w ∷ ws) zero place H there facts offs holds c among alike =
         let same : w ≡ v = cc in
         let its : HoldsLine sum size device fault (v ∷ ws) H = subst (λ (x : SegmentView). HoldsLine sum size device fault (x ∷ ws) H) same holds in
-        let marks : MarksIn sum (v ∷ ws) = subst (λ (x : SegmentView). MarksIn sum (x ∷ ws)) same marked in
         let own = facts zero v there in
-        first_alone sum size v.parts.site device fault v.parts.bytes v.parts.written_len v.parts.sealed v.parts.reserved H its own.short (behind_reach w ws place facts) marks i r at is_open manifest own.are peg small later (offs zero v there).off (all_off size peg ws (λ k x among. offs (suc k) x among)) c among alike
-    mark_alone (w ∷ ws) (suc k) place H there facts offs marked holds c among alike =
+        first_alone sum size v.parts.site device fault v.parts.bytes v.parts.written_len v.parts.sealed v.parts.reserved H its own.short (behind_reach w ws place facts) i r at is_open manifest own.are peg small later (offs zero v there).off (all_off size peg ws (λ k x among. offs (suc k) x among)) c among alike
+    mark_alone (w ∷ ws) (suc k) place H there facts offs holds c among alike =
         let its : HoldsIn sum (parts_of w) (map parts_in (take k ws) ++ v.parts ∷ map parts_in (drop (suc k) ws)) H = subst (λ (l : List SegmentParts). HoldsIn sum (parts_of w) l H) (parts_split ws k v there) holds in
         let reached : All InReach (map parts_in (take k ws) ++ v.parts ∷ map parts_in (drop (suc k) ws)) = subst (All InReach) (parts_split ws k v there) (behind_reach w ws place facts) in
-        let marks : MarksBelow sum (w.parts.site.place + w.parts.written_len) (map parts_in (take k ws) ++ v.parts ∷ map parts_in (drop (suc k) ws)) = subst (MarksBelow sum (w.parts.site.place + w.parts.written_len)) (parts_split ws k v there) marked in
-        batch_alone sum size w.parts.site device fault w.parts.bytes w.parts.written_len w.parts.sealed w.parts.reserved H (map parts_in (take k ws)) v.parts (map parts_in (drop (suc k) ws)) its (facts zero w refl).short reached marks i r at is_open manifest peg small later (offs zero w refl).off (subst (All (IsOff size peg)) (parts_split ws k v there) (all_off size peg ws (λ j x among. offs (suc j) x among))) c among alike
+        batch_alone sum size w.parts.site device fault w.parts.bytes w.parts.written_len w.parts.sealed w.parts.reserved H (map parts_in (take k ws)) v.parts (map parts_in (drop (suc k) ws)) its (facts zero w refl).short reached i r at is_open manifest peg small later (offs zero w refl).off (subst (All (IsOff size peg)) (parts_split ws k v there) (all_off size peg ws (λ j x among. offs (suc j) x among))) c among alike
 
     -- and which begins where a record can.
     pub mark_begins : (line : List SegmentView) (n : ℕ) (H : History) → slice_get line n ≡ Some v → HoldsLine sum size device fault line H → BeginsInSegment size (v.parts.site.place + r.from)
@@ -100,11 +85,11 @@ module _ (sum : List ℕ → ℕ) (size : ℕ) (device : State) (fault : Option 
         (λ stays own segment. begins_there sum size v.parts.site device fault v.parts.bytes v.parts.written_len v.parts.sealed v.parts.reserved own segment i r at is_open)
 
     -- So all batches are placed, where those that were are, and each of them ends in front of this one or begins behind it.
-    pub mark_placed : (line : List SegmentView) (n place : ℕ) (H : History) → slice_get line n ≡ Some v → ((k : ℕ) (x : SegmentView) → slice_get line k ≡ Some x → IsSegment size (place + k * size) x) → ((k : ℕ) (x : SegmentView) → slice_get line k ≡ Some x → IsOff size peg x.parts) → MarksIn sum line
+    pub mark_placed : (line : List SegmentView) (n place : ℕ) (H : History) → slice_get line n ≡ Some v → ((k : ℕ) (x : SegmentView) → slice_get line k ≡ Some x → IsSegment size (place + k * size) x) → ((k : ℕ) (x : SegmentView) → slice_get line k ≡ Some x → IsOff size peg x.parts)
         → HoldsLine sum size device fault line H → ((c : Batch) → Contains H.batches c → IsPlacedBatch size H c) → ((c : Batch) → Contains H.batches c → (c.peg < v.parts.site.place + r.from) ⊎ (peg < c.low))
         → (c : Batch) → Contains (noted_history H (record { low = v.parts.site.place + r.from; peg = peg })).batches c → IsPlacedBatch size (noted_history H (record { low = v.parts.site.place + r.from; peg = peg })) c
-    mark_placed line n place H there facts offs marked holds placed apart =
-        placed-with size H (noted_history H b) b (noted_adds H b later) placed (mark_begins line n H there holds) (mark_alone line n place H there facts offs marked holds) apart
+    mark_placed line n place H there facts offs holds placed apart =
+        placed-with size H (noted_history H b) b (noted_adds H b later) placed (mark_begins line n H there holds) (mark_alone line n place H there facts offs holds) apart
 
     -- The segments fit the history with the batch.
     pub mark_fits : (line : List SegmentView) (n place reach pins : ℕ) (H : History) (A f : ℕ) (U : List Message) → 256 ≤ size → fault ≡ None → slice_get line n ≡ Some v
@@ -118,13 +103,13 @@ module _ (sum : List ℕ → ℕ) (size : ℕ) (device : State) (fault : Option 
         let its : FitsLine sum size device fault (v ∷ ws) reach pins H A f U = subst (λ (x : SegmentView). FitsLine sum size device fault (x ∷ ws) reach pins H A f U) same fits in
         let own = facts zero v there in
         let reached = behind_reach w ws place facts in
-        let long = first_long sum size v.parts.site device fault v.parts.bytes v.parts.written_len v.parts.sealed v.parts.reserved H its.holds own.short reached its.marked i r at is_open manifest own.are peg small later (offs zero v there).off (all_off size peg ws (λ k x among. offs (suc k) x among)) in
+        let long = first_long sum size v.parts.site device fault v.parts.bytes v.parts.written_len v.parts.sealed v.parts.reserved H its.holds own.short reached i r at is_open manifest own.are peg small later (offs zero v there).off (all_off size peg ws (λ k x among. offs (suc k) x among)) in
         let short = own.short in
         fits-marked sum size v.parts.site device fault v.parts.bytes v.parts.written_len v.parts.sealed v.parts.reserved pins H A f U its _ _ _ _ (noted_history H b) b refl least (omega (arith, long, short)) ok
-        (holds-marked sum size v.parts.site device fault v.parts.bytes v.parts.written_len v.parts.sealed v.parts.reserved H its.holds own.short reached its.marked i r at is_open manifest own.are peg small later (offs zero v there).off (all_off size peg ws (λ k x among. offs (suc k) x among)))
+        (holds-marked sum size v.parts.site device fault v.parts.bytes v.parts.written_len v.parts.sealed v.parts.reserved H its.holds own.short reached i r at is_open manifest own.are peg small later (offs zero v there).off (all_off size peg ws (λ k x among. offs (suc k) x among)))
         (noted_adds H b later) placing later (all_off size peg ws (λ k x among. offs (suc k) x among))
-        (first_above sum size v.parts.site device fault v.parts.bytes v.parts.written_len v.parts.sealed v.parts.reserved H its.holds own.short reached its.marked i r at is_open manifest own.are peg small later (offs zero v there).off (all_off size peg ws (λ k x among. offs (suc k) x among)))
-        (first_inside sum size v.parts.site device fault v.parts.bytes v.parts.written_len v.parts.sealed v.parts.reserved H its.holds own.short reached its.marked i r at is_open manifest own.are peg small later (offs zero v there).off (all_off size peg ws (λ k x among. offs (suc k) x among))) own.fresh own.are
+        (first_above sum size v.parts.site device fault v.parts.bytes v.parts.written_len v.parts.sealed v.parts.reserved H its.holds own.short reached i r at is_open manifest own.are peg small later (offs zero v there).off (all_off size peg ws (λ k x among. offs (suc k) x among)))
+        (first_inside sum size v.parts.site device fault v.parts.bytes v.parts.written_len v.parts.sealed v.parts.reserved H its.holds own.short reached i r at is_open manifest own.are peg small later (offs zero v there).off (all_off size peg ws (λ k x among. offs (suc k) x among))) own.fresh own.are
     mark_fits (w ∷ ws) (suc k) place reach pins H A f U least ok there facts offs placing fits =
         let pre : List SegmentParts = map parts_in (take k ws) in
         let post : List SegmentParts = map parts_in (drop (suc k) ws) in
@@ -133,10 +118,9 @@ module _ (sum : List ℕ → ℕ) (size : ℕ) (device : State) (fault : Option 
         let short : length w.parts.bytes ≤ size = (facts zero w refl).short in
         subst (λ (l : List SegmentParts). FitsIn sum (parts_of w) l reach pins (noted_history H b) A f U) (sym (parts_set ws k v noted there))
         (behind-fits-marked sum size w.parts.site device fault w.parts.bytes w.parts.written_len w.parts.sealed w.parts.reserved pins H A f U pre v.parts post its noted.parts refl refl refl
-        (λ none. batch_head sum size w.parts.site device fault w.parts.bytes w.parts.written_len w.parts.sealed w.parts.reserved H pre v.parts post its.holds short reached its.marked i r at is_open manifest peg small later (offs zero w refl).off (subst (All (IsOff size peg)) (parts_split ws k v there) (all_off size peg ws (λ j x among. offs (suc j) x among))))
         (noted_history H b) b least short ok
-        (behind-holds-marked sum size w.parts.site device fault w.parts.bytes w.parts.written_len w.parts.sealed w.parts.reserved H pre v.parts post its.holds short reached its.marked i r at is_open manifest peg small later (offs zero w refl).off (subst (All (IsOff size peg)) (parts_split ws k v there) (all_off size peg ws (λ j x among. offs (suc j) x among))))
+        (behind-holds-marked sum size w.parts.site device fault w.parts.bytes w.parts.written_len w.parts.sealed w.parts.reserved H pre v.parts post its.holds short reached i r at is_open manifest peg small later (offs zero w refl).off (subst (All (IsOff size peg)) (parts_split ws k v there) (all_off size peg ws (λ j x among. offs (suc j) x among))))
         (noted_adds H b later) placing later (subst (All (IsOff size peg)) (parts_split ws k v there) (all_off size peg ws (λ j x among. offs (suc j) x among)))
-        (batch_above sum size w.parts.site device fault w.parts.bytes w.parts.written_len w.parts.sealed w.parts.reserved H pre v.parts post its.holds short reached its.marked i r at is_open manifest peg small later (offs zero w refl).off (subst (All (IsOff size peg)) (parts_split ws k v there) (all_off size peg ws (λ j x among. offs (suc j) x among))))
-        (batch_inside sum size w.parts.site device fault w.parts.bytes w.parts.written_len w.parts.sealed w.parts.reserved H pre v.parts post its.holds short reached its.marked i r at is_open manifest peg small later (offs zero w refl).off (subst (All (IsOff size peg)) (parts_split ws k v there) (all_off size peg ws (λ j x among. offs (suc j) x among))))
+        (batch_above sum size w.parts.site device fault w.parts.bytes w.parts.written_len w.parts.sealed w.parts.reserved H pre v.parts post its.holds short reached i r at is_open manifest peg small later (offs zero w refl).off (subst (All (IsOff size peg)) (parts_split ws k v there) (all_off size peg ws (λ j x among. offs (suc j) x among))))
+        (batch_inside sum size w.parts.site device fault w.parts.bytes w.parts.written_len w.parts.sealed w.parts.reserved H pre v.parts post its.holds short reached i r at is_open manifest peg small later (offs zero w refl).off (subst (All (IsOff size peg)) (parts_split ws k v there) (all_off size peg ws (λ j x among. offs (suc j) x among))))
         (facts (suc k) v there).fresh)

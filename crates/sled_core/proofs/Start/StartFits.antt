@@ -9,7 +9,6 @@ use Rattle.sled_codec.specs.History.{Batch, Message, History}
 use Rattle.sled_codec.specs.Snapshots.{SnapshotModel, stable_place}
 use Rattle.sled_store.specs.Device.{LogState, NamesState, State, at_rest}
 use Rattle.sled_store.specs.declared.segment.start.Beginning.{Beginning}
-use Rattle.sled_store.proofs.Segments.Elements.{in_nothing}
 use Rattle.sled_core.specs.declared.iobuf.Reserved.{Reserved}
 use Rattle.sled_core.specs.declared.iobuf.Sealed.{Sealed}
 use Rattle.sled_core.specs.declared.iobuf.SegmentPosition.{SegmentPosition}
@@ -81,7 +80,6 @@ module _ (sum : List ℕ → ℕ) (size : ℕ) (device now : State) (s : Snapsho
           ends = λ m there below. let low = All-contains (λ (x : Message). (x.place < stable) × (x.place + x.size ≤ stable)) H.messages m ready.ready.below there in (omega (arith, low.0, end), omega (arith, low.1, end));
           no_batch = λ b there. cases_lt b.low (site.place + from);
           no_end = λ b there. cases_lt b.peg (site.place + from);
-          marked = λ x there. absurd (in_nothing x there);
           among = λ none zeros. subst (λ (l : List ℕ). StandsAlone sum size l site from (site.place + from) H holds.begun.first) (sym bytes_now) (begins_alone sum size new s holds.begun.first H site from same end begins own behind (active_now zeros));
           beyond = λ to far none zeros. subst (λ (l : List ℕ). StandsAlone sum size (padded to l) site from (site.place + from) H holds.begun.first) (sym bytes_now)
               (begins_alone sum size (padded to new) s holds.begun.first H site from same end begins own behind (beyond clean to zeros));

@@ -6,7 +6,7 @@ ghost use Rattle.std.specs.Prelude.{ℕ, List, ◌≡◌, ◌<◌, ◌⊎◌, �
 ghost use Rattle.sled_codec.specs.History.{Batch, Batched, History, Message, Step};
 ghost use Rattle.sled_core.specs.Batches.{EndsBatch, LiesInNoFilling, MayEndAt, NotesBatchOf, batch_for};
 ghost use Rattle.sled_core.specs.Causes.{FaultAnswers};
-ghost use Rattle.sled_core.specs.Fits.{Awaits, IsOpen, KeepsBuffers, fault_of, line_of, noted_in, open_places, reserved_end, segment_size_of};
+ghost use Rattle.sled_core.specs.Fits.{Awaits, Holds, IsOpen, KeepsBuffers, fault_of, line_of, noted_in, open_places, reserved_end, segment_size_of};
 ghost use Rattle.sled_core.specs.Keeps.{GoesOn, KeepsOthers, Preserves, SamePosition};
 ghost use Rattle.sled_core.specs.OpenPlaces.{TakesOutPlaceOf};
 ghost use Rattle.sled_core.specs.Running.{Fits};
@@ -35,6 +35,8 @@ impl<D: Device, C: Checksum> Log<D, C> {
         requires manifest { is_manifest_of ticket ≡ true }
         requires pegged { MayEndAt self.old ticket peg }
         ensures place { IfOk result (IsPlaceOf ticket) }
+        ensures history { (H : History) → Holds D.trace C.sum_of self.old H
+            → OnOk result ((H' : History) × EndsBatch H ticket peg H' × Holds D.trace C.sum_of self.new H') }
         ensures fits { (H : History) (A f : ℕ) (U : List Message) → Fits D.trace C.sum_of self.old H A f U
             → OnOk result ((H' : History) × EndsBatch H ticket peg H' × Fits D.trace C.sum_of self.new H' A f U) }
         ensures canceled { peg ≡ place_of ticket → Preserves D.trace C.sum_of self.old self.new }
@@ -91,6 +93,8 @@ impl<D: Device, C: Checksum> Log<D, C> {
         requires filled { LiesInNoFilling (segment_size_of self.old) (line_of self.old) (pos peg) }
         requires apart { (b : Batch) → Contains (noted_in self.old) b → (pos b.peg <ℤ place_of ticket) ⊎ (peg < b.low) }
         ensures place { IfOk result (IsPlaceOf ticket) }
+        ensures history { (H : History) → Holds D.trace C.sum_of self.old H
+            → OnOk result ((H' : History) × Step H (Batched (batch_for ticket (pos peg))) H' × Holds D.trace C.sum_of self.new H') }
         ensures fits { (H : History) (A f : ℕ) (U : List Message) → Fits D.trace C.sum_of self.old H A f U
             → OnOk result ((H' : History) × Step H (Batched (batch_for ticket (pos peg))) H' × Fits D.trace C.sum_of self.new H' A f U) }
         ensures others { KeepsOthers D.trace C.sum_of ticket self.old self.new }

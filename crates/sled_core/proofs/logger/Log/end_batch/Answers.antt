@@ -5,7 +5,7 @@ use Rattle.sled_core.specs.Fits.{line_of}
 use Rattle.sled_core.specs.OpenPlaces.{open_manifests}
 use Rattle.sled_core.specs.Tickets.{place_of}
 use Rattle.sled_core.proofs.Holds.KeptCalls.{goes_on_still}
-use Rattle.sled_core.proofs.Line.BatchNoted.{IsReservedAt, batch_buffers, batch_fits, batch_goes_on, batch_opens, batch_others, batch_position, batch_same, body_there, one_fewer_open, reserved_at}
+use Rattle.sled_core.proofs.Line.BatchNoted.{IsReservedAt, batch_buffers, batch_fits, batch_goes_on, batch_holds, batch_opens, batch_others, batch_position, batch_same, body_there, one_fewer_open, reserved_at}
 use Rattle.sled_core.proofs.Line.EndedTickets.{says_place, ticket_above, ticket_open}
 use Rattle.sled_core.proofs.logger.Log.end_batch.Given as given
 use Rattle.sled_core.proofs.logger.Log.end_batch.Goals as goal
@@ -58,6 +58,14 @@ there : (g : given.Over) (c : goal.After-note g) → IsReservedAt c.args.self.no
 there g c =
     let place : c.unsigned_abs-low.result ≡ unsigned_abs (place_of c.args.ticket) = c.unsigned_abs-low.ensures.value ∙ says_place c.lsn-place.result (place_of c.args.ticket) c.lsn-place.type_inv c.lsn-place.ensures in
     reserved_at c.args.self.now c.args.ticket c.requires.awaited.0 c.requires.awaited.1 c.unsigned_abs-low.result c.segment_of-n.result c.index-index.result place c.segment_of-n.ensures c.index-index.ensures
+
+pub returns-clause-history : goal.returns-clause-history
+returns-clause-history g c =
+    let f = there g c in
+    let place : c.unsigned_abs-low.result ≡ unsigned_abs (place_of c.args.ticket) = c.unsigned_abs-low.ensures.value ∙ says_place c.lsn-place.result (place_of c.args.ticket) c.lsn-place.type_inv c.lsn-place.ensures in
+    batch_holds g.D.Device.trace g.C.Checksum.sum_of c.args.self.now c.mark_batch_in.new.self c.note.new.self c.args.ticket c.segment_of-n.result c.index-index.result f c.requires.manifest c.args.peg
+    (c.mark_batch_in.ensures.line f.segment f.reserved f.among f.there) c.mark_batch_in.ensures.rest c.note.ensures.rest c.unsigned_abs-low.result place
+    c.note.ensures.noted c.requires.above c.requires.reserved c.requires.apart c.requires.filled
 
 pub returns-clause-fits : goal.returns-clause-fits
 returns-clause-fits g c =

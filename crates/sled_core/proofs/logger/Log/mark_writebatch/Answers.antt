@@ -25,6 +25,12 @@ end_batch-requires-clause-filled g c =
     let same = peg_is c.args.peg (place_of c.args.ticket) _ c.unsigned_abs.result _ (to_z-of_z w64 c.args.peg c.ranges.peg) c.unsigned_abs.ensures.value c.requires.awaited.1.own.place c.requires.pegged.above in
     subst (LiesInNoFilling (segment_size_of log) (line_of log)) same c.requires.pegged.filled
 
+pub returns-clause-history : goal.returns-clause-history
+returns-clause-history g c H holds =
+    let same = peg_is c.args.peg (place_of c.args.ticket) _ c.unsigned_abs.result _ (to_z-of_z w64 c.args.peg c.ranges.peg) c.unsigned_abs.ensures.value c.requires.awaited.1.own.place c.requires.pegged.above in
+    let later = strictly (place_of c.args.ticket) c.args.peg c.requires.pegged.above (λ is. c.if-peg-lsn.false (ap (of_z w64) (is ∙ sym c.lsn.ensures))) in
+    on_ok c.end_batch.result _ _ (λ done. (done.0, inr (later, subst (λ z. Step H (Batched (batch_for c.args.ticket z)) done.0) (sym same) done.1), done.2)) (c.end_batch.ensures.history H holds)
+
 pub returns-clause-fits : goal.returns-clause-fits
 returns-clause-fits g c H A f U fits =
     let same = peg_is c.args.peg (place_of c.args.ticket) _ c.unsigned_abs.result _ (to_z-of_z w64 c.args.peg c.ranges.peg) c.unsigned_abs.ensures.value c.requires.awaited.1.own.place c.requires.pegged.above in
