@@ -25,7 +25,7 @@ begins_as sum size log blobs least ahead after then begins =
     let behind = begins.2 in
     (begins.0, begins.1, (behind.0, behind.1, behind.2, begun_as sum size log blobs begins.0 ahead after then (tail_end behind.0) behind.3))
 
-module _ {D C : Type 0} (trace : D → Trace) (sum : List ℕ → ℕ) (config : RunningConfig D C) (r : Rest) (ss : List Segment) where
+module _ {D C : Type 0} (trace : D → Trace) (sum : List ℕ → ℕ) (config : RunningConfig D C) (r : Rest) (strict : r.strict ≡ false) (ss : List Segment) where
   abbrev log : List ℕ
   log = (state_of (trace config.device)).log.bytes
 
@@ -45,12 +45,13 @@ module _ {D C : Type 0} (trace : D → Trace) (sum : List ℕ → ℕ) (config :
   left_begun None segments end read met given inside =
       let no_segment = ap length (segments ∙ none_begun ss) in
       let no_record = ap length met in
-      left_spent trace sum config r [] false (inside_begun 0 segments inside) (omega (arith, no_segment), omega (arith, no_record)) refl refl
+      left_spent trace sum config r [] false (λ _. inside_begun 0 segments inside) (omega (arith, no_segment), omega (arith, no_record)) refl refl
   left_begun (Some last) segments end read met given inside = λ items damaged is. (
-    inside_begun last segments inside,
-    subst (λ n. GivesOf sum blobs n (drop r.given r.met.items) (IsIteration sum size log blobs n (drop r.read r.segments.items)) items damaged) (sym end)
-        (subst (λ n. GivesOf sum blobs last (drop n r.met.items) (IsIteration sum size log blobs last (drop r.read r.segments.items)) items damaged) (sym given)
-        (subst (λ (ms : List ScannedRecord). GivesOf sum blobs last ms (IsIteration sum size log blobs last (drop r.read r.segments.items)) items damaged) (sym met)
-        (subst (λ n. IsIteration sum size log blobs last (drop n r.segments.items) items damaged) (sym read)
-        (subst (λ (l : List Segment). IsIteration sum size log blobs last l items damaged) (sym segments) is)))),
+    λ _. inside_begun last segments inside,
+    subst (λ (b : Bool). GivesOf sum blobs r.end (drop r.given r.met.items) (IsIteration sum size log blobs r.end b (drop r.read r.segments.items)) items damaged) (sym strict)
+        (subst (λ n. GivesOf sum blobs n (drop r.given r.met.items) (IsIteration sum size log blobs n false (drop r.read r.segments.items)) items damaged) (sym end)
+        (subst (λ n. GivesOf sum blobs last (drop n r.met.items) (IsIteration sum size log blobs last false (drop r.read r.segments.items)) items damaged) (sym given)
+        (subst (λ (ms : List ScannedRecord). GivesOf sum blobs last ms (IsIteration sum size log blobs last false (drop r.read r.segments.items)) items damaged) (sym met)
+        (subst (λ n. IsIteration sum size log blobs last false (drop n r.segments.items) items damaged) (sym read)
+        (subst (λ (l : List Segment). IsIteration sum size log blobs last false l items damaged) (sym segments) is))))),
   )

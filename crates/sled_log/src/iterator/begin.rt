@@ -1,5 +1,5 @@
 //! Where an iterator begins: the segments are found and the tail of the log is read, and then nothing more.
-ghost use Rattle.std.specs.Prelude.{◌≡◌, ◌+◌, ◌*◌, ◌/◌, ◌%◌, ◌^◌, ◌<◌, ℕ, true, List, [], IfOk, unwrap_or};
+ghost use Rattle.std.specs.Prelude.{◌≡◌, ◌+◌, ◌*◌, ◌/◌, ◌%◌, ◌^◌, ◌<◌, ℕ, true, false, None, List, [], IfOk, unwrap_or};
 ghost use Rattle.std.specs.List.{All};
 ghost use Rattle.sled_codec.specs.Errors.{IsCorruption};
 ghost use Rattle.sled_store.specs.Device.{state_of};
@@ -107,6 +107,7 @@ fn tail_end<D: Device, C: Checksum>(
 fn rest_of<D, C>(config: &RunningConfig<D, C>, segments: Vec<Segment>, end: Option<u64>) -> Rest
     requires ascending { is_ascending segments.items ≡ true }
     ensures segments { result.segments.items ≡ begun_below (unwrap_or end 0) segments.items }
+    ensures strict { result.strict ≡ false }
     ensures end { result.end ≡ unwrap_or end 0 }
     ensures read { result.read ≡ 0 }
     ensures met { result.met.items ≡ [] }

@@ -19,14 +19,14 @@ pub tail_end-requires-clause-ready : goal.tail_end-requires-clause-ready
 tail_end-requires-clause-ready g c = λ s there.
     let cfg : Config = c.args.config.now.config in
     let old : Trace = g.D.Device.trace c.args.config.now.device in
-    let least : ℕ = c.args.stable / cfg.segment_size * cfg.segment_size in
+    let least : ℕ = c.args.least in
     still_so (λ n l. CanBeRead n l s) cfg c.find_segments.new.config.config old (g.D.Device.trace c.find_segments.new.config.device) c.in-Ok.ensures.reads.config c.in-Ok.ensures.reads.unwritten
     (all_ready g.C.Checksum.sum_of cfg.segment_size (state_of old).log.bytes least c.in-Ok.segments.items c.in-Ok.ensures.small c.in-Ok.ensures.ordering s (subst (λ (l : List Segment). Contains l s) c.deref-in-Ok.ensures.value there))
 
 pub tail_end-requires-clause-begin : goal.tail_end-requires-clause-begin
 tail_end-requires-clause-begin g c =
     let size : ℕ = c.args.config.now.config.segment_size in
-    let greatest : ℕ = greatest_mark (c.args.stable / size * size) c.deref.result.now in
+    let greatest : ℕ = greatest_mark c.args.least c.deref.result.now in
     subst (λ (x : Config). c.tail_begins-begin.result % x.segment_size ≡ 0) (sym c.in-Ok.ensures.reads.config) (ap (λ k. k % size) c.tail_begins-begin.ensures ∙ mul-mod_left (greatest / size) size)
 
 pub returns-in-Ok-tail_end-clause-begins : goal.returns-in-Ok-tail_end-clause-begins
@@ -38,7 +38,7 @@ returns-in-Ok-tail_end-clause-begins g c =
     let now : Trace = g.D.Device.trace c.find_segments.new.config.device in
     let log : List ℕ = (state_of old).log.bytes in
     let blobs : ℤ → Option (List ℕ) = (state_of old).blobs.file in
-    let least : ℕ = c.args.stable / size * size in
+    let least : ℕ = c.args.least in
     let ss : List Segment = c.in-Ok.segments.items in
     let begin : ℕ = c.tail_begins-begin.result in
     let found = c.in-Ok-tail_end.ensures.end in
@@ -49,7 +49,7 @@ returns-in-Ok-tail_end-clause-begins g c =
     let tail = subst (λ n. IsTail sum size log ss n xs) begins here.0 in
     let inside = λ (x : Segment) (in_all : Contains ss x). (all_ready sum size log least ss c.in-Ok.ensures.small c.in-Ok.ensures.ordering x in_all).inside in
     let r = c.rest_of.ensures in
-    let begun = left_begun g.D.Device.trace sum c.args.config.now c.rest_of.result ss c.in-Ok-tail_end.end r.segments r.end r.read r.met r.given inside in
+    let begun = left_begun g.D.Device.trace sum c.args.config.now c.rest_of.result r.strict ss c.in-Ok-tail_end.end r.segments r.end r.read r.met r.given inside in
     (ss, c.in-Ok.ensures.ordering, (xs, tail, here.1, subst (λ (o : Option ℕ). IsBegun sum size log blobs ss o (IsLeft g.D.Device.trace sum c.args.config.now c.rest_of.result)) (sym found.3) begun))
 
 pub returns-in-Ok-tail_end-clause-fits : goal.returns-in-Ok-tail_end-clause-fits
@@ -57,7 +57,7 @@ returns-in-Ok-tail_end-clause-fits g c =
     let sum : List ℕ → ℕ = g.C.Checksum.sum_of in
     let size : ℕ = c.args.config.now.config.segment_size in
     let log : List ℕ = (state_of (g.D.Device.trace c.args.config.now.device)).log.bytes in
-    let least : ℕ = c.args.stable / size * size in
+    let least : ℕ = c.args.least in
     let ss : List Segment = c.in-Ok.segments.items in
     let end : ℕ = unwrap_or c.in-Ok-tail_end.end 0 in
     let ready = λ (s : Segment) (there : Contains (begun_below end ss) s). all_ready sum size log least ss c.in-Ok.ensures.small c.in-Ok.ensures.ordering s (begun_in end ss s there) in
