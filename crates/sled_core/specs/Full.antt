@@ -1,8 +1,7 @@
 -- A log whose first segments are wholly on the device: what the segments that were begun behind them have to do with a history, until one of them is the first that isn't.
-use Rattle.std.specs.Prelude.{◌≡◌, ◌≢◌, ◌⊎◌, ◌+◌, ◌≤◌, ◌<◌, ◌<ℤ◌, ℕ, ℤ, pos, List, [], map, take, Option, None, Contains}
+use Rattle.std.specs.Prelude.{◌≡◌, ◌≢◌, ◌⊎◌, ◌+◌, ◌≤◌, ◌<◌, ◌<ℤ◌, ℕ, pos, List, [], map, Option, None, Contains}
 use Rattle.std.specs.declared.io.Error.{Error as IoError}
 use Rattle.sled_codec.specs.History.{Message, History}
-use Rattle.sled_codec.specs.Record.{IsHeader}
 use Rattle.sled_codec.specs.Snapshots.{SnapshotModel}
 use Rattle.sled_store.specs.Device.{State}
 use Rattle.sled_core.specs.declared.iobuf.SegmentPosition.{SegmentPosition}
@@ -40,8 +39,6 @@ pub record FitsFull (sum : List ℕ → ℕ) (size : ℕ) (device : State) (faul
   -- no batch begins or ends between
   pub no_batch : NoBatchBegins H reach place
   pub no_end : NoBatchEnds H reach place
-  -- the header of a segment of which nothing is written has a mark below the place
-  pub marked : (s : SegmentParts) → Contains behind s → s.written_len ≡ 0 → (mark : ℤ) → IsHeader sum (take 20 s.bytes) (pos s.site.place) mark → mark <ℤ pos place
   -- so stands the file, with any number of zeros behind its end
   pub beyond : (to : ℕ) → fault ≡ None → NoHeaderOfZeros sum → StandsFull sum size (padded to device.log.bytes) place (map begun_segment behind) reach H holds.begun.first
   pub blobs : BlobsFit sum device.blobs H (stable_below reach H.batches)

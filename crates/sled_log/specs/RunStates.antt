@@ -204,14 +204,14 @@ has_ticket zero (t ∷ ts) = is_some t
 has_ticket (suc n) (t ∷ ts) = has_ticket n ts
 
 -- a message changes a page: it isn't the manifest of a batch
-abbrev pub is_of_page : Option Message → Bool
-is_of_page None = false
-is_of_page (Some m) = not (m.page == manifest_page)
+abbrev pub is_message : Option Message → Bool
+is_message None = false
+is_message (Some m) = not (m.page == manifest_page)
 
 -- a ticket is open, and for such a message
 abbrev pub has_message : ℕ → List (Option Message) → Bool
 has_message n [] = false
-has_message zero (t ∷ ts) = is_of_page t
+has_message zero (t ∷ ts) = is_message t
 has_message (suc n) (t ∷ ts) = has_message n ts
 
 -- a batch is begun: its manifest has an open ticket

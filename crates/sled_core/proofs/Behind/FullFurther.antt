@@ -84,7 +84,6 @@ module _ (sum : List ℕ → ℕ) (size : ℕ) (device : State) (fault : Option 
       ends = ends';
       no_batch = no_batch';
       no_end = no_end';
-      marked = holds_full.marked;
       beyond = λ to none zeros. stands to zeros;
       blobs = blobs_now;
       inline = inline_now;

@@ -111,7 +111,6 @@ module _ (sum : List ℕ → ℕ) (size : ℕ) (site : SegmentPosition) (device 
     ends = λ m there under. ends' m there (omega (arith, under, filled));
     no_batch = subst (λ n. NoBatchBegins H reach' (site.place + n)) filled beside'.0;
     no_end = subst (λ n. NoBatchEnds H reach' (site.place + n)) filled beside'.1;
-    marked = holds.marked;
     beyond = λ end none zeros. subst (λ (s : SnapshotModel). StandsFull sum size (padded end (overwritten device.log.bytes at asked)) (site.place + size) (map begun_segment behind) reach' H s) (sym same) (full (padded end (overwritten device.log.bytes at asked)) (padded_now zeros end));
     blobs = blobs_now;
     inline = inline_now;
