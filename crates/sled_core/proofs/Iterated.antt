@@ -3,3 +3,4 @@ pub mod Listed
 pub mod OfLog
 pub mod OnFile
 pub mod ReadHere
+pub mod StillThere

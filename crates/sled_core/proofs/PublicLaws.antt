@@ -35,6 +35,7 @@ use Rattle.sled_core.proofs.Reached.StableBelow.{stable_low}
 pub use Rattle.sled_core.proofs.Holds.LastEnds.{message_acknowledged, batch_acknowledged, acknowledged_least}
 pub use Rattle.sled_core.proofs.Holds.ReachLemmas.{fits_holds, fits_acknowledged, fits_stable, fits_reach, fits_apart, fits_inline, awaited, awaited_inline, awaited_small, reserved_small}
 pub use Rattle.sled_core.proofs.Holds.RunningLemmas.{fits_leaves}
+pub use Rattle.sled_core.proofs.Iterated.StillThere.{still_there}
 pub use Rattle.sled_core.proofs.Line.Buffers.{first_waits}
 pub use Rattle.sled_core.proofs.Line.Fillings.{end_off}
 pub use Rattle.sled_core.proofs.Line.NoneLeft.{noted_pegs}

@@ -1,6 +1,6 @@
 //! Laws of logs, each the contract of a function that does nothing. A proof cites them by the lemmas of
 //! `proofs/PublicLaws.antt`.
-ghost use Rattle.std.specs.Prelude.{◌≡◌, ◌↔◌, ◌⊎◌, ◌≤◌, ◌<◌, ◌≤ℤ◌, ◌<ℤ◌, ◌-ℤ◌, ◌+◌, ◌/◌, ◌%◌, ◌^◌, ◌∷◌, ◌++◌, ℕ, ℤ, pos, true, List, [], replicate, None, length, ◌-◌, Contains};
+ghost use Rattle.std.specs.Prelude.{◌≡◌, ◌↔◌, ◌⊎◌, ◌≤◌, ◌<◌, ◌≤ℤ◌, ◌<ℤ◌, ◌-ℤ◌, ◌+◌, ◌*◌, ◌/◌, ◌%◌, ◌^◌, ◌∷◌, ◌++◌, ℕ, ℤ, pos, true, List, [], replicate, None, length, ◌-◌, Contains};
 ghost use Rattle.std.specs.Int.{w64, cast_signed, cast_unsigned};
 ghost use Rattle.std.specs.List.{All};
 ghost use Rattle.sled_codec.specs.History.{Message, Batch, History, no_history};
@@ -8,7 +8,7 @@ ghost use Rattle.sled_codec.specs.Record.{IsHeader};
 ghost use Rattle.sled_codec.specs.WellFormed.{LieApart};
 ghost use Rattle.sled_store.specs.Device.{Trace, State, Left, Leaves, Crashed, state_of, content_of, content_left, at_rest, fresh, Content, Settled, Wrote, Synced, step};
 ghost use Rattle.sled_store.specs.Moments.{IsLater, LeavesOnly};
-ghost use Rattle.sled_core.specs.Fits.{stable_end, KeepsAll, Awaits, FitsInline, Holds, IsLeastOpen, IsUnchanged, IsWritten, NoneOpen, buffers_of, current_begin, device_of, held_len, holding_below, is_moved, line_of, next_place, noted_in, open_of, open_places, reserved_end, sealing_end, segment_size_of, start_behind, start_of, synced_end, target_of, waiting_behind, waiting_of};
+ghost use Rattle.sled_core.specs.Fits.{stable_end, KeepsAll, Awaits, FitsInline, HasRecordOf, Holds, IsLeastOpen, IsUnchanged, IsWritten, NoneOpen, buffers_of, current_begin, device_of, fault_of, held_len, holding_below, is_moved, line_of, machine_at, next_place, noted_in, open_of, open_places, reserved_end, sealing_end, segment_size_of, start_behind, start_of, synced_end, target_of, waiting_behind, waiting_of};
 ghost use Rattle.sled_codec.specs.Snapshots.{SnapshotModel, empty_model, stable_place};
 ghost use Rattle.sled_store.specs.Begin.{offset_at, place_at};
 ghost use Rattle.sled_core.specs.Waiting.{HasLength, spans};
@@ -17,6 +17,7 @@ ghost use Rattle.sled_core.specs.Keeps.{GoesOn, Preserves};
 ghost use Rattle.sled_core.specs.Reading.{IsInline};
 ghost use Rattle.sled_core.specs.Ready.{IsReady};
 ghost use Rattle.sled_core.specs.Recoverable.{NoForeign, Recoverable, RecoverableIfOwn, LeavesRecoverable, NoHeaderOfZeros};
+ghost use Rattle.sled_core.specs.OnFile.{HasSegment};
 ghost use Rattle.sled_core.specs.OpenPlaces.{first_between, places_from};
 ghost use Rattle.sled_core.specs.Running.{Fits, Ready, end_below};
 ghost use Rattle.sled_core.specs.Manifests.{is_manifest};
@@ -152,6 +153,13 @@ pub fn the_stable_end_never_falls<D: Device, C: Checksum>()
     ensures reached { (log : Log D C) → stable_end log ≤ synced_end log }
     ensures keeps { (old new : Log D C) → Preserves D.trace C.sum_of old new → stable_end old ≤ stable_end new }
     ensures same { (old new : Log D C) → KeepsAll old new → stable_end new ≡ stable_end old }
+{}
+
+/// A log still has the segment of each message that it has the record of: so its iterator passes over no such message.
+pub fn what_has_its_record_has_its_segment<D: Device, C: Checksum>()
+    ensures { (log : Log D C) (H : History) (A f : ℕ) (U : List Message) (m : Message) → Fits D.trace C.sum_of log H A f U → fault_of log ≡ None
+        → NoHeaderOfZeros C.sum_of → Contains H.messages m → HasRecordOf log H m
+        → HasSegment (machine_at log) (m.place / segment_size_of log * segment_size_of log) }
 {}
 
 /// What can be recovered at each moment of one call and of the next can be at each moment of both.
