@@ -155,7 +155,7 @@ pub fn the_stable_end_never_falls<D: Device, C: Checksum>()
     ensures same { (old new : Log D C) → KeepsAll old new → stable_end new ≡ stable_end old }
 {}
 
-/// A log still has the segment of each message that it has the record of: so its iterator passes over no such message.
+/// A log still has the segment of each message that it has the record of: so its iterator passes over none of them for want of a segment.
 pub fn what_has_its_record_has_its_segment<D: Device, C: Checksum>()
     ensures { (log : Log D C) (H : History) (A f : ℕ) (U : List Message) (m : Message) → Fits D.trace C.sum_of log H A f U → fault_of log ≡ None
         → NoHeaderOfZeros C.sum_of → Contains H.messages m → HasRecordOf log H m
