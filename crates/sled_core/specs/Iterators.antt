@@ -19,7 +19,7 @@ use Rattle.sled_core.specs.Iterates.{Item, IsIteration, NextGives, NextAnswers, 
 use Rattle.sled_core.specs.Ahead.{IsLeft, IsSpent, most_left}
 use Rattle.sled_core.specs.LogSegments.{AreSegments, begins_from}
 use Rattle.sled_core.specs.OnFile.{AreOnFile, item_of}
-use Rattle.sled_core.specs.Sources.{config_in, name_in}
+use Rattle.sled_core.specs.Sources.{BorrowSame, config_in, file_in, log_in}
 
 -- why nothing can be gone over, where that is so: the one item of the iterator
 abbrev pub refusal_of : {D C : Type 0} → LogIter D C → Option Error
@@ -35,6 +35,13 @@ BorrowsFile entry now it = it.source ≡ source.File (record entry { now = now }
 
 abbrev pub BorrowsLog : {D C : Type 0} → MutBor (Log D C) → Log D C → LogIter D C → Type 0
 BorrowsLog entry now it = it.source ≡ source.Log (record entry { now = now })
+
+-- the configuration, or the log, that it gives back
+abbrev pub IsFileOf : {D C : Type 0} → LogIter D C → Option (MutBor (RunningConfig D C)) → Type 0
+IsFileOf it result = result ≡ file_in it.source
+
+abbrev pub IsLogOf : {D C : Type 0} → LogIter D C → Option (MutBor (Log D C)) → Type 0
+IsLogOf it result = result ≡ log_in it.source
 
 -- These messages are ahead of an iterator that wasn't refused, and then damage or the end.
 unfoldable pub IsAhead : {D C : Type 0} → (D → Trace) → (List ℕ → ℕ) → LogIter D C → List Item → Bool → Type 0
@@ -86,7 +93,7 @@ pub record IsNext {D C : Type 0} (trace : D → Trace) (faults : D → ℕ) (sum
   pub answers : IfNone (refusal_of old) (NextAnswers sum (state_of (trace (reads_of old).device)).blobs.file result (faults (reads_of old).device) (faults (reads_of new).device))
   pub reads : OnlyReads trace (reads_of old) (reads_of new)
   pub log : IfNone (refusal_of old) (LogIsReadFor trace sum result old.source new.source)
-  pub same_reference : name_in new.source ≡ name_in old.source
+  pub same_reference : BorrowSame old.source new.source
 
 -- Why an iterator of a log was refused, where this is the failure that the log keeps: exactly by that, or for want of memory.
 abbrev pub IsRefusedFor : Option Error → Option IoError → Type 0

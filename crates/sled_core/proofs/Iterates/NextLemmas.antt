@@ -14,9 +14,14 @@ use Rattle.sled_core.specs.Ahead.{IsLeft, IsSpent, most_left}
 use Rattle.sled_core.specs.Iterates.{Item, NextGives, NextAnswers, BehindLast}
 use Rattle.sled_core.specs.Iterators.{IsAhead, IsNext, IsOver, IsReadFor, LogIsReadFor, items_for, most_ahead}
 use Rattle.sled_core.specs.Keeps.{OnlyReads}
-use Rattle.sled_core.specs.Sources.{config_in, name_in}
+use Rattle.sled_core.specs.Sources.{BorrowSame, config_in}
 use Rattle.sled_core.proofs.Iterates.LeftLemmas.{left_still}
 use Rattle.sled_core.proofs.Iterates.TurnLemmas.{damage_said, next_as}
+
+-- what is borrowed is the same as itself
+same_borrow : {D C : Type 0} (s : Source D C) → BorrowSame s s
+same_borrow (source.File r) = refl
+same_borrow (source.Log r) = refl
 
 module _ {D C : Type 0} (trace : D → Trace) (faults : D → ℕ) (sum : List ℕ → ℕ) (old : LogIter D C) (new : LogIter D C) where
   -- Its refusal is its one item.
@@ -45,7 +50,7 @@ module _ {D C : Type 0} (trace : D → Trace) (faults : D → ℕ) (sum : List �
         unwritten = ap (λ (x : RunningConfig D C). trace x.device) same_config;
       };
       log = subst (λ (o : Option Error). IfNone o (LogIsReadFor trace sum (Some (Err e)) old.source new.source)) (sym is) tt;
-      same_reference = ap name_in here;
+      same_reference = subst (BorrowSame old.source) (sym here) (same_borrow old.source);
     }
 
     pub refusal_goes : most_ahead new < most_ahead old
@@ -70,7 +75,7 @@ module _ {D C : Type 0} (trace : D → Trace) (faults : D → ℕ) (sum : List �
     pub next_left : ((items : List Item) (damaged : Bool) → IsLeft trace sum (config_in old.source) old.rest items damaged → NextGives (IsLeft trace sum (config_in old.source) new.rest) items damaged item)
         → BehindLast item (IsSpent new.rest) → (IsSpent old.rest → item ≡ None)
         → NextAnswers sum (state_of (trace (config_in old.source).device)).blobs.file item (faults (config_in old.source).device) (faults (config_in new.source).device)
-        → OnlyReads trace (config_in old.source) (config_in new.source) → LogIsReadFor trace sum item old.source new.source → name_in new.source ≡ name_in old.source → IsNext trace faults sum old item new
+        → OnlyReads trace (config_in old.source) (config_in new.source) → LogIsReadFor trace sum item old.source new.source → BorrowSame old.source new.source → IsNext trace faults sum old item new
     unfolding IsOver
     next_left gives ended over answers reads log same = record {
       gives = λ items damaged ahead. next_as (IsLeft trace sum (config_in old.source) new.rest) (IsAhead trace sum new)
@@ -106,7 +111,7 @@ module _ {D C : Type 0} (trace : D → Trace) (faults : D → ℕ) (sum : List �
         (subst (λ (y : RunningConfig D C). NextAnswers sum (state_of (trace r.now.device)).blobs.file item (faults r.now.device) (faults y.device)) (sym is) answers))
         (subst (λ (x : RunningConfig D C). OnlyReads trace x (config_in new.source)) (sym was) (subst (λ (y : RunningConfig D C). OnlyReads trace r.now y) (sym is) reads))
         (subst (λ (x : Source D C). LogIsReadFor trace sum item x new.source) (sym from) (subst (λ (y : Source D C). LogIsReadFor trace sum item (source.File r) y) (sym to) tt))
-        (ap name_in to ∙ same ∙ sym (ap name_in from))
+        (subst (λ (x : Source D C). BorrowSame x new.source) (sym from) (subst (λ (y : Source D C). BorrowSame (source.File r) y) (sym to) same))
 
     -- over a log
     pub next_of_log : (r s : MutBor (Log D C)) → old.source ≡ source.Log r → new.source ≡ source.Log s → s.ghost_name ≡ r.ghost_name
@@ -123,4 +128,4 @@ module _ {D C : Type 0} (trace : D → Trace) (faults : D → ℕ) (sum : List �
         (subst (λ (y : RunningConfig D C). NextAnswers sum (state_of (trace r.now.config.device)).blobs.file item (faults r.now.config.device) (faults y.device)) (sym is) answers))
         (subst (λ (x : RunningConfig D C). OnlyReads trace x (config_in new.source)) (sym was) (subst (λ (y : RunningConfig D C). OnlyReads trace r.now.config y) (sym is) reads))
         (subst (λ (x : Source D C). LogIsReadFor trace sum item x new.source) (sym from) (subst (λ (y : Source D C). LogIsReadFor trace sum item (source.Log r) y) (sym to) log))
-        (ap name_in to ∙ same ∙ sym (ap name_in from))
+        (subst (λ (x : Source D C). BorrowSame x new.source) (sym from) (subst (λ (y : Source D C). BorrowSame (source.Log r) y) (sym to) same))

@@ -24,7 +24,7 @@ pub(crate) enum Source<'a, D, C> {
     Log(&'a mut Log<D, C>),
 }
 
-/// Goes over the messages of a log file, and borrows what that is on. It ends: a number bounds what is ahead of it. What a
+/// Goes over the messages of a log file, and borrows what that is on, or the log (`into_config` and `into_log` give it back). It ends: a number bounds what is ahead of it. What a
 /// call of `next` gives is `IsNext` of `specs/Iterators.antt`.
 #[derive(Drop)]
 pub struct LogIter<'a, D, C> {
@@ -80,6 +80,32 @@ impl<'a, D, C> LogIter<'a, D, C> {
             source: Source::Log(log),
             refusal: Some(e),
             rest,
+        }
+    }
+}
+
+impl<'a, D, C> LogIter<'a, D, C> {
+    ghost use Rattle.sled_core.specs.Iterators.{IsFileOf, IsLogOf};
+
+    /// Ends the iteration, and gives the log back, where it is over one. What is known of the log then is what the iterator kept of it.
+    pub fn into_log(self) -> Option<&'a mut Log<D, C>>
+        ensures { IsLogOf self.entry result }
+    {
+        let LogIter { source, refusal: _, rest: _ } = self;
+        match source {
+            Source::Log(log) => Some(log),
+            Source::File(_) => None,
+        }
+    }
+
+    /// Ends the iteration, and gives the configuration back, where no log runs on it.
+    pub fn into_config(self) -> Option<&'a mut RunningConfig<D, C>>
+        ensures { IsFileOf self.entry result }
+    {
+        let LogIter { source, refusal: _, rest: _ } = self;
+        match source {
+            Source::File(config) => Some(config),
+            Source::Log(_) => None,
         }
     }
 }
