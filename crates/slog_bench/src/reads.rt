@@ -48,13 +48,13 @@ pub fn call(
 // Goes over the messages of the log file from a place on.
 fn iterate(config: &mut Running, from: i64, out: &mut Answer) {
     match raw_segment_iter_from(from, config) {
-        Ok(messages) => push_all(messages, out),
+        Ok(messages) => push_messages(messages, out),
         Err(e) => out.error(&e),
     }
 }
 
-// Adds each message, an error, and a dash where none is left.
-fn push_all(messages: LogIter<'_, MemDevice, PlaceSum>, out: &mut Answer) {
+/// Adds each message, an error, and a dash where none is left.
+pub fn push_messages(messages: LogIter<'_, MemDevice, PlaceSum>, out: &mut Answer) {
     for message in messages {
         match message {
             Ok((kind, page, place, at, len)) => {
