@@ -53,9 +53,9 @@ fn iterate(config: &mut Running, from: i64, out: &mut Answer) {
     }
 }
 
-/// Adds each message, an error, and a dash where none is left.
-pub fn push_messages(messages: LogIter<'_, MemDevice, PlaceSum>, out: &mut Answer) {
-    for message in messages {
+/// Adds each message, an error, and a dash where none is left. One that comes behind the end is told of.
+pub fn push_messages(mut messages: LogIter<'_, MemDevice, PlaceSum>, out: &mut Answer) {
+    for message in messages.by_ref() {
         match message {
             Ok((kind, page, place, at, len)) => {
                 out.text.push("(");
@@ -71,6 +71,9 @@ pub fn push_messages(messages: LogIter<'_, MemDevice, PlaceSum>, out: &mut Answe
                 out.text.push(" ");
             }
         }
+    }
+    if messages.next().is_some() {
+        out.text.push("more ");
     }
     out.text.push("-");
 }
