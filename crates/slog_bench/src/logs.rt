@@ -2,6 +2,7 @@
 ghost use Rattle.std.specs.Prelude.{◌<◌, IfSome, vec_len, vec_capacity};
 ghost use Rattle.sled_core.specs.Fits.{IsOpen};
 
+use crate::reads::push_messages;
 use crate::values::kind_of;
 use crate::world::Running;
 use case_lines::answer::Answer;
@@ -63,6 +64,8 @@ impl Opened {
             "write" => self.write(words.number(), out),
             "roll" => push_growth(self.log.roll_iobuf(), out),
             "read" => self.read(words.number(), words.signed(), words.pointer(), out),
+            "iter" => push_messages(self.log.iter_from(words.signed()), out),
+            "failure" => self.failure(out),
             "pins" => out.text.number(self.log.pins()),
             "stable" => out.text.signed(self.log.stable_offset()),
             "reserved" => out.text.signed(self.log.reserved_offset()),
@@ -275,6 +278,14 @@ impl Opened {
             return;
         };
         push_read(self.log.read(page, place, DiskPtr::Inline(lid)), out);
+    }
+
+    // The failure of the device that the log keeps, or a dash.
+    fn failure(&self, out: &mut Answer) {
+        match self.log.failure() {
+            Some(e) => out.fault(&e),
+            None => out.text.push("-"),
+        }
     }
 
     /// Gives all up, and writes nothing.

@@ -25,7 +25,7 @@ use std::process::ExitCode;
 use store_cases::{accountant, codecs, segment_headers, words};
 
 // The files under `data/`, one a kind.
-const FILES: [&str; 16] = [
+const FILES: [&str; 17] = [
     "codecs.txt",
     "segment_headers.txt",
     "words.txt",
@@ -35,6 +35,7 @@ const FILES: [&str; 16] = [
     "hostile.txt",
     "calls.txt",
     "batches.txt",
+    "iterations.txt",
     "slog.txt",
     "runs.txt",
     "own.txt",
@@ -90,7 +91,7 @@ fn run(alloc: Global, name: &str, text: &str, tally: &mut Tally<'_>) {
         }
         "stops.txt" => stops::run(alloc, text, tally),
         "hostile.txt" => hostile::run(alloc, text, tally),
-        "calls.txt" | "batches.txt" => {
+        "calls.txt" | "batches.txt" | "iterations.txt" => {
             if let Err(Fault(why)) = calls::run(alloc, text, tally) {
                 tally.case(0, "lines", why);
             }

@@ -48,14 +48,14 @@ pub fn call(
 // Goes over the messages of the log file from a place on.
 fn iterate(config: &mut Running, from: i64, out: &mut Answer) {
     match raw_segment_iter_from(from, config) {
-        Ok(messages) => push_all(messages, out),
+        Ok(messages) => push_messages(messages, out),
         Err(e) => out.error(&e),
     }
 }
 
-// Adds each message, an error, and a dash where none is left.
-fn push_all(messages: LogIter<'_, MemDevice, PlaceSum>, out: &mut Answer) {
-    for message in messages {
+/// Adds each message, an error, and a dash where none is left. One that comes behind the end is told of.
+pub fn push_messages(mut messages: LogIter<'_, MemDevice, PlaceSum>, out: &mut Answer) {
+    for message in messages.by_ref() {
         match message {
             Ok((kind, page, place, at, len)) => {
                 out.text.push("(");
@@ -71,6 +71,9 @@ fn push_all(messages: LogIter<'_, MemDevice, PlaceSum>, out: &mut Answer) {
                 out.text.push(" ");
             }
         }
+    }
+    if messages.next().is_some() {
+        out.text.push("more ");
     }
     out.text.push("-");
 }
