@@ -7,6 +7,7 @@ pub mod LeftLemmas
 pub mod NextLemmas
 pub mod OfSlots
 pub mod OneReplay
+pub mod OverLog
 pub mod Records
 pub mod Slots
 pub mod TurnLemmas

@@ -40,6 +40,8 @@ pub use Rattle.sled_core.proofs.Line.Buffers.{first_waits}
 pub use Rattle.sled_core.proofs.Line.Fillings.{end_off}
 pub use Rattle.sled_core.proofs.Line.NoneLeft.{noted_pegs}
 pub use Rattle.sled_core.proofs.Line.OpenSeen.{buffers_held, current_count, current_least, none_is_empty, ticket_places}
+-- An iterator of a log only reads it, and gives it back.
+pub use Rattle.sled_core.proofs.Iterates.OverLog.{over_back, over_begun, over_next}
 
 -- Where no reservation was open, none is as long as nothing is another.
 pub unchanged_ended : {D C : Type 0} (old new : Log D C) → IsUnchanged old new → NoneOpen old → NoneOpen new

@@ -36,6 +36,10 @@ BorrowsFile entry now it = it.source ≡ source.File (record entry { now = now }
 abbrev pub BorrowsLog : {D C : Type 0} → MutBor (Log D C) → Log D C → LogIter D C → Type 0
 BorrowsLog entry now it = it.source ≡ source.Log (record entry { now = now })
 
+-- what it borrows is as it was
+abbrev pub BorrowsStill : {D C : Type 0} → LogIter D C → LogIter D C → Type 0
+BorrowsStill old new = new.source ≡ old.source
+
 -- the configuration, or the log, that it gives back
 abbrev pub IsFileOf : {D C : Type 0} → LogIter D C → Option (MutBor (RunningConfig D C)) → Type 0
 IsFileOf it result = result ≡ file_in it.source
@@ -66,14 +70,22 @@ first_failure (Some e) item = Some e
 first_failure None (Some result) = failure_in result
 first_failure None None = None
 
--- A log was only read for an item: it goes on from what it was, and keeps a failure of its device.
-pub record IsReadFor {D C : Type 0} (trace : D → Trace) (sum : List ℕ → ℕ) (item : Option (Result Item Error)) (old new : Log D C) : Type 0 where
+-- A log was only read: it goes on from what it was.
+pub record IsOnlyRead {D C : Type 0} (trace : D → Trace) (sum : List ℕ → ℕ) (old new : Log D C) : Type 0 where
   pub keeps : Preserves trace sum old new
   pub tickets : KeepsTickets old new
   pub position : SamePosition old new
   pub buffers : KeepsBuffers old new
   pub machine : machine_at new ≡ machine_at old
+
+-- So it was for an item, and it keeps a failure of its device.
+pub record IsReadFor {D C : Type 0} (trace : D → Trace) (sum : List ℕ → ℕ) (item : Option (Result Item Error)) (old new : Log D C) : Type 0 where
+  pub read : IsOnlyRead trace sum old new
   pub fault : fault_of new ≡ first_failure (fault_of old) item
+
+-- An iterator is over a log that was borrowed so, and that was only read since.
+abbrev pub IsOverLog : {D C : Type 0} → (D → Trace) → (List ℕ → ℕ) → MutBor (Log D C) → Log D C → LogIter D C → Type 0
+IsOverLog {D} {C} trace sum entry log it = (r : MutBor (Log D C)) × (log_in it.source ≡ Some r) × (r.ghost_name ≡ entry.ghost_name) × IsOnlyRead trace sum log r.now
 
 -- so was the log that an iterator borrows, where it borrows one
 abbrev pub LogIsReadFor : {D C : Type 0} → (D → Trace) → (List ℕ → ℕ) → Option (Result Item Error) → Source D C → Source D C → Type 0
@@ -88,8 +100,8 @@ pub record IsNext {D C : Type 0} (trace : D → Trace) (faults : D → ℕ) (sum
   pub gives : (items : List Item) (damaged : Bool) → IsAhead trace sum old items damaged → NextGives (IsAhead trace sum new) items damaged result
   pub ended : BehindLast result (IsOver new)
   pub over : IsOver old → result ≡ None
-  -- a refusal is the one item
-  pub refused : IfSome (refusal_of old) (λ e. (result ≡ Some (Err e)) × (faults (reads_of new).device ≡ faults (reads_of old).device))
+  -- a refusal is the one item, and nothing is read for it
+  pub refused : IfSome (refusal_of old) (λ e. (result ≡ Some (Err e)) × BorrowsStill old new)
   pub answers : IfNone (refusal_of old) (NextAnswers sum (state_of (trace (reads_of old).device)).blobs.file result (faults (reads_of old).device) (faults (reads_of new).device))
   pub reads : OnlyReads trace (reads_of old) (reads_of new)
   pub log : IfNone (refusal_of old) (LogIsReadFor trace sum result old.source new.source)

@@ -1,6 +1,10 @@
 //! Laws of logs, each the contract of a function that does nothing. A proof cites them by the lemmas of
 //! `proofs/PublicLaws.antt`.
-ghost use Rattle.std.specs.Prelude.{◌≡◌, ◌↔◌, ◌⊎◌, ◌≤◌, ◌<◌, ◌≤ℤ◌, ◌<ℤ◌, ◌-ℤ◌, ◌+◌, ◌*◌, ◌/◌, ◌%◌, ◌^◌, ◌∷◌, ◌++◌, ℕ, ℤ, pos, true, List, [], replicate, None, length, ◌-◌, Contains};
+ghost use Rattle.std.specs.Prelude.{◌≡◌, ◌↔◌, ◌⊎◌, ◌≤◌, ◌<◌, ◌≤ℤ◌, ◌<ℤ◌, ◌-ℤ◌, ◌+◌, ◌*◌, ◌/◌, ◌%◌, ◌^◌, ◌∷◌, ◌++◌, ℕ, ℤ, pos, true, List, [], replicate, Option, None, Some, Result, length, ◌-◌, Contains};
+ghost use Rattle.std.specs.Borrow.{MutBor};
+ghost use Rattle.sled_codec.specs.declared.result.Error.{Error};
+ghost use Rattle.sled_core.specs.Iterates.{Item};
+ghost use Rattle.sled_core.specs.Iterators.{BorrowsLog, IsLogOf, IsNext, IsOnlyRead, IsOverLog};
 ghost use Rattle.std.specs.Int.{w64, cast_signed, cast_unsigned};
 ghost use Rattle.std.specs.List.{All};
 ghost use Rattle.sled_codec.specs.History.{Message, Batch, History, no_history};
@@ -26,6 +30,7 @@ ghost use Rattle.sled_core.specs.Own.{IsSomeRecord, written_out_of_order, IsReac
 ghost use Rattle.sled_core.specs.StableEnds.{LiesIn, IsContiguousEnd, IsHalfSynced, IsStableEnd, AreApart};
 ghost use Rattle.sled_codec.specs.Sums.{place_sum};
 
+use crate::iterator::LogIter;
 use crate::logger::Log;
 use crate::reservation::Reservation;
 use sled_codec::serialization::Checksum;
@@ -261,3 +266,14 @@ pub fn no_batch_is_cut_in_two()
 pub fn places_not_synced_are_beyond()
     ensures { (s : ℤ) (is : List (ℤ × ℤ)) (e p : ℤ) → IsContiguousEnd s is e → s <ℤ p → All (λ i. LiesIn p i → ⊥) is → e <ℤ p }
 {}
+
+/// An iterator of a log only reads it, call by call, and gives it back (`LogIter::into_log`).
+pub fn an_iterator_only_reads_its_log<D: Device, C: Checksum>()
+    ensures begun { (entry : MutBor (Log D C)) (log : Log D C) (it : LogIter D C) → BorrowsLog entry log it → IsOverLog D.trace C.sum_of entry log it }
+    ensures next { (entry : MutBor (Log D C)) (log : Log D C) (old : LogIter D C) (item : Option (Result Item Error)) (new : LogIter D C)
+        → IsNext D.trace D.faults C.sum_of old item new → IsOverLog D.trace C.sum_of entry log old → IsOverLog D.trace C.sum_of entry log new }
+    ensures back { (entry : MutBor (Log D C)) (log : Log D C) (it : LogIter D C) (result : Option (MutBor (Log D C)))
+        → IsOverLog D.trace C.sum_of entry log it → IsLogOf it result
+        → (r : MutBor (Log D C)) × (result ≡ Some r) × (r.ghost_name ≡ entry.ghost_name) × IsOnlyRead D.trace C.sum_of log r.now }
+{
+}

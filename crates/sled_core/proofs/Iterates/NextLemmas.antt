@@ -41,8 +41,7 @@ module _ {D C : Type 0} (trace : D → Trace) (faults : D → ℕ) (sum : List �
       gives = λ items damaged ahead. damage_said e items damaged (λ corrupt. absurd (fine corrupt));
       ended = (given, spent);
       over = λ over. (let both : None ≡ Some e = sym over.0 ∙ is in cc);
-      refused = subst (λ (o : Option Error). IfSome o (λ x. (◌≡◌ {A = Option (Result Item Error)} (Some (Err e)) (Some (Err x))) × (faults (config_in new.source).device ≡ faults (config_in old.source).device))) (sym is)
-          (refl, ap (λ (x : RunningConfig D C). faults x.device) same_config);
+      refused = subst (λ (o : Option Error). IfSome o (λ x. (◌≡◌ {A = Option (Result Item Error)} (Some (Err e)) (Some (Err x))) × (new.source ≡ old.source))) (sym is) (refl, here);
       answers = subst (λ (o : Option Error). IfNone o (NextAnswers sum (state_of (trace (config_in old.source).device)).blobs.file (Some (Err e)) (faults (config_in old.source).device) (faults (config_in new.source).device))) (sym is) tt;
       reads = record {
         config = ap (λ (x : RunningConfig D C). x.config) same_config;
@@ -83,7 +82,7 @@ module _ {D C : Type 0} (trace : D → Trace) (faults : D → ℕ) (sum : List �
           items damaged item (gives items damaged (ahead_left old none items damaged ahead));
       ended = behind_as item (IsSpent new.rest) ((new.refusal ≡ None) × IsSpent new.rest) (λ so. (still, so)) ended;
       over = λ is. over is.1;
-      refused = subst (λ (o : Option Error). IfSome o (λ x. (item ≡ Some (Err x)) × (faults (config_in new.source).device ≡ faults (config_in old.source).device))) (sym none) tt;
+      refused = subst (λ (o : Option Error). IfSome o (λ x. (item ≡ Some (Err x)) × (new.source ≡ old.source))) (sym none) tt;
       answers = subst (λ (o : Option Error). IfNone o (NextAnswers sum (state_of (trace (config_in old.source).device)).blobs.file item (faults (config_in old.source).device) (faults (config_in new.source).device))) (sym none) answers;
       reads = reads;
       log = subst (λ (o : Option Error). IfNone o (LogIsReadFor trace sum item old.source new.source)) (sym none) log;
