@@ -29,12 +29,12 @@ refusal_of it = it.refusal
 abbrev pub reads_of : {D C : Type 0} → LogIter D C → RunningConfig D C
 reads_of it = config_in it.source
 
--- it borrows what a log file is on, or a log, which is this one now
+-- it borrows what a log file is on, which is this now, or a log, as it was lent
 abbrev pub BorrowsFile : {D C : Type 0} → MutBor (RunningConfig D C) → RunningConfig D C → LogIter D C → Type 0
 BorrowsFile entry now it = it.source ≡ source.File (record entry { now = now })
 
-abbrev pub BorrowsLog : {D C : Type 0} → MutBor (Log D C) → Log D C → LogIter D C → Type 0
-BorrowsLog entry now it = it.source ≡ source.Log (record entry { now = now })
+abbrev pub BorrowsLog : {D C : Type 0} → MutBor (Log D C) → LogIter D C → Type 0
+BorrowsLog entry it = it.source ≡ source.Log entry
 
 -- what it borrows is as it was
 abbrev pub BorrowsStill : {D C : Type 0} → LogIter D C → LogIter D C → Type 0
@@ -83,9 +83,9 @@ pub record IsReadFor {D C : Type 0} (trace : D → Trace) (sum : List ℕ → �
   pub read : IsOnlyRead trace sum old new
   pub fault : fault_of new ≡ first_failure (fault_of old) item
 
--- An iterator is over a log that was borrowed so, and that was only read since.
-abbrev pub IsOverLog : {D C : Type 0} → (D → Trace) → (List ℕ → ℕ) → MutBor (Log D C) → Log D C → LogIter D C → Type 0
-IsOverLog {D} {C} trace sum entry log it = (r : MutBor (Log D C)) × (log_in it.source ≡ Some r) × (r.ghost_name ≡ entry.ghost_name) × IsOnlyRead trace sum log r.now
+-- An iterator is over a log that was lent so, and that was only read since.
+abbrev pub IsOverLog : {D C : Type 0} → (D → Trace) → (List ℕ → ℕ) → MutBor (Log D C) → LogIter D C → Type 0
+IsOverLog {D} {C} trace sum entry it = (r : MutBor (Log D C)) × (log_in it.source ≡ Some r) × (r.ghost_name ≡ entry.ghost_name) × IsOnlyRead trace sum entry.now r.now
 
 -- so was the log that an iterator borrows, where it borrows one
 abbrev pub LogIsReadFor : {D C : Type 0} → (D → Trace) → (List ℕ → ℕ) → Option (Result Item Error) → Source D C → Source D C → Type 0

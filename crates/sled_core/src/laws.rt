@@ -269,11 +269,11 @@ pub fn places_not_synced_are_beyond()
 
 /// An iterator of a log only reads it, call by call, and gives it back (`LogIter::into_log`).
 pub fn an_iterator_only_reads_its_log<D: Device, C: Checksum>()
-    ensures begun { (entry : MutBor (Log D C)) (log : Log D C) (it : LogIter D C) → BorrowsLog entry log it → IsOverLog D.trace C.sum_of entry log it }
-    ensures next { (entry : MutBor (Log D C)) (log : Log D C) (old : LogIter D C) (item : Option (Result Item Error)) (new : LogIter D C)
-        → IsNext D.trace D.faults C.sum_of old item new → IsOverLog D.trace C.sum_of entry log old → IsOverLog D.trace C.sum_of entry log new }
-    ensures back { (entry : MutBor (Log D C)) (log : Log D C) (it : LogIter D C) (result : Option (MutBor (Log D C)))
-        → IsOverLog D.trace C.sum_of entry log it → IsLogOf it result
-        → (r : MutBor (Log D C)) × (result ≡ Some r) × (r.ghost_name ≡ entry.ghost_name) × IsOnlyRead D.trace C.sum_of log r.now }
+    ensures begun { (entry : MutBor (Log D C)) (it : LogIter D C) → BorrowsLog entry it → IsOverLog D.trace C.sum_of entry it }
+    ensures next { (entry : MutBor (Log D C)) (old : LogIter D C) (item : Option (Result Item Error)) (new : LogIter D C)
+        → IsNext D.trace D.faults C.sum_of old item new → IsOverLog D.trace C.sum_of entry old → IsOverLog D.trace C.sum_of entry new }
+    ensures back { (entry : MutBor (Log D C)) (it : LogIter D C) (result : Option (MutBor (Log D C)))
+        → IsOverLog D.trace C.sum_of entry it → IsLogOf it result
+        → (r : MutBor (Log D C)) × (result ≡ Some r) × (r.ghost_name ≡ entry.ghost_name) × IsOnlyRead D.trace C.sum_of entry.now r.now }
 {
 }

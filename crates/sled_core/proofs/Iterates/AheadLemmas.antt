@@ -36,9 +36,9 @@ module _ {D C : Type 0} (trace : D → Trace) (sum : List ℕ → ℕ) (it : Log
 
 -- The segments of a log of which none was read are ahead of an iterator that borrows the log.
 pub goes_over : {D C : Type 0} (trace : D → Trace) (sum : List ℕ → ℕ) (log : Log D C) (lsn : ℤ) (it : LogIter D C) (ss : List Segment) → AreSegments (segment_size_of log) (machine_at log) (begins_from (segment_size_of log) lsn) (stable_end log) ss
-    → (entry : MutBor (Log D C)) → BorrowsLog entry log it → (r : Rest) → it.rest ≡ r → r.strict ≡ true → r.segments.items ≡ ss → r.end ≡ stable_end log → r.read ≡ 0 → r.met.items ≡ [] → r.given ≡ 0 → GoesOver trace sum log lsn it
+    → (entry : MutBor (Log D C)) → entry.now ≡ log → BorrowsLog entry it → (r : Rest) → it.rest ≡ r → r.strict ≡ true → r.segments.items ≡ ss → r.end ≡ stable_end log → r.read ≡ 0 → r.met.items ≡ [] → r.given ≡ 0 → GoesOver trace sum log lsn it
 unfolding IsLeft
-goes_over {D} {C} trace sum log lsn it ss are entry borrows r rest strict segments end read met given =
+goes_over {D} {C} trace sum log lsn it ss are entry lent borrows r rest strict segments end read met given =
     let size : ℕ = segment_size_of log in
     let s = state_of (trace (device_of log)) in (
       ss,
@@ -53,5 +53,5 @@ goes_over {D} {C} trace sum log lsn it ss are entry borrows r rest strict segmen
             (subst (λ n. IsIteration sum size s.log.bytes s.blobs.file (stable_end log) true (drop n r.segments.items) items damaged) (sym read)
             (subst (λ (l : List Segment). IsIteration sum size s.log.bytes s.blobs.file (stable_end log) true l items damaged) (sym segments) gives))))),
       ) in
-      left_ahead trace sum it (config_of log) r (ap config_in borrows) rest items damaged left,
+      left_ahead trace sum it (config_of log) r (ap config_in borrows ∙ ap config_of lent) rest items damaged left,
     )

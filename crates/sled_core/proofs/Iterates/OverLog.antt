@@ -46,25 +46,25 @@ module _ {D C : Type 0} (trace : D → Trace) (sum : List ℕ → ℕ) where
   }
 
   -- An iterator begins over a log,
-  pub over_begun : (entry : MutBor (Log D C)) (log : Log D C) (it : LogIter D C) → BorrowsLog entry log it → IsOverLog trace sum entry log it
-  over_begun entry log it borrows = (record entry { now = log }, ap log_in borrows, refl, read_still log)
+  pub over_begun : (entry : MutBor (Log D C)) (it : LogIter D C) → BorrowsLog entry it → IsOverLog trace sum entry it
+  over_begun entry it borrows = (entry, ap log_in borrows, refl, read_still entry.now)
 
   -- goes on over it,
-  pub over_next : (faults : D → ℕ) (entry : MutBor (Log D C)) (log : Log D C) (old : LogIter D C) (item : Option (Result Item Error)) (new : LogIter D C) → IsNext trace faults sum old item new → IsOverLog trace sum entry log old → IsOverLog trace sum entry log new
-  over_next faults entry log old item new next over = by old.refusal next.refused next.log where
-    read : (a b : Source D C) → BorrowSame a b → LogIsReadFor trace sum item a b → (r : MutBor (Log D C)) → log_in a ≡ Some r → r.ghost_name ≡ entry.ghost_name → IsOnlyRead trace sum log r.now
-        → (s : MutBor (Log D C)) × (log_in b ≡ Some s) × (s.ghost_name ≡ entry.ghost_name) × IsOnlyRead trace sum log s.now
+  pub over_next : (faults : D → ℕ) (entry : MutBor (Log D C)) (old : LogIter D C) (item : Option (Result Item Error)) (new : LogIter D C) → IsNext trace faults sum old item new → IsOverLog trace sum entry old → IsOverLog trace sum entry new
+  over_next faults entry old item new next over = by old.refusal next.refused next.log where
+    read : (a b : Source D C) → BorrowSame a b → LogIsReadFor trace sum item a b → (r : MutBor (Log D C)) → log_in a ≡ Some r → r.ghost_name ≡ entry.ghost_name → IsOnlyRead trace sum entry.now r.now
+        → (s : MutBor (Log D C)) × (log_in b ≡ Some s) × (s.ghost_name ≡ entry.ghost_name) × IsOnlyRead trace sum entry.now s.now
     read (source.File x) b same was r is name had = absurd (none_some r is)
     read (source.Log x) (source.File y) same was r is name had = absurd same
     read (source.Log x) (source.Log y) same was r is name had =
         let one : x ≡ r = some_one x r is in
-        (y, refl, same ∙ ap (λ (z : MutBor (Log D C)). z.ghost_name) one ∙ name, read_further log x.now y.now (subst (λ (z : MutBor (Log D C)). IsOnlyRead trace sum log z.now) (sym one) had) was.read)
+        (y, refl, same ∙ ap (λ (z : MutBor (Log D C)). z.ghost_name) one ∙ name, read_further entry.now x.now y.now (subst (λ (z : MutBor (Log D C)). IsOnlyRead trace sum entry.now z.now) (sym one) had) was.read)
 
-    by : (o : Option Error) → IfSome o (λ e. (item ≡ Some (Err e)) × (new.source ≡ old.source)) → IfNone o (LogIsReadFor trace sum item old.source new.source) → IsOverLog trace sum entry log new
+    by : (o : Option Error) → IfSome o (λ e. (item ≡ Some (Err e)) × (new.source ≡ old.source)) → IfNone o (LogIsReadFor trace sum item old.source new.source) → IsOverLog trace sum entry new
     by None refused was = read old.source new.source next.same_reference was over.0 over.1 over.2 over.3
     by (Some e) refused was = (over.0, ap log_in refused.1 ∙ over.1, over.2, over.3)
 
   -- and gives it back.
-  pub over_back : (entry : MutBor (Log D C)) (log : Log D C) (it : LogIter D C) (result : Option (MutBor (Log D C))) → IsOverLog trace sum entry log it → IsLogOf it result
-      → (r : MutBor (Log D C)) × (result ≡ Some r) × (r.ghost_name ≡ entry.ghost_name) × IsOnlyRead trace sum log r.now
-  over_back entry log it result over is = (over.0, is ∙ over.1, over.2, over.3)
+  pub over_back : (entry : MutBor (Log D C)) (it : LogIter D C) (result : Option (MutBor (Log D C))) → IsOverLog trace sum entry it → IsLogOf it result
+      → (r : MutBor (Log D C)) × (result ≡ Some r) × (r.ghost_name ≡ entry.ghost_name) × IsOnlyRead trace sum entry.now r.now
+  over_back entry it result over is = (over.0, is ∙ over.1, over.2, over.3)

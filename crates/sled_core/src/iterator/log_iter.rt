@@ -59,7 +59,7 @@ impl<'a, D, C> LogIter<'a, D, C> {
         requires { CanGoOn log.old.config.config.segment_size rest }
         ensures rest { result.rest ≡ rest }
         ensures begun { result.refusal ≡ None }
-        ensures borrows { BorrowsLog log.entry log.old result }
+        ensures borrows { BorrowsLog log.entry result }
     {
         LogIter {
             source: Source::Log(log),
@@ -74,7 +74,7 @@ impl<'a, D, C> LogIter<'a, D, C> {
         requires spent { IsSpent rest }
         requires undamaged { IsCorrupt e → ⊥ }
         ensures refusal { result.refusal ≡ Some e }
-        ensures borrows { BorrowsLog log.entry log.old result }
+        ensures borrows { BorrowsLog log.entry result }
     {
         LogIter {
             source: Source::Log(log),

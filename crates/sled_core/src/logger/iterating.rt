@@ -44,7 +44,7 @@ impl<D: Device, C: Checksum> Log<D, C> {
             → IfNone (refusal_of result) (GivesMessages D.trace C.sum_of self.old H lsn result) }
         ensures goes_over { IfNone (refusal_of result) (GoesOver D.trace C.sum_of self.old lsn result) }
         ensures refused { IsRefusedFor (refusal_of result) (fault_of self.old) }
-        ensures borrows { BorrowsLog self.entry self.old result }
+        ensures borrows { BorrowsLog self.entry result }
     {
         let alloc = self.config.alloc();
         let end = self.stable_end();
