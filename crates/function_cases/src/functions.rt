@@ -100,7 +100,21 @@ fn cite_laws() {
     laws::one_record::<PlaceSum>();
     laws::lengths();
     laws_of_logs();
+    laws_of_running_logs();
     laws_of_segments();
+}
+
+// The laws of a log that runs, each called at one type.
+fn laws_of_running_logs() {
+    core_laws::what_is_durable_is_acknowledged();
+    core_laws::a_log_shows_its_buffers::<MemDevice, PlaceSum>();
+    core_laws::where_none_is_open_none_is_held::<MemDevice, PlaceSum>();
+    core_laws::open_reservations_are_seen::<MemDevice, PlaceSum>();
+    core_laws::less_is_acknowledged_before::<PlaceSum>();
+    core_laws::batches_end_in_what_was_reserved::<MemDevice, PlaceSum>();
+    core_laws::the_stable_end_never_falls::<MemDevice, PlaceSum>();
+    core_laws::what_has_its_record_has_its_segment::<MemDevice, PlaceSum>();
+    core_laws::an_iterator_only_reads_its_log::<MemDevice, PlaceSum>();
 }
 
 // The laws of histories, devices and logs, each called at one type.

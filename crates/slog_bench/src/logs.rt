@@ -64,7 +64,7 @@ impl Opened {
             "write" => self.write(words.number(), out),
             "roll" => push_growth(self.log.roll_iobuf(), out),
             "read" => self.read(words.number(), words.signed(), words.pointer(), out),
-            "iter" => push_messages(self.log.iter_from(words.signed()), out),
+            "iter" => iterate(&mut self.log, words.signed(), out),
             "failure" => self.failure(out),
             "pins" => out.text.number(self.log.pins()),
             "stable" => out.text.signed(self.log.stable_offset()),
@@ -382,4 +382,13 @@ fn push_place(word: &str, place: i64, len: u32, out: &mut Text) {
 fn push_len(len: u32, out: &mut Text) {
     out.push(" ");
     out.number(u64::from(len));
+}
+
+// Goes over the messages of a log from a place on.
+fn iterate(log: &mut Log<MemDevice, PlaceSum>, from: i64, out: &mut Answer) {
+    let mut messages = log.iter_from(from);
+    push_messages(&mut messages, out);
+    if messages.into_log().is_none() {
+        out.text.push(" lost");
+    }
 }

@@ -48,13 +48,18 @@ pub fn call(
 // Goes over the messages of the log file from a place on.
 fn iterate(config: &mut Running, from: i64, out: &mut Answer) {
     match raw_segment_iter_from(from, config) {
-        Ok(messages) => push_messages(messages, out),
+        Ok(mut messages) => {
+            push_messages(&mut messages, out);
+            if messages.into_config().is_none() {
+                out.text.push(" lost");
+            }
+        }
         Err(e) => out.error(&e),
     }
 }
 
 /// Adds each message, an error, and a dash where none is left. One that comes behind the end is told of.
-pub fn push_messages(mut messages: LogIter<'_, MemDevice, PlaceSum>, out: &mut Answer) {
+pub fn push_messages(messages: &mut LogIter<'_, MemDevice, PlaceSum>, out: &mut Answer) {
     for message in messages.by_ref() {
         match message {
             Ok((kind, page, place, at, len)) => {
