@@ -1,12 +1,12 @@
 -- The batches that a log has noted: how they are left, and up to where has to be written.
 use Rattle.std.proofs.Common.{◌≡◌, ◌⊎◌, ◌∙◌, ◌<◌, ◌≤◌, ◌+◌, ℕ, Bool, true, false, List, [], ◌∷◌, map, refl, ap, arith, inl, inr}
-use Rattle.std.specs.Prelude.{nat_lt, min, max, if◌then◌else◌}
+use Rattle.std.specs.Prelude.{nat_lt, max, if◌then◌else◌}
 use Rattle.std.specs.List.{Contains}
 use Rattle.std.proofs.lemmas.Bool.Decides.{nat_tests}
 use Rattle.sled_codec.specs.History.{Batch}
 use Rattle.sled_store.proofs.Segments.Elements.{in_cases, in_first, in_nothing, in_rest}
 use Rattle.sled_core.specs.declared.logger.batches.NotedBatch.{NotedBatch}
-use Rattle.sled_core.specs.OpenBatches.{batch_of, behind_batch, not_whole, stable_below}
+use Rattle.sled_core.specs.OpenBatches.{batch_of, behind_batch, not_whole}
 
 -- how they are left where all up to a place is written
 abbrev pub left_of : ℕ → List NotedBatch → List Batch

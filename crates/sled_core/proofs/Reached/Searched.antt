@@ -1,5 +1,5 @@
 -- The batches that a log has noted lie by place, so that a search finds the one by which the stable place goes, and the one up to which has to be written.
-use Rattle.std.proofs.Common.{◌≡◌, ◌⊎◌, ◌∙◌, ◌<◌, ◌≤◌, ◌+◌, ◌-◌, ℕ, ℤ, negsuc, zero, suc, Bool, true, false, List, [], ◌∷◌, ◌++◌, length, take, drop, map, get_or, refl, sym, ap, subst, arith, inl, inr}
+use Rattle.std.proofs.Common.{◌≡◌, ◌⊎◌, ◌∙◌, ◌<◌, ◌≤◌, ◌+◌, ℕ, ℤ, negsuc, zero, suc, Bool, true, false, List, [], ◌∷◌, length, take, drop, map, get_or, refl, sym, ap, subst, arith, inl, inr}
 use Rattle.std.specs.Prelude.{nat_lt, int_lt, unsigned_abs, pos, ◌<ℤ◌, ◌↔◌, min, max, if◌then◌else◌}
 use Rattle.std.specs.List.{All, Contains, insert}
 use Rattle.std.specs.List.Sorted.{IsNonDecreasingBy, IsPartitionPoint}
@@ -11,7 +11,7 @@ use Rattle.std.proofs.lemmas.List.Elements.{All-append, All-cons, All-contains, 
 use Rattle.sled_codec.specs.History.{Batch}
 use Rattle.sled_store.proofs.Segments.Elements.{in_first, in_rest}
 use Rattle.sled_core.specs.declared.logger.batches.NotedBatch.{NotedBatch}
-use Rattle.sled_core.specs.OpenBatches.{AreByPlace, batch_of, behind_batch, not_whole, stable_below, with_batch}
+use Rattle.sled_core.specs.OpenBatches.{AreByPlace, batch_of, behind_batch, stable_below, with_batch}
 use Rattle.sled_core.proofs.Reached.NotedSteps.{behind_all, behind_has, behind_least, behind_within, left_of}
 use Rattle.sled_core.proofs.Reached.OpenBatch.{not_whole_there, whole_not}
 use Rattle.sled_core.proofs.Reached.StableBelow.{stable_all, stable_is, stable_open}

@@ -1,15 +1,11 @@
 -- The batches that aren't wholly on the device are those that were, and the one that is noted: those that were may have been looked through before.
-use Rattle.std.proofs.Common.{◌≡◌, ◌⊎◌, ◌∙◌, ◌<◌, ap, arith, inl, inr, subst, sym, List, map}
-use Rattle.std.specs.List.{All, Contains}
-use Rattle.std.proofs.lemmas.Bool.{cases_lt}
-use Rattle.std.proofs.lemmas.List.Elements.{All-contains_itself}
+use Rattle.std.proofs.Common.{◌≡◌, ◌∙◌, ap, arith, subst, List}
+use Rattle.std.specs.List.{Contains}
 use Rattle.sled_codec.specs.History.{Batch}
-use Rattle.sled_core.specs.declared.logger.batches.NotedBatch.{NotedBatch}
 use Rattle.sled_core.specs.Fits.{noted_in, synced_end}
-use Rattle.sled_core.specs.OpenBatches.{batch_of, with_batch}
+use Rattle.sled_core.specs.OpenBatches.{with_batch}
 use Rattle.sled_core.proofs.Line.BatchNoted.{noted_more, noted_synced}
 use Rattle.sled_core.proofs.Reached.Searched.{each_apart}
-use Rattle.sled_core.proofs.logger.Log.note.Given as given
 use Rattle.sled_core.proofs.logger.Log.note.Goals as goal
 use Rattle.sled_core.proofs.logger.Log.note.Goals.{then-is_power_of_two, else-is_power_of_two}
 

@@ -1,5 +1,5 @@
 -- Up to where has to be written is the place behind the peg of the batch that the search found, or the place itself.
-use Rattle.std.proofs.Common.{◌≡◌, ◌∙◌, ◌+◌, ◌-◌, ◌<◌, ◌≤◌, suc, arith, ap, length, rules, subst, sym}
+use Rattle.std.proofs.Common.{◌≡◌, ◌-◌, ◌<◌, ◌≤◌, suc, arith, length, rules, subst, sym}
 use Rattle.std.specs.List.Sorted.{IsPartitionPoint}
 use Rattle.sled_core.specs.declared.logger.batches.NotedBatch.{NotedBatch}
 use Rattle.sled_core.proofs.Reached.NotedSteps.{behind_all, left_of}

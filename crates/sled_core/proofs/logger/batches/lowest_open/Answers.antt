@@ -1,5 +1,5 @@
 -- The stable place lies where the batch begins that the search found, if that is read.
-use Rattle.std.proofs.Common.{◌≡◌, ◌∙◌, ◌<◌, arith, length, rules, sym}
+use Rattle.std.proofs.Common.{◌≡◌, ◌<◌, arith, length, rules, sym}
 use Rattle.sled_core.proofs.Reached.Searched.{stable_found, stable_none}
 use Rattle.sled_core.proofs.logger.batches.lowest_open.Goals as goal
 

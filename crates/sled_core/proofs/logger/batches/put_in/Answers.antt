@@ -1,12 +1,11 @@
 -- It is put in where the search ended: there is room for it.
-use Rattle.std.proofs.Common.{◌≡◌, ◌∙◌, ◌⊎◌, ◌<◌, ℕ, List, Bool, true, false, is_ok, if◌then◌else◌, length, map, sym, ap, subst, inl, inr, arith, rules, vec_len, vec_capacity}
+use Rattle.std.proofs.Common.{◌≡◌, ◌∙◌, ◌⊎◌, ◌<◌, Bool, true, is_ok, if◌then◌else◌, map, sym, ap, subst, arith, rules, vec_len, vec_capacity}
 use Rattle.std.specs.List.{insert}
 use Rattle.std.proofs.lemmas.List.Elements.{All-contains, All-map}
 use Rattle.sled_codec.specs.History.{Batch}
-use Rattle.sled_core.specs.declared.logger.batches.NotedBatch.{NotedBatch}
-use Rattle.sled_core.specs.OpenBatches.{AreByPlace, batch_of, with_batch}
+use Rattle.sled_core.specs.OpenBatches.{AreByPlace, batch_of}
 use Rattle.sled_core.proofs.Reached.ByPlace.{with_by_place}
-use Rattle.sled_core.proofs.Reached.Searched.{All-put_in, put_in_place}
+use Rattle.sled_core.proofs.Reached.Searched.{put_in_place}
 use Rattle.sled_core.proofs.logger.batches.put_in.Goals as goal
 
 pub returns-clause-items : goal.returns-clause-items
