@@ -32,13 +32,8 @@ pub fn measure(rt: &HostRuntime, name: &str, window: u32) -> io::Result<()> {
     mark.print(rt, name, "batch", BATCHES)
 }
 
-/// Writes all batches to a log on an empty device: how long that takes.
-fn write(
-    rt: &HostRuntime,
-    item: &Vec<u8>,
-    window: u32,
-    mark: &mut Shortest,
-) -> io::Result<()>
+/// Writes all batches to a log on an empty device, and notes how long that takes.
+fn write(rt: &HostRuntime, item: &Vec<u8>, window: u32, mark: &mut Shortest) -> io::Result<()>
     requires { length item.now.items < 2 ^ 63 }
 {
     let config = empty(rt.alloc(), SEGMENT_SIZE)?;

@@ -1,5 +1,5 @@
 -- The batches that a log has noted lie by place, so that a search finds the one by which the stable place goes, and the one up to which has to be written.
-use Rattle.std.proofs.Common.{◌≡◌, ◌⊎◌, ◌∙◌, ◌<◌, ◌≤◌, ◌+◌, ℕ, ℤ, negsuc, zero, suc, Bool, true, false, List, [], ◌∷◌, length, take, drop, map, get_or, refl, sym, ap, subst, arith, inl, inr}
+use Rattle.std.proofs.Common.{◌≡◌, ◌⊎◌, ◌∙◌, ◌<◌, ◌≤◌, ◌+◌, ℕ, ℤ, negsuc, zero, suc, Bool, true, false, List, [], ◌∷◌, length, map, get_or, refl, sym, ap, subst, arith, inl, inr}
 use Rattle.std.specs.Prelude.{nat_lt, int_lt, unsigned_abs, pos, ◌<ℤ◌, ◌↔◌, min, max, if◌then◌else◌}
 use Rattle.std.specs.List.{All, Contains, insert}
 use Rattle.std.specs.List.Sorted.{IsNonDecreasingBy, IsPartitionPoint}
@@ -7,7 +7,7 @@ use Rattle.std.proofs.lemmas.Bool.{cases_lt}
 use Rattle.std.proofs.lemmas.Bool.Decides.{nat_tests}
 use Rattle.std.proofs.lemmas.Int.{ints}
 use Rattle.std.proofs.lemmas.List.{get_or_default}
-use Rattle.std.proofs.lemmas.List.Elements.{All-append, All-cons, All-contains, All-drop, All-map, All-take}
+use Rattle.std.proofs.lemmas.List.Elements.{All-contains, All-map}
 use Rattle.sled_codec.specs.History.{Batch}
 use Rattle.sled_store.proofs.Segments.Elements.{in_first, in_rest}
 use Rattle.sled_core.specs.declared.logger.batches.NotedBatch.{NotedBatch}
@@ -196,10 +196,6 @@ put_in_place b (c ∷ cs) (suc i) within point =
     let test : nat_lt b.low c.low ≡ false = grind (arith, nat_tests, low) in
     ap (λ (l : List Batch). batch_of c ∷ l) (put_in_place b cs i (omega (arith, within)) (λ k d from upto. point.0 (suc k) d (omega arith) (omega (arith, upto)), λ k d from upto. point.1 (suc k) d (omega (arith, from)) (omega (arith, upto))))
     ∙ sym (ap (λ (o : Bool). if o then batch_of b ∷ batch_of c ∷ map batch_of cs else batch_of c ∷ with_batch (batch_of b) (map batch_of cs)) test)
-
--- What holds of all of them, and of one that is put in, holds of all then.
-pub All-put_in : (P : NotedBatch → Type 0) (b : NotedBatch) (xs : List NotedBatch) (i : ℕ) → P b → All P xs → All P (insert xs i b)
-All-put_in P b xs i its all = All-append P (take i xs) (b ∷ drop i xs) (All-take P i xs all) (All-cons P b (drop i xs) its (All-drop P i xs all))
 
 -- One that begins behind all that is read, and has no place in common with those that aren't wholly read, has none with each of them.
 pub each_apart : (end low peg : ℕ) → end ≤ low → (xs : List NotedBatch) → ((b : Batch) → Contains (left_of end xs) b → (b.peg < low) ⊎ (peg < b.low)) → All (λ b. (b.peg < low) ⊎ (peg < b.low)) xs
