@@ -16,10 +16,10 @@ use std::io;
 use std::time::Instant;
 
 /// A log on a device in memory.
-type MemoryLog = Log<MemDevice, PlaceSum>;
+pub type MemoryLog = Log<MemDevice, PlaceSum>;
 
 /// What such a log runs on.
-type Running = RunningConfig<MemDevice, PlaceSum>;
+pub type Running = RunningConfig<MemDevice, PlaceSum>;
 
 /// How many pages are replaced, one behind another and again from the first. Each takes one byte in a header.
 const PAGES: u64 = 200;
@@ -39,7 +39,7 @@ const SEGMENT_SIZE: u64 = 524288;
 const LONGEST_SEGMENT: u64 = 8388608;
 
 /// What a log in segments of this size runs on, on a device that has nothing yet.
-fn empty(alloc: Global, segment_size: u64) -> io::Result<Running> {
+pub fn empty(alloc: Global, segment_size: u64) -> io::Result<Running> {
     match Config::new(segment_size) {
         Some(config) => Ok(RunningConfig::new(alloc, config, MemDevice::new(alloc), PlaceSum)),
         None => Err(io::Error::other("no segments have this size")),
@@ -47,7 +47,7 @@ fn empty(alloc: Global, segment_size: u64) -> io::Result<Running> {
 }
 
 /// A log that begins on such a device.
-fn started(alloc: Global, config: Running) -> io::Result<MemoryLog>
+pub fn started(alloc: Global, config: Running) -> io::Result<MemoryLog>
     ensures { IfOk result (λ log. pins_of log ≡ 0) }
 {
     match Log::start(config, &Snapshot::empty(alloc)) {
@@ -57,7 +57,7 @@ fn started(alloc: Global, config: Running) -> io::Result<MemoryLog>
 }
 
 /// An item of so many bytes and their count.
-fn item(alloc: Global, len: u32) -> Result<Vec<u8>, AllocError> {
+pub fn item(alloc: Global, len: u32) -> Result<Vec<u8>, AllocError> {
     let mut bytes = Vec::new(alloc);
     for i in 0..len {
         bytes.push((i % 251) as u8)?;
@@ -115,7 +115,7 @@ fn replace_many(log: &mut MemoryLog, item: &Vec<u8>, guard: &Guard) -> io::Resul
 }
 
 /// Completes a message.
-fn complete(log: &mut MemoryLog, ticket: Reservation) -> io::Result<()>
+pub fn complete(log: &mut MemoryLog, ticket: Reservation) -> io::Result<()>
     requires awaited { IsOpen log.old ticket }
     requires message { is_manifest_of ticket ≡ false }
 {
@@ -126,7 +126,7 @@ fn complete(log: &mut MemoryLog, ticket: Reservation) -> io::Result<()>
 }
 
 /// Settles what was completed.
-fn flush(log: &mut MemoryLog) -> io::Result<()> {
+pub fn flush(log: &mut MemoryLog) -> io::Result<()> {
     if !log.none_open() {
         return Err(io::Error::other("a message isn't completed"));
     }

@@ -1,11 +1,12 @@
-//! The program `codec_bench`: how long the codecs take for a value, a log for a record, the accountant for a segment, and
-//! the stable end for an interval that is synced (`docs/BENCHMARKS.md`).
+//! The program `codec_bench`: how long the codecs take for a value, a log for a record and for a batch, the accountant
+//! for a segment, and the stable end for an interval that is synced (`docs/BENCHMARKS.md`).
 //!
 //! Without an argument it prints one fixed line. With the argument `time` it measures, and prints a line
 //! for each figure.
 #![tactic(auto)]
 
 mod accounts;
+mod batches;
 mod figure;
 mod headers;
 mod identifiers;
@@ -46,6 +47,9 @@ fn main(rt: HostRuntime) -> io::Result<()> {
     logs::measure_start(&rt)?;
     measure_recoveries(&rt)?;
     measure_accounts(&rt)?;
+    batches::measure(&rt, "batches settled one by one", 1)?;
+    batches::measure(&rt, "batches settled by hundreds", 100)?;
+    batches::measure(&rt, "batches settled at once", u32::MAX)?;
     syncs::measure_in_order(&rt)?;
     syncs::measure_shuffled(&rt, "intervals in windows of 64", 64, &mut sequence)?;
     syncs::measure_shuffled(&rt, "intervals in windows of 4096", 4096, &mut sequence)?;

@@ -1,5 +1,6 @@
 pub mod BufferPath
 pub mod BufferStands
+pub mod ByPlace
 pub mod CapStands
 pub mod Higher
 pub mod KeptStands
@@ -17,6 +18,7 @@ pub mod ReachedCut
 pub mod ReachedEntries
 pub mod Recoverable
 pub mod Reread
+pub mod Searched
 pub mod SegmentsBeside
 pub mod StableBelow
 pub mod StandsTo

@@ -1,10 +1,11 @@
 -- What ends the manifest of a batch: which pegs it may have, and what comes of it.
-use Rattle.std.specs.Prelude.{◌≡◌, ◌+◌, ◌≤ℤ◌, ◌<ℤ◌, ◌⊎◌, ◌++◌, ◌∷◌, ℕ, ℤ, pos, int_lt, unsigned_abs, if◌then◌else◌, List, [], Contains, Some, slice_get}
+use Rattle.std.specs.Prelude.{◌≡◌, ◌+◌, ◌≤ℤ◌, ◌<ℤ◌, ◌⊎◌, ℕ, ℤ, pos, int_lt, unsigned_abs, if◌then◌else◌, List, Contains, Some, slice_get}
 use Rattle.sled_codec.specs.History.{Batch, Batched, History, Step}
 use Rattle.sled_core.specs.Begun.{SegmentView, records_to}
 use Rattle.sled_core.specs.declared.logger.Log.{Log}
 use Rattle.sled_core.specs.declared.reservation.Reservation.{Reservation}
 use Rattle.sled_core.specs.Fits.{config_of, fault_of, line_of, noted_in, pins_of, reserved_end, segment_size_of, stable_end, synced_end}
+use Rattle.sled_core.specs.OpenBatches.{with_batch}
 use Rattle.sled_core.specs.Tickets.{place_of}
 
 -- the batch of a manifest, from its own place to the peg
@@ -22,9 +23,9 @@ pub record MayEndAt {D C : Type 0} (log : Log D C) (ticket : Reservation) (peg :
   pub filled : LiesInNoFilling (segment_size_of log) (line_of log) peg
   pub apart : (b : Batch) → Contains (noted_in log) b → (pos b.peg <ℤ place_of ticket) ⊎ (peg <ℤ pos b.low)
 
--- That makes one batch more of these; none where the peg is the manifest's own place.
+-- That makes one batch more of these, by place; none where the peg is the manifest's own place.
 abbrev pub with_batch_for : Reservation → ℤ → List Batch → List Batch
-with_batch_for ticket peg bs = if int_lt (place_of ticket) peg then bs ++ batch_for ticket peg ∷ [] else bs
+with_batch_for ticket peg bs = if int_lt (place_of ticket) peg then with_batch (batch_for ticket peg) bs else bs
 
 -- So it is with a history.
 abbrev pub EndsBatch : History → Reservation → ℤ → History → Type 0

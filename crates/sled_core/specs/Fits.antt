@@ -77,7 +77,7 @@ next_place log = (position_of log).place
 abbrev pub synced_end : {D C : Type 0} → Log D C → ℕ
 synced_end log = log.site.place + log.buffer.written_len
 
--- the batches that were noted and aren't wholly on the device
+-- the batches that were noted and aren't wholly on the device, by place
 abbrev pub noted_in : {D C : Type 0} → Log D C → List Batch
 noted_in log = not_whole (synced_end log) (map batch_of log.noted.items)
 

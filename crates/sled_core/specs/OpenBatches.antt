@@ -1,6 +1,7 @@
 -- Up to which place a reader doesn't stop at a batch that isn't whole, of what is read without a gap, and which batches a log has to keep for that.
-use Rattle.std.specs.Prelude.{◌≡◌, ◌+◌, ◌≤◌, ◌<◌, ◌⊎◌, nat_lt, min, max, if◌then◌else◌, ℕ, List, [], ◌∷◌}
+use Rattle.std.specs.Prelude.{◌≡◌, ◌+◌, ◌≤◌, ◌<◌, ◌⊎◌, nat_lt, min, max, if◌then◌else◌, ℕ, List, [], ◌∷◌, refl}
 use Rattle.std.specs.List.{Contains}
+use native.Mathlib.Bridge.{le_prop}
 use Rattle.sled_codec.specs.History.{Batch}
 use Rattle.sled_core.specs.declared.logger.batches.NotedBatch.{NotedBatch}
 
@@ -30,3 +31,18 @@ batch_of b = record { low = b.low; peg = b.peg }
 abbrev pub behind_batch : ℕ → List Batch → ℕ
 behind_batch behind [] = behind
 behind_batch behind (b ∷ bs) = if nat_lt b.low behind then max (b.peg + 1) (behind_batch behind bs) else behind_batch behind bs
+
+-- a batch more among these, by place
+abbrev pub with_batch : Batch → List Batch → List Batch
+with_batch b [] = b ∷ []
+with_batch b (c ∷ cs) = if nat_lt b.low c.low then b ∷ c ∷ cs else c ∷ with_batch b cs
+
+-- They lie one behind another from a place on: none ends in front of where it begins, and each ends in front of where the next one begins.
+abbrev pub AreByPlace : ℕ → List Batch → Type 0
+AreByPlace from [] = Unit {0}
+AreByPlace from (b ∷ bs) = (from ≤ b.low) × (b.low ≤ b.peg) × AreByPlace (b.peg + 1) bs
+
+-- A log keeps that as a proposition: there is one proof of it at most.
+pub AreByPlace-prop : (from : ℕ) (bs : List Batch) → IsProp (AreByPlace from bs)
+AreByPlace-prop from [] = λ p q. refl
+AreByPlace-prop from (b ∷ bs) = λ p q i. (le_prop p.0 q.0 i, le_prop p.1 q.1 i, AreByPlace-prop (b.peg + 1) bs p.2 q.2 i)

@@ -2,7 +2,7 @@
 //!
 //! A log keeps the bytes of its segments that aren't wholly on the device, the reservations in them, the accountant of all
 //! segments, the count of pins, and the first failure of its device, which it answers from then on. `specs/Fits.antt` says which history it holds.
-ghost use Rattle.std.specs.Prelude.{All, vec_capacity, List, ◌++◌, ◌≡◌, ◌≢◌, ◌↔◌, ◌+◌, ◌-◌, ◌<◌, ◌≤◌, ◌^◌, ◌∷◌, ◌-ℤ◌, ◌<ℤ◌, ◌≤ℤ◌, pos, [], ℕ, length, drop, false, IsTrue, IfOk, IfErr, OnOk, OnErr, Contains, None, Some, ◌⊎◌, ◌/◌, unsigned_abs, ℤ, max};
+ghost use Rattle.std.specs.Prelude.{All, vec_capacity, List, ◌++◌, ◌≡◌, ◌≢◌, ◌↔◌, ◌+◌, ◌-◌, ◌<◌, ◌≤◌, ◌^◌, ◌∷◌, ◌-ℤ◌, ◌<ℤ◌, ◌≤ℤ◌, pos, [], ℕ, length, drop, false, IsTrue, IfOk, IfErr, OnOk, OnErr, Contains, None, Some, ◌⊎◌, ◌/◌, unsigned_abs, ℤ, max, map};
 ghost use Rattle.std.specs.declared.io.Error.{Error as IoError};
 ghost use Rattle.sled_codec.specs.History.{History, Message, Completed, Step};
 ghost use Rattle.std.specs.IoError.{error_kind};
@@ -21,6 +21,7 @@ ghost use Rattle.sled_store.specs.Begin.{IsStartable, IsInReach};
 ghost use Rattle.sled_core.specs.Recoverable.{LeavesRecoverable, RecoverableIfOwn};
 ghost use Rattle.sled_core.specs.AccountProps.{IsAccountant-prop};
 ghost use Rattle.sled_core.specs.Begun.{FollowOn, FollowOn-prop, IsFilledLine, IsFilledLine-prop, line_at};
+ghost use Rattle.sled_core.specs.OpenBatches.{AreByPlace, AreByPlace-prop, batch_of};
 ghost use Rattle.sled_core.specs.OpenPlaces.{open_manifests};
 ghost use Rattle.sled_core.specs.Causes.{FaultAnswers, RecordAnswers, ReserveAnswers, failure_in};
 
@@ -69,7 +70,7 @@ pub struct Log<D, C> {
     /// The first failure of the device in this log.
     fault: Option<io::Error>,
     pins: u32,
-    /// The batches that were noted, but for those that are wholly on the device and were left out. There is room for that of each open manifest.
+    /// The batches that were noted, by place, but for those that are wholly on the device and were left out. There is room for that of each open manifest.
     noted: Vec<NotedBatch>,
     /// No more reservations of manifests are open or abandoned than this.
     manifests: usize,
@@ -81,6 +82,7 @@ pub struct Log<D, C> {
     ghost filled: { IsFilledLine config.config.segment_size reserved_to site buffer behind.items } by { IsFilledLine-prop _ _ site buffer behind.items },
     ghost account: { IsAccountant config.config.segment_size accountant } by { IsAccountant-prop config.config.segment_size accountant },
     ghost pegs: { All (λ b. b.peg < reserved_to) noted.items },
+    ghost by_place: { AreByPlace 0 (map batch_of noted.items) } by { AreByPlace-prop 0 (map batch_of noted.items) },
     ghost room: { length noted.items + manifests ≤ vec_capacity noted },
     ghost counted: { open_manifests (line_at site buffer behind.items) ≤ manifests },
 }

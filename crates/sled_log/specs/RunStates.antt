@@ -33,7 +33,7 @@ pub record LogView : Type 0 where
   pub position : Position
   -- the place behind all that is on the device without a gap
   pub synced : ℕ
-  -- the batches that were noted and aren't wholly on the device
+  -- the batches that were noted and aren't wholly on the device, by place
   pub noted : List Batch
   -- the place behind the greatest record that was reserved
   pub end : ℕ

@@ -7,6 +7,7 @@ use Rattle.sled_codec.specs.Spelling.{short_signed}
 use Rattle.sled_codec.specs.History.{Batch, Batched, Completed, History, Message, Step}
 use Rattle.sled_core.specs.Buffers.{most_open}
 use Rattle.sled_core.specs.Manifests.{manifest_page}
+use Rattle.sled_core.specs.OpenBatches.{with_batch}
 use Rattle.sled_core.specs.OpenPlaces.{places_from}
 use Rattle.sled_core.specs.Positions.{Position, behind_record}
 use Rattle.sled_log.specs.declared.session.command.Reply.{Reply}
@@ -119,10 +120,10 @@ pub record HasBegun (l : LogView) : Type 0 where
 abbrev pub batch_of : LogView → Message → Batch
 batch_of l m = record { low = m.place; peg = l.end - 1 }
 
--- the log with one more batch noted
+-- the log with one more batch noted, by place
 abbrev pub noting : Batch → LogView → LogView
 noting batch l =
-    record { position = l.position; synced = l.synced; noted = l.noted ++ batch ∷ []; end = l.end; waiting = l.waiting; start = l.start; begun = l.begun; fault = l.fault; outstanding = l.outstanding; tickets = l.tickets }
+    record { position = l.position; synced = l.synced; noted = with_batch batch l.noted; end = l.end; waiting = l.waiting; start = l.start; begun = l.begun; fault = l.fault; outstanding = l.outstanding; tickets = l.tickets }
 
 -- A batch that was begun comes to the history, and is noted.
 pub record HasEnded (a : RunState) (l : LogView) (place : ℤ) (pointer : DiskPtr) (new : DeviceView) (b : RunState) : Type 0 where

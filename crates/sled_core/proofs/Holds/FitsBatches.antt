@@ -1,14 +1,15 @@
 -- The batches of a history over what is written of a log and what it noted: where more is written, where a message or a batch comes to the history, where a log begins, and where all is written.
-use Rattle.std.proofs.Common.{◌≡◌, ◌⊎◌, ◌<◌, ◌≤◌, ◌+◌, ◌++◌, ℕ, List, [], ◌∷◌, subst, sym, arith, inl, inr}
+use Rattle.std.proofs.Common.{◌≡◌, ◌⊎◌, ◌<◌, ◌≤◌, ◌+◌, ℕ, List, [], ◌∷◌, subst, sym, arith, inl, inr}
 use Rattle.std.specs.List.{Contains}
-use Rattle.std.proofs.lemmas.List.Elements.{All-append, All-cons, All-contains, Contains-append_cases, Contains-append_left, Contains-append_right}
+use Rattle.std.proofs.lemmas.List.Elements.{All-append, All-cons, All-contains}
 use Rattle.sled_codec.specs.History.{AddsBatch, AddsMessage, Batch, History, Message}
-use Rattle.sled_store.proofs.Segments.Elements.{in_first, in_nothing, only_in}
+use Rattle.sled_store.proofs.Segments.Elements.{in_nothing}
 use Rattle.sled_core.specs.Fits.{CloseBelow, FitsBatches}
-use Rattle.sled_core.specs.OpenBatches.{AreApart, not_whole, stable_below}
+use Rattle.sled_core.specs.OpenBatches.{AreApart, not_whole, stable_below, with_batch}
 use Rattle.sled_core.proofs.Holds.Added.{was_or_added}
 use Rattle.sled_core.proofs.Holds.AddedBatch.{batch_stays, batch_there, message_was, was_or_batch}
 use Rattle.sled_core.proofs.Holds.BatchLemmas.{closed_up}
+use Rattle.sled_core.proofs.Reached.ByPlace.{with_cases, with_own, with_rest}
 use Rattle.sled_core.proofs.Reached.OpenBatch.{apart_further, apart_noted, ended_apart, not_whole_there, stable_alike, whole_not}
 
 -- Those that were noted are the ones by which the stable place goes.
@@ -55,15 +56,15 @@ batches_completed end last noted H H' m adds beside fits = record {
 
 -- A batch is noted that begins where nothing is written yet, has no place in common with the others that aren't wholly written, and no message in front of it that ends in it.
 pub batches_noted : (end last : ℕ) (noted : List Batch) (H H' : History) (b : Batch) → AddsBatch H b H' → end ≤ b.low → b.peg < last → ((c : Batch) → Contains H.batches c → end ≤ c.peg → (c.peg < b.low) ⊎ (b.peg < c.low))
-    → ((m : Message) → Contains H.messages m → m.place < b.low → m.place + m.size ≤ b.low) → FitsBatches end last noted H → FitsBatches end last (noted ++ b ∷ []) H'
+    → ((m : Message) → Contains H.messages m → m.place < b.low → m.place + m.size ≤ b.low) → FitsBatches end last noted H → FitsBatches end last (with_batch b noted) H'
 batches_noted end last noted H H' b adds behind short others ends fits = record {
-  known = λ c there. elim (Contains-append_cases noted (b ∷ []) c there) [
-    | inl was ↦ batch_stays H H' b adds c (fits.known c was)
-    | inr own ↦ subst (Contains H'.batches) (only_in b c own) (batch_there H H' b adds)
+  known = λ c there. elim (with_cases b noted c there) [
+    | inl own ↦ subst (Contains H'.batches) own (batch_there H H' b adds)
+    | inr was ↦ batch_stays H H' b adds c (fits.known c was)
   ];
   all = λ c there later. elim (was_or_batch H H' b adds c there) [
-    | inl was ↦ Contains-append_left noted (b ∷ []) c (fits.all c was later)
-    | inr same ↦ subst (Contains (noted ++ b ∷ [])) same (Contains-append_right noted (b ∷ []) b (in_first b []))
+    | inl was ↦ with_rest b noted c (fits.all c was later)
+    | inr same ↦ subst (Contains (with_batch b noted)) same (with_own b noted)
   ];
   within = subst (CloseBelow last) (sym adds.batches) (All-append (λ (c : Batch). (c.low < last) × (c.peg < last)) H.batches (b ∷ []) fits.within (All-cons (λ (c : Batch). (c.low < last) × (c.peg < last)) b [] (its_end, short) (λ k d lt. absurd (omega (arith, lt)))));
   apart = apart_noted H H' b adds end behind others fits.apart;

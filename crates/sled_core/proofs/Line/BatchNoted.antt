@@ -1,9 +1,8 @@
 -- The manifest of a ticket ends, and its batch is noted: what is seen of the log then, and that it holds and fits the history with the batch.
-use Rattle.std.proofs.Common.{◌≡◌, ◌∙◌, ◌⊎◌, ◌≤◌, ◌<◌, ◌+◌, ◌-◌, ◌*◌, ◌/◌, ◌<ℤ◌, ◌++◌, ◌∷◌, [], ap, sym, refl, arith, subst, inl, inr, ℕ, suc, pos, Bool, true, List, length, map, set, None, Some}
+use Rattle.std.proofs.Common.{◌≡◌, ◌∙◌, ◌⊎◌, ◌≤◌, ◌<◌, ◌+◌, ◌-◌, ◌*◌, ◌/◌, ◌<ℤ◌, ap, sym, refl, arith, subst, inl, inr, ℕ, suc, pos, Bool, true, List, length, map, set, None, Some}
 use Rattle.std.specs.Prelude.{int_lt, unsigned_abs, if◌then◌else◌}
 use Rattle.std.specs.List.{Contains, slice_get}
 use Rattle.std.proofs.lemmas.Int.{ints}
-use Rattle.std.proofs.lemmas.List.{map-append}
 use Rattle.sled_codec.specs.History.{AddsBatch, Batch, Batched, History, Message, Step}
 use Rattle.sled_store.specs.Accounts.{machine_of}
 use Rattle.sled_store.specs.Device.{Trace, state_of}
@@ -13,13 +12,12 @@ use Rattle.sled_core.specs.Begun.{SegmentView, line_at, segment_view, view_at}
 use Rattle.sled_core.specs.Buffers.{IsHeaded, marking}
 use Rattle.sled_core.specs.declared.iobuf.ReservationState.TheVariants.{Manifest}
 use Rattle.sled_core.specs.declared.iobuf.Reserved.{Reserved}
-use Rattle.sled_core.specs.declared.logger.batches.NotedBatch.{NotedBatch}
 use Rattle.sled_core.specs.declared.logger.Log.{Log}
 use Rattle.sled_core.specs.declared.reservation.Reservation.{Reservation}
 use Rattle.sled_core.specs.Fits.{Awaits, AwaitsIn, Holds, KeepsAll, KeepsBuffers, config_of, current_of, fault_of, line_of, noted_in, open_places, reserved_end, synced_end}
 use Rattle.sled_core.specs.Keeps.{GoesOn, KeepsOthers, SamePosition}
 use Rattle.sled_core.specs.Manifests.{is_manifest}
-use Rattle.sled_core.specs.OpenBatches.{batch_of, not_whole, stable_below}
+use Rattle.sled_core.specs.OpenBatches.{batch_of, not_whole, stable_below, with_batch}
 use Rattle.sled_core.specs.OpenPlaces.{TakesOut, open_manifests, open_places_along}
 use Rattle.sled_core.specs.Positions.{position_in}
 use Rattle.sled_core.specs.Running.{Fits}
@@ -37,8 +35,7 @@ use Rattle.sled_core.proofs.Line.Fillings.{log_off}
 use Rattle.sled_core.proofs.Line.LogSpans.{ended_buffers}
 use Rattle.sled_core.proofs.Line.Moves.{fits_as, holds_as}
 use Rattle.sled_core.proofs.Line.OpenManifests.{manifests_ended}
-use Rattle.sled_core.proofs.Reached.OpenBatch.{not_whole-with}
-use Rattle.sled_core.proofs.Reached.StableBelow.{stable_one_more}
+use Rattle.sled_core.proofs.Reached.ByPlace.{left_with, stable_with_batch}
 use Rattle.sled_core.proofs.Reserve.Ranges.{at_there}
 use Rattle.sled_core.proofs.Stable.Places.{reserved_ends, reserved_in_reach}
 
@@ -67,12 +64,9 @@ module _ {D C : Type 0} (mid new : Log D C) (rest : NotesBatch mid new) where
   pub noted_buffers : KeepsBuffers mid new
   noted_buffers = record { waiting = ap (λ (l : List SegmentView). spans (unwritten l)) noted_line; start = ap start_in noted_current }
 
-  -- and the batch is among those that it has noted, where it isn't wholly written.
-  pub noted_more : (b : NotedBatch) → new.noted.items ≡ mid.noted.items ++ b ∷ [] → synced_end mid ≤ b.peg → noted_in new ≡ noted_in mid ++ batch_of b ∷ []
-  noted_more b items later =
-      (λ i. not_whole (noted_synced i) (map batch_of (items i)))
-      ∙ ap (not_whole (synced_end mid)) (map-append batch_of mid.noted.items (b ∷ []))
-      ∙ not_whole-with (synced_end mid) (map batch_of mid.noted.items) (batch_of b) later
+  -- and the batch is among those that it has noted, where it begins behind what is written.
+  pub noted_more : (b : Batch) → map batch_of new.noted.items ≡ with_batch b (map batch_of mid.noted.items) → synced_end mid ≤ b.low → b.low ≤ b.peg → noted_in new ≡ with_batch b (noted_in mid)
+  noted_more b items past own = (λ i. not_whole (noted_synced i) (items i)) ∙ left_with (synced_end mid) b past own 0 (map batch_of mid.noted.items) mid.by_place
 
 -- The reservation of a ticket, by numbers.
 pub record IsReservedAt {D C : Type 0} (log : Log D C) (ticket : Reservation) (n index : ℕ) : Type 0 where
@@ -131,15 +125,35 @@ module _ {D C : Type 0} (trace : D → Trace) (sum : List ℕ → ℕ) (old mid 
   pub one_fewer_open : open_manifests (line_of old) ≡ suc (open_manifests (line_of mid))
   one_fewer_open = manifests_ended (line_of old) n v i r (marking sum v.parts.bytes r peg) Manifest true f.among f.there f.own.open_yet (of_manifest old ticket n index f manifest) refl ∙ ap (λ (l : List SegmentView). suc (open_manifests l)) (sym line)
 
-  module _ (rest : NotesBatch mid new) (low : ℕ) (low_is : low ≡ unsigned_abs (place_of ticket)) (noted : synced_end mid ≤ peg → noted_in new ≡ noted_in mid ++ record { low = low; peg = peg } ∷ []) (above : place_of ticket <ℤ pos peg) where
+  ended_same : KeepsAll old mid
+  ended_same = keeps_ended old mid n v f.among i r f.there f.own.open_yet (marking sum v.parts.bytes r peg) short Manifest line ended
+
+  low_unwritten : synced_end old ≤ v.parts.site.place + r.from
+  low_unwritten = line_unwritten sum old.config.config.segment_size (state_of (trace old.config.device)) old.fault v i r f.there f.own.open_yet facts (line_of old) n old.site.place f.among (nth_facts old)
+
+  -- The batch begins behind what is written, ends no further in front than there, and has no place in common with those that were noted.
+  module _ (low : ℕ) (low_is : low ≡ unsigned_abs (place_of ticket)) where
+    low_here : low ≡ v.parts.site.place + r.from
+    low_here = low_is ∙ ap unsigned_abs f.own.place
+
+    pub note_unwritten : synced_end mid ≤ low
+    note_unwritten = let past = low_unwritten in let here = low_here in let same = ended_same.synced in omega (arith, past, here, same)
+
+    pub note_above : place_of ticket <ℤ pos peg → low ≤ peg
+    note_above above = let at = f.own.place in let here = low_here in omega (arith, ints, at, here, above)
+
+    pub note_apart : ((b : Batch) → Contains (noted_in old) b → (pos b.peg <ℤ place_of ticket) ⊎ (peg < b.low)) → (b : Batch) → Contains (noted_in mid) b → (b.peg < low) ⊎ (peg < b.low)
+    note_apart apart b known = elim (apart b (subst (λ (l : List Batch). Contains l b) ended_same.noted known)) [
+      | inl front ↦ (let at = f.own.place in let here = low_here in inl (omega (arith, ints, at, here, front)))
+      | inr behind ↦ inr behind
+    ]
+
+  module _ (rest : NotesBatch mid new) (low : ℕ) (low_is : low ≡ unsigned_abs (place_of ticket)) (noted : noted_in new ≡ with_batch (record { low = low; peg = peg }) (noted_in mid)) (above : place_of ticket <ℤ pos peg) where
     begins : low ≡ v.parts.site.place + r.from
     begins = low_is ∙ ap unsigned_abs f.own.place
 
     later : v.parts.site.place + r.from < peg
     later = let at = f.own.place in omega (arith, ints, at, above)
-
-    ended_same : KeepsAll old mid
-    ended_same = keeps_ended old mid n v f.among i r f.there f.own.open_yet (marking sum v.parts.bytes r peg) short Manifest line ended
 
     now_synced : synced_end new ≡ synced_end old
     now_synced = noted_synced mid new rest ∙ ended_same.synced
@@ -147,17 +161,9 @@ module _ {D C : Type 0} (trace : D → Trace) (sum : List ℕ → ℕ) (old mid 
     now_config : config_of new ≡ config_of old
     now_config = rest.config ∙ ended.config
 
-    low_unwritten : synced_end old ≤ v.parts.site.place + r.from
-    low_unwritten = line_unwritten sum old.config.config.segment_size (state_of (trace old.config.device)) old.fault v i r f.there f.own.open_yet facts (line_of old) n old.site.place f.among (nth_facts old)
-
     -- The batch is noted,
-    now_noted : noted_in new ≡ noted_in old ++ record { low = v.parts.site.place + r.from; peg = peg } ∷ []
-    now_noted =
-        let past = low_unwritten in
-        let far = later in
-        let same = ended_same.synced in
-        noted (omega (arith, past, far, same))
-        ∙ (λ j. ended_same.noted j ++ record { low = begins j; peg = peg } ∷ [])
+    now_noted : noted_in new ≡ with_batch (record { low = v.parts.site.place + r.from; peg = peg }) (noted_in old)
+    now_noted = noted ∙ (λ j. with_batch (record { low = begins j; peg = peg }) (ended_same.noted j))
 
     goes_up : int_lt (place_of ticket) (pos peg) ≡ true
     goes_up = grind (arith, ints, above)
@@ -166,8 +172,8 @@ module _ {D C : Type 0} (trace : D → Trace) (sum : List ℕ → ℕ) (old mid 
     batch_same = record {
       config = now_config;
       synced = now_synced;
-      noted = now_noted ∙ (λ j. noted_in old ++ record { low = (sym begins ∙ low_is) j; peg = peg } ∷ []) ∙ sym (ap (λ (o : Bool). if o then noted_in old ++ batch_for ticket (pos peg) ∷ [] else noted_in old) goes_up);
-      stable = (λ j. stable_below (now_synced j) (now_noted j)) ∙ stable_one_more (synced_end old) (noted_in old) (record { low = v.parts.site.place + r.from; peg = peg }) low_unwritten;
+      noted = now_noted ∙ (λ j. with_batch (record { low = (sym begins ∙ low_is) j; peg = peg }) (noted_in old)) ∙ sym (ap (λ (o : Bool). if o then with_batch (batch_for ticket (pos peg)) (noted_in old) else noted_in old) goes_up);
+      stable = (λ j. stable_below (now_synced j) (now_noted j)) ∙ stable_with_batch (synced_end old) (noted_in old) (record { low = v.parts.site.place + r.from; peg = peg }) low_unwritten;
       fault = rest.fault ∙ ended.fault;
       pins = rest.pins ∙ ended.pins;
     }
@@ -212,7 +218,7 @@ module _ {D C : Type 0} (trace : D → Trace) (sum : List ℕ → ℕ) (old mid 
         (λ c known. elim (apart c known) [ inl front ↦ inl (omega (arith, ints, front, at)) | inr behind ↦ inr behind ]) H (log_off old peg within lies) holds in (
           noted_history H b,
           subst (λ (x : Batch). AddsBatch H x (noted_history H b)) (λ j. record { low = (sym begins ∙ low_is) j; peg = peg }) (noted_adds H b later),
-          holds_as trace sum old new now_config (rest.fault ∙ ended.fault) (noted_in old ++ b ∷ []) now_noted (set (line_of old) n (ended_now i r (marking sum v.parts.bytes r peg) Manifest v)) (noted_line mid new rest ∙ line) (machine_of old.accountant)
+          holds_as trace sum old new now_config (rest.fault ∙ ended.fault) (with_batch b (noted_in old)) now_noted (set (line_of old) n (ended_now i r (marking sum v.parts.bytes r peg) Manifest v)) (noted_line mid new rest ∙ line) (machine_of old.accountant)
               (ap machine_of (rest.accountant ∙ ended.accountant)) (noted_history H b) now,
         )
 
@@ -230,6 +236,6 @@ module _ {D C : Type 0} (trace : D → Trace) (sum : List ℕ → ℕ) (old mid 
         (λ c known. elim (apart c known) [ inl front ↦ inl (omega (arith, ints, front, at)) | inr behind ↦ inr behind ]) old.pins H A f' U old.config.config.least none (log_off old peg within lies) fits in (
           noted_history H b,
           subst (λ (x : Batch). AddsBatch H x (noted_history H b)) (λ j. record { low = (sym begins ∙ low_is) j; peg = peg }) (noted_adds H b later),
-          fits_as trace sum old new now_config (rest.fault ∙ ended.fault) (noted_in old ++ b ∷ []) now_noted (set (line_of old) n (ended_now i r (marking sum v.parts.bytes r peg) Manifest v)) (noted_line mid new rest ∙ line) (machine_of old.accountant)
+          fits_as trace sum old new now_config (rest.fault ∙ ended.fault) (with_batch b (noted_in old)) now_noted (set (line_of old) n (ended_now i r (marking sum v.parts.bytes r peg) Manifest v)) (noted_line mid new rest ∙ line) (machine_of old.accountant)
               (ap machine_of (rest.accountant ∙ ended.accountant)) (noted_history H b) A f' U (rest.pins ∙ ended.pins) now,
         )

@@ -1,5 +1,5 @@
 -- A log whose segments hold or fit a history notes a batch: with the manifest's record ended they hold or fit the history with the batch, which is noted besides.
-use Rattle.std.proofs.Common.{◌≡◌, ◌⊎◌, ◌≤◌, ◌<◌, ◌+◌, ◌*◌, ◌^◌, ap, sym, refl, arith, subst, inl, inr, ℕ, zero, suc, max, true, List, [], ◌∷◌, ◌++◌, length, map, set, Option, None, Some}
+use Rattle.std.proofs.Common.{◌≡◌, ◌⊎◌, ◌≤◌, ◌<◌, ◌+◌, ◌*◌, ◌^◌, ap, sym, refl, arith, subst, inl, inr, ℕ, zero, suc, max, true, List, [], ◌∷◌, length, map, set, Option, None, Some}
 use Rattle.std.specs.List.{Contains, slice_get}
 use Rattle.std.specs.declared.io.Error.{Error as IoError}
 use Rattle.std.proofs.Math.Nat.{suc-mul}
@@ -15,6 +15,7 @@ use Rattle.sled_core.specs.Begun.{SegmentView}
 use Rattle.sled_core.specs.Buffers.{marking}
 use Rattle.sled_core.specs.Fits.{FitsBatches, HoldBehind, HoldsLine, HoldsWith, line_end, parts_in, written_to}
 use Rattle.sled_core.specs.Manifests.{is_manifest}
+use Rattle.sled_core.specs.OpenBatches.{with_batch}
 use Rattle.sled_core.specs.Running.{FitsWith}
 use Rattle.sled_core.specs.Slots.{AreBegun}
 use Rattle.sled_core.specs.Turned.{ended_now}
@@ -132,12 +133,12 @@ module _ (sum : List ℕ → ℕ) (size : ℕ) (device : State) (fault : Option 
   ]
 
   batches_now : (H : History) → HoldsLine sum size device fault line H → FitsBatches (written_to line) (line_end size line) noted H
-      → FitsBatches (written_to (set line n (ended_now i r (marking sum v.parts.bytes r peg) Manifest v))) (line_end size (set line n (ended_now i r (marking sum v.parts.bytes r peg) Manifest v))) (noted ++ record { low = v.parts.site.place + r.from; peg = peg } ∷ [])
+      → FitsBatches (written_to (set line n (ended_now i r (marking sum v.parts.bytes r peg) Manifest v))) (line_end size (set line n (ended_now i r (marking sum v.parts.bytes r peg) Manifest v))) (with_batch (record { low = v.parts.site.place + r.from; peg = peg }) noted)
       (noted_history H (record { low = v.parts.site.place + r.from; peg = peg }))
   batches_now H holds fits =
       let marked : SegmentView = ended_now i r (marking sum v.parts.bytes r peg) Manifest v in
       let now : History = noted_history H b in
-      batches_up (written_to line) (written_to (set line n marked)) (line_end size line) (line_end size (set line n marked)) (noted ++ b ∷ []) now
+      batches_up (written_to line) (written_to (set line n marked)) (line_end size line) (line_end size (set line n marked)) (with_batch b noted) now
       (let same = written_set line n v marked there (λ j. v.parts.site) (λ j. v.parts.written_len) in omega (arith, same)) (let same = end_set size line n v marked there (λ j. v.parts.site) in omega (arith, same))
       (batches_noted (written_to line) (line_end size line) noted H now b (noted_adds H b later) unwritten short (λ c known open_yet. others H fits c known)
       (line_before sum size device fault v i r at is_open (facts n v there) line n place H there facts holds) fits)
@@ -145,7 +146,7 @@ module _ (sum : List ℕ → ℕ) (size : ℕ) (device : State) (fault : Option 
   -- What is held then, and fitted, is the history with the batch.
 
   pub holds_noted : (H : History) → ((k : ℕ) (x : SegmentView) → slice_get line k ≡ Some x → IsOff size peg x.parts) → HoldsWith sum noted size device fault line machine H
-      → HoldsWith sum (noted ++ record { low = v.parts.site.place + r.from; peg = peg } ∷ []) size device fault (set line n (ended_now i r (marking sum v.parts.bytes r peg) Manifest v)) machine (noted_history H (record { low = v.parts.site.place + r.from; peg = peg }))
+      → HoldsWith sum (with_batch (record { low = v.parts.site.place + r.from; peg = peg }) noted) size device fault (set line n (ended_now i r (marking sum v.parts.bytes r peg) Manifest v)) machine (noted_history H (record { low = v.parts.site.place + r.from; peg = peg }))
   holds_noted H offs holds = record {
     holds = mark_holds sum size device fault v i r at is_open manifest peg small later line n place H there facts offs holds.holds;
     batches = batches_now H holds.holds holds.batches;
@@ -153,7 +154,7 @@ module _ (sum : List ℕ → ℕ) (size : ℕ) (device : State) (fault : Option 
   }
 
   pub fits_noted : (pins : ℕ) (H : History) (A f : ℕ) (U : List Message) → 256 ≤ size → fault ≡ None → ((k : ℕ) (x : SegmentView) → slice_get line k ≡ Some x → IsOff size peg x.parts) → FitsWith sum noted size device fault line machine pins H A f U
-      → FitsWith sum (noted ++ record { low = v.parts.site.place + r.from; peg = peg } ∷ []) size device fault (set line n (ended_now i r (marking sum v.parts.bytes r peg) Manifest v)) machine pins (noted_history H (record { low = v.parts.site.place + r.from; peg = peg })) A f U
+      → FitsWith sum (with_batch (record { low = v.parts.site.place + r.from; peg = peg }) noted) size device fault (set line n (ended_now i r (marking sum v.parts.bytes r peg) Manifest v)) machine pins (noted_history H (record { low = v.parts.site.place + r.from; peg = peg })) A f U
   fits_noted pins H A f U least ok offs fits =
       let holds = line_holds sum size device fault line fits.reach pins H A f U fits.parts in
       record {

@@ -1,35 +1,18 @@
--- The batches that a log has noted, one by one: what each adds to the stable place, and to up to where has to be written.
+-- The batches that a log has noted: how they are left, and up to where has to be written.
 use Rattle.std.proofs.Common.{◌≡◌, ◌⊎◌, ◌∙◌, ◌<◌, ◌≤◌, ◌+◌, ℕ, Bool, true, false, List, [], ◌∷◌, map, refl, ap, arith, inl, inr}
-use Rattle.std.specs.Prelude.{nat_lt, min, max, if◌then◌else◌}
+use Rattle.std.specs.Prelude.{nat_lt, max, if◌then◌else◌}
 use Rattle.std.specs.List.{Contains}
 use Rattle.std.proofs.lemmas.Bool.Decides.{nat_tests}
 use Rattle.sled_codec.specs.History.{Batch}
 use Rattle.sled_store.proofs.Segments.Elements.{in_cases, in_first, in_nothing, in_rest}
 use Rattle.sled_core.specs.declared.logger.batches.NotedBatch.{NotedBatch}
-use Rattle.sled_core.specs.OpenBatches.{batch_of, behind_batch, not_whole, stable_below}
+use Rattle.sled_core.specs.OpenBatches.{batch_of, behind_batch, not_whole}
 
 -- how they are left where all up to a place is written
 abbrev pub left_of : ℕ → List NotedBatch → List Batch
 left_of end xs = not_whole end (map batch_of xs)
 
--- The stable place with one more of them.
-pub stable_with : (end : ℕ) (b : NotedBatch) (xs : List NotedBatch)
-    → stable_below end (left_of end (b ∷ xs)) ≡ (if nat_lt b.peg end then stable_below end (left_of end xs) else if nat_lt b.low end then min b.low (stable_below end (left_of end xs)) else stable_below end (left_of end xs))
-stable_with end b xs = by (nat_lt b.peg end) refl where
-  by : (o : Bool) → nat_lt b.peg end ≡ o
-      → stable_below end (if o then left_of end xs else batch_of b ∷ left_of end xs) ≡ (if o then stable_below end (left_of end xs) else if nat_lt b.low end then min b.low (stable_below end (left_of end xs)) else stable_below end (left_of end xs))
-  by true ended = refl
-  by false ended = ap (λ (o : Bool). if nat_lt b.low end then (if o then stable_below end (left_of end xs) else min b.low (stable_below end (left_of end xs))) else stable_below end (left_of end xs)) ended
-
--- And up to where has to be written.
-pub behind_with : (end behind : ℕ) (b : NotedBatch) (xs : List NotedBatch)
-    → behind_batch behind (left_of end (b ∷ xs)) ≡ (if nat_lt b.peg end then behind_batch behind (left_of end xs) else if nat_lt b.low behind then max (b.peg + 1) (behind_batch behind (left_of end xs)) else behind_batch behind (left_of end xs))
-behind_with end behind b xs = by (nat_lt b.peg end) where
-  by : (o : Bool) → behind_batch behind (if o then left_of end xs else batch_of b ∷ left_of end xs) ≡ (if o then behind_batch behind (left_of end xs) else if nat_lt b.low behind then max (b.peg + 1) (behind_batch behind (left_of end xs)) else behind_batch behind (left_of end xs))
-  by true = refl
-  by false = refl
-
--- That is no less than the place,
+-- Up to where has to be written is no less than the place,
 pub behind_least : (behind : ℕ) (bs : List Batch) → behind ≤ behind_batch behind bs
 behind_least behind [] = omega arith
 behind_least behind (b ∷ bs) = by (behind_least behind bs) (nat_lt b.low behind) where
@@ -47,13 +30,13 @@ behind_has behind (c ∷ cs) b there low = by (λ known. behind_has behind cs b 
   by rest (inr later) true test = let up = rest later in omega (arith, up)
   by rest (inr later) false test = rest later
 
--- and no further than these.
-pub behind_most : (behind n : ℕ) (bs : List Batch) → behind ≤ n → ((b : Batch) → Contains bs b → b.peg < n) → behind_batch behind bs ≤ n
-behind_most behind n [] up all = up
-behind_most behind n (b ∷ bs) up all = by (behind_most behind n bs up (λ c there. all c (in_rest b c bs there))) (nat_lt b.low behind) where
-  by : behind_batch behind bs ≤ n → (o : Bool) → (if o then max (b.peg + 1) (behind_batch behind bs) else behind_batch behind bs) ≤ n
-  by rest true = let own = all b (in_first b bs) in omega (arith, own, rest)
-  by rest false = rest
+-- and no further than those that begin before it.
+pub behind_within : (behind n : ℕ) (bs : List Batch) → behind ≤ n → ((b : Batch) → Contains bs b → b.low < behind → b.peg < n) → behind_batch behind bs ≤ n
+behind_within behind n [] up all = up
+behind_within behind n (b ∷ bs) up all = by (behind_within behind n bs up (λ c there. all c (in_rest b c bs there))) (nat_lt b.low behind) refl where
+  by : behind_batch behind bs ≤ n → (o : Bool) → nat_lt b.low behind ≡ o → (if o then max (b.peg + 1) (behind_batch behind bs) else behind_batch behind bs) ≤ n
+  by rest true test = let low : b.low < behind = grind (arith, nat_tests, test) in let own = all b (in_first b bs) low in omega (arith, own, rest)
+  by rest false test = rest
 
 -- It is the place itself where all batches begin there or behind it, as they do where that is stable.
 pub behind_all : (behind : ℕ) (bs : List Batch) → ((b : Batch) → Contains bs b → behind ≤ b.low) → behind_batch behind bs ≡ behind

@@ -1,5 +1,5 @@
 -- The batches that aren't wholly read: the stable place goes by them alone, and where they are apart from all others, no batch is open at it.
-use Rattle.std.proofs.Common.{◌≡◌, ◌⊎◌, ◌<◌, ◌≤◌, ◌∙◌, ◌++◌, ℕ, Bool, true, false, List, [], ◌∷◌, refl, sym, ap, subst, arith, inl, inr}
+use Rattle.std.proofs.Common.{◌≡◌, ◌⊎◌, ◌<◌, ◌≤◌, ◌∙◌, ℕ, Bool, true, false, List, [], ◌∷◌, refl, sym, ap, subst, arith, inl, inr}
 use Rattle.std.specs.Prelude.{nat_lt, if◌then◌else◌}
 use Rattle.std.specs.List.{Contains}
 use Rattle.std.proofs.lemmas.Bool.{cases_lt}
@@ -40,14 +40,6 @@ not_whole_further low high up (b ∷ bs) = by (not_whole_further low high up bs)
   by rest true false below under = absurd (let not : ⊥ = grind (arith, nat_tests, up, below, under) in not)
   by rest false true below under = ap (λ (o : Bool). if o then not_whole high (not_whole low bs) else b ∷ not_whole high (not_whole low bs)) under ∙ rest
   by rest false false below under = ap (λ (o : Bool). if o then not_whole high (not_whole low bs) else b ∷ not_whole high (not_whole low bs)) under ∙ ap (λ (l : List Batch). b ∷ l) rest
-
--- Of the batches with one more those are left that were, and that one, where it isn't wholly read.
-pub not_whole-with : (end : ℕ) (bs : List Batch) (b : Batch) → end ≤ b.peg → not_whole end (bs ++ b ∷ []) ≡ not_whole end bs ++ b ∷ []
-not_whole-with end [] b later = let test : nat_lt b.peg end ≡ false = grind (arith, nat_tests, later) in ap (λ (o : Bool). if o then [] else b ∷ []) test
-not_whole-with end (c ∷ cs) b later = by (not_whole-with end cs b later) (nat_lt c.peg end) where
-  by : not_whole end (cs ++ b ∷ []) ≡ not_whole end cs ++ b ∷ [] → (o : Bool) → (if o then not_whole end (cs ++ b ∷ []) else c ∷ not_whole end (cs ++ b ∷ [])) ≡ (if o then not_whole end cs else c ∷ not_whole end cs) ++ b ∷ []
-  by rest true = rest
-  by rest false = ap (λ (l : List Batch). c ∷ l) rest
 
 -- The stable place is no higher where all that are open of others are among these,
 stable_at_most : (reach : ℕ) (bs cs : List Batch) → ((b : Batch) → IsOpenBatch reach b → Contains cs b → Contains bs b) → stable_below reach bs ≤ stable_below reach cs

@@ -1,11 +1,14 @@
 //! The batches that a log keeps: those that it noted and that may not be wholly on the device (`specs/OpenBatches.antt`).
 //!
 //! The stable end stays in front of one of which a part alone is on the device. A batch is noted without memory: where a
-//! manifest is reserved, room is made for its batch.
-ghost use Rattle.std.specs.Prelude.{vec_capacity, ◌≡◌, ◌+◌, ◌-◌, ◌<◌, ◌≤◌, ◌^◌, ◌++◌, ◌∷◌, [], ◌⊎◌, ◌↔◌, ◌<ℤ◌, pos, if◌then◌else◌, suc, ℕ, All, Contains, IsTrue, map, length, true, OnOk, IsOkUnless, nat_lt, min, max};
+//! manifest is reserved, room is made for its batch. The batches are kept by place, and looked for by a search: each ends in front
+//! of where the next one begins, since a batch that is noted has no place in common with one that isn't wholly on the device, and
+//! begins behind all that is.
+ghost use Rattle.std.specs.Prelude.{vec_capacity, ◌≡◌, ◌+◌, ◌-◌, ◌<◌, ◌≤◌, ◌^◌, ◌⊎◌, ◌↔◌, ◌<ℤ◌, pos, if◌then◌else◌, suc, ℕ, All, Contains, IsTrue, map, length, true, OnOk, IsOkUnless};
+ghost use Rattle.std.specs.List.Sorted.{IsPartitionPoint};
 ghost use Rattle.sled_codec.specs.History.{Batch};
 ghost use Rattle.sled_core.specs.Fits.{line_of, noted_in, reserved_end, stable_end, synced_end};
-ghost use Rattle.sled_core.specs.OpenBatches.{batch_of, behind_batch, not_whole};
+ghost use Rattle.sled_core.specs.OpenBatches.{AreByPlace, batch_of, behind_batch, not_whole, stable_below, with_batch};
 ghost use Rattle.sled_core.specs.OpenPlaces.{open_manifests};
 ghost use Rattle.sled_core.specs.Turned.{NotesBatch};
 
@@ -30,14 +33,7 @@ impl<D: Device, C: Checksum> Log<D, C> {
         ensures is { result ≡ stable_end self.now }
         ensures in_reach { result < 2 ^ 63 }
     {
-        let end = self.synced_end();
-        let mut low = end;
-        let mut i = self.noted.len();
-        while i > 0 {
-            i -= 1;
-            low = lower(low, end, &self.noted[i]);
-        }
-        low
+        lowest_open(&self.noted, self.synced_end())
     }
 
     /// Up to where has to be written for all before a place to be stable: behind the peg of the last batch that begins
@@ -47,14 +43,7 @@ impl<D: Device, C: Checksum> Log<D, C> {
         ensures is { result ≡ behind_batch behind (noted_in self.now) }
         ensures reserved { result ≤ reserved_end self.now }
     {
-        let end = self.synced_end();
-        let mut to = behind;
-        let mut i = self.noted.len();
-        while i > 0 {
-            i -= 1;
-            to = further(to, end, behind, &self.noted[i]);
-        }
-        to
+        behind_last(&self.noted, self.synced_end(), behind)
     }
 
     /// Whether no batch that isn't wholly on the device has a place between these two, both included.
@@ -66,33 +55,39 @@ impl<D: Device, C: Checksum> Log<D, C> {
 
     /// Notes the batch of a manifest that has ended. It takes no memory.
     ///
-    /// Where there are 1, 2, 4, 8 and so on of them, those are left out first that are wholly on the device. So the list is no
-    /// longer than twice those that aren't, and each of them is looked at a few times, however many are noted one behind another.
+    /// It is put in by place, which is mostly behind the others. Where there are 1, 2, 4, 8 and so on of them, those are left out
+    /// first that are wholly on the device. So the list is no longer than twice those that aren't, and each of them is looked at a
+    /// few times, however many are noted one behind another.
     pub(crate) fn note(&mut self, low: u64, peg: u64)
         requires some { 0 < self.old.manifests }
+        requires above { low ≤ peg }
         requires within { peg < reserved_end self.old }
+        requires unwritten { synced_end self.old ≤ low }
+        requires apart { (b : Batch) → Contains (noted_in self.old) b → (b.peg < low) ⊎ (peg < b.low) }
         requires counted { open_manifests (line_of self.old) < self.old.manifests }
-        ensures noted { synced_end self.old ≤ peg → noted_in self.new ≡ noted_in self.old ++ record { low = low; peg = peg } ∷ [] }
+        ensures noted { noted_in self.new ≡ with_batch (record { low = low; peg = peg }) (noted_in self.old) }
         ensures manifests { self.new.manifests ≡ self.old.manifests - 1 }
         ensures rest { NotesBatch self.old self.new }
     {
         if (self.noted.len() as u64).is_power_of_two() {
             self.drop_whole();
         }
-        self.push_batch(low, peg);
+        self.put_batch(low, peg);
     }
 
-    /// Notes it behind the others.
-    fn push_batch(&mut self, low: u64, peg: u64)
+    /// Notes it among the others.
+    fn put_batch(&mut self, low: u64, peg: u64)
         requires some { 0 < self.old.manifests }
+        requires above { low ≤ peg }
         requires within { peg < reserved_end self.old }
+        requires apart { All (λ b. (b.peg < low) ⊎ (peg < b.low)) self.old.noted.items }
         requires counted { open_manifests (line_of self.old) < self.old.manifests }
-        ensures noted { self.new.noted.items ≡ self.old.noted.items ++ record { low = low; peg = peg } ∷ [] }
+        ensures noted { map batch_of self.new.noted.items ≡ with_batch (record { low = low; peg = peg }) (map batch_of self.old.noted.items) }
         ensures manifests { self.new.manifests ≡ self.old.manifests - 1 }
         ensures rest { NotesBatch self.old self.new }
     {
         self.manifests -= 1;
-        self.noted.push_reserved(NotedBatch { low, peg });
+        put_in(&mut self.noted, NotedBatch { low, peg });
     }
 
     /// Leaves out the batches that are wholly on the device.
@@ -106,9 +101,27 @@ impl<D: Device, C: Checksum> Log<D, C> {
     }
 }
 
+/// Puts a batch in by place, behind those that begin no further than it. There is room for it.
+fn put_in(noted: &mut Vec<NotedBatch>, b: NotedBatch)
+    requires room { length noted.old.items < vec_capacity noted.old }
+    requires by_place { AreByPlace 0 (map batch_of noted.old.items) }
+    requires above { b.low ≤ b.peg }
+    requires in_reach { b.peg < 2 ^ 63 }
+    requires apart { All (λ c. (c.peg < b.low) ⊎ (b.peg < c.low)) noted.old.items }
+    ensures items { map batch_of noted.new.items ≡ with_batch (batch_of b) (map batch_of noted.old.items) }
+    ensures by_place { AreByPlace 0 (map batch_of noted.new.items) }
+    ensures pegs { (to : ℕ) → b.peg < to → All (λ c. c.peg < to) noted.old.items → All (λ c. c.peg < to) noted.new.items }
+    ensures longer { length noted.new.items ≡ length noted.old.items + 1 }
+    ensures capacity { vec_capacity noted.old ≤ vec_capacity noted.new }
+{
+    let at = begun_before(noted, b.low + 1);
+    let _ = noted.insert(at, b);
+}
+
 /// Keeps the batches of these, in their order, that aren't wholly on the device where all before a place is.
 fn keep_open(noted: &mut Vec<NotedBatch>, end: u64)
     ensures items { map batch_of noted.new.items ≡ not_whole end (map batch_of noted.old.items) }
+    ensures by_place { AreByPlace 0 (map batch_of noted.old.items) → AreByPlace 0 (map batch_of noted.new.items) }
     ensures pegs { (to : ℕ) → All (λ b. b.peg < to) noted.old.items → All (λ b. b.peg < to) noted.new.items }
     ensures fewer { length noted.new.items ≤ length noted.old.items }
     ensures capacity { vec_capacity noted.new ≡ vec_capacity noted.old }
@@ -116,47 +129,74 @@ fn keep_open(noted: &mut Vec<NotedBatch>, end: u64)
     noted.retain(|b| b.peg >= end);
 }
 
+/// How many of these batches end before a place.
+fn ended_before(noted: &Vec<NotedBatch>, place: u64) -> usize
+    ensures bound { result ≤ length noted.now.items }
+    ensures point { AreByPlace 0 (map batch_of noted.now.items) → IsPartitionPoint (λ b. b.peg < place) (λ b. place ≤ b.peg) noted.now.items result }
+{
+    noted.partition_point(|b| b.peg < place)
+}
+
+/// How many of them begin before a place.
+fn begun_before(noted: &Vec<NotedBatch>, place: u64) -> usize
+    ensures bound { result ≤ length noted.now.items }
+    ensures point { AreByPlace 0 (map batch_of noted.now.items) → IsPartitionPoint (λ b. b.low < place) (λ b. place ≤ b.low) noted.now.items result }
+{
+    noted.partition_point(|b| b.low < place)
+}
+
+/// Where the first of these batches begins that isn't wholly on the device, where all before the end is, if that lies before the
+/// end; else the end. Those behind it begin behind the end.
+fn lowest_open(noted: &Vec<NotedBatch>, end: u64) -> u64
+    requires { AreByPlace 0 (map batch_of noted.now.items) }
+    ensures { result ≡ stable_below end (not_whole end (map batch_of noted.now.items)) }
+{
+    let i = ended_before(noted, end);
+    if i == noted.len() {
+        return end;
+    }
+    noted[i].low.min(end)
+}
+
+/// The place behind the peg of the last of these batches that begins before a place, where that isn't wholly on the device, or
+/// the place itself, whichever is further. Those in front of it end before the place.
+fn behind_last(noted: &Vec<NotedBatch>, end: u64, behind: u64) -> u64
+    requires by_place { AreByPlace 0 (map batch_of noted.now.items) }
+    requires pegs { All (λ b. b.peg < 2 ^ 63) noted.now.items }
+    ensures { result ≡ behind_batch behind (not_whole end (map batch_of noted.now.items)) }
+{
+    let i = begun_before(noted, behind);
+    if i == 0 {
+        return behind;
+    }
+    let b = noted[i - 1];
+    if b.peg < end {
+        return behind;
+    }
+    (b.peg + 1).max(behind)
+}
+
 /// Each of these batches is wholly on the device, where all before the end is, or lies below the one place or above the other.
+/// Those that don't lie above end no further than the last of them.
 fn all_apart(noted: &Vec<NotedBatch>, end: u64, low: Lsn, peg: Lsn) -> bool
-    ensures { IsTrue result ↔ All (λ b. (b.peg < end) ⊎ (pos b.peg <ℤ low) ⊎ (peg <ℤ pos b.low)) noted.now.items }
+    requires { AreByPlace 0 (map batch_of noted.now.items) }
+    ensures { IsTrue result ↔ ((b : Batch) → Contains (not_whole end (map batch_of noted.now.items)) b → (pos b.peg <ℤ low) ⊎ (peg <ℤ pos b.low)) }
 {
-    noted.iter().all(|b| is_apart_from(b, end, low, peg))
+    if peg < 0 {
+        return true;
+    }
+    let i = begun_before(noted, peg as u64 + 1);
+    if i == 0 {
+        return true;
+    }
+    is_below(&noted[i - 1], end, low)
 }
 
-/// So it is with one of them.
-fn is_apart_from(b: &NotedBatch, end: u64, low: Lsn, peg: Lsn) -> bool
-    ensures { IsTrue result ↔ ((b.now.peg < end) ⊎ (pos b.now.peg <ℤ low) ⊎ (peg <ℤ pos b.now.low)) }
+/// So it is with one of them that doesn't lie above.
+fn is_below(b: &NotedBatch, end: u64, low: Lsn) -> bool
+    ensures { IsTrue result ↔ ((b.now.peg < end) ⊎ (pos b.now.peg <ℤ low)) }
 {
-    let ends_below = low > 0 && b.peg < low as u64;
-    let begins_above = peg < 0 || (peg as u64) < b.low;
-    b.peg < end || ends_below || begins_above
-}
-
-/// The lower one of a place and of where a batch begins that is open at the end of what is written.
-fn lower(low: u64, end: u64, b: &NotedBatch) -> u64
-    ensures { result ≡ (if nat_lt b.now.peg end then low else if nat_lt b.now.low end then min b.now.low low else low) }
-{
-    if b.peg < end {
-        return low;
-    }
-    if b.low < end {
-        return b.low.min(low);
-    }
-    low
-}
-
-/// The further one of a place and of the one behind the peg of a batch that begins before another place and isn't wholly written.
-fn further(to: u64, end: u64, behind: u64, b: &NotedBatch) -> u64
-    requires { b.now.peg < 2 ^ 63 }
-    ensures { result ≡ (if nat_lt b.now.peg end then to else if nat_lt b.now.low behind then max (b.now.peg + 1) to else to) }
-{
-    if b.peg < end {
-        return to;
-    }
-    if b.low < behind {
-        return (b.peg + 1).max(to);
-    }
-    to
+    b.peg < end || low > 0 && b.peg < low as u64
 }
 
 /// Makes room for the batch of one more manifest, where so many are open. For another message none is made.

@@ -1,5 +1,5 @@
 -- What it comes to where a batch is ended.
-use Rattle.std.proofs.Common.{◌≡◌, ◌≢◌, ◌∙◌, ◌<◌, ◌≤◌, ◌&&◌, ◌-◌, ◌+◌, ◌-ℤ◌, ◌<ℤ◌, ◌++◌, ◌∷◌, [], int_lt, unsigned_abs, ⊎_elim, inl, ℕ, ℤ, pos, zero, suc, Bool, true, false, not, if◌then◌else◌, List, length, map, set, refl, sym, ap, subst, arith, Option, None, Some, Err}
+use Rattle.std.proofs.Common.{◌≡◌, ◌≢◌, ◌∙◌, ◌<◌, ◌≤◌, ◌&&◌, ◌-◌, ◌+◌, ◌-ℤ◌, ◌<ℤ◌, int_lt, unsigned_abs, ⊎_elim, inl, ℕ, ℤ, pos, zero, suc, Bool, true, false, not, if◌then◌else◌, List, length, map, set, refl, sym, ap, subst, arith, Option, None, Some, Err}
 use Rattle.std.specs.List.{All, slice_get}
 use Rattle.std.proofs.lemmas.Int.{ints}
 use Rattle.sled_codec.specs.declared.result.DiskPtr.{DiskPtr}
@@ -15,6 +15,7 @@ use Rattle.sled_core.specs.Causes.{FaultAnswers}
 use Rattle.sled_core.specs.Fits.{Awaits, KeepsBuffers, config_of, fault_of, noted_in, open_places, reserved_end}
 use Rattle.sled_core.specs.Keeps.{SamePosition}
 use Rattle.sled_core.specs.Manifests.{is_manifest, manifest_page}
+use Rattle.sled_core.specs.OpenBatches.{with_batch}
 use Rattle.sled_core.specs.OpenPlaces.{TakesOut}
 use Rattle.sled_core.specs.Running.{Fits}
 use Rattle.sled_core.specs.Tickets.{is_manifest_of, place_of}
@@ -91,9 +92,9 @@ module _ {D C : Type 0} (view : D → DeviceView) (sum : List ℕ → ℕ) (old 
       let some : 0 < reserved_end old.log = (let low = had.begins in omega (arith, low)) in
       λ i. record { low = unsigned_abs (sym placed i); peg = unsigned_abs (one_less (reserved_end old.log) some i) }
 
-  noted_one : (bs : List Batch) → with_batch_for ticket.reservation peg bs ≡ bs ++ batch_of l m ∷ []
-  noted_one bs = by (int_lt (place_of ticket.reservation) peg) refl ∙ ap (λ b. bs ++ b ∷ []) batch_is where
-    by : (o : Bool) → int_lt (place_of ticket.reservation) peg ≡ o → (if o then bs ++ batch_for ticket.reservation peg ∷ [] else bs) ≡ bs ++ batch_for ticket.reservation peg ∷ []
+  noted_one : (bs : List Batch) → with_batch_for ticket.reservation peg bs ≡ with_batch (batch_of l m) bs
+  noted_one bs = by (int_lt (place_of ticket.reservation) peg) refl ∙ ap (λ b. with_batch b bs) batch_is where
+    by : (o : Bool) → int_lt (place_of ticket.reservation) peg ≡ o → (if o then with_batch (batch_for ticket.reservation peg) bs else bs) ≡ with_batch (batch_for ticket.reservation peg) bs
     by true is = refl
     by false is = absurd (let low = behind in grind (arith, ints, is, low))
 

@@ -65,6 +65,7 @@ invariant_of-self g c =
           (filled_ended size log.reserved_to (line_of log) 0 (view_at log.site log.buffer) i r (g.C.Checksum.sum_of (body_in log.buffer.bytes.items r ++ code_of kind.Canceled ∷ part log.buffer.bytes.items (r.from + 5) (r.header_len - 5))) kind.Canceled Canceled refl (nth_facts log 0 (view_at log.site log.buffer) refl) there c.requires.awaited.open_yet (λ is. let never : ⊥ = cc in never) log.filled);
       account = log.account;
       pegs = log.pegs;
+      by_place = log.by_place;
       room = (let old = log.room in let fewer = without_fewer c.args.manifest log.manifests c.without_manifest-manifests.result c.without_manifest-manifests.ensures in omega (arith, old, fewer));
       counted = fewer_counted c.args.manifest (open_manifests (line_of log)) (open_manifests (line_at log.site c.abort.new.self log.behind.items)) log.manifests c.without_manifest-manifests.result
           (manifests_ended (line_of log) 0 (view_at log.site log.buffer) i r (canceling g.C.Checksum.sum_of log.buffer.bytes.items r) Canceled c.args.manifest refl there c.requires.awaited.open_yet (c.requires.kind (view_at log.site log.buffer) r among there) refl ∙ (λ j. if c.args.manifest then suc (open_manifests (sym line j)) else open_manifests (sym line j)))
@@ -124,6 +125,7 @@ invariant_of-self-else-n-eq0 g c =
           (filled_ended size log.reserved_to (line_of log) c.args.n (segment_view t) i r (g.C.Checksum.sum_of (body_in t.buffer.bytes.items r ++ code_of kind.Canceled ∷ part t.buffer.bytes.items (r.from + 5) (r.header_len - 5))) kind.Canceled Canceled among (nth_facts log c.args.n (segment_view t) among) there c.requires.awaited.open_yet (λ is. let never : ⊥ = cc in never) log.filled);
       account = log.account;
       pegs = log.pegs;
+      by_place = log.by_place;
       room = (let old = log.room in let fewer = without_fewer c.args.manifest log.manifests c.without_manifest-manifests.result c.without_manifest-manifests.ensures in omega (arith, old, fewer));
       counted = fewer_counted c.args.manifest (open_manifests (line_of log)) (open_manifests (line_at log.site log.buffer (set log.behind.items (c.args.n - 1) (record { site = t.site; buffer = c.abort-else-n-eq0.new.self })))) log.manifests c.without_manifest-manifests.result
           (manifests_ended (line_of log) c.args.n (segment_view t) i r (canceling g.C.Checksum.sum_of t.buffer.bytes.items r) Canceled c.args.manifest among there c.requires.awaited.open_yet (c.requires.kind (segment_view t) r among own) refl ∙ (λ j. if c.args.manifest then suc (open_manifests (sym line j)) else open_manifests (sym line j)))

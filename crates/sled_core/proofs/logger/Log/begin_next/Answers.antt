@@ -220,6 +220,7 @@ invariant_of-self g c =
       filled = subst (λ n. AreFilled n mid.reserved_to (line_of mid)) (sym sizes) mid.filled;
       account = subst (λ n. IsAccountant n c.next.new.self) (sym sizes) c.next.ensures.account;
       pegs = mid.pegs;
+      by_place = mid.by_place;
       room = mid.room;
       counted = mid.counted;
     }
@@ -272,6 +273,7 @@ invariant_of-self-2 g c =
       filled = are.filled;
       account = subst (λ n. IsAccountant n c.next.new.self) (sym new_sizes) c.next.ensures.account;
       pegs = begun_pegs sum old mid c.in_ok-room_to_close.ensures.line rest b ss closed next at c.in_ok-slot.ensures.offset begun c.args.to c.requires.grows;
+      by_place = mid.by_place;
       room = mid.room;
       counted = subst (λ (l : List SegmentBuffer). open_manifests (line_at mid.site b l) ≤ mid.manifests) (sym c.push_back_reserved.ensures.items)
           (begun_counted sum old mid c.in_ok-room_to_close.ensures.line rest b ss closed next at c.in_ok-slot.ensures.offset begun);

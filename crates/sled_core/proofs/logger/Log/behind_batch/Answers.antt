@@ -1,16 +1,23 @@
-use Rattle.std.proofs.Common.{◌<◌, ◌-◌, arith, subst, sym}
-use Rattle.std.proofs.lemmas.List.Elements.{All-get_or}
+-- Each of the batches ends in front of where what was reserved ends.
+use Rattle.std.proofs.Common.{◌≡◌, ◌∙◌, ◌<◌, ◌^◌, arith, map}
+use Rattle.std.proofs.lemmas.List.Elements.{All-weaker}
 use Rattle.sled_core.specs.declared.logger.batches.NotedBatch.{NotedBatch}
-use Rattle.sled_core.specs.Fits.{reserved_end}
+use Rattle.sled_core.specs.Fits.{noted_in, reserved_end}
+use Rattle.sled_core.specs.OpenBatches.{batch_of, behind_batch, not_whole}
+use Rattle.sled_core.proofs.Line.NoneLeft.{noted_pegs}
+use Rattle.sled_core.proofs.Reached.NotedSteps.{behind_within}
 use Rattle.sled_core.proofs.Stable.Places.{reserved_in_reach}
 use Rattle.sled_core.proofs.logger.Log.behind_batch.Goals as goal
 
-pub further-to-requires : goal.further-to-requires
-further-to-requires g c =
+pub behind_last-requires-clause-pegs : goal.behind_last-requires-clause-pegs
+behind_last-requires-clause-pegs g c =
     let log = c.args.self.now in
     let reach = reserved_in_reach log in
-    let inside = c.loop-i.invariant.0 in
-    let some = c.loop-i-test.true in
-    let low = All-get_or (λ (b : NotedBatch). b.peg < reserved_end log) log.noted.items (c.loop-i.i - 1) c.index.result.now (omega (arith, inside, some)) log.pegs in
-    let here = subst (λ (b : NotedBatch). b.peg < reserved_end log) (sym c.index.ensures) low in
-    omega (arith, here, reach)
+    All-weaker (λ (b : NotedBatch). b.peg < reserved_end log) (λ (b : NotedBatch). b.peg < 2 ^ 63) (λ b less. omega (arith, less, reach)) log.noted.items log.pegs
+
+pub returns-clause-reserved : goal.returns-clause-reserved
+returns-clause-reserved g c =
+    let log = c.args.self.now in
+    let is : c.behind_last.result ≡ behind_batch c.args.behind (noted_in log) = c.behind_last.ensures ∙ (λ j. behind_batch c.args.behind (not_whole (c.synced_end.ensures.is j) (map batch_of log.noted.items))) in
+    let most = behind_within c.args.behind (reserved_end log) (noted_in log) c.requires.reserved (λ b known low. noted_pegs log b known) in
+    omega (arith, is, most)

@@ -5,7 +5,7 @@ use Rattle.sled_core.specs.Fits.{line_of}
 use Rattle.sled_core.specs.OpenPlaces.{open_manifests}
 use Rattle.sled_core.specs.Tickets.{place_of}
 use Rattle.sled_core.proofs.Holds.KeptCalls.{goes_on_still}
-use Rattle.sled_core.proofs.Line.BatchNoted.{IsReservedAt, batch_buffers, batch_fits, batch_goes_on, batch_holds, batch_opens, batch_others, batch_position, batch_same, body_there, one_fewer_open, reserved_at}
+use Rattle.sled_core.proofs.Line.BatchNoted.{IsReservedAt, batch_buffers, batch_fits, batch_goes_on, batch_holds, batch_opens, batch_others, batch_position, batch_same, body_there, note_above, note_apart, note_unwritten, one_fewer_open, reserved_at}
 use Rattle.sled_core.proofs.Line.EndedTickets.{says_place, ticket_above, ticket_open}
 use Rattle.sled_core.proofs.logger.Log.end_batch.Given as given
 use Rattle.sled_core.proofs.logger.Log.end_batch.Goals as goal
@@ -51,6 +51,28 @@ note-requires-clause-some g c = let less = fewer g c in let counted = c.args.sel
 
 pub note-requires-clause-counted : goal.note-requires-clause-counted
 note-requires-clause-counted g c = let less = fewer g c in let counted = c.args.self.now.counted in let same = c.mark_batch_in.ensures.manifests in omega (arith, less, counted, same)
+
+-- It is noted as one that lies by itself, behind what is written.
+pub note-requires-clause-above : goal.note-requires-clause-above
+note-requires-clause-above g c =
+    let f = there_marked g c in
+    let place : c.unsigned_abs-low.result ≡ unsigned_abs (place_of c.args.ticket) = c.unsigned_abs-low.ensures.value ∙ says_place c.lsn-place.result (place_of c.args.ticket) c.lsn-place.type_inv c.lsn-place.ensures in
+    note_above g.D.Device.trace g.C.Checksum.sum_of c.args.self.now c.mark_batch_in.new.self c.mark_batch_in.new.self c.args.ticket c.segment_of-n.result c.index-index.result f c.requires.manifest c.args.peg
+    (c.mark_batch_in.ensures.line f.segment f.reserved f.among f.there) c.mark_batch_in.ensures.rest c.unsigned_abs-low.result place c.requires.above
+
+pub note-requires-clause-unwritten : goal.note-requires-clause-unwritten
+note-requires-clause-unwritten g c =
+    let f = there_marked g c in
+    let place : c.unsigned_abs-low.result ≡ unsigned_abs (place_of c.args.ticket) = c.unsigned_abs-low.ensures.value ∙ says_place c.lsn-place.result (place_of c.args.ticket) c.lsn-place.type_inv c.lsn-place.ensures in
+    note_unwritten g.D.Device.trace g.C.Checksum.sum_of c.args.self.now c.mark_batch_in.new.self c.mark_batch_in.new.self c.args.ticket c.segment_of-n.result c.index-index.result f c.requires.manifest c.args.peg
+    (c.mark_batch_in.ensures.line f.segment f.reserved f.among f.there) c.mark_batch_in.ensures.rest c.unsigned_abs-low.result place
+
+pub note-requires-clause-apart : goal.note-requires-clause-apart
+note-requires-clause-apart g c =
+    let f = there_marked g c in
+    let place : c.unsigned_abs-low.result ≡ unsigned_abs (place_of c.args.ticket) = c.unsigned_abs-low.ensures.value ∙ says_place c.lsn-place.result (place_of c.args.ticket) c.lsn-place.type_inv c.lsn-place.ensures in
+    note_apart g.D.Device.trace g.C.Checksum.sum_of c.args.self.now c.mark_batch_in.new.self c.mark_batch_in.new.self c.args.ticket c.segment_of-n.result c.index-index.result f c.requires.manifest c.args.peg
+    (c.mark_batch_in.ensures.line f.segment f.reserved f.among f.there) c.mark_batch_in.ensures.rest c.unsigned_abs-low.result place c.requires.apart
 
 -- What the log is then.
 

@@ -81,6 +81,7 @@ invariant_of-self g c =
           refl (placeholder_some (take c.args.head.now.len c.args.head.now.bytes) item) (omega (arith, c.requires.end, long));
       account = log.account;
       pegs = laid_pegs log c.args.to (c.args.head.now.len + c.args.item_len) c.requires.end;
+      by_place = log.by_place;
       room = room_more c.is_manifest-manifest.result (length log.noted.items) log.manifests c.with_manifest-manifests.result _ c.with_manifest-manifests.ensures log.room (λ is. (c.requires.batch (sym c.is_manifest-manifest.ensures ∙ is)).place);
       counted = laid_counted log (head ++ item) _ c.is_manifest-manifest.result c.with_manifest-manifests.result (line_at log.site c.append.new.self log.behind.items)
           (line_first (reserved_now (head ++ item) _) log.site log.buffer c.append.new.self log.behind.items none
@@ -151,6 +152,7 @@ invariant_of-self-else-n-eq0 g c =
           refl (placeholder_some (take c.args.head.now.len c.args.head.now.bytes) item) (omega (arith, c.requires.end, long));
       account = log.account;
       pegs = laid_pegs log c.args.to (c.args.head.now.len + c.args.item_len) c.requires.end;
+      by_place = log.by_place;
       room = room_more c.is_manifest-manifest.result (length log.noted.items) log.manifests c.with_manifest-manifests.result _ c.with_manifest-manifests.ensures log.room (λ is. (c.requires.batch (sym c.is_manifest-manifest.ensures ∙ is)).place);
       counted = laid_counted log (head ++ item) _ c.is_manifest-manifest.result c.with_manifest-manifests.result (line_at log.site log.buffer (set log.behind.items n (record { site = s.site; buffer = new })))
           (laid_line log n s is.0 is.1 new head item _ made.bytes made.reserved made.from made.gone made.filled made.sealed)

@@ -10,6 +10,7 @@ use Rattle.sled_core.specs.declared.logger.Log.{Log}
 use Rattle.sled_core.specs.declared.logger.batches.NotedBatch.{NotedBatch}
 use Rattle.sled_core.specs.declared.logger.segments.SegmentBuffer.{SegmentBuffer}
 use Rattle.sled_core.specs.Fits.{current_of, current_reserved_in, line_of}
+use Rattle.sled_core.specs.OpenBatches.{AreByPlace, batch_of}
 use Rattle.sled_core.specs.OpenPlaces.{open_manifests}
 use Rattle.sled_core.specs.SealedBuffers.{sealed_count}
 use Rattle.sled_core.specs.Turned.{HasRoomIn}
@@ -50,6 +51,7 @@ invariant_of-self g c =
       filled = log.filled;
       account = log.account;
       pegs = subst (All (λ (b : NotedBatch). b.peg < log.reserved_to)) (sym c.room_for_batch.ensures.items) log.pegs;
+      by_place = subst (λ (l : List NotedBatch). AreByPlace 0 (map batch_of l)) (sym c.room_for_batch.ensures.items) log.by_place;
       room = (let many = ap length c.room_for_batch.ensures.items in let grows = c.room_for_batch.ensures.grows in let old = log.room in omega (arith, many, grows, old));
       counted = log.counted;
     }
@@ -72,6 +74,7 @@ invariant_of-self-then-n-eq0 g c =
       filled = subst (AreFilled log.config.config.segment_size log.reserved_to) (sym line) log.filled;
       account = log.account;
       pegs = subst (All (λ (b : NotedBatch). b.peg < log.reserved_to)) (sym c.room_for_batch.ensures.items) log.pegs;
+      by_place = subst (λ (l : List NotedBatch). AreByPlace 0 (map batch_of l)) (sym c.room_for_batch.ensures.items) log.by_place;
       room = (let many = ap length c.room_for_batch.ensures.items in let grows = c.room_for_batch.ensures.grows in let old = log.room in omega (arith, many, grows, old));
       counted = (let same = ap open_manifests line in let old = log.counted in omega (arith, same, old));
     }
@@ -111,6 +114,7 @@ invariant_of-self-2 g c =
       filled = same_filled log n s is.0 is.1 new made.bytes made.from made.reserved made.gone made.filled made.sealed;
       account = log.account;
       pegs = subst (All (λ (b : NotedBatch). b.peg < log.reserved_to)) (sym c.room_for_batch.ensures.items) log.pegs;
+      by_place = subst (λ (l : List NotedBatch). AreByPlace 0 (map batch_of l)) (sym c.room_for_batch.ensures.items) log.by_place;
       room = (let many = ap length c.room_for_batch.ensures.items in let grows = c.room_for_batch.ensures.grows in let old = log.room in omega (arith, many, grows, old));
       counted = (let same = ap open_manifests (same_line log n s is.0 is.1 new made.bytes made.from made.reserved made.gone made.filled made.sealed) in let old = log.counted in omega (arith, same, old));
     }

@@ -66,6 +66,7 @@ invariant_of-self g c =
           made.sealed made.unsealed;
       account = log.account;
       pegs = log.pegs;
+      by_place = log.by_place;
       room = log.room;
       counted = either c.seal.result _ _ (open_manifests line ≤ log.manifests)
           (λ sealed. sealed_counted log line (line_first sealed_now log.site log.buffer new log.behind.items none (sealed_view log.site log.buffer new sealed made.bytes made.from made.reserved made.gone made.filled)))
@@ -124,6 +125,7 @@ invariant_of-self-2 g c =
           made.sealed made.unsealed;
       account = log.account;
       pegs = log.pegs;
+      by_place = log.by_place;
       room = log.room;
       counted = either c.seal-2.result _ _ (open_manifests line ≤ log.manifests)
           (λ sealed. sealed_counted log line (sealed_line log n s is.0 is.1 new made.bytes made.from made.reserved made.gone made.filled sealed))

@@ -23,7 +23,7 @@ use Rattle.sled_core.specs.declared.logger.segments.SegmentBuffer.{SegmentBuffer
 use Rattle.sled_core.specs.Begun.{AreEntered, AreFilled, FollowOn, IsUnfilled, SegmentView, begin_of, line_at, segment_view, view_at}
 use Rattle.sled_core.specs.Fits.{CloseBelow, FitsBatches, Holds, HoldsIn, HoldsLine, NoneOpenIn, line_end, log_parts, written_to}
 use Rattle.sled_core.specs.FreeSlots.{HasSlots, begun_machine}
-use Rattle.sled_core.specs.OpenBatches.{batch_of, not_whole}
+use Rattle.sled_core.specs.OpenBatches.{AreByPlace, batch_of, not_whole}
 use Rattle.sled_core.specs.OpenPlaces.{open_manifests, open_manifests_in}
 use Rattle.sled_core.specs.Positions.{Position, is_short, next_segment_at, position_in}
 use Rattle.sled_core.specs.SealedBuffers.{sealed_end}
@@ -105,6 +105,7 @@ invariant_of-result g c =
           (omega (arith, at, low, same), omega (arith, at, behind, begins), entered_none (c.in-Ok.beginning.place + c.in-Ok.beginning.offset) c.in-Ok.beginning.place c.in-Ok.buffer.written_len c.in-Ok.buffer.sealed.items c.in-Ok.buffer.reserved.items first.sealed first.reserved, subst IsUnfilled (sym first.filled) tt, omega (arith, ap (λ (rs : List Reserved). records_end rs (length c.in-Ok.buffer.bytes.items)) first.reserved)));
       account = subst (λ n. IsAccountant n c.in-Ok.accountant) (sym same) c.in-Ok.ensures.account;
       pegs = subst (All (λ (b : NotedBatch). b.peg < c.in-Ok.beginning.place + c.in-Ok.beginning.offset)) (sym c.new.ensures.items) (All-nil (λ (b : NotedBatch). b.peg < c.in-Ok.beginning.place + c.in-Ok.beginning.offset));
+      by_place = subst (λ (l : List NotedBatch). AreByPlace 0 (map batch_of l)) (sym c.new.ensures.items) _;
       room = (let none = ap length c.new.ensures.items in omega (arith, none));
       counted = (
           let here : SegmentPosition = record { place = c.in-Ok.beginning.place; slot = c.in-Ok.beginning.slot } in

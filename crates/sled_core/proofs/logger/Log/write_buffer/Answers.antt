@@ -83,7 +83,7 @@ invariant_of-self g c =
     let mid = c.write_bytes.new.self in
     let found = kept c.args.self.now mid c.args.n c.args.k c.requires.ready c.in_ok-write_bytes.ensures.rest c.mark_nth.new.buffer c.mark_nth.new.behind.items c.mark_nth.ensures c.promote.new.site c.promote.new.buffer c.promote.new.behind.items c.promote.ensures in
     let is = found.1 in
-    record { in_segment = is.short; place_in_reach = is.place_small; slot_in_reach = is.slot_small; waits = is.waits; follow = is.follow; filled = is.filled; account = mid.account; pegs = mid.pegs; room = mid.room; counted = found.2 }
+    record { in_segment = is.short; place_in_reach = is.place_small; slot_in_reach = is.slot_small; waits = is.waits; follow = is.follow; filled = is.filled; account = mid.account; pegs = mid.pegs; by_place = mid.by_place; room = mid.room; counted = found.2 }
 
 pub returns-clause-line : goal.returns-clause-line
 returns-clause-line g c = λ v among.

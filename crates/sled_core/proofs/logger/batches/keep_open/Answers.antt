@@ -1,5 +1,5 @@
 -- Those are kept that aren't wholly on the device.
-use Rattle.std.proofs.Common.{rules, arith, ap, refl, ◌∙◌, ◌≡◌, ◌<◌, ◌∷◌, [], ℕ, Bool, true, false, List, map, cond}
+use Rattle.std.proofs.Common.{rules, arith, ap, refl, subst, sym, ◌∙◌, ◌≡◌, ◌<◌, ◌∷◌, [], ℕ, Bool, true, false, List, map, cond}
 use Rattle.std.specs.Prelude.{nat_le, nat_lt, if◌then◌else◌}
 use Rattle.std.specs.List.{filter}
 use Rattle.std.proofs.lemmas.Bool.Decides.{nat_tests}
@@ -7,7 +7,8 @@ use Rattle.std.proofs.lemmas.Fn.{filter_same}
 use Rattle.std.proofs.lemmas.List.Elements.{All-filter, All-same}
 use Rattle.sled_codec.specs.History.{Batch}
 use Rattle.sled_core.specs.declared.logger.batches.NotedBatch.{NotedBatch}
-use Rattle.sled_core.specs.OpenBatches.{batch_of, not_whole}
+use Rattle.sled_core.specs.OpenBatches.{AreByPlace, batch_of, not_whole}
+use Rattle.sled_core.proofs.Reached.ByPlace.{left_by_place}
 use Rattle.sled_core.proofs.logger.batches.keep_open.Goals as goal
 
 -- A batch is kept whose peg isn't below the end of what is on the device.
@@ -26,6 +27,11 @@ pub returns-clause-items : goal.returns-clause-items
 returns-clause-items c =
     let kept : c.retain.new.self.items ≡ filter (stays c.args.end) c.args.noted.now.items = filter_same _ _ _ (λ x b f' k. search rules) _ _ c.retain.ensures.filtered in
     ap (map batch_of) kept ∙ left_open c.args.end c.args.noted.now.items
+
+pub returns-clause-by_place : goal.returns-clause-by_place
+returns-clause-by_place c are =
+    let kept : c.retain.new.self.items ≡ filter (stays c.args.end) c.args.noted.now.items = filter_same _ _ _ (λ x b f' k. search rules) _ _ c.retain.ensures.filtered in
+    subst (AreByPlace 0) (sym (ap (map batch_of) kept ∙ left_open c.args.end c.args.noted.now.items)) (left_by_place c.args.end 0 (map batch_of c.args.noted.now.items) are)
 
 pub returns-clause-pegs : goal.returns-clause-pegs
 returns-clause-pegs c to all =
