@@ -190,7 +190,7 @@ fn one_behind_another(alloc: Global) -> Result<bool> {
             (340, Some(256), 5),
         ],
     };
-    Ok(holds(alloc, &case)? && logged::holds(alloc, &case)?)
+    holds_of_both(alloc, &case)
 }
 
 // The pages 3 to 12 and a message that was aborted have all of the second segment.
@@ -252,7 +252,7 @@ fn over_a_whole_segment(alloc: Global) -> Result<bool> {
         ],
         found: &FOUND_OF_WHOLE_SEGMENT,
     };
-    Ok(holds(alloc, &case)? && logged::holds(alloc, &case)?)
+    holds_of_both(alloc, &case)
 }
 
 // A file of whole segments, of which the writes of the last buffers may be missing or torn.
@@ -277,6 +277,11 @@ struct Case<'a> {
 const DURABLE: [u64; 7] = [20, 40, 60, 80, 100, 120, 140];
 
 const BEFORE: [u64; 3] = [140, 100, 120];
+
+// Whether each recovery finds what the case says, of the file that is laid out and of those that the log makes.
+fn holds_of_both(alloc: Global, case: &Case<'_>) -> Result<bool> {
+    Ok(holds(alloc, case)? && logged::holds(alloc, case)?)
+}
 
 // Whether each recovery finds what the case says: each set of buffers is written as a whole.
 fn holds(alloc: Global, case: &Case<'_>) -> Result<bool> {
@@ -326,15 +331,18 @@ fn torn_holds(
 ) -> Result<bool> {
     let mut is_so = true;
     for at in from..to {
-        if let Some(end) = ends.get_mut(buffer) {
-            *end = at;
-        }
+        put_end(ends, buffer, at);
         is_so &= recovers(alloc, case, whole, ends)?;
     }
-    if let Some(end) = ends.get_mut(buffer) {
-        *end = from;
-    }
+    put_end(ends, buffer, from);
     Ok(is_so)
+}
+
+// A buffer is written up to this place.
+fn put_end(ends: &mut [u64], buffer: usize, at: u64) {
+    if let Some(end) = ends.get_mut(buffer) {
+        *end = at;
+    }
 }
 
 // Whether a recovery finds what it has to where the buffers are written up to these places.
@@ -350,7 +358,7 @@ fn recovers_again(alloc: Global, case: &Case<'_>, whole: &[u8], ends: &[u64]) ->
     let wanted = wanted_of(alloc, case, ends)?;
     let bytes = written(alloc, case, whole, ends)?;
     let mut config = device_with(alloc, &bytes)?;
-    let is_found = finds(&mut config, &wanted)? && finds(&mut config, &wanted)?;
+    let is_found = finds_twice(&mut config, &wanted)?;
     let durable = written(alloc, case, whole, &ends_of(alloc, case, 0)?)?;
     let mut config = device_with(alloc, &durable)?;
     let is_before = finds(&mut config, &table(alloc, 160, Some(0), &BEFORE)?)?;
@@ -434,6 +442,11 @@ fn table_of(
 // Whether a recovery finds this table.
 fn finds(config: &mut RunningConfig<MemDevice, PlaceSum>, wanted: &Snapshot) -> Result<bool> {
     Ok(read_snapshot_or_default(config)? == *wanted)
+}
+
+// Whether a second recovery finds it too.
+fn finds_twice(config: &mut RunningConfig<MemDevice, PlaceSum>, wanted: &Snapshot) -> Result<bool> {
+    Ok(finds(config, wanted)? && finds(config, wanted)?)
 }
 
 // A device in memory with these bytes as its log file, and segments of 256 bytes.

@@ -7,6 +7,7 @@ pub mod Buffers
 pub mod Canceled
 pub mod Closes
 pub mod Current
+pub mod EndedIn
 pub mod EndedKeeps
 pub mod EndedLine
 pub mod EndedTickets

@@ -1,5 +1,5 @@
 -- What makes a place durable, and why that fails.
-use Rattle.std.specs.Prelude.{◌≡◌, ◌⊎◌, ◌≤ℤ◌, ◌<ℤ◌, ◌+◌, ◌%◌, ◌^◌, ℕ, ℤ, pos, negsuc, int_lt, if◌then◌else◌, List, [], ◌∷◌, Option, None, Some, IsTrue, Result, Ok, Err}
+use Rattle.std.specs.Prelude.{◌≡◌, ◌⊎◌, ◌≤◌, ◌≤ℤ◌, ◌<ℤ◌, ◌+◌, ◌%◌, ◌^◌, ℕ, ℤ, pos, negsuc, int_lt, if◌then◌else◌, List, [], ◌∷◌, Option, None, Some, IsTrue, Result, Ok, Err}
 use Rattle.std.specs.declared.io.Error.{Error as IoError}
 use Rattle.sled_codec.specs.declared.result.Error.{Error}
 use Rattle.sled_codec.specs.declared.result.Error.TheVariants.{Io, OutOfMemory, Held, NotReserved, PlacesUsedUp}
@@ -7,7 +7,7 @@ use Rattle.sled_store.specs.Answers.{is_fault}
 use Rattle.sled_store.specs.Device.{Event}
 use Rattle.sled_core.specs.declared.logger.Log.{Log}
 use Rattle.sled_core.specs.Causes.{HeldAnswers, IsFault}
-use Rattle.sled_core.specs.Fits.{holding_below, noted_in, stable_end, writing_below}
+use Rattle.sled_core.specs.Fits.{holding_below, noted_in, reserved_end, stable_end, synced_end, writing_below}
 use Rattle.sled_core.specs.Keeps.{sealed_for, start_for}
 use Rattle.sled_core.specs.OpenBatches.{behind_batch}
 use Rattle.sled_core.specs.Waiting.{BufferAt, BufferStart, not_below}
@@ -43,6 +43,13 @@ StableAnswers (Err (Held at)) lsn stable end held used old new before after = (l
 StableAnswers (Err PlacesUsedUp) lsn stable end held used old new before after = (lsn <ℤ pos end) × HeldAnswers {T = ℕ} (Err PlacesUsedUp) held used old new before after
 StableAnswers (Err (Io e)) lsn stable end held used old new before after = (old ≡ None → lsn <ℤ pos end) × IsFault e old new before after
 StableAnswers (Err _) lsn stable end held used old new before after = ⊥
+
+-- All that was reserved is durable.
+pub record SyncsAll {D C : Type 0} (old new : Log D C) : Type 0 where
+  -- it is on the device without a gap
+  pub whole : reserved_end old ≤ synced_end new
+  -- and no batch holds the stable end up
+  pub stable : stable_end new ≡ synced_end new
 
 -- The last flush of a log, of which a reservation may be open: it failed for the failure that the log kept, for one of this call, which is counted, for want of memory or of a further segment, or was held.
 abbrev pub CloseAnswers : {T : Type 0} → Result T Error → Option ℕ → Type 0 → Option IoError → ℕ → ℕ → Type 0

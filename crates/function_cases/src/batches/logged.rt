@@ -5,7 +5,7 @@ ghost use Rattle.std.specs.Prelude.{◌≡◌, ◌<◌, IfOk, vec_len, vec_capac
 ghost use Rattle.sled_core.specs.Fits.{pins_of};
 
 use crate::batches::parts::{Part, item};
-use crate::batches::{Case, ends_of, finds, found_of, wanted_of};
+use crate::batches::{Case, ends_of, finds_twice, found_of, put_end, wanted_of};
 use sled_log::config::{Config, RunningConfig};
 use sled_log::device::{Choice, CrashDevice, MemDevice, PlaceSum};
 use sled_log::logger::{BATCH_MANIFEST_PID, Log, LogKind, PageId};
@@ -60,9 +60,7 @@ fn order_holds(alloc: Global, case: &Case<'_>, order: &[u64]) -> Result<bool> {
         let (from, to) = span_of(case, *buffer);
         let written = order.get(..n).unwrap_or(&[]);
         for at in from..to.saturating_add(1) {
-            if let Some(end) = ends.get_mut(*buffer as usize) {
-                *end = at;
-            }
+            put_end(&mut ends, *buffer as usize, at);
             is_so &= recovers(alloc, case, &ends, written, *buffer)?;
         }
     }
@@ -88,7 +86,7 @@ fn recovers(
     let is_stable = came?;
     let is_left = config.device.crash(torn(alloc, case, ends, buffer)?);
     let wanted = wanted_of(alloc, case, ends)?;
-    Ok(is_stable && is_left && finds(&mut config, &wanted)? && finds(&mut config, &wanted)?)
+    Ok(is_stable && is_left && finds_twice(&mut config, &wanted)?)
 }
 
 // A crash that leaves the write of a buffer up to a place: the file had zeros there, or its end.
@@ -162,9 +160,7 @@ impl Writer {
         }
         for n in written {
             self.write(&mut left, *n)?;
-            if let Some(end) = stand.get_mut(*n as usize) {
-                *end = span_of(case, *n).1;
-            }
+            put_end(&mut stand, *n as usize, span_of(case, *n).1);
             is_so &= self.is_stable_as(case, &stand);
         }
         let at = ends.get(buffer as usize).copied().unwrap_or(0);

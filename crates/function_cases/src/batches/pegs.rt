@@ -4,11 +4,12 @@
 //! All places are worked out by hand. The header of a segment has 20 bytes and a manifest 24; a message has 9 bytes and its item.
 //! A record begins where at least 32 bytes of its segment are left. A place is also the offset in the file.
 
-use crate::batches::logged::{self, Writer, begun};
+use crate::batches::logged::{Writer, begun};
 use crate::batches::parts::Part;
-use crate::batches::{Case, finds, holds, table, table_of};
+use crate::batches::{Case, finds_twice, holds_of_both, table, table_of};
 use sled_log::logger::{DiskPtr, LogKind, Lsn};
 use sled_log::result::{Error, Result};
+use sled_log::snapshot::Snapshot;
 use std::alloc::Global;
 
 /// Whether the log and each recovery do what they have to.
@@ -28,9 +29,7 @@ pub fn hold(alloc: Global) -> Result<bool> {
 fn of_no_messages(alloc: Global) -> Result<bool> {
     let mut writer = Writer::new(alloc, begun(alloc, 256)?);
     let came = ends_in_its_own_record(alloc, &mut writer);
-    let mut config = writer.end();
-    let wanted = table(alloc, 44, Some(0), &[])?;
-    Ok(came? && finds(&mut config, &wanted)? && finds(&mut config, &wanted)?)
+    leaves(writer, came, table(alloc, 44, Some(0), &[]))
 }
 
 fn ends_in_its_own_record(alloc: Global, writer: &mut Writer) -> Result<bool> {
@@ -44,9 +43,7 @@ fn ends_in_its_own_record(alloc: Global, writer: &mut Writer) -> Result<bool> {
 fn over_one_given_up(alloc: Global) -> Result<bool> {
     let mut writer = Writer::new(alloc, begun(alloc, 256)?);
     let came = ends_over_one_given_up(alloc, &mut writer);
-    let mut config = writer.end();
-    let wanted = table(alloc, 68, Some(0), &[])?;
-    Ok(came? && finds(&mut config, &wanted)? && finds(&mut config, &wanted)?)
+    leaves(writer, came, table(alloc, 68, Some(0), &[]))
 }
 
 fn ends_over_one_given_up(alloc: Global, writer: &mut Writer) -> Result<bool> {
@@ -70,16 +67,14 @@ fn torn_without_messages(alloc: Global) -> Result<bool> {
         messages: &[184],
         found: &[(160, Some(0), 0), (184, Some(0), 0), (204, Some(0), 1)],
     };
-    Ok(holds(alloc, &case)? && logged::holds(alloc, &case)?)
+    holds_of_both(alloc, &case)
 }
 
 // The last record of the batch, up to 83, was aborted and is written before the manifest ends.
 fn up_to_an_aborted_one(alloc: Global) -> Result<bool> {
     let mut writer = Writer::new(alloc, begun(alloc, 256)?);
     let came = ends_in_an_aborted_one(alloc, &mut writer);
-    let mut config = writer.end();
-    let wanted = table(alloc, 84, Some(0), &[44])?;
-    Ok(came? && finds(&mut config, &wanted)? && finds(&mut config, &wanted)?)
+    leaves(writer, came, table(alloc, 84, Some(0), &[44]))
 }
 
 fn ends_in_an_aborted_one(alloc: Global, writer: &mut Writer) -> Result<bool> {
@@ -124,7 +119,7 @@ fn torn_with_an_aborted_one(alloc: Global) -> Result<bool> {
             (256, None, 2),
         ],
     };
-    Ok(holds(alloc, &case)? && logged::holds(alloc, &case)?)
+    holds_of_both(alloc, &case)
 }
 
 // Messages of 20 bytes, of which the first segment has ten behind the manifest, up to 243, and the second one eleven, up to
@@ -224,12 +219,14 @@ fn is_kept_clear(alloc: Global, filling: &Filling<'_>) -> Result<bool> {
 fn ends_there(alloc: Global, filling: &Filling<'_>, peg: Lsn) -> Result<bool> {
     let mut writer = Writer::new(alloc, begun(alloc, filling.size)?);
     let came = is_told_throughout(alloc, &mut writer, filling, peg);
-    let mut config = writer.end();
     let active = filling.size.checked_mul(2);
     let len = filling.item.saturating_add(9);
     let cut = filling.end.cast_signed();
-    let wanted = table_of(alloc, cut, active, filling.messages, len)?;
-    Ok(came? && finds(&mut config, &wanted)? && finds(&mut config, &wanted)?)
+    leaves(
+        writer,
+        came,
+        table_of(alloc, cut, active, filling.messages, len),
+    )
 }
 
 // The manifest's buffer holds nothing else, and waits for it. The second segment is written first, so that the log keeps none of
@@ -290,6 +287,12 @@ fn tells(writer: &Writer, told: &[(Lsn, bool)]) -> bool {
         is_so &= writer.log.may_end_at(ticket, *peg) == *may;
     }
     is_so
+}
+
+// Gives the log up, and says whether all came as it has to and two recoveries find this table.
+fn leaves(writer: Writer, came: Result<bool>, wanted: Result<Snapshot>) -> Result<bool> {
+    let mut config = writer.end();
+    Ok(came? && finds_twice(&mut config, &wanted?)?)
 }
 
 // Ends the manifest that was reserved last, and says whether the log answers with this place.

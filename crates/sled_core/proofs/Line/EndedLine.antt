@@ -86,10 +86,6 @@ filled_over size to line n v i r text state among facts there is_open plain shor
     (entered_ended to v.parts.site.place v.parts.written_len i v.parts.sealed v.parts.reserved (set v.parts.reserved i (ended state r)) (length-set v.parts.reserved i (ended state r))) refl
     (omega (arith, records_set v.parts.reserved i r state (length v.parts.bytes) there is_open plain)) facts filled
 
-pub filled_ended : (size to : ℕ) (line : List SegmentView) (n : ℕ) {place : ℕ} (v : SegmentView) (i : ℕ) (r : Reserved) (word : ℕ) (k : MessageKind) (state : ReservationState) → slice_get line n ≡ Some v → IsSegment size place v
-    → slice_get v.parts.reserved i ≡ Some r → r.state ≡ Open → state ≢ Padding → AreFilled size to line → AreFilled size to (set line n (ended_now i r (ending word k) state v))
-filled_ended size to line n v i r word k state among facts there is_open plain filled = filled_over size to line n v i r (ending word k) state among facts there is_open plain (ending_short v i r word k facts there is_open) filled
-
 -- What code makes of a buffer is the segment with that reservation ended.
 pub ended_view : (site : SegmentPosition) (old new : IoBuf) (i : ℕ) (r : Reserved) (how : List ℕ) (state : ReservationState) → new.bytes.items ≡ written old.bytes.items r.from how → new.reserved.items ≡ set old.reserved.items i (ended state r)
     → new.sealed.items ≡ one_ended i old.sealed.items → new.written_len ≡ old.written_len → new.gone ≡ old.gone → new.filled ≡ old.filled → view_at site new ≡ ended_now i r how state (view_at site old)
@@ -107,11 +103,11 @@ behind_within log n v some there = let its = behind_at log n v some there in sli
 
 -- The first one has the reservation that is open.
 module _ {D C : Type 0} (log : Log D C) (n index : ℕ) (its : HasOpenIn (line_of log) n index) (first : n ≡ 0) where
+  pub first_is : view_at log.site log.buffer ≡ its.segment
+  first_is = let is : slice_get (line_of log) 0 ≡ Some its.segment = subst (λ k. slice_get (line_of log) k ≡ Some its.segment) first its.among in cc
+
   pub first_reserved : slice_get log.buffer.reserved.items (index - log.buffer.gone) ≡ Some its.reserved
-  first_reserved =
-      let is : slice_get (line_of log) 0 ≡ Some its.segment = subst (λ k. slice_get (line_of log) k ≡ Some its.segment) first its.among in
-      let same : view_at log.site log.buffer ≡ its.segment = cc in
-      subst (λ (w : SegmentView). slice_get w.parts.reserved (index - w.gone) ≡ Some its.reserved) (sym same) its.there
+  first_reserved = subst (λ (w : SegmentView). slice_get w.parts.reserved (index - w.gone) ≡ Some its.reserved) (sym first_is) its.there
 
 -- It was read, where a reservation of it is open.
 module _ {D C : Type 0} (log : Log D C) (n index : ℕ) (its : HasOpenIn (line_of log) n index) (some : n ≡ 0 → ⊥) where
@@ -126,9 +122,6 @@ module _ {D C : Type 0} (log : Log D C) (n index : ℕ) (its : HasOpenIn (line_o
         let same : s ≡ at.0 = cc in
         ap segment_view same ∙ at.2
 
-    pub read_among : slice_get (line_of log) n ≡ Some (segment_view s)
-    read_among = its.among ∙ ap Some (sym read_is)
-
     pub read_numbered : s.buffer.gone ≤ index
     read_numbered = let same : s.buffer.gone ≡ its.segment.gone = ap (λ (w : SegmentView). w.gone) read_is in let numbered = its.numbered in omega (arith, same, numbered)
 
@@ -137,25 +130,11 @@ module _ {D C : Type 0} (log : Log D C) (n index : ℕ) (its : HasOpenIn (line_o
 
   -- And then it was changed.
   module _ (s t : SegmentBuffer) (read : s ≡ get_or log.behind.items (n - 1) s) (again : t ≡ get_or log.behind.items (n - 1) t) where
-    pub read_same : s ≡ t
+    read_same : s ≡ t
     read_same = let both : Some s ≡ Some t = sym (read_there s read) ∙ read_there t again in cc
 
     pub mut_reserved : slice_get t.buffer.reserved.items (index - s.buffer.gone) ≡ Some its.reserved
     mut_reserved = ap (λ (x : SegmentBuffer). slice_get t.buffer.reserved.items (index - x.buffer.gone)) read_same ∙ read_reserved t again
-
-    -- What was made of it was made of whichever segment and reservation these are.
-    pub line_any : (how : List ℕ → Reserved → List ℕ) (state : ReservationState) (line : List SegmentView)
-        → line ≡ set (line_of log) n (ended_now (index - s.buffer.gone) its.reserved (how t.buffer.bytes.items its.reserved) state (segment_view t))
-        → (v : SegmentView) (r : Reserved) → slice_get (line_of log) n ≡ Some v → slice_get v.parts.reserved (index - v.gone) ≡ Some r
-        → line ≡ set (line_of log) n (ended_now (index - v.gone) r (how v.parts.bytes r) state v)
-    line_any how state line is v r among there =
-        let both : Some (segment_view t) ≡ Some v = sym (read_among t again) ∙ among in
-        let mine : segment_view t ≡ v = cc in
-        let gone : s.buffer.gone ≡ v.gone = ap (λ (x : SegmentBuffer). x.buffer.gone) read_same ∙ ap (λ (w : SegmentView). w.gone) mine in
-        let own : slice_get v.parts.reserved (index - v.gone) ≡ Some its.reserved = sym (λ j. slice_get (mine j).parts.reserved (index - gone j)) ∙ mut_reserved in
-        let all : Some its.reserved ≡ Some r = sym own ∙ there in
-        let same : its.reserved ≡ r = cc in
-        is ∙ (λ j. set (line_of log) n (ended_now (index - gone j) (same j) (how (mine j).parts.bytes (same j)) state (mine j)))
 
     -- One of its reservations ended.
     module _ (new : IoBuf) (how : List ℕ) (state : ReservationState) (bytes : new.bytes.items ≡ written t.buffer.bytes.items its.reserved.from how)

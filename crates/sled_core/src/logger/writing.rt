@@ -17,6 +17,7 @@ ghost use Rattle.sled_core.specs.Causes.{Answers, FaultOrMemory, HeldAnswers, On
 ghost use Rattle.sled_core.specs.Fits.{Holds, IsUnchanged, IsUsedUp, IsUsedUpBelow, IsWritten, KeepsAll, KeepsTickets, NoneSealed, buffers_of, current_begin, current_of, device_of, fault_of, flushing, held_len, holding_below, line_of, pending_of, reserved_end, sealing_end, segment_size_of, stable_end, start_of, synced_end, waiting_of, writing_below, writing_pending};
 ghost use Rattle.sled_core.specs.Keeps.{LeavesAbove, LeavesSome, Preserves, SamePosition, SealsBelow, WritesBelow};
 ghost use Rattle.sled_core.specs.Running.{Fits, end_below};
+ghost use Rattle.sled_core.specs.Stable.{SyncsAll};
 ghost use Rattle.sled_core.specs.Turned.{ChangesDevice, HasBufferAt, IsReadyIn, promoted, ready_below, write_in, written_now};
 ghost use Rattle.sled_core.specs.Waiting.{BufferAt, holds_any, unwritten, without_pending};
 
@@ -138,8 +139,7 @@ impl<D: Device, C: Checksum> Log<D, C> {
     /// again. Where no buffer was sealed, the stable end is where it was after each of them.
     pub fn flush(&mut self) -> Result<usize>
         ensures answer { IfOk result (λ n. stable_end self.new ≡ stable_end self.old + n) }
-        ensures whole { OnOk result (reserved_end self.old ≤ synced_end self.new) }
-        ensures stable { OnOk result (stable_end self.new ≡ synced_end self.new) }
+        ensures synced { OnOk result (SyncsAll self.old self.new) }
         ensures records { (H : History) → Holds D.trace C.sum_of self.old H → OnOk result (IsWritten D.trace C.sum_of self.new H) }
         ensures calls { OnDone result (D.trace (device_of self.new) ≡ after_all (flushing C.sum_of self.old) (D.trace (device_of self.old))) }
         ensures at_most { Performs (flushing C.sum_of self.old) (D.trace (device_of self.old)) (D.trace (device_of self.new)) }

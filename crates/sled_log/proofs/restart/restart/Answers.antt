@@ -50,7 +50,7 @@ returns-in-Ok-clause-ready g c = λ H A f U can.
     subst (λ (t : Trace). IsKept sum size log.site log.buffer.written_len (state_of t) H) (sym same)
     (subst (λ n. IsKept sum n log.site log.buffer.written_len (state_of (trace (device_of log))) H) now_size (c.in-Ok.ensures.records H (fits_holds trace sum c.args.log H A f U can.fits))) in
     let long : 256 ≤ size = (let least = config.config.least in omega (arith, least, sizes)) in
-    let less : max A (end_below (reserved_end c.args.log) H) ≤ end = (let low = end_rises (reserved_end c.args.log) (synced_end log) H c.in-Ok.ensures.whole in omega (arith, low)) in
+    let less : max A (end_below (reserved_end c.args.log) H) ≤ end = (let low = end_rises (reserved_end c.args.log) (synced_end log) H c.in-Ok.ensures.synced.whole in omega (arith, low)) in
     if_ok c.read_snapshot_or_default-snapshot.result _ (λ s. Ready sum size (state_of new) (model_of s) H (max A (end_below (reserved_end c.args.log) H)) (stable_place s.stable_lsn))
     (λ s ok. ready_with_less sum size (state_of new) (model_of s) H end (max A (end_below (reserved_end c.args.log) H)) (stable_place s.stable_lsn) less
     (ready_kept sum size log.site log.buffer.written_len old new H end f long kept (omega arith) there (model_of s) (subst (λ n. Restores sum n old new (model_of s)) sizes ok)))

@@ -20,7 +20,7 @@ returns-in-Ok-flush-clause-keeps g c =
     record {
       asked = first.asked;
       block = first.block;
-      generates = λ generates. has_generates trace sum _ (has_flushed trace sum mid.log c.flush.new.self mid.bound mid.asked mid.ahead flushed.whole flushed.position.reserved flushed.acknowledges (generates_has trace sum mid (first.generates generates)));
+      generates = λ generates. has_generates trace sum _ (has_flushed trace sum mid.log c.flush.new.self mid.bound mid.asked mid.ahead flushed.synced.whole flushed.position.reserved flushed.acknowledges (generates_has trace sum mid (first.generates generates)));
       keeps = λ generates. asked_then trace sum c.args.self.now mid c.flush.new.self (ap (λ x. x.segment_size) first.config.config) c.ask.ensures.rest.bound first.asked (first.generates generates) flushed.keeps.goes_on (first.keeps generates);
       config = config_then first.config flushed.keeps.goes_on.config;
     }

@@ -27,7 +27,8 @@ use Rattle.sled_core.proofs.Line.Entered.{filled_last}
 use Rattle.sled_core.proofs.Line.Segments.{line_segments}
 use Rattle.sled_core.proofs.Line.Filling.{follow_in, follow_with, last_none, line_first, line_last, read_last}
 use Rattle.sled_core.proofs.Line.Nth.{last_behind, last_buffer_behind}
-use Rattle.sled_core.proofs.logger.Log.begin_next.Goals.{then-n-eq0, else-n-eq0}
+use Rattle.sled_core.proofs.logger.Log.begin_next.Given.{Over}
+use Rattle.sled_core.proofs.logger.Log.begin_next.Goals.{After-push_back_reserved, then-n-eq0, else-n-eq0}
 use Rattle.sled_core.proofs.logger.Log.begin_next.Goals as goal
 
 -- The last one behind the first is the one that is being filled.
@@ -49,29 +50,30 @@ module _ {D C : Type 0} (mid : Log D C) (size : ℕ) (sizes : mid.config.config.
   its_room : CanClose (last_buffer mid.buffer mid.behind.items) size → CanClose s.buffer size
   its_room room = subst (λ (b : IoBuf). CanClose b size) (last_buffer_behind mid.buffer mid.behind.items s n at there) room
 
+-- It is the one that was read.
+is_last : (g : Over) (c : goal.After-site-else-n-eq0-1 g) → (suc (c.len-n.result - 1) ≡ length c.room_to_close.new.self.behind.items) × (slice_get c.room_to_close.new.self.behind.items (c.len-n.result - 1) ≡ Some c.index_mut.result.now)
+is_last g c =
+    let counted : deque_len c.room_to_close.new.self.behind ≡ length c.room_to_close.new.self.behind.items = search rules in
+    read_last c.room_to_close.new.self.behind.items c.len-n.result c.index_mut.result.now (c.len-n.ensures ∙ counted) c.if-n-eq0.false c.index_mut.ensures.value
+
+-- Its size is as it was before room was made.
+its_sizes : (g : Over) (c : goal.After-site-else-n-eq0-1 g) → segment_size_of c.room_to_close.new.self ≡ segment_size_of c.args.self.now
+its_sizes g c = ap (λ x. x.config.segment_size) c.in_ok-room_to_close.ensures.rest.config
+
 pub close-requires-else-n-eq0-clause-some : goal.close-requires-else-n-eq0-clause-some
 close-requires-else-n-eq0-clause-some g c =
-    let mid = c.room_to_close.new.self in
-    let s : SegmentBuffer = c.index_mut.result.now in
-    let counted : deque_len mid.behind ≡ length mid.behind.items = search rules in
-    let is = read_last mid.behind.items c.len-n.result s (c.len-n.ensures ∙ counted) c.if-n-eq0.false c.index_mut.ensures.value in
-    its_begin mid c.args.self.now.config.config.segment_size (ap (λ x. x.config.segment_size) c.in_ok-room_to_close.ensures.rest.config) (c.len-n.result - 1) s is.0 is.1
+    let there = is_last g c in
+    its_begin c.room_to_close.new.self (segment_size_of c.args.self.now) (its_sizes g c) (c.len-n.result - 1) c.index_mut.result.now there.0 there.1
 
 pub close-requires-else-n-eq0-clause-short : goal.close-requires-else-n-eq0-clause-short
 close-requires-else-n-eq0-clause-short g c =
-    let mid = c.room_to_close.new.self in
-    let s : SegmentBuffer = c.index_mut.result.now in
-    let counted : deque_len mid.behind ≡ length mid.behind.items = search rules in
-    let is = read_last mid.behind.items c.len-n.result s (c.len-n.ensures ∙ counted) c.if-n-eq0.false c.index_mut.ensures.value in
-    its_short mid c.args.self.now.config.config.segment_size (ap (λ x. x.config.segment_size) c.in_ok-room_to_close.ensures.rest.config) (c.len-n.result - 1) s is.0 is.1
+    let there = is_last g c in
+    its_short c.room_to_close.new.self (segment_size_of c.args.self.now) (its_sizes g c) (c.len-n.result - 1) c.index_mut.result.now there.0 there.1
 
 pub close-requires-else-n-eq0-clause-room : goal.close-requires-else-n-eq0-clause-room
 close-requires-else-n-eq0-clause-room g c =
-    let mid = c.room_to_close.new.self in
-    let s : SegmentBuffer = c.index_mut.result.now in
-    let counted : deque_len mid.behind ≡ length mid.behind.items = search rules in
-    let is = read_last mid.behind.items c.len-n.result s (c.len-n.ensures ∙ counted) c.if-n-eq0.false c.index_mut.ensures.value in
-    its_room mid c.args.self.now.config.config.segment_size (ap (λ x. x.config.segment_size) c.in_ok-room_to_close.ensures.rest.config) (c.len-n.result - 1) s is.0 is.1 c.in_ok-room_to_close.ensures.room
+    let there = is_last g c in
+    its_room c.room_to_close.new.self (segment_size_of c.args.self.now) (its_sizes g c) (c.len-n.result - 1) c.index_mut.result.now there.0 there.1 c.in_ok-room_to_close.ensures.room
 
 -- The segment that was being filled is filled up and sealed.
 record IsClosed {D C : Type 0} (sum : List ℕ → ℕ) (size : ℕ) (mid : Log D C) (b : IoBuf) (ss : List SegmentBuffer) : Type 0 where
@@ -225,45 +227,71 @@ invariant_of-self g c =
       counted = mid.counted;
     }
 
-pub invariant_of-self-2 : goal.invariant_of-self-2
-invariant_of-self-2 g c =
-    let old = c.args.self.now in
+-- What is left behind the closing: the first segment, those behind it, and the one that is begun.
+
+abbrev first_then : (g : Over) (c : After-push_back_reserved g) → IoBuf
+first_then g c = c.if-n-eq0.self.1.1.1.0
+
+abbrev behind_then : (g : Over) (c : After-push_back_reserved g) → List SegmentBuffer
+behind_then g c = c.if-n-eq0.self.1.1.1.1.0.items
+
+abbrev next : (g : Over) (c : After-push_back_reserved g) → SegmentBuffer
+next g c = record { site = record { place = c.current.result.0.place + segment_size_of c.args.self.now; slot = c.in_ok-slot.slot }; buffer = c.in_ok-buffer.buffer }
+
+-- It begins where the one that was filled ends.
+next_at : (g : Over) (c : After-push_back_reserved g) → (next g c).site.place ≡ (current_of c.args.self.now).parts.site.place + segment_size_of c.args.self.now
+next_at g c = ap (λ (v : SegmentView). v.parts.site.place + segment_size_of c.args.self.now) c.current.ensures.view
+
+-- The configuration is as it was,
+kept_config : (g : Over) (c : After-push_back_reserved g) → c.if-n-eq0.self.1.0 ≡ c.room_to_close.new.self.config
+kept_config g c = elim c.if-n-eq0.branch [ then-n-eq0 w ↦ (λ i. (w.self-is i).1.0) ∙ c.next.ensures.config | else-n-eq0 w ↦ (λ i. (w.self-is i).1.0) ∙ c.next.ensures.config ]
+
+-- and the segment that was being filled is closed.
+closed : (g : Over) (c : After-push_back_reserved g) → IsClosed g.C.Checksum.sum_of (segment_size_of c.room_to_close.new.self) c.room_to_close.new.self (first_then g c) (behind_then g c)
+closed g c =
     let mid = c.room_to_close.new.self in
     let sum : List ℕ → ℕ = g.C.Checksum.sum_of in
     let size : ℕ = segment_size_of mid in
-    let rest = c.in_ok-room_to_close.ensures.rest in
-    let same : current_of mid ≡ current_of old = ap (last_of (view_at mid.site mid.buffer)) c.in_ok-room_to_close.ensures.line in
+    let ss : List SegmentBuffer = behind_then g c in
+    let same : current_of mid ≡ current_of c.args.self.now = ap (last_of (view_at mid.site mid.buffer)) c.in_ok-room_to_close.ensures.line in
     let its_site : c.current.result.0 ≡ (current_of mid).parts.site = ap (λ (v : SegmentView). v.parts.site) (c.current.ensures.view ∙ sym same) in
-    let its_sizes : size ≡ segment_size_of old = ap (λ x. x.config.segment_size) rest.config in
-    let next : SegmentBuffer = record { site = record { place = c.current.result.0.place + segment_size_of old; slot = c.in_ok-slot.slot }; buffer = c.in_ok-buffer.buffer } in
-    let at : next.site.place ≡ (current_of old).parts.site.place + segment_size_of old = ap (λ (v : SegmentView). v.parts.site.place + segment_size_of old) c.current.ensures.view in
-    let begun = c.in_ok-buffer.ensures.view next.site refl in
+    let sizes : size ≡ segment_size_of c.args.self.now = ap (λ x. x.config.segment_size) c.in_ok-room_to_close.ensures.rest.config in
     let counted : deque_len mid.behind ≡ length mid.behind.items = search rules in
-    let b : IoBuf = c.if-n-eq0.self.1.1.1.0 in
-    let ss : List SegmentBuffer = c.if-n-eq0.self.1.1.1.1.0.items in
-    let closed : IsClosed sum size mid b ss = elim c.if-n-eq0.branch [
+    elim c.if-n-eq0.branch [
       | then-n-eq0 w ↦ (
           let new : IoBuf = w.close.new.self in
-          let made = w.close.ensures.closed ∙ ap (λ n. closed_now sum n (view_at c.current.result.0 mid.buffer)) (sym its_sizes) in
+          let made = w.close.ensures.closed ∙ ap (λ n. closed_now sum n (view_at c.current.result.0 mid.buffer)) (sym sizes) in
           let none : length mid.behind.items ≡ 0 = omega (arith, counted, c.len-n.ensures, w.if-n-eq0.true) in
           subst (λ (x : IoBuf). IsClosed sum size mid x ss) (sym (λ i. (w.self-is i).1.1.1.0))
           (subst (λ (l : List SegmentBuffer). IsClosed sum size mid new l) (sym (λ i. (w.self-is i).1.1.1.1.0.items)) (closed_first sum mid c.current.result.0 its_site new none made)))
       | else-n-eq0 w ↦ (
           let s : SegmentBuffer = w.index_mut.result.now in
           let new : IoBuf = w.close-else-n-eq0.new.self in
-          let made = w.close-else-n-eq0.ensures.closed ∙ ap (λ n. closed_now sum n (view_at c.current.result.0 s.buffer)) (sym its_sizes) in
+          let made = w.close-else-n-eq0.ensures.closed ∙ ap (λ n. closed_now sum n (view_at c.current.result.0 s.buffer)) (sym sizes) in
           let is = read_last mid.behind.items c.len-n.result s (c.len-n.ensures ∙ counted) w.if-n-eq0.false w.index_mut.ensures.value in
           subst (λ (x : IoBuf). IsClosed sum size mid x ss) (sym (λ i. (w.self-is i).1.1.1.0))
           (subst (λ (l : List SegmentBuffer). IsClosed sum size mid mid.buffer l) (sym (λ i. (w.self-is i).1.1.1.1.0.items)) (closed_last sum mid c.current.result.0 its_site new (c.len-n.result - 1) s is.0 is.1 made)))
-    ] in
-    let config : c.if-n-eq0.self.1.0 ≡ mid.config = elim c.if-n-eq0.branch [ then-n-eq0 w ↦ (λ i. (w.self-is i).1.0) ∙ c.next.ensures.config | else-n-eq0 w ↦ (λ i. (w.self-is i).1.0) ∙ c.next.ensures.config ] in
+    ]
+
+pub invariant_of-self-2 : goal.invariant_of-self-2
+invariant_of-self-2 g c =
+    let old = c.args.self.now in
+    let mid = c.room_to_close.new.self in
+    let sum : List ℕ → ℕ = g.C.Checksum.sum_of in
+    let line = c.in_ok-room_to_close.ensures.line in
+    let rest = c.in_ok-room_to_close.ensures.rest in
+    let b : IoBuf = first_then g c in
+    let ss : List SegmentBuffer = behind_then g c in
+    let slot = c.in_ok-slot.ensures.offset in
+    let begun = c.in_ok-buffer.ensures.view (next g c).site refl in
     let new_size : ℕ = c.if-n-eq0.self.1.0.config.segment_size in
-    let new_sizes : new_size ≡ size = ap (λ x. x.config.segment_size) config in
+    let new_sizes : new_size ≡ segment_size_of mid = ap (λ x. x.config.segment_size) (kept_config g c) in
+    let sizes : segment_size_of mid ≡ segment_size_of old = ap (λ x. x.config.segment_size) rest.config in
     let may = c.has_further.ensures.0 c.if-not-has_further.false in
-    let all : IsBegun (segment_size_of old) c.args.to mid.site b (ss ++ next ∷ []) =
-    begun_next sum old mid c.in_ok-room_to_close.ensures.line rest b ss closed next at c.in_ok-slot.ensures.offset begun c.args.to c.requires.grows c.requires.behind c.requires.within c.requires.apart.ends may in
+    let all : IsBegun (segment_size_of old) c.args.to mid.site b (ss ++ next g c ∷ []) =
+    begun_next sum old mid line rest b ss (closed g c) (next g c) (next_at g c) slot begun c.args.to c.requires.grows c.requires.behind c.requires.within c.requires.apart.ends may in
     let are : IsBegun new_size c.args.to mid.site b c.push_back_reserved.new.self.items =
-    subst (λ n. IsBegun n c.args.to mid.site b c.push_back_reserved.new.self.items) (sym (new_sizes ∙ its_sizes)) (subst (λ (l : List SegmentBuffer). IsBegun (segment_size_of old) c.args.to mid.site b l) (sym c.push_back_reserved.ensures.items) all) in
+    subst (λ n. IsBegun n c.args.to mid.site b c.push_back_reserved.new.self.items) (sym (new_sizes ∙ sizes)) (subst (λ (l : List SegmentBuffer). IsBegun (segment_size_of old) c.args.to mid.site b l) (sym c.push_back_reserved.ensures.items) all) in
     record {
       in_segment = are.short;
       place_in_reach = are.place_small;
@@ -272,11 +300,10 @@ invariant_of-self-2 g c =
       follow = are.follow;
       filled = are.filled;
       account = subst (λ n. IsAccountant n c.next.new.self) (sym new_sizes) c.next.ensures.account;
-      pegs = begun_pegs sum old mid c.in_ok-room_to_close.ensures.line rest b ss closed next at c.in_ok-slot.ensures.offset begun c.args.to c.requires.grows;
+      pegs = begun_pegs sum old mid line rest b ss (closed g c) (next g c) (next_at g c) slot begun c.args.to c.requires.grows;
       by_place = mid.by_place;
       room = mid.room;
-      counted = subst (λ (l : List SegmentBuffer). open_manifests (line_at mid.site b l) ≤ mid.manifests) (sym c.push_back_reserved.ensures.items)
-          (begun_counted sum old mid c.in_ok-room_to_close.ensures.line rest b ss closed next at c.in_ok-slot.ensures.offset begun);
+      counted = subst (λ (l : List SegmentBuffer). open_manifests (line_at mid.site b l) ≤ mid.manifests) (sym c.push_back_reserved.ensures.items) (begun_counted sum old mid line rest b ss (closed g c) (next g c) (next_at g c) slot begun);
     }
 
 pub push_back_reserved-requires : goal.push_back_reserved-requires
@@ -284,47 +311,18 @@ push_back_reserved-requires g c = elim c.if-n-eq0.branch [ then-n-eq0 w ↦ sear
 
 pub returns-clause-rest : goal.returns-clause-rest
 returns-clause-rest g c =
-    let mid = c.room_to_close.new.self in
     let rest = c.in_ok-room_to_close.ensures.rest in
-    let config : c.if-n-eq0.self.1.0 ≡ mid.config = elim c.if-n-eq0.branch [ then-n-eq0 w ↦ (λ i. (w.self-is i).1.0) ∙ c.next.ensures.config | else-n-eq0 w ↦ (λ i. (w.self-is i).1.0) ∙ c.next.ensures.config ] in
-    record { config = config ∙ rest.config; fault = rest.fault; pins = rest.pins; noted = rest.noted }
+    record { config = kept_config g (goal.at.returns-clause-rest g c).After-push_back_reserved ∙ rest.config; fault = rest.fault; pins = rest.pins; noted = rest.noted }
 
 pub returns-clause-line : goal.returns-clause-line
 returns-clause-line g c =
-    let old = c.args.self.now in
-    let mid = c.room_to_close.new.self in
-    let sum : List ℕ → ℕ = g.C.Checksum.sum_of in
-    let size : ℕ = segment_size_of mid in
-    let rest = c.in_ok-room_to_close.ensures.rest in
-    let same : current_of mid ≡ current_of old = ap (last_of (view_at mid.site mid.buffer)) c.in_ok-room_to_close.ensures.line in
-    let its_site : c.current.result.0 ≡ (current_of mid).parts.site = ap (λ (v : SegmentView). v.parts.site) (c.current.ensures.view ∙ sym same) in
-    let its_sizes : size ≡ segment_size_of old = ap (λ x. x.config.segment_size) rest.config in
-    let next : SegmentBuffer = record { site = record { place = c.current.result.0.place + segment_size_of old; slot = c.in_ok-slot.slot }; buffer = c.in_ok-buffer.buffer } in
-    let at : next.site.place ≡ (current_of old).parts.site.place + segment_size_of old = ap (λ (v : SegmentView). v.parts.site.place + segment_size_of old) c.current.ensures.view in
-    let begun = c.in_ok-buffer.ensures.view next.site refl in
-    let counted : deque_len mid.behind ≡ length mid.behind.items = search rules in
-    let b : IoBuf = c.if-n-eq0.self.1.1.1.0 in
-    let ss : List SegmentBuffer = c.if-n-eq0.self.1.1.1.1.0.items in
-    let closed : IsClosed sum size mid b ss = elim c.if-n-eq0.branch [
-      | then-n-eq0 w ↦ (
-          let new : IoBuf = w.close.new.self in
-          let made = w.close.ensures.closed ∙ ap (λ n. closed_now sum n (view_at c.current.result.0 mid.buffer)) (sym its_sizes) in
-          let none : length mid.behind.items ≡ 0 = omega (arith, counted, c.len-n.ensures, w.if-n-eq0.true) in
-          subst (λ (x : IoBuf). IsClosed sum size mid x ss) (sym (λ i. (w.self-is i).1.1.1.0))
-          (subst (λ (l : List SegmentBuffer). IsClosed sum size mid new l) (sym (λ i. (w.self-is i).1.1.1.1.0.items)) (closed_first sum mid c.current.result.0 its_site new none made)))
-      | else-n-eq0 w ↦ (
-          let s : SegmentBuffer = w.index_mut.result.now in
-          let new : IoBuf = w.close-else-n-eq0.new.self in
-          let made = w.close-else-n-eq0.ensures.closed ∙ ap (λ n. closed_now sum n (view_at c.current.result.0 s.buffer)) (sym its_sizes) in
-          let is = read_last mid.behind.items c.len-n.result s (c.len-n.ensures ∙ counted) w.if-n-eq0.false w.index_mut.ensures.value in
-          subst (λ (x : IoBuf). IsClosed sum size mid x ss) (sym (λ i. (w.self-is i).1.1.1.0))
-          (subst (λ (l : List SegmentBuffer). IsClosed sum size mid mid.buffer l) (sym (λ i. (w.self-is i).1.1.1.1.0.items)) (closed_last sum mid c.current.result.0 its_site new (c.len-n.result - 1) s is.0 is.1 made)))
-    ] in
-    ap (line_at mid.site b) c.push_back_reserved.ensures.items ∙ next_is sum old mid c.in_ok-room_to_close.ensures.line rest b ss closed next at c.in_ok-slot.ensures.offset begun
+    let w = (goal.at.returns-clause-line g c).After-push_back_reserved in
+    ap (line_at c.room_to_close.new.self.site (first_then g w)) c.push_back_reserved.ensures.items
+    ∙ next_is g.C.Checksum.sum_of c.args.self.now c.room_to_close.new.self c.in_ok-room_to_close.ensures.line c.in_ok-room_to_close.ensures.rest (first_then g w) (behind_then g w) (closed g w) (next g w) (next_at g w)
+        c.in_ok-slot.ensures.offset (c.in_ok-buffer.ensures.view (next g w).site refl)
 
 pub returns-clause-room : goal.returns-clause-room
 returns-clause-room g c =
-    let old = c.args.self.now in
-    let next : SegmentBuffer = record { site = record { place = c.current.result.0.place + segment_size_of old; slot = c.in_ok-slot.slot }; buffer = c.in_ok-buffer.buffer } in
-    let b : IoBuf = c.if-n-eq0.self.1.1.1.0 in
-    subst (λ (x : IoBuf). HasRoomIn x (segment_size_of old - 20)) (sym (ap (last_buffer b) c.push_back_reserved.ensures.items ∙ last_one b c.if-n-eq0.self.1.1.1.1.0.items next)) c.in_ok-buffer.ensures.room
+    let w = (goal.at.returns-clause-room g c).After-push_back_reserved in
+    let size = segment_size_of c.args.self.now in
+    subst (λ (x : IoBuf). HasRoomIn x (size - 20)) (sym (ap (last_buffer (first_then g w)) c.push_back_reserved.ensures.items ∙ last_one (first_then g w) (behind_then g w) (next g w))) c.in_ok-buffer.ensures.room

@@ -10,7 +10,7 @@ use Rattle.sled_core.specs.Fits.{FirstWaits, IsUsedUpBelow, current_begin, devic
 use Rattle.sled_core.specs.Keeps.{LeavesAbove}
 use Rattle.sled_core.specs.Recoverable.{LeavesRecoverable, RecoverableIfOwn}
 use Rattle.sled_core.specs.Running.{end_below}
-use Rattle.sled_core.specs.Stable.{CloseAnswers, first_begin, stable_behind}
+use Rattle.sled_core.specs.Stable.{CloseAnswers, SyncsAll, first_begin, stable_behind}
 use Rattle.sled_core.specs.Waiting.{BufferAt}
 use Rattle.sled_core.specs.declared.logger.Log.{Log}
 use Rattle.sled_core.proofs.Flush.Settled.{leaves_less}
@@ -37,25 +37,25 @@ stable_left sum to old new above = (λ i. first_begin (sym above.left i) (sym ab
   by_first [] is = sym is
   by_first (b ∷ bs) is = sym is
 
-grown : (r : Result ℕ Error) (P : Type 0) (behind synced now before : ℕ) → (P → behind ≡ synced) → IfOk r (λ n. now ≡ before + n) → OnOk r P → OnOk r (now ≡ synced) → IfOk r (λ n. behind ≡ before + n)
-grown (Ok n) P behind synced now before left grows is all = left is ∙ sym all ∙ grows
-grown (Err e) P behind synced now before left grows is all = tt
+grown : {D C : Type 0} (r : Result ℕ Error) (P : Type 0) (old new : Log D C) (behind before : ℕ) → (P → behind ≡ synced_end new) → IfOk r (λ n. stable_end new ≡ before + n) → OnOk r P → OnOk r (SyncsAll old new) → IfOk r (λ n. behind ≡ before + n)
+grown (Ok n) P old new behind before left grows is all = left is ∙ sym all.stable ∙ grows
+grown (Err e) P old new behind before left grows is all = tt
 
 pub returns-clause-answer : goal.returns-clause-answer
 returns-clause-answer g c =
     let old = c.args.self in
     let new = c.flush-flushed.new.self in
-    grown c.flush-flushed.result _ _ (synced_end new) (stable_end new) (stable_end old) (stable_left g.C.Checksum.sum_of (reserved_end old) old new) c.flush-flushed.ensures.answer c.flush-flushed.ensures.buffers.above c.flush-flushed.ensures.stable
+    grown c.flush-flushed.result _ old new _ (stable_end old) (stable_left g.C.Checksum.sum_of (reserved_end old) old new) c.flush-flushed.ensures.answer c.flush-flushed.ensures.buffers.above c.flush-flushed.ensures.synced
 
-reached : (r : Result ℕ Error) (end synced now before : ℕ) → OnOk r (end ≤ synced) → IfOk r (λ n. now ≡ before + n) → OnOk r (now ≡ synced) → IfOk r (λ n. end ≤ before + n)
-reached (Ok n) end synced now before low grows all = omega (arith, low, grows, all)
-reached (Err e) end synced now before low grows all = tt
+reached : {D C : Type 0} (r : Result ℕ Error) (old new : Log D C) (before : ℕ) → IfOk r (λ n. stable_end new ≡ before + n) → OnOk r (SyncsAll old new) → IfOk r (λ n. reserved_end old ≤ before + n)
+reached (Ok n) old new before grows all = let low = all.whole in let same = all.stable in omega (arith, low, grows, same)
+reached (Err e) old new before grows all = tt
 
 pub returns-clause-whole : goal.returns-clause-whole
 returns-clause-whole g c =
     let old = c.args.self in
     let new = c.flush-flushed.new.self in
-    reached c.flush-flushed.result (reserved_end old) (synced_end new) (stable_end new) (stable_end old) c.flush-flushed.ensures.whole c.flush-flushed.ensures.answer c.flush-flushed.ensures.stable
+    reached c.flush-flushed.result old new (stable_end old) c.flush-flushed.ensures.answer c.flush-flushed.ensures.synced
 
 pub returns-clause-answers : goal.returns-clause-answers
 returns-clause-answers g c =
@@ -78,9 +78,9 @@ returns-clause-acknowledges g c = λ H A f U fits.
     let new = c.flush-flushed.new.self in
     let left = state_of (g.D.Device.trace c.halt.result.device) in
     on_both c.flush-flushed.result _ _ (LeavesRecoverable sum (segment_size_of old) H (max A (end_below (reserved_end old) H)) f left)
-    (λ flushed whole.
-    let up = acknowledged_up (reserved_end old) (synced_end new) H whole in
+    (λ flushed synced.
+    let up = acknowledged_up (reserved_end old) (synced_end new) H synced.whole in
     leaves_less sum (segment_size_of old) H (max A (end_below (reserved_end old) H)) (max A (end_below (synced_end new) H)) f left (omega (arith, up))
     (subst (λ n. LeavesRecoverable sum n H (max A (end_below (synced_end new) H)) f left) c.flush-flushed.ensures.position.size
     (c.halt.ensures.recoverable H (max A (end_below (synced_end new) H)) f U flushed)))
-    (c.flush-flushed.ensures.acknowledges H A f U fits) c.flush-flushed.ensures.whole
+    (c.flush-flushed.ensures.acknowledges H A f U fits) c.flush-flushed.ensures.synced

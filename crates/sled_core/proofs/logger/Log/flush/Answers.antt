@@ -26,8 +26,8 @@ returns-clause-records g c = λ H holds.
 stable : (g : given.Over) (c : goal.After-stable_end g) → stable_end c.write_below.new.self ≡ synced_end c.write_below.new.self
 stable g c = let did = c.in_ok-write_below.ensures in all_stable c.write_below.new.self (omega (arith, did.written, did.position.reserved))
 
-pub returns-clause-stable : goal.returns-clause-stable
-returns-clause-stable g c = stable g c
+pub returns-clause-synced : goal.returns-clause-synced
+returns-clause-synced g c = record { whole = (let did = c.in_ok-write_below.ensures in omega (arith, did.written)); stable = stable g c }
 
 pub returns-clause-acknowledges : goal.returns-clause-acknowledges
 unfolding Fits

@@ -34,7 +34,7 @@ returns-in-Ok-clause-step g c = λ k at free.
     let answers = c.in-Ok.ensures.answers in
     let position = c.flush.ensures.position in
     let put = stays_put trace sum old new c.flush.ensures.tickets position c.flush.ensures.keeps in
-    let ends : synced_end new ≡ stable_from to l = sym c.in-Ok.ensures.stable ∙ stable_seen old sum begun k.tickets to some new (view old.config.device) (view new.config.device) H k.acknowledged k.floor put above in
+    let ends : synced_end new ≡ stable_from to l = sym c.in-Ok.ensures.synced.stable ∙ stable_seen old sum begun k.tickets to some new (view old.config.device) (view new.config.device) H k.acknowledged k.floor put above in
     let kept : IsKept sum (segment_size_of old) new.site new.buffer.written_len (state_of (trace (device_of new))) H =
     subst (λ n. IsKept sum n new.site new.buffer.written_len (state_of (trace (device_of new))) H) position.size (c.in-Ok.ensures.records H holds) in
     let reached : ℕ = max k.acknowledged (end_below (stable_end new) H) in
@@ -44,7 +44,7 @@ returns-in-Ok-clause-step g c = λ k at free.
       step = λ own. (
         record { history = H; acknowledged = reached; floor = k.floor; tickets = k.tickets },
         record {
-          written = has_written old sum begun k.tickets to some new (view old.config.device) (view new.config.device) H k.acknowledged k.floor put c.in-Ok.grown answers.2 answers.3 answers.0 c.in-Ok.ensures.answer c.in-Ok.ensures.whole past above;
+          written = has_written old sum begun k.tickets to some new (view old.config.device) (view new.config.device) H k.acknowledged k.floor put c.in-Ok.grown answers.2 answers.3 answers.0 c.in-Ok.ensures.answer c.in-Ok.ensures.synced.whole past above;
           all = λ i d lt. let low = kept_past sum (segment_size_of old) new.site new.buffer.written_len _ H kept i d lt in omega (arith, low, ends);
           site = new.site;
           from = new.buffer.written_len;
@@ -52,7 +52,7 @@ returns-in-Ok-clause-step g c = λ k at free.
           kept = kept;
         },
         still_open trace sum opened new k reached at c.flush.ensures.tickets position (was_free old new c.flush.ensures.faulty) c.flush.ensures.keeps
-            (subst (λ n. Fits trace sum new H (max k.acknowledged (end_below n H)) k.floor at.unmarked) (sym c.in-Ok.ensures.stable) (c.in-Ok.ensures.acknowledges H k.acknowledged k.floor at.unmarked at.fits)),
+            (subst (λ n. Fits trace sum new H (max k.acknowledged (end_below n H)) k.floor at.unmarked) (sym c.in-Ok.ensures.synced.stable) (c.in-Ok.ensures.acknowledges H k.acknowledged k.floor at.unmarked at.fits)),
       );
     }
 
