@@ -13,7 +13,7 @@ use Rattle.sled_core.specs.declared.iterator.log_iter.Source.{Source}
 use Rattle.sled_core.specs.declared.iterator.log_iter.Source.TheVariants as source
 use Rattle.sled_core.specs.declared.logger.Log.{Log}
 use Rattle.sled_core.specs.Causes.{failure_in}
-use Rattle.sled_core.specs.Fits.{KeepsBuffers, KeepsTickets, config_of, device_of, fault_of, machine_at, segment_size_of, stable_end}
+use Rattle.sled_core.specs.Fits.{KeepsBuffers, KeepsTickets, device_of, fault_of, machine_at, segment_size_of, stable_end}
 use Rattle.sled_core.specs.Keeps.{OnlyReads, Preserves, SamePosition}
 use Rattle.sled_core.specs.Iterates.{Item, IsIteration, NextGives, NextAnswers, BehindLast}
 use Rattle.sled_core.specs.Ahead.{IsLeft, IsSpent, most_left}

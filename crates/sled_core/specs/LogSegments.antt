@@ -1,5 +1,5 @@
 -- The segments that a log has, as a reader of its file goes over them.
-use Rattle.std.specs.Prelude.{◌≡◌, ◌+◌, ◌*◌, ◌/◌, ◌^◌, ◌&&◌, nat_le, nat_lt, not, if◌then◌else◌, ℕ, suc, ℤ, negsuc, List, [], ◌∷◌, ◌++◌, Option, None, Some}
+use Rattle.std.specs.Prelude.{◌+◌, ◌*◌, ◌/◌, ◌^◌, ◌&&◌, nat_le, nat_lt, not, if◌then◌else◌, ℕ, suc, ℤ, negsuc, List, [], ◌∷◌, ◌++◌, Option, None, Some}
 use Rattle.std.specs.List.Sorted.{IsNonDecreasingBy, IsPermutation}
 use Rattle.sled_store.specs.SegmentStates.{Machine, SlotState, is_free}
 use Rattle.sled_core.specs.declared.iterator.Segment.{Segment}

@@ -275,5 +275,4 @@ pub fn an_iterator_only_reads_its_log<D: Device, C: Checksum>()
     ensures back { (entry : MutBor (Log D C)) (it : LogIter D C) (result : Option (MutBor (Log D C)))
         → IsOverLog D.trace C.sum_of entry it → IsLogOf it result
         → (r : MutBor (Log D C)) × (result ≡ Some r) × (r.ghost_name ≡ entry.ghost_name) × IsOnlyRead D.trace C.sum_of entry.now r.now }
-{
-}
+{}

@@ -5,7 +5,6 @@ use Rattle.sled_store.specs.Blobs.{ItemAnswers}
 use Rattle.sled_core.specs.declared.iterator.Segment.{Segment}
 use Rattle.sled_core.specs.Iterates.{Item, IsIteration}
 use Rattle.sled_log.specs.Recovery.{Scanned, IsUnordered, IsOrdering, IsTail, IsDamagedTail, HaveGoodBlobs, tail_begins, tail_end, begun_below}
-
 -- the segment that holds the place from which an iterator begins; a negative one counts as 0
 pub use Rattle.sled_core.specs.LogSegments.{begins_from}
 

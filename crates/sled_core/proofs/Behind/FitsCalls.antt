@@ -1,5 +1,5 @@
 -- What is done to a segment behind the first one, each where the log fits a history: its current buffer is sealed, a place is reserved in it, it is filled to its end, and a reservation of it is aborted or completed.
-use Rattle.std.proofs.Common.{◌≡◌, ◌≤◌, ◌<◌, ◌+◌, ◌-◌, ◌/◌, ◌^◌, ℕ, List, [], ◌∷◌, ◌++◌, length, set, drop, Option, None, Some, refl, arith, false}
+use Rattle.std.proofs.Common.{◌≡◌, ◌≤◌, ◌<◌, ◌+◌, ◌/◌, ◌^◌, ℕ, List, [], ◌∷◌, ◌++◌, length, set, drop, Option, None, Some, refl, arith, false}
 use Rattle.std.specs.List.{slice_get}
 use Rattle.std.specs.declared.io.Error.{Error as IoError}
 use Rattle.sled_codec.specs.History.{History, Message}

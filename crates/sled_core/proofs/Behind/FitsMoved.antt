@@ -1,5 +1,5 @@
 -- A log goes on fitting its history where a segment behind the first one has other bytes, buffers and reservations, and as much of it is written: where a buffer of it is sealed, a place is reserved, a message is aborted, or it is filled to its end.
-use Rattle.std.proofs.Common.{◌≡◌, ◌∙◌, ◌+◌, ◌<ℤ◌, ℕ, ℤ, pos, List, ◌∷◌, ◌++◌, map, take, Option, sym, ap, subst, inl, inr}
+use Rattle.std.proofs.Common.{◌≡◌, ◌∙◌, ◌<ℤ◌, ℕ, ℤ, pos, List, ◌∷◌, ◌++◌, map, take, Option, sym, ap, subst, inl, inr}
 use Rattle.std.specs.List.{Contains}
 use Rattle.std.specs.declared.io.Error.{Error as IoError}
 use Rattle.std.proofs.lemmas.List.{map-append}

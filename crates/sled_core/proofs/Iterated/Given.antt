@@ -139,7 +139,7 @@ module _ (sum : List ℕ → ℕ) (size : ℕ) (log : List ℕ) (blobs : ℤ →
           record {
             of = λ n at. ⊎_elim
                 (λ same. subst (λ (z : Message). Contains H.messages z × (from ≤ z.place) × (z.place < to) × (z.place < end) × HasBlobThere blobs z.pointer) same
-                    (there, omega (arith, bounds.0, place), omega (arith, bounds.1, bounds.2, place), omega (arith, under, place), blob))
+                (there, omega (arith, bounds.0, place), omega (arith, bounds.1, bounds.2, place), omega (arith, under, place), blob))
                 (λ later. let of = are.of n later in (of.0, omega (arith, of.1, stand.0, stand.1), of.2, of.3, of.4))
                 (in_cases m n L at);
             ascends = (all_from_in (λ n. m.place < n.place) L (λ n at. let of = are.of n at in omega (arith, of.1, stand.1, place)), are.ascends);

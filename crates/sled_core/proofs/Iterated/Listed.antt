@@ -103,10 +103,10 @@ module _ (size from to : ℕ) where
   among_has [] k j is fits = let no = is.taken in cc
   among_has (x ∷ xs) k zero is fits = elim (within_cases k x) [
     | inl listed ↦ (
-        segment_of size k x,
-        Contains-append_left (segment_within size from to k x) (segments_among size from to (suc k) xs) (segment_of size k x) (subst (λ (l : List Segment). Contains l (segment_of size k x)) (sym listed.1) (in_first (segment_of size k x) [])),
-        refl,
-      )
+      segment_of size k x,
+      Contains-append_left (segment_within size from to k x) (segments_among size from to (suc k) xs) (segment_of size k x) (subst (λ (l : List Segment). Contains l (segment_of size k x)) (sym listed.1) (in_first (segment_of size k x) [])),
+      refl,
+    )
     | inr none ↦ absurd (let no : true ≡ false = sym (listed_passes x is fits) ∙ none.0 in cc)
   ]
   among_has (x ∷ xs) k (suc j) is fits = let rest = among_has xs (suc k) j is fits in (rest.0, Contains-append_right (segment_within size from to k x) (segments_among size from to (suc k) xs) rest.0 rest.1, rest.2)

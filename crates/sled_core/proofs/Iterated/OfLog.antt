@@ -1,18 +1,17 @@
 -- What stands in the file of a log that fits a history is what an iterator of it asks for.
-use Rattle.std.proofs.Common.{◌≡◌, ◌⊎◌, ◌∙◌, ◌+◌, ◌*◌, ◌/◌, ◌%◌, ◌^◌, ◌<◌, ◌≤◌, ℕ, suc, ℤ, pos, Bool, true, false, List, [], ◌∷◌, map, length, Option, None, refl, sym, ap, subst, arith, inl, inr}
-use Rattle.std.specs.declared.io.Error.{Error as IoError}
-use Rattle.std.specs.List.{All, Contains}
+use Rattle.std.proofs.Common.{◌≡◌, ◌∙◌, ◌+◌, ◌*◌, ◌/◌, ◌%◌, ◌^◌, ◌<◌, ◌≤◌, ℕ, suc, ℤ, pos, false, List, [], ◌∷◌, map, length, None, refl, sym, ap, subst, arith, inl, inr}
+use Rattle.std.specs.List.{Contains}
 use Rattle.std.proofs.Math.Nat.{mul-mod_left, suc-mul}
 use Rattle.std.proofs.lemmas.Bool.{cases_lt, cases_order}
 use Rattle.std.proofs.lemmas.List.{length-map}
 use Rattle.std.proofs.lemmas.List.Elements.{All-head}
 use Rattle.sled_codec.specs.Coords.{raised}
-use Rattle.sled_codec.specs.History.{Batch, Message, History, table}
+use Rattle.sled_codec.specs.History.{Message, History}
 use Rattle.sled_codec.specs.Places.{part}
 use Rattle.sled_codec.specs.Record.{IsHeader}
-use Rattle.sled_codec.specs.Snapshots.{SnapshotModel, stable_place}
+use Rattle.sled_codec.specs.Snapshots.{SnapshotModel}
 use Rattle.sled_codec.specs.WellFormed.{LieApart}
-use Rattle.sled_store.specs.Device.{LogState, State, Trace, content_of, state_of}
+use Rattle.sled_store.specs.Device.{State, Trace, content_of, state_of}
 use Rattle.sled_store.specs.SegmentStates.{Machine, is_free, slot_at}
 use Rattle.sled_store.proofs.Crashes.SettledLemmas.{name_read_left}
 use Rattle.sled_store.proofs.Names.OneBegin.{one_begin}
@@ -22,14 +21,14 @@ use Rattle.sled_core.specs.Begun.{FollowOn, SegmentView, line_end, segment_view}
 use Rattle.sled_core.specs.declared.logger.segments.SegmentBuffer.{SegmentBuffer}
 use Rattle.sled_core.specs.Fits.{begun_segment, line_of, machine_at, noted_in, parts_in, stable_end, synced_end}
 use Rattle.sled_core.specs.FreeSlots.{HasSlot}
-use Rattle.sled_core.specs.Iterators.{GivesMessages, GoesOver, IsAhead}
+use Rattle.sled_core.specs.Iterators.{GivesMessages, GoesOver}
 use Rattle.sled_core.specs.LogFile.{HasHeader}
 use Rattle.sled_core.specs.LogSegments.{begins_from}
 use Rattle.sled_core.specs.OnFile.{item_of}
 use Rattle.sled_core.specs.OpenBatches.{stable_below}
 use Rattle.sled_core.specs.Reached.{ReachesIn, StandsAmong}
 use Rattle.sled_core.specs.Recoverable.{NoForeign, PassesIfThere}
-use Rattle.sled_core.specs.Running.{Fits, FitsWith}
+use Rattle.sled_core.specs.Running.{FitsWith}
 use Rattle.sled_core.specs.Tail.{least_place, place_of_mark}
 use Rattle.sled_core.proofs.Holds.BufferEnds.{written_behind}
 use Rattle.sled_core.proofs.Holds.FitsBatches.{stable_noted}
@@ -163,5 +162,5 @@ module _ {D C : Type 0} (trace : D → Trace) (sum : List ℕ → ℕ) (log : Lo
     pub gives_messages : (lsn : ℤ) (it : LogIter D C) → GoesOver trace sum log lsn it → GivesMessages trace sum log H lsn it
     gives_messages lsn it over =
         let given = gives_on_file sum size state.log.bytes some H apart_messages (stable_below fits.reach H.batches) first fits.reach among.stands (stable_end log) is_end m slots state.blobs.file good (begins_from size lsn)
-            (mul-mod_left (place_of_mark lsn / size) size) over.0 over.1 in
+        (mul-mod_left (place_of_mark lsn / size) size) over.0 over.1 in
         (given.0, given.1, over.2 (map item_of given.0) false given.2)

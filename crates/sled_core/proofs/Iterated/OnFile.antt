@@ -1,6 +1,6 @@
 -- An iterator over the segments of a settled log gives the messages of its history up to the iterator's end, but for those whose segment is gone and those whose blob is missing, and doesn't end at damage.
 use Rattle.std.proofs.Common.{⊎_elim, ◌≡◌, ◌≢◌, ◌⊎◌, ◌∙◌, ◌+◌, ◌*◌, ◌/◌, ◌%◌, ◌^◌, ◌<◌, ◌≤◌, ℕ, ℤ, pos, Bool, true, false, List, [], ◌∷◌, ◌++◌, map, Option, None, Some, IfNone, refl, sym, ap, subst, arith, inl, inr}
-use Rattle.std.specs.List.{All, Contains}
+use Rattle.std.specs.List.{Contains}
 use Rattle.std.proofs.Math.Nat.{mul-mod_left}
 use Rattle.std.proofs.lemmas.List.{map-append}
 use Rattle.std.proofs.lemmas.List.Elements.{All-contains, Contains-append_cases, Contains-append_left, Contains-append_right}
@@ -264,8 +264,7 @@ module _ (sum : List ℕ → ℕ) (size : ℕ) (log : List ℕ) (some : 256 ≤ 
   gives_on_file =
       let given = given_of sum size log some H lie reach blobs good end is_end.closed ss (listed_rises size m from end ss are slots.one) can_be_given in
       let L : List Message = given.0 in
-      let is = given.1 in
-      (
+      let is = given.1 in (
         L,
         record {
           apart = apart_among H.messages lie L is.ascends (λ n there. (is.of n there).0);

@@ -65,7 +65,7 @@ own_header sum zeros size big device fault whole place line are H holds n v ther
       let is : IsSegment size v.parts.site.place v = nth_segment size place line are n v there in
       with_part sum size device fault line n v H holds there (λ stays own segment.
       absurd (none_in_zeros sum 20 zeros (omega arith) device.log.bytes v.parts.site.slot
-          (begin_zeros device.log.bytes v.parts.site.slot v.parts.bytes v.parts.written_len v.parts.sealed v.parts.reserved size is.fresh is.are (omega (arith, big)) (segment.laid whole) (omega (arith, none))) (pos z) mark header)))
+      (begin_zeros device.log.bytes v.parts.site.slot v.parts.bytes v.parts.written_len v.parts.sealed v.parts.reserved size is.fresh is.are (omega (arith, big)) (segment.laid whole) (omega (arith, none))) (pos z) mark header)))
 ]
 
 module _ {D C : Type 0} (trace : D → Trace) (sum : List ℕ → ℕ) (log : Log D C) (H : History) (A f : ℕ) (U : List Message) where
@@ -106,7 +106,7 @@ module _ {D C : Type 0} (trace : D → Trace) (sum : List ℕ → ℕ) (log : Lo
         let at = current.at in
         let short = current.short in
         let b = begins_at (m.place / size * size) parts.1 (omega (arith, up, whole.0, begins))
-            (omega (arith, low, parts.0, at, short, ap (λ n. suc n * size) (length-map log.behind.items segment_view), suc-mul (length log.behind.items) size)) in
+        (omega (arith, low, parts.0, at, short, ap (λ n. suc n * size) (length-map log.behind.items segment_view), suc-mul (length log.behind.items) size)) in
         let h = its_slot (m.place / size * size) b in
         (h.number, h.taken, h.is ∙ b.at)
 
@@ -151,7 +151,7 @@ module _ {D C : Type 0} (trace : D → Trace) (sum : List ℕ → ℕ) (log : Lo
           let same : h.number ≡ k = fits.slots.own.one h.number k h.taken taken (h.is ∙ b.at) in
           let here : k * size ≡ b.segment.parts.site.slot = ap (λ n. n * size) (sym same) ∙ sym h.lies in
           let is = own_header sum zeros size some state log.fault none log.site.place line (line_segments log) H fits.parts.holds b.number b.segment b.among of.segment.place of.segment.mark
-              (subst (λ n. IsHeader sum (part state.log.bytes n 20) (pos of.segment.place) of.segment.mark) here header) in
+          (subst (λ n. IsHeader sum (part state.log.bytes n 20) (pos of.segment.place) of.segment.mark) here header) in
           let at = b.at in
           let place = of.place in
           let parts = put_down size m.place in
@@ -166,14 +166,18 @@ module _ {D C : Type 0} (trace : D → Trace) (sum : List ℕ → ℕ) (log : Lo
       of_entry = by (is_free (slot_at machine k).state) refl where
         by : (b : Bool) → is_free (slot_at machine k).state ≡ b → HasSegment machine (m.place / size * size)
         by true free = absurd (not_free free)
-        by false taken = (k, taken, elim (cases_lt (slot_at machine k).lsn log.site.place) [
-          | inl lower ↦ (
-              let had = fits.begun none k taken lower in
-              let same = (one_header sum (part state.log.bytes (k * size) 20) (pos (slot_at machine k).lsn) had.0 (pos of.segment.place) of.segment.mark had.1 header).0 in
-              let place = of.place in
-              omega (arith, ints, same, place))
-          | inr above ↦ absurd (other taken above)
-        ])
+        by false taken = (
+          k,
+          taken,
+          elim (cases_lt (slot_at machine k).lsn log.site.place) [
+            | inl lower ↦ (
+                let had = fits.begun none k taken lower in
+                let same = (one_header sum (part state.log.bytes (k * size) 20) (pos (slot_at machine k).lsn) had.0 (pos of.segment.place) of.segment.mark had.1 header).0 in
+                let place = of.place in
+                omega (arith, ints, same, place))
+            | inr above ↦ absurd (other taken above)
+          ],
+        )
 
 -- A log still has the segment of each message that it has the record of.
 pub still_there : {D C : Type 0} (trace : D → Trace) (sum : List ℕ → ℕ) (log : Log D C) (H : History) (A f : ℕ) (U : List Message) (m : Message) → Fits trace sum log H A f U → fault_of log ≡ None → NoHeaderOfZeros sum → Contains H.messages m → HasRecordOf log H m

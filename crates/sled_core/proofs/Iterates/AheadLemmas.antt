@@ -1,14 +1,11 @@
 -- What is left is ahead of an iterator that has it, of a configuration and of a log.
-use Rattle.std.proofs.Common.{◌≡◌, ◌∙◌, ℕ, ℤ, List, [], Bool, true, false, Option, None, Some, IfNone, drop, refl, ap, sym, subst, arith}
+use Rattle.std.proofs.Common.{◌≡◌, ◌∙◌, ℕ, ℤ, List, [], Bool, true, false, Option, None, Some, IfNone, drop, ap, sym, subst}
 use Rattle.std.specs.Borrow.{MutBor}
-use Rattle.std.proofs.lemmas.List.{drop_all}
 use Rattle.sled_codec.specs.declared.result.Error.{Error}
 use Rattle.sled_store.specs.declared.config.RunningConfig.{RunningConfig}
 use Rattle.sled_store.specs.Device.{Trace, state_of}
 use Rattle.sled_core.specs.declared.iterator.Segment.{Segment}
 use Rattle.sled_core.specs.declared.iterator.log_iter.LogIter.{LogIter}
-use Rattle.sled_core.specs.declared.iterator.log_iter.Source.{Source}
-use Rattle.sled_core.specs.declared.iterator.log_iter.Source.TheVariants as source
 use Rattle.sled_core.specs.declared.iterator.rest.Rest.{Rest}
 use Rattle.sled_core.specs.declared.iterator.scan.ScannedRecord.{ScannedRecord}
 use Rattle.sled_core.specs.declared.logger.Log.{Log}
@@ -26,6 +23,7 @@ module _ {D C : Type 0} (trace : D → Trace) (sum : List ℕ → ℕ) (it : Log
   left_ahead config r on has items damaged left = by it.refusal where
     here : IsLeft trace sum (config_in it.source) it.rest items damaged
     here = subst (λ (x : RunningConfig D C). IsLeft trace sum x it.rest items damaged) (sym on) (subst (λ (q : Rest). IsLeft trace sum config q items damaged) (sym has) left)
+
     by : (o : Option Error) → IfNone o (IsLeft trace sum (config_in it.source) it.rest items damaged)
     by None = here
     by (Some e) = tt
@@ -44,14 +42,14 @@ goes_over {D} {C} trace sum log lsn it ss are entry lent borrows r rest strict s
       ss,
       are,
       λ items damaged gives.
-      let left : IsLeft trace sum (config_of log) r items damaged = (
-        λ file. absurd (let no : true ≡ false = sym strict ∙ file in cc),
-        subst (λ (b : Bool). GivesOf sum s.blobs.file r.end (drop r.given r.met.items) (IsIteration sum size s.log.bytes s.blobs.file r.end b (drop r.read r.segments.items)) items damaged) (sym strict)
-            (subst (λ n. GivesOf sum s.blobs.file n (drop r.given r.met.items) (IsIteration sum size s.log.bytes s.blobs.file n true (drop r.read r.segments.items)) items damaged) (sym end)
-            (subst (λ n. GivesOf sum s.blobs.file (stable_end log) (drop n r.met.items) (IsIteration sum size s.log.bytes s.blobs.file (stable_end log) true (drop r.read r.segments.items)) items damaged) (sym given)
-            (subst (λ (ms : List ScannedRecord). GivesOf sum s.blobs.file (stable_end log) ms (IsIteration sum size s.log.bytes s.blobs.file (stable_end log) true (drop r.read r.segments.items)) items damaged) (sym met)
-            (subst (λ n. IsIteration sum size s.log.bytes s.blobs.file (stable_end log) true (drop n r.segments.items) items damaged) (sym read)
-            (subst (λ (l : List Segment). IsIteration sum size s.log.bytes s.blobs.file (stable_end log) true l items damaged) (sym segments) gives))))),
-      ) in
-      left_ahead trace sum it (config_of log) r (ap config_in borrows ∙ ap config_of lent) rest items damaged left,
+          let left : IsLeft trace sum (config_of log) r items damaged = (
+            λ file. absurd (let no : true ≡ false = sym strict ∙ file in cc),
+            subst (λ (b : Bool). GivesOf sum s.blobs.file r.end (drop r.given r.met.items) (IsIteration sum size s.log.bytes s.blobs.file r.end b (drop r.read r.segments.items)) items damaged) (sym strict)
+                (subst (λ n. GivesOf sum s.blobs.file n (drop r.given r.met.items) (IsIteration sum size s.log.bytes s.blobs.file n true (drop r.read r.segments.items)) items damaged) (sym end)
+                (subst (λ n. GivesOf sum s.blobs.file (stable_end log) (drop n r.met.items) (IsIteration sum size s.log.bytes s.blobs.file (stable_end log) true (drop r.read r.segments.items)) items damaged) (sym given)
+                (subst (λ (ms : List ScannedRecord). GivesOf sum s.blobs.file (stable_end log) ms (IsIteration sum size s.log.bytes s.blobs.file (stable_end log) true (drop r.read r.segments.items)) items damaged) (sym met)
+                (subst (λ n. IsIteration sum size s.log.bytes s.blobs.file (stable_end log) true (drop n r.segments.items) items damaged) (sym read)
+                (subst (λ (l : List Segment). IsIteration sum size s.log.bytes s.blobs.file (stable_end log) true l items damaged) (sym segments) gives))))),
+          ) in
+          left_ahead trace sum it (config_of log) r (ap config_in borrows ∙ ap config_of lent) rest items damaged left,
     )

@@ -1,5 +1,5 @@
 -- The header at the beginning of a slot, of the bytes that were read of it and of the file.
-use Rattle.std.proofs.Common.{◌≡◌, ◌∙◌, ◌+◌, ◌≤◌, ◌<◌, ℕ, ℤ, pos, Bool, true, false, List, length, take, drop, refl, ap, sym, subst, arith, length-take, IsTrue}
+use Rattle.std.proofs.Common.{◌≡◌, ◌∙◌, ◌≤◌, ℕ, ℤ, pos, Bool, true, false, List, length, take, drop, refl, ap, sym, subst, arith, length-take, IsTrue}
 use Rattle.std.proofs.lemmas.List.{take-take, length-drop}
 use Rattle.sled_codec.specs.Places.{part}
 use Rattle.sled_codec.specs.Record.{IsHeader}

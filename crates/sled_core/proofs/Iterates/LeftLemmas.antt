@@ -133,6 +133,7 @@ module _ {D C : Type 0} (trace : D → Trace) (sum : List ℕ → ℕ) (config :
       behind_read why is d = by r.strict why where
         all : drop (length r.segments.items) r.segments.items ≡ []
         all = drop_all (length r.segments.items) r.segments.items (omega arith)
+
         by : (b : Bool) (w : ScanEnd) → GivesBehind b w Behind is d → IsIteration sum size log blobs r.end r.strict (drop (reads_behind b w (r.read + 1) (length r.segments.items)) r.segments.items) is d
         by true Broken ends = subst (λ (ss : List Segment). IsIteration sum size log blobs r.end r.strict ss is d) (sym all) ends
         by true Full on = on
@@ -152,14 +153,14 @@ module _ {D C : Type 0} (trace : D → Trace) (sum : List ℕ → ℕ) (config :
             let gives = gives_as sum size log r.end x.segment.slot x.segment.place blobs (GivesBehind r.strict other.0.why Behind) (To (reads_behind r.strict x.why (r.read + 1) (length r.segments.items))) x.met
             (none_as (open_at r.end x.met) why (λ is i d on. behind_read x.why i d (subst (λ (w : ScanEnd). GivesBehind r.strict w Behind i d) is on)))
             items damaged same in (
-          λ file y there_too. left.0 (sym strict ∙ file) y (subst (λ v. Contains v.items y) segments there_too),
-          subst (λ n. GivesOf sum blobs n (drop q.given q.met.items) (IsIteration sum size log blobs n q.strict (drop q.read q.segments.items)) items damaged) (sym end)
-              (subst (λ (b : Bool). GivesOf sum blobs r.end (drop q.given q.met.items) (IsIteration sum size log blobs r.end b (drop q.read q.segments.items)) items damaged) (sym strict)
-              (subst (λ n. GivesOf sum blobs r.end (drop n q.met.items) (IsIteration sum size log blobs r.end r.strict (drop q.read q.segments.items)) items damaged) (sym given)
-              (subst (λ (ms : List ScannedRecord). GivesOf sum blobs r.end ms (IsIteration sum size log blobs r.end r.strict (drop q.read q.segments.items)) items damaged) (sym met)
-              (subst (λ n. GivesOf sum blobs r.end x.met (IsIteration sum size log blobs r.end r.strict (drop n q.segments.items)) items damaged) (sym next_one)
-              (subst (λ v. GivesOf sum blobs r.end x.met (IsIteration sum size log blobs r.end r.strict (drop (reads_behind r.strict x.why (r.read + 1) (length r.segments.items)) v.items)) items damaged) (sym segments) gives))))),
-        ))
+              λ file y there_too. left.0 (sym strict ∙ file) y (subst (λ v. Contains v.items y) segments there_too),
+              subst (λ n. GivesOf sum blobs n (drop q.given q.met.items) (IsIteration sum size log blobs n q.strict (drop q.read q.segments.items)) items damaged) (sym end)
+                  (subst (λ (b : Bool). GivesOf sum blobs r.end (drop q.given q.met.items) (IsIteration sum size log blobs r.end b (drop q.read q.segments.items)) items damaged) (sym strict)
+                  (subst (λ n. GivesOf sum blobs r.end (drop n q.met.items) (IsIteration sum size log blobs r.end r.strict (drop q.read q.segments.items)) items damaged) (sym given)
+                  (subst (λ (ms : List ScannedRecord). GivesOf sum blobs r.end ms (IsIteration sum size log blobs r.end r.strict (drop q.read q.segments.items)) items damaged) (sym met)
+                  (subst (λ n. GivesOf sum blobs r.end x.met (IsIteration sum size log blobs r.end r.strict (drop n q.segments.items)) items damaged) (sym next_one)
+                  (subst (λ v. GivesOf sum blobs r.end x.met (IsIteration sum size log blobs r.end r.strict (drop (reads_behind r.strict x.why (r.read + 1) (length r.segments.items)) v.items)) items damaged) (sym segments) gives))))),
+            ))
       ]
 
 -- What is left is left where the device was only read.

@@ -1,5 +1,5 @@
 -- What a call of an iterator gives: its refusal, or what its rest gives over what it borrows.
-use Rattle.std.proofs.Common.{◌≡◌, ◌∙◌, ◌+◌, ◌<◌, ℕ, ℤ, List, [], Bool, true, Option, Some, None, Result, Ok, Err, IfNone, IfSome, OnSome, refl, ap, sym, subst, arith}
+use Rattle.std.proofs.Common.{◌≡◌, ◌∙◌, ◌+◌, ◌<◌, ℕ, List, Bool, Option, Some, None, Result, Ok, Err, IfNone, IfSome, OnSome, refl, ap, sym, subst, arith}
 use Rattle.std.specs.Borrow.{MutBor}
 use Rattle.sled_codec.specs.declared.result.Error.{Error}
 use Rattle.sled_codec.specs.Errors.{IsCorrupt}
@@ -8,7 +8,6 @@ use Rattle.sled_store.specs.Device.{Trace, state_of}
 use Rattle.sled_core.specs.declared.iterator.log_iter.LogIter.{LogIter}
 use Rattle.sled_core.specs.declared.iterator.log_iter.Source.{Source}
 use Rattle.sled_core.specs.declared.iterator.log_iter.Source.TheVariants as source
-use Rattle.sled_core.specs.declared.iterator.rest.Rest.{Rest}
 use Rattle.sled_core.specs.declared.logger.Log.{Log}
 use Rattle.sled_core.specs.Ahead.{IsLeft, IsSpent, most_left}
 use Rattle.sled_core.specs.Iterates.{Item, NextGives, NextAnswers, BehindLast}

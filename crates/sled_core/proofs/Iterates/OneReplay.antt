@@ -136,6 +136,7 @@ module _ (sum : List ℕ → ℕ) (size : ℕ) (log : List ℕ) (end : ℕ) (x :
   replayed_ends y other again = if_none_so (open_at end x.met) (y.why ≡ x.why) (λ none. by none) where
     there : IsPath sum size log x.segment.slot x.segment.place 20 y.met y.stop × IfNone (open_at end y.met) (IsEnd sum size log x.segment.slot x.segment.place y.stop y.why)
     there = subst (λ (t : Segment). IsPath sum size log t.slot t.place 20 y.met y.stop × IfNone (open_at end y.met) (IsEnd sum size log t.slot t.place y.stop y.why)) (other ∙ sym at) again
+
     by : open_at end x.met ≡ None → y.why ≡ x.why
     by none =
         let slot : ℕ = x.segment.slot in

@@ -225,7 +225,7 @@ module _ (sum : List ℕ → ℕ) (size : ℕ) (device : State) (fault : Option 
       let low = (newest_low sum size device fault line H holds first begins).1 in
       let least = written_least size place line facts n v there in
       let behind : max 20 v.parts.written_len ≤ r.from = with_part sum size device fault line n v H holds there (λ stays own segment.
-          (at_there (λ (z : Reserved). (max 20 v.parts.written_len ≤ z.from) × (z.from + z.len ≤ length v.parts.bytes)) v.parts.reserved i r at (chain_within (max 20 v.parts.written_len) (length v.parts.bytes) v.parts.reserved segment.chain)).0) in
+      (at_there (λ (z : Reserved). (max 20 v.parts.written_len ≤ z.from) × (z.from + z.len ≤ length v.parts.bytes)) v.parts.reserved i r at (chain_within (max 20 v.parts.written_len) (length v.parts.bytes) v.parts.reserved segment.chain)).0) in
       omega (arith, low, least, behind)
 
   pub holds_completed : is_manifest r.log_kind r.page ≡ false → (H : History) → HoldsWith sum noted size device fault line machine H
@@ -237,13 +237,16 @@ module _ (sum : List ℕ → ℕ) (size : ℕ) (device : State) (fault : Option 
   pub fits_completed : is_manifest r.log_kind r.page ≡ false → (pins : ℕ) (H : History) (A f : ℕ) (U : List Message) → 256 ≤ size → fault ≡ None → 0 < pins → FitsWith sum noted size device fault line machine pins H A f U
       → (H' : History) × AddsMessage H (message_in v.parts.site v.parts.bytes r) H' × FitsWith sum noted size device fault (set line n (ended_now i r (completing r) Completed v)) machine pins H' A f (message_in v.parts.site v.parts.bytes r ∷ U)
   fits_completed none pins H A f U least ok out fits =
-      let done = complete_fits sum size device fault v i r at is_open none line n place fits.reach pins H A f U least ok out there facts fits.parts in
-      (done.0, done.1, record {
-        reach = fits.reach;
-        parts = done.2;
-        batches = batches_set (ended_now i r (completing r) Completed v) refl refl done.0 (batches_completed (written_to line) (line_end size line) noted H done.0 (message_in v.parts.site v.parts.bytes r) done.1 (beside H (line_holds sum size device fault line fits.reach pins H A f U fits.parts)) fits.batches);
-        slots = slots_set size line device.log.bytes fault machine n v (ended_now i r (completing r) Completed v) there refl fits.slots;
-        begun = λ none. subst (λ p. AreBegun sum size device.log.bytes p machine) (sym (first_set line n v (ended_now i r (completing r) Completed v) there refl)) (fits.begun none);
-        entries = entries_adds sum size device.snapshots.file H done.0 (message_in v.parts.site v.parts.bytes r) machine done.1 fits.entries
-            (newest_before H (line_holds sum size device fault line fits.reach pins H A f U fits.parts) fits.entries.first fits.entries.begins);
-      })
+      let done = complete_fits sum size device fault v i r at is_open none line n place fits.reach pins H A f U least ok out there facts fits.parts in (
+        done.0,
+        done.1,
+        record {
+          reach = fits.reach;
+          parts = done.2;
+          batches = batches_set (ended_now i r (completing r) Completed v) refl refl done.0 (batches_completed (written_to line) (line_end size line) noted H done.0 (message_in v.parts.site v.parts.bytes r) done.1 (beside H (line_holds sum size device fault line fits.reach pins H A f U fits.parts)) fits.batches);
+          slots = slots_set size line device.log.bytes fault machine n v (ended_now i r (completing r) Completed v) there refl fits.slots;
+          begun = λ none. subst (λ p. AreBegun sum size device.log.bytes p machine) (sym (first_set line n v (ended_now i r (completing r) Completed v) there refl)) (fits.begun none);
+          entries = entries_adds sum size device.snapshots.file H done.0 (message_in v.parts.site v.parts.bytes r) machine done.1 fits.entries
+              (newest_before H (line_holds sum size device fault line fits.reach pins H A f U fits.parts) fits.entries.first fits.entries.begins);
+        },
+      )

@@ -75,8 +75,8 @@ module _ (m : Machine) (slots : AreSlots m.tip m.slots) where
   slots_begun size some line log fault place w whole ends there at has = record {
     taken = All-append (HasSlot size (handed_out place m)) line (w ∷ [])
         (λ k d lt.
-            let h = has.taken k d lt in
-            record { number = h.number; lies = h.lies; taken = taken_still place h.number h.taken; is = ap (λ (s : SlotState). s.lsn) (handed_other m next_within place h.number (taken_other h.number h.taken)) ∙ h.is })
+        let h = has.taken k d lt in
+        record { number = h.number; lies = h.lies; taken = taken_still place h.number h.taken; is = ap (λ (s : SlotState). s.lsn) (handed_other m next_within place h.number (taken_other h.number h.taken)) ∙ h.is })
         (one (HasSlot size (handed_out place m)) w (record { number = next_slot m; lies = at; taken = handed_taken place m next_within; is = ap (λ (s : SlotState). s.lsn) (handed_there m next_within place) ∙ sym there }));
     zeros = λ none. handed_free size log m place (has.zeros none);
     own = subst (λ n. HaveOwn size n (handed_out place m)) (sym (further line ends)) (own_handed m next_within place size some whole (subst (λ n. HaveOwn size n m) (sym ends) has.own));

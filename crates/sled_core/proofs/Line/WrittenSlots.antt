@@ -102,12 +102,14 @@ module _ (sum : List ℕ → ℕ) (size : ℕ) where
       let place_is = own.is in
       let up = first_least place line are n v there in
       let first = first_at place line are n v there in
-      let lies = own.lies in
-      (had.0, header_beside sum log at xs (k * size) (pos (slot_at m k).lsn) had.0 (elim (cases_order k own.number) [
-        | inl same ↦ absurd (let here = ap (λ j. (slot_at m j).lsn) same in omega (arith, here, place_is, up, first, older))
-        | inr (inl lower) ↦ inl (let before = slot_before size k own.number lower in omega (arith, before, lies, low, long))
-        | inr (inr higher) ↦ inr (let before = slot_before size own.number k higher in omega (arith, before, lies, high))
-      ]) had.1)
+      let lies = own.lies in (
+        had.0,
+        header_beside sum log at xs (k * size) (pos (slot_at m k).lsn) had.0 (elim (cases_order k own.number) [
+          | inl same ↦ absurd (let here = ap (λ j. (slot_at m j).lsn) same in omega (arith, here, place_is, up, first, older))
+          | inr (inl lower) ↦ inl (let before = slot_before size k own.number lower in omega (arith, before, lies, low, long))
+          | inr (inr higher) ↦ inr (let before = slot_before size own.number k higher in omega (arith, before, lies, high))
+        ]) had.1,
+      )
 
 -- A sealed buffer of one of the segments.
 module _ (sum : List ℕ → ℕ) (size : ℕ) (big : 256 ≤ size) (device : State) (fault : Option IoError) (whole : fault ≡ None) (v : SegmentView) (k : ℕ) (b : Sealed) (there : slice_get v.parts.sealed k ≡ Some b) (ready : is_ready b ≡ true) where

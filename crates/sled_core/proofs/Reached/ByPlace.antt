@@ -67,11 +67,11 @@ pub with_by_place : (b : Batch) → b.low ≤ b.peg → (from : ℕ) → from �
 with_by_place b own from up [] apart are = (up, own, are)
 with_by_place b own from up (c ∷ cs) apart are =
     by (apart c (in_first c cs)) (λ below. with_by_place b own (c.peg + 1) below cs (λ x there. apart x (in_rest c x cs there)) are.2) (nat_lt b.low c.low) refl where
-  by : (c.peg < b.low) ⊎ (b.peg < c.low) → (c.peg + 1 ≤ b.low → AreByPlace (c.peg + 1) (with_batch b cs)) → (o : Bool) → nat_lt b.low c.low ≡ o → AreByPlace from (if o then b ∷ c ∷ cs else c ∷ with_batch b cs)
-  by (inl below) rest true test = absurd (let less : b.low < c.low = grind (arith, nat_tests, test) in let its = are.1 in omega (arith, below, less, its))
-  by (inr above) rest true test = (up, own, (omega (arith, above), are.1, are.2))
-  by (inl below) rest false test = (are.0, are.1, rest (omega (arith, below)))
-  by (inr above) rest false test = absurd (let high : c.low ≤ b.low = grind (arith, nat_tests, test) in omega (arith, above, high, own))
+      by : (c.peg < b.low) ⊎ (b.peg < c.low) → (c.peg + 1 ≤ b.low → AreByPlace (c.peg + 1) (with_batch b cs)) → (o : Bool) → nat_lt b.low c.low ≡ o → AreByPlace from (if o then b ∷ c ∷ cs else c ∷ with_batch b cs)
+      by (inl below) rest true test = absurd (let less : b.low < c.low = grind (arith, nat_tests, test) in let its = are.1 in omega (arith, below, less, its))
+      by (inr above) rest true test = (up, own, (omega (arith, above), are.1, are.2))
+      by (inl below) rest false test = (are.0, are.1, rest (omega (arith, below)))
+      by (inr above) rest false test = absurd (let high : c.low ≤ b.low = grind (arith, nat_tests, test) in omega (arith, above, high, own))
 
 -- Of those with one more, which begins where nothing is read yet, those are left that were, with that one.
 pub left_with : (end : ℕ) (b : Batch) → end ≤ b.low → b.low ≤ b.peg → (from : ℕ) (cs : List Batch) → AreByPlace from cs → not_whole end (with_batch b cs) ≡ with_batch b (not_whole end cs)

@@ -88,11 +88,11 @@ module _ (xs : List NotedBatch) (are : AreByPlace 0 (map batch_of xs)) (i : ℕ)
     stable_found end point =
         let later : end ≤ found.peg = point.1 i d (omega arith) lt in
         let each : (c : Batch) → Contains (left_of end xs) c → (c ≡ batch_of found) ⊎ (found.peg < c.low) = of_open end (λ c. (c ≡ batch_of found) ⊎ (found.peg < c.low)) xs
-            (λ k e within. elim (beside k e within) [
-              | inl before ↦ inl (point.0 k e (omega arith) before.0)
-              | inr (inl same) ↦ inr (inl (ap batch_of same))
-              | inr (inr behind) ↦ inr (inr behind.1)
-            ]) in
+        (λ k e within. elim (beside k e within) [
+          | inl before ↦ inl (point.0 k e (omega arith) before.0)
+          | inr (inl same) ↦ inr (inl (ap batch_of same))
+          | inr (inr behind) ↦ inr (inr behind.1)
+        ]) in
         elim (cases_lt found.low end) [
           | inl low ↦ (
               let at_most = stable_open end (left_of end xs) (batch_of found) (is_left end xs i d lt later) (low, later) in

@@ -56,8 +56,8 @@ module _ (size len : ℕ) (s : SnapshotModel) where
   active_is : (a : ℕ) → s.active ≡ Some a → a / size < slots → (slot_at start (a / size)).lsn ≡ stable_place s.stable / size * size
   active_is a active inside =
       let first : number_in size (a / size) (all_entries s) ≡ Some (stable_place s.stable / size) =
-          ap (λ (o : Option ℕ). number_in size (a / size) (active_entry (stable_place s.stable) o ++ entries_of s.pages)) active
-          ∙ ap (λ (b : Bool). if b then Some (stable_place s.stable / size) else number_in size (a / size) (entries_of s.pages)) (same_number (a / size)) in
+      ap (λ (o : Option ℕ). number_in size (a / size) (active_entry (stable_place s.stable) o ++ entries_of s.pages)) active
+      ∙ ap (λ (b : Bool). if b then Some (stable_place s.stable / size) else number_in size (a / size) (entries_of s.pages)) (same_number (a / size)) in
       ap (λ (x : SlotState). x.lsn) (active_there a inside ∙ ap (found_slot size s (a / size)) first)
 
 module _ (size : ℕ) (some : 0 < size) (log : List ℕ) (s : SnapshotModel) (fault : Option IoError) where

@@ -64,10 +64,10 @@ module _ (sum : List ℕ → ℕ) (size : ℕ) (big : 256 ≤ size) (old : State
       let begins : u.slot ≡ k * size = slot_found sum size log 0 u found ∙ ap (λ n. n * size) number in
       let inside : k < slots_of size (length log) = subst (λ n. n < slots_of size (length log)) number (found_inside sum size log 0 u (omega (arith, big)) found) in
       let there : IsHeader sum (part log (k * size) 20) (pos (slot_at begun k).lsn) u.mark =
-          subst (λ n. IsHeader sum (part log n 20) (pos (slot_at begun k).lsn) u.mark) begins (subst (λ p. IsHeader sum (part log u.slot 20) (pos p) u.mark) (e.of.segment.place ∙ segment_place k e) found.header) in
+      subst (λ n. IsHeader sum (part log n 20) (pos (slot_at begun k).lsn) u.mark) begins (subst (λ p. IsHeader sum (part log u.slot 20) (pos p) u.mark) (e.of.segment.place ∙ segment_place k e) found.header) in
       let used : is_used size s k ≡ true = subst (λ n. is_used size s n ≡ true) e.slot (entry_used size s e.entry e.among) in
       let same : part (started_file size log s) (k * size) 20 ≡ part log (k * size) 20 =
-          started_part size some log s k used inside (k * size) 20 (omega arith) (omega (arith, big)) (header_inside sum log (k * size) (pos (slot_at begun k).lsn) u.mark there) in
+      started_part size some log s k used inside (k * size) 20 (omega arith) (omega (arith, big)) (header_inside sum log (k * size) (pos (slot_at begun k).lsn) u.mark there) in
       (u.mark, subst (λ (l : List ℕ). IsHeader sum l (pos (slot_at begun k).lsn) u.mark) (sym same) there)
 
   -- So it is in the machine and the file with which the log begins.

@@ -150,7 +150,7 @@ module _ (size len : ℕ) (some : 0 < size) (s : SnapshotModel) where
   two_slots startable j k d e same =
       let fit = startable_fits size len s startable in
       let number : segment_number_of size d.entry ≡ segment_number_of size e.entry =
-          sym (mul-div_cancel (segment_number_of size d.entry) some) ∙ ap (λ n. n / size) (sym d.is ∙ same ∙ e.is) ∙ mul-div_cancel (segment_number_of size e.entry) some in
+      sym (mul-div_cancel (segment_number_of size d.entry) some) ∙ ap (λ n. n / size) (sym d.is ∙ same ∙ e.is) ∙ mul-div_cancel (segment_number_of size e.entry) some in
       sym d.slot ∙ (fit.apart d.entry e.entry d.among e.among).1 number ∙ e.slot
 
   own_started : IsStartable size len s → (end : ℕ) → ((e : Entry) → Contains (all_entries s) e → segment_number_of size e * size + size ≤ end) → HaveOwn size end start

@@ -91,7 +91,11 @@ impl<'a, D, C> LogIter<'a, D, C> {
     pub fn into_log(self) -> Option<&'a mut Log<D, C>>
         ensures { IsLogOf self.entry result }
     {
-        let LogIter { source, refusal: _, rest: _ } = self;
+        let LogIter {
+            source,
+            refusal: _,
+            rest: _,
+        } = self;
         match source {
             Source::Log(log) => Some(log),
             Source::File(_) => None,
@@ -102,7 +106,11 @@ impl<'a, D, C> LogIter<'a, D, C> {
     pub fn into_config(self) -> Option<&'a mut RunningConfig<D, C>>
         ensures { IsFileOf self.entry result }
     {
-        let LogIter { source, refusal: _, rest: _ } = self;
+        let LogIter {
+            source,
+            refusal: _,
+            rest: _,
+        } = self;
         match source {
             Source::File(config) => Some(config),
             Source::Log(_) => None,

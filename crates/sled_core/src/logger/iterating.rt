@@ -13,9 +13,9 @@ ghost use Rattle.sled_core.specs.Keeps.{OnlyReads};
 ghost use Rattle.sled_core.specs.LogSegments.{list_of, segment_within, segments_among};
 ghost use Rattle.sled_store.specs.SegmentStates.{slot_at};
 
-use crate::iterator::{Segment, begins_from};
 use crate::iterator::log_iter::LogIter;
 use crate::iterator::rest::Rest;
+use crate::iterator::{Segment, begins_from};
 use crate::logger::Log;
 use sled_codec::result::{DiskPtr, Error, Lsn, PageId, Result};
 use sled_codec::serialization::{Checksum, LogKind};

@@ -1,4 +1,4 @@
-use Rattle.std.proofs.Common.{◌≡◌, ◌∙◌, ℕ, ℤ, pos, List, take, sym, subst}
+use Rattle.std.proofs.Common.{◌≡◌, ℕ, pos, List, take, subst}
 use Rattle.std.proofs.lemmas.Bool.{eq-eqb, eqb-true}
 use Rattle.sled_codec.specs.Record.{IsHeader}
 use Rattle.sled_codec.proofs.Segments.{one_header}

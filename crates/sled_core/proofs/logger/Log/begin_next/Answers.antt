@@ -319,7 +319,7 @@ returns-clause-line g c =
     let w = (goal.at.returns-clause-line g c).After-push_back_reserved in
     ap (line_at c.room_to_close.new.self.site (first_then g w)) c.push_back_reserved.ensures.items
     ∙ next_is g.C.Checksum.sum_of c.args.self.now c.room_to_close.new.self c.in_ok-room_to_close.ensures.line c.in_ok-room_to_close.ensures.rest (first_then g w) (behind_then g w) (closed g w) (next g w) (next_at g w)
-        c.in_ok-slot.ensures.offset (c.in_ok-buffer.ensures.view (next g w).site refl)
+    c.in_ok-slot.ensures.offset (c.in_ok-buffer.ensures.view (next g w).site refl)
 
 pub returns-clause-room : goal.returns-clause-room
 returns-clause-room g c =

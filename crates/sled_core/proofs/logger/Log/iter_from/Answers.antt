@@ -1,13 +1,11 @@
-use Rattle.std.proofs.Common.{◌≡◌, ◌∙◌, ℕ, ℤ, List, Bool, true, false, Option, None, IfNone, refl, ap, sym, subst, arith}
+use Rattle.std.proofs.Common.{◌∙◌, ℤ, Option, IfNone, refl, ap, sym, subst}
 use Rattle.std.specs.Int.{w64}
 use Rattle.std.proofs.lemmas.Int.{to_z-of_z}
 use Rattle.sled_codec.specs.declared.result.Error.{Error}
-use Rattle.sled_store.specs.Device.{state_of}
-use Rattle.sled_core.specs.Fits.{machine_at, segment_size_of, stable_end}
+use Rattle.sled_core.specs.Fits.{machine_at, segment_size_of}
 use Rattle.sled_core.specs.Iterators.{GivesMessages, GoesOver}
 use Rattle.sled_core.specs.Running.{Fits}
 use Rattle.sled_core.specs.LogSegments.{AreSegments, begins_from}
-use Rattle.sled_core.specs.declared.iterator.Segment.{Segment}
 use Rattle.sled_core.proofs.Iterated.OfLog.{gives_messages}
 use Rattle.sled_core.proofs.Iterates.AheadLemmas.{goes_over}
 use Rattle.sled_core.proofs.logger.Log.iter_from.Goals as goal

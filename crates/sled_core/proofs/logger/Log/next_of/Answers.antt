@@ -19,17 +19,17 @@ returns-clause-log g c =
     let size = ap (λ (x : Config). x.segment_size) reads.config in
     let kept = first_kept old.fault c.next-item.result _ c.first_failure-self.ensures in
     record {
-     read = record {
-      keeps = record {
-        goes_on = goes_on_quietly g.D.Device.trace g.C.Checksum.sum_of old _ (record { config = reads.config; checksum = reads.checksum }) reads.unwritten (omega arith);
-        history = λ H holds. holds_with_kept g.C.Checksum.sum_of _ _ _ _ _ _ _ _ _ _ _ H size refl refl (ap state_of reads.unwritten) kept holds;
-        fits = λ H A f U fits. fits_with_kept g.C.Checksum.sum_of _ _ _ _ _ _ _ _ _ _ _ _ _ H A f U size refl refl refl (ap state_of reads.unwritten) kept fits;
-        noted = noted_still old;
+      read = record {
+        keeps = record {
+          goes_on = goes_on_quietly g.D.Device.trace g.C.Checksum.sum_of old _ (record { config = reads.config; checksum = reads.checksum }) reads.unwritten (omega arith);
+          history = λ H holds. holds_with_kept g.C.Checksum.sum_of _ _ _ _ _ _ _ _ _ _ _ H size refl refl (ap state_of reads.unwritten) kept holds;
+          fits = λ H A f U fits. fits_with_kept g.C.Checksum.sum_of _ _ _ _ _ _ _ _ _ _ _ _ _ H A f U size refl refl refl (ap state_of reads.unwritten) kept fits;
+          noted = noted_still old;
+        };
+        tickets = record { awaits = λ ticket m awaits. awaits; opens = refl };
+        position = record { position = ap (λ n. position_in n (current_of old) (machine_of old.accountant)) size; reserved = refl; pins = refl; size = size };
+        buffers = record { waiting = refl; start = refl };
+        machine = refl;
       };
-      tickets = record { awaits = λ ticket m awaits. awaits; opens = refl };
-      position = record { position = ap (λ n. position_in n (current_of old) (machine_of old.accountant)) size; reserved = refl; pins = refl; size = size };
-      buffers = record { waiting = refl; start = refl };
-      machine = refl;
-     };
       fault = c.first_failure-self.ensures;
     }

@@ -1,11 +1,11 @@
-use Rattle.std.proofs.Common.{rules, ◌≡◌, ◌∙◌, ℕ, List, All, ap, sym, subst}
+use Rattle.std.proofs.Common.{rules, ◌≡◌, ◌∙◌, ℕ, List, ap, subst}
 use Rattle.std.specs.Int.{w64}
-use Rattle.std.specs.List.Sorted.{IsNonDecreasingBy, IsPermutation}
+use Rattle.std.specs.List.Sorted.{IsPermutation}
 use Rattle.std.proofs.lemmas.Int.{to_z-of_z}
 use Rattle.std.proofs.lemmas.List.Sorted.{All-permutation, IsNonDecreasingBy-from_sort_by_key}
 use Rattle.sled_store.specs.Accounts.{machine_of}
 use Rattle.sled_core.specs.Ahead.{HasEnds}
-use Rattle.sled_core.specs.LogSegments.{AreSegments, begins_from, segments_among}
+use Rattle.sled_core.specs.LogSegments.{begins_from, segments_among}
 use Rattle.sled_core.specs.declared.iterator.Segment.{Segment}
 use Rattle.sled_core.proofs.logger.Log.segments_from.Goals as goal
 

@@ -11,9 +11,9 @@ returns-then-i-len c =
 pub returns : goal.returns
 returns c =
     let within : c.ended_before-i.result < length c.args.noted.now.items = (
-        let bound = c.ended_before-i.ensures.bound in
-        let not = c.if-i-len.false in
-        let len : c.len.result ≡ length c.args.noted.now.items = search rules in
-        omega (arith, bound, not, len)) in
+    let bound = c.ended_before-i.ensures.bound in
+    let not = c.if-i-len.false in
+    let len : c.len.result ≡ length c.args.noted.now.items = search rules in
+    omega (arith, bound, not, len)) in
     let is = stable_found c.args.noted.now.items c.requires c.ended_before-i.result c.index.result.now within c.args.end (c.ended_before-i.ensures.point c.requires) in
     search (rules, is)

@@ -1,4 +1,4 @@
-use Rattle.std.proofs.Common.{◌*◌, ◌+◌, arith}
+use Rattle.std.proofs.Common.{arith}
 use native.Mathlib.Nat.{mul-mod_left, mul-le-mul_right}
 use Rattle.sled_core.proofs.logger.iterating.segment_within.Goals as goal
 

@@ -1,4 +1,4 @@
-use Rattle.std.proofs.Common.{◌≡◌, ◌∙◌, ◌%◌, ◌*◌, ◌/◌, ◌<◌, ◌^◌, ℕ, ℤ, List, Option, unwrap_or, sym, ap, subst, arith}
+use Rattle.std.proofs.Common.{◌≡◌, ◌∙◌, ◌%◌, ◌/◌, ◌<◌, ◌^◌, ℕ, ℤ, List, Option, unwrap_or, sym, ap, subst, arith}
 use Rattle.std.specs.List.{All, Contains}
 use Rattle.std.proofs.Math.Nat.{mul-mod_left}
 use Rattle.sled_core.specs.declared.iterator.Segment.{Segment}

@@ -1,8 +1,6 @@
-use Rattle.std.proofs.Common.{◌≡◌, ◌∙◌, Option, Some, None, IfSome, refl, ap, sym, subst}
-use Rattle.sled_codec.specs.declared.result.Error.{Error}
-use Rattle.sled_codec.specs.Errors.{IsCorrupt}
+use Rattle.std.proofs.Common.{◌∙◌, refl, sym, subst}
 use Rattle.sled_store.specs.declared.config.Config.{Config}
-use Rattle.sled_core.specs.Ahead.{CanGoOn, IsSpent}
+use Rattle.sled_core.specs.Ahead.{CanGoOn}
 use Rattle.sled_core.proofs.Iterates.NextLemmas.{left_goes, next_of_file, next_of_log, next_refused, refusal_goes}
 use Rattle.sled_core.proofs.Iterates.TurnLemmas.{none_so, some_as, some_so}
 use Rattle.sled_core.proofs.iterator.log_iter.LogIterIterator.next.Goals as goal

@@ -1,4 +1,4 @@
-use Rattle.std.proofs.Common.{◌≡◌, ◌+◌, ◌≤◌, ◌<◌, ℕ, ℤ, pos, List, true, false, Bool, length, take, IsTrue, refl, ap, sym, subst, arith}
+use Rattle.std.proofs.Common.{◌≡◌, ◌+◌, ◌<◌, ℕ, ℤ, pos, List, true, take, refl, ap, sym, subst, arith}
 use Rattle.std.specs.List.{All}
 use Rattle.sled_codec.specs.Record.{IsHeader}
 use Rattle.sled_store.specs.declared.config.Config.{Config}
