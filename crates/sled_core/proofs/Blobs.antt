@@ -1,0 +1,6 @@
+pub mod Along
+pub mod ChangesBack
+pub mod Events
+pub mod Leaves
+pub mod Over
+pub mod Unnamed
