@@ -5,7 +5,7 @@ use Rattle.std.specs.Ordering.{int_eq}
 use Rattle.sled_store.specs.Device.{NameState, NamesState, LeavesName, renamed, unnamed, file_synced, names_synced, settled_file, settled_files}
 use Rattle.sled_store.specs.Foreign.{NoForeignNames}
 use Rattle.sled_store.proofs.Crashes.SettledLemmas.{name_settled_left}
-use Rattle.sled_store.proofs.Names.NamesLemmas.{after_renamed, after_unnamed}
+use Rattle.sled_store.proofs.Names.NamesLemmas.{after_renamed}
 use Rattle.sled_store.proofs.Segments.Elements.{in_nothing}
 
 -- bytes were settled under a name, or asked for since

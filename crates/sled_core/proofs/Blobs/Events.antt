@@ -1,5 +1,5 @@
 -- The calls that make a blob and remove it, torn or not: what holds of a device as far as its log file goes, the snapshots that are read, and what a crash may leave of the other names, holds behind each of them.
-use Rattle.std.proofs.Common.{◌≡◌, ℕ, ℤ, Bool, true, false, List, [], ◌∷◌, Some, refl, sym, subst}
+use Rattle.std.proofs.Common.{ℕ, ℤ, Bool, true, List, [], ◌∷◌, Some, refl, sym, subst}
 use Rattle.std.specs.Ordering.{int_eq}
 use Rattle.sled_store.specs.Answers.{Tears}
 use Rattle.sled_store.specs.Blobs.{making, removing_blobs}

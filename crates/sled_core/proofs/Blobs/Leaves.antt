@@ -1,5 +1,5 @@
 -- Where a device has other names, of which a crash leaves what it could leave before but for a blob that no message names, what can be recovered can be still.
-use Rattle.std.proofs.Common.{◌≡◌, ◌<◌, ◌++◌, ◌∷◌, ℕ, ℤ, Bool, false, List, [], length, Option, ap, arith, length-append, refl, sym}
+use Rattle.std.proofs.Common.{◌≡◌, ◌<◌, ◌++◌, ◌∷◌, ℕ, ℤ, Bool, false, List, [], length, Option, ap, arith, length-append, sym}
 use Rattle.std.specs.Ordering.{int_eq}
 use Rattle.sled_codec.specs.declared.serialization.message.MessageKind.{MessageKind}
 use Rattle.sled_codec.specs.Kinds.{code_of}
