@@ -136,6 +136,18 @@ pub fn flush(log: &mut MemoryLog) -> io::Result<()> {
     }
 }
 
+/// Goes over all messages of the log, and answers how many these are.
+fn iterate(log: &mut MemoryLog) -> io::Result<u32> {
+    let mut messages: u32 = 0;
+    for item in log.iter_from(0) {
+        if item.is_err() {
+            return Err(io::Error::other("a message isn't met"));
+        }
+        messages = messages.saturating_add(1);
+    }
+    Ok(messages)
+}
+
 /// Reads the bytes of the segment and all records in it, and answers how many these are.
 fn scan_segment(config: &mut Running) -> io::Result<usize> {
     let read = read_slot(config, 0);
@@ -156,12 +168,13 @@ fn recover(config: &mut Running) -> io::Result<usize> {
     }
 }
 
-/// How long it takes to fill a segment, to settle it, to read its records and to recover it.
+/// How long it takes to fill a segment, to settle it, to go over its messages, to read its records and to recover it.
 #[derive(Drop)]
 struct Figures {
     records: u32,
     append: Shortest,
     flush: Shortest,
+    iterate: Shortest,
     scan: Shortest,
     recovery: Shortest,
 }
@@ -173,12 +186,13 @@ impl Figures {
             records: 0,
             append: Shortest::new(),
             flush: Shortest::new(),
+            iterate: Shortest::new(),
             scan: Shortest::new(),
             recovery: Shortest::new(),
         }
     }
 
-    /// Fills the segment of a log, and settles it.
+    /// Fills the segment of a log, settles it, and goes over its messages.
     fn time_writing(
         &mut self,
         rt: &HostRuntime,
@@ -194,6 +208,12 @@ impl Figures {
         let start = Instant::now(rt)?;
         flush(log)?;
         self.flush.add(start.elapsed(rt)?);
+        let start = Instant::now(rt)?;
+        let messages = iterate(log)?;
+        self.iterate.add(start.elapsed(rt)?);
+        if messages != self.records {
+            return Err(io::Error::other("what was met is not what was written"));
+        }
         Ok(())
     }
 
@@ -216,6 +236,7 @@ impl Figures {
     fn print(&self, rt: &HostRuntime, name: &str) -> io::Result<()> {
         self.append.print(rt, name, "append", self.records)?;
         self.flush.print(rt, name, "flush", self.records)?;
+        self.iterate.print(rt, name, "iterate", self.records)?;
         self.scan.print(rt, name, "scan", self.records)?;
         self.recovery.print(rt, name, "recovery", self.records)
     }
