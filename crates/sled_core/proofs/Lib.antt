@@ -1,4 +1,5 @@
 pub mod Behind
+pub mod Blobs
 pub mod Crash
 pub mod Flush
 pub mod Holds

@@ -1,0 +1,112 @@
+-- A log over a device that has the same log file, and the same snapshots to read, holds what it held; and it fits that, where a crash leaves of the names what it could leave before, but for a blob that no message names.
+use Rattle.std.proofs.Common.{◌≡◌, ◌+◌, ℕ, ℤ, List, [], ◌∷◌, map, Option, arith, sym, subst}
+use Rattle.std.specs.declared.io.Error.{Error as IoError}
+use Rattle.sled_codec.specs.History.{Batch, Message, History}
+use Rattle.sled_codec.specs.Snapshots.{stable_place}
+use Rattle.sled_store.specs.Device.{NamesState, State}
+use Rattle.sled_store.specs.SegmentStates.{Machine}
+use Rattle.sled_core.specs.declared.iobuf.Reserved.{Reserved}
+use Rattle.sled_core.specs.declared.iobuf.Sealed.{Sealed}
+use Rattle.sled_core.specs.declared.iobuf.SegmentPosition.{SegmentPosition}
+use Rattle.sled_core.specs.Begun.{SegmentParts, SegmentView}
+use Rattle.sled_core.specs.Fits.{HoldBehind, HoldsIn, HoldsLine, HoldsSegment, HoldsWith, log_parts, parts_in}
+use Rattle.sled_core.specs.LogFile.{StaysBelow, StaysFrom}
+use Rattle.sled_core.specs.OpenBatches.{stable_below}
+use Rattle.sled_core.specs.Running.{FitsIn, FitsLine, FitsWith}
+use Rattle.sled_core.specs.Slots.{HaveEntries}
+use Rattle.sled_core.proofs.Blobs.Leaves.{ChangesAt, with_names, blobs_fit_beside, names_fit_beside, leaves_beside}
+use Rattle.sled_core.proofs.Blobs.Unnamed.{IsUnnamed}
+use Rattle.sled_core.proofs.Flush.FlushLemmas.{holds_over}
+
+module _ (sum : List ℕ → ℕ) (size : ℕ) (device : State) (blobs snapshots : NamesState) (fault : Option IoError) where
+  abbrev new : State
+  new = with_names device blobs snapshots
+
+  -- a segment is of the log file alone
+  segment_over : (site : SegmentPosition) (bytes : List ℕ) (from : ℕ) (bs : List Sealed) (rs : List Reserved) (stays : Message → Type 0) (H : History)
+      → HoldsSegment sum (log_parts size site device fault bytes from bs rs) stays H → HoldsSegment sum (log_parts size site new fault bytes from bs rs) stays H
+  segment_over site bytes from bs rs stays H holds = record {
+    earlier = holds.earlier;
+    messages = holds.messages;
+    below = holds.below;
+    apart = holds.apart;
+    batched = holds.batched;
+    no_end = holds.no_end;
+    place_begins = holds.place_begins;
+    slot_begins = holds.slot_begins;
+    header = holds.header;
+    chain = holds.chain;
+    stand = holds.stand;
+    written = holds.written;
+    laid = holds.laid;
+  }
+
+  behind_over : (place : ℕ) (ss : List SegmentParts) (stays : Message → Type 0) (batches : List Batch) (ms : List Message) → HoldBehind sum size device fault place ss stays batches ms → HoldBehind sum size new fault place ss stays batches ms
+  behind_over place [] stays batches ms holds = holds
+  behind_over place (s ∷ ss) stays batches ms (own, later, all, here, rest) = (
+    own,
+    later,
+    all,
+    record {
+      next = here.next;
+      inside = here.inside;
+      are = here.are;
+      held = here.held;
+      behind = here.behind;
+      segment = segment_over s.site s.bytes s.written_len s.sealed s.reserved stays (record { messages = own; batches = batches }) here.segment;
+      above = here.above;
+      inline = here.inline;
+    },
+    behind_over (place + size) ss stays batches later rest,
+  )
+
+  module _ (names : snapshots.file ≡ device.snapshots.file) where
+    module _ (site : SegmentPosition) (bytes : List ℕ) (from : ℕ) (bs : List Sealed) (rs : List Reserved) (behind : List SegmentParts) (H : History) where
+      unfoldable in_over : HoldsIn sum (log_parts size site device fault bytes from bs rs) behind H → HoldsIn sum (log_parts size site new fault bytes from bs rs) behind H
+      in_over holds =
+          holds_over sum size site device fault bytes from bs rs behind H holds new fault bytes from bs rs names (omega arith)
+          (segment_over site bytes from bs rs (StaysFrom H (stable_place holds.begun.first.stable)) (record { messages = holds.head; batches = H.batches }) holds.own)
+          (behind_over (site.place + size) behind (StaysBelow H (stable_place holds.begun.first.stable) site.place) H.batches holds.later holds.others)
+
+    line_over : (line : List SegmentView) (H : History) → HoldsLine sum size device fault line H → HoldsLine sum size new fault line H
+    line_over [] H holds = holds
+    line_over (v ∷ vs) H holds = in_over v.parts.site v.parts.bytes v.parts.written_len v.parts.sealed v.parts.reserved (map parts_in vs) H holds
+
+    -- A log holds what it held.
+    pub holds_over_names : (noted : List Batch) (line : List SegmentView) (m : Machine) (H : History) → HoldsWith sum noted size device fault line m H → HoldsWith sum noted size new fault line m H
+    holds_over_names noted line m H holds = record { holds = line_over line H holds.holds; batches = holds.batches; slots = holds.slots }
+
+  -- It fits what it fitted.
+  module _ (p : ℤ) (changes : ChangesAt sum p device blobs snapshots) (H : History) (unnamed : IsUnnamed H p) (A f : ℕ) (U : List Message) where
+    fits_in_over : (site : SegmentPosition) (bytes : List ℕ) (from : ℕ) (bs : List Sealed) (rs : List Reserved) (behind : List SegmentParts) (reach pins : ℕ)
+        → FitsIn sum (log_parts size site device fault bytes from bs rs) behind reach pins H A f U → FitsIn sum (log_parts size site new fault bytes from bs rs) behind reach pins H A f U
+    unfolding in_over
+    fits_in_over site bytes from bs rs behind reach pins fits = record {
+      holds = in_over changes.same_files site bytes from bs rs behind H fits.holds;
+      near = fits.near;
+      ends = fits.ends;
+      no_batch = fits.no_batch;
+      no_end = fits.no_end;
+      among = fits.among;
+      beyond = fits.beyond;
+      blobs = blobs_fit_beside sum p device blobs snapshots changes H unnamed (stable_below reach H.batches) fits.blobs;
+      inline = fits.inline;
+      names = names_fit_beside sum p device blobs snapshots changes H size f fits.holds.begun.first fits.names;
+      passes = fits.passes;
+      pinned = fits.pinned;
+      left = leaves_beside sum p device blobs snapshots changes H unnamed size (stable_below reach H.batches) f fits.left;
+    }
+
+    fits_line_over : (line : List SegmentView) (reach pins : ℕ) → FitsLine sum size device fault line reach pins H A f U → FitsLine sum size new fault line reach pins H A f U
+    fits_line_over [] reach pins fits = fits
+    fits_line_over (v ∷ vs) reach pins fits = fits_in_over v.parts.site v.parts.bytes v.parts.written_len v.parts.sealed v.parts.reserved (map parts_in vs) reach pins fits
+
+    pub fits_over_names : (noted : List Batch) (line : List SegmentView) (m : Machine) (pins : ℕ) → FitsWith sum noted size device fault line m pins H A f U → FitsWith sum noted size new fault line m pins H A f U
+    fits_over_names noted line m pins fits = record {
+      reach = fits.reach;
+      parts = fits_line_over line fits.reach pins fits.parts;
+      batches = fits.batches;
+      slots = fits.slots;
+      begun = fits.begun;
+      entries = subst (λ (file : ℤ → Option (List ℕ)). HaveEntries sum size file H m) (sym changes.same_files) fits.entries;
+    }
