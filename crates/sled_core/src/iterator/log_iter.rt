@@ -24,8 +24,8 @@ pub(crate) enum Source<'a, D, C> {
     Log(&'a mut Log<D, C>),
 }
 
-/// Goes over the messages of a log file, and borrows what that is on, or the log (`into_config` and `into_log` give it back). It ends: a number bounds what is ahead of it. What a
-/// call of `next` gives is `IsNext` of `specs/Iterators.antt`.
+/// Goes over the messages of a log file, and borrows what that is on, or the log (`into_config` and `into_log` give it back).
+/// It ends: a number bounds what is ahead of it. What a call of `next` gives is `IsNext` of `specs/Iterators.antt`.
 #[derive(Drop)]
 pub struct LogIter<'a, D, C> {
     pub(crate) source: Source<'a, D, C>,

@@ -1,5 +1,5 @@
 //! What is left of a log file for an iterator to give (`specs/Ahead.antt`).
-ghost use Rattle.std.specs.Prelude.{◌≡◌, ◌↔◌, ◌+◌, ◌^◌, ◌≤◌, ◌<◌, ℕ, ℤ, pos, List, [], Bool, true, Ok, None, length, take, IsTrue, IfOk, OnOk, IfNone, OnSome};
+ghost use Rattle.std.specs.Prelude.{◌≡◌, ◌↔◌, ◌+◌, ◌^◌, ◌≤◌, ◌<◌, ℕ, ℤ, pos, List, [], Bool, true, false, Ok, None, length, take, IsTrue, IfOk, OnOk, IfNone, OnSome};
 ghost use Rattle.sled_codec.specs.Errors.{IsCorruption};
 ghost use Rattle.sled_store.specs.Causes.{DeviceAnswers};
 ghost use Rattle.sled_store.specs.Device.{state_of};
@@ -166,6 +166,7 @@ impl Rest {
         ensures ahead { (items : List Item) (damaged : Bool) → IsLeft D.trace C.sum_of config.old self.old items damaged
             → ReadsOn (IsLeft D.trace C.sum_of config.old self.new) items damaged result }
         ensures on { self.old.read < self.new.read }
+        ensures one { self.old.strict ≡ false → self.new.read ≡ self.old.read + 1 }
         ensures segments { self.new.segments ≡ self.old.segments }
         ensures no_more { OnOk result (most_left self.new ≤ most_left self.old) }
         ensures answers { DeviceAnswers result (D.faults config.old.device) (D.faults config.new.device) }

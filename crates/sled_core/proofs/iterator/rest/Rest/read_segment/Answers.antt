@@ -1,4 +1,4 @@
-use Rattle.std.proofs.Common.{◌≡◌, ◌+◌, ◌<◌, ℕ, ℤ, pos, List, true, take, refl, ap, sym, subst, arith}
+use Rattle.std.proofs.Common.{◌≡◌, ◌∙◌, ◌+◌, ◌<◌, ℕ, ℤ, pos, Bool, List, true, false, length, take, refl, ap, sym, subst, arith}
 use Rattle.std.specs.List.{All}
 use Rattle.sled_codec.specs.Record.{IsHeader}
 use Rattle.sled_store.specs.declared.config.Config.{Config}
@@ -8,7 +8,7 @@ use Rattle.sled_core.specs.declared.iterator.Segment.{Segment}
 use Rattle.sled_core.specs.declared.iterator.scan.ScannedRecord.{ScannedRecord}
 use Rattle.sled_core.specs.declared.iterator.rest.Rest.{Rest}
 use Rattle.sled_core.specs.Replayed.{scanned_of}
-use Rattle.sled_core.specs.Ahead.{CanGoOn, HasEnds, IsLeft, read_behind}
+use Rattle.sled_core.specs.Ahead.{CanGoOn, HasEnds, IsLeft, read_behind, reads_behind}
 use Rattle.sled_core.proofs.Iterates.Headers.{begins_inside, none_missing, none_stands, not_found}
 use Rattle.sled_core.proofs.Iterates.Slots.{replayed_whole, damaged_before_whole}
 use Rattle.sled_core.proofs.Iterates.Kinds.{path_kinds}
@@ -29,6 +29,17 @@ returns-then-not-finds-clause-ahead g c = λ items damaged left.
     let missing = none_stands g.C.Checksum.sum_of cfg.segment_size (omega (arith, least)) log s bytes c.in-Ok.ensures.bytes r.strict none.0 none.1 in
     let ends = segment_missing g.D.Device.trace g.C.Checksum.sum_of c.args.config.now r s c.requires.more c.index.ensures c.requires.done items damaged left missing in
     left_finished g.D.Device.trace g.C.Checksum.sum_of c.args.config.now r items damaged left c.finish.new.self c.finish.ensures ends.0 ends.1
+
+pub returns-then-not-finds-clause-one : goal.returns-then-not-finds-clause-one
+returns-then-not-finds-clause-one g c = λ loose.
+    let strict = not_found c.args.self.now.strict ((mark : ℤ) × IsHeader g.C.Checksum.sum_of (take 20 c.in-Ok.buf.buf.items) (pos c.index.result.now.place) mark) c.finds.result c.if-not-finds.true c.finds.ensures in
+    let clash : true ≡ false = sym strict.0 ∙ loose in cc
+
+pub returns-in-Ok-scan_slot-clause-one : goal.returns-in-Ok-scan_slot-clause-one
+returns-in-Ok-scan_slot-clause-one g c = λ loose.
+    let r : Rest = c.args.self.now in
+    ap (λ (x : Rest). x.read) c.keep.ensures.kept
+    ∙ ap (λ (b : Bool). reads_behind b c.in-Ok-scan_slot.scan.ending (r.read + 1) (length r.segments.items)) loose
 
 pub returns-in-Ok-scan_slot-clause-fits : goal.returns-in-Ok-scan_slot-clause-fits
 returns-in-Ok-scan_slot-clause-fits g c =
