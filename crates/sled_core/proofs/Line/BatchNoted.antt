@@ -103,6 +103,15 @@ module _ {D C : Type 0} (log : Log D C) (ticket : Reservation) (n index : ℕ) (
       let is : f.reserved ≡ r = cc in
       subst (λ (x : Reserved). x.len ≡ x.header_len + 8) is manifest_body
 
+-- What is seen of a log whose batch was noted: the manifest isn't open any more, and all else is as it was.
+pub record IsBatchNoted {D C : Type 0} (trace : D → Trace) (sum : List ℕ → ℕ) (old new : Log D C) (ticket : Reservation) (peg : ℕ) : Type 0 where
+  pub same : NotesBatchOf ticket (pos peg) old new
+  pub position : SamePosition old new
+  pub buffers : KeepsBuffers old new
+  pub goes_on : GoesOn trace sum old new
+  pub opens : (place : ℕ) → pos place ≡ place_of ticket → TakesOut place (open_places old) (open_places new)
+  pub others : KeepsOthers trace sum ticket old new
+
 -- It ends with a peg, and then the batch is noted.
 module _ {D C : Type 0} (trace : D → Trace) (sum : List ℕ → ℕ) (old mid new : Log D C) (ticket : Reservation) (n index : ℕ) (f : IsReservedAt old ticket n index) (manifest : is_manifest_of ticket ≡ true) (peg : ℕ)
     (line : line_of mid ≡ set (line_of old) n (ended_now (index - f.segment.gone) f.reserved (marking sum f.segment.parts.bytes f.reserved peg) Manifest f.segment)) (ended : ChangesLine old mid) where
@@ -168,7 +177,7 @@ module _ {D C : Type 0} (trace : D → Trace) (sum : List ℕ → ℕ) (old mid 
     goes_up : int_lt (place_of ticket) (pos peg) ≡ true
     goes_up = grind (arith, ints, above)
 
-    pub batch_same : NotesBatchOf ticket (pos peg) old new
+    batch_same : NotesBatchOf ticket (pos peg) old new
     batch_same = record {
       config = now_config;
       synced = now_synced;
@@ -178,32 +187,36 @@ module _ {D C : Type 0} (trace : D → Trace) (sum : List ℕ → ℕ) (old mid 
       pins = rest.pins ∙ ended.pins;
     }
 
-    pub batch_position : SamePosition old new
+    batch_position : SamePosition old new
     batch_position = position_further old mid new (position_ended old mid n v f.among i r f.there f.own.open_yet (marking sum v.parts.bytes r peg) short Manifest line ended) (noted_position mid new rest)
 
-    pub batch_buffers : KeepsBuffers old new
+    batch_buffers : KeepsBuffers old new
     batch_buffers =
         let one = ended_buffers old mid n v i r (marking sum v.parts.bytes r peg) Manifest f.among line in
         let other = noted_buffers mid new rest in
         record { waiting = other.waiting ∙ one.waiting; start = other.start ∙ one.start }
 
-    pub batch_goes_on : GoesOn trace sum old new
+    batch_goes_on : GoesOn trace sum old new
     batch_goes_on = goes_on_quietly trace sum old new (record { config = ap (λ (c : RunningConfig D C). c.config) now_config; checksum = ap (λ (c : RunningConfig D C). c.checksum) now_config })
         (ap (λ (c : RunningConfig D C). trace c.device) now_config) (let same = now_synced in omega (arith, same))
 
     -- the reservation isn't open any more, and the others are for what they were for,
-    pub batch_opens : (place : ℕ) → pos place ≡ place_of ticket → TakesOut place (open_places old) (open_places new)
+    batch_opens : (place : ℕ) → pos place ≡ place_of ticket → TakesOut place (open_places old) (open_places new)
     batch_opens place is =
         let here : v.parts.site.place + r.from ≡ place = sym (ap unsigned_abs (is ∙ f.own.place)) in
         subst (λ (p : ℕ). TakesOut p (open_places old) (open_places new)) here
         (subst (λ (l : List SegmentView). TakesOut (v.parts.site.place + r.from) (open_places old) (open_places_along l)) (sym (noted_line mid new rest ∙ line))
         (ended_takes old.config.config.segment_size (line_of old) old.site.place n v f.among (nth_facts old) i r f.there f.own.open_yet (marking sum v.parts.bytes r peg) short Manifest refl))
 
-    pub batch_others : KeepsOthers trace sum ticket old new
+    batch_others : KeepsOthers trace sum ticket old new
     unfolding Holds
     batch_others H other m holds awaits elsewhere =
         subst (λ (l : List SegmentView). AwaitsIn l other m) (sym (noted_line mid new rest ∙ line))
         (others_await old.config.config.segment_size (line_of old) old.site.place n v f.among (nth_facts old) i r f.there f.own.open_yet (marking sum v.parts.bytes r peg) short Manifest sum (state_of (trace old.config.device)) old.fault H holds.holds ticket other m f.own.place awaits elsewhere)
+
+    -- so much is seen,
+    pub batch_seen : IsBatchNoted trace sum old new ticket peg
+    batch_seen = record { same = batch_same; position = batch_position; buffers = batch_buffers; goes_on = batch_goes_on; opens = batch_opens; others = batch_others }
 
     -- and the log holds the history with the batch,
     pub batch_holds : peg < reserved_end old → ((b : Batch) → Contains (noted_in old) b → (pos b.peg <ℤ place_of ticket) ⊎ (peg < b.low)) → LiesInNoFilling old.config.config.segment_size (line_of old) (pos peg) → (H : History) → Holds trace sum old H

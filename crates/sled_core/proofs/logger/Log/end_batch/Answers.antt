@@ -5,7 +5,7 @@ use Rattle.sled_core.specs.Fits.{line_of}
 use Rattle.sled_core.specs.OpenPlaces.{open_manifests}
 use Rattle.sled_core.specs.Tickets.{place_of}
 use Rattle.sled_core.proofs.Holds.KeptCalls.{goes_on_still}
-use Rattle.sled_core.proofs.Line.BatchNoted.{IsReservedAt, batch_buffers, batch_fits, batch_goes_on, batch_holds, batch_opens, batch_others, batch_position, batch_same, body_there, note_above, note_apart, note_unwritten, one_fewer_open, reserved_at}
+use Rattle.sled_core.proofs.Line.BatchNoted.{IsBatchNoted, IsReservedAt, batch_fits, batch_holds, batch_seen, body_there, note_above, note_apart, note_unwritten, one_fewer_open, reserved_at}
 use Rattle.sled_core.proofs.Line.EndedTickets.{says_place, ticket_above, ticket_open}
 use Rattle.sled_core.proofs.logger.Log.end_batch.Given as given
 use Rattle.sled_core.proofs.logger.Log.end_batch.Goals as goal
@@ -97,50 +97,29 @@ returns-clause-fits g c =
     (c.mark_batch_in.ensures.line f.segment f.reserved f.among f.there) c.mark_batch_in.ensures.rest c.note.ensures.rest c.unsigned_abs-low.result place
     c.note.ensures.noted c.requires.above c.in_default.is c.requires.reserved c.requires.apart c.requires.filled
 
-pub returns-clause-others : goal.returns-clause-others
-returns-clause-others g c =
+-- What is seen of it.
+seen : (g : given.Over) (c : goal.After-note g) → IsBatchNoted g.D.Device.trace g.C.Checksum.sum_of c.args.self.now c.note.new.self c.args.ticket c.args.peg
+seen g c =
     let f = there g c in
     let place : c.unsigned_abs-low.result ≡ unsigned_abs (place_of c.args.ticket) = c.unsigned_abs-low.ensures.value ∙ says_place c.lsn-place.result (place_of c.args.ticket) c.lsn-place.type_inv c.lsn-place.ensures in
-    batch_others g.D.Device.trace g.C.Checksum.sum_of c.args.self.now c.mark_batch_in.new.self c.note.new.self c.args.ticket c.segment_of-n.result c.index-index.result f c.requires.manifest c.args.peg
+    batch_seen g.D.Device.trace g.C.Checksum.sum_of c.args.self.now c.mark_batch_in.new.self c.note.new.self c.args.ticket c.segment_of-n.result c.index-index.result f c.requires.manifest c.args.peg
     (c.mark_batch_in.ensures.line f.segment f.reserved f.among f.there) c.mark_batch_in.ensures.rest c.note.ensures.rest c.unsigned_abs-low.result place
     c.note.ensures.noted c.requires.above
+
+pub returns-clause-others : goal.returns-clause-others
+returns-clause-others g c = (seen g c).others
 
 pub returns-clause-opens : goal.returns-clause-opens
-returns-clause-opens g c =
-    let f = there g c in
-    let place : c.unsigned_abs-low.result ≡ unsigned_abs (place_of c.args.ticket) = c.unsigned_abs-low.ensures.value ∙ says_place c.lsn-place.result (place_of c.args.ticket) c.lsn-place.type_inv c.lsn-place.ensures in
-    batch_opens g.D.Device.trace g.C.Checksum.sum_of c.args.self.now c.mark_batch_in.new.self c.note.new.self c.args.ticket c.segment_of-n.result c.index-index.result f c.requires.manifest c.args.peg
-    (c.mark_batch_in.ensures.line f.segment f.reserved f.among f.there) c.mark_batch_in.ensures.rest c.note.ensures.rest c.unsigned_abs-low.result place
-    c.note.ensures.noted c.requires.above
+returns-clause-opens g c = (seen g c).opens
 
 pub returns-clause-goes_on : goal.returns-clause-goes_on
-returns-clause-goes_on g c =
-    let f = there g c in
-    let place : c.unsigned_abs-low.result ≡ unsigned_abs (place_of c.args.ticket) = c.unsigned_abs-low.ensures.value ∙ says_place c.lsn-place.result (place_of c.args.ticket) c.lsn-place.type_inv c.lsn-place.ensures in
-    batch_goes_on g.D.Device.trace g.C.Checksum.sum_of c.args.self.now c.mark_batch_in.new.self c.note.new.self c.args.ticket c.segment_of-n.result c.index-index.result f c.requires.manifest c.args.peg
-    (c.mark_batch_in.ensures.line f.segment f.reserved f.among f.there) c.mark_batch_in.ensures.rest c.note.ensures.rest c.unsigned_abs-low.result place
-    c.note.ensures.noted c.requires.above
+returns-clause-goes_on g c = (seen g c).goes_on
 
 pub returns-clause-same : goal.returns-clause-same
-returns-clause-same g c =
-    let f = there g c in
-    let place : c.unsigned_abs-low.result ≡ unsigned_abs (place_of c.args.ticket) = c.unsigned_abs-low.ensures.value ∙ says_place c.lsn-place.result (place_of c.args.ticket) c.lsn-place.type_inv c.lsn-place.ensures in
-    batch_same g.D.Device.trace g.C.Checksum.sum_of c.args.self.now c.mark_batch_in.new.self c.note.new.self c.args.ticket c.segment_of-n.result c.index-index.result f c.requires.manifest c.args.peg
-    (c.mark_batch_in.ensures.line f.segment f.reserved f.among f.there) c.mark_batch_in.ensures.rest c.note.ensures.rest c.unsigned_abs-low.result place
-    c.note.ensures.noted c.requires.above
+returns-clause-same g c = (seen g c).same
 
 pub returns-clause-position : goal.returns-clause-position
-returns-clause-position g c =
-    let f = there g c in
-    let place : c.unsigned_abs-low.result ≡ unsigned_abs (place_of c.args.ticket) = c.unsigned_abs-low.ensures.value ∙ says_place c.lsn-place.result (place_of c.args.ticket) c.lsn-place.type_inv c.lsn-place.ensures in
-    batch_position g.D.Device.trace g.C.Checksum.sum_of c.args.self.now c.mark_batch_in.new.self c.note.new.self c.args.ticket c.segment_of-n.result c.index-index.result f c.requires.manifest c.args.peg
-    (c.mark_batch_in.ensures.line f.segment f.reserved f.among f.there) c.mark_batch_in.ensures.rest c.note.ensures.rest c.unsigned_abs-low.result place
-    c.note.ensures.noted c.requires.above
+returns-clause-position g c = (seen g c).position
 
 pub returns-clause-buffers : goal.returns-clause-buffers
-returns-clause-buffers g c =
-    let f = there g c in
-    let place : c.unsigned_abs-low.result ≡ unsigned_abs (place_of c.args.ticket) = c.unsigned_abs-low.ensures.value ∙ says_place c.lsn-place.result (place_of c.args.ticket) c.lsn-place.type_inv c.lsn-place.ensures in
-    batch_buffers g.D.Device.trace g.C.Checksum.sum_of c.args.self.now c.mark_batch_in.new.self c.note.new.self c.args.ticket c.segment_of-n.result c.index-index.result f c.requires.manifest c.args.peg
-    (c.mark_batch_in.ensures.line f.segment f.reserved f.among f.there) c.mark_batch_in.ensures.rest c.note.ensures.rest c.unsigned_abs-low.result place
-    c.note.ensures.noted c.requires.above
+returns-clause-buffers g c = (seen g c).buffers
