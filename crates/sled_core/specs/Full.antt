@@ -7,12 +7,12 @@ use Rattle.sled_store.specs.Device.{State}
 use Rattle.sled_core.specs.declared.iobuf.SegmentPosition.{SegmentPosition}
 use Rattle.sled_core.specs.declared.iterator.Segment.{Segment}
 use Rattle.sled_core.specs.Begun.{SegmentParts, records_to}
-use Rattle.sled_core.specs.Fits.{HasInline, HoldsIn, begun_segment, log_parts}
+use Rattle.sled_core.specs.Fits.{HoldsIn, begun_segment, log_parts}
 use Rattle.sled_core.specs.LogFile.{padded}
 use Rattle.sled_core.specs.Reached.{BeginsNext, BeginsOne, BegunSegment, LeadsTo, StandsIn, StandsTo}
 use Rattle.sled_core.specs.OpenBatches.{stable_below}
 use Rattle.sled_core.specs.Recoverable.{LeavesRecoverable, NoBatchBegins, NoBatchEnds, NoHeaderOfZeros}
-use Rattle.sled_core.specs.Running.{BlobsFit, NamesFit}
+use Rattle.sled_core.specs.Running.{BlobsFit, KeepsItems, NamesFit}
 use Rattle.sled_core.specs.Scan.{IsFoundSegment}
 use Rattle.sled_core.specs.Tail.{least_place}
 
@@ -42,7 +42,7 @@ pub record FitsFull (sum : List ℕ → ℕ) (size : ℕ) (device : State) (faul
   -- so stands the file, with any number of zeros behind its end
   pub beyond : (to : ℕ) → fault ≡ None → NoHeaderOfZeros sum → StandsFull sum size (padded to device.log.bytes) place (map begun_segment behind) reach H holds.begun.first
   pub blobs : BlobsFit sum device.blobs H (stable_below reach H.batches)
-  pub inline : (m : Message) → Contains H.messages m → stable_below reach H.batches ≤ m.place → HasInline m
+  pub stored : KeepsItems sum device.blobs H (stable_below reach H.batches)
   pub names : NamesFit sum size device.snapshots H f holds.begun.first
   -- all that was acknowledged is stable
   pub passes : A ≤ stable_below reach H.batches

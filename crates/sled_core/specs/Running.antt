@@ -1,6 +1,8 @@
 -- The invariant of a running log, and what a recovery leaves for it: over a history, the end of what was acknowledged, the floor, and the completed messages that were not marked yet.
 use Rattle.std.specs.declared.io.Error.{Error as IoError}
 use Rattle.std.specs.Prelude.{◌≡◌, ◌≢◌, ◌≤◌, ◌<◌, ◌+◌, nat_lt, max, if◌then◌else◌, ℕ, ℤ, List, [], ◌∷◌, map, Option, None, Contains}
+use Rattle.sled_codec.specs.declared.result.DiskPtr.{DiskPtr}
+use Rattle.sled_codec.specs.declared.result.DiskPtr.TheVariants.{Inline, Blob}
 use Rattle.sled_codec.specs.declared.serialization.message.MessageKind.{MessageKind}
 use Rattle.sled_codec.specs.History.{Message, Batch, History}
 use Rattle.sled_codec.specs.Snapshots.{SnapshotModel, stable_place}
@@ -12,8 +14,9 @@ use Rattle.sled_store.specs.SegmentStates.{Machine}
 use Rattle.sled_store.specs.SnapshotFiles.{IsSnapshotFile}
 use Rattle.sled_core.specs.declared.logger.Log.{Log}
 use Rattle.sled_core.specs.Begun.{SegmentParts, SegmentView, first_place}
-use Rattle.sled_core.specs.Fits.{FitsBatches, HasInline, LogParts, begun_segment, line_end, line_of, log_parts, noted_in, parts_in, HoldsIn, written_to}
+use Rattle.sled_core.specs.Fits.{FitsBatches, LogParts, begun_segment, line_end, line_of, log_parts, noted_in, parts_in, HoldsIn, written_to}
 use Rattle.sled_core.specs.FreeSlots.{HasSlots}
+use Rattle.sled_core.specs.Good.{HasOwnBlob}
 use Rattle.sled_core.specs.OpenBatches.{stable_below}
 use Rattle.sled_core.specs.Recoverable.{ActiveFits, AreRecoverableSnapshots, AreRecoverableBlobs, NoBatchBegins, NoBatchEnds, NoHeaderOfZeros, LeavesRecoverable}
 use Rattle.sled_core.specs.Reached.{StandsAmong, StandsActive}
@@ -30,6 +33,15 @@ NamesFit sum size names H f first =
 abbrev pub BlobsFit : (List ℕ → ℕ) → NamesState → History → ℕ → Type 0
 BlobsFit sum blobs H reach =
     (left : ℤ → Option (List ℕ)) → ((n : ℤ) → LeavesName blobs n (left n)) → NoForeignNames (λ bytes. (k : MessageKind) × (item : List ℕ) × IsBlob sum bytes k item) blobs left → AreRecoverableBlobs sum left H reach
+
+-- whatever a crash leaves of the blob that a message names, if any, it has the item
+abbrev pub KeepsItem : (List ℕ → ℕ) → NamesState → Message → DiskPtr → Type 0
+KeepsItem sum blobs m (Inline lid) = Unit {0}
+KeepsItem sum blobs m (Blob lid place) = (left : Option (List ℕ)) → LeavesName blobs place left → HasOwnBlob sum left m
+
+-- so it is with each message of a history from a place on
+abbrev pub KeepsItems : (List ℕ → ℕ) → NamesState → History → ℕ → Type 0
+KeepsItems sum blobs H place = (m : Message) → Contains H.messages m → place ≤ m.place → KeepsItem sum blobs m m.pointer
 
 -- The greatest end of messages that begin below a place, and of batches.
 
@@ -58,7 +70,7 @@ pub record FitsIn (sum : List ℕ → ℕ) (parts : LogParts) (behind : List Seg
   -- and so does the file with zeros behind its end, as a write there makes it
   pub beyond : (to : ℕ) → parts.site.slot ≤ to → parts.fault ≡ None → NoHeaderOfZeros sum → StandsAmong sum parts.size (padded to parts.device.log.bytes) parts.site parts.written_len (map begun_segment behind) reach H holds.begun.first
   pub blobs : BlobsFit sum parts.device.blobs H (stable_below reach H.batches)
-  pub inline : (m : Message) → Contains H.messages m → stable_below reach H.batches ≤ m.place → HasInline m
+  pub stored : KeepsItems sum parts.device.blobs H (stable_below reach H.batches)
   pub names : NamesFit sum parts.size parts.device.snapshots H f holds.begun.first
   -- all that was acknowledged is stable
   pub passes : A ≤ stable_below reach H.batches

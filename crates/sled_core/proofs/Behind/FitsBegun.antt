@@ -61,7 +61,7 @@ module _ (sum : List ℕ → ℕ) (size : ℕ) (site : SegmentPosition) (device 
     among = λ ok none. stands_begun none device.log.bytes (zeros ok) (fits.among ok none);
     beyond = λ to far ok none. stands_begun none (padded to device.log.bytes) (λ i low high. padded_get to device.log.bytes i ∙ zeros ok i low high) (fits.beyond to far ok none);
     blobs = fits.blobs;
-    inline = fits.inline;
+    stored = fits.stored;
     names = fits.names;
     passes = fits.passes;
     pinned = fits.pinned;

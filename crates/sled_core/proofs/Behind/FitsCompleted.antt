@@ -12,19 +12,19 @@ use Rattle.sled_core.specs.declared.iobuf.Reserved.{Reserved}
 use Rattle.sled_core.specs.declared.iobuf.Sealed.{Sealed}
 use Rattle.sled_core.specs.declared.iobuf.SegmentPosition.{SegmentPosition}
 use Rattle.sled_core.specs.Begun.{SegmentParts}
-use Rattle.sled_core.specs.Fits.{HasInline, HoldsIn, HoldsNext, begun_segment, log_parts}
+use Rattle.sled_core.specs.Fits.{HoldsIn, HoldsNext, begun_segment, log_parts}
 use Rattle.sled_core.specs.LogFile.{padded}
 use Rattle.sled_core.specs.OpenBatches.{stable_below}
 use Rattle.sled_core.specs.Reached.{BegunSegment, StandsAmong}
 use Rattle.sled_core.specs.Recoverable.{LeavesRecoverable, NoHeaderOfZeros}
-use Rattle.sled_core.specs.Running.{BlobsFit, FitsIn, NamesFit}
+use Rattle.sled_core.specs.Running.{BlobsFit, FitsIn, KeepsItem, KeepsItems, NamesFit}
 use Rattle.sled_core.specs.SealedBuffers.{AreZeros, FirstUnwritten}
 use Rattle.sled_core.proofs.Behind.Around.{HoldAround, begun_is, behind_below, behind_place, held_around, stays_below}
 use Rattle.sled_core.proofs.Behind.Calls.{held_here}
 use Rattle.sled_core.proofs.Behind.FitsMoved.{begun_same}
 use Rattle.sled_core.proofs.Flush.Completed.{all_below, grows}
 use Rattle.sled_core.proofs.Flush.Padded.{padded_get}
-use Rattle.sled_core.proofs.Flush.Settled.{InlineFrom, rests, settled_recoverable}
+use Rattle.sled_core.proofs.Flush.Settled.{rests, settled_recoverable}
 use Rattle.sled_core.proofs.Holds.Added.{was_or_added}
 use Rattle.sled_core.proofs.Holds.BegunLemmas.{blobs-adds, names-adds}
 use Rattle.sled_core.proofs.Holds.ReachLemmas.{LiesBehind, completed_behind}
@@ -155,16 +155,16 @@ module _ (sum : List ℕ → ℕ) (size : ℕ) (site : SegmentPosition) (device 
     | inr added ↦ absurd (let same = ap (λ (y : Message). y.place) added in let at = past in omega (arith, same, at, below))
   ]
 
-  inline_behind : InlineFrom H' (stable_below reach H'.batches)
-  inline_behind x there beyond = elim (was_or_added H H' m adds x there) [
-    | inl was ↦ (let same = same_stable in fits.inline x was (omega (arith, beyond, same)))
-    | inr own ↦ subst HasInline own (lies.lid, lies.pointer)
+  stored_behind : KeepsItems sum device.blobs H' (stable_below reach H'.batches)
+  stored_behind x there beyond = elim (was_or_added H H' m adds x there) [
+    | inl was ↦ (let same = same_stable in fits.stored x was (omega (arith, beyond, same)))
+    | inr own ↦ subst (λ (y : Message). KeepsItem sum device.blobs y y.pointer) own (subst (KeepsItem sum device.blobs m) (sym lies.pointer) tt)
   ]
 
   left_new : LeavesRecoverable sum size H' (stable_below reach H'.batches) f device
   left_new =
       let on = fits.holds.own.written ok in
-      settled_recoverable sum size least device H' (stable_below reach H'.batches) f first reach (whole_ascends sum size site device fault bytes from bs rs H' holds short) inline_behind (rests device.log on.log on.settled) names_new blobs_new (λ none. (alone_new none).stands)
+      settled_recoverable sum size least device H' (stable_below reach H'.batches) f first reach (whole_ascends sum size site device fault bytes from bs rs H' holds short) stored_behind (rests device.log on.log on.settled) names_new blobs_new (λ none. (alone_new none).stands)
 
   -- The log fits the history with the message, where a pin is out.
   pub behind-completed : 0 < pins → FitsIn sum (log_parts size site device fault bytes from bs rs) (pre ++ s' ∷ post) reach pins H' A f (m ∷ U)
@@ -179,7 +179,7 @@ module _ (sum : List ℕ → ℕ) (size : ℕ) (site : SegmentPosition) (device 
         among = λ fine none. subst (λ (z : SnapshotModel). StandsAmong sum size device.log.bytes site from others' reach H' z) same (alone_new none);
         beyond = λ to far fine none. subst (λ (z : SnapshotModel). StandsAmong sum size (padded to device.log.bytes) site from others' reach H' z) same (beyond_new to far none);
         blobs = blobs_new;
-        inline = inline_behind;
+        stored = stored_behind;
         names = subst (λ (z : SnapshotModel). NamesFit sum size device.snapshots H' f z) same names_new;
         passes = let passes = fits.passes in let same = same_stable in omega (arith, passes, same);
         pinned = λ some. out;

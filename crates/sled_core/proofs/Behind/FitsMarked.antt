@@ -17,7 +17,7 @@ use Rattle.sled_core.specs.LogFile.{padded}
 use Rattle.sled_core.specs.OpenBatches.{stable_below}
 use Rattle.sled_core.specs.Reached.{BegunSegment, StandsAmong}
 use Rattle.sled_core.specs.Recoverable.{IsPlacedBatch, LeavesRecoverable, NoHeaderOfZeros}
-use Rattle.sled_core.specs.Running.{BlobsFit, FitsIn, NamesFit}
+use Rattle.sled_core.specs.Running.{BlobsFit, FitsIn, KeepsItems, NamesFit}
 use Rattle.sled_core.specs.SealedBuffers.{AreZeros, FirstUnwritten}
 use Rattle.sled_core.proofs.Behind.Around.{begun_is, behind_place, held_around, stays_below}
 use Rattle.sled_core.proofs.Behind.Calls.{held_here}
@@ -25,7 +25,7 @@ use Rattle.sled_core.proofs.Behind.FitsCompleted.{front_low}
 use Rattle.sled_core.proofs.Behind.FitsMoved.{begun_same}
 use Rattle.sled_core.proofs.Flush.Completed.{grows}
 use Rattle.sled_core.proofs.Flush.Padded.{padded_get}
-use Rattle.sled_core.proofs.Flush.Settled.{InlineFrom, rests, settled_recoverable}
+use Rattle.sled_core.proofs.Flush.Settled.{rests, settled_recoverable}
 use Rattle.sled_core.proofs.Holds.AddedBatch.{message_was, no_batch, no_end}
 use Rattle.sled_core.proofs.Holds.BegunMarks.{blobs-marks, names-marks}
 use Rattle.sled_core.proofs.Holds.PegLemmas.{IsOff, LiesBesideFilling, behind_beside, beside_padded}
@@ -94,13 +94,13 @@ module _ (sum : List ℕ → ℕ) (size : ℕ) (site : SegmentPosition) (device 
   blobs_new : BlobsFit sum device.blobs H' (stable_below reach H'.batches)
   blobs_new = subst (λ n. BlobsFit sum device.blobs H' n) (sym same_stable) (blobs-marks H H' b adds sum device.blobs (stable_below reach H.batches) fits.blobs)
 
-  inline_behind : InlineFrom H' (stable_below reach H'.batches)
-  inline_behind x there beyond = let same = same_stable in fits.inline x (message_was H H' b adds x there) (omega (arith, beyond, same))
+  stored_behind : KeepsItems sum device.blobs H' (stable_below reach H'.batches)
+  stored_behind x there beyond = let same = same_stable in fits.stored x (message_was H H' b adds x there) (omega (arith, beyond, same))
 
   left_new : LeavesRecoverable sum size H' (stable_below reach H'.batches) f device
   left_new =
       let on = fits.holds.own.written ok in
-      settled_recoverable sum size least device H' (stable_below reach H'.batches) f first reach (whole_ascends sum size site device fault bytes from bs rs H' holds short) inline_behind (rests device.log on.log on.settled) names_new blobs_new (λ none. (alone_new none).stands)
+      settled_recoverable sum size least device H' (stable_below reach H'.batches) f first reach (whole_ascends sum size site device fault bytes from bs rs H' holds short) stored_behind (rests device.log on.log on.settled) names_new blobs_new (λ none. (alone_new none).stands)
 
   -- The log fits the history with the batch, with no other message to be marked.
   pub behind-fits-marked : FitsIn sum (log_parts size site device fault bytes from bs rs) (pre ++ s' ∷ post) reach pins H' A f U
@@ -115,7 +115,7 @@ module _ (sum : List ℕ → ℕ) (size : ℕ) (site : SegmentPosition) (device 
         among = λ fine none. subst (λ (z : SnapshotModel). StandsAmong sum size device.log.bytes site from others' reach H' z) same (alone_new none);
         beyond = λ to far fine none. subst (λ (z : SnapshotModel). StandsAmong sum size (padded to device.log.bytes) site from others' reach H' z) same (beyond_new to far none);
         blobs = blobs_new;
-        inline = inline_behind;
+        stored = stored_behind;
         names = subst (λ (z : SnapshotModel). NamesFit sum size device.snapshots H' f z) same names_new;
         passes = let passes = fits.passes in let same = same_stable in omega (arith, passes, same);
         pinned = fits.pinned;

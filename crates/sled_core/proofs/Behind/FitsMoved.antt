@@ -67,7 +67,7 @@ module _ (sum : List ℕ → ℕ) (size : ℕ) (site : SegmentPosition) (device 
         beyond = λ to far ok none. subst (λ (first : SnapshotModel). StandsAmong sum size (padded to device.log.bytes) site from others' reach H first) same
             (subst (λ (l : List BegunSegment). StandsAmong sum size (padded to device.log.bytes) site from l reach H fits.holds.begun.first) lie (fits.beyond to far ok none));
         blobs = fits.blobs;
-        inline = fits.inline;
+        stored = fits.stored;
         names = subst (λ (first : SnapshotModel). NamesFit sum size device.snapshots H f first) same fits.names;
         passes = fits.passes;
         pinned = fits.pinned;

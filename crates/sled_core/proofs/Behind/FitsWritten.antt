@@ -152,7 +152,7 @@ module _ (sum : List ℕ → ℕ) (size : ℕ) (site : SegmentPosition) (device 
 
   -- At each moment of the write, and of the sync, a crash leaves what can be recovered.
   pub behind-along : Along (LeavesRecoverable sum size H (stable_below reach H.batches) f) (Wrote (s.site.slot + at) asked asked ∷ Synced ∷ []) device
-  behind-along = moments.write_along sum size big device rest_now H f first reach reach (omega arith) ordered fits.inline fits.names fits.blobs fits.left (s.site.slot + at) asked torn stands_new
+  behind-along = moments.write_along sum size big device rest_now H f first reach reach (omega arith) ordered fits.stored fits.names fits.blobs fits.left (s.site.slot + at) asked torn stands_new
 
   holds_new : HoldsIn sum (log_parts size site after_sync fault bytes from bs rs) (pre ++ grown ∷ post) H
   holds_new = behind-written sum size site device fault bytes from bs rs H pre s post fits.holds big whole short are held place_small slot_small fresh k b there ready after_sync refl refl
@@ -169,9 +169,9 @@ module _ (sum : List ℕ → ℕ) (size : ℕ) (site : SegmentPosition) (device 
     among = λ ok none. among_new none;
     beyond = λ to far ok none. beyond_new none to far;
     blobs = fits.blobs;
-    inline = fits.inline;
+    stored = fits.stored;
     names = fits.names;
     passes = fits.passes;
     pinned = fits.pinned;
-    left = moments.synced_leaves sum size big device rest_now H f first reach reach (omega arith) ordered fits.inline fits.names fits.blobs fits.left (s.site.slot + at) asked torn stands_new;
+    left = moments.synced_leaves sum size big device rest_now H f first reach reach (omega arith) ordered fits.stored fits.names fits.blobs fits.left (s.site.slot + at) asked torn stands_new;
   }

@@ -18,7 +18,7 @@ use Rattle.sled_core.specs.Full.{FitsFull, StandsFull}
 use Rattle.sled_core.specs.LogFile.{padded}
 use Rattle.sled_core.specs.Reached.{BeginsNext, IsReadTo, IsSoFar}
 use Rattle.sled_core.specs.Recoverable.{NoBatchBegins, NoBatchEnds, NoHeaderOfZeros}
-use Rattle.sled_core.specs.Running.{BlobsFit}
+use Rattle.sled_core.specs.Running.{BlobsFit, KeepsItems}
 use Rattle.sled_core.specs.Scan.{IsScan}
 use Rattle.sled_core.specs.Tail.{Scanned}
 use Rattle.sled_core.proofs.Behind.FullHolds.{emptied, none_reserved, none_sealed}
@@ -26,7 +26,7 @@ use Rattle.sled_core.proofs.Behind.FullNext.{at_place, follow, full_file, full_h
 use Rattle.sled_core.proofs.Behind.FullRead.{ends_read, inside, no_batch_behind, no_end_behind, none_behind, same_stop}
 use Rattle.sled_core.proofs.Behind.FullZeros.{zeros_or_not}
 use Rattle.sled_core.proofs.Flush.Padded.{padded_none}
-use Rattle.sled_core.proofs.Flush.Settled.{InlineFrom, blobs_higher, settled_recoverable}
+use Rattle.sled_core.proofs.Flush.Settled.{blobs_higher, settled_recoverable}
 use Rattle.sled_core.proofs.Holds.WholeHistory.{later_above, of_first, which_part}
 use Rattle.sled_core.proofs.Flush.Completed.{all_below}
 use Rattle.sled_core.proofs.Reached.NextSegment.{next_full, read}
@@ -68,11 +68,11 @@ module _ (sum : List ℕ → ℕ) (size : ℕ) (device : State) (fault : Option 
     rises : stable_below reach H.batches ≤ stable
     rises = stable_rises reach reach' up H.batches
 
-    inline_now : InlineFrom H stable
-    inline_now m there past = let up = rises in fits.inline m there (omega (arith, up, past))
+    stored_now : KeepsItems sum device.blobs H stable
+    stored_now m there past = let up = rises in fits.stored m there (omega (arith, up, past))
 
     blobs_now : BlobsFit sum device.blobs H stable
-    blobs_now = blobs_higher sum device.blobs H (stable_below reach H.batches) stable ascends rises fits.inline fits.blobs
+    blobs_now = blobs_higher sum device.blobs H (stable_below reach H.batches) stable ascends rises fits.stored fits.blobs
 
     fits_further : FitsFull sum size device fault (s.site.place + size) ss reach' pins H A f U
     fits_further = record {
@@ -86,11 +86,11 @@ module _ (sum : List ℕ → ℕ) (size : ℕ) (device : State) (fault : Option 
       no_end = no_end';
       beyond = λ to none zeros. stands to zeros;
       blobs = blobs_now;
-      inline = inline_now;
+      stored = stored_now;
       names = fits.names;
       passes = let passes = fits.passes in let up = rises in omega (arith, passes, up);
       pinned = fits.pinned;
-      left = settled_recoverable sum size big device H stable f fits.holds.begun.first reach' ascends inline_now (rest sum size device fault place s ss fits big whole) fits.names blobs_now
+      left = settled_recoverable sum size big device H stable f fits.holds.begun.first reach' ascends stored_now (rest sum size device fault place s ss fits big whole) fits.names blobs_now
           (λ zeros. (subst (λ (l : List ℕ). StandsFull sum size l (s.site.place + size) (map begun_segment ss) reach' H fits.holds.begun.first) (padded_none 0 device.log.bytes (omega arith)) (stands 0 zeros)).stands);
     }
 

@@ -15,10 +15,10 @@ use Rattle.sled_core.specs.LogFile.{StaysBelow, padded}
 use Rattle.sled_core.specs.OpenBatches.{stable_below}
 use Rattle.sled_core.specs.Reached.{FollowApart, StandsAmong}
 use Rattle.sled_core.specs.Recoverable.{NoBatchBegins, NoBatchEnds, NoHeaderOfZeros}
-use Rattle.sled_core.specs.Running.{BlobsFit, FitsIn}
+use Rattle.sled_core.specs.Running.{BlobsFit, FitsIn, KeepsItems}
 use Rattle.sled_core.proofs.Behind.Promoted.{promoted}
 use Rattle.sled_core.proofs.Flush.Padded.{padded_none}
-use Rattle.sled_core.proofs.Flush.Settled.{InlineFrom, blobs_higher, rests, settled_recoverable}
+use Rattle.sled_core.proofs.Flush.Settled.{blobs_higher, rests, settled_recoverable}
 use Rattle.sled_core.proofs.Holds.ReachLemmas.{written_before}
 use Rattle.sled_core.proofs.Holds.WholeHistory.{later_above, of_first, which_part, whole_ascends}
 use Rattle.sled_core.proofs.Reached.NextSegment.{next_begins, next_goes, read}
@@ -64,11 +64,11 @@ module _ (sum : List ℕ → ℕ) (size : ℕ) (device : State) (fault : Option 
     rises : stable_below reach H.batches ≤ stable
     rises = stable_rises reach reach' up H.batches
 
-    inline_now : InlineFrom H stable
-    inline_now m there past = let up = rises in fits.inline m there (omega (arith, up, past))
+    stored_now : KeepsItems sum device.blobs H stable
+    stored_now m there past = let up = rises in fits.stored m there (omega (arith, up, past))
 
     blobs_now : BlobsFit sum device.blobs H stable
-    blobs_now = blobs_higher sum device.blobs H (stable_below reach H.batches) stable ordered rises fits.inline fits.blobs
+    blobs_now = blobs_higher sum device.blobs H (stable_below reach H.batches) stable ordered rises fits.stored fits.blobs
 
     fits_now : FitsIn sum (log_parts size s.site device fault s.bytes s.written_len s.sealed s.reserved) ss reach' pins H A f U
     fits_now = record {
@@ -80,11 +80,11 @@ module _ (sum : List ℕ → ℕ) (size : ℕ) (device : State) (fault : Option 
       among = λ none zeros. stands device.log.bytes (full_file zeros);
       beyond = λ to far none zeros. stands (padded to device.log.bytes) (fits.beyond to none zeros);
       blobs = blobs_now;
-      inline = inline_now;
+      stored = stored_now;
       names = fits.names;
       passes = let passes = fits.passes in let up = rises in omega (arith, passes, up);
       pinned = fits.pinned;
-      left = settled_recoverable sum size big device H stable f first reach' ordered inline_now rest fits.names blobs_now (λ zeros. (stands device.log.bytes (full_file zeros)).stands);
+      left = settled_recoverable sum size big device H stable f first reach' ordered stored_now rest fits.names blobs_now (λ zeros. (stands device.log.bytes (full_file zeros)).stands);
     }
 
   -- The messages below what is written of it end there.

@@ -77,7 +77,7 @@ module _ (sum : List ℕ → ℕ) (size : ℕ) (site : SegmentPosition) (device 
     among = λ ok none. stands device.log.bytes (fits.among ok none);
     beyond = λ to far ok none. stands (padded to device.log.bytes) (fits.beyond to far ok none);
     blobs = fits.blobs;
-    inline = fits.inline;
+    stored = fits.stored;
     names = fits.names;
     passes = fits.passes;
     pinned = fits.pinned;

@@ -1,18 +1,20 @@
 -- Where a device has other names, of which a crash leaves what it could leave before but for a blob that no message names, what can be recovered can be still.
-use Rattle.std.proofs.Common.{◌≡◌, ◌<◌, ◌++◌, ◌∷◌, ℕ, ℤ, Bool, false, List, [], length, Option, ap, arith, length-append, sym}
+use Rattle.std.proofs.Common.{◌≡◌, ◌<◌, ◌++◌, ◌∷◌, ℕ, ℤ, Bool, false, List, [], length, Option, ap, arith, length-append, refl, sym}
 use Rattle.std.specs.Ordering.{int_eq}
+use Rattle.sled_codec.specs.declared.result.DiskPtr.{DiskPtr}
+use Rattle.sled_codec.specs.declared.result.DiskPtr.TheVariants.{Inline, Blob}
 use Rattle.sled_codec.specs.declared.serialization.message.MessageKind.{MessageKind}
 use Rattle.sled_codec.specs.Kinds.{code_of}
-use Rattle.sled_codec.specs.History.{History}
+use Rattle.sled_codec.specs.History.{Message, History}
 use Rattle.sled_codec.specs.Snapshots.{SnapshotModel}
 use Rattle.sled_codec.specs.Spelling.{low_bytes}
 use Rattle.sled_store.specs.Blobs.{IsBlob}
 use Rattle.sled_store.specs.Device.{Content, NamesState, State}
 use Rattle.sled_store.specs.SnapshotFiles.{IsSnapshotFile}
 use Rattle.sled_core.specs.Recoverable.{Recoverable, LeavesRecoverable}
-use Rattle.sled_core.specs.Running.{BlobsFit, NamesFit}
+use Rattle.sled_core.specs.Running.{BlobsFit, KeepsItem, KeepsItems, NamesFit}
 use Rattle.sled_core.proofs.Blobs.ChangesBack.{GoesBack, before, before_same, before_left, before_own}
-use Rattle.sled_core.proofs.Blobs.Unnamed.{IsUnnamed, beside_recoverable}
+use Rattle.sled_core.proofs.Blobs.Unnamed.{IsUnnamed, beside_recoverable, told_apart}
 
 -- the bytes of some blob
 abbrev pub IsAnyBlob : (List ℕ → ℕ) → List ℕ → Type 0
@@ -55,6 +57,13 @@ module _ (sum : List ℕ → ℕ) (p : ℤ) (s : State) (blobs snapshots : Names
       let was : ℤ → Option (List ℕ) = before (IsAnyBlob sum) (int_eq p) s.blobs blobs back left in
       beside_recoverable sum p was left H unnamed (λ n other. sym (before_same (IsAnyBlob sum) (int_eq p) s.blobs blobs back left n other)) reach
       (fit was (before_left (IsAnyBlob sum) (int_eq p) s.blobs blobs back left leaves) (before_own (IsAnyBlob sum) (int_eq p) s.blobs blobs back left own))
+
+  -- and those that hold the items of its messages
+  pub stored_beside : IsUnnamed H p → (place : ℕ) → KeepsItems sum s.blobs H place → KeepsItems sum blobs H place
+  stored_beside unnamed place keeps m there above = by m.pointer refl (keeps m there above) where
+    by : (pointer : DiskPtr) → m.pointer ≡ pointer → KeepsItem sum s.blobs m pointer → KeepsItem sum blobs m pointer
+    by (Inline lid) is its = tt
+    by (Blob lid q) is its = λ left may. its left (changes.of_blobs.leaves q left (told_apart p q (unnamed m there lid q is)) may)
 
   -- the snapshots that it begins from
   pub names_fit_beside : (size f : ℕ) (first : SnapshotModel) → NamesFit sum size s.snapshots H f first → NamesFit sum size snapshots H f first

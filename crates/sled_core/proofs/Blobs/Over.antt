@@ -14,7 +14,7 @@ use Rattle.sled_core.specs.LogFile.{StaysBelow, StaysFrom}
 use Rattle.sled_core.specs.OpenBatches.{stable_below}
 use Rattle.sled_core.specs.Running.{FitsIn, FitsLine, FitsWith}
 use Rattle.sled_core.specs.Slots.{HaveEntries}
-use Rattle.sled_core.proofs.Blobs.Leaves.{ChangesAt, with_names, blobs_fit_beside, names_fit_beside, leaves_beside}
+use Rattle.sled_core.proofs.Blobs.Leaves.{ChangesAt, with_names, blobs_fit_beside, names_fit_beside, leaves_beside, stored_beside}
 use Rattle.sled_core.proofs.Blobs.Unnamed.{IsUnnamed}
 use Rattle.sled_core.proofs.Flush.FlushLemmas.{holds_over}
 
@@ -90,7 +90,7 @@ module _ (sum : List ℕ → ℕ) (size : ℕ) (device : State) (blobs snapshots
       among = fits.among;
       beyond = fits.beyond;
       blobs = blobs_fit_beside sum p device blobs snapshots changes H unnamed (stable_below reach H.batches) fits.blobs;
-      inline = fits.inline;
+      stored = stored_beside sum p device blobs snapshots changes H unnamed (stable_below reach H.batches) fits.stored;
       names = names_fit_beside sum p device blobs snapshots changes H size f fits.holds.begun.first fits.names;
       passes = fits.passes;
       pinned = fits.pinned;

@@ -18,7 +18,10 @@ use Rattle.sled_core.specs.Fits.{log_parts, HoldsSegment, EndBelow, HasInline}
 use Rattle.sled_core.proofs.Reached.BufferPath.{HasOnly}
 use Rattle.sled_core.proofs.Reserve.Ranges.{all_own, chain_grows, completed_between, completed-append}
 use Rattle.sled_core.proofs.Reserve.Entries.{some_long}
-use Rattle.sled_core.proofs.Flush.Settled.{InlineFrom}
+
+-- each message of a history from a place on has its item in its record
+abbrev pub InlineFrom : History → ℕ → Type 0
+InlineFrom H place = (m : Message) → Contains H.messages m → place ≤ m.place → HasInline m
 
 -- messages that lie apart, and below others that do
 pub apart_both : (place : ℕ) (xs ys : List Message) → LieApart xs → LieApart ys → All (λ m. m.place + m.size ≤ place) xs → All (λ m. place ≤ m.place) ys → LieApart (xs ++ ys)

@@ -10,7 +10,7 @@ use Rattle.sled_core.specs.Begun.{SegmentParts}
 use Rattle.sled_core.specs.Fits.{log_parts}
 use Rattle.sled_core.specs.OpenBatches.{stable_below}
 use Rattle.sled_core.specs.Recoverable.{LeavesRecoverable}
-use Rattle.sled_core.specs.Running.{BlobsFit, FitsIn, NamesFit}
+use Rattle.sled_core.specs.Running.{BlobsFit, FitsIn, KeepsItems, NamesFit}
 use Rattle.sled_core.proofs.Flush.FlushLemmas.{fault_or_none, holds-faulty}
 
 module _ (sum : List ℕ → ℕ) (size : ℕ) (site : SegmentPosition) (device : State) (fault : Option IoError) (bytes : List ℕ) (from : ℕ) (bs : List Sealed) (rs : List Reserved) (pins : ℕ) (H : History) (A f : ℕ) (U : List Message)
@@ -28,7 +28,7 @@ module _ (sum : List ℕ → ℕ) (size : ℕ) (site : SegmentPosition) (device 
     among = λ none. cc;
     beyond = λ to far none. cc;
     blobs = subst (λ (s : NamesState). BlobsFit sum s H (stable_below reach H.batches)) (sym blobs) fits.blobs;
-    inline = fits.inline;
+    stored = subst (λ (s : NamesState). KeepsItems sum s H (stable_below reach H.batches)) (sym blobs) fits.stored;
     names = subst (λ (s : NamesState). NamesFit sum size s H f fits.holds.begun.first) (sym snapshots) fits.names;
     passes = fits.passes;
     pinned = fits.pinned;

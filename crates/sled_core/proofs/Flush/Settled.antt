@@ -2,55 +2,63 @@
 use Rattle.std.proofs.Common.{◌≡◌, ◌≤◌, ◌∙◌, ℕ, ℤ, List, Option, sym, ap, subst, arith, inl, inr}
 use Rattle.std.specs.List.{Contains}
 use Rattle.std.proofs.lemmas.Bool.{cases_lt}
-use Rattle.sled_codec.specs.declared.result.DiskPtr.TheVariants.{Inline}
+use Rattle.sled_codec.specs.declared.result.DiskPtr.{DiskPtr}
+use Rattle.sled_codec.specs.declared.result.DiskPtr.TheVariants.{Inline, Blob}
 use Rattle.sled_codec.specs.History.{Message, History}
 use Rattle.sled_codec.specs.Snapshots.{SnapshotModel}
-use Rattle.sled_store.specs.Device.{Content, LogState, NamesState, State, LeavesLog, at_rest}
+use Rattle.sled_store.specs.Device.{Content, LogState, NamesState, State, LeavesLog, LeavesName, at_rest}
 use Rattle.sled_store.proofs.Histories.Ascending.{Ascends}
 use Rattle.sled_store.proofs.Histories.EarlierEntries.{entry_earlier}
 use Rattle.sled_store.proofs.LogFile.LogLemmas.{at_rest_left}
 use Rattle.sled_store.proofs.Segments.TableEntries.{from_table}
 use Rattle.sled_core.specs.Recoverable.{AreRecoverableSnapshots, AreRecoverableBlobs, HasItem, NoHeaderOfZeros, Recoverable, LeavesRecoverable}
-use Rattle.sled_core.specs.Running.{NamesFit, BlobsFit}
+use Rattle.sled_core.specs.Running.{NamesFit, BlobsFit, KeepsItem, KeepsItems}
 use Rattle.sled_core.proofs.Reached.Recoverable.{reached_recoverable}
 use Rattle.sled_core.proofs.Reached.StandsTo.{StandsTo}
 
--- each message of a history from a place on has its item in its record
-abbrev pub InlineFrom : History → ℕ → Type 0
-InlineFrom H place = (m : Message) → Contains H.messages m → place ≤ m.place → (lid : ℕ) × (m.pointer ≡ Inline lid)
+-- each message of a history from a place on has its item in its record, or in a blob that is there
+abbrev pub HaveItems : (List ℕ → ℕ) → (ℤ → Option (List ℕ)) → History → ℕ → Type 0
+HaveItems sum blobs H place = (m : Message) → Contains H.messages m → place ≤ m.place → HasItem sum blobs m m.pointer
 
--- So no more blobs are needed at a higher place.
-pub blobs_above : (sum : List ℕ → ℕ) (blobs : ℤ → Option (List ℕ)) (H : History) (low high : ℕ) → Ascends H.messages → low ≤ high → InlineFrom H low → AreRecoverableBlobs sum blobs H low → AreRecoverableBlobs sum blobs H high
-blobs_above sum blobs H low high ordered more inline are = record {
+-- what a crash leaves has the items that it can't take
+pub left_items : (sum : List ℕ → ℕ) (blobs : NamesState) (left : ℤ → Option (List ℕ)) (H : History) (place : ℕ) → ((n : ℤ) → LeavesName blobs n (left n)) → KeepsItems sum blobs H place → HaveItems sum left H place
+left_items sum blobs left H place leaves keeps m there above = by m.pointer (keeps m there above) where
+  by : (p : DiskPtr) → KeepsItem sum blobs m p → HasItem sum left m p
+  by (Inline lid) its = tt
+  by (Blob lid at) its = its (left at) (leaves at)
+
+-- So each blob that is needed at a higher place is there.
+pub blobs_above : (sum : List ℕ → ℕ) (blobs : ℤ → Option (List ℕ)) (H : History) (low high : ℕ) → Ascends H.messages → low ≤ high → HaveItems sum blobs H low → AreRecoverableBlobs sum blobs H low → AreRecoverableBlobs sum blobs H high
+blobs_above sum blobs H low high ordered more items are = record {
   needed = λ page m entry. elim (cases_lt m.place low) [
     | inl lower ↦ are.needed page m (entry_earlier H ordered low high page more m lower entry)
-    | inr above ↦ (let is = inline m (from_table H high page m entry).0 above in subst (HasItem sum blobs m) (sym is.1) tt)
+    | inr above ↦ items m (from_table H high page m entry).0 above
   ];
   named = are.named;
 }
 
 -- whatever blobs a crash leaves
-pub blobs_higher : (sum : List ℕ → ℕ) (blobs : NamesState) (H : History) (low high : ℕ) → Ascends H.messages → low ≤ high → InlineFrom H low → BlobsFit sum blobs H low → BlobsFit sum blobs H high
-blobs_higher sum blobs H low high ordered more inline fit = λ left leaves only_own. blobs_above sum left H low high ordered more inline (fit left leaves only_own)
+pub blobs_higher : (sum : List ℕ → ℕ) (blobs : NamesState) (H : History) (low high : ℕ) → Ascends H.messages → low ≤ high → KeepsItems sum blobs H low → BlobsFit sum blobs H low → BlobsFit sum blobs H high
+blobs_higher sum blobs H low high ordered more stored fit = λ left leaves only_own. blobs_above sum left H low high ordered more (left_items sum blobs left H low leaves stored) (fit left leaves only_own)
 
 -- A content whose log file stands up to a place can be recovered, where its snapshots can and its blobs can for the stable place.
-pub stands_recoverable : (sum : List ℕ → ℕ) (size : ℕ) → 256 ≤ size → (content : Content) (H : History) (A f : ℕ) (first : SnapshotModel) (reach : ℕ) → Ascends H.messages → InlineFrom H A
+pub stands_recoverable : (sum : List ℕ → ℕ) (size : ℕ) → 256 ≤ size → (content : Content) (H : History) (A f : ℕ) (first : SnapshotModel) (reach : ℕ) → Ascends H.messages → HaveItems sum content.blobs H A
     → AreRecoverableSnapshots sum size content.snapshots H f first → AreRecoverableBlobs sum content.blobs H A → StandsTo sum size content.log H A first reach → Recoverable sum size content H A f
 unfolding Recoverable
-stands_recoverable sum size some content H A f first reach ordered inline snapshots blobs stands =
+stands_recoverable sum size some content H A f first reach ordered items snapshots blobs stands =
     let reached = reached_recoverable sum size content.log some H A first reach stands ordered in
-    record { first = first; cut = reached.0; snapshots = snapshots; log = reached.2; blobs = blobs_above sum content.blobs H A reached.0.0 ordered reached.1 inline blobs }
+    record { first = first; cut = reached.0; snapshots = snapshots; log = reached.2; blobs = blobs_above sum content.blobs H A reached.0.0 ordered reached.1 items blobs }
 
 -- what is at rest is so with the bytes that are read
 pub rests : (device : LogState) (log : List ℕ) → device ≡ at_rest log → device ≡ at_rest device.bytes
 rests device log is = is ∙ sym (ap (λ (s : LogState). at_rest s.bytes) is)
 
 -- A device at rest whose log file stands up to a place leaves only contents that can be recovered.
-pub settled_recoverable : (sum : List ℕ → ℕ) (size : ℕ) → 256 ≤ size → (device : State) (H : History) (A f : ℕ) (first : SnapshotModel) (reach : ℕ) → Ascends H.messages → InlineFrom H A → device.log ≡ at_rest device.log.bytes
+pub settled_recoverable : (sum : List ℕ → ℕ) (size : ℕ) → 256 ≤ size → (device : State) (H : History) (A f : ℕ) (first : SnapshotModel) (reach : ℕ) → Ascends H.messages → KeepsItems sum device.blobs H A → device.log ≡ at_rest device.log.bytes
     → NamesFit sum size device.snapshots H f first → BlobsFit sum device.blobs H A → (NoHeaderOfZeros sum → StandsTo sum size device.log.bytes H A first reach) → LeavesRecoverable sum size H A f device
-settled_recoverable sum size some device H A f first reach ordered inline rest names blobs stands = λ left leaves only_own.
+settled_recoverable sum size some device H A f first reach ordered stored rest names blobs stands = λ left leaves only_own.
     let same : left.log ≡ device.log.bytes = at_rest_left device.log.bytes left.log (subst (λ (s : LogState). LeavesLog s left.log) rest leaves.log) in
-    stands_recoverable sum size some left H A f first reach ordered inline (names left.snapshots leaves.snapshots only_own.snapshots) (blobs left.blobs leaves.blobs only_own.blobs)
+    stands_recoverable sum size some left H A f first reach ordered (left_items sum device.blobs left.blobs H A leaves.blobs stored) (names left.snapshots leaves.snapshots only_own.snapshots) (blobs left.blobs leaves.blobs only_own.blobs)
     (subst (λ (l : List ℕ). StandsTo sum size l H A first reach) (sym same) (stands only_own.zeros))
 
 -- What can be recovered can be with less counted as acknowledged.

@@ -19,9 +19,9 @@ use Rattle.sled_core.specs.Full.{FitsFull, StandsFull}
 use Rattle.sled_core.specs.LogFile.{padded}
 use Rattle.sled_core.specs.Reached.{StandsAmong}
 use Rattle.sled_core.specs.Recoverable.{LeavesRecoverable, NoBatchBegins, NoBatchEnds, NoHeaderOfZeros}
-use Rattle.sled_core.specs.Running.{BlobsFit, FitsIn, NamesFit}
+use Rattle.sled_core.specs.Running.{BlobsFit, FitsIn, KeepsItems, NamesFit}
 use Rattle.sled_core.proofs.Flush.Padded.{padded_none}
-use Rattle.sled_core.proofs.Flush.Settled.{InlineFrom, rests}
+use Rattle.sled_core.proofs.Flush.Settled.{rests}
 use Rattle.sled_core.proofs.Holds.WholeHistory.{whole_ascends}
 use Rattle.sled_core.proofs.Reached.StandsTo.{StandsTo}
 use Rattle.sled_core.proofs.Sealed.WriteMoments as moments
@@ -60,7 +60,7 @@ module _ (sum : List ℕ → ℕ) (size : ℕ) (site : SegmentPosition) (device 
   stands_now zeros = standing (overwritten device.log.bytes at asked) (alone_now zeros)
 
   pub along_behind : Along (LeavesRecoverable sum size H (stable_below reach H.batches) f) (Wrote at asked asked ∷ Synced ∷ []) device
-  along_behind = moments.write_along sum size big device rest_now H f fits.holds.begun.first reach reach' up ordered fits.inline fits.names fits.blobs fits.left at asked torn_now stands_now
+  along_behind = moments.write_along sum size big device rest_now H f fits.holds.begun.first reach reach' up ordered fits.stored fits.names fits.blobs fits.left at asked torn_now stands_now
 
   -- With zeros behind its end the file stands too, any number of them.
   padded_now : NoHeaderOfZeros sum → (end : ℕ) → Standing (padded end (overwritten device.log.bytes at asked))
@@ -70,13 +70,13 @@ module _ (sum : List ℕ → ℕ) (size : ℕ) (site : SegmentPosition) (device 
   ]
 
   blobs_now : BlobsFit sum device.blobs H (stable_below reach' H.batches)
-  blobs_now = moments.blobs_up sum size big device rest_now H f fits.holds.begun.first reach reach' up ordered fits.inline fits.names fits.blobs fits.left at asked torn_now stands_now
+  blobs_now = moments.blobs_up sum size big device rest_now H f fits.holds.begun.first reach reach' up ordered fits.stored fits.names fits.blobs fits.left at asked torn_now stands_now
 
-  inline_now : InlineFrom H (stable_below reach' H.batches)
-  inline_now = moments.inline_up sum size big device rest_now H f fits.holds.begun.first reach reach' up ordered fits.inline fits.names fits.blobs fits.left at asked torn_now stands_now
+  stored_now : KeepsItems sum device.blobs H (stable_below reach' H.batches)
+  stored_now = moments.stored_up sum size big device rest_now H f fits.holds.begun.first reach reach' up ordered fits.stored fits.names fits.blobs fits.left at asked torn_now stands_now
 
   left_now : LeavesRecoverable sum size H (stable_below reach' H.batches) f after_sync
-  left_now = moments.synced_leaves sum size big device rest_now H f fits.holds.begun.first reach reach' up ordered fits.inline fits.names fits.blobs fits.left at asked torn_now stands_now
+  left_now = moments.synced_leaves sum size big device rest_now H f fits.holds.begun.first reach reach' up ordered fits.stored fits.names fits.blobs fits.left at asked torn_now stands_now
 
   -- Where it stands up to there in the first segment.
   pub fits_behind : (cs : List Sealed) (others : List Reserved) (holds : HoldsIn sum (log_parts size site after_sync fault bytes to cs others) behind H)
@@ -91,7 +91,7 @@ module _ (sum : List ℕ → ℕ) (size : ℕ) (site : SegmentPosition) (device 
     among = λ none zeros. subst (λ (s : SnapshotModel). StandsAmong sum size (overwritten device.log.bytes at asked) site to (map begun_segment behind) reach' H s) (sym same) (among (overwritten device.log.bytes at asked) (alone_now zeros));
     beyond = λ end far none zeros. subst (λ (s : SnapshotModel). StandsAmong sum size (padded end (overwritten device.log.bytes at asked)) site to (map begun_segment behind) reach' H s) (sym same) (among (padded end (overwritten device.log.bytes at asked)) (padded_now zeros end));
     blobs = blobs_now;
-    inline = inline_now;
+    stored = stored_now;
     names = subst (λ (s : SnapshotModel). NamesFit sum size device.snapshots H f s) (sym same) fits.names;
     passes = let old = fits.passes in let rises = stable_rises reach reach' up H.batches in omega (arith, old, rises);
     pinned = fits.pinned;
@@ -113,7 +113,7 @@ module _ (sum : List ℕ → ℕ) (size : ℕ) (site : SegmentPosition) (device 
     no_end = subst (λ n. NoBatchEnds H reach' (site.place + n)) filled beside'.1;
     beyond = λ end none zeros. subst (λ (s : SnapshotModel). StandsFull sum size (padded end (overwritten device.log.bytes at asked)) (site.place + size) (map begun_segment behind) reach' H s) (sym same) (full (padded end (overwritten device.log.bytes at asked)) (padded_now zeros end));
     blobs = blobs_now;
-    inline = inline_now;
+    stored = stored_now;
     names = subst (λ (s : SnapshotModel). NamesFit sum size device.snapshots H f s) (sym same) fits.names;
     passes = let old = fits.passes in let rises = stable_rises reach reach' up H.batches in omega (arith, old, rises);
     pinned = fits.pinned;

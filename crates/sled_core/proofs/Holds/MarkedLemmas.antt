@@ -15,10 +15,10 @@ use Rattle.sled_core.specs.LogFile.{StaysBelow, padded}
 use Rattle.sled_core.specs.OpenBatches.{stable_below}
 use Rattle.sled_core.specs.Reached.{BegunSegment, StandsAmong}
 use Rattle.sled_core.specs.Recoverable.{IsPlacedBatch, LeavesRecoverable, NoBatchBegins, NoBatchEnds, NoHeaderOfZeros}
-use Rattle.sled_core.specs.Running.{BlobsFit, FitsIn, NamesFit}
+use Rattle.sled_core.specs.Running.{BlobsFit, FitsIn, KeepsItems, NamesFit}
 use Rattle.sled_core.specs.SealedBuffers.{AreSealed, AreZeros, FirstUnwritten}
 use Rattle.sled_core.proofs.Flush.Padded.{padded_get}
-use Rattle.sled_core.proofs.Flush.Settled.{InlineFrom, rests, settled_recoverable}
+use Rattle.sled_core.proofs.Flush.Settled.{rests, settled_recoverable}
 use Rattle.sled_core.proofs.Holds.AddedBatch.{message_was, no_batch, no_end}
 use Rattle.sled_core.proofs.Holds.BegunMarks.{blobs-marks, names-marks}
 use Rattle.sled_core.proofs.Holds.PegLemmas.{IsOff, LiesBesideFilling, behind_beside, beside_padded}
@@ -65,13 +65,13 @@ module _ (sum : List ℕ → ℕ) (size : ℕ) (site : SegmentPosition) (device 
   blobs_new : BlobsFit sum device.blobs H' (stable_below reach H'.batches)
   blobs_new = subst (λ n. BlobsFit sum device.blobs H' n) (sym same_stable) (blobs-marks H H' b adds sum device.blobs (stable_below reach H.batches) fits.blobs)
 
-  inline_behind : InlineFrom H' (stable_below reach H'.batches)
-  inline_behind x there past = let same = same_stable in fits.inline x (message_was H H' b adds x there) (omega (arith, past, same))
+  stored_behind : KeepsItems sum device.blobs H' (stable_below reach H'.batches)
+  stored_behind x there past = let same = same_stable in fits.stored x (message_was H H' b adds x there) (omega (arith, past, same))
 
   left_new : LeavesRecoverable sum size H' (stable_below reach H'.batches) f device
   left_new =
       let on = fits.holds.own.written ok in
-      settled_recoverable sum size least device H' (stable_below reach H'.batches) f first reach (whole_ascends sum size site device fault bytes' from' bs' rs' H' holds in_segment) inline_behind (rests device.log on.log on.settled) names_new blobs_new (λ none. (alone_new none).stands)
+      settled_recoverable sum size least device H' (stable_below reach H'.batches) f first reach (whole_ascends sum size site device fault bytes' from' bs' rs' H' holds in_segment) stored_behind (rests device.log on.log on.settled) names_new blobs_new (λ none. (alone_new none).stands)
 
   -- It fits the history with the batch, with no other message to be marked.
   pub fits-marked : FitsIn sum (log_parts size site device fault bytes' from' bs' rs') behind reach pins H' A f U
@@ -87,7 +87,7 @@ module _ (sum : List ℕ → ℕ) (size : ℕ) (site : SegmentPosition) (device 
         beyond = λ to far fine none. subst (λ (s : SnapshotModel). StandsAmong sum size (padded to device.log.bytes) site from' others reach H' s) same
             (subst (λ n. StandsAmong sum size (padded to device.log.bytes) site n others reach H' first) (sym is) (beyond_new to far none));
         blobs = blobs_new;
-        inline = inline_behind;
+        stored = stored_behind;
         names = subst (λ (s : SnapshotModel). NamesFit sum size device.snapshots H' f s) same names_new;
         passes = let passes = fits.passes in let same = same_stable in omega (arith, passes, same);
         pinned = fits.pinned;

@@ -11,9 +11,9 @@ use Rattle.sled_core.specs.declared.iobuf.Sealed.{Sealed}
 use Rattle.sled_core.specs.declared.iobuf.SegmentPosition.{SegmentPosition}
 use Rattle.sled_core.specs.declared.logger.Log.{Log}
 use Rattle.sled_core.specs.Begun.{SegmentParts}
-use Rattle.sled_core.specs.Fits.{FitsBatches, HasInline, HoldsIn, begun_segment, device_of, log_parts, segment_size_of}
+use Rattle.sled_core.specs.Fits.{FitsBatches, HoldsIn, begun_segment, device_of, log_parts, segment_size_of}
 use Rattle.sled_core.specs.LogFile.{padded}
-use Rattle.sled_core.specs.Running.{BlobsFit, NamesFit, Fits, FitsIn, end_below}
+use Rattle.sled_core.specs.Running.{BlobsFit, Fits, FitsIn, KeepsItem, KeepsItems, NamesFit, end_below}
 use Rattle.sled_core.specs.Reached.{BegunSegment, StandsAmong}
 use Rattle.sled_core.specs.OpenBatches.{stable_below}
 use Rattle.sled_core.specs.Recoverable.{LeavesRecoverable, NoBatchBegins, NoBatchEnds, NoHeaderOfZeros}
@@ -23,7 +23,7 @@ use Rattle.sled_core.proofs.Holds.BegunLemmas.{names-adds, blobs-adds}
 use Rattle.sled_core.proofs.Flush.Padded.{padded_get}
 use Rattle.sled_core.proofs.Holds.FitsBatches.{stable_noted}
 use Rattle.sled_core.proofs.Holds.ReachLemmas.{LiesBehind, completed_behind}
-use Rattle.sled_core.proofs.Flush.Settled.{InlineFrom, leaves_less, rests, settled_recoverable}
+use Rattle.sled_core.proofs.Flush.Settled.{leaves_less, rests, settled_recoverable}
 use Rattle.sled_core.proofs.Holds.StandsAdds.{alone-adds}
 use Rattle.sled_core.proofs.Holds.WholeHistory.{of_first, whole_ascends}
 use Rattle.sled_core.proofs.Reached.OpenEnds.{acknowledged_stable}
@@ -56,7 +56,7 @@ module _ (sum : List ℕ → ℕ) (size : ℕ) (site : SegmentPosition) (device 
         beyond = λ to far ok none. subst (λ (s : SnapshotModel). StandsAmong sum size (padded to device.log.bytes) site from' others reach H s) same
             (subst (λ n. StandsAmong sum size (padded to device.log.bytes) site n others reach H first) (sym is) (fits.beyond to far ok none));
         blobs = fits.blobs;
-        inline = fits.inline;
+        stored = fits.stored;
         names = subst (λ (s : SnapshotModel). NamesFit sum size device.snapshots H f s) same fits.names;
         passes = fits.passes;
         pinned = fits.pinned;
@@ -78,7 +78,7 @@ module _ (sum : List ℕ → ℕ) (size : ℕ) (site : SegmentPosition) (device 
     among = fits.among;
     beyond = fits.beyond;
     blobs = fits.blobs;
-    inline = fits.inline;
+    stored = fits.stored;
     names = fits.names;
     passes = passes;
     pinned = fits.pinned;
@@ -105,7 +105,7 @@ module _ (sum : List ℕ → ℕ) (size : ℕ) (site : SegmentPosition) (device 
     among = fits.among;
     beyond = fits.beyond;
     blobs = fits.blobs;
-    inline = fits.inline;
+    stored = fits.stored;
     names = fits.names;
     passes = fits.passes;
     pinned = pinned;
@@ -155,16 +155,16 @@ module _ (sum : List ℕ → ℕ) (size : ℕ) (site : SegmentPosition) (device 
       | inr own ↦ absurd (let same = ap (λ (y : Message). y.place) own in omega (arith, same, above, below))
     ]
 
-    inline_behind : InlineFrom H' (stable_below reach H'.batches)
-    inline_behind x there past = elim (was_or_added H H' m adds x there) [
-      | inl was ↦ (let same = same_stable in fits.inline x was (omega (arith, past, same)))
-      | inr own ↦ subst HasInline own (lies.lid, lies.pointer)
+    stored_behind : KeepsItems sum device.blobs H' (stable_below reach H'.batches)
+    stored_behind x there past = elim (was_or_added H H' m adds x there) [
+      | inl was ↦ (let same = same_stable in fits.stored x was (omega (arith, past, same)))
+      | inr own ↦ subst (λ (y : Message). KeepsItem sum device.blobs y y.pointer) own (subst (KeepsItem sum device.blobs m) (sym lies.pointer) tt)
     ]
 
     left_new : LeavesRecoverable sum size H' (stable_below reach H'.batches) f device
     left_new =
         let on = fits.holds.own.written ok in
-        settled_recoverable sum size least device H' (stable_below reach H'.batches) f first reach (whole_ascends sum size site device fault bytes' from' bs' rs' H' holds in_segment) inline_behind (rests device.log on.log on.settled) names_new blobs_new (λ none. (alone_new none).stands)
+        settled_recoverable sum size least device H' (stable_below reach H'.batches) f first reach (whole_ascends sum size site device fault bytes' from' bs' rs' H' holds in_segment) stored_behind (rests device.log on.log on.settled) names_new blobs_new (λ none. (alone_new none).stands)
 
     pub fits-completed : 0 < pins → FitsIn sum (log_parts size site device fault bytes' from' bs' rs') behind reach pins H' A f (m ∷ U)
     fits-completed out =
@@ -179,7 +179,7 @@ module _ (sum : List ℕ → ℕ) (size : ℕ) (site : SegmentPosition) (device 
           beyond = λ to far fine none. subst (λ (s : SnapshotModel). StandsAmong sum size (padded to device.log.bytes) site from' others reach H' s) same
               (subst (λ n. StandsAmong sum size (padded to device.log.bytes) site n others reach H' first) (sym is) (beyond_new to far none));
           blobs = blobs_new;
-          inline = inline_behind;
+          stored = stored_behind;
           names = subst (λ (s : SnapshotModel). NamesFit sum size device.snapshots H' f s) same names_new;
           passes = let passes = fits.passes in let same = same_stable in omega (arith, passes, same);
           pinned = λ some. out;

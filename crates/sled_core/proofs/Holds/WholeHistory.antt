@@ -13,8 +13,7 @@ use Rattle.sled_core.specs.declared.iobuf.Sealed.{Sealed}
 use Rattle.sled_core.specs.declared.iobuf.SegmentPosition.{SegmentPosition}
 use Rattle.sled_core.specs.Begun.{SegmentParts}
 use Rattle.sled_core.specs.Fits.{HasInline, HoldBehind, HoldsIn, log_parts}
-use Rattle.sled_core.proofs.Flush.Completed.{all_apart, all_below, apart_both, inline_from}
-use Rattle.sled_core.proofs.Flush.Settled.{InlineFrom}
+use Rattle.sled_core.proofs.Flush.Completed.{InlineFrom, all_apart, all_below, apart_both, inline_from}
 use Rattle.sled_core.proofs.Reached.BufferPath.{HasOnly}
 
 -- The messages of segments behind a place lie at or above it,

@@ -8,14 +8,14 @@ use Rattle.sled_store.specs.Script.{Along}
 use Rattle.sled_store.proofs.Histories.Ascending.{Ascends}
 use Rattle.sled_core.specs.OpenBatches.{stable_below}
 use Rattle.sled_core.specs.Recoverable.{LeavesRecoverable, NoHeaderOfZeros}
-use Rattle.sled_core.specs.Running.{BlobsFit, NamesFit}
-use Rattle.sled_core.proofs.Flush.Settled.{InlineFrom, blobs_higher, leaves_less, settled_recoverable, stands_recoverable}
+use Rattle.sled_core.specs.Running.{BlobsFit, KeepsItems, NamesFit}
+use Rattle.sled_core.proofs.Flush.Settled.{blobs_higher, left_items, leaves_less, settled_recoverable, stands_recoverable}
 use Rattle.sled_core.proofs.Reached.StableBelow.{stable_rises}
 use Rattle.sled_core.proofs.Reached.StandsTo.{StandsTo}
 use Rattle.sled_core.proofs.Torn.TornLemmas.{after_write}
 
 module _ (sum : List ℕ → ℕ) (size : ℕ) (some : 256 ≤ size) (device : State) (rest : device.log ≡ at_rest device.log.bytes) (H : History) (f : ℕ) (first : SnapshotModel) (reach reach' : ℕ) (up : reach ≤ reach')
-    (ordered : Ascends H.messages) (inline : InlineFrom H (stable_below reach H.batches)) (names : NamesFit sum size device.snapshots H f first) (blobs : BlobsFit sum device.blobs H (stable_below reach H.batches))
+    (ordered : Ascends H.messages) (stored : KeepsItems sum device.blobs H (stable_below reach H.batches)) (names : NamesFit sum size device.snapshots H f first) (blobs : BlobsFit sum device.blobs H (stable_below reach H.batches))
     (before : LeavesRecoverable sum size H (stable_below reach H.batches) f device) (at : ℕ) (asked : List ℕ)
     (torn : NoHeaderOfZeros sum → (now left : List ℕ) → length now ≤ length asked → LeavesLog (after_write device.log.bytes at asked now) left → (placed : List (ℕ × List ℕ))
     → NoForeignLog sum size (after_write device.log.bytes at asked now) placed left → StandsTo sum size left H (stable_below reach H.batches) first reach)
@@ -42,18 +42,18 @@ module _ (sum : List ℕ → ℕ) (size : ℕ) (some : 256 ≤ size) (device : S
   write_leaves now no_more = λ left leaves only_own.
       let stands = torn only_own.zeros now left.log no_more (subst (λ (s : LogState). LeavesLog (log_step (Wrote at asked now) s) left.log) rest leaves.log)
       ((at, asked) ∷ device.placed) (subst (λ (s : LogState). NoForeignLog sum size (log_step (Wrote at asked now) s) ((at, asked) ∷ device.placed) left.log) rest only_own.log) in
-      stands_recoverable sum size some left H low f first reach ordered inline (names left.snapshots leaves.snapshots only_own.snapshots) (blobs left.blobs leaves.blobs only_own.blobs) stands
+      stands_recoverable sum size some left H low f first reach ordered (left_items sum device.blobs left.blobs H low leaves.blobs stored) (names left.snapshots leaves.snapshots only_own.snapshots) (blobs left.blobs leaves.blobs only_own.blobs) stands
 
   -- what stands up to the place needs no more blobs
   pub blobs_up : BlobsFit sum device.blobs H high
-  blobs_up = blobs_higher sum device.blobs H low high ordered rises inline blobs
+  blobs_up = blobs_higher sum device.blobs H low high ordered rises stored blobs
 
-  pub inline_up : InlineFrom H high
-  inline_up m there above = (let up = rises in inline m there (omega (arith, up, above)))
+  pub stored_up : KeepsItems sum device.blobs H high
+  stored_up m there above = (let up = rises in stored m there (omega (arith, up, above)))
 
   -- Behind the sync all that is stable then counts as acknowledged.
   pub synced_leaves : LeavesRecoverable sum size H high f once_synced
-  synced_leaves = settled_recoverable sum size some once_synced H high f first reach' ordered inline_up refl names blobs_up whole
+  synced_leaves = settled_recoverable sum size some once_synced H high f first reach' ordered stored_up refl names blobs_up whole
 
   -- On the way what was written before does.
   pub write_along : Along (LeavesRecoverable sum size H low f) (Wrote at asked asked ∷ Synced ∷ []) device

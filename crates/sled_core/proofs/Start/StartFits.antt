@@ -84,7 +84,7 @@ module _ (sum : List ℕ → ℕ) (size : ℕ) (device now : State) (s : Snapsho
           beyond = λ to far none zeros. subst (λ (l : List ℕ). StandsAlone sum size (padded to l) site from (site.place + from) H holds.begun.first) (sym bytes_now)
               (begins_alone sum size (padded to new) s holds.begun.first H site from same end begins own behind (beyond clean to zeros));
           blobs = subst (λ (n : NamesState). BlobsFit sum n H (stable_below (site.place + from) H.batches)) (sym same_blobs) (subst (BlobsFit sum device.blobs H) (sym open_none) ready.blobs);
-          inline = λ m there past. absurd (let low = All-contains (λ (x : Message). (x.place < stable) × (x.place + x.size ≤ stable)) H.messages m ready.ready.below there in omega (arith, low.0, past, open_none));
+          stored = λ m there past. absurd (let low = All-contains (λ (x : Message). (x.place < stable) × (x.place + x.size ≤ stable)) H.messages m ready.ready.below there in omega (arith, low.0, past, open_none));
           names = subst (λ (n : NamesState). NamesFit sum size n H f holds.begun.first) (sym same_names) (subst (NamesFit sum size device.snapshots H f) (sym first) ready.names);
           passes = let passes = ready.passes in omega (arith, passes, open_none);
           pinned = λ some. absurd (some refl);
