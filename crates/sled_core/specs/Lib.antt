@@ -16,6 +16,7 @@ pub mod Iterators
 pub mod Keeps
 pub mod LogFile
 pub mod LogSegments
+pub mod Logged
 pub mod Manifests
 pub mod OnFile
 pub mod OpenBatches
