@@ -1,12 +1,13 @@
 -- The current buffer: which records and which placeholders stand in it, and which messages these are.
-use Rattle.std.specs.Prelude.{suc, ◌≡◌, ◌≢◌, ◌+◌, ◌-◌, ◌≤◌, ◌<◌, ◌^◌, ℕ, Bool, true, false, if◌then◌else◌, List, [], ◌∷◌, ◌++◌, length, drop, replicate, Option, None, Some}
-use Rattle.sled_codec.specs.declared.result.DiskPtr.TheVariants.{Inline}
+use Rattle.std.specs.Prelude.{suc, ◌≡◌, ◌≢◌, ◌+◌, ◌-◌, ◌≤◌, ◌<◌, ◌^◌, ℕ, Bool, true, false, if◌then◌else◌, List, [], ◌∷◌, ◌++◌, length, drop, replicate, Option, None, Some, is_some, ℤ}
+use Rattle.sled_codec.specs.declared.result.DiskPtr.{DiskPtr}
+use Rattle.sled_codec.specs.declared.result.DiskPtr.TheVariants.{Inline, Blob}
 use Rattle.sled_codec.specs.declared.serialization.message.LogKind.TheVariants.{Skip}
 use Rattle.sled_codec.specs.declared.serialization.message.MessageKind.{MessageKind}
 use Rattle.sled_codec.specs.declared.serialization.message.MessageKind.TheVariants as kind
 use Rattle.sled_codec.specs.Kinds.{code_of}
 use Rattle.sled_codec.specs.Sums.{flipped}
-use Rattle.sled_codec.specs.Spelling.{low_bytes, low_first, short_number, short_header_tail}
+use Rattle.sled_codec.specs.Spelling.{SpellsSigned, low_bytes, low_first, short_number, short_header_tail}
 use Rattle.sled_codec.specs.Places.{part}
 use Rattle.sled_codec.specs.Record.{record_sum, short_record}
 use Rattle.sled_codec.specs.History.{Message, Batch}
@@ -34,9 +35,23 @@ text_in bytes r = part bytes r.from r.len
 abbrev pub body_in : List ℕ → Reserved → List ℕ
 body_in bytes r = part bytes (r.from + r.header_len) (r.len - r.header_len)
 
--- the message that it is for, in a segment that lies there
+-- Where the item of a message is in a blob of a place, if in one: where the message lies whose record begins at an offset, what the log has of its item, whose place the record's body spells then.
+
+abbrev pub pointer_as : Option ℤ → ℕ → DiskPtr
+pointer_as None lid = Inline lid
+pointer_as (Some place) lid = Blob lid place
+
+abbrev pub item_as : Option ℤ → List ℕ → List ℕ
+item_as None body = body
+item_as (Some place) body = []
+
+abbrev pub SpellsBlob : Option ℤ → List ℕ → Type 0
+SpellsBlob None body = Unit {0}
+SpellsBlob (Some place) body = SpellsSigned body place
+
+-- the message that it is for, as a log has it that has a segment there
 abbrev pub message_in : SegmentPosition → List ℕ → Reserved → Message
-message_in site bytes r = record { kind = r.log_kind; page = r.page; place = site.place + r.from; pointer = Inline (site.slot + r.from); size = r.len; bytes = body_in bytes r }
+message_in site bytes r = record { kind = r.log_kind; page = r.page; place = site.place + r.from; pointer = pointer_as r.blob (site.slot + r.from); size = r.len; bytes = item_as r.blob (body_in bytes r) }
 
 -- a header with zeros in place of its sum and its kind
 abbrev pub placeholder_head : List ℕ → List ℕ
@@ -58,7 +73,10 @@ text_as sum k page number body Padding = []
 pub record StandsAs (sum : List ℕ → ℕ) (number : ℕ) (text body : List ℕ) (r : Reserved) : Type 0 where
   pub headed : 5 ≤ r.header_len
   pub long : r.header_len ≤ r.len
-  pub known : kind_for r.log_kind r.page (length body) ≡ Some r.kind
+  pub known : kind_for r.log_kind r.page (is_some r.blob) (length body) ≡ Some r.kind
+  pub names : SpellsBlob r.blob body
+  -- no log makes blobs yet
+  pub plain : r.blob ≡ None
   -- a completed one is a message
   pub whole : r.state ≡ Completed → is_manifest r.log_kind r.page ≡ false
   -- and an ended manifest is none, and has a peg
@@ -105,11 +123,11 @@ IsHeaded r = (0 < r.len) × (r.state ≡ Open → (5 ≤ r.header_len) × (r.hea
 
 -- the reservation that is made at an offset for a message, with this sum
 abbrev pub reserved_for : Purpose → ℕ → ℕ → ℕ → ℕ → Reserved
-reserved_for kept at header_len item_len sum = record { from = at; header_len = header_len; len = header_len + item_len; log_kind = kept.log_kind; kind = kept.kind; page = kept.page; sum = sum; state = Open }
+reserved_for kept at header_len item_len sum = record { from = at; header_len = header_len; len = header_len + item_len; log_kind = kept.log_kind; kind = kept.kind; page = kept.page; sum = sum; blob = kept.blob; state = Open }
 
 -- the entry of what fills a segment of this size from an offset on
 abbrev pub padding_at : ℕ → ℕ → Reserved
-padding_at size from = record { from = from; header_len = 0; len = size - from; log_kind = Skip; kind = kind.Cap; page = 0; sum = 0; state = Padding }
+padding_at size from = record { from = from; header_len = 0; len = size - from; log_kind = Skip; kind = kind.Cap; page = 0; sum = 0; blob = None; state = Padding }
 
 -- a sum, flipped, and a kind, with which a record ends its reservation
 abbrev pub ending : ℕ → MessageKind → List ℕ
@@ -133,7 +151,7 @@ marking sum bytes r peg = ending (sum (low_bytes 8 peg ++ code_of r.kind ∷ par
 
 -- the reservation once it has ended so
 abbrev pub ended : ReservationState → Reserved → Reserved
-ended state r = record { from = r.from; header_len = r.header_len; len = r.len; log_kind = r.log_kind; kind = r.kind; page = r.page; sum = r.sum; state = state }
+ended state r = record { from = r.from; header_len = r.header_len; len = r.len; log_kind = r.log_kind; kind = r.kind; page = r.page; sum = r.sum; blob = r.blob; state = state }
 
 -- reservations lie one behind another from an offset on, up to an end
 abbrev pub IsChain : ℕ → List Reserved → ℕ → Type 0

@@ -1,5 +1,5 @@
 -- Manifests of batches: which messages are that, and under which kind a place is kept for a message.
-use Rattle.std.specs.Prelude.{◌==◌, ◌-◌, ◌^◌, ℕ, Bool, false, if◌then◌else◌, Option, None, Some}
+use Rattle.std.specs.Prelude.{◌==◌, ◌-◌, ◌^◌, ◌&&◌, not, ℕ, Bool, false, if◌then◌else◌, Option, None, Some}
 use Rattle.sled_codec.specs.declared.serialization.message.LogKind.{LogKind}
 use Rattle.sled_codec.specs.declared.serialization.message.LogKind.TheVariants as does
 use Rattle.sled_codec.specs.declared.serialization.message.MessageKind.{MessageKind}
@@ -18,6 +18,6 @@ is_manifest does.Link page = false
 is_manifest does.Free page = false
 is_manifest does.Corrupted page = false
 
--- the kind of a message's record, with an item of n bytes: a manifest has 8
-abbrev pub kind_for : LogKind → ℕ → ℕ → Option MessageKind
-kind_for does page n = if is_manifest does page then (if n == 8 then Some BatchManifest else None) else kind_written does page false
+-- the kind of a message's record with a body of n bytes, where a blob has its item or not: a manifest has no blob, and 8 bytes
+abbrev pub kind_for : LogKind → ℕ → Bool → ℕ → Option MessageKind
+kind_for does page blob n = if is_manifest does page then (if not blob && n == 8 then Some BatchManifest else None) else kind_written does page blob

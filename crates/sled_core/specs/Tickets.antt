@@ -1,11 +1,11 @@
 -- What a ticket says.
-use Rattle.std.specs.Prelude.{◌≡◌, ◌+◌, ℕ, ℤ, pos, Bool}
-use Rattle.sled_codec.specs.declared.result.DiskPtr.TheVariants.{Inline}
+use Rattle.std.specs.Prelude.{◌≡◌, ◌+◌, ℕ, ℤ, pos, Bool, None}
 use Rattle.sled_core.specs.declared.iobuf.ReservationState.TheVariants.{Open}
 use Rattle.sled_core.specs.declared.iobuf.Reserved.{Reserved}
 use Rattle.sled_core.specs.declared.iobuf.SegmentPosition.{SegmentPosition}
 use Rattle.sled_codec.specs.declared.result.DiskPtr.{DiskPtr}
 use Rattle.sled_core.specs.declared.reservation.Reservation.{Reservation}
+use Rattle.sled_core.specs.Buffers.{pointer_as}
 use Rattle.sled_core.specs.Manifests.{is_manifest}
 
 -- where the record begins in the log
@@ -36,6 +36,8 @@ IsPlaceOf ticket at = (at.0 ≡ place_of ticket) × (at.1 ≡ pointer_of ticket)
 pub record IsFor (site : SegmentPosition) (r : Reserved) (ticket : Reservation) : Type 0 where
   pub open_yet : r.state ≡ Open
   pub place : place_of ticket ≡ pos (site.place + r.from)
-  pub pointer : pointer_of ticket ≡ Inline (site.slot + r.from)
+  pub pointer : pointer_of ticket ≡ pointer_as r.blob (site.slot + r.from)
+  -- no log makes blobs yet
+  pub plain : r.blob ≡ None
   pub long : len_of ticket ≡ r.len
   pub manifest : is_manifest_of ticket ≡ is_manifest r.log_kind r.page

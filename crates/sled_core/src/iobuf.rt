@@ -40,6 +40,8 @@ pub(crate) struct Purpose {
     pub(crate) log_kind: LogKind,
     pub(crate) kind: MessageKind,
     pub(crate) page: PageId,
+    /// The place of the blob that has the item; `None` where the record has it.
+    pub(crate) blob: Option<Lsn>,
 }
 
 /// What became of a reservation, or what there is in its place.
@@ -86,6 +88,8 @@ pub(crate) struct Reserved {
     pub(crate) kind: MessageKind,
     /// What the message does to its page.
     pub(crate) log_kind: LogKind,
+    /// The place of the blob that has its item, which the body spells then; `None` where the body is the item.
+    pub(crate) blob: Option<Lsn>,
     pub(crate) state: ReservationState,
 }
 
@@ -276,6 +280,7 @@ impl IoBuf {
             kind: message.kind,
             page: message.page,
             sum,
+            blob: message.blob,
             state: ReservationState::Open,
         });
         self.word = incr_writers(self.word);

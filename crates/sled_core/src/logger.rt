@@ -239,7 +239,7 @@ impl<D: Device, C: Checksum> Log<D, C> {
         ensures seals { let n = length (T.short (T.meaning item.now)) in
             OnOk result ((waiting_of self.new ≡ waiting_behind C.sum_of self.old pid n) × (start_of self.new ≡ start_behind self.old pid n)) }
         ensures answers { let n = length (T.short (T.meaning item.now)) in
-            ReserveAnswers result (fault_of self.old) (kind_for kind pid n) (IsUsedUpFor self.old pid n) (open_for self.old pid n)
+            ReserveAnswers result (fault_of self.old) (kind_for kind pid false n) (IsUsedUpFor self.old pid n) (open_for self.old pid n)
             (IsLeastOpen self.old) }
         ensures keeps { Preserves D.trace C.sum_of self.old self.new }
         ensures same { KeepsAll self.old self.new }
@@ -249,13 +249,14 @@ impl<D: Device, C: Checksum> Log<D, C> {
             return Err(Error::Io(e));
         }
         let item_len = item.serialized_size() as usize;
-        let Some(message_kind) = kind_for(kind, pid, item_len) else {
+        let Some(message_kind) = kind_for(kind, pid, false, item_len) else {
             return Err(Error::Unsupported(String::new(self.config.alloc())));
         };
         let purpose = Purpose {
             log_kind: kind,
             kind: message_kind,
             page: pid,
+            blob: None,
         };
         let manifest = is_manifest(kind, pid);
         let mut head = self.head_for(&purpose, item_len);

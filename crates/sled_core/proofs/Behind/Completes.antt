@@ -1,5 +1,5 @@
 -- A message is completed in a segment behind the first one: it is added between those of the segments before it and those of the segments behind it, and the log holds the history with it.
-use Rattle.std.proofs.Common.{◌≡◌, ◌≤◌, ◌<◌, ◌+◌, ◌∙◌, ℕ, List, ◌∷◌, ◌++◌, length, set, Option, Some, refl, sym, ap, subst, arith, append_assoc, inl, inr, false}
+use Rattle.std.proofs.Common.{◌≡◌, ◌≤◌, ◌<◌, ◌+◌, ◌∙◌, ℕ, List, ◌∷◌, ◌++◌, length, set, Option, Some, refl, sym, ap, subst, arith, append_assoc, inl, inr, false, ◌/◌, ℤ}
 use Rattle.std.specs.List.{All, Contains, slice_get}
 use Rattle.std.specs.declared.io.Error.{Error as IoError}
 use Rattle.std.proofs.lemmas.List.Elements.{All-contains, Contains-append_cases}
@@ -13,7 +13,7 @@ use Rattle.sled_core.specs.declared.iobuf.ReservationState.TheVariants.{Open, Co
 use Rattle.sled_core.specs.declared.iobuf.Reserved.{Reserved}
 use Rattle.sled_core.specs.declared.iobuf.Sealed.{Sealed}
 use Rattle.sled_core.specs.declared.iobuf.SegmentPosition.{SegmentPosition}
-use Rattle.sled_core.specs.Buffers.{completing, ended, message_in}
+use Rattle.sled_core.specs.Buffers.{completing, ended, message_in, Stands, pointer_as}
 use Rattle.sled_core.specs.Begun.{SegmentParts}
 use Rattle.sled_core.specs.Fits.{HasInline, HoldBehind, HoldsIn, HoldsNext, HoldsSegment, log_parts}
 use Rattle.sled_core.specs.LogFile.{StaysBelow, StaysFrom}
@@ -28,6 +28,8 @@ use Rattle.sled_core.proofs.Holds.BehindKept.{behind_fewer}
 use Rattle.sled_core.proofs.Holds.CompletedLemmas.{behind_written, ends_within, segment-complete, segment-fewer}
 use Rattle.sled_core.proofs.Holds.WholeHistory.{behind_above}
 use Rattle.sled_core.proofs.Sealed.InBuffer.{end_ended}
+use Rattle.sled_core.proofs.Reserve.Entries.{reserved_in, open_plain}
+use Rattle.sled_core.proofs.Reserve.Ranges.{at_there}
 
 -- a list in four parts
 four : (a b c d : List Message) → a ++ (b ++ (c ++ d)) ≡ (a ++ (b ++ c)) ++ d
@@ -155,6 +157,7 @@ module _ (sum : List ℕ → ℕ) (size : ℕ) (site : SegmentPosition) (device 
       let inside = here.inside in
       let held = here.held in
       let behind = here.behind in
+      let stands = reserved_in sum size (s.site.place / size) s.bytes r (open_plain r.state is_open) (at_there (Stands sum size (s.site.place / size) s.bytes) s.reserved i r there here.segment.stand) in
       let long : length completed ≡ length s.bytes = ended_long sum size device fault s own_history here.segment i r there is_open r.sum r.kind in
       record {
         next = here.next;
@@ -164,7 +167,7 @@ module _ (sum : List ℕ → ℕ) (size : ℕ) (site : SegmentPosition) (device 
         behind = omega (arith, behind, long);
         segment = done_here.2 (StaysBelow completed_history stable site.place) (λ x under its. stayed x its);
         above = all_still (λ x. begins ≤ x.place) here.above low;
-        inline = all_still HasInline here.inline (s.site.slot + r.from, refl);
+        inline = all_still HasInline here.inline (s.site.slot + r.from, ap (λ (o : Option ℤ). pointer_as o (s.site.slot + r.from)) stands.text.plain);
       }
 
   pub behind_completed : HoldBehind sum size device fault (site.place + size) (pre ++ now_with s completed s.written_len (one_ended i s.sealed) (set s.reserved i (ended Completed r)) ∷ post) (StaysBelow completed_history stable site.place) done_here.0.batches

@@ -1,6 +1,6 @@
 -- Where the messages lie of a segment that holds a history: what was written one behind another, below what was completed since, which is in the buffer.
 use Rattle.sled_core.proofs.Reserve.Batches.{batches-append, batches_between}
-use Rattle.std.proofs.Common.{◌≡◌, ◌⊎◌, ◌≤◌, ◌<◌, ◌+◌, ◌/◌, ℕ, max, List, [], ◌∷◌, ◌++◌, length, Option, sym, subst, arith, refl, inl, inr, ◌∙◌, take, drop, ap}
+use Rattle.std.proofs.Common.{◌≡◌, ◌⊎◌, ◌≤◌, ◌<◌, ◌+◌, ◌/◌, ℕ, max, List, [], ◌∷◌, ◌++◌, length, Option, sym, subst, arith, refl, inl, inr, ◌∙◌, take, drop, ap, ℤ}
 use Rattle.std.specs.List.{All, Contains}
 use Rattle.std.specs.declared.io.Error.{Error as IoError}
 use Rattle.std.proofs.lemmas.List.{take-append-drop}
@@ -13,11 +13,11 @@ use Rattle.sled_core.specs.declared.iobuf.ReservationState.TheVariants.{Open, Co
 use Rattle.sled_core.specs.declared.iobuf.Reserved.{Reserved}
 use Rattle.sled_core.specs.declared.iobuf.Sealed.{Sealed}
 use Rattle.sled_core.specs.declared.iobuf.SegmentPosition.{SegmentPosition}
-use Rattle.sled_core.specs.Buffers.{IsChain, batches_in, completed_in, message_in, with_own}
+use Rattle.sled_core.specs.Buffers.{IsChain, Stands, pointer_as, batches_in, completed_in, message_in, with_own}
 use Rattle.sled_core.specs.Fits.{log_parts, HoldsSegment, EndBelow, HasInline}
 use Rattle.sled_core.proofs.Reached.BufferPath.{HasOnly}
 use Rattle.sled_core.proofs.Reserve.Ranges.{all_own, chain_grows, completed_between, completed-append}
-use Rattle.sled_core.proofs.Reserve.Entries.{some_long}
+use Rattle.sled_core.proofs.Reserve.Entries.{completed_plain, reserved_in, some_long}
 
 -- each message of a history from a place on has its item in its record
 abbrev pub InlineFrom : History → ℕ → Type 0
@@ -44,11 +44,12 @@ completed_apart site bytes from end (r ∷ rs) is some =
     [ Open ↦ rest | Completed ↦ (long, over, rest) | Canceled ↦ rest | Manifest ↦ rest | Padding ↦ rest ]
 
 -- and has its items in its records
-completed_inline : (site : SegmentPosition) (bytes : List ℕ) (rs : List Reserved) → All HasInline (completed_in site bytes rs)
-completed_inline site bytes [] = λ k d lt. absurd (omega arith)
-completed_inline site bytes (r ∷ rs) =
-    let rest : All HasInline (completed_in site bytes rs) = completed_inline site bytes rs in
-    all_own HasInline r.state (message_in site bytes r) (completed_in site bytes rs) (λ own. (site.slot + r.from, refl)) rest
+completed_inline : (sum : List ℕ → ℕ) (size number : ℕ) (site : SegmentPosition) (bytes : List ℕ) (rs : List Reserved) → All (Stands sum size number bytes) rs → All HasInline (completed_in site bytes rs)
+completed_inline sum size number site bytes [] stand = λ k d lt. absurd (omega arith)
+completed_inline sum size number site bytes (r ∷ rs) stand =
+    let rest : All HasInline (completed_in site bytes rs) = completed_inline sum size number site bytes rs (All-tail (Stands sum size number bytes) r rs stand) in
+    all_own HasInline r.state (message_in site bytes r) (completed_in site bytes rs)
+    (λ own. let stands = reserved_in sum size number bytes r (completed_plain r.state own) (stand 0 r (omega arith)) in (site.slot + r.from, ap (λ (o : Option ℤ). pointer_as o (site.slot + r.from)) stands.text.plain)) rest
 
 module _ (sum : List ℕ → ℕ) (size : ℕ) (site : SegmentPosition) (device : State) (fault : Option IoError) (bytes : List ℕ) (from : ℕ) (bs : List Sealed) (rs : List Reserved) (H : History) {stays : Message → Type 0} (holds : HoldsSegment sum (log_parts size site device fault bytes from bs rs) stays H) where
   abbrev pub done : List Message
@@ -92,7 +93,7 @@ module _ (sum : List ℕ → ℕ) (size : ℕ) (site : SegmentPosition) (device 
   pub inline_from : InlineFrom H (site.place + from)
   inline_from m there above = elim (which m there) [
     | inl early ↦ (let b = below_in m early in absurd (omega (arith, b.0, above)))
-    | inr late ↦ All-contains HasInline done m (completed_inline site bytes rs) late
+    | inr late ↦ All-contains HasInline done m (completed_inline sum size (site.place / size) site bytes rs holds.stand) late
   ]
 
   -- Of the history they, and the batches of the manifests that have ended, are all that begins in the buffer.

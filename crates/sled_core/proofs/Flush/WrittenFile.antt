@@ -28,12 +28,6 @@ header_written sum new bytes site to H small begun agree m =
       below = λ n is. mark_below m.mark n site.place is m.of_history.below;
     }
 
--- a message that stands at its pointer stands where that says
-at_pointer : (sum : List ℕ → ℕ) (size : ℕ) (log : List ℕ) (site : SegmentPosition) (to : ℕ) (m : Message) (lid : ℕ) → m.pointer ≡ Inline lid → StandsOwn sum size log site to m → StandsHere sum size log site to lid m
-at_pointer sum size log site to m lid is here =
-    let same : here.0 ≡ lid = ap lid_of (sym here.1 ∙ is) in
-    subst (λ n. StandsHere sum size log site to n m) same here.2
-
 -- A write behind what was written keeps all that stood in the log file. What else stands up to a place no lower is there too.
 pub file_more : (sum : List ℕ → ℕ) (size : ℕ) (site : SegmentPosition) (old : List ℕ) (at : ℕ) (xs : List ℕ) (from to : ℕ) (earlier late : List Message) (stays : Message → Type 0) → IsLogFile sum size old site from earlier stays
     → from ≤ at → at + length xs ≤ size → from ≤ to → (0 < to → 20 ≤ to) → (0 < to → HasHeader sum (overwritten old (site.slot + at) xs) site) → All (StandsOwn sum size (overwritten old (site.slot + at) xs) site to) late
@@ -41,7 +35,7 @@ pub file_more : (sum : List ℕ → ℕ) (size : ℕ) (site : SegmentPosition) (
 file_more sum size site old at xs from to earlier late stays file behind inside up begun header there = record {
   own = λ m among above lid is. elim (Contains-append_cases earlier late m among) [
     | inl early ↦ here_below sum size (overwritten old (site.slot + at) xs) site from to lid m up (here_kept sum size old (site.slot + at) xs site from lid m (omega (arith, behind)) (file.own m early above lid is))
-    | inr after ↦ at_pointer sum size (overwritten old (site.slot + at) xs) site to m lid is (All-contains (StandsOwn sum size (overwritten old (site.slot + at) xs) site to) late m there after)
+    | inr after ↦ All-contains (StandsOwn sum size (overwritten old (site.slot + at) xs) site to) late m there after lid is
   ];
   elsewhere = λ m among low lid is. elsewhere_kept sum size old (site.slot + at) xs site lid m (omega arith) (omega (arith, inside)) (file.elsewhere m among low lid is);
   begun = begun;

@@ -3,7 +3,7 @@ use Rattle.sled_core.proofs.Reserve.WrittenOver as over
 use Rattle.sled_core.proofs.Reserve.WrittenOver.{batches_ended}
 use Rattle.sled_core.specs.Recoverable.{NoBatchEnds}
 use Rattle.sled_core.proofs.Reserve.RecordEnds.{no_end_in, records_ended}
-use Rattle.std.proofs.Common.{◌≡◌, ◌≢◌, ◌≤◌, ◌<◌, ◌+◌, ◌/◌, inl, inr, ℕ, suc, max, List, ◌∷◌, ◌++◌, length, take, drop, set, sym, ◌∙◌, ap, arith, refl, subst, false, append_assoc, Option, None, Some, get_or, ◌-◌}
+use Rattle.std.proofs.Common.{◌≡◌, ◌≢◌, ◌≤◌, ◌<◌, ◌+◌, ◌/◌, inl, inr, ℕ, suc, max, List, ◌∷◌, ◌++◌, length, take, drop, set, sym, ◌∙◌, ap, arith, refl, subst, false, append_assoc, Option, None, Some, get_or, ◌-◌, is_some}
 use Rattle.std.specs.List.{All, Contains, slice_get}
 use Rattle.std.specs.declared.io.Error.{Error as IoError}
 use Rattle.std.proofs.lemmas.List.{set_split}
@@ -21,7 +21,7 @@ use Rattle.sled_core.specs.declared.iobuf.ReservationState.TheVariants.{Open, Co
 use Rattle.sled_core.specs.declared.iobuf.Reserved.{Reserved}
 use Rattle.sled_core.specs.declared.iobuf.Sealed.{Sealed}
 use Rattle.sled_core.specs.declared.iobuf.SegmentPosition.{SegmentPosition}
-use Rattle.sled_core.specs.Buffers.{records_end, batches_in, body_in, message_in, IsChain, completed_in, with_own, ending, completing, canceling, ended, open_state, HasText, Stands, StandsReserved}
+use Rattle.sled_core.specs.Buffers.{records_end, batches_in, body_in, message_in, IsChain, completed_in, with_own, ending, completing, canceling, ended, open_state, HasText, Stands, StandsReserved, item_as}
 use Rattle.sled_core.specs.Fits.{log_parts, HoldsSegment, IsOnDevice}
 use Rattle.sled_core.proofs.Reached.BufferPath.{mark_same}
 use Rattle.sled_core.proofs.Reserve.Ranges.{part-written_before, length-written, completed-same, completed-append, completed_between, chain-split, chain-joined, chain_grows, chain_within, there_split, all_split, all_joined, at_there, there-set_other, chain_apart}
@@ -88,7 +88,7 @@ module _ (sum : List ℕ → ℕ) (size : ℕ) (site : SegmentPosition) (device 
     messages_new =
         let front : completed_in site new xs ≡ completed_in site bytes xs = completed-same site bytes new xs front_same in
         let back : completed_in site new ys ≡ completed_in site bytes ys = completed-same site bytes new ys (λ j d lt done. let b = after_it j d lt in body_behind sum number bytes r ends its.text word k (get_or ys j d) b.0) in
-        let own_is : message_in site new (ended state r) ≡ message_in site bytes r = ap (λ (l : List ℕ). record (message_in site bytes r) { bytes = l }) (body_own sum number bytes r ends its.text word k) in
+        let own_is : message_in site new (ended state r) ≡ message_in site bytes r = ap (λ (l : List ℕ). record (message_in site bytes r) { bytes = item_as r.blob l }) (body_own sum number bytes r ends its.text word k) in
         completed-append site new xs (ended state r ∷ ys) ∙ (λ i. front i ++ with_own state (own_is i) (back i))
 
     -- A history is held that has them, and its own message where it was completed.
@@ -136,7 +136,7 @@ module _ (sum : List ℕ → ℕ) (size : ℕ) (site : SegmentPosition) (device 
 
   adds : is_manifest r.log_kind r.page ≡ false → AddsMessage H (message_in site bytes r) history
   adds none = record {
-    changes = changes_page r.log_kind r.page r.kind (kind_of_message r.log_kind r.page (length (body_in bytes r)) r.kind its.text.known none);
+    changes = changes_page r.log_kind r.page (is_some r.blob) r.kind (kind_of_message r.log_kind r.page (is_some r.blob) (length (body_in bytes r)) r.kind its.text.known none);
     before = holds.earlier ++ completed_in site bytes xs;
     after = completed_in site bytes ys;
     old = old_messages ∙ sym (append_assoc holds.earlier (completed_in site bytes xs) (completed_in site bytes ys));
@@ -261,5 +261,5 @@ others_stay sum size site device fault bytes from bs rs i j r x H text state sho
       | inr behind ↦ over.body_behind sum number bytes text r short inside.1 x behind
     ] in (
       there-set_other rs i j r x (ended state r) at_i at_j (λ same. apart (sym (ap (λ (z : Reserved). z.from) same))),
-      ap (λ (l : List ℕ). record (message_in site bytes x) { bytes = l }) body,
+      ap (λ (l : List ℕ). record (message_in site bytes x) { bytes = item_as x.blob l }) body,
     )

@@ -1,5 +1,5 @@
 -- Where the messages of a log lie that fits its history: one behind another, below the next place; those behind the written end in the current segment, with inline pointers.
-use Rattle.std.proofs.Common.{◌^◌, ◌≡◌, ◌∙◌, ◌≤◌, ◌<◌, ◌+◌, ◌-◌, ◌/◌, ◌%◌, ℕ, max, Bool, true, false, if◌then◌else◌, List, [], ◌∷◌, ◌++◌, length, map, Option, refl, sym, ap, subst, arith, pos, inl, inr}
+use Rattle.std.proofs.Common.{◌^◌, ◌≡◌, ◌∙◌, ◌≤◌, ◌<◌, ◌+◌, ◌-◌, ◌/◌, ◌%◌, ℕ, max, Bool, true, false, if◌then◌else◌, List, [], ◌∷◌, ◌++◌, length, map, Option, refl, sym, ap, subst, arith, pos, inl, inr, None, ℤ}
 use Rattle.std.specs.List.{All, Contains}
 use Rattle.std.specs.declared.io.Error.{Error as IoError}
 use Rattle.std.proofs.lemmas.List.{append-nil}
@@ -20,14 +20,14 @@ use Rattle.sled_core.specs.declared.reservation.Reservation.{Reservation}
 use Rattle.sled_core.specs.Tickets.{index_of, len_of, place_of, pointer_of, is_manifest_of}
 use Rattle.sled_core.specs.Manifests.{is_manifest}
 use Rattle.sled_core.specs.Begun.{AreFilled, SegmentView, segment_view, view_at}
-use Rattle.sled_core.specs.Buffers.{IsChain, IsHeaded, Stands, completed_in, message_in}
+use Rattle.sled_core.specs.Buffers.{IsChain, IsHeaded, Stands, completed_in, message_in, pointer_as}
 use Rattle.sled_core.specs.Fits.{Awaits, HoldBehind, HoldsLine, HoldsNext, current_of, line_end, line_of, log_parts, next_place, noted_in, parts_in, reserved_end, stable_end, synced_end, HoldsSegment, Holds, IsKept}
 use Rattle.sled_core.specs.LogFile.{StaysBelow}
 use Rattle.sled_core.specs.Positions.{is_short, next_segment_at, position_in}
 use Rattle.sled_core.specs.Waiting.{last_of}
 use Rattle.sled_core.specs.Running.{Fits}
 use Rattle.sled_core.specs.Reading.{IsInline}
-use Rattle.sled_core.specs.Recoverable.{LiesInSegment}
+use Rattle.sled_core.specs.Recoverable.{LiesInSegment, BlobIsBelow}
 use Rattle.sled_core.proofs.Holds.FitsBatches.{stable_noted}
 use Rattle.sled_core.proofs.Reached.StableBelow.{stable_low, stable_rises}
 use Rattle.sled_core.proofs.Reserve.Ranges.{all_own, at_there, completed_between, chain_grows}
@@ -46,16 +46,16 @@ pub record LiesBehind (size : ℕ) (site : SegmentPosition) (m : Message) : Type
   pub lies : LiesInSegment size m
 
 module _ (size : ℕ) (site : SegmentPosition) (place_begins : site.place % size ≡ 0) (slot_begins : site.slot % size ≡ 0) where
-  lies_behind : (bytes : List ℕ) (r : Reserved) → 20 ≤ r.from → r.from + 32 ≤ size → r.from + r.len ≤ size → LiesBehind size site (message_in site bytes r)
-  lies_behind bytes r behind room whole =
+  lies_behind : (bytes : List ℕ) (r : Reserved) → 20 ≤ r.from → r.from + 32 ≤ size → r.from + r.len ≤ size → r.blob ≡ None → LiesBehind size site (message_in site bytes r)
+  lies_behind bytes r behind room whole plain =
       let offset : (site.slot + r.from) % size ≡ r.from = aligned_offset site.slot r.from size slot_begins (omega (arith, room)) in
       let place : (site.place + r.from) % size ≡ r.from = aligned_offset site.place r.from size place_begins (omega (arith, room)) in
       record {
         lid = site.slot + r.from;
-        pointer = refl;
+        pointer = ap (λ (o : Option ℤ). pointer_as o (site.slot + r.from)) plain;
         begins = record { behind_header = omega (arith, offset, behind); before_end = omega (arith, offset, room) };
         room = omega (arith, room);
-        lies = record { begins = record { behind = omega (arith, place, behind); room = omega (arith, place, room) }; ends = omega (arith, place, whole); blob = tt };
+        lies = record { begins = record { behind = omega (arith, place, behind); room = omega (arith, place, room) }; ends = omega (arith, place, whole); blob = subst (λ (o : Option ℤ). BlobIsBelow (message_in site bytes r) (pointer_as o (site.slot + r.from))) (sym plain) tt };
       }
 
   -- the messages of reservations that were completed
@@ -65,7 +65,7 @@ module _ (size : ℕ) (site : SegmentPosition) (place_begins : site.place % size
       let here : r.from ≡ from = chain.0 in
       let grows : from + r.len ≤ end = chain_grows (from + r.len) end rs chain.1 in
       let rest : All (LiesBehind size site) (completed_in site bytes rs) = completed_lie sum number bytes (from + r.len) end rs (omega (arith, behind)) inside chain.1 (All-tail (Stands sum size number bytes) r rs stand) in
-      all_own (LiesBehind size site) r.state (message_in site bytes r) (completed_in site bytes rs) (λ own. lies_behind bytes r (omega (arith, here, behind)) (reserved_in sum size number bytes r (completed_plain r.state own) (stand 0 r (omega arith))).room (omega (arith, here, grows, inside))) rest
+      all_own (LiesBehind size site) r.state (message_in site bytes r) (completed_in site bytes rs) (λ own. let stands = reserved_in sum size number bytes r (completed_plain r.state own) (stand 0 r (omega arith)) in lies_behind bytes r (omega (arith, here, behind)) stands.room (omega (arith, here, grows, inside)) stands.text.plain) rest
 
 module _ (sum : List ℕ → ℕ) (size : ℕ) (site : SegmentPosition) (device : State) (fault : Option IoError) (bytes : List ℕ) (from : ℕ) (bs : List Sealed) (rs : List Reserved) (H : History) {stays : Message → Type 0} (holds : HoldsSegment sum (log_parts size site device fault bytes from bs rs) stays H) where
   abbrev done : List Message
@@ -193,7 +193,7 @@ awaited log ticket m awaits = (
 
 -- and that pointer is inline
 pub awaited_inline : {D C : Type 0} (log : Log D C) (ticket : Reservation) (m : Message) → Awaits log ticket m → IsInline m.pointer
-awaited_inline log ticket m awaits = subst (λ (x : Message). IsInline x.pointer) (sym awaits.message) tt
+awaited_inline log ticket m awaits = subst (λ (x : Message). IsInline x.pointer) (sym awaits.message) (subst (λ (o : Option ℤ). IsInline (pointer_as o (awaits.segment.parts.site.slot + awaits.reserved.from))) (sym awaits.own.plain) tt)
 
 -- and that place is one of those that code counts
 pub awaited_small : {D C : Type 0} (log : Log D C) (ticket : Reservation) (m : Message) → Awaits log ticket m → m.place < 2 ^ 63

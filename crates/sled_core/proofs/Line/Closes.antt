@@ -8,7 +8,7 @@ use Rattle.sled_codec.specs.declared.result.DiskPtr.TheVariants.{Inline}
 use Rattle.sled_codec.specs.History.{History, Message}
 use Rattle.sled_store.specs.Device.{State}
 use Rattle.sled_core.specs.Begun.{IsUnfilled, SegmentParts, SegmentView, begin_of, records_to}
-use Rattle.sled_core.specs.Buffers.{message_in, none_open, open_state, padding_at, records_end}
+use Rattle.sled_core.specs.Buffers.{message_in, none_open, open_state, padding_at, records_end, pointer_as, item_as}
 use Rattle.sled_core.specs.Caps.{segment_rest}
 use Rattle.sled_core.specs.declared.iobuf.Reserved.{Reserved}
 use Rattle.sled_core.specs.declared.iobuf.Sealed.{Sealed}
@@ -120,7 +120,7 @@ module _ (sum : List ℕ → ℕ) (size : ℕ) where
   pub filled_message : (v : SegmentView) (r : Reserved) → r.from + r.len ≤ length v.parts.bytes → r.header_len ≤ r.len
       → message_in v.parts.site v.parts.bytes r ≡ message_in (filled_now sum size v).parts.site (filled_now sum size v).parts.bytes r
   filled_message v r within headed = by_filled (λ x. message_in v.parts.site v.parts.bytes r ≡ message_in x.parts.site x.parts.bytes r) v
-      (λ _. ap (λ (body : List ℕ). record { kind = r.log_kind; page = r.page; place = v.parts.site.place + r.from; pointer = Inline (v.parts.site.slot + r.from); size = r.len; bytes = body }) (sym (body-append v.parts.bytes (more_of v) r within headed)))
+      (λ _. ap (λ (body : List ℕ). record { kind = r.log_kind; page = r.page; place = v.parts.site.place + r.from; pointer = pointer_as r.blob (v.parts.site.slot + r.from); size = r.len; bytes = item_as r.blob body }) (sym (body-append v.parts.bytes (more_of v) r within headed)))
       (λ _. refl)
 
   -- None is open that wasn't.

@@ -1,5 +1,5 @@
 -- A reservation is made in the segment that is being filled: where it is put, and what the log holds and fits then.
-use Rattle.std.proofs.Common.{◌≡◌, ◌∙◌, ◌<◌, ◌≤◌, ◌+◌, ◌-◌, ◌/◌, ◌^◌, nat_lt, ap, sym, refl, arith, subst, ℕ, Bool, true, false, if◌then◌else◌, List, [], ◌∷◌, ◌++◌, length, length-append, map, drop, Some}
+use Rattle.std.proofs.Common.{◌≡◌, ◌∙◌, ◌<◌, ◌≤◌, ◌+◌, ◌-◌, ◌/◌, ◌^◌, nat_lt, ap, sym, refl, arith, subst, ℕ, Bool, true, false, if◌then◌else◌, List, [], ◌∷◌, ◌++◌, length, length-append, map, drop, Some, is_some, None}
 use Rattle.std.proofs.lemmas.Bool.Decides.{nat_tests}
 use Rattle.sled_core.specs.Manifests.{kind_for}
 use Rattle.sled_codec.specs.Spelling.{short_header_tail}
@@ -92,7 +92,7 @@ record_long kind head_len item_len number page n head is =
     omega (arith, head ∙ ap (λ k. 4 + length (short_header_tail kind k number page)) is, is, tail)
 
 -- What is laid out for it has a place in the segment.
-module _ {D C : Type 0} (sum : List ℕ → ℕ) (log : Log D C) (head item : List ℕ) (kept : Purpose) (known : kind_for kept.log_kind kept.page (length item) ≡ Some kept.kind) (small : kept.page < 2 ^ 64)
+module _ {D C : Type 0} (sum : List ℕ → ℕ) (log : Log D C) (head item : List ℕ) (kept : Purpose) (known : kind_for kept.log_kind kept.page (is_some kept.blob) (length item) ≡ Some kept.kind) (plain : kept.blob ≡ None) (small : kept.page < 2 ^ 64)
     (tail : drop 4 head ≡ short_header_tail kept.kind (length item) ((current_of log).parts.site.place / segment_size_of log) kept.page) (fits : HasPlace log (length head + length item)) where
   abbrev number : ℕ
   number = (current_of log).parts.site.place / segment_size_of log
@@ -108,7 +108,7 @@ module _ {D C : Type 0} (sum : List ℕ → ℕ) (log : Log D C) (head item : Li
       let f = current_facts log in
       let up = ends_up (current_of log).parts.written_len (current_of log).parts.reserved (current_of log).parts.sealed f.are in
       let begins = f.begins in
-      let long = more_long sum number bytes head item kept known small tail whole in
+      let long = more_long sum number bytes head item kept known plain small tail whole in
       let inside = fits.record_fits in
       record {
         begun = f.begun;
@@ -122,7 +122,7 @@ module _ {D C : Type 0} (sum : List ℕ → ℕ) (log : Log D C) (head item : Li
         some = omega (arith, long, whole);
         open_yet = refl;
         room = fits.header;
-        text = stands sum number bytes head item kept known small tail whole;
+        text = stands sum number bytes head item kept known plain small tail whole;
         inside = omega (arith, inside, long, length-append bytes (placeholder_head head ++ item));
       }
 

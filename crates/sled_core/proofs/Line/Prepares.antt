@@ -1,5 +1,5 @@
 -- A log is made ready for a record: that has a place in its current segment, or a further one is begun; and what a reservation makes of it then.
-use Rattle.std.proofs.Common.{◌∷◌, [], ◌≡◌, ◌∙◌, ◌<◌, ◌≤◌, ◌+◌, ◌-◌, ◌*◌, ◌/◌, ◌^◌, ◌-ℤ◌, ap, sym, refl, arith, subst, ℕ, pos, Bool, true, false, if◌then◌else◌, List, ◌++◌, length, map, drop, Some}
+use Rattle.std.proofs.Common.{◌∷◌, [], ◌≡◌, ◌∙◌, ◌<◌, ◌≤◌, ◌+◌, ◌-◌, ◌*◌, ◌/◌, ◌^◌, ◌-ℤ◌, ap, sym, refl, arith, subst, ℕ, pos, Bool, true, false, if◌then◌else◌, List, ◌++◌, length, map, drop, Some, is_some, None, Option, ℤ}
 use Rattle.std.proofs.lemmas.Bool.Decides.{nat_tests}
 use Rattle.sled_codec.proofs.Segments.{length-short_header}
 use Rattle.sled_core.specs.Manifests.{is_manifest, kind_for}
@@ -12,7 +12,7 @@ use Rattle.sled_store.specs.Device.{Trace}
 use Rattle.sled_store.specs.SegmentStates.{handed_out, next_slot}
 use Rattle.sled_store.specs.declared.config.RunningConfig.{RunningConfig}
 use Rattle.sled_core.specs.Begun.{SegmentView, segment_view, view_at}
-use Rattle.sled_core.specs.Buffers.{message_in, most_open, placeholder_head, record_size, reserved_for}
+use Rattle.sled_core.specs.Buffers.{message_in, most_open, placeholder_head, record_size, reserved_for, pointer_as, item_as}
 use Rattle.sled_core.specs.declared.iobuf.Purpose.{Purpose}
 use Rattle.sled_core.specs.declared.iobuf.Reserved.{Reserved}
 use Rattle.sled_core.specs.declared.logger.Log.{Log}
@@ -170,7 +170,7 @@ module _ {D C : Type 0} (trace : D → Trace) (sum : List ℕ → ℕ) (old : Lo
 
 -- The reservation is made.
 module _ {D C : Type 0} (trace : D → Trace) (sum : List ℕ → ℕ) (old mid new : Log D C) (kept : Purpose) (head item : List ℕ) (ready : IsPrepared trace sum old mid kept head item)
-    (known : kind_for kept.log_kind kept.page (length item) ≡ Some kept.kind) (small : kept.page < 2 ^ 64)
+    (known : kind_for kept.log_kind kept.page (is_some kept.blob) (length item) ≡ Some kept.kind) (plain : kept.blob ≡ None) (small : kept.page < 2 ^ 64)
     (line : line_of new ≡ at_last (reserved_now (placeholder_head head ++ item) (reserved_for kept (length (current_of mid).parts.bytes) (length head) (length item) (sum (item ++ drop 4 head)))) (line_of mid))
     (rest : ChangesSlots mid new) (accountant : new.accountant ≡ mid.accountant) where
   abbrev w : SegmentView
@@ -186,7 +186,7 @@ module _ {D C : Type 0} (trace : D → Trace) (sum : List ℕ → ℕ) (old mid 
   len = length item
 
   fits : HasPlaceFor sum (segment_size_of mid) more r w
-  fits = placeholder_fits sum mid head item kept known small ready.tail ready.fits
+  fits = placeholder_fits sum mid head item kept known plain small ready.tail ready.fits
 
   whole : length head ≡ 4 + length (short_header_tail kept.kind len (number_of mid) kept.page)
   whole = head_whole head kept.kind len (number_of mid) kept.page ready.tail
@@ -202,7 +202,7 @@ module _ {D C : Type 0} (trace : D → Trace) (sum : List ℕ → ℕ) (old mid 
   size_is = λ i. record_size ((ready.target i).begins / size_same i) kept.page len
 
   long : length more ≡ here_size
-  long = more_long sum (number_of mid) w.parts.bytes head item kept known small ready.tail whole ∙ head_size head item kept (number_of mid) ready.tail
+  long = more_long sum (number_of mid) w.parts.bytes head item kept known plain small ready.tail whole ∙ head_size head item kept (number_of mid) ready.tail
 
   pub made_keeps : Preserves trace sum old new
   made_keeps = kept_further trace sum old mid new ready.keeps (reserves_keeps trace sum mid new more r line rest accountant fits)
@@ -245,9 +245,16 @@ module _ {D C : Type 0} (trace : D → Trace) (sum : List ℕ → ℕ) (old mid 
         (λ i. record { kind = kept.log_kind; page = kept.page; place = (ready.target i).place; pointer = Inline ((ready.target i).slot + ((ready.target i).place - (ready.target i).begins)); size = size_is i; bytes = item })
         ∙ ap (λ k. record { kind = kept.log_kind; page = kept.page; place = w.parts.site.place + length w.parts.bytes; pointer = Inline (w.parts.site.slot + k); size = here_size; bytes = item }) back
 
+    -- for a message with its item in its record
+    its_message : record { kind = kept.log_kind; page = kept.page; place = w.parts.site.place + length w.parts.bytes; pointer = Inline (w.parts.site.slot + length w.parts.bytes); size = here_size; bytes = item }
+        ≡ message_in w.parts.site (w.parts.bytes ++ more) r
+    its_message =
+        ap (λ (o : Option ℤ). record { kind = kept.log_kind; page = kept.page; place = w.parts.site.place + length w.parts.bytes; pointer = pointer_as o (w.parts.site.slot + length w.parts.bytes); size = here_size; bytes = item_as o item }) (sym plain)
+        ∙ message_is sum (number_of mid) w.parts.bytes head item kept known plain small ready.tail whole w.parts.site
+
     pub made_ticket : Awaits new ticket (message_for old kept.log_kind kept.page item)
     made_ticket =
-        let is = message_here ∙ message_is sum (number_of mid) w.parts.bytes head item kept known small ready.tail whole w.parts.site in
+        let is = message_here ∙ its_message in
         subst (λ (m : Message). Awaits new ticket m) (sym is)
         (subst (λ (l : List SegmentView). AwaitsIn l ticket (message_in w.parts.site (w.parts.bytes ++ more) r)) (sym line)
-        (ticket_reserved sum (segment_size_of mid) more r (view_at mid.site mid.buffer) (map segment_view mid.behind.items) ticket own.index (record { open_yet = refl; place = own.place; pointer = own.pointer; long = own.long; manifest = manifest })))
+        (ticket_reserved sum (segment_size_of mid) more r (view_at mid.site mid.buffer) (map segment_view mid.behind.items) ticket own.index (record { open_yet = refl; place = own.place; pointer = own.pointer ∙ ap (λ (o : Option ℤ). pointer_as o (w.parts.site.slot + length w.parts.bytes)) (sym plain); plain = plain; long = own.long; manifest = manifest })))

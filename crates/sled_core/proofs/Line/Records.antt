@@ -117,7 +117,7 @@ module _ (sum : List ℕ → ℕ) (size : ℕ) (site : SegmentPosition) (log byt
             let agrees : Agrees log site.slot bytes from b.end = subst (λ (o : Bool). LaidOne log site.slot bytes from o b.end) written laid.0 in
             let s = All-contains (StandsOwn sum size log site b.end) (completed_in site bytes own) m
             (own_in sum size site log bytes from b.end agrees (omega (arith, high.0, high.1, short)) place_begins slot_begins slot_small number_small (max 20 from) own (omega arith) are.0.chain stand_own) first in
-            (s.0, s.1, record { at = s.2.at; place = s.2.place; offset = s.2.offset; begins = s.2.begins; stands = s.2.stands; inside = (let w = s.2.inside in omega (arith, w, high.0, high.1)) }))
+            λ lid pointer. let at = s lid pointer in record { at = at.at; place = at.place; offset = at.offset; begins = at.begins; stands = at.stands; inside = (let w = at.inside in omega (arith, w, high.0, high.1)) })
         | inr later ↦ (
             let lies = All-contains (Between b.end end) (completed_in site bytes more) m (completed_between site bytes b.end end more behind (some_long sum size number bytes more stand_more)) later in
             let far : nat_lt (m.place - site.place) b.end ≡ false = (let le : b.end ≤ m.place - site.place = omega (arith, lies.0) in grind (arith, nat_tests, le)) in
@@ -144,9 +144,8 @@ module _ (sum : List ℕ → ℕ) (size : ℕ) (site : SegmentPosition) (device 
         let upper : m.place < site.place + sealed_end from bs = inside (omega (arith, lies.1, short)) in
         let off : m.place ≡ site.place + (m.place - site.place) = omega (arith, above) in
         let around = around_written site bytes (m.place - site.place) from bs rs (omega (arith, lies.0)) (omega (arith, above, upper)) (ap (λ p. found p (unwritten_in site bytes from bs rs)) (sym off) ∙ none) in
-        let s = written_one sum size site device.log.bytes bytes holds.place_begins holds.slot_begins place_small slot_small from rs bs (length bytes) size are holds.chain holds.stand (ends_rise from rs bs (length bytes) are low high) short (holds.laid refl) m late around in
-        let same : s.0 ≡ lid = ap lid_of (let both : Inline s.0 ≡ Inline lid = sym s.1 ∙ pointer in both) in
-        subst (λ n. IsHeldAt sum size device.log.bytes n m) same (record { begins = s.2.begins; stands = s.2.stands }))
+        let s = written_one sum size site device.log.bytes bytes holds.place_begins holds.slot_begins place_small slot_small from rs bs (length bytes) size are holds.chain holds.stand (ends_rise from rs bs (length bytes) are low high) short (holds.laid refl) m late around lid pointer in
+        record { begins = s.begins; stands = s.stands })
   ]
 
   -- written or not, its record has a place where one may begin

@@ -1,5 +1,5 @@
 -- A place is reserved in the segment that is being filled: its placeholder stands behind what is there, and the log holds and fits what it did.
-use Rattle.std.proofs.Common.{◌≡◌, ◌∙◌, ◌<◌, ◌≤◌, ◌+◌, ◌-◌, ◌/◌, ap, sym, refl, arith, subst, inl, inr, ℕ, List, [], ◌∷◌, ◌++◌, length, length-append, length-take, map, take, drop, Option, Some, if◌then◌else◌}
+use Rattle.std.proofs.Common.{◌≡◌, ◌∙◌, ◌<◌, ◌≤◌, ◌+◌, ◌-◌, ◌/◌, ap, sym, refl, arith, subst, inl, inr, ℕ, List, [], ◌∷◌, ◌++◌, length, length-append, length-take, map, take, drop, Option, Some, if◌then◌else◌, None}
 use Rattle.std.specs.List.{All, slice_get}
 use Rattle.std.specs.declared.io.Error.{Error as IoError}
 use Rattle.std.proofs.lemmas.List.{drop-append-le, map-append, take-append-le}
@@ -7,7 +7,7 @@ use Rattle.sled_codec.specs.History.{History, Message}
 use Rattle.sled_store.specs.Device.{State}
 use Rattle.sled_store.specs.SegmentStates.{Machine}
 use Rattle.sled_core.specs.Begun.{AreEntered, AreFilled, SegmentParts, SegmentView, begin_of}
-use Rattle.sled_core.specs.Buffers.{HasText, IsHeaded, message_in}
+use Rattle.sled_core.specs.Buffers.{HasText, IsHeaded, message_in, item_as}
 use Rattle.sled_core.specs.declared.iobuf.Reserved.{Reserved}
 use Rattle.sled_core.specs.declared.iobuf.ReservationState.TheVariants.{Open}
 use Rattle.sled_core.specs.declared.iobuf.Sealed.{Sealed}
@@ -111,7 +111,7 @@ module _ (sum : List ℕ → ℕ) (size : ℕ) (more : List ℕ) (r : Reserved) 
           numbered = awaits.numbered;
           there = there_append s.parts.reserved (r ∷ []) i awaits.reserved awaits.there;
           own = awaits.own;
-          message = awaits.message ∙ ap (λ (l : List ℕ). record (message_in s.parts.site s.parts.bytes awaits.reserved) { bytes = l }) (sym (body-append s.parts.bytes more awaits.reserved within headed.1));
+          message = awaits.message ∙ ap (λ (l : List ℕ). record (message_in s.parts.site s.parts.bytes awaits.reserved) { bytes = item_as awaits.reserved.blob l }) (sym (body-append s.parts.bytes more awaits.reserved within headed.1));
         })
   ]
 

@@ -1,6 +1,6 @@
 -- A buffer in which all reservations have ended is a path of records of the history, some of them passed over, and nothing comes behind it; where it begins a segment, the header is there, with a mark that no batch crosses.
 use Rattle.sled_core.proofs.Reserve.Batches.{batch_cases, batch_rest, batches_between}
-use Rattle.std.proofs.Common.{◌≡◌, ◌≢◌, ◌⊎◌, ◌≤◌, ◌<◌, ◌≤ℤ◌, ◌<ℤ◌, ◌+◌, ◌/◌, ◌%◌, ◌^◌, ◌∙◌, ◌-ℤ◌, ℕ, ℤ, zero, suc, pos, negsuc, max, Bool, true, false, nat_lt, if◌then◌else◌, List, [], ◌∷◌, take, get_or, sym, ap, arith, lt→ltb, le→leb, refl, subst, inl, inr}
+use Rattle.std.proofs.Common.{◌≡◌, ◌≢◌, ◌⊎◌, ◌≤◌, ◌<◌, ◌≤ℤ◌, ◌<ℤ◌, ◌+◌, ◌/◌, ◌%◌, ◌^◌, ◌∙◌, ◌-ℤ◌, ℕ, ℤ, zero, suc, pos, negsuc, max, Bool, true, false, nat_lt, if◌then◌else◌, List, [], ◌∷◌, take, get_or, sym, ap, arith, lt→ltb, le→leb, refl, subst, inl, inr, Option}
 use Rattle.std.proofs.Math.IntN.{ -ℤ_one}
 use Rattle.std.specs.List.{All, Contains}
 use Rattle.std.proofs.Math.Nat.{div-le_self}
@@ -19,17 +19,19 @@ use Rattle.sled_core.specs.declared.iterator.Segment.{Segment}
 use Rattle.sled_core.specs.declared.iterator.scan.ScannedRecord.{ScannedRecord}
 use Rattle.sled_core.specs.declared.iterator.scan.ScanEnd.{ScanEnd}
 use Rattle.sled_core.specs.declared.iterator.scan.ScanEnd.TheVariants.{Full, Capped, Broken}
-use Rattle.sled_core.specs.Buffers.{IsChain, batch_in, batches_in, completed_in, message_in, none_open, with_batch, with_own, NoPadding, Stands}
+use Rattle.sled_core.specs.Buffers.{IsChain, batch_in, batches_in, completed_in, message_in, none_open, with_batch, with_own, NoPadding, Stands, item_as, body_in}
 use Rattle.sled_core.specs.Reached.{BeginsNext}
 use Rattle.sled_core.specs.Fits.{HasMark}
 use Rattle.sled_core.specs.Recoverable.{NoBatchBegins, IsOfHistory, IsMarkOf, IsMarkBelow}
 use Rattle.sled_core.specs.Scan.{IsPath, IsEnd, EndsThere}
 use Rattle.sled_core.proofs.Holds.OpenTickets.{by_first}
 use Rattle.sled_core.proofs.Read.PathLemmas.{zeros_empty}
-use Rattle.sled_core.proofs.Reserve.Entries.{completed_plain, reserved_in, some_in, some_long}
+use Rattle.sled_core.proofs.Reserve.Entries.{completed_plain, reserved_in, some_in, some_long, manifest_plain}
 use Rattle.sled_core.proofs.Reserve.Ranges.{chain_grows, completed_between, own_cases, own_rest}
 use Rattle.sled_core.specs.SealedBuffers.{Agrees}
-use Rattle.sled_core.proofs.Reached.BufferStands.{met_as, met_in, one_inline, path_in}
+use Rattle.sled_core.proofs.Reached.BufferStands.{met_as, met_in, one_inline, one_meets, path_in}
+use Rattle.sled_core.specs.declared.iterator.scan.RecordContent.TheVariants.{BatchStart}
+use Rattle.sled_codec.specs.Spelling.{low_first}
 
 -- Of a history, these messages and batches begin from one place up to another, and no others.
 pub record HasOnly (H : History) (ms : List Message) (bs : List Batch) (from to : ℕ) : Type 0 where
@@ -137,7 +139,7 @@ module _ (sum : List ℕ → ℕ) (size : ℕ) (site : SegmentPosition) (log byt
         ];
       }
 
-      pub one_truth : (s : ReservationState) → r.state ≡ s → (s ≡ Open → ⊥) → s ≢ Padding → IsOfHistory sum size log H (met_as s own)
+      pub one_truth : (s : ReservationState) → r.state ≡ s → (s ≡ Open → ⊥) → s ≢ Padding → IsOfHistory sum size log H (met_as s r.kind own)
       one_truth Open is not_open plain = absurd (not_open refl)
       one_truth Completed is not_open plain =
           let stands = reserved_in sum size (site.place / size) bytes r (completed_plain r.state is) (stand 0 r (omega arith)) in
@@ -145,7 +147,7 @@ module _ (sum : List ℕ → ℕ) (size : ℕ) (site : SegmentPosition) (log byt
           inl (
             own,
             has.there own there,
-            record { place = refl; len = refl; what = inl refl },
+            one_meets sum size site log bytes from to agrees short place_begins slot_begins slot_small number_small r stands.text (omega (arith, here, behind)) (omega (arith, here, grows)) is,
             one_inline sum size site log bytes from to agrees short place_begins slot_begins slot_small number_small r stands.text (omega (arith, here, behind)) (omega (arith, here, grows)) is stands.room,
             (λ n at_n. elim (which n at_n) [ inl same ↦ inl (omega (arith, ap (λ (x : Message). x.place) same.1)) | inr (inl before) ↦ inl (omega (arith, before)) | inr (inr after) ↦ inr after ]),
             no_batch_here (λ also. let both : Completed ≡ Manifest = sym is ∙ also in cc),
@@ -158,11 +160,13 @@ module _ (sum : List ℕ → ℕ) (size : ℕ) (site : SegmentPosition) (log byt
       ))
       one_truth Manifest is not_open plain =
           let there : Contains (batches_in site bytes (r ∷ rs)) (batch_in site bytes r) = subst (λ (s : ReservationState). Contains (with_batch s (batch_in site bytes r) (batches_in site bytes rs)) (batch_in site bytes r)) (sym is) (in_first (batch_in site bytes r) (batches_in site bytes rs)) in
+          let stands = reserved_in sum size (site.place / size) bytes r (manifest_plain r.state is) (stand 0 r (omega arith)) in
+          let whole : item_as r.blob (body_in bytes r) ≡ body_in bytes r = ap (λ (o : Option ℤ). item_as o (body_in bytes r)) stands.text.plain in
           inr (inl (
             batch_in site bytes r,
             has.noted (batch_in site bytes r) there,
             refl,
-            refl,
+            ap (λ (l : List ℕ). BatchStart (pos (low_first l))) whole,
             (λ n at_n. elim (which n at_n) [ inl same ↦ absurd (let both : Manifest ≡ Completed = sym is ∙ same.0 in cc) | inr (inl before) ↦ inl before | inr (inr after) ↦ inr after ]),
             (λ b at_b. elim (which_batch b at_b) [ inl same ↦ inl (omega (arith, ap (λ (x : Batch). x.low) same.1)) | inr (inl before) ↦ inl (omega (arith, before)) | inr (inr after) ↦ inr after ]),
           ))
@@ -172,7 +176,7 @@ module _ (sum : List ℕ → ℕ) (size : ℕ) (site : SegmentPosition) (log byt
     truth_from at [] behind chain stand plain closed has = λ k d lt. absurd (omega arith)
     truth_from at (r ∷ rs) behind chain stand plain closed has =
         let ended = by_first r.state rs closed in
-        All-cons (IsOfHistory sum size log H) (met_as r.state (message_in site bytes r)) (met_in site bytes rs)
+        All-cons (IsOfHistory sum size log H) (met_as r.state r.kind (message_in site bytes r)) (met_in site bytes rs)
         (one_truth at r rs behind chain stand has r.state refl ended.0 (plain 0 r (omega arith)))
         (truth_from (at + r.len) rs (omega (arith, behind)) chain.1 (All-tail (Stands sum size (site.place / size) bytes) r rs stand) (All-tail NoPadding r rs plain) ended.1
         (rest_only at r rs behind chain stand has))

@@ -1,15 +1,19 @@
 -- Reservations that have ended stand in a file one behind another where their bytes are there, whatever else the file has.
 use Rattle.std.proofs.lemmas.Int.{ints}
 use Rattle.sled_codec.specs.Spelling.{low_first}
-use Rattle.std.proofs.Common.{pos, ◌≡◌, ◌≢◌, ◌≤◌, ◌<◌, ◌+◌, ◌-◌, ◌/◌, ◌%◌, ◌^◌, ◌∙◌, ℕ, max, true, List, [], ◌∷◌, ◌++◌, length, drop, get_or, sym, ap, arith, refl, subst, length-take, length-drop}
+use Rattle.std.proofs.Common.{◌⊎◌, inl, inr, is_some, ℤ, Option, None, Some, pos, ◌≡◌, ◌≢◌, ◌≤◌, ◌<◌, ◌+◌, ◌-◌, ◌/◌, ◌%◌, ◌^◌, ◌∙◌, ℕ, max, true, List, [], ◌∷◌, ◌++◌, length, drop, get_or, sym, ap, arith, refl, subst, length-take, length-drop}
 use Rattle.std.specs.List.{All}
 use Rattle.std.proofs.lemmas.Grind.{same_number_lists}
 use Rattle.std.proofs.lemmas.List.{get_or-take, get_or-drop}
 use Rattle.std.proofs.lemmas.List.Elements.{All-tail}
+use Rattle.sled_codec.specs.declared.result.DiskPtr.{DiskPtr}
 use Rattle.sled_codec.specs.declared.result.DiskPtr.TheVariants as ptr
+use Rattle.sled_codec.specs.declared.serialization.message.LogKind.{LogKind}
 use Rattle.sled_codec.specs.declared.serialization.message.MessageHeader.{MessageHeader}
 use Rattle.sled_codec.specs.declared.serialization.message.MessageKind.{MessageKind}
 use Rattle.sled_codec.specs.declared.serialization.message.MessageKind.TheVariants as kind
+use Rattle.sled_codec.specs.Kinds.{kind_written}
+use Rattle.sled_codec.specs.Pointers.{lid_of}
 use Rattle.sled_codec.specs.Sums.{flipped}
 use Rattle.sled_codec.specs.Places.{part}
 use Rattle.sled_codec.specs.Record.{short_record, IsRecord}
@@ -23,34 +27,42 @@ use Rattle.sled_core.specs.declared.iobuf.ReservationState.TheVariants.{Open, Co
 use Rattle.sled_core.specs.declared.iobuf.Reserved.{Reserved}
 use Rattle.sled_core.specs.declared.iobuf.SegmentPosition.{SegmentPosition}
 use Rattle.sled_core.specs.declared.iterator.scan.ScannedRecord.{ScannedRecord}
-use Rattle.sled_core.specs.declared.iterator.scan.RecordContent.TheVariants.{BatchStart, Skipped}
-use Rattle.sled_core.specs.Buffers.{body_in, message_in, text_as, IsChain, completed_in, none_open, HasText, NoPadding, Stands}
+use Rattle.sled_core.specs.declared.iterator.scan.RecordContent.{RecordContent}
+use Rattle.sled_core.specs.declared.iterator.scan.RecordContent.TheVariants.{BatchStart, Gives, NamesBlob, Skipped}
+use Rattle.sled_core.specs.Buffers.{SpellsBlob, body_in, item_as, pointer_as, message_in, text_as, IsChain, completed_in, none_open, HasText, NoPadding, Stands}
 use Rattle.sled_core.specs.SealedBuffers.{Agrees}
 use Rattle.sled_core.specs.LogFile.{MessageStands, StandsHere}
 use Rattle.sled_core.specs.Reading.{StandsAt}
+use Rattle.sled_core.specs.Recoverable.{MeetsMessage, NamesBlobOf, StandsInline}
 use Rattle.sled_core.specs.Scan.{IsMet, IsPath}
 use Rattle.sled_core.proofs.Reserve.CompletesLemmas.{kind_of_message}
-use Rattle.sled_core.proofs.Reserve.MarksLemmas.{kind_of_manifest}
+use Rattle.sled_core.proofs.Reserve.MarksLemmas.{blobless, kind_of_manifest}
 use Rattle.sled_core.proofs.Holds.OpenTickets.{by_first}
-use Rattle.sled_core.proofs.Read.PathLemmas.{met_of, is_met}
+use Rattle.sled_core.proofs.Read.GivesLemmas.{kind_blob}
+use Rattle.sled_core.proofs.Read.PathLemmas.{is_met}
 use Rattle.sled_core.proofs.Read.ScanLemmas.{aligned_number, aligned_offset}
 use Rattle.sled_core.proofs.Reserve.Entries.{completed_plain, reserved_in}
 use Rattle.sled_core.proofs.Reserve.Ranges.{all_own, chain_grows}
 
+-- what a record of this kind says of its message
+abbrev pub content_of : MessageKind → LogKind → ℕ → DiskPtr → RecordContent
+content_of k does page (ptr.Inline lid) = Gives does page (ptr.Inline lid)
+content_of k does page (ptr.Blob lid place) = NamesBlob k page lid place
+
 -- what a reader meets of a reservation that has ended (a padding isn't met: the reading ends there)
-abbrev pub met_as : ReservationState → Message → ScannedRecord
-met_as Canceled m = record { place = m.place; len = m.size; what = Skipped }
-met_as Manifest m = record { place = m.place; len = m.size; what = BatchStart (pos (low_first m.bytes)) }
-met_as _ m = met_of m
+abbrev pub met_as : ReservationState → MessageKind → Message → ScannedRecord
+met_as Canceled k m = record { place = m.place; len = m.size; what = Skipped }
+met_as Manifest k m = record { place = m.place; len = m.size; what = BatchStart (pos (low_first m.bytes)) }
+met_as _ k m = record { place = m.place; len = m.size; what = content_of k m.kind m.page m.pointer }
 
 -- and of some, by place
 abbrev pub met_in : SegmentPosition → List ℕ → List Reserved → List ScannedRecord
 met_in site bytes [] = []
-met_in site bytes (r ∷ rs) = met_as r.state (message_in site bytes r) ∷ met_in site bytes rs
+met_in site bytes (r ∷ rs) = met_as r.state r.kind (message_in site bytes r) ∷ met_in site bytes rs
 
--- the message of a record that stands in the current segment below an offset, where its pointer says
+-- the record of a message stands in the current segment below an offset, where its pointer says, if its item is there
 abbrev pub StandsOwn : (List ℕ → ℕ) → ℕ → List ℕ → SegmentPosition → ℕ → Message → Type 0
-StandsOwn sum size log site to m = (lid : ℕ) × (m.pointer ≡ ptr.Inline lid) × StandsHere sum size log site to lid m
+StandsOwn sum size log site to m = (lid : ℕ) → m.pointer ≡ ptr.Inline lid → StandsHere sum size log site to lid m
 
 -- Where from one offset of a segment up to another the file has the bytes of its buffer, the parts of both are the same.
 pub same_part : (log : List ℕ) (slot : ℕ) (bytes : List ℕ) (from to : ℕ) → Agrees log slot bytes from to → (k n : ℕ) → from ≤ k → k + n ≤ to → part log (slot + k) n ≡ part bytes k n
@@ -112,52 +124,94 @@ module _ (sum : List ℕ → ℕ) (size : ℕ) (site : SegmentPosition) (log byt
         }
 
     -- completed, it is that of its message
-    pub one_stands : r.state ≡ Completed → MessageStands sum size log (site.slot + r.from) number (message_in site bytes r)
-    one_stands is =
-        let there : part log (site.slot + r.from) r.len ≡ short_record sum r.kind r.page number body = text_there ∙ ap (text_as sum r.kind r.page number body) is in
-        record {
+    record_there : r.state ≡ Completed → part log (site.slot + r.from) r.len ≡ short_record sum r.kind r.page number body
+    record_there is = text_there ∙ ap (text_as sum r.kind r.page number body) is
+
+    its_kind : r.state ≡ Completed → kind_written r.log_kind r.page (is_some r.blob) ≡ Some r.kind
+    its_kind is = kind_of_message r.log_kind r.page (is_some r.blob) (length body) r.kind stands.known (stands.whole is)
+
+    -- where it has its item
+    pub one_stands : r.state ≡ Completed → r.blob ≡ None → MessageStands sum size log (site.slot + r.from) number (message_in site bytes r)
+    one_stands is plain =
+        let in_body : MessageStands sum size log (site.slot + r.from) number (record (message_in site bytes r) { bytes = body }) = record {
           header = header_as (as_record r.kind stands.valid).header r.kind;
-          stands = record_stands r.kind stands.valid there;
-          known = kind_of_message r.log_kind r.page (length body) r.kind stands.known (stands.whole is);
-          short = there;
+          stands = record_stands r.kind stands.valid (record_there is);
+          known = ap (λ (o : Option ℤ). kind_written r.log_kind r.page (is_some o)) (sym plain) ∙ its_kind is;
+          short = record_there is;
           page = refl;
-        }
+        } in
+        subst (λ (l : List ℕ). MessageStands sum size log (site.slot + r.from) number (record (message_in site bytes r) { bytes = l })) (sym (ap (λ (o : Option ℤ). item_as o body) plain)) in_body
 
     -- in the segment of its place
-    pub one_inline : r.state ≡ Completed → r.from + 32 ≤ size → MessageStands sum size log (site.slot + r.from) ((site.place + r.from) / size) (message_in site bytes r)
-    one_inline is room =
+    in_its_segment : r.state ≡ Completed → r.from + 32 ≤ size → r.blob ≡ None → MessageStands sum size log (site.slot + r.from) ((site.place + r.from) / size) (message_in site bytes r)
+    in_its_segment is room plain =
         let place : number ≡ (site.place + r.from) / size = sym (aligned_number site.place r.from size place_begins (omega (arith, room))) in
-        subst (λ n. MessageStands sum size log (site.slot + r.from) n (message_in site bytes r)) place (one_stands is)
+        subst (λ n. MessageStands sum size log (site.slot + r.from) n (message_in site bytes r)) place (one_stands is plain)
+
+    pub one_inline : r.state ≡ Completed → r.from + 32 ≤ size → StandsInline sum size log (message_in site bytes r) (message_in site bytes r).pointer
+    one_inline is room = by r.blob refl where
+      by : (o : Option ℤ) → r.blob ≡ o → StandsInline sum size log (message_in site bytes r) (pointer_as o (site.slot + r.from))
+      by None plain = in_its_segment is room plain
+      by (Some place) named = tt
 
     -- and below the end, at its pointer
     one_own : r.state ≡ Completed → 20 ≤ r.from → r.from + 32 ≤ size → StandsOwn sum size log site to (message_in site bytes r)
-    one_own is headed room = (
-      site.slot + r.from,
-      refl,
-      record {
+    one_own is headed room lid pointer = by r.blob refl pointer where
+      by : (o : Option ℤ) → r.blob ≡ o → pointer_as o (site.slot + r.from) ≡ ptr.Inline lid → StandsHere sum size log site to lid (message_in site bytes r)
+      by (Some place) named same = cc
+      by None plain same = subst (λ n. StandsHere sum size log site to n (message_in site bytes r)) (ap lid_of same) (record {
         at = r.from;
         place = refl;
         offset = refl;
         begins = record { behind_header = omega (arith, offset, headed); before_end = omega (arith, offset, room) };
-        stands = one_inline is room;
+        stands = in_its_segment is room plain;
         inside = within;
-      },
-    )
+      })
+
+    -- or it names the blob that has its item
+    one_names : r.state ≡ Completed → (place : ℤ) → r.blob ≡ Some place → IsMet sum size log (site.slot + r.from) number (record { place = site.place + r.from; len = r.len; what = NamesBlob r.kind r.page (site.slot + r.from) place })
+    unfolding IsMet
+    one_names is place named =
+        let known : kind_written r.log_kind r.page true ≡ Some r.kind = ap (λ (o : Option ℤ). kind_written r.log_kind r.page (is_some o)) (sym named) ∙ its_kind is in (
+          header_as (as_record r.kind stands.valid).header r.kind,
+          body,
+          record_stands r.kind stands.valid (record_there is),
+          (refl, refl, refl, kind_blob r.log_kind r.page r.kind known, subst (λ (o : Option ℤ). SpellsBlob o body) named stands.names),
+        )
+
+    one_met : r.state ≡ Completed → IsMet sum size log (site.slot + r.from) number (met_as Completed r.kind (message_in site bytes r))
+    one_met is = by r.blob refl where
+      by : (o : Option ℤ) → r.blob ≡ o → IsMet sum size log (site.slot + r.from) number (record { place = site.place + r.from; len = r.len; what = content_of r.kind r.log_kind r.page (pointer_as o (site.slot + r.from)) })
+      by None plain = subst (λ (p : DiskPtr). IsMet sum size log (site.slot + r.from) number (record { place = site.place + r.from; len = r.len; what = Gives r.log_kind r.page p }))
+          (ap (λ (o : Option ℤ). pointer_as o (site.slot + r.from)) plain)
+          (is_met sum size log (site.slot + r.from) number (message_in site bytes r) (one_stands is plain) (ap (λ (o : Option ℤ). pointer_as o (site.slot + r.from)) plain))
+      by (Some place) named = one_names is place named
+
+    -- which is what a reader meets of its message
+    pub one_meets : r.state ≡ Completed → MeetsMessage (met_as Completed r.kind (message_in site bytes r)) (message_in site bytes r)
+    one_meets is = record { place = refl; len = refl; what = by r.blob refl } where
+      by : (o : Option ℤ) → r.blob ≡ o → (content_of r.kind r.log_kind r.page (pointer_as r.blob (site.slot + r.from)) ≡ Gives r.log_kind r.page (pointer_as r.blob (site.slot + r.from))) ⊎ NamesBlobOf (content_of r.kind r.log_kind r.page (pointer_as r.blob (site.slot + r.from))) (message_in site bytes r)
+      by None plain = inl (subst (λ (o : Option ℤ). content_of r.kind r.log_kind r.page (pointer_as o (site.slot + r.from)) ≡ Gives r.log_kind r.page (pointer_as o (site.slot + r.from))) (sym plain) refl)
+      by (Some place) named =
+          let pointer : pointer_as r.blob (site.slot + r.from) ≡ ptr.Blob (site.slot + r.from) place = ap (λ (o : Option ℤ). pointer_as o (site.slot + r.from)) named in
+          inr (r.kind, site.slot + r.from, place, pointer, ap (λ (o : Option ℤ). kind_written r.log_kind r.page (is_some o)) (sym named) ∙ its_kind is, ap (content_of r.kind r.log_kind r.page) pointer)
 
     -- aborted, it is passed over
-    one_skips : r.state ≡ Canceled → IsMet sum size log (site.slot + r.from) number (met_as Canceled (message_in site bytes r))
+    one_skips : r.state ≡ Canceled → IsMet sum size log (site.slot + r.from) number (met_as Canceled r.kind (message_in site bytes r))
     unfolding IsMet
     one_skips is =
         let valid : kind.Canceled ≢ kind.Corrupted = λ same. cc in
         (header_as (as_record kind.Canceled valid).header kind.Canceled, body, record_stands kind.Canceled valid (text_there ∙ ap (text_as sum r.kind r.page number body) is), refl)
 
     -- an ended manifest begins a batch, with the peg that its body has
-    one_batch : r.state ≡ Manifest → IsMet sum size log (site.slot + r.from) number (met_as Manifest (message_in site bytes r))
+    one_batch : r.state ≡ Manifest → IsMet sum size log (site.slot + r.from) number (met_as Manifest r.kind (message_in site bytes r))
     unfolding IsMet
     one_batch is =
-        let its = kind_of_manifest r.log_kind r.page (length body) r.kind stands.known (stands.manifest is) in
+        let its = kind_of_manifest r.log_kind r.page (is_some r.blob) (length body) r.kind stands.known (stands.manifest is) in
         let peg : ℕ = low_first body in
-        let small = stands.pegged is in (
+        let small = stands.pegged is in
+        let whole : item_as r.blob body ≡ body = ap (λ (o : Option ℤ). item_as o body) (blobless r.blob its.2) in
+        subst (λ (l : List ℕ). IsMet sum size log (site.slot + r.from) number (record { place = site.place + r.from; len = r.len; what = BatchStart (pos (low_first l)) })) (sym whole) (
           header_as (as_record r.kind stands.valid).header r.kind,
           body,
           record_stands r.kind stands.valid (text_there ∙ ap (text_as sum r.kind r.page number body) is),
@@ -167,9 +221,9 @@ module _ (sum : List ℕ → ℕ) (size : ℕ) (site : SegmentPosition) (log byt
           ),
         )
 
-    met_by : (s : ReservationState) → r.state ≡ s → (s ≡ Open → ⊥) → s ≢ Padding → IsMet sum size log (site.slot + r.from) number (met_as s (message_in site bytes r))
+    met_by : (s : ReservationState) → r.state ≡ s → (s ≡ Open → ⊥) → s ≢ Padding → IsMet sum size log (site.slot + r.from) number (met_as s r.kind (message_in site bytes r))
     met_by Open is not_open plain = absurd (not_open refl)
-    met_by Completed is not_open plain = is_met sum size log (site.slot + r.from) number (message_in site bytes r) (one_stands is) refl
+    met_by Completed is not_open plain = one_met is
     met_by Canceled is not_open plain = one_skips is
     met_by Manifest is not_open plain = one_batch is
     met_by Padding is not_open plain = absurd (plain refl)
@@ -185,28 +239,28 @@ module _ (sum : List ℕ → ℕ) (size : ℕ) (site : SegmentPosition) (log byt
       let stands = reserved_in sum size number bytes r (plain 0 r (omega arith)) (stand 0 r (omega arith)) in
       let has_room : r.from + 32 ≤ size = stands.room in
       let met = met_by r stands.text (omega (arith, here, behind)) (omega (arith, here, grows)) r.state refl ended.0 (plain 0 r (omega arith)) in
-      let its_place : (met_as r.state (message_in site bytes r)).place ≡ site.place + r.from = met_place r.state (message_in site bytes r) in
-      let its_len : (met_as r.state (message_in site bytes r)).len ≡ r.len = met_len r.state (message_in site bytes r) in
+      let its_place : (met_as r.state r.kind (message_in site bytes r)).place ≡ site.place + r.from = met_place r.state r.kind (message_in site bytes r) in
+      let its_len : (met_as r.state r.kind (message_in site bytes r)).len ≡ r.len = met_len r.state r.kind (message_in site bytes r) in
       let rest = path_in (at + r.len) rs (omega (arith, behind)) chain.1 (All-tail (Stands sum size number bytes) r rs stand) (All-tail NoPadding r rs plain) ended.1 in (
         omega (arith, here, has_room),
         its_place ∙ ap (λ n. site.place + n) here,
-        subst (λ n. IsMet sum size log (site.slot + n) number (met_as r.state (message_in site bytes r))) here met,
+        subst (λ n. IsMet sum size log (site.slot + n) number (met_as r.state r.kind (message_in site bytes r))) here met,
         subst (λ n. IsPath sum size log site.slot site.place (at + n) (met_in site bytes rs) to) (sym its_len) rest,
       )
     where
-      met_place : (s : ReservationState) (m : Message) → (met_as s m).place ≡ m.place
-      met_place Open m = refl
-      met_place Completed m = refl
-      met_place Canceled m = refl
-      met_place Manifest m = refl
-      met_place Padding m = refl
+      met_place : (s : ReservationState) (k : MessageKind) (m : Message) → (met_as s k m).place ≡ m.place
+      met_place Open k m = refl
+      met_place Completed k m = refl
+      met_place Canceled k m = refl
+      met_place Manifest k m = refl
+      met_place Padding k m = refl
 
-      met_len : (s : ReservationState) (m : Message) → (met_as s m).len ≡ m.size
-      met_len Open m = refl
-      met_len Completed m = refl
-      met_len Canceled m = refl
-      met_len Manifest m = refl
-      met_len Padding m = refl
+      met_len : (s : ReservationState) (k : MessageKind) (m : Message) → (met_as s k m).len ≡ m.size
+      met_len Open k m = refl
+      met_len Completed k m = refl
+      met_len Canceled k m = refl
+      met_len Manifest k m = refl
+      met_len Padding k m = refl
 
   -- The messages of those that were completed stand at their pointers.
   pub own_in : (at : ℕ) (rs : List Reserved) → max 20 from ≤ at → IsChain at rs to → All (Stands sum size number bytes) rs → All (StandsOwn sum size log site to) (completed_in site bytes rs)

@@ -28,17 +28,25 @@ module _ (sum : List ℕ → ℕ) (size : ℕ) (log : List ℕ) (lid number : �
       omega (arith, (laid_of sum size log lid number h body len a).1, (laid_of sum size log lid number h' body' len' b).1, ap length heads, ap length one_body)
 
 -- a message that holds its item is of a kind that does
-inline_if : (b c : Bool) (x y z k : MessageKind) → is_inline x ≡ true → is_inline y ≡ true → is_inline z ≡ true → (if b then Some x else if c then Some y else Some z) ≡ Some k → is_inline k ≡ true
-inline_if true c x y z k ix iy iz is = let same : x ≡ k = cc in sym (ap is_inline same) ∙ ix
-inline_if false true x y z k ix iy iz is = let same : y ≡ k = cc in sym (ap is_inline same) ∙ iy
-inline_if false false x y z k ix iy iz is = let same : z ≡ k = cc in sym (ap is_inline same) ∙ iz
+one_of : (is_so : MessageKind → Bool) (b c : Bool) (x y z k : MessageKind) → is_so x ≡ true → is_so y ≡ true → is_so z ≡ true → (if b then Some x else if c then Some y else Some z) ≡ Some k → is_so k ≡ true
+one_of is_so true c x y z k ix iy iz is = let same : x ≡ k = cc in sym (ap is_so same) ∙ ix
+one_of is_so false true x y z k ix iy iz is = let same : y ≡ k = cc in sym (ap is_so same) ∙ iy
+one_of is_so false false x y z k ix iy iz is = let same : z ≡ k = cc in sym (ap is_so same) ∙ iz
 
 pub kind_inline : (does_it : LogKind) (page : ℕ) (k : MessageKind) → kind_written does_it page false ≡ Some k → is_inline k ≡ true
-kind_inline does.Replace page k is = inline_if (page == 1) (page == 0) _ _ _ k refl refl refl is
+kind_inline does.Replace page k is = one_of is_inline (page == 1) (page == 0) _ _ _ k refl refl refl is
 kind_inline does.Link page k is = let same : kind.InlineLink ≡ k = cc in sym (ap is_inline same)
 kind_inline does.Free page k is = let same : kind.Free ≡ k = cc in sym (ap is_inline same)
 kind_inline does.Skip page k is = cc
 kind_inline does.Corrupted page k is = cc
+
+-- where a message has its item in a blob, its kind says so
+pub kind_blob : (does_it : LogKind) (page : ℕ) (k : MessageKind) → kind_written does_it page true ≡ Some k → is_blob k ≡ true
+kind_blob does.Replace page k is = one_of is_blob (page == 1) (page == 0) _ _ _ k refl refl refl is
+kind_blob does.Link page k is = let same : kind.BlobLink ≡ k = cc in sym (ap is_blob same)
+kind_blob does.Free page k is = cc
+kind_blob does.Skip page k is = cc
+kind_blob does.Corrupted page k is = cc
 
 pub blob_apart : (k : MessageKind) → is_blob k ≡ true → is_inline k ≡ true → ⊥
 blob_apart kind.BlobMeta blob inline = cc

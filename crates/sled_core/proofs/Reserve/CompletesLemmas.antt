@@ -1,5 +1,5 @@
 -- A reservation that ends has its record, or one that is passed over, at its place, and no other one is touched.
-use Rattle.std.proofs.Common.{◌≡◌, ◌≤◌, ◌+◌, ◌-◌, inl, inr, ℕ, List, [], ◌∷◌, ◌++◌, length, take, drop, sym, ◌∙◌, ap, arith, refl, subst, Bool, false, if◌then◌else◌, ◌==◌, None, Some}
+use Rattle.std.proofs.Common.{◌≡◌, ◌≤◌, ◌+◌, ◌-◌, inl, inr, ℕ, List, [], ◌∷◌, ◌++◌, length, take, drop, sym, ◌∙◌, ap, arith, refl, subst, Bool, false, if◌then◌else◌, ◌==◌, None, Some, not, ◌&&◌}
 use Rattle.std.proofs.lemmas.List.{drop-drop, take-take, take_at}
 use Rattle.sled_codec.specs.Written.{written}
 use Rattle.sled_codec.specs.Places.{part}
@@ -22,16 +22,16 @@ use Rattle.sled_core.proofs.Reserve.Ranges.{part-written_behind, part-written_at
 use Rattle.sled_core.proofs.Reserve.WrittenOver as over
 
 -- what is no manifest is written under the kind of its message
-pub kind_of_message : (does : LogKind) (page n : ℕ) (k : MessageKind) → kind_for does page n ≡ Some k → is_manifest does page ≡ false → kind_written does page false ≡ Some k
-kind_of_message does page n k is none = sym (ap (λ (o : Bool). if o then (if n == 8 then Some kind.BatchManifest else None) else kind_written does page false) none) ∙ is
+pub kind_of_message : (does : LogKind) (page : ℕ) (blob : Bool) (n : ℕ) (k : MessageKind) → kind_for does page blob n ≡ Some k → is_manifest does page ≡ false → kind_written does page blob ≡ Some k
+kind_of_message does page blob n k is none = sym (ap (λ (o : Bool). if o then (if not blob && n == 8 then Some kind.BatchManifest else None) else kind_written does page blob) none) ∙ is
 
 -- a message that has a kind to be written under changes a page
-pub changes_page : (does : LogKind) (page : ℕ) (kind : MessageKind) → kind_written does page false ≡ Some kind → ChangesPage does
-changes_page Replace page kind is = inl refl
-changes_page Link page kind is = inr (inl refl)
-changes_page Free page kind is = inr (inr refl)
-changes_page Skip page kind is = cc
-changes_page Corrupted page kind is = cc
+pub changes_page : (does : LogKind) (page : ℕ) (blob : Bool) (kind : MessageKind) → kind_written does page blob ≡ Some kind → ChangesPage does
+changes_page Replace page blob kind is = inl refl
+changes_page Link page blob kind is = inr (inl refl)
+changes_page Free page blob kind is = inr (inr refl)
+changes_page Skip page blob kind is = cc
+changes_page Corrupted page blob kind is = cc
 
 -- a sum and a kind, in front of what else stands in a placeholder, make the record of that kind
 record_is : (sum : List ℕ → ℕ) (number page word : ℕ) (own k : MessageKind) (body : List ℕ) → flipped word ≡ record_sum sum k page number body
@@ -108,6 +108,8 @@ module _ (sum : List ℕ → ℕ) (number : ℕ) (bytes : List ℕ) (r : Reserve
           headed = stands.headed;
           long = stands.long;
           known = stands.known;
+          names = stands.names;
+          plain = stands.plain;
           whole = whole;
           manifest = λ is. absurd (not_manifest is);
           pegged = λ is. absurd (not_manifest is);

@@ -1,5 +1,5 @@
 -- The manifest of a batch that ends has its record at its place, with the peg as its body, and no other reservation is touched.
-use Rattle.std.proofs.Common.{◌≡◌, ◌≤◌, ◌<◌, ◌+◌, ◌-◌, ◌^◌, ◌==◌, ℕ, Bool, true, false, if◌then◌else◌, None, Some, List, [], ◌∷◌, ◌++◌, length, drop, sym, ◌∙◌, ap, arith, refl, subst, rules, append_assoc, length-append, length-take, length-drop}
+use Rattle.std.proofs.Common.{◌≡◌, ◌≤◌, ◌<◌, ◌+◌, ◌-◌, ◌^◌, ◌==◌, ℕ, Bool, true, false, if◌then◌else◌, None, Some, List, [], ◌∷◌, ◌++◌, length, drop, sym, ◌∙◌, ap, arith, refl, subst, rules, append_assoc, length-append, length-take, length-drop, not, Option, is_some, ℤ, ◌&&◌}
 use Rattle.std.specs.List.{All}
 use Rattle.std.proofs.lemmas.Bool.Decides.{nat_tests}
 use Rattle.std.proofs.lemmas.List.{append-nil, drop_all, same_lists, places}
@@ -18,7 +18,7 @@ use Rattle.sled_core.specs.declared.iobuf.ReservationState.{ReservationState}
 use Rattle.sled_core.specs.declared.iobuf.ReservationState.TheVariants.{Open, Manifest}
 use Rattle.sled_core.specs.declared.iobuf.Reserved.{Reserved}
 use Rattle.sled_core.specs.declared.iobuf.SegmentPosition.{SegmentPosition}
-use Rattle.sled_core.specs.Buffers.{HasText, IsChain, Stands, StandsAs, batches_in, body_in, completed_in, ended, ending, ending_as, marking, message_in, text_in, with_own}
+use Rattle.sled_core.specs.Buffers.{HasText, IsChain, Stands, StandsAs, batches_in, body_in, completed_in, ended, ending, ending_as, marking, message_in, text_in, with_own, SpellsBlob}
 use Rattle.sled_core.specs.Manifests.{is_manifest, kind_for}
 use Rattle.sled_core.proofs.Reserve.Batches.{batches-append, batches_without}
 use Rattle.sled_core.proofs.Reserve.CompletesLemmas.{tail_there}
@@ -98,17 +98,23 @@ pub marks : (sum : List ℕ → ℕ) (bytes : List ℕ) (r : Reserved) (peg : �
 marks sum bytes r peg headed long within = ends_with sum bytes r (low_bytes 8 peg) headed long within
 
 -- the record of a manifest is of one kind, and has a body of 8 bytes
-pub kind_of_manifest : (does : LogKind) (page n : ℕ) (k : MessageKind) → kind_for does page n ≡ Some k → is_manifest does page ≡ true → (n ≡ 8) × (k ≡ kind.BatchManifest)
-kind_of_manifest does page n k is manifest =
-    by (n == 8) refl (sym (ap (λ (o : Bool). if o then (if n == 8 then Some kind.BatchManifest else None) else kind_written does page false) manifest) ∙ is) where
-      by : (e : Bool) → (n == 8) ≡ e → (if e then Some kind.BatchManifest else None) ≡ Some k → (n ≡ 8) × (k ≡ kind.BatchManifest)
-      by true eight same = (grind (arith, nat_tests, eight), cc)
-      by false eight same = cc
+pub kind_of_manifest : (does : LogKind) (page : ℕ) (blob : Bool) (n : ℕ) (k : MessageKind) → kind_for does page blob n ≡ Some k → is_manifest does page ≡ true → (n ≡ 8) × (k ≡ kind.BatchManifest) × (blob ≡ false)
+kind_of_manifest does page blob n k is manifest =
+    by blob (n == 8) refl (sym (ap (λ (o : Bool). if o then (if not blob && n == 8 then Some kind.BatchManifest else None) else kind_written does page blob) manifest) ∙ is) where
+      by : (b e : Bool) → (n == 8) ≡ e → (if not b && e then Some kind.BatchManifest else None) ≡ Some k → (n ≡ 8) × (k ≡ kind.BatchManifest) × (b ≡ false)
+      by false true eight same = (grind (arith, nat_tests, eight), cc, refl)
+      by false false eight same = cc
+      by true e eight same = cc
+
+-- what has no blob has no place of one
+pub blobless : (blob : Option ℤ) → is_some blob ≡ false → blob ≡ None
+blobless None is = refl
+blobless (Some place) is = cc
 
 -- A manifest that is open.
 module _ (sum : List ℕ → ℕ) (number : ℕ) (bytes : List ℕ) (r : Reserved) (within : r.from + r.len ≤ length bytes) (stands : HasText sum number bytes r) (is_open : r.state ≡ Open) (manifest : is_manifest r.log_kind r.page ≡ true) where
   eight : length (body_in bytes r) ≡ 8
-  eight = (kind_of_manifest r.log_kind r.page (length (body_in bytes r)) r.kind stands.known manifest).0
+  eight = (kind_of_manifest r.log_kind r.page (is_some r.blob) (length (body_in bytes r)) r.kind stands.known manifest).0
 
   -- It has a header, and 8 bytes behind that.
   pub manifest_long : r.len ≡ r.header_len + 8
@@ -153,7 +159,9 @@ module _ (sum : List ℕ → ℕ) (number : ℕ) (bytes : List ℕ) (r : Reserve
         let as_new : StandsAs sum number (text_in new r) body (ended Manifest r) = record {
           headed = stands.headed;
           long = stands.long;
-          known = ap (kind_for r.log_kind r.page) (sym same_long) ∙ stands.known;
+          known = ap (kind_for r.log_kind r.page (is_some r.blob)) (sym same_long) ∙ stands.known;
+          plain = stands.plain;
+          names = subst (λ (o : Option ℤ). SpellsBlob o body) (sym (blobless r.blob (kind_of_manifest r.log_kind r.page (is_some r.blob) (length (body_in bytes r)) r.kind stands.known manifest).2)) tt;
           whole = λ is. cc;
           manifest = λ is. manifest;
           pegged = λ is. small;

@@ -13,7 +13,7 @@ use Rattle.sled_core.specs.declared.iobuf.Reserved.{Reserved}
 use Rattle.sled_core.specs.declared.iobuf.SegmentPosition.{SegmentPosition}
 use Rattle.sled_store.proofs.Segments.Elements.{in_cases, in_rest}
 use Rattle.sled_core.proofs.Reserve.Parts.{get_there}
-use Rattle.sled_core.specs.Buffers.{body_in, message_in, IsChain, completed_in, with_own}
+use Rattle.sled_core.specs.Buffers.{body_in, message_in, IsChain, completed_in, with_own, item_as}
 
 -- a part stays when bytes are put behind the text
 pub part-append : (xs ys : List ℕ) (at n : ℕ) → at + n ≤ length xs → part (xs ++ ys) at n ≡ part xs at n
@@ -88,7 +88,7 @@ completed-same site old new [] all = refl
 completed-same site old new (r ∷ rs) all =
     let rest : completed_in site new rs ≡ completed_in site old rs = completed-same site old new rs (All-tail (λ x. x.state ≡ Completed → body_in new x ≡ body_in old x) r rs all) in
     own_same r.state (message_in site new r) (message_in site old r) (completed_in site new rs) (completed_in site old rs)
-    (λ done. ap (λ (l : List ℕ). record (message_in site old r) { bytes = l }) (all 0 r (omega arith) done)) rest
+    (λ done. ap (λ (l : List ℕ). record (message_in site old r) { bytes = item_as r.blob l }) (all 0 r (omega arith) done)) rest
 
 pub completed-append : (site : SegmentPosition) (bytes : List ℕ) (xs ys : List Reserved) → completed_in site bytes (xs ++ ys) ≡ completed_in site bytes xs ++ completed_in site bytes ys
 completed-append site bytes [] ys = refl

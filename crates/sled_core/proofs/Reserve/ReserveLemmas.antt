@@ -1,5 +1,5 @@
 -- What is laid out for a reservation is the placeholder of its record, and the message that it is for is the one that was asked for.
-use Rattle.std.proofs.Common.{◌≡◌, ◌≢◌, ◌≤◌, ◌<◌, ◌+◌, ◌-◌, ◌^◌, ℕ, zero, suc, List, [], ◌∷◌, ◌++◌, length, take, drop, sym, ◌∙◌, ap, arith, refl, subst, append_assoc, length-append, length-drop, true, false, Bool, if◌then◌else◌, ◌==◌, replicate, None, Some}
+use Rattle.std.proofs.Common.{◌≡◌, ◌≢◌, ◌≤◌, ◌<◌, ◌+◌, ◌-◌, ◌^◌, ℕ, zero, suc, List, [], ◌∷◌, ◌++◌, length, take, drop, sym, ◌∙◌, ap, arith, refl, subst, append_assoc, length-append, length-drop, true, false, Bool, if◌then◌else◌, ◌==◌, replicate, None, Some, not, is_some, ◌&&◌, Option, ℤ}
 use Rattle.std.specs.List.{slice_get}
 use Rattle.std.proofs.lemmas.List.{drop_at, take_all, drop-drop}
 use Rattle.sled_codec.specs.declared.serialization.message.LogKind.{LogKind}
@@ -15,9 +15,8 @@ use Rattle.sled_codec.specs.History.{Message}
 use Rattle.sled_core.specs.declared.iobuf.Reserved.{Reserved}
 use Rattle.sled_core.specs.declared.iobuf.Purpose.{Purpose}
 use Rattle.sled_core.specs.declared.iobuf.SegmentPosition.{SegmentPosition}
-use Rattle.sled_codec.specs.declared.result.DiskPtr.TheVariants.{Inline}
 use Rattle.sled_core.specs.Manifests.{is_manifest, kind_for}
-use Rattle.sled_core.specs.Buffers.{text_in, body_in, message_in, placeholder, placeholder_head, reserved_for, record_size, HasText, StandsAs}
+use Rattle.sled_core.specs.Buffers.{SpellsBlob, text_in, body_in, item_as, pointer_as, message_in, placeholder, placeholder_head, reserved_for, record_size, HasText, StandsAs}
 use Rattle.sled_core.proofs.Reserve.Heads.{length-short_header_tail}
 
 -- no message is written as damage
@@ -26,20 +25,23 @@ some_kind true c x y z k nx ny nz is bad = let same : x ≡ k = cc in nx (same �
 some_kind false true x y z k nx ny nz is bad = let same : y ≡ k = cc in ny (same ∙ bad)
 some_kind false false x y z k nx ny nz is bad = let same : z ≡ k = cc in nz (same ∙ bad)
 
-written_valid : (does_it : LogKind) (page : ℕ) (kind : MessageKind) → kind_written does_it page false ≡ Some kind → kind ≢ Corrupted
-written_valid does.Replace page kind is = some_kind (page == 1) (page == 0) _ _ _ kind (λ e. cc) (λ e. cc) (λ e. cc) is
-written_valid does.Link page kind is = λ bad. cc
-written_valid does.Free page kind is = λ bad. cc
-written_valid does.Skip page kind is = λ bad. cc
-written_valid does.Corrupted page kind is = λ bad. cc
+written_valid : (does_it : LogKind) (page : ℕ) (blob : Bool) (kind : MessageKind) → kind_written does_it page blob ≡ Some kind → kind ≢ Corrupted
+written_valid does.Replace page true kind is = some_kind (page == 1) (page == 0) _ _ _ kind (λ e. cc) (λ e. cc) (λ e. cc) is
+written_valid does.Replace page false kind is = some_kind (page == 1) (page == 0) _ _ _ kind (λ e. cc) (λ e. cc) (λ e. cc) is
+written_valid does.Link page true kind is = λ bad. cc
+written_valid does.Link page false kind is = λ bad. cc
+written_valid does.Free page true kind is = λ bad. cc
+written_valid does.Free page false kind is = λ bad. cc
+written_valid does.Skip page blob kind is = λ bad. cc
+written_valid does.Corrupted page blob kind is = λ bad. cc
 
 -- nor is a manifest
-pub kind_valid : (does_it : LogKind) (page n : ℕ) (kind : MessageKind) → kind_for does_it page n ≡ Some kind → kind ≢ Corrupted
-kind_valid does_it page n kind = by (is_manifest does_it page) (n == 8) where
-  by : (o e : Bool) → (if o then (if e then Some BatchManifest else None) else kind_written does_it page false) ≡ Some kind → kind ≢ Corrupted
+pub kind_valid : (does_it : LogKind) (page : ℕ) (blob : Bool) (n : ℕ) (kind : MessageKind) → kind_for does_it page blob n ≡ Some kind → kind ≢ Corrupted
+kind_valid does_it page blob n kind = by (is_manifest does_it page) (not blob && n == 8) where
+  by : (o e : Bool) → (if o then (if e then Some BatchManifest else None) else kind_written does_it page blob) ≡ Some kind → kind ≢ Corrupted
   by true true is = λ bad. cc
   by true false is = cc
-  by false e is = written_valid does_it page kind is
+  by false e is = written_valid does_it page blob kind is
 
 -- the last one is there
 pub there_last : {X : Type 0} (xs : List X) (x : X) → slice_get (xs ++ x ∷ []) (length xs) ≡ Some x
@@ -52,7 +54,7 @@ there_append [] ys i x there = cc
 there_append (y ∷ xs) ys zero x there = there
 there_append (y ∷ xs) ys (suc i) x there = there_append xs ys i x there
 
-module _ (sum : List ℕ → ℕ) (number : ℕ) (bytes head item : List ℕ) (kept : Purpose) (known : kind_for kept.log_kind kept.page (length item) ≡ Some kept.kind) (small : kept.page < 2 ^ 64)
+module _ (sum : List ℕ → ℕ) (number : ℕ) (bytes head item : List ℕ) (kept : Purpose) (known : kind_for kept.log_kind kept.page (is_some kept.blob) (length item) ≡ Some kept.kind) (plain : kept.blob ≡ None) (small : kept.page < 2 ^ 64)
     (tail : drop 4 head ≡ short_header_tail kept.kind (length item) number kept.page) (long : length head ≡ 4 + length (short_header_tail kept.kind (length item) number kept.page)) where
   abbrev more : List ℕ
   more = placeholder_head head ++ item
@@ -92,10 +94,12 @@ module _ (sum : List ℕ → ℕ) (number : ℕ) (bytes head item : List ℕ) (k
         headed = head_long;
         long = omega arith;
         known = known;
+        names = subst (λ (o : Option ℤ). SpellsBlob o item) (sym plain) tt;
+        plain = plain;
         whole = λ is. cc;
         manifest = λ is. cc;
         pegged = λ is. cc;
-        valid = kind_valid kept.log_kind kept.page (length item) kept.kind known;
+        valid = kind_valid kept.log_kind kept.page (is_some kept.blob) (length item) kept.kind known;
         page = small;
         summed = λ _. ap (λ (l : List ℕ). flipped (sum (item ++ l))) tail;
         counted = long;
@@ -104,11 +108,11 @@ module _ (sum : List ℕ → ℕ) (number : ℕ) (bytes head item : List ℕ) (k
       subst (λ (b : List ℕ). StandsAs sum number (text_in (bytes ++ more) reserved) b reserved) (sym body_is) as_item
 
   pub message_is : (site : SegmentPosition)
-      → record { kind = kept.log_kind; page = kept.page; place = site.place + length bytes; pointer = Inline (site.slot + length bytes); size = record_size number kept.page (length item); bytes = item } ≡ message_in site (bytes ++ more) reserved
+      → record { kind = kept.log_kind; page = kept.page; place = site.place + length bytes; pointer = pointer_as kept.blob (site.slot + length bytes); size = record_size number kept.page (length item); bytes = item_as kept.blob item } ≡ message_in site (bytes ++ more) reserved
   message_is site =
       let size : record_size number kept.page (length item) ≡ length head + length item = omega (arith, long, length-short_header_tail kept.kind (length item) number kept.page) in
-      let m : ℕ → Message = λ n. record { kind = kept.log_kind; page = kept.page; place = site.place + length bytes; pointer = Inline (site.slot + length bytes); size = n; bytes = item } in
-      ap m size ∙ ap (λ (l : List ℕ). record (message_in site (bytes ++ more) reserved) { bytes = l }) (sym body_is)
+      let m : ℕ → Message = λ n. record { kind = kept.log_kind; page = kept.page; place = site.place + length bytes; pointer = pointer_as kept.blob (site.slot + length bytes); size = n; bytes = item_as kept.blob item } in
+      ap m size ∙ ap (λ (l : List ℕ). record (message_in site (bytes ++ more) reserved) { bytes = item_as kept.blob l }) (sym body_is)
 
 -- the whole header, by its length behind the sum
 pub head_whole : (head : List ℕ) (kind : MessageKind) (len number page : ℕ) → drop 4 head ≡ short_header_tail kind len number page → length head ≡ 4 + length (short_header_tail kind len number page)

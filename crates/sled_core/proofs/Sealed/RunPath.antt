@@ -36,7 +36,7 @@ use Rattle.sled_core.proofs.Torn.WrittenRecords.{AreClear, all_clear}
 -- what is met of two parts
 met_on : (site : SegmentPosition) (bytes : List ℕ) (xs ys : List Reserved) → met_in site bytes (xs ++ ys) ≡ met_in site bytes xs ++ met_in site bytes ys
 met_on site bytes [] ys = refl
-met_on site bytes (x ∷ xs) ys = ap (λ (ms : List ScannedRecord). met_as x.state (message_in site bytes x) ∷ ms) (met_on site bytes xs ys)
+met_on site bytes (x ∷ xs) ys = ap (λ (ms : List ScannedRecord). met_as x.state x.kind (message_in site bytes x) ∷ ms) (met_on site bytes xs ys)
 
 -- those at the front end below where all do
 pub run_below : (at : ℕ) (cs : List Sealed) (to : ℕ) → EndsRise at cs to → run_end at cs ≤ to

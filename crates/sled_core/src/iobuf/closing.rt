@@ -58,6 +58,7 @@ fn padding(from: usize, size: usize) -> Reserved
         kind: MessageKind::Cap,
         page: 0,
         sum: 0,
+        blob: None,
         state: ReservationState::Padding,
     }
 }

@@ -135,7 +135,7 @@ fn is_for(site: &SegmentPosition, r: &Reserved, ticket: &Reservation) -> bool
     ensures { IsTrue result ↔ IsFor site.now r.now ticket.now }
 {
     let same_pointer = match ticket.pointer() {
-        DiskPtr::Inline(lid) => lid == site.slot + r.from as u64,
+        DiskPtr::Inline(lid) => r.blob.is_none() && lid == site.slot + r.from as u64,
         DiskPtr::Blob(_, _) => false,
     };
     let same_place = ticket.lsn() >= 0 && ticket.lsn() as u64 == site.place + r.from as u64;

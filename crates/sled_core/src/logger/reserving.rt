@@ -173,14 +173,20 @@ pub(crate) fn is_manifest(kind: LogKind, pid: PageId) -> bool
     }
 }
 
-/// The kind of the record of a message of a page with an item of this length; `None` where the page has no such message.
-pub(crate) fn kind_for(kind: LogKind, pid: PageId, item_len: usize) -> Option<MessageKind>
-    ensures { result ≡ kind_for kind pid item_len }
+/// The kind of the record of a message of a page with a body of this length, which has its item in a blob or not; `None`
+/// where the page has no such message. A manifest has no blob.
+pub(crate) fn kind_for(
+    kind: LogKind,
+    pid: PageId,
+    blob: bool,
+    body_len: usize,
+) -> Option<MessageKind>
+    ensures { result ≡ kind_for kind pid blob body_len }
 {
     if !is_manifest(kind, pid) {
-        return message_kind(kind, pid, false);
+        return message_kind(kind, pid, blob);
     }
-    if item_len == MANIFEST_LEN {
+    if !blob && body_len == MANIFEST_LEN {
         Some(MessageKind::BatchManifest)
     } else {
         None

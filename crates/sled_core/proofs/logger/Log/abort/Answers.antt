@@ -1,5 +1,5 @@
 -- The message of a ticket is given up, in whichever segment it lies: its record there is one that is passed over, and nothing else changes.
-use Rattle.std.proofs.Common.{◌≡◌, ◌∙◌, ◌≤◌, ◌+◌, ◌-◌, ◌/◌, ◌∷◌, ◌++◌, ap, sym, subst, arith, refl, ℕ, List, length, set, Some}
+use Rattle.std.proofs.Common.{◌≡◌, ◌∙◌, ◌≤◌, ◌+◌, ◌-◌, ◌/◌, ◌∷◌, ◌++◌, ap, sym, subst, arith, refl, ℕ, List, length, set, Some, Option, ℤ}
 use Rattle.std.specs.Prelude.{unsigned_abs}
 use Rattle.std.specs.List.{Contains, slice_get}
 use Rattle.sled_codec.specs.declared.serialization.message.MessageKind.TheVariants as kind
@@ -12,7 +12,7 @@ use Rattle.sled_store.specs.declared.config.RunningConfig.{RunningConfig}
 use Rattle.sled_core.specs.declared.iobuf.ReservationState.TheVariants.{Canceled}
 use Rattle.sled_core.specs.declared.iobuf.Reserved.{Reserved}
 use Rattle.sled_core.specs.Begun.{SegmentView}
-use Rattle.sled_core.specs.Buffers.{Stands, body_in, canceling, message_in}
+use Rattle.sled_core.specs.Buffers.{Stands, body_in, canceling, message_in, item_as, pointer_as}
 use Rattle.sled_core.specs.Canceled.{canceled_record}
 use Rattle.sled_core.specs.Fits.{AwaitsIn, Holds, line_of, noted_in, open_places}
 use Rattle.sled_core.specs.Manifests.{is_manifest}
@@ -34,6 +34,7 @@ use Rattle.sled_core.proofs.Reserve.Entries.{open_plain, reserved_in}
 use Rattle.sled_core.proofs.Reserve.Ranges.{at_there}
 use Rattle.sled_core.proofs.logger.Log.abort.Given.{Over}
 use Rattle.sled_core.proofs.logger.Log.abort.Goals as goal
+use Rattle.sled_codec.specs.Record.{short_record}
 
 pub returns-in-Some-clause-keeps : goal.returns-in-Some-clause-keeps
 returns-in-Some-clause-keeps g c = kept_still g.D.Device.trace g.C.Checksum.sum_of c.args.self.now
@@ -114,9 +115,11 @@ returns-clause-canceled g c = λ H m holds awaits.
     with_segment sum size (state_of (g.D.Device.trace old.config.device)) old.fault (line_of old) c.segment_of-n.result v H holds.holds at (λ stays own segment.
     let stands = reserved_in sum size (v.parts.site.place / size) v.parts.bytes r (open_plain r.state awaits.own.open_yet) (at_there (Stands sum size (v.parts.site.place / size) v.parts.bytes) v.parts.reserved i r its segment.stand) in
     let its_text = canceled_there sum size v.parts.site.place v.parts.bytes r segment.place_begins stands.room inside stands.text awaits.own.open_yet in
-    let record_is : canceled_record sum size (message_in v.parts.site v.parts.bytes r) ≡ canceled_record sum c.abort_in.new.self.config.config.segment_size m = λ j. canceled_record sum (sym now_size j) (sym awaits.message j) in
+    let body : List ℕ = body_in v.parts.bytes r in
+    let canceled : List ℕ = short_record sum kind.Canceled r.page ((v.parts.site.place + r.from) / size) body in
+    let record_is : canceled ≡ canceled_record sum c.abort_in.new.self.config.config.segment_size m = ap (short_record sum kind.Canceled r.page ((v.parts.site.place + r.from) / size)) (sym (ap (λ (o : Option ℤ). item_as o body) awaits.own.plain)) ∙ (λ j. canceled_record sum (sym now_size j) (sym awaits.message j)) in
     let long = canceled_long sum size v.parts.site.place v.parts.bytes r segment.place_begins stands.room inside stands.text in
-    let found = ended_stands sum size old.reserved_to (line_of old) c.segment_of-n.result v facts i r its awaits.own.open_yet (sum (body_in v.parts.bytes r ++ code_of kind.Canceled ∷ part v.parts.bytes (r.from + 5) (r.header_len - 5))) kind.Canceled Canceled (canceled_record sum size (message_in v.parts.site v.parts.bytes r)) at old.filled its_text in
+    let found = ended_stands sum size old.reserved_to (line_of old) c.segment_of-n.result v facts i r its awaits.own.open_yet (sum (body_in v.parts.bytes r ++ code_of kind.Canceled ∷ part v.parts.bytes (r.from + 5) (r.header_len - 5))) kind.Canceled Canceled canceled at old.filled its_text in
     let list : buffers_in sum size (set (line_of old) c.segment_of-n.result (ended_now i r (canceling sum v.parts.bytes r) Canceled v)) ≡ buffers_in sum c.abort_in.new.self.config.config.segment_size (line_of c.abort_in.new.self) = λ j. buffers_in sum (sym now_size j) (sym line j) in
     record {
       buffer = found.buffer;
@@ -124,7 +127,7 @@ returns-clause-canceled g c = λ H m holds awaits.
       begins = (let low = found.begins in omega (arith, low, place_is));
       ends = (let high = found.ends in omega (arith, high, place_is, size_is));
       lid = v.parts.site.slot + r.from;
-      pointer = ap (λ (x : Message). x.pointer) awaits.message;
+      pointer = ap (λ (x : Message). x.pointer) awaits.message ∙ ap (λ (o : Option ℤ). pointer_as o (v.parts.site.slot + r.from)) awaits.own.plain;
       behind = found.behind;
       whole = ap (part found.buffer.bytes (v.parts.site.slot + r.from - found.buffer.lid)) size_is ∙ found.whole ∙ record_is;
       long = ap length (sym record_is) ∙ long ∙ sym size_is;

@@ -31,6 +31,7 @@ use Rattle.sled_core.proofs.Reserve.ReserveLemmas.{head_whole}
 use Rattle.sled_core.proofs.logger.Log.reserve.Given as given
 use Rattle.sled_core.proofs.logger.Log.reserve.Goals.{then-has_place+in_ok-room_for, else-has_place+in_ok-begin_segment}
 use Rattle.sled_core.proofs.logger.Log.reserve.Goals as goal
+use Rattle.sled_core.proofs.Reserve.MarksLemmas.{kind_of_manifest}
 
 -- the bytes of a header
 abbrev text_of : Head → List ℕ
@@ -124,7 +125,7 @@ returns-in_err-begin_segment-clause-keeps g c = unchanged_keeps c.args.self.now 
 pub returns-in_err-room_for-clause-answers : goal.returns-in_err-room_for-clause-answers
 returns-in_err-room_for-clause-answers g c =
     let item : List ℕ = g.T.Serialize.short (g.T.Serialize.meaning c.args.item.now) in
-    let kept : Purpose = record { log_kind = c.args.kind; kind = c.in-Some-kind_for.message_kind; page = c.args.pid } in
+    let kept : Purpose = record { log_kind = c.args.kind; kind = c.in-Some-kind_for.message_kind; page = c.args.pid; blob = None } in
     let old = c.args.self.now in
     let h = c.head_for-head.result in
     let k : ℕ = c.serialized_size-item_len.result in
@@ -132,7 +133,7 @@ returns-in_err-room_for-clause-answers g c =
     let is : IsHeadOf h kept k (number_of old) = record { bytes = c.head_for-head.ensures.bytes; len = c.head_for-head.ensures.len } in
     let t = tail g.D.Device.trace g.C.Checksum.sum_of old c.room_for.new.self kept h item k counted is in
     let has = inside g.D.Device.trace g.C.Checksum.sum_of old c.room_for.new.self kept h item k counted is (c.if-has_place.ensures.0 refl) in
-    let known : kind_for c.args.kind c.args.pid (length item) ≡ Some c.in-Some-kind_for.message_kind = sym (c.kind_for.ensures ∙ ap (kind_for c.args.kind c.args.pid) counted) ∙ c.in-Some-kind_for.is in
+    let known : kind_for c.args.kind c.args.pid false (length item) ≡ Some c.in-Some-kind_for.message_kind = sym (c.kind_for.ensures ∙ ap (kind_for c.args.kind c.args.pid false) counted) ∙ c.in-Some-kind_for.is in
     let e = err_from_is_err_and c.from_residual.result c.from_residual.ensures.1 in
     rw (e.1, e.2) (room_refused c.in_err-room_for.field-0.0 _ _ _ _ _ _ c.in_err-room_for.ensures.answers c.in_default.is (subst IsSome (sym known) refl)
     (here_further g.D.Device.trace g.C.Checksum.sum_of old c.room_for.new.self kept (text_of h) item t has) (here_open g.D.Device.trace g.C.Checksum.sum_of old c.room_for.new.self kept (text_of h) item t has))
@@ -140,13 +141,13 @@ returns-in_err-room_for-clause-answers g c =
 pub returns-in_err-begin_segment-clause-answers : goal.returns-in_err-begin_segment-clause-answers
 returns-in_err-begin_segment-clause-answers g c =
     let item : List ℕ = g.T.Serialize.short (g.T.Serialize.meaning c.args.item.now) in
-    let kept : Purpose = record { log_kind = c.args.kind; kind = c.in-Some-kind_for.message_kind; page = c.args.pid } in
+    let kept : Purpose = record { log_kind = c.args.kind; kind = c.in-Some-kind_for.message_kind; page = c.args.pid; blob = None } in
     let old = c.args.self.now in
     let h = c.head_for-head.result in
     let k : ℕ = c.serialized_size-item_len.result in
     let long = record_long kept.kind h.len k (number_of old) kept.page (length item) c.head_for-head.ensures.len c.serialized_size-item_len.ensures in
     let not : HasPlace old (h.len + k) → ⊥ = λ has. let bad : false ≡ true = c.if-has_place.ensures.1 has in cc in
-    let known : kind_for c.args.kind c.args.pid (length item) ≡ Some c.in-Some-kind_for.message_kind = sym (c.kind_for.ensures ∙ ap (kind_for c.args.kind c.args.pid) c.serialized_size-item_len.ensures) ∙ c.in-Some-kind_for.is in
+    let known : kind_for c.args.kind c.args.pid false (length item) ≡ Some c.in-Some-kind_for.message_kind = sym (c.kind_for.ensures ∙ ap (kind_for c.args.kind c.args.pid false) c.serialized_size-item_len.ensures) ∙ c.in-Some-kind_for.is in
     let e = err_from_is_err_and c.from_residual-in_err-begin_segment.result c.from_residual-in_err-begin_segment.ensures.1 in
     rw (e.1, e.2) (next_refused c.in_err-begin_segment.field-0.0 _ _ _ _ _ _ c.in_err-begin_segment.ensures.answers c.in_default.is (subst IsSome (sym known) refl)
     (next_used g.D.Device.trace g.C.Checksum.sum_of old kept item c.requires.inline (h.len + k) long not) (next_open g.D.Device.trace g.C.Checksum.sum_of old kept item c.requires.inline (h.len + k) long not))
@@ -154,7 +155,7 @@ returns-in_err-begin_segment-clause-answers g c =
 pub append-requires-clause-place : goal.append-requires-clause-place
 append-requires-clause-place g c =
     let item : List ℕ = g.T.Serialize.short (g.T.Serialize.meaning c.args.item.now) in
-    let kept : Purpose = record { log_kind = c.args.kind; kind = c.in-Some-kind_for.message_kind; page = c.args.pid } in
+    let kept : Purpose = record { log_kind = c.args.kind; kind = c.in-Some-kind_for.message_kind; page = c.args.pid; blob = None } in
     let old = c.args.self.now in
     let h = c.head_for-head.result in
     let k : ℕ = c.serialized_size-item_len.result in
@@ -175,11 +176,8 @@ append-requires-clause-place g c =
     subst (λ n. HasPlace c.if-has_place.self n) (sym (λ i. ready.long i + counted i)) ready.prepared.fits
 
 -- The item of a manifest has 8 bytes.
-manifest_long : (does : LogKind) (page n : ℕ) (k : MessageKind) → kind_for does page n ≡ Some k → is_manifest does page ≡ true → n ≡ 8
-manifest_long does page n k known is = by (n == 8) refl (sym (ap (λ (o : Bool). if o then (if n == 8 then Some BatchManifest else None) else kind_written does page false) is) ∙ known) where
-  by : (o : Bool) → (n == 8) ≡ o → (if o then Some BatchManifest else None) ≡ Some k → n ≡ 8
-  by true eight some = grind (arith, nat_tests, eight)
-  by false other some = absurd (let never : None ≡ Some k = some in cc)
+manifest_long : (does : LogKind) (page n : ℕ) (k : MessageKind) → kind_for does page false n ≡ Some k → is_manifest does page ≡ true → n ≡ 8
+manifest_long does page n k known is = (kind_of_manifest does page false n k known is).0
 
 pub append-requires-clause-body : goal.append-requires-clause-body
 append-requires-clause-body g c = λ is. manifest_long c.args.kind c.args.pid c.serialized_size-item_len.result c.in-Some-kind_for.message_kind (sym c.kind_for.ensures ∙ c.in-Some-kind_for.is) is
@@ -199,12 +197,12 @@ abbrev its_item : (g : given.Over) → goal.After-append g → List ℕ
 its_item g c = g.T.Serialize.short (g.T.Serialize.meaning c.args.item.now)
 
 abbrev its_kept : (g : given.Over) → goal.After-append g → Purpose
-its_kept g c = record { log_kind = c.args.kind; kind = c.in-Some-kind_for.message_kind; page = c.args.pid }
+its_kept g c = record { log_kind = c.args.kind; kind = c.in-Some-kind_for.message_kind; page = c.args.pid; blob = None }
 
 is_ready : (g : given.Over) (c : goal.After-append g) → IsReady g.D.Device.trace g.C.Checksum.sum_of c.args.self.now c.if-has_place.self (its_kept g c) c.if-has_place.head (its_item g c)
 is_ready g c =
     let item : List ℕ = g.T.Serialize.short (g.T.Serialize.meaning c.args.item.now) in
-    let kept : Purpose = record { log_kind = c.args.kind; kind = c.in-Some-kind_for.message_kind; page = c.args.pid } in
+    let kept : Purpose = record { log_kind = c.args.kind; kind = c.in-Some-kind_for.message_kind; page = c.args.pid; blob = None } in
     let old = c.args.self.now in
     let h = c.head_for-head.result in
     let k : ℕ = c.serialized_size-item_len.result in
@@ -223,8 +221,8 @@ is_ready g c =
           (ready_next g.D.Device.trace g.C.Checksum.sum_of old w.begin_segment.new.self kept h item k counted first c.requires.inline not next.result (record { bytes = next.ensures.bytes; len = next.ensures.len }) did.line did.machine did.rest did.answers)))
     ]
 
-its_kind : (g : given.Over) (c : goal.After-append g) → kind_for c.args.kind c.args.pid (length (its_item g c)) ≡ Some c.in-Some-kind_for.message_kind
-its_kind g c = sym (c.kind_for.ensures ∙ ap (kind_for c.args.kind c.args.pid) c.serialized_size-item_len.ensures) ∙ c.in-Some-kind_for.is
+its_kind : (g : given.Over) (c : goal.After-append g) → kind_for c.args.kind c.args.pid false (length (its_item g c)) ≡ Some c.in-Some-kind_for.message_kind
+its_kind g c = sym (c.kind_for.ensures ∙ ap (kind_for c.args.kind c.args.pid false) c.serialized_size-item_len.ensures) ∙ c.in-Some-kind_for.is
 
 its_line : (g : given.Over) (c : goal.After-append g)
     → line_of c.append.new.self ≡ at_last (reserved_now (placeholder_head (text_of c.if-has_place.head) ++ its_item g c) (reserved_for (its_kept g c) (length (current_of c.if-has_place.self).parts.bytes) (length (text_of c.if-has_place.head)) (length (its_item g c))
@@ -244,35 +242,35 @@ its_ticket g c =
     subst (IsTicketFor c.if-has_place.self c.append.result) (λ i. long i + counted i) c.append.ensures.ticket
 
 pub returns-clause-ticket : goal.returns-clause-ticket
-returns-clause-ticket g c = made_ticket g.D.Device.trace g.C.Checksum.sum_of c.args.self.now c.if-has_place.self c.append.new.self (its_kept g c) (text_of c.if-has_place.head) (its_item g c) (is_ready g c).prepared (its_kind g c) c.ranges.pid.fits (its_line g c) c.append.ensures.rest c.append.ensures.accountant c.append.result (its_ticket g c) c.append.ensures.manifest
+returns-clause-ticket g c = made_ticket g.D.Device.trace g.C.Checksum.sum_of c.args.self.now c.if-has_place.self c.append.new.self (its_kept g c) (text_of c.if-has_place.head) (its_item g c) (is_ready g c).prepared (its_kind g c) refl c.ranges.pid.fits (its_line g c) c.append.ensures.rest c.append.ensures.accountant c.append.result (its_ticket g c) c.append.ensures.manifest
 
 pub returns-clause-manifest : goal.returns-clause-manifest
 returns-clause-manifest g c = c.append.ensures.manifest
 
 pub returns-clause-position : goal.returns-clause-position
-returns-clause-position g c = made_position g.D.Device.trace g.C.Checksum.sum_of c.args.self.now c.if-has_place.self c.append.new.self (its_kept g c) (text_of c.if-has_place.head) (its_item g c) (is_ready g c).prepared (its_kind g c) c.ranges.pid.fits (its_line g c) c.append.ensures.rest c.append.ensures.accountant
+returns-clause-position g c = made_position g.D.Device.trace g.C.Checksum.sum_of c.args.self.now c.if-has_place.self c.append.new.self (its_kept g c) (text_of c.if-has_place.head) (its_item g c) (is_ready g c).prepared (its_kind g c) refl c.ranges.pid.fits (its_line g c) c.append.ensures.rest c.append.ensures.accountant
 
 pub returns-clause-reserved : goal.returns-clause-reserved
 returns-clause-reserved g c =
     let end = c.append.ensures.reserved in
     let long = (is_ready g c).long in
     let counted = c.serialized_size-item_len.ensures in
-    made_end g.D.Device.trace g.C.Checksum.sum_of c.args.self.now c.if-has_place.self c.append.new.self (its_kept g c) (text_of c.if-has_place.head) (its_item g c) (is_ready g c).prepared (its_kind g c) c.ranges.pid.fits (its_line g c) c.append.ensures.rest c.append.ensures.accountant (omega (arith, end, long, counted))
+    made_end g.D.Device.trace g.C.Checksum.sum_of c.args.self.now c.if-has_place.self c.append.new.self (its_kept g c) (text_of c.if-has_place.head) (its_item g c) (is_ready g c).prepared (its_kind g c) refl c.ranges.pid.fits (its_line g c) c.append.ensures.rest c.append.ensures.accountant (omega (arith, end, long, counted))
 
 pub returns-clause-others : goal.returns-clause-others
-returns-clause-others g c = made_others g.D.Device.trace g.C.Checksum.sum_of c.args.self.now c.if-has_place.self c.append.new.self (its_kept g c) (text_of c.if-has_place.head) (its_item g c) (is_ready g c).prepared (its_kind g c) c.ranges.pid.fits (its_line g c) c.append.ensures.rest c.append.ensures.accountant
+returns-clause-others g c = made_others g.D.Device.trace g.C.Checksum.sum_of c.args.self.now c.if-has_place.self c.append.new.self (its_kept g c) (text_of c.if-has_place.head) (its_item g c) (is_ready g c).prepared (its_kind g c) refl c.ranges.pid.fits (its_line g c) c.append.ensures.rest c.append.ensures.accountant
 
 pub returns-clause-opens : goal.returns-clause-opens
-returns-clause-opens g c = made_opens g.D.Device.trace g.C.Checksum.sum_of c.args.self.now c.if-has_place.self c.append.new.self (its_kept g c) (text_of c.if-has_place.head) (its_item g c) (is_ready g c).prepared (its_kind g c) c.ranges.pid.fits (its_line g c) c.append.ensures.rest c.append.ensures.accountant
+returns-clause-opens g c = made_opens g.D.Device.trace g.C.Checksum.sum_of c.args.self.now c.if-has_place.self c.append.new.self (its_kept g c) (text_of c.if-has_place.head) (its_item g c) (is_ready g c).prepared (its_kind g c) refl c.ranges.pid.fits (its_line g c) c.append.ensures.rest c.append.ensures.accountant
 
 pub returns-clause-seals : goal.returns-clause-seals
-returns-clause-seals g c = made_seals g.D.Device.trace g.C.Checksum.sum_of c.args.self.now c.if-has_place.self c.append.new.self (its_kept g c) (text_of c.if-has_place.head) (its_item g c) (is_ready g c).prepared (its_kind g c) c.ranges.pid.fits (its_line g c) c.append.ensures.rest c.append.ensures.accountant
+returns-clause-seals g c = made_seals g.D.Device.trace g.C.Checksum.sum_of c.args.self.now c.if-has_place.self c.append.new.self (its_kept g c) (text_of c.if-has_place.head) (its_item g c) (is_ready g c).prepared (its_kind g c) refl c.ranges.pid.fits (its_line g c) c.append.ensures.rest c.append.ensures.accountant
 
 pub returns-clause-keeps : goal.returns-clause-keeps
-returns-clause-keeps g c = made_keeps g.D.Device.trace g.C.Checksum.sum_of c.args.self.now c.if-has_place.self c.append.new.self (its_kept g c) (text_of c.if-has_place.head) (its_item g c) (is_ready g c).prepared (its_kind g c) c.ranges.pid.fits (its_line g c) c.append.ensures.rest c.append.ensures.accountant
+returns-clause-keeps g c = made_keeps g.D.Device.trace g.C.Checksum.sum_of c.args.self.now c.if-has_place.self c.append.new.self (its_kept g c) (text_of c.if-has_place.head) (its_item g c) (is_ready g c).prepared (its_kind g c) refl c.ranges.pid.fits (its_line g c) c.append.ensures.rest c.append.ensures.accountant
 
 pub returns-clause-same : goal.returns-clause-same
-returns-clause-same g c = made_same g.D.Device.trace g.C.Checksum.sum_of c.args.self.now c.if-has_place.self c.append.new.self (its_kept g c) (text_of c.if-has_place.head) (its_item g c) (is_ready g c).prepared (its_kind g c) c.ranges.pid.fits (its_line g c) c.append.ensures.rest c.append.ensures.accountant
+returns-clause-same g c = made_same g.D.Device.trace g.C.Checksum.sum_of c.args.self.now c.if-has_place.self c.append.new.self (its_kept g c) (text_of c.if-has_place.head) (its_item g c) (is_ready g c).prepared (its_kind g c) refl c.ranges.pid.fits (its_line g c) c.append.ensures.rest c.append.ensures.accountant
 
 pub returns-clause-answers : goal.returns-clause-answers
 returns-clause-answers g c = (c.in_default.is, subst IsSome (sym (its_kind g c)) refl, (is_ready g c).prepared.further, (is_ready g c).prepared.few)
