@@ -69,7 +69,7 @@ replace_below H pages page place table less below =
     record { message = has.message; there = found.0; of = found.1; replaces = has.replaces; below = All-contains (λ m. m.place < place) H.messages has.message below found.0 }
 
 -- a Replace, a Link and a Free are written
-pub kind_some : (kind : LogKind) (page n : ℕ) → ChangesPage kind → kind_for kind page n ≡ None → ⊥
+pub kind_some : (kind : LogKind) (page n : ℕ) → ChangesPage kind → kind_for kind page false n ≡ None → ⊥
 kind_some does.Replace page n changes none = by (page == 1) (page == 0) none where
   by : (a b : Bool) → (if a then Some Counter else (if b then Some InlineMeta else Some InlineNode)) ≡ None → ⊥
   by true b is = cc
@@ -301,9 +301,9 @@ module _ {D C : Type 0} (view : D → DeviceView) (sum : List ℕ → ℕ) (old 
 
 -- Where a place was refused.
 
-reserve_failed : (size : ℕ) (a : RunState) (l : LogView) (kind : LogKind) (page : ℕ) (bytes : List ℕ) (T : Type 0) (e : Error) (new : DeviceView) (b : RunState) (used : Type 0) (open_count : ℕ) (least : ℤ → Type 0) → (kind_for kind page (length bytes) ≡ None → ⊥)
+reserve_failed : (size : ℕ) (a : RunState) (l : LogView) (kind : LogKind) (page : ℕ) (bytes : List ℕ) (T : Type 0) (e : Error) (new : DeviceView) (b : RunState) (used : Type 0) (open_count : ℕ) (least : ℤ → Type 0) → (kind_for kind page false (length bytes) ≡ None → ⊥)
     → (used → EndsInReach size (target_in size l page (length bytes)) → ⊥) → ((at : ℤ) → l.fault ≡ None → open_count ≡ most_open → least at → IsFullOfOpen l (target_in size l page (length bytes)) at)
-    → ReserveAnswers {T = T} (Err e) l.fault (kind_for kind page (length bytes)) used open_count least → b ≡ a → ReserveStep size a l kind page bytes (reply.Failed e) new b
+    → ReserveAnswers {T = T} (Err e) l.fault (kind_for kind page false (length bytes)) used open_count least → b ≡ a → ReserveStep size a l kind page bytes (reply.Failed e) new b
 reserve_failed s a l kind page bytes T (error.Io x) new b used n least written out full answers leads = (answers, leads)
 reserve_failed s a l kind page bytes T error.OutOfMemory new b used n least written out full answers leads = (answers.0, leads)
 reserve_failed s a l kind page bytes T error.PlacesUsedUp new b used n least written out full answers leads = (answers.0, out answers.2, leads)
@@ -348,9 +348,9 @@ module _ {D C : Type 0} (view : D → DeviceView) (sum : List ℕ → ℕ) (old 
   abbrev with_new : Opened D C
   with_new = record { alloc = old.alloc; log = log; guard = old.guard; pages = old.pages; busy = old.busy; batch = old.batch; tickets = old.tickets }
 
-  pub failed_tried : (T : Type 0) (e : Error) → (kind_for kind page (length bytes) ≡ None → ⊥) → FitsInline (segment_size_of old.log) (length bytes)
+  pub failed_tried : (T : Type 0) (e : Error) → (kind_for kind page false (length bytes) ≡ None → ⊥) → FitsInline (segment_size_of old.log) (length bytes)
       → ((H : History) (A f : ℕ) (U : List Message) → Fits (traces view) sum old.log H A f U → Fits (traces view) sum log H A f U) → IsUnchanged old.log log → KeepsAll old.log log
-      → ReserveAnswers {T = T} (Err e) (fault_of old.log) (kind_for kind page (length bytes)) (IsUsedUpFor old.log page (length bytes)) (open_for old.log page (length bytes)) (IsLeastOpen old.log)
+      → ReserveAnswers {T = T} (Err e) (fault_of old.log) (kind_for kind page false (length bytes)) (IsUsedUpFor old.log page (length bytes)) (open_for old.log page (length bytes)) (IsLeastOpen old.log)
       → HasTried view sum old kind page bytes with_new (reply.Failed e) k
   failed_tried T e written inline fits unchanged same answers =
       let size : ℕ = segment_size_of old.log in
