@@ -23,6 +23,7 @@ pub mod OpenBatches
 pub mod OpenPlaces
 pub mod Own
 pub mod Positions
+pub mod Prepared
 pub mod Reached
 pub mod ReadBuffer
 pub mod Reading

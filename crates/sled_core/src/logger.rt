@@ -44,7 +44,7 @@ use crate::iobuf::start::begin;
 use crate::iobuf::{IoBuf, Purpose, SegmentPosition};
 use crate::logger::batches::NotedBatch;
 use crate::logger::read_message::{LogRead, read_message};
-use crate::logger::reserving::{is_manifest, kind_for};
+use crate::logger::reserving::kind_for;
 use crate::logger::segments::{SegmentBuffer, no_segments};
 use crate::reservation::{Guard, Reservation};
 use sled_codec::result::{DiskPtr, Error, LogOffset, Lsn, PageId, Result};
@@ -258,14 +258,7 @@ impl<D: Device, C: Checksum> Log<D, C> {
             page: pid,
             blob: None,
         };
-        let manifest = is_manifest(kind, pid);
-        let mut head = self.head_for(&purpose, item_len);
-        if self.has_place(head.len + item_len) {
-            self.room_for(head.len + item_len, manifest)?;
-        } else {
-            self.begin_segment(manifest)?;
-            head = self.head_for(&purpose, item_len);
-        }
+        let head = self.prepare(&purpose, item_len)?;
         Ok(self.append(&head, &purpose, item, item_len))
     }
 

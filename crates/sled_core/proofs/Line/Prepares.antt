@@ -11,20 +11,22 @@ use Rattle.sled_store.specs.Accounts.{MayHandOut}
 use Rattle.sled_store.specs.Device.{Trace}
 use Rattle.sled_store.specs.SegmentStates.{handed_out, next_slot}
 use Rattle.sled_store.specs.declared.config.RunningConfig.{RunningConfig}
-use Rattle.sled_core.specs.Begun.{SegmentView, segment_view, view_at}
+use Rattle.sled_core.specs.Begun.{SegmentView, last_buffer, segment_view, view_at}
 use Rattle.sled_core.specs.Buffers.{message_in, most_open, placeholder_head, record_size, reserved_for, pointer_as, item_as}
 use Rattle.sled_core.specs.declared.iobuf.Purpose.{Purpose}
 use Rattle.sled_core.specs.declared.iobuf.Reserved.{Reserved}
+use Rattle.sled_core.specs.declared.iobuf.record.Head.{Head}
 use Rattle.sled_core.specs.declared.logger.Log.{Log}
 use Rattle.sled_core.specs.declared.reservation.Reservation.{Reservation}
 use Rattle.sled_core.specs.Fits.{Awaits, AwaitsIn, FitsInline, open_places, IsUnchanged, IsUsedUpFor, KeepsAll, KeepsTickets, NoFurther, current_of, is_moved, line_of, machine_at, message_for, open_for, open_of, position_behind, position_of, reserved_end, segment_size_of, stable_end, size_for, start_behind, start_of, target_of, waiting_behind, waiting_of}
 use Rattle.sled_core.specs.Keeps.{Preserves}
 use Rattle.sled_core.specs.Positions.{Position, behind_record, next_segment_at}
-use Rattle.sled_core.specs.Turned.{ChangesLine, ChangesSlots, HasPlace, IsTicketFor, begun_view, next_line, reserved_now}
+use Rattle.sled_core.specs.Prepared.{IsPrepared, next_here, number_of, text_of}
+use Rattle.sled_core.specs.Turned.{ChangesLine, ChangesSlots, HasPlace, HasRoomForBatch, HasRoomIn, IsTicketFor, begun_view, next_line, reserved_now}
 use Rattle.sled_core.specs.Waiting.{BufferAt, BufferStart, at_last, closed_now, unwritten}
 use Rattle.sled_core.proofs.Holds.KeptCalls.{kept_further}
 use Rattle.sled_core.proofs.Line.Begins.{begins_current, begins_keeps, begins_same, begins_tickets}
-use Rattle.sled_core.proofs.Line.LogReserves.{placeholder_fits, reserves_keeps, reserves_opens, reserves_others, reserves_position, reserves_same, target_here, target_next}
+use Rattle.sled_core.proofs.Line.LogReserves.{placeholder_fits, record_long, reserves_keeps, reserves_opens, reserves_others, reserves_position, reserves_same, target_here, target_next}
 use Rattle.sled_core.proofs.Line.LogSpans.{next_buffers, reserved_buffers, same_buffers}
 use Rattle.sled_core.proofs.Line.Reserves.{HasPlaceFor, ticket_reserved}
 use Rattle.sled_core.proofs.Line.Targets.{record_short}
@@ -32,31 +34,18 @@ use Rattle.sled_core.proofs.Line.Unchanged.{left_alone, unchanged_current, uncha
 use Rattle.sled_core.proofs.Reserve.Heads.{length-short_header_tail}
 use Rattle.sled_core.proofs.Reserve.ReserveLemmas.{head_whole, message_is, more_long}
 
--- behind all bytes of the segment that is being filled
-abbrev pub next_here : {D C : Type 0} → Log D C → Position
-next_here log = record { place = (current_of log).parts.site.place + length (current_of log).parts.bytes; begins = (current_of log).parts.site.place; slot = (current_of log).parts.site.slot; machine = machine_at log }
+-- The header is one of a record with a body of n bytes, in a segment of this number.
+pub record IsHeadOf (head : Head) (kept : Purpose) (n number : ℕ) : Type 0 where
+  pub bytes : drop 4 (text_of head) ≡ short_header_tail kept.kind n number kept.page
+  pub len : head.len ≡ 4 + length (short_header_tail kept.kind n number kept.page)
 
--- the number of that segment
-abbrev pub number_of : {D C : Type 0} → Log D C → ℕ
-number_of log = (current_of log).parts.site.place / segment_size_of log
+module _ (head : Head) (kept : Purpose) (n number : ℕ) (is : IsHeadOf head kept n number) where
+  -- that record's length by it
+  pub head_size : head.len + n ≡ record_size number kept.page n
+  head_size = record_long kept.kind head.len n number kept.page n is.len refl
 
--- A log is ready for a record of an item of a page: it will stand there, behind all bytes.
-pub record IsPrepared {D C : Type 0} (trace : D → Trace) (sum : List ℕ → ℕ) (old mid : Log D C) (kept : Purpose) (head item : List ℕ) : Type 0 where
-  pub keeps : Preserves trace sum old mid
-  pub tickets : KeepsTickets old mid
-  pub same : KeepsAll old mid
-  pub target : target_of old kept.page (length item) ≡ next_here mid
-  pub tail : drop 4 head ≡ short_header_tail kept.kind (length item) (number_of mid) kept.page
-  pub fits : HasPlace mid (length head + length item)
-  pub seals : (waiting_of mid ≡ waiting_behind sum old kept.page (length item)) × (start_of mid ≡ start_behind old kept.page (length item))
-  pub further : IsUsedUpFor old kept.page (length item) → ⊥
-  pub few : open_for old kept.page (length item) < most_open
-
--- a record's length by its header
-pub head_size : (head item : List ℕ) (kept : Purpose) (number : ℕ) → drop 4 head ≡ short_header_tail kept.kind (length item) number kept.page → length head + length item ≡ record_size number kept.page (length item)
-head_size head item kept number tail =
-    let whole = head_whole head kept.kind (length item) number kept.page tail in
-    omega (arith, whole, length-short_header_tail kept.kind (length item) number kept.page)
+  pub head_long : head.len ≡ length (text_of head)
+  head_long = is.len ∙ sym (head_whole (text_of head) kept.kind n number kept.page is.bytes)
 
 -- Where the record stands.
 
@@ -71,35 +60,32 @@ module _ {D C : Type 0} (log : Log D C) (page n : ℕ) (target : target_of log p
   moved = let at = ap (λ (q : Position). q.place) target in grind (arith, nat_tests, at)
 
 -- It has a place there.
-module _ {D C : Type 0} (trace : D → Trace) (sum : List ℕ → ℕ) (old mid : Log D C) (kept : Purpose) (head item : List ℕ) (tail : drop 4 head ≡ short_header_tail kept.kind (length item) (number_of old) kept.page)
-    (has : HasPlace old (length head + length item)) where
-  here_target : target_of old kept.page (length item) ≡ next_here old
+module _ {D C : Type 0} (trace : D → Trace) (sum : List ℕ → ℕ) (old mid : Log D C) (kept : Purpose) (head : Head) (n : ℕ) (is : IsHeadOf head kept n (number_of old)) (has : HasPlace old (head.len + n)) where
+  here_target : target_of old kept.page n ≡ next_here old
   here_target =
-      let long = head_size head item kept (number_of old) tail in
+      let long = head_size head kept n (number_of old) is in
       let inside = has.record_fits in
-      target_here (segment_size_of old) (current_of old) (machine_at old) kept.page (length item) has.header (omega (arith, inside, long))
+      target_here (segment_size_of old) (current_of old) (machine_at old) kept.page n has.header (omega (arith, inside, long))
 
-  pub here_stays : is_moved old kept.page (length item) ≡ false
-  here_stays = not_moved old kept.page (length item) here_target has.header
+  pub here_stays : is_moved old kept.page n ≡ false
+  here_stays = not_moved old kept.page n here_target has.header
 
-  pub here_open : open_for old kept.page (length item) ≡ open_of old
+  pub here_open : open_for old kept.page n ≡ open_of old
   here_open = ap (λ (o : Bool). if o then 0 else open_of old) here_stays
 
-  pub here_further : IsUsedUpFor old kept.page (length item) → ⊥
+  pub here_further : IsUsedUpFor old kept.page n → ⊥
   here_further used = let moves = used.0 in let stays = here_stays in let both : true ≡ false = sym moves ∙ stays in cc
 
-  pub prepared_here : line_of mid ≡ line_of old → ChangesLine old mid → open_of old < most_open → IsPrepared trace sum old mid kept head item
-  prepared_here line rest few =
+  pub prepared_here : line_of mid ≡ line_of old → ChangesLine old mid → HasRoomIn (last_buffer mid.buffer mid.behind.items) (head.len + n) → (is_manifest kept.log_kind kept.page ≡ true → HasRoomForBatch mid) → IsPrepared trace sum old mid kept head n
+  prepared_here line rest room batch =
       let same : IsUnchanged old mid = left_alone old mid line rest in
       let current : current_of mid ≡ current_of old = unchanged_current old mid same in
       let sizes : segment_size_of mid ≡ segment_size_of old = unchanged_size old mid same in
       let machine : machine_at mid ≡ machine_at old = same.machine in
-      let n : ℕ = length item in
       let header = has.header in
       let inside = has.record_fits in
       let bytes = ap (λ (v : SegmentView). length v.parts.bytes) current in
       let stays = here_stays in
-      let open_same = here_open in
       let buffers = same_buffers old mid line in
       let closed : List BufferAt = unwritten (at_last (closed_now sum (segment_size_of old)) (line_of old)) in
       let next : BufferStart = record { place = (current_of old).parts.site.place + segment_size_of old; lid = next_slot (machine_at old) * segment_size_of old } in
@@ -108,16 +94,17 @@ module _ {D C : Type 0} (trace : D → Trace) (sum : List ℕ → ℕ) (old mid 
         tickets = unchanged_tickets old mid same;
         same = unchanged_same old mid same;
         target = here_target ∙ sym (λ i. record { place = (current i).parts.site.place + length (current i).parts.bytes; begins = (current i).parts.site.place; slot = (current i).parts.site.slot; machine = machine i });
-        tail = tail ∙ sym (λ i. short_header_tail kept.kind n ((current i).parts.site.place / sizes i) kept.page);
+        tail = is.bytes ∙ sym (λ i. short_header_tail kept.kind n ((current i).parts.site.place / sizes i) kept.page);
+        long = head_long head kept n (number_of old) is;
         fits = record { header = omega (arith, header, bytes, sizes); record_fits = omega (arith, inside, bytes, sizes) };
+        room = room;
+        batch = batch;
         seals = (buffers.0 ∙ sym (ap (λ (o : Bool). if o then closed else waiting_of old) stays), buffers.1 ∙ sym (ap (λ (o : Bool). if o then next else start_of old) stays));
-        further = here_further;
-        few = omega (arith, few, open_same);
       }
 
 -- It has none, by the header that it would have there.
-module _ {D C : Type 0} (trace : D → Trace) (sum : List ℕ → ℕ) (old : Log D C) (kept : Purpose) (item : List ℕ) (inline : FitsInline (segment_size_of old) (length item))
-    (len : ℕ) (long : len ≡ record_size (number_of old) kept.page (length item)) (not : HasPlace old len → ⊥) where
+module _ {D C : Type 0} (trace : D → Trace) (sum : List ℕ → ℕ) (old : Log D C) (kept : Purpose) (n : ℕ) (inline : FitsInline (segment_size_of old) n)
+    (len : ℕ) (long : len ≡ record_size (number_of old) kept.page n) (not : HasPlace old len → ⊥) where
   abbrev size : ℕ
   size = segment_size_of old
 
@@ -127,33 +114,33 @@ module _ {D C : Type 0} (trace : D → Trace) (sum : List ℕ → ℕ) (old : Lo
   big : 256 ≤ size
   big = old.config.config.least
 
-  next_target : target_of old kept.page (length item) ≡ next_segment_at size v.parts.site.place (machine_at old)
-  next_target = target_next size v (machine_at old) kept.page (length item) big inline (λ room inside. not (record { header = room; record_fits = omega (arith, inside, long) }))
+  next_target : target_of old kept.page n ≡ next_segment_at size v.parts.site.place (machine_at old)
+  next_target = target_next size v (machine_at old) kept.page n big inline (λ room inside. not (record { header = room; record_fits = omega (arith, inside, long) }))
 
-  pub next_moves : is_moved old kept.page (length item) ≡ true
-  next_moves = moved old kept.page (length item) next_target
+  pub next_moves : is_moved old kept.page n ≡ true
+  next_moves = moved old kept.page n next_target
 
-  pub next_open : open_for old kept.page (length item) ≡ 0
+  pub next_open : open_for old kept.page n ≡ 0
   next_open = ap (λ (o : Bool). if o then 0 else open_of old) next_moves
 
-  pub next_used : NoFurther old → IsUsedUpFor old kept.page (length item)
+  pub next_used : NoFurther old → IsUsedUpFor old kept.page n
   next_used none = (next_moves, none)
 
-  pub prepared_next : (mid : Log D C) (head : List ℕ) → line_of mid ≡ next_line sum size (machine_at old) (stable_end old) (line_of old) → machine_at mid ≡ handed_out (v.parts.site.place + size) (machine_at old) → ChangesSlots old mid
-      → drop 4 head ≡ short_header_tail kept.kind (length item) (number_of mid) kept.page → MayHandOut size (v.parts.site.place + size) (machine_at old) → IsPrepared trace sum old mid kept head item
-  prepared_next mid head line machine rest tail may =
+  pub prepared_next : (mid : Log D C) (head : Head) → IsHeadOf head kept n (number_of mid) → line_of mid ≡ next_line sum size (machine_at old) (stable_end old) (line_of old) → machine_at mid ≡ handed_out (v.parts.site.place + size) (machine_at old) → ChangesSlots old mid
+      → HasRoomIn (last_buffer mid.buffer mid.behind.items) (size - 20) → (is_manifest kept.log_kind kept.page ≡ true → HasRoomForBatch mid) → IsPrepared trace sum old mid kept head n
+  prepared_next mid head is line machine rest room batch =
       let current : current_of mid ≡ begun_view sum size (machine_at old) (stable_end old) v = begins_current trace sum old mid line machine rest in
       let header = length-short_header sum (pos (v.parts.site.place + size)) (pos (stable_end old) -ℤ pos 1) in
       let bytes : length (current_of mid).parts.bytes ≡ 20 = ap (λ (w : SegmentView). length w.parts.bytes) current ∙ header in
       let sizes : segment_size_of mid ≡ size = ap (λ (x : RunningConfig D C). x.config.segment_size) rest.config in
-      let all = head_size head item kept (number_of mid) tail in
-      let short = record_short (number_of mid) kept.page (length item) in
+      let all = head_size head kept n (number_of mid) is in
+      let short = record_short (number_of mid) kept.page n in
       let moves = next_moves in
-      let none = next_open in
       let least = big in
       let buffers = next_buffers sum old mid (stable_end old) line in
       let closed : List BufferAt = unwritten (at_last (closed_now sum size) (line_of old)) in
       let next : BufferStart = record { place = v.parts.site.place + size; lid = next_slot (machine_at old) * size } in
+      let space = room.bytes in
       record {
         keeps = begins_keeps trace sum old mid line machine rest;
         tickets = begins_tickets trace sum old mid line machine rest;
@@ -161,35 +148,42 @@ module _ {D C : Type 0} (trace : D → Trace) (sum : List ℕ → ℕ) (old : Lo
         target = next_target
             ∙ sym ((λ i. record { place = (current i).parts.site.place + length (current i).parts.bytes; begins = (current i).parts.site.place; slot = (current i).parts.site.slot; machine = machine i })
             ∙ ap (λ k. record { place = v.parts.site.place + size + k; begins = v.parts.site.place + size; slot = next_slot (machine_at old) * size; machine = handed_out (v.parts.site.place + size) (machine_at old) }) header);
-        tail = tail;
+        tail = is.bytes;
+        long = head_long head kept n (number_of mid) is;
         fits = record { header = omega (arith, bytes, sizes, least); record_fits = omega (arith, bytes, sizes, least, all, short, inline) };
+        room = record { bytes = omega (arith, space, least, all, short, inline); reserved = room.reserved; few = room.few };
+        batch = batch;
         seals = (buffers.0 ∙ sym (ap (λ (o : Bool). if o then closed else waiting_of old) moves), buffers.1 ∙ sym (ap (λ (o : Bool). if o then next else start_of old) moves));
-        further = λ used. used.1 may;
-        few = omega (arith, none);
       }
 
 -- The reservation is made.
-module _ {D C : Type 0} (trace : D → Trace) (sum : List ℕ → ℕ) (old mid new : Log D C) (kept : Purpose) (head item : List ℕ) (ready : IsPrepared trace sum old mid kept head item)
+module _ {D C : Type 0} (trace : D → Trace) (sum : List ℕ → ℕ) (old mid new : Log D C) (kept : Purpose) (head : Head) (item : List ℕ) (ready : IsPrepared trace sum old mid kept head (length item))
     (known : kind_for kept.log_kind kept.page (is_some kept.blob) (length item) ≡ Some kept.kind) (plain : kept.blob ≡ None) (small : kept.page < 2 ^ 64)
-    (line : line_of new ≡ at_last (reserved_now (placeholder_head head ++ item) (reserved_for kept (length (current_of mid).parts.bytes) (length head) (length item) (sum (item ++ drop 4 head)))) (line_of mid))
+    (line : line_of new ≡ at_last (reserved_now (placeholder_head (text_of head) ++ item) (reserved_for kept (length (current_of mid).parts.bytes) (length (text_of head)) (length item) (sum (item ++ drop 4 (text_of head))))) (line_of mid))
     (rest : ChangesSlots mid new) (accountant : new.accountant ≡ mid.accountant) where
+  abbrev text : List ℕ
+  text = text_of head
+
   abbrev w : SegmentView
   w = current_of mid
 
   abbrev more : List ℕ
-  more = placeholder_head head ++ item
+  more = placeholder_head text ++ item
 
   abbrev r : Reserved
-  r = reserved_for kept (length w.parts.bytes) (length head) (length item) (sum (item ++ drop 4 head))
+  r = reserved_for kept (length w.parts.bytes) (length text) (length item) (sum (item ++ drop 4 text))
 
   abbrev len : ℕ
   len = length item
 
   fits : HasPlaceFor sum (segment_size_of mid) more r w
-  fits = placeholder_fits sum mid head item kept known plain small ready.tail ready.fits
+  fits = placeholder_fits sum mid text item kept known plain small ready.tail (subst (λ n. HasPlace mid n) (ap (λ n. n + len) ready.long) ready.fits)
 
-  whole : length head ≡ 4 + length (short_header_tail kept.kind len (number_of mid) kept.page)
-  whole = head_whole head kept.kind len (number_of mid) kept.page ready.tail
+  whole : length text ≡ 4 + length (short_header_tail kept.kind len (number_of mid) kept.page)
+  whole = head_whole text kept.kind len (number_of mid) kept.page ready.tail
+
+  all_size : length text + len ≡ record_size (number_of mid) kept.page len
+  all_size = record_long kept.kind (length text) len (number_of mid) kept.page len whole refl
 
   size_same : segment_size_of old ≡ segment_size_of mid
   size_same = sym (ap (λ (x : RunningConfig D C). x.config.segment_size) ready.same.config)
@@ -202,7 +196,7 @@ module _ {D C : Type 0} (trace : D → Trace) (sum : List ℕ → ℕ) (old mid 
   size_is = λ i. record_size ((ready.target i).begins / size_same i) kept.page len
 
   long : length more ≡ here_size
-  long = more_long sum (number_of mid) w.parts.bytes head item kept known plain small ready.tail whole ∙ head_size head item kept (number_of mid) ready.tail
+  long = more_long sum (number_of mid) w.parts.bytes text item kept known plain small ready.tail whole ∙ all_size
 
   pub made_keeps : Preserves trace sum old new
   made_keeps = kept_further trace sum old mid new ready.keeps (reserves_keeps trace sum mid new more r line rest accountant fits)
@@ -221,11 +215,11 @@ module _ {D C : Type 0} (trace : D → Trace) (sum : List ℕ → ℕ) (old mid 
       reserves_position trace sum mid new more r line rest accountant fits here_size long
       ∙ sym (λ i. behind_record (size_same i) (ready.target i) (size_is i))
 
-  pub made_end : reserved_end new ≡ w.parts.site.place + length w.parts.bytes + length head + len → reserved_end new ≡ (target_of old kept.page len).place + size_for old kept.page len
+  pub made_end : reserved_end new ≡ w.parts.site.place + length w.parts.bytes + length text + len → reserved_end new ≡ (target_of old kept.page len).place + size_for old kept.page len
   made_end end =
       let at = ap (λ (q : Position). q.place) ready.target in
       let is = size_is in
-      let all = head_size head item kept (number_of mid) ready.tail in
+      let all = all_size in
       omega (arith, end, at, is, all)
 
   pub made_seals : (waiting_of new ≡ waiting_behind sum old kept.page len) × (start_of new ≡ start_behind old kept.page len)
@@ -250,7 +244,7 @@ module _ {D C : Type 0} (trace : D → Trace) (sum : List ℕ → ℕ) (old mid 
         ≡ message_in w.parts.site (w.parts.bytes ++ more) r
     its_message =
         ap (λ (o : Option ℤ). record { kind = kept.log_kind; page = kept.page; place = w.parts.site.place + length w.parts.bytes; pointer = pointer_as o (w.parts.site.slot + length w.parts.bytes); size = here_size; bytes = item_as o item }) (sym plain)
-        ∙ message_is sum (number_of mid) w.parts.bytes head item kept known plain small ready.tail whole w.parts.site
+        ∙ message_is sum (number_of mid) w.parts.bytes text item kept known plain small ready.tail whole w.parts.site
 
     pub made_ticket : Awaits new ticket (message_for old kept.log_kind kept.page item)
     made_ticket =

@@ -1,13 +1,14 @@
 //! The parts of a reservation: whether its record has a place in the current segment, the room for it, and its placeholder.
-ghost use Rattle.std.specs.Prelude.{◌≡◌, ◌+◌, ◌-◌, ◌/◌, ◌^◌, ◌<◌, ◌≤◌, ◌++◌, ◌∷◌, [], drop, length, take, true, IsTrue, OnOk, OnErr, ◌↔◌};
+ghost use Rattle.std.specs.Prelude.{◌≡◌, ◌+◌, ◌-◌, ◌/◌, ◌^◌, ◌<◌, ◌≤◌, ◌++◌, ◌∷◌, [], drop, length, take, true, IsTrue, IfOk, OnOk, OnErr, ◌↔◌};
 ghost use Rattle.sled_codec.specs.Spelling.{short_header_tail};
 ghost use Rattle.sled_store.specs.Accounts.{MayHandOut, NextAnswers};
 ghost use Rattle.sled_store.specs.SegmentStates.{handed_out};
 ghost use Rattle.sled_core.specs.Begun.{last_buffer};
 ghost use Rattle.sled_core.specs.Buffers.{placeholder_head, reserved_for};
 ghost use Rattle.sled_core.specs.Causes.{MakesRoom};
-ghost use Rattle.sled_core.specs.Fits.{IsLeastOpen, IsUnchanged, current_of, line_of, machine_at, open_of, segment_size_of, stable_end};
+ghost use Rattle.sled_core.specs.Fits.{FitsInline, IsLeastOpen, IsUnchanged, IsUsedUpFor, current_of, line_of, machine_at, open_for, open_of, segment_size_of, stable_end};
 ghost use Rattle.sled_core.specs.Manifests.{is_manifest, kind_for};
+ghost use Rattle.sled_core.specs.Prepared.{IsPrepared, PrepareAnswers};
 ghost use Rattle.sled_core.specs.Tickets.{is_manifest_of};
 ghost use Rattle.sled_core.specs.Turned.{ChangesLine, ChangesSlots, HasRoomForBatch, HasRoomIn, HasPlace, IsTicketFor, next_line, reserved_now};
 ghost use Rattle.sled_core.specs.Waiting.{at_last};
@@ -24,6 +25,25 @@ use sled_store::Device;
 use sled_store::segment::{MAX_MSG_HEADER_LEN, SEG_HEADER_LEN};
 
 impl<D: Device, C: Checksum> Log<D, C> {
+    /// Makes the log ready for a record with a body of this length, in the current segment or, where it has no room there,
+    /// in a further one, which is begun. Returns the header of the record.
+    pub(crate) fn prepare(&mut self, purpose: &Purpose, body_len: usize) -> Result<Head>
+        requires { FitsInline (segment_size_of self.old) body_len }
+        ensures prepared { IfOk result (λ head. IsPrepared D.trace C.sum_of self.old self.new purpose.now head body_len) }
+        ensures err { OnErr result (IsUnchanged self.old self.new) }
+        ensures answers { let page = purpose.now.page in
+            PrepareAnswers result (IsUsedUpFor self.old page body_len) (open_for self.old page body_len) (IsLeastOpen self.old) }
+    {
+        let manifest = is_manifest(purpose.log_kind, purpose.page);
+        let head = self.head_for(purpose, body_len);
+        if self.has_place(head.len + body_len) {
+            self.room_for(head.len + body_len, manifest)?;
+            return Ok(head);
+        }
+        self.begin_segment(manifest)?;
+        Ok(self.head_for(purpose, body_len))
+    }
+
     /// The header of a message of the current segment whose body is this long.
     pub(crate) fn head_for(&self, purpose: &Purpose, item_len: usize) -> Head
         ensures bytes { drop 4 (take result.len result.bytes)
