@@ -6,6 +6,7 @@ pub mod Holds
 pub mod Iterated
 pub mod Iterates
 pub mod Line
+pub mod Logged
 pub mod PublicLaws
 pub mod Reached
 pub mod Read
