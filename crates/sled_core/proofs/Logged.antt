@@ -1,3 +1,4 @@
 pub mod Alike
 pub mod Messages
+pub mod Names
 pub mod Stands
