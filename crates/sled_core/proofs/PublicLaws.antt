@@ -5,7 +5,7 @@ use Rattle.std.specs.Int.{w64, cast_signed, cast_unsigned}
 use Rattle.std.specs.List.{All}
 use Rattle.std.proofs.lemmas.Int.{to_z-of_z}
 use Rattle.std.proofs.lemmas.List.Elements.{All-tail}
-use Rattle.sled_codec.specs.History.{History}
+use Rattle.sled_codec.specs.History.{History, Message}
 use Rattle.sled_codec.specs.Snapshots.{SnapshotModel, stable_place}
 use Rattle.sled_store.specs.Begin.{offset_at, place_at}
 use Rattle.sled_store.specs.Device.{Trace, State, Content, Left, Leaves, Crashed, state_of, content_of, content_left, names_at_rest, step}
@@ -14,6 +14,7 @@ use Rattle.sled_store.proofs.Names.NamesLemmas.{settled_name_left, settled_name_
 use Rattle.sled_store.proofs.Crashes.SettledLemmas.{read_left}
 use Rattle.sled_core.specs.declared.logger.Log.{Log}
 use Rattle.sled_core.specs.Fits.{KeepsAll, stable_end, FitsInline, NoneOpen, NoneOpenIn, IsUnchanged, IsWritten, synced_end, segment_size_of, buffers_of, current_begin, current_of, held_len, holding_below, is_moved, line_of, machine_at, next_place, noted_in, reserved_end, sealing_end, start_behind, start_of, target_of, waiting_behind, waiting_of}
+use Rattle.sled_core.specs.Logged.{logged}
 use Rattle.sled_core.specs.Waiting.{BufferAt, BufferStart, HasLength, at_last, closed_now, first_held, held_below, spans, unwritten}
 use Rattle.sled_store.specs.SegmentStates.{next_slot}
 use Rattle.sled_core.specs.Recoverable.{NoForeign, Recoverable, LeavesRecoverable}
@@ -25,6 +26,7 @@ use Rattle.sled_core.proofs.Line.Facts.{current_facts}
 use Rattle.sled_core.proofs.Line.Targets.{lies}
 use Rattle.sled_core.proofs.Line.Shows.{buffers_add, buffers_closed, buffers_free, buffers_long, buffers_still}
 use Rattle.sled_core.proofs.Line.Spans.{spans_added}
+use Rattle.sled_core.proofs.Logged.Messages.{all_in_log}
 use Rattle.sled_core.proofs.Start.Places.{goes_on_at}
 pub use Rattle.sled_core.proofs.Start.FreshReady.{fresh_leaves, fresh_ready, empty_ready, empty_recoverable}
 pub use Rattle.sled_core.proofs.Holds.KeptCalls.{goes_on_still, goes_on_further, kept_still, kept_further}
@@ -53,7 +55,7 @@ place_back z n is small = let fits : FitsSigned w64 (pos n) = search rules in sy
 
 -- What was written ends at the stable end at most.
 pub written_past : {D C : Type 0} (trace : D → Trace) (sum : List ℕ → ℕ) (log : Log D C) (H : History) → IsWritten trace sum log H → All (λ m. m.place + m.size ≤ synced_end log) H.messages
-written_past trace sum log H written = kept_past sum (segment_size_of log) log.site log.buffer.written_len _ H written
+written_past trace sum log H written = all_in_log (λ (m : Message). m.place + m.size ≤ synced_end log) H.messages (kept_past sum (segment_size_of log) log.site log.buffer.written_len _ (logged H) written)
 
 -- What is seen of the buffers of a log: the current one, as it would be sealed, lies behind the sealed ones,
 pub shows_current : {D C : Type 0} (sum : List ℕ → ℕ) (log : Log D C) → 0 < held_len log

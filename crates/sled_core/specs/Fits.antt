@@ -23,6 +23,7 @@ pub use Rattle.sled_core.specs.Begun.{line_end}
 use Rattle.sled_core.specs.Buffers.{Stands, IsChain, batches_in, completed_in, message_in, none_open, open_in, first_open_in, records_end}
 use Rattle.sled_core.specs.FreeSlots.{HasSlots}
 use Rattle.sled_core.specs.LogFile.{IsLogFile, StaysBelow, StaysFrom}
+use Rattle.sled_core.specs.Logged.{logged}
 use Rattle.sled_core.specs.OpenBatches.{AreApart, batch_of, not_whole, stable_below}
 use Rattle.sled_core.specs.OpenPlaces.{open_places_along}
 use Rattle.sled_core.specs.Positions.{Position, behind_record, is_short, placed_at, pointer_at, position_in, size_at}
@@ -342,9 +343,9 @@ pub record HoldsWith (sum : List ℕ → ℕ) (noted : List Batch) (size : ℕ) 
   pub batches : FitsBatches (written_to line) (line_end size line) noted H
   pub slots : HasSlots size line device.log.bytes fault m
 
--- The log holds this history.
+-- The log holds this history: its records are those of the history as a log has it, without the items that blobs have.
 unfoldable pub Holds : {D C : Type 0} → (D → Trace) → (List ℕ → ℕ) → Log D C → History → Type 0
-Holds trace sum log H = HoldsWith sum (noted_in log) log.config.config.segment_size (state_of (trace log.config.device)) log.fault (line_of log) (machine_of log.accountant) H
+Holds trace sum log H = HoldsWith sum (noted_in log) log.config.config.segment_size (state_of (trace log.config.device)) log.fault (line_of log) (machine_of log.accountant) (logged H)
 
 -- A log has the record of a message: it is of a segment that isn't wholly on the device, or an entry of the table of all that was written, or of that and more.
 abbrev pub HasRecordOf : {D C : Type 0} → Log D C → History → Message → Type 0
@@ -364,9 +365,9 @@ pub record IsKept (sum : List ℕ → ℕ) (size : ℕ) (site : SegmentPosition)
   -- the rest of the segment has zeros
   pub clean : AreZeros device.log.bytes (site.slot + from) (site.slot + size)
 
--- all that a log holds is on its device, and settled
+-- all that a log holds is on its device, and settled: the history as the log has it
 abbrev pub IsWritten : {D C : Type 0} → (D → Trace) → (List ℕ → ℕ) → Log D C → History → Type 0
-IsWritten trace sum log H = IsKept sum log.config.config.segment_size log.site log.buffer.written_len (state_of (trace log.config.device)) H
+IsWritten trace sum log H = IsKept sum log.config.config.segment_size log.site log.buffer.written_len (state_of (trace log.config.device)) (logged H)
 
 -- all buffers that aren't on the device, by place, with the current one as it would be sealed
 abbrev pub buffers_of : {D C : Type 0} → (List ℕ → ℕ) → Log D C → List BufferAt

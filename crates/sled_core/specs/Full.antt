@@ -9,6 +9,7 @@ use Rattle.sled_core.specs.declared.iterator.Segment.{Segment}
 use Rattle.sled_core.specs.Begun.{SegmentParts, records_to}
 use Rattle.sled_core.specs.Fits.{HoldsIn, begun_segment, log_parts}
 use Rattle.sled_core.specs.LogFile.{padded}
+use Rattle.sled_core.specs.Logged.{logged}
 use Rattle.sled_core.specs.Reached.{BeginsNext, BeginsOne, BegunSegment, LeadsTo, StandsIn, StandsTo}
 use Rattle.sled_core.specs.OpenBatches.{stable_below}
 use Rattle.sled_core.specs.Recoverable.{LeavesRecoverable, NoBatchBegins, NoBatchEnds, NoHeaderOfZeros}
@@ -26,24 +27,25 @@ pub record StandsFull (sum : List ℕ → ℕ) (size : ℕ) (log : List ℕ) (pl
   pub below : (s : Segment) → IsFoundSegment sum size log (least_place size first) s → s.mark <ℤ pos place
 
 -- What a log has to do with a history, the end of what was acknowledged, the floor and the messages that were not marked yet, where all its segments before a place are wholly on the device, and these were begun from there on.
+-- As there, the log file and the snapshots are of the history as the log has it, and the blobs of the history itself.
 pub record FitsFull (sum : List ℕ → ℕ) (size : ℕ) (device : State) (fault : Option IoError) (place : ℕ) (behind : List SegmentParts) (reach pins : ℕ) (H : History) (A f : ℕ) (U : List Message) : Type 0 where
   -- the last one of those before the place, and its bytes
   pub site : SegmentPosition
   pub bytes : List ℕ
   pub next : site.place + size ≡ place
   -- it holds all messages before the place, and those behind it the later ones
-  pub holds : HoldsIn sum (log_parts size site device fault bytes size [] []) behind H
+  pub holds : HoldsIn sum (log_parts size site device fault bytes size [] []) behind (logged H)
   -- a reader comes up to there, behind all messages before the place
   pub near : reach ≤ place
-  pub ends : (m : Message) → Contains H.messages m → m.place < place → (m.place < reach) × (m.place + m.size ≤ reach)
+  pub ends : (m : Message) → Contains (logged H).messages m → m.place < place → (m.place < reach) × (m.place + m.size ≤ reach)
   -- no batch begins or ends between
-  pub no_batch : NoBatchBegins H reach place
-  pub no_end : NoBatchEnds H reach place
+  pub no_batch : NoBatchBegins (logged H) reach place
+  pub no_end : NoBatchEnds (logged H) reach place
   -- so stands the file, with any number of zeros behind its end
-  pub beyond : (to : ℕ) → fault ≡ None → NoHeaderOfZeros sum → StandsFull sum size (padded to device.log.bytes) place (map begun_segment behind) reach H holds.begun.first
+  pub beyond : (to : ℕ) → fault ≡ None → NoHeaderOfZeros sum → StandsFull sum size (padded to device.log.bytes) place (map begun_segment behind) reach (logged H) holds.begun.first
   pub blobs : BlobsFit sum device.blobs H (stable_below reach H.batches)
   pub stored : KeepsItems sum device.blobs H (stable_below reach H.batches)
-  pub names : NamesFit sum size device.snapshots H f holds.begun.first
+  pub names : NamesFit sum size device.snapshots (logged H) f holds.begun.first
   -- all that was acknowledged is stable
   pub passes : A ≤ stable_below reach H.batches
   -- a pin is out while a completed message is not marked

@@ -16,6 +16,7 @@ use Rattle.sled_core.specs.declared.logger.Log.{Log}
 use Rattle.sled_core.specs.Begun.{SegmentParts, SegmentView, first_place}
 use Rattle.sled_core.specs.Fits.{FitsBatches, LogParts, begun_segment, line_end, line_of, log_parts, noted_in, parts_in, HoldsIn, written_to}
 use Rattle.sled_core.specs.FreeSlots.{HasSlots}
+use Rattle.sled_core.specs.Logged.{logged}
 use Rattle.sled_core.specs.Good.{HasOwnBlob}
 use Rattle.sled_core.specs.OpenBatches.{stable_below}
 use Rattle.sled_core.specs.Recoverable.{ActiveFits, AreRecoverableSnapshots, AreRecoverableBlobs, NoBatchBegins, NoBatchEnds, NoHeaderOfZeros, LeavesRecoverable}
@@ -58,20 +59,21 @@ abbrev pub end_below : ℕ → History → ℕ
 end_below place H = max (last_message place H.messages) (last_batch place H.batches)
 
 -- What a log of these bytes and reservations over a device, with these segments behind, has to do with a history, the end of what was acknowledged, the floor and the messages that were not marked yet.
+-- The log has records: what it holds, what a reader finds of it, and the tables of its snapshots are of the history as the log has it, without the items that blobs have. The blobs have those, so what is said of them, and of what a crash leaves, is of the history itself.
 pub record FitsIn (sum : List ℕ → ℕ) (parts : LogParts) (behind : List SegmentParts) (reach pins : ℕ) (H : History) (A f : ℕ) (U : List Message) : Type 0 where
-  pub holds : HoldsIn sum parts behind H
+  pub holds : HoldsIn sum parts behind (logged H)
   -- a reader comes up to there in what is written, behind all messages that are
   pub near : reach ≤ parts.site.place + parts.written_len
-  pub ends : (m : Message) → Contains H.messages m → m.place < parts.site.place + parts.written_len → (m.place < reach) × (m.place + m.size ≤ reach)
+  pub ends : (m : Message) → Contains (logged H).messages m → m.place < parts.site.place + parts.written_len → (m.place < reach) × (m.place + m.size ≤ reach)
   -- no batch begins or ends between
-  pub no_batch : NoBatchBegins H reach (parts.site.place + parts.written_len)
-  pub no_end : NoBatchEnds H reach (parts.site.place + parts.written_len)
-  pub among : parts.fault ≡ None → NoHeaderOfZeros sum → StandsAmong sum parts.size parts.device.log.bytes parts.site parts.written_len (map begun_segment behind) reach H holds.begun.first
+  pub no_batch : NoBatchBegins (logged H) reach (parts.site.place + parts.written_len)
+  pub no_end : NoBatchEnds (logged H) reach (parts.site.place + parts.written_len)
+  pub among : parts.fault ≡ None → NoHeaderOfZeros sum → StandsAmong sum parts.size parts.device.log.bytes parts.site parts.written_len (map begun_segment behind) reach (logged H) holds.begun.first
   -- and so does the file with zeros behind its end, as a write there makes it
-  pub beyond : (to : ℕ) → parts.site.slot ≤ to → parts.fault ≡ None → NoHeaderOfZeros sum → StandsAmong sum parts.size (padded to parts.device.log.bytes) parts.site parts.written_len (map begun_segment behind) reach H holds.begun.first
+  pub beyond : (to : ℕ) → parts.site.slot ≤ to → parts.fault ≡ None → NoHeaderOfZeros sum → StandsAmong sum parts.size (padded to parts.device.log.bytes) parts.site parts.written_len (map begun_segment behind) reach (logged H) holds.begun.first
   pub blobs : BlobsFit sum parts.device.blobs H (stable_below reach H.batches)
   pub stored : KeepsItems sum parts.device.blobs H (stable_below reach H.batches)
-  pub names : NamesFit sum parts.size parts.device.snapshots H f holds.begun.first
+  pub names : NamesFit sum parts.size parts.device.snapshots (logged H) f holds.begun.first
   -- all that was acknowledged is stable
   pub passes : A ≤ stable_below reach H.batches
   -- a pin is out while a completed message is not marked
@@ -84,27 +86,27 @@ abbrev pub FitsLine : (List ℕ → ℕ) → ℕ → State → Option IoError �
 FitsLine sum size device fault [] reach pins H A f U = ⊥
 FitsLine sum size device fault (v ∷ vs) reach pins H A f U = FitsIn sum (log_parts size v.parts.site device fault v.parts.bytes v.parts.written_len v.parts.sealed v.parts.reserved) (map parts_in vs) reach pins H A f U
 
--- So do those of a log that has noted these batches and whose slots are these.
+-- So do those of a log that has noted these batches and whose slots are these. Batches and entries are of the history as the log has it.
 pub record FitsWith (sum : List ℕ → ℕ) (noted : List Batch) (size : ℕ) (device : State) (fault : Option IoError) (line : List SegmentView) (m : Machine) (pins : ℕ) (H : History) (A f : ℕ) (U : List Message) : Type 0 where
   pub reach : ℕ
   pub parts : FitsLine sum size device fault line reach pins H A f U
-  pub batches : FitsBatches (written_to line) (line_end size line) noted H
+  pub batches : FitsBatches (written_to line) (line_end size line) noted (logged H)
   pub slots : HasSlots size line device.log.bytes fault m
   -- the segments before the first of these have their headers
   pub begun : fault ≡ None → AreBegun sum size device.log.bytes (first_place line) m
-  pub entries : HaveEntries sum size device.snapshots.file H m
+  pub entries : HaveEntries sum size device.snapshots.file (logged H) m
 
 -- The log fits this history, the end of what was acknowledged, the floor and the messages that were not marked yet.
 unfoldable pub Fits : {D C : Type 0} → (D → Trace) → (List ℕ → ℕ) → Log D C → History → ℕ → ℕ → List Message → Type 0
 Fits trace sum log H A f U = FitsWith sum (noted_in log) log.config.config.segment_size (state_of (trace log.config.device)) log.fault (line_of log) (machine_of log.accountant) log.pins H A f U
 
--- Snapshot and device are ready for a log that fits this history, the end of what was acknowledged and the floor.
+-- Snapshot and device are ready for a log that fits this history, the end of what was acknowledged and the floor. Log file and snapshots have records and tables, so they are ready for the history as the log has it; the blobs have the items of the history itself.
 pub record IsReadyFor (sum : List ℕ → ℕ) (size : ℕ) (device : State) (s : SnapshotModel) (H : History) (A f : ℕ) : Type 0 where
-  pub ready : IsReady sum size device s H
-  pub alone : StandsActive sum size device.log.bytes s H
+  pub ready : IsReady sum size device s (logged H)
+  pub alone : StandsActive sum size device.log.bytes s (logged H)
   pub active : ActiveFits size (stable_place s.stable) s.active
   pub blobs : BlobsFit sum device.blobs H (stable_place s.stable)
-  pub names : NamesFit sum size device.snapshots H f ready.first
+  pub names : NamesFit sum size device.snapshots (logged H) f ready.first
   pub passes : A ≤ stable_place s.stable
   pub left : LeavesRecoverable sum size H A f device
 

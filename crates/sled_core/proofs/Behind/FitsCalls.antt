@@ -2,9 +2,10 @@
 use Rattle.std.proofs.Common.{◌≡◌, ◌≤◌, ◌<◌, ◌+◌, ◌/◌, ◌^◌, ℕ, List, [], ◌∷◌, ◌++◌, length, set, drop, Option, None, Some, refl, arith, false}
 use Rattle.std.specs.List.{slice_get}
 use Rattle.std.specs.declared.io.Error.{Error as IoError}
-use Rattle.sled_codec.specs.History.{History, Message}
+use Rattle.sled_codec.specs.History.{AddsMessage, History, Message}
 use Rattle.sled_codec.specs.Written.{written}
 use Rattle.sled_store.specs.Device.{State}
+use Rattle.sled_core.specs.Logged.{logged}
 use Rattle.sled_core.specs.Manifests.{is_manifest}
 use Rattle.sled_core.specs.declared.iobuf.ReservationState.TheVariants.{Open, Canceled, Completed}
 use Rattle.sled_core.specs.declared.iobuf.Reserved.{Reserved}
@@ -13,7 +14,7 @@ use Rattle.sled_core.specs.declared.iobuf.SegmentPosition.{SegmentPosition}
 use Rattle.sled_core.specs.Buffers.{HasText, canceling, completing, ended, message_in, padding_at}
 use Rattle.sled_core.specs.Caps.{segment_rest}
 use Rattle.sled_core.specs.Begun.{SegmentParts}
-use Rattle.sled_core.specs.Fits.{HoldsNext, log_parts}
+use Rattle.sled_core.specs.Fits.{HoldsIn, HoldsNext, log_parts}
 use Rattle.sled_core.specs.Running.{FitsIn}
 use Rattle.sled_core.specs.SealedBuffers.{FirstUnwritten, one_ended, seal_at, sealed_count, sealed_end}
 use Rattle.sled_core.proofs.Behind.Around.{behind_place, held_around, now_with, stays_below}
@@ -23,26 +24,27 @@ use Rattle.sled_core.proofs.Behind.FitsCompleted.{behind-completed}
 use Rattle.sled_core.proofs.Behind.FitsMoved.{behind-moved}
 use Rattle.sled_core.proofs.Behind.Refilled.{filled_at, fits-refilled}
 use Rattle.sled_core.proofs.Holds.CompletedLemmas.{behind_written, ends_within}
+use Rattle.sled_core.proofs.Logged.Messages.{inline_real}
 
 module _ (sum : List ℕ → ℕ) (size : ℕ) (site : SegmentPosition) (device : State) (fault : Option IoError) (bytes : List ℕ) (from : ℕ) (bs : List Sealed) (rs : List Reserved) (pins : ℕ) (H : History) (A f : ℕ) (U : List Message)
     (pre : List SegmentParts) (s : SegmentParts) (post : List SegmentParts) {reach : ℕ} (its : FitsIn sum (log_parts size site device fault bytes from bs rs) (pre ++ s ∷ post) reach pins H A f U) where
   abbrev own_history : History
-  own_history = record { messages = (held_around sum size site device fault bytes from bs rs H pre s post its.holds).own; batches = H.batches }
+  own_history = record { messages = (held_around sum size site device fault bytes from bs rs (logged H) pre s post its.holds).own; batches = H.batches }
 
-  abbrev here : HoldsNext sum size device fault (behind_place size (site.place + size) pre) s (stays_below sum size site device fault bytes from bs rs H pre s post its.holds) H.batches own_history.messages
-  here = held_here sum size site device fault bytes from bs rs H pre s post its.holds
+  abbrev here : HoldsNext sum size device fault (behind_place size (site.place + size) pre) s (stays_below sum size site device fault bytes from bs rs (logged H) pre s post its.holds) H.batches own_history.messages
+  here = held_here sum size site device fault bytes from bs rs (logged H) pre s post its.holds
 
   -- Its current buffer is sealed, which holds something.
   pub behind-fits-sealed : sealed_end s.written_len s.sealed < length s.bytes
       → FitsIn sum (log_parts size site device fault bytes from bs rs) (pre ++ now_with s s.bytes s.written_len (s.sealed ++ seal_at (length s.bytes) (drop (sealed_count s.sealed) s.reserved) ∷ []) s.reserved ∷ post) reach pins H A f U
   behind-fits-sealed some = behind-moved sum size site device fault bytes from bs rs pins H A f U pre s post its (now_with s s.bytes s.written_len (s.sealed ++ seal_at (length s.bytes) (drop (sealed_count s.sealed) s.reserved) ∷ []) s.reserved) refl refl refl
-      (behind-sealed sum size site device fault bytes from bs rs H pre s post its.holds some)
+      (behind-sealed sum size site device fault bytes from bs rs (logged H) pre s post its.holds some)
 
   -- A place is reserved in it.
   pub behind-fits-reserved : (more : List ℕ) (r : Reserved) → r.from ≡ length s.bytes → r.len ≡ length more → r.state ≡ Open → r.from + 32 ≤ size → HasText sum (s.site.place / size) (s.bytes ++ more) r → length (s.bytes ++ more) ≤ size
       → FitsIn sum (log_parts size site device fault bytes from bs rs) (pre ++ now_with s (s.bytes ++ more) s.written_len s.sealed (s.reserved ++ r ∷ []) ∷ post) reach pins H A f U
   behind-fits-reserved more r at long is_open room text inside = behind-moved sum size site device fault bytes from bs rs pins H A f U pre s post its (now_with s (s.bytes ++ more) s.written_len s.sealed (s.reserved ++ r ∷ [])) refl refl refl
-      (behind-append sum size site device fault bytes from bs rs H pre s post its.holds more r at long is_open room text inside)
+      (behind-append sum size site device fault bytes from bs rs (logged H) pre s post its.holds more r at long is_open room text inside)
 
   -- It is filled to its end.
   pub behind-fits-filled : length s.bytes < size → s.site.place / size < 2 ^ 64
@@ -54,23 +56,29 @@ module _ (sum : List ℕ → ℕ) (size : ℕ) (site : SegmentPosition) (device 
       let behind = here.behind in
       fits-refilled sum size site device fault bytes from bs rs H pre filled post (Some (length s.bytes)) reach pins A f U (omega (arith, behind, less))
       (behind-moved sum size site device fault bytes from bs rs pins H A f U pre s post its filled refl refl refl
-      (behind-pad sum size site device fault bytes from bs rs H pre s post its.holds less small))
+      (behind-pad sum size site device fault bytes from bs rs (logged H) pre s post its.holds less small))
 
   -- One of its reservations ends.
   module _ (i : ℕ) (r : Reserved) (there : slice_get s.reserved i ≡ Some r) (is_open : r.state ≡ Open) where
     -- It is aborted,
     pub behind-fits-aborted : FitsIn sum (log_parts size site device fault bytes from bs rs) (pre ++ now_with s (written s.bytes r.from (canceling sum s.bytes r)) s.written_len (one_ended i s.sealed) (set s.reserved i (ended Canceled r)) ∷ post) reach pins H A f U
     behind-fits-aborted = behind-moved sum size site device fault bytes from bs rs pins H A f U pre s post its (now_with s (written s.bytes r.from (canceling sum s.bytes r)) s.written_len (one_ended i s.sealed) (set s.reserved i (ended Canceled r))) refl refl refl
-        (behind-aborted sum size site device fault bytes from bs rs H pre s post its.holds i r there is_open)
+        (behind-aborted sum size site device fault bytes from bs rs (logged H) pre s post its.holds i r there is_open)
 
-    -- or its message is completed.
+    -- or its message is completed: the log fits the history with it.
     pub behind-fits-completed : (none : is_manifest r.log_kind r.page ≡ false) → 256 ≤ size → (short : length bytes ≤ size) → fault ≡ None → FirstUnwritten s.sealed → 0 < pins
-        → FitsIn sum (log_parts size site device fault bytes from bs rs) (pre ++ now_with s (written s.bytes r.from (completing r)) s.written_len (one_ended i s.sealed) (set s.reserved i (ended Completed r)) ∷ post) reach pins
-        (completed_history sum size site device fault bytes from bs rs H pre s post its.holds short i r there is_open none) A f (message_in s.site s.bytes r ∷ U)
+        → (H' : History) × AddsMessage H (message_in s.site s.bytes r) H'
+        × FitsIn sum (log_parts size site device fault bytes from bs rs) (pre ++ now_with s (written s.bytes r.from (completing r)) s.written_len (one_ended i s.sealed) (set s.reserved i (ended Completed r)) ∷ post) reach pins H' A f (message_in s.site s.bytes r ∷ U)
     behind-fits-completed none big short whole fresh out =
-        let inside = here.inside in
-        behind-completed sum size site device fault bytes from bs rs pins H A f U pre s post its (now_with s (written s.bytes r.from (completing r)) s.written_len (one_ended i s.sealed) (set s.reserved i (ended Completed r))) refl refl refl
-        (completed_history sum size site device fault bytes from bs rs H pre s post its.holds short i r there is_open none) (message_in s.site s.bytes r) big short whole
-        (behind-complete sum size site device fault bytes from bs rs H pre s post its.holds short i r there is_open none) (adds_here sum size site device fault bytes from bs rs H pre s post its.holds short i r there is_open none)
-        (behind_written sum size s.site device fault s.bytes s.written_len s.sealed s.reserved i r own_history here.segment there)
-        (let near = ends_within sum size s.site device fault s.bytes s.written_len s.sealed s.reserved i r own_history here.segment there is_open in omega (arith, near, inside)) fresh out
+        let now : SegmentParts = now_with s (written s.bytes r.from (completing r)) s.written_len (one_ended i s.sealed) (set s.reserved i (ended Completed r)) in
+        let done = inline_real (HoldsIn sum (log_parts size site device fault bytes from bs rs) (pre ++ now ∷ post)) H (message_in s.site s.bytes r) (s.site.slot + r.from)
+        (completed_history sum size site device fault bytes from bs rs (logged H) pre s post its.holds short i r there is_open none) refl
+        (adds_here sum size site device fault bytes from bs rs (logged H) pre s post its.holds short i r there is_open none)
+        (behind-complete sum size site device fault bytes from bs rs (logged H) pre s post its.holds short i r there is_open none) in
+        let inside = here.inside in (
+          done.0,
+          done.1,
+          behind-completed sum size site device fault bytes from bs rs pins H A f U pre s post its now refl refl refl done.0 (message_in s.site s.bytes r) big short whole done.2 done.1 refl
+              (behind_written sum size s.site device fault s.bytes s.written_len s.sealed s.reserved i r own_history here.segment there)
+              (let near = ends_within sum size s.site device fault s.bytes s.written_len s.sealed s.reserved i r own_history here.segment there is_open in omega (arith, near, inside)) fresh out,
+        )

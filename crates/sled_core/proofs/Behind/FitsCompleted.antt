@@ -3,6 +3,7 @@ use Rattle.std.proofs.Common.{◌≡◌, ◌∙◌, ◌≤◌, ◌<◌, ◌+◌,
 use Rattle.std.specs.List.{All, Contains}
 use Rattle.std.specs.declared.io.Error.{Error as IoError}
 use Rattle.std.proofs.lemmas.List.Elements.{All-contains, Contains-append_cases, Contains-append_right}
+use Rattle.sled_codec.specs.declared.result.DiskPtr.TheVariants.{Inline}
 use Rattle.sled_codec.specs.History.{AddsMessage, Batch, History, Message}
 use Rattle.sled_codec.specs.Snapshots.{SnapshotModel}
 use Rattle.sled_store.specs.Device.{State}
@@ -14,6 +15,7 @@ use Rattle.sled_core.specs.declared.iobuf.SegmentPosition.{SegmentPosition}
 use Rattle.sled_core.specs.Begun.{SegmentParts}
 use Rattle.sled_core.specs.Fits.{HoldsIn, HoldsNext, begun_segment, log_parts}
 use Rattle.sled_core.specs.LogFile.{padded}
+use Rattle.sled_core.specs.Logged.{logged}
 use Rattle.sled_core.specs.OpenBatches.{stable_below}
 use Rattle.sled_core.specs.Reached.{BegunSegment, StandsAmong}
 use Rattle.sled_core.specs.Recoverable.{LeavesRecoverable, NoHeaderOfZeros}
@@ -30,6 +32,7 @@ use Rattle.sled_core.proofs.Holds.BegunLemmas.{blobs-adds, names-adds}
 use Rattle.sled_core.proofs.Holds.ReachLemmas.{LiesBehind, completed_behind}
 use Rattle.sled_core.proofs.Holds.StandsAdds.{other_adds}
 use Rattle.sled_core.proofs.Holds.WholeHistory.{behind_above, which_part, whole_ascends}
+use Rattle.sled_core.proofs.Logged.Messages.{inline_logged}
 use Rattle.sled_core.proofs.Reached.StableBelow.{stable_low}
 use Rattle.sled_core.proofs.Sealed.Zeros.{begin_zeros}
 
@@ -74,7 +77,7 @@ module _ (sum : List ℕ → ℕ) (size : ℕ) (site : SegmentPosition) (device 
 module _ (sum : List ℕ → ℕ) (size : ℕ) (site : SegmentPosition) (device : State) (fault : Option IoError) (bytes : List ℕ) (from : ℕ) (bs : List Sealed) (rs : List Reserved) (pins : ℕ) (H : History) (A f : ℕ) (U : List Message)
     (pre : List SegmentParts) (s : SegmentParts) (post : List SegmentParts) {reach : ℕ} (fits : FitsIn sum (log_parts size site device fault bytes from bs rs) (pre ++ s ∷ post) reach pins H A f U)
     (s' : SegmentParts) (its_site : s'.site ≡ s.site) (so_far : s'.written_len ≡ s.written_len) (filling : s'.filled ≡ s.filled)
-    (H' : History) (m : Message) (least : 256 ≤ size) (short : length bytes ≤ size) (ok : fault ≡ None) (holds : HoldsIn sum (log_parts size site device fault bytes from bs rs) (pre ++ s' ∷ post) H') (adds : AddsMessage H m H')
+    (H' : History) (m : Message) (least : 256 ≤ size) (short : length bytes ≤ size) (ok : fault ≡ None) (holds : HoldsIn sum (log_parts size site device fault bytes from bs rs) (pre ++ s' ∷ post) (logged H')) (adds : AddsMessage H m H') {lid : ℕ} (inline : m.pointer ≡ Inline lid)
     (above : s.site.place + s.written_len ≤ m.place) (inside : m.place < s.site.place + size) (fresh : FirstUnwritten s.sealed) where
   abbrev first : SnapshotModel
   first = fits.holds.begun.first
@@ -86,30 +89,34 @@ module _ (sum : List ℕ → ℕ) (size : ℕ) (site : SegmentPosition) (device 
   others' = map begun_segment (pre ++ s' ∷ post)
 
   abbrev own : List Message
-  own = (held_around sum size site device fault bytes from bs rs H' pre s' post holds).own
+  own = (held_around sum size site device fault bytes from bs rs (logged H') pre s' post holds).own
 
-  abbrev here : HoldsNext sum size device fault (behind_place size (site.place + size) pre) s' (stays_below sum size site device fault bytes from bs rs H' pre s' post holds) H'.batches own
-  here = held_here sum size site device fault bytes from bs rs H' pre s' post holds
+  abbrev here : HoldsNext sum size device fault (behind_place size (site.place + size) pre) s' (stays_below sum size site device fault bytes from bs rs (logged H') pre s' post holds) H'.batches own
+  here = held_here sum size site device fault bytes from bs rs (logged H') pre s' post holds
 
   -- the same segment as it was
-  abbrev had : HoldsNext sum size device fault (behind_place size (site.place + size) pre) s (stays_below sum size site device fault bytes from bs rs H pre s post fits.holds) H.batches (held_around sum size site device fault bytes from bs rs H pre s post fits.holds).own
-  had = held_here sum size site device fault bytes from bs rs H pre s post fits.holds
+  abbrev had : HoldsNext sum size device fault (behind_place size (site.place + size) pre) s (stays_below sum size site device fault bytes from bs rs (logged H) pre s post fits.holds) H.batches (held_around sum size site device fault bytes from bs rs (logged H) pre s post fits.holds).own
+  had = held_here sum size site device fault bytes from bs rs (logged H) pre s post fits.holds
 
   same_place : s'.site.place ≡ s.site.place
   same_place = ap (λ (p : SegmentPosition). p.place) its_site
 
-  it_is_there : Contains H'.messages m
-  it_is_there = subst (λ (l : List Message). Contains l m) (sym adds.new) (Contains-append_right adds.before (m ∷ adds.after) m (in_first m adds.after))
+  -- the log has the message of that history as it is
+  put : AddsMessage (logged H) m (logged H')
+  put = inline_logged H m lid H' inline adds
+
+  it_is_there : Contains (logged H').messages m
+  it_is_there = subst (λ (l : List Message). Contains l m) (sym put.new) (Contains-append_right put.before (m ∷ put.after) m (in_first m put.after))
 
   lies : LiesBehind size s'.site m
   lies =
-      let mine = of_segment sum size site device fault bytes from bs rs H' pre s' post holds short m it_is_there (omega (arith, above, same_place)) (omega (arith, inside, same_place)) in
+      let mine = of_segment sum size site device fault bytes from bs rs (logged H') pre s' post holds short m it_is_there (omega (arith, above, same_place)) (omega (arith, inside, same_place)) in
       completed_behind sum size s'.site device fault s'.bytes s'.written_len s'.sealed s'.reserved (record { messages = own; batches = H'.batches }) here.segment here.inside m mine (omega (arith, above, same_place, so_far))
 
   -- It lies behind what is written of the first segment, and so behind what a reader comes to.
   past : site.place + from ≤ m.place
   past =
-      let up = (front_low sum size site device fault bytes from bs rs H pre s post fits.holds short).0 in
+      let up = (front_low sum size site device fault bytes from bs rs (logged H) pre s post fits.holds short).0 in
       let grown = grows sum size site device fault bytes from bs rs (record { messages = fits.holds.head; batches = H.batches }) fits.holds.own in
       omega (arith, up, grown, short, above)
 
@@ -127,18 +134,18 @@ module _ (sum : List ℕ → ℕ) (size : ℕ) (site : SegmentPosition) (device 
   among_others = subst (λ (l : List BegunSegment). Contains l (begun_segment s)) (sym (begun_is pre s post)) (Contains-append_right (map begun_segment pre) (begun_segment s ∷ map begun_segment post) (begun_segment s) (in_first (begun_segment s) (map begun_segment post)))
 
   -- A reader finds the same of a file that has these zeros.
-  stands_new : NoHeaderOfZeros sum → (log : List ℕ) → (s.written_len ≡ 0 → AreZeros log s.site.slot (s.site.slot + 20)) → StandsAmong sum size log site from others reach H first → StandsAmong sum size log site from others' reach H' first
-  stands_new none log zeros among = subst (λ (l : List BegunSegment). StandsAmong sum size log site from l reach H' first) (sym (begun_same pre s s' post its_site so_far filling))
-      (other_adds sum size log site from reach H H' first least none (begun_segment s) among_others had.segment.place_begins zeros m adds above inside room lies.lies among)
+  stands_new : NoHeaderOfZeros sum → (log : List ℕ) → (s.written_len ≡ 0 → AreZeros log s.site.slot (s.site.slot + 20)) → StandsAmong sum size log site from others reach (logged H) first → StandsAmong sum size log site from others' reach (logged H') first
+  stands_new none log zeros among = subst (λ (l : List BegunSegment). StandsAmong sum size log site from l reach (logged H') first) (sym (begun_same pre s s' post its_site so_far filling))
+      (other_adds sum size log site from reach (logged H) (logged H') first least none (begun_segment s) among_others had.segment.place_begins zeros m put above inside room lies.lies among)
 
-  alone_new : NoHeaderOfZeros sum → StandsAmong sum size device.log.bytes site from others' reach H' first
+  alone_new : NoHeaderOfZeros sum → StandsAmong sum size device.log.bytes site from others' reach (logged H') first
   alone_new none = stands_new none device.log.bytes clean (fits.among ok none)
 
-  beyond_new : (to : ℕ) → site.slot ≤ to → NoHeaderOfZeros sum → StandsAmong sum size (padded to device.log.bytes) site from others' reach H' first
+  beyond_new : (to : ℕ) → site.slot ≤ to → NoHeaderOfZeros sum → StandsAmong sum size (padded to device.log.bytes) site from others' reach (logged H') first
   beyond_new to far none = stands_new none (padded to device.log.bytes) (λ first_one i low high. padded_get to device.log.bytes i ∙ clean first_one i low high) (fits.beyond to far ok none)
 
-  names_new : NamesFit sum size device.snapshots H' f first
-  names_new = let begun = fits.holds.begun.reached in let at = past in names-adds H H' m adds sum size device.snapshots f first (omega (arith, begun, at)) fits.names
+  names_new : NamesFit sum size device.snapshots (logged H') f first
+  names_new = let begun = fits.holds.begun.reached in let at = past in names-adds (logged H) (logged H') m put sum size device.snapshots f first (omega (arith, begun, at)) fits.names
 
   -- no batch is added, so the stable place is the same
   same_stable : stable_below reach H'.batches ≡ stable_below reach H.batches
@@ -146,11 +153,11 @@ module _ (sum : List ℕ → ℕ) (size : ℕ) (site : SegmentPosition) (device 
 
   blobs_new : BlobsFit sum device.blobs H' (stable_below reach H'.batches)
   blobs_new = subst (λ n. BlobsFit sum device.blobs H' n) (sym same_stable)
-      (let low = stable_low reach H.batches in let at = reached in blobs-adds H H' m adds sum device.blobs (stable_below reach H.batches) lies.lid (omega (arith, low, at)) lies.pointer fits.blobs)
+      (let low = stable_low reach H.batches in let at = reached in blobs-adds H H' m adds sum device.blobs (stable_below reach H.batches) lid (omega (arith, low, at)) inline fits.blobs)
 
   -- what is written still ends there
-  ends_new : (x : Message) → Contains H'.messages x → x.place < site.place + from → (x.place < reach) × (x.place + x.size ≤ reach)
-  ends_new x there below = elim (was_or_added H H' m adds x there) [
+  ends_new : (x : Message) → Contains (logged H').messages x → x.place < site.place + from → (x.place < reach) × (x.place + x.size ≤ reach)
+  ends_new x there below = elim (was_or_added (logged H) (logged H') m put x there) [
     | inl was ↦ fits.ends x was below
     | inr added ↦ absurd (let same = ap (λ (y : Message). y.place) added in let at = past in omega (arith, same, at, below))
   ]
@@ -158,13 +165,13 @@ module _ (sum : List ℕ → ℕ) (size : ℕ) (site : SegmentPosition) (device 
   stored_behind : KeepsItems sum device.blobs H' (stable_below reach H'.batches)
   stored_behind x there beyond = elim (was_or_added H H' m adds x there) [
     | inl was ↦ (let same = same_stable in fits.stored x was (omega (arith, beyond, same)))
-    | inr own ↦ subst (λ (y : Message). KeepsItem sum device.blobs y y.pointer) own (subst (KeepsItem sum device.blobs m) (sym lies.pointer) tt)
+    | inr own ↦ subst (λ (y : Message). KeepsItem sum device.blobs y y.pointer) own (subst (KeepsItem sum device.blobs m) (sym inline) tt)
   ]
 
   left_new : LeavesRecoverable sum size H' (stable_below reach H'.batches) f device
   left_new =
       let on = fits.holds.own.written ok in
-      settled_recoverable sum size least device H' (stable_below reach H'.batches) f first reach (whole_ascends sum size site device fault bytes from bs rs H' holds short) stored_behind (rests device.log on.log on.settled) names_new blobs_new (λ none. (alone_new none).stands)
+      settled_recoverable sum size least device H' (stable_below reach H'.batches) f first reach (whole_ascends sum size site device fault bytes from bs rs (logged H') holds short) stored_behind (rests device.log on.log on.settled) names_new blobs_new (λ none. (alone_new none).stands)
 
   -- The log fits the history with the message, where a pin is out.
   pub behind-completed : 0 < pins → FitsIn sum (log_parts size site device fault bytes from bs rs) (pre ++ s' ∷ post) reach pins H' A f (m ∷ U)
@@ -176,11 +183,11 @@ module _ (sum : List ℕ → ℕ) (size : ℕ) (site : SegmentPosition) (device 
         ends = ends_new;
         no_batch = λ b there. fits.no_batch b (subst (λ (l : List Batch). Contains l b) adds.batches there);
         no_end = λ b there. fits.no_end b (subst (λ (l : List Batch). Contains l b) adds.batches there);
-        among = λ fine none. subst (λ (z : SnapshotModel). StandsAmong sum size device.log.bytes site from others' reach H' z) same (alone_new none);
-        beyond = λ to far fine none. subst (λ (z : SnapshotModel). StandsAmong sum size (padded to device.log.bytes) site from others' reach H' z) same (beyond_new to far none);
+        among = λ fine none. subst (λ (z : SnapshotModel). StandsAmong sum size device.log.bytes site from others' reach (logged H') z) same (alone_new none);
+        beyond = λ to far fine none. subst (λ (z : SnapshotModel). StandsAmong sum size (padded to device.log.bytes) site from others' reach (logged H') z) same (beyond_new to far none);
         blobs = blobs_new;
         stored = stored_behind;
-        names = subst (λ (z : SnapshotModel). NamesFit sum size device.snapshots H' f z) same names_new;
+        names = subst (λ (z : SnapshotModel). NamesFit sum size device.snapshots (logged H') f z) same names_new;
         passes = let passes = fits.passes in let same = same_stable in omega (arith, passes, same);
         pinned = λ some. out;
         left = left_new;

@@ -14,6 +14,7 @@ use Rattle.sled_core.specs.declared.iobuf.SegmentPosition.{SegmentPosition}
 use Rattle.sled_core.specs.Begun.{SegmentParts}
 use Rattle.sled_core.specs.Fits.{HoldsIn, HoldsNext, begun_segment, log_parts}
 use Rattle.sled_core.specs.LogFile.{padded}
+use Rattle.sled_core.specs.Logged.{logged}
 use Rattle.sled_core.specs.OpenBatches.{stable_below}
 use Rattle.sled_core.specs.Reached.{BegunSegment, StandsAmong}
 use Rattle.sled_core.specs.Recoverable.{IsPlacedBatch, LeavesRecoverable, NoHeaderOfZeros}
@@ -31,16 +32,22 @@ use Rattle.sled_core.proofs.Holds.BegunMarks.{blobs-marks, names-marks}
 use Rattle.sled_core.proofs.Holds.PegLemmas.{IsOff, LiesBesideFilling, behind_beside, beside_padded}
 use Rattle.sled_core.proofs.Holds.StandsBatch.{other-marks}
 use Rattle.sled_core.proofs.Holds.WholeHistory.{whole_ascends}
+use Rattle.sled_core.proofs.Logged.Messages.{batch_logged}
 use Rattle.sled_core.proofs.Reached.StableBelow.{stable_one_more}
 use Rattle.sled_core.proofs.Sealed.Zeros.{begin_zeros}
 
 module _ (sum : List ℕ → ℕ) (size : ℕ) (site : SegmentPosition) (device : State) (fault : Option IoError) (bytes : List ℕ) (from : ℕ) (bs : List Sealed) (rs : List Reserved) (pins : ℕ) (H : History) (A f : ℕ) (U : List Message)
     (pre : List SegmentParts) (s : SegmentParts) (post : List SegmentParts) {reach : ℕ} (fits : FitsIn sum (log_parts size site device fault bytes from bs rs) (pre ++ s ∷ post) reach pins H A f U)
     (s' : SegmentParts) (its_site : s'.site ≡ s.site) (so_far : s'.written_len ≡ s.written_len) (filling : s'.filled ≡ s.filled)
-    (H' : History) (b : Batch) (least : 256 ≤ size) (short : length bytes ≤ size) (ok : fault ≡ None) (holds : HoldsIn sum (log_parts size site device fault bytes from bs rs) (pre ++ s' ∷ post) H') (adds : AddsBatch H b H')
-    (placing : ((c : Batch) → Contains H.batches c → IsPlacedBatch size H c) → (c : Batch) → Contains H'.batches c → IsPlacedBatch size H' c) (later : b.low < b.peg) (offs : All (IsOff size b.peg) (pre ++ s ∷ post)) (above : s.site.place + s.written_len ≤ b.low) (inside : b.low < s.site.place + size) (fresh : FirstUnwritten s.sealed) where
+    (H' : History) (b : Batch) (least : 256 ≤ size) (short : length bytes ≤ size) (ok : fault ≡ None) (holds : HoldsIn sum (log_parts size site device fault bytes from bs rs) (pre ++ s' ∷ post) (logged H')) (adds : AddsBatch H b H')
+    (placing : ((c : Batch) → Contains H.batches c → IsPlacedBatch size (logged H) c) → (c : Batch) → Contains H'.batches c → IsPlacedBatch size (logged H') c)
+    (later : b.low < b.peg) (offs : All (IsOff size b.peg) (pre ++ s ∷ post)) (above : s.site.place + s.written_len ≤ b.low) (inside : b.low < s.site.place + size) (fresh : FirstUnwritten s.sealed) where
   abbrev first : SnapshotModel
   first = fits.holds.begun.first
+
+  -- what the log has of the history has the batch too
+  abbrev put : AddsBatch (logged H) b (logged H')
+  put = batch_logged H b H' adds
 
   abbrev others : List BegunSegment
   others = map begun_segment (pre ++ s ∷ post)
@@ -49,13 +56,13 @@ module _ (sum : List ℕ → ℕ) (size : ℕ) (site : SegmentPosition) (device 
   others' = map begun_segment (pre ++ s' ∷ post)
 
   -- the segment as it was
-  abbrev had : HoldsNext sum size device fault (behind_place size (site.place + size) pre) s (stays_below sum size site device fault bytes from bs rs H pre s post fits.holds) H.batches (held_around sum size site device fault bytes from bs rs H pre s post fits.holds).own
-  had = held_here sum size site device fault bytes from bs rs H pre s post fits.holds
+  abbrev had : HoldsNext sum size device fault (behind_place size (site.place + size) pre) s (stays_below sum size site device fault bytes from bs rs (logged H) pre s post fits.holds) H.batches (held_around sum size site device fault bytes from bs rs (logged H) pre s post fits.holds).own
+  had = held_here sum size site device fault bytes from bs rs (logged H) pre s post fits.holds
 
   -- The batch begins behind what is written of the first segment, and so behind what a reader comes to.
   past : site.place + from ≤ b.low
   past =
-      let up = (front_low sum size site device fault bytes from bs rs H pre s post fits.holds short).0 in
+      let up = (front_low sum size site device fault bytes from bs rs (logged H) pre s post fits.holds short).0 in
       let grown = grows sum size site device fault bytes from bs rs (record { messages = fits.holds.head; batches = H.batches }) fits.holds.own in
       omega (arith, up, grown, short, above)
 
@@ -71,21 +78,22 @@ module _ (sum : List ℕ → ℕ) (size : ℕ) (site : SegmentPosition) (device 
 
   -- where the peg lies of the segments behind the first one
   beside : (x : BegunSegment) → Contains others x → LiesBesideFilling size device.log.bytes b.peg x
-  beside = behind_beside sum size least device fault ok b.peg (site.place + size) (pre ++ s ∷ post) (stays_below sum size site device fault bytes from bs rs H pre s post fits.holds) H.batches fits.holds.later fits.holds.others offs
+  beside = behind_beside sum size least device fault ok b.peg (site.place + size) (pre ++ s ∷ post) (stays_below sum size site device fault bytes from bs rs (logged H) pre s post fits.holds) H.batches fits.holds.later fits.holds.others offs
 
   -- A reader finds the same of a file that has these zeros.
-  stands_new : NoHeaderOfZeros sum → (log : List ℕ) → (s.written_len ≡ 0 → AreZeros log s.site.slot (s.site.slot + 20)) → ((x : BegunSegment) → Contains others x → LiesBesideFilling size log b.peg x) → StandsAmong sum size log site from others reach H first → StandsAmong sum size log site from others' reach H' first
-  stands_new none log zeros lies among = subst (λ (l : List BegunSegment). StandsAmong sum size log site from l reach H' first) (sym (begun_same pre s s' post its_site so_far filling))
-      (other-marks sum size log site from reach H H' first least none (begun_segment s) among_others had.segment.place_begins zeros b adds above inside (placing among.stands.batched) later lies among)
+  stands_new : NoHeaderOfZeros sum → (log : List ℕ) → (s.written_len ≡ 0 → AreZeros log s.site.slot (s.site.slot + 20)) → ((x : BegunSegment) → Contains others x → LiesBesideFilling size log b.peg x) → StandsAmong sum size log site from others reach (logged H) first
+      → StandsAmong sum size log site from others' reach (logged H') first
+  stands_new none log zeros lies among = subst (λ (l : List BegunSegment). StandsAmong sum size log site from l reach (logged H') first) (sym (begun_same pre s s' post its_site so_far filling))
+      (other-marks sum size log site from reach (logged H) (logged H') first least none (begun_segment s) among_others had.segment.place_begins zeros b put above inside (placing among.stands.batched) later lies among)
 
-  alone_new : NoHeaderOfZeros sum → StandsAmong sum size device.log.bytes site from others' reach H' first
+  alone_new : NoHeaderOfZeros sum → StandsAmong sum size device.log.bytes site from others' reach (logged H') first
   alone_new none = stands_new none device.log.bytes clean beside (fits.among ok none)
 
-  beyond_new : (to : ℕ) → site.slot ≤ to → NoHeaderOfZeros sum → StandsAmong sum size (padded to device.log.bytes) site from others' reach H' first
+  beyond_new : (to : ℕ) → site.slot ≤ to → NoHeaderOfZeros sum → StandsAmong sum size (padded to device.log.bytes) site from others' reach (logged H') first
   beyond_new to far none = stands_new none (padded to device.log.bytes) (λ first_one i low high. padded_get to device.log.bytes i ∙ clean first_one i low high) (λ x known. beside_padded size to device.log.bytes b.peg x (beside x known)) (fits.beyond to far ok none)
 
-  names_new : NamesFit sum size device.snapshots H' f first
-  names_new = let begun = fits.holds.begun.reached in let at = past in names-marks H H' b adds sum size device.snapshots f first (omega (arith, begun, at)) fits.names
+  names_new : NamesFit sum size device.snapshots (logged H') f first
+  names_new = let begun = fits.holds.begun.reached in let at = past in names-marks (logged H) (logged H') b put sum size device.snapshots f first (omega (arith, begun, at)) fits.names
 
   -- the batch begins behind what is read, so the stable place is the same
   same_stable : stable_below reach H'.batches ≡ stable_below reach H.batches
@@ -100,7 +108,7 @@ module _ (sum : List ℕ → ℕ) (size : ℕ) (site : SegmentPosition) (device 
   left_new : LeavesRecoverable sum size H' (stable_below reach H'.batches) f device
   left_new =
       let on = fits.holds.own.written ok in
-      settled_recoverable sum size least device H' (stable_below reach H'.batches) f first reach (whole_ascends sum size site device fault bytes from bs rs H' holds short) stored_behind (rests device.log on.log on.settled) names_new blobs_new (λ none. (alone_new none).stands)
+      settled_recoverable sum size least device H' (stable_below reach H'.batches) f first reach (whole_ascends sum size site device fault bytes from bs rs (logged H') holds short) stored_behind (rests device.log on.log on.settled) names_new blobs_new (λ none. (alone_new none).stands)
 
   -- The log fits the history with the batch, with no other message to be marked.
   pub behind-fits-marked : FitsIn sum (log_parts size site device fault bytes from bs rs) (pre ++ s' ∷ post) reach pins H' A f U
@@ -109,14 +117,14 @@ module _ (sum : List ℕ → ℕ) (size : ℕ) (site : SegmentPosition) (device 
       record {
         holds = holds;
         near = fits.near;
-        ends = λ x there below. fits.ends x (message_was H H' b adds x there) below;
-        no_batch = no_batch H H' b adds reach (site.place + from) (inr past) fits.no_batch;
-        no_end = no_end H H' b adds reach (site.place + from) past fits.no_end;
-        among = λ fine none. subst (λ (z : SnapshotModel). StandsAmong sum size device.log.bytes site from others' reach H' z) same (alone_new none);
-        beyond = λ to far fine none. subst (λ (z : SnapshotModel). StandsAmong sum size (padded to device.log.bytes) site from others' reach H' z) same (beyond_new to far none);
+        ends = λ x there below. fits.ends x (message_was (logged H) (logged H') b put x there) below;
+        no_batch = no_batch (logged H) (logged H') b put reach (site.place + from) (inr past) fits.no_batch;
+        no_end = no_end (logged H) (logged H') b put reach (site.place + from) past fits.no_end;
+        among = λ fine none. subst (λ (z : SnapshotModel). StandsAmong sum size device.log.bytes site from others' reach (logged H') z) same (alone_new none);
+        beyond = λ to far fine none. subst (λ (z : SnapshotModel). StandsAmong sum size (padded to device.log.bytes) site from others' reach (logged H') z) same (beyond_new to far none);
         blobs = blobs_new;
         stored = stored_behind;
-        names = subst (λ (z : SnapshotModel). NamesFit sum size device.snapshots H' f z) same names_new;
+        names = subst (λ (z : SnapshotModel). NamesFit sum size device.snapshots (logged H') f z) same names_new;
         passes = let passes = fits.passes in let same = same_stable in omega (arith, passes, same);
         pinned = fits.pinned;
         left = left_new;

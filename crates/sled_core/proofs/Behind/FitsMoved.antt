@@ -15,6 +15,7 @@ use Rattle.sled_core.specs.declared.iobuf.SegmentPosition.{SegmentPosition}
 use Rattle.sled_core.specs.Begun.{SegmentParts}
 use Rattle.sled_core.specs.Fits.{HoldsIn, begun_segment, log_parts}
 use Rattle.sled_core.specs.LogFile.{padded}
+use Rattle.sled_core.specs.Logged.{logged}
 use Rattle.sled_core.specs.Reached.{BegunSegment, StandsAmong}
 use Rattle.sled_core.specs.Running.{FitsIn, NamesFit}
 use Rattle.sled_store.proofs.Names.OneBegin.{one_begin}
@@ -53,7 +54,7 @@ module _ (sum : List ℕ → ℕ) (size : ℕ) (site : SegmentPosition) (device 
   others' = map begun_segment (pre ++ s' ∷ post)
 
   -- The log fits the history, where it holds it.
-  pub behind-moved : HoldsIn sum (log_parts size site device fault bytes from bs rs) (pre ++ s' ∷ post) H → FitsIn sum (log_parts size site device fault bytes from bs rs) (pre ++ s' ∷ post) reach pins H A f U
+  pub behind-moved : HoldsIn sum (log_parts size site device fault bytes from bs rs) (pre ++ s' ∷ post) (logged H) → FitsIn sum (log_parts size site device fault bytes from bs rs) (pre ++ s' ∷ post) reach pins H A f U
   behind-moved holds =
       let same : fits.holds.begun.first ≡ holds.begun.first = one_begin sum device.snapshots.file fits.holds.begun.first holds.begun.first fits.holds.begun.begins holds.begun.begins in
       let lie : others ≡ others' = sym (begun_same pre s s' post its_site so_far filling) in
@@ -63,12 +64,12 @@ module _ (sum : List ℕ → ℕ) (size : ℕ) (site : SegmentPosition) (device 
         ends = fits.ends;
         no_batch = fits.no_batch;
         no_end = fits.no_end;
-        among = λ ok none. subst (λ (first : SnapshotModel). StandsAmong sum size device.log.bytes site from others' reach H first) same (subst (λ (l : List BegunSegment). StandsAmong sum size device.log.bytes site from l reach H fits.holds.begun.first) lie (fits.among ok none));
-        beyond = λ to far ok none. subst (λ (first : SnapshotModel). StandsAmong sum size (padded to device.log.bytes) site from others' reach H first) same
-            (subst (λ (l : List BegunSegment). StandsAmong sum size (padded to device.log.bytes) site from l reach H fits.holds.begun.first) lie (fits.beyond to far ok none));
+        among = λ ok none. subst (λ (first : SnapshotModel). StandsAmong sum size device.log.bytes site from others' reach (logged H) first) same (subst (λ (l : List BegunSegment). StandsAmong sum size device.log.bytes site from l reach (logged H) fits.holds.begun.first) lie (fits.among ok none));
+        beyond = λ to far ok none. subst (λ (first : SnapshotModel). StandsAmong sum size (padded to device.log.bytes) site from others' reach (logged H) first) same
+            (subst (λ (l : List BegunSegment). StandsAmong sum size (padded to device.log.bytes) site from l reach (logged H) fits.holds.begun.first) lie (fits.beyond to far ok none));
         blobs = fits.blobs;
         stored = fits.stored;
-        names = subst (λ (first : SnapshotModel). NamesFit sum size device.snapshots H f first) same fits.names;
+        names = subst (λ (first : SnapshotModel). NamesFit sum size device.snapshots (logged H) f first) same fits.names;
         passes = fits.passes;
         pinned = fits.pinned;
         left = fits.left;

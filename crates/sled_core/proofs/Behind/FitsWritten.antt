@@ -10,6 +10,7 @@ use Rattle.sled_store.specs.Device.{LeavesLog, State, Synced, Wrote, at_rest, ov
 use Rattle.sled_store.specs.Foreign.{NoForeignLog}
 use Rattle.sled_store.specs.Script.{Along}
 use Rattle.sled_store.proofs.Histories.Ascending.{Ascends}
+use Rattle.sled_core.specs.Logged.{logged}
 use Rattle.sled_core.specs.OpenBatches.{stable_below}
 use Rattle.sled_core.specs.declared.iobuf.Reserved.{Reserved}
 use Rattle.sled_core.specs.declared.iobuf.Sealed.{Sealed}
@@ -93,69 +94,70 @@ module _ (sum : List ℕ → ℕ) (size : ℕ) (site : SegmentPosition) (device 
   split = there_split s.sealed k b there
 
   slot_begins : s.site.slot % size ≡ 0
-  slot_begins = (held_here sum size site device fault bytes from bs rs H pre s post fits.holds).segment.slot_begins
+  slot_begins = (held_here sum size site device fault bytes from bs rs (logged H) pre s post fits.holds).segment.slot_begins
 
   its_reach : s.site.slot ≤ length new
-  its_reach = reaches sum size site device fault bytes from bs rs H pre s post fits.holds big whole short place_small slot_small fresh b rest closed recorded (take k s.sealed) split
+  its_reach = reaches sum size site device fault bytes from bs rs (logged H) pre s post fits.holds big whole short place_small slot_small fresh b rest closed recorded (take k s.sealed) split
 
   some : 0 < length asked
-  some = some_asked sum size site device fault bytes from bs rs H pre s post fits.holds big whole short place_small slot_small fresh b rest closed recorded (take k s.sealed) split
+  some = some_asked sum size site device fault bytes from bs rs (logged H) pre s post fits.holds big whole short place_small slot_small fresh b rest closed recorded (take k s.sealed) split
 
   -- What a crash leaves of the write.
   torn : NoHeaderOfZeros sum → (part left : List ℕ) → length part ≤ length asked → LeavesLog (after_write old (s.site.slot + at) asked part) left → (placed : List (ℕ × List ℕ))
-      → NoForeignLog sum size (after_write old (s.site.slot + at) asked part) placed left → StandsTo sum size left H (stable_below reach H.batches) first reach
-  torn none = torn_one sum size site device fault bytes from bs rs H pre s post fits.holds big whole short place_small slot_small fresh b rest closed recorded (take k s.sealed) split none reach first
-      (subst (λ (l : List BegunSegment). StandsAmong sum size old site from l reach H first) (begun_is pre s post) (fits.among whole none))
+      → NoForeignLog sum size (after_write old (s.site.slot + at) asked part) placed left → StandsTo sum size left (logged H) (stable_below reach H.batches) first reach
+  torn none = torn_one sum size site device fault bytes from bs rs (logged H) pre s post fits.holds big whole short place_small slot_small fresh b rest closed recorded (take k s.sealed) split none reach first
+      (subst (λ (l : List BegunSegment). StandsAmong sum size old site from l reach (logged H) first) (begun_is pre s post) (fits.among whole none))
 
   -- All of it, where the file with zeros behind its end reaches the slot.
-  written_in : NoHeaderOfZeros sum → (to : ℕ) → s.site.slot ≤ length (padded to old) → StandsAmong sum size (padded to old) site from (map begun_segment (pre ++ s ∷ post)) reach H first → StandsAmong sum size (padded to new) site from (map begun_segment (pre ++ grown ∷ post)) reach H first
+  written_in : NoHeaderOfZeros sum → (to : ℕ) → s.site.slot ≤ length (padded to old) → StandsAmong sum size (padded to old) site from (map begun_segment (pre ++ s ∷ post)) reach (logged H) first
+      → StandsAmong sum size (padded to new) site from (map begun_segment (pre ++ grown ∷ post)) reach (logged H) first
   written_in none to reached among =
       let least = fits.holds.begun.least in
-      let one = whole_one sum size site device fault bytes from bs rs H pre s post fits.holds big whole short place_small slot_small fresh b rest closed recorded (take k s.sealed) split none reach first least to reached
-      (subst (λ (l : List BegunSegment). StandsAmong sum size (padded to old) site from l reach H first) (begun_is pre s post) among) in
-      subst (λ (l : List BegunSegment). StandsAmong sum size (padded to new) site from l reach H first) (sym (begun_is pre grown post))
-      (subst (λ (cs : List Sealed). StandsAmong sum size (padded to new) site from (map begun_segment pre ++ grown_one (begun_segment s) (run_end s.written_len cs) ∷ map begun_segment post) reach H first) (sym (written_around k s.sealed b there))
-      (subst (λ (l : List ℕ). StandsAmong sum size l site from (map begun_segment pre ++ grown_one (begun_segment s) (run_end s.written_len (take k s.sealed ++ now_written b ∷ rest)) ∷ map begun_segment post) reach H first) (overwritten-further to old (s.site.slot + at) asked some) one))
+      let one = whole_one sum size site device fault bytes from bs rs (logged H) pre s post fits.holds big whole short place_small slot_small fresh b rest closed recorded (take k s.sealed) split none reach first least to reached
+      (subst (λ (l : List BegunSegment). StandsAmong sum size (padded to old) site from l reach (logged H) first) (begun_is pre s post) among) in
+      subst (λ (l : List BegunSegment). StandsAmong sum size (padded to new) site from l reach (logged H) first) (sym (begun_is pre grown post))
+      (subst (λ (cs : List Sealed). StandsAmong sum size (padded to new) site from (map begun_segment pre ++ grown_one (begun_segment s) (run_end s.written_len cs) ∷ map begun_segment post) reach (logged H) first) (sym (written_around k s.sealed b there))
+      (subst (λ (l : List ℕ). StandsAmong sum size l site from (map begun_segment pre ++ grown_one (begun_segment s) (run_end s.written_len (take k s.sealed ++ now_written b ∷ rest)) ∷ map begun_segment post) reach (logged H) first) (overwritten-further to old (s.site.slot + at) asked some) one))
 
-  beyond_new : NoHeaderOfZeros sum → (to : ℕ) → site.slot ≤ to → StandsAmong sum size (padded to new) site from (map begun_segment (pre ++ grown ∷ post)) reach H first
+  beyond_new : NoHeaderOfZeros sum → (to : ℕ) → site.slot ≤ to → StandsAmong sum size (padded to new) site from (map begun_segment (pre ++ grown ∷ post)) reach (logged H) first
   beyond_new none to far =
       let both : ℕ = max to s.site.slot in
-      subst (λ (l : List ℕ). StandsAmong sum size l site from (map begun_segment (pre ++ grown ∷ post)) reach H first) (padded_max to s.site.slot new its_reach)
+      subst (λ (l : List ℕ). StandsAmong sum size l site from (map begun_segment (pre ++ grown ∷ post)) reach (logged H) first) (padded_max to s.site.slot new its_reach)
       (written_in none both (let long = padded_long both old in omega (arith, long)) (fits.beyond both (omega (arith, far)) whole none))
 
   -- The file itself may end in front of the slot, and then it stands with zeros up to there.
-  among_new : NoHeaderOfZeros sum → StandsAmong sum size new site from (map begun_segment (pre ++ grown ∷ post)) reach H first
+  among_new : NoHeaderOfZeros sum → StandsAmong sum size new site from (map begun_segment (pre ++ grown ∷ post)) reach (logged H) first
   among_new none = elim (cases_lt (length old) s.site.slot) [
     | inl ends ↦ (
         let filled : List ℕ = padded s.site.slot old in
         let far : ℕ = max site.slot s.site.slot in
         let long : length filled ≡ s.site.slot = omega (arith, length-padded s.site.slot old, ends) in
-        let with_more : StandsAmong sum size (padded far filled) site from (map begun_segment (pre ++ s ∷ post)) reach H first =
-        subst (λ (l : List ℕ). StandsAmong sum size l site from (map begun_segment (pre ++ s ∷ post)) reach H first) (sym (padded_twice s.site.slot far old (omega arith))) (fits.beyond far (omega arith) whole none) in
-        let stands = shorter_stands sum none size big filled (subst (λ n. n % size ≡ 0) (sym long) slot_begins) far H reach first with_more in
-        subst (λ (l : List ℕ). StandsAmong sum size l site from (map begun_segment (pre ++ grown ∷ post)) reach H first) (padded_none s.site.slot new its_reach) (written_in none s.site.slot (omega (arith, long)) stands))
+        let with_more : StandsAmong sum size (padded far filled) site from (map begun_segment (pre ++ s ∷ post)) reach (logged H) first =
+        subst (λ (l : List ℕ). StandsAmong sum size l site from (map begun_segment (pre ++ s ∷ post)) reach (logged H) first) (sym (padded_twice s.site.slot far old (omega arith))) (fits.beyond far (omega arith) whole none) in
+        let stands = shorter_stands sum none size big filled (subst (λ n. n % size ≡ 0) (sym long) slot_begins) far (logged H) reach first with_more in
+        subst (λ (l : List ℕ). StandsAmong sum size l site from (map begun_segment (pre ++ grown ∷ post)) reach (logged H) first) (padded_none s.site.slot new its_reach) (written_in none s.site.slot (omega (arith, long)) stands))
     | inr reached ↦ (
         let same : padded 0 old ≡ old = padded_none 0 old (omega arith) in
-        subst (λ (l : List ℕ). StandsAmong sum size l site from (map begun_segment (pre ++ grown ∷ post)) reach H first) (padded_none 0 new (omega arith))
-        (written_in none 0 (omega (arith, reached, ap length same)) (subst (λ (l : List ℕ). StandsAmong sum size l site from (map begun_segment (pre ++ s ∷ post)) reach H first) (sym same) (fits.among whole none))))
+        subst (λ (l : List ℕ). StandsAmong sum size l site from (map begun_segment (pre ++ grown ∷ post)) reach (logged H) first) (padded_none 0 new (omega arith))
+        (written_in none 0 (omega (arith, reached, ap length same)) (subst (λ (l : List ℕ). StandsAmong sum size l site from (map begun_segment (pre ++ s ∷ post)) reach (logged H) first) (sym same) (fits.among whole none))))
   ]
 
-  stands_new : NoHeaderOfZeros sum → StandsTo sum size new H (stable_below reach H.batches) first reach
+  stands_new : NoHeaderOfZeros sum → StandsTo sum size new (logged H) (stable_below reach H.batches) first reach
   stands_new none = (among_new none).stands
 
   -- the log file is at rest
   rest_now : device.log ≡ at_rest old
   rest_now = let on = fits.holds.own.written whole in rests device.log on.log on.settled
 
-  ordered : Ascends H.messages
-  ordered = whole_ascends sum size site device fault bytes from bs rs H fits.holds short
+  ordered : Ascends (logged H).messages
+  ordered = whole_ascends sum size site device fault bytes from bs rs (logged H) fits.holds short
 
   -- At each moment of the write, and of the sync, a crash leaves what can be recovered.
   pub behind-along : Along (LeavesRecoverable sum size H (stable_below reach H.batches) f) (Wrote (s.site.slot + at) asked asked ∷ Synced ∷ []) device
   behind-along = moments.write_along sum size big device rest_now H f first reach reach (omega arith) ordered fits.stored fits.names fits.blobs fits.left (s.site.slot + at) asked torn stands_new
 
-  holds_new : HoldsIn sum (log_parts size site after_sync fault bytes from bs rs) (pre ++ grown ∷ post) H
-  holds_new = behind-written sum size site device fault bytes from bs rs H pre s post fits.holds big whole short are held place_small slot_small fresh k b there ready after_sync refl refl
+  holds_new : HoldsIn sum (log_parts size site after_sync fault bytes from bs rs) (pre ++ grown ∷ post) (logged H)
+  holds_new = behind-written sum size site device fault bytes from bs rs (logged H) pre s post fits.holds big whole short are held place_small slot_small fresh k b there ready after_sync refl refl
 
   -- Behind them the log fits the history: what was reached stays.
   pub behind-fits-written : FitsIn sum (log_parts size site after_sync fault bytes from bs rs) (pre ++ grown ∷ post) reach pins H A f U

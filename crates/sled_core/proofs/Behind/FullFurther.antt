@@ -8,6 +8,7 @@ use Rattle.sled_codec.specs.Coords.{raised}
 use Rattle.sled_codec.specs.History.{History, Message}
 use Rattle.sled_store.specs.Device.{State}
 use Rattle.sled_store.proofs.Histories.Ascending.{Ascends}
+use Rattle.sled_core.specs.Logged.{logged}
 use Rattle.sled_core.specs.OpenBatches.{stable_below}
 use Rattle.sled_core.specs.declared.iterator.scan.ScannedRecord.{ScannedRecord}
 use Rattle.sled_core.specs.declared.iterator.scan.ScanEnd.{ScanEnd}
@@ -42,7 +43,7 @@ module _ (sum : List ℕ → ℕ) (size : ℕ) (device : State) (fault : Option 
   begins : s.site.place ≡ place
   begins = at_place sum size device fault place s ss fits big whole
 
-  ascends : Ascends H.messages
+  ascends : Ascends (logged H).messages
   ascends = ordered sum size device fault place s ss fits big whole
 
   low_end : length s.bytes ≤ s.written_len
@@ -51,17 +52,17 @@ module _ (sum : List ℕ → ℕ) (size : ℕ) (device : State) (fault : Option 
   some_written : 0 < s.written_len
   some_written = omega (arith, full, big)
 
-  abbrev holds_full : HoldsIn sum (log_parts size s.site device fault s.bytes size [] []) ss H
+  abbrev holds_full : HoldsIn sum (log_parts size s.site device fault s.bytes size [] []) ss (logged H)
   holds_full =
       let next = here sum size device fault place s ss fits big whole in
-      emptied sum size s.site device fault s.bytes s.written_len s.sealed s.reserved ss H (holds_now sum size device fault place s ss fits big whole) full
+      emptied sum size s.site device fault s.bytes s.written_len s.sealed s.reserved ss (logged H) (holds_now sum size device fault place s ss fits big whole) full
       (none_sealed s.written_len s.sealed (length s.bytes) (ends_rise s.written_len s.reserved s.sealed (length s.bytes) next.are next.behind next.held) low_end)
       (none_reserved sum size s.site device fault s.bytes s.written_len s.sealed s.reserved _ (holds_now sum size device fault place s ss fits big whole).own low_end)
 
   -- Where it stands so, up to a place no lower, behind all messages of the segment.
-  module _ (reach' : ℕ) (up : reach ≤ reach') (near' : reach' ≤ s.site.place + size) (ends' : (m : Message) → Contains H.messages m → m.place < s.site.place + size → (m.place < reach') × (m.place + m.size ≤ reach'))
-      (no_batch' : NoBatchBegins H reach' (s.site.place + size)) (no_end' : NoBatchEnds H reach' (s.site.place + size))
-      (stands : (to : ℕ) → NoHeaderOfZeros sum → StandsFull sum size (padded to device.log.bytes) (s.site.place + size) (map begun_segment ss) reach' H fits.holds.begun.first) where
+  module _ (reach' : ℕ) (up : reach ≤ reach') (near' : reach' ≤ s.site.place + size) (ends' : (m : Message) → Contains (logged H).messages m → m.place < s.site.place + size → (m.place < reach') × (m.place + m.size ≤ reach'))
+      (no_batch' : NoBatchBegins (logged H) reach' (s.site.place + size)) (no_end' : NoBatchEnds (logged H) reach' (s.site.place + size))
+      (stands : (to : ℕ) → NoHeaderOfZeros sum → StandsFull sum size (padded to device.log.bytes) (s.site.place + size) (map begun_segment ss) reach' (logged H) fits.holds.begun.first) where
     abbrev stable : ℕ
     stable = stable_below reach' H.batches
 
@@ -91,16 +92,16 @@ module _ (sum : List ℕ → ℕ) (size : ℕ) (device : State) (fault : Option 
       passes = let passes = fits.passes in let up = rises in omega (arith, passes, up);
       pinned = fits.pinned;
       left = settled_recoverable sum size big device H stable f fits.holds.begun.first reach' ascends stored_now (rest sum size device fault place s ss fits big whole) fits.names blobs_now
-          (λ zeros. (subst (λ (l : List ℕ). StandsFull sum size l (s.site.place + size) (map begun_segment ss) reach' H fits.holds.begun.first) (padded_none 0 device.log.bytes (omega arith)) (stands 0 zeros)).stands);
+          (λ zeros. (subst (λ (l : List ℕ). StandsFull sum size l (s.site.place + size) (map begun_segment ss) reach' (logged H) fits.holds.begun.first) (padded_none 0 device.log.bytes (omega arith)) (stands 0 zeros)).stands);
     }
 
   -- How it is read in a file where all before it is.
-  module _ (log : List ℕ) (is : StandsFull sum size log place (map begun_segment (s ∷ ss)) reach H fits.holds.begun.first) where
-    abbrev full_now : StandsFull sum size log s.site.place (map begun_segment (s ∷ ss)) reach H fits.holds.begun.first
+  module _ (log : List ℕ) (is : StandsFull sum size log place (map begun_segment (s ∷ ss)) reach (logged H) fits.holds.begun.first) where
+    abbrev full_now : StandsFull sum size log s.site.place (map begun_segment (s ∷ ss)) reach (logged H) fits.holds.begun.first
     full_now = full_here sum size device fault place s ss fits big whole log is
 
     abbrev its_read : (stop : ℕ) × (why : ScanEnd) × IsReadTo full_now.stands.scanned s.site.slot s.site.place stop why × IsSoFar size s.written_len stop why × (s.written_len ≡ size → records_to s.filled size ≤ stop)
-    its_read = read sum size big log (begun_segment s) (map begun_segment ss) reach H fits.holds.begun.first full_now (follow sum size device fault place s ss fits big whole) ascends some_written
+    its_read = read sum size big log (begun_segment s) (map begun_segment ss) reach (logged H) fits.holds.begun.first full_now (follow sum size device fault place s ss fits big whole) ascends some_written
 
     abbrev stop : ℕ
     stop = its_read.0
@@ -136,24 +137,24 @@ module _ (sum : List ℕ → ℕ) (size : ℕ) (device : State) (fault : Option 
     within : stop ≤ size
     within =
         let r = its_read.2 in
-        let short = inside sum size log big H (stable_below reach H.batches) fits.holds.begun.first reach full_now.stands ascends r.scan r.there scan_goes in
+        let short = inside sum size log big (logged H) (stable_below reach H.batches) fits.holds.begun.first reach full_now.stands ascends r.scan r.there scan_goes in
         let ended = r.ended in
         omega (arith, short, ended)
 
     -- a message of the segment ends below where the reading does
-    ends_here : (m : Message) → Contains H.messages m → m.place < s.site.place + size → (m.place < s.site.place + stop) × (m.place + m.size ≤ s.site.place + stop)
+    ends_here : (m : Message) → Contains (logged H).messages m → m.place < s.site.place + size → (m.place < s.site.place + stop) × (m.place + m.size ≤ s.site.place + stop)
     ends_here m there under = elim (cases_lt m.place place) [
       | inl before ↦ (let low = fits.ends m there before in let near = fits.near in let at = begins in (omega (arith, low.0, near, at), omega (arith, low.1, near, at)))
       | inr behind ↦ (
           let r = its_read.2 in
           let at = r.at_place in
           let ended = r.ended in
-          let low = ends_read sum size log big H (stable_below reach H.batches) fits.holds.begun.first reach full_now.stands ascends r.scan r.there scan_goes m there (let b = begins in omega (arith, behind, at, b)) (omega (arith, under, at)) in
+          let low = ends_read sum size log big (logged H) (stable_below reach H.batches) fits.holds.begun.first reach full_now.stands ascends r.scan r.there scan_goes m there (let b = begins in omega (arith, behind, at, b)) (omega (arith, under, at)) in
           (omega (arith, low.0, at, ended), omega (arith, low.1, at, ended)))
     ]
 
     -- The next one begins behind it, with nothing of the history between.
-    begins_next : BeginsNext size H (s.site.place + stop) (s.site.place + size)
+    begins_next : BeginsNext size (logged H) (s.site.place + stop) (s.site.place + size)
     begins_next =
         let r = its_read.2 in
         let at = r.at_place in
@@ -166,13 +167,13 @@ module _ (sum : List ℕ → ℕ) (size : ℕ) (device : State) (fault : Option 
         record {
           above = omega (arith, short);
           next = omega (arith, further);
-          no_message = λ m there. elim (none_behind sum size log big H (stable_below reach H.batches) fits.holds.begun.first reach full_now.stands ascends r.scan r.there scan_goes m there) [ inl low ↦ inl (omega (arith, low, at, ended)) | inr past ↦ inr (omega (arith, past, at)) ];
-          no_batch = λ c there. elim (no_batch_behind sum size log big H (stable_below reach H.batches) fits.holds.begun.first reach full_now.stands ascends r.scan r.there scan_goes c there) [ inl low ↦ inl (omega (arith, low, at, ended)) | inr past ↦ inr (omega (arith, past, at)) ];
-          no_end = λ c there. elim (no_end_behind sum size log big H (stable_below reach H.batches) fits.holds.begun.first reach full_now.stands ascends r.scan r.there scan_goes c there) [ inl low ↦ inl (omega (arith, low, at, ended)) | inr past ↦ inr (omega (arith, past, at)) ];
+          no_message = λ m there. elim (none_behind sum size log big (logged H) (stable_below reach H.batches) fits.holds.begun.first reach full_now.stands ascends r.scan r.there scan_goes m there) [ inl low ↦ inl (omega (arith, low, at, ended)) | inr past ↦ inr (omega (arith, past, at)) ];
+          no_batch = λ c there. elim (no_batch_behind sum size log big (logged H) (stable_below reach H.batches) fits.holds.begun.first reach full_now.stands ascends r.scan r.there scan_goes c there) [ inl low ↦ inl (omega (arith, low, at, ended)) | inr past ↦ inr (omega (arith, past, at)) ];
+          no_end = λ c there. elim (no_end_behind sum size log big (logged H) (stable_below reach H.batches) fits.holds.begun.first reach full_now.stands ascends r.scan r.there scan_goes c there) [ inl low ↦ inl (omega (arith, low, at, ended)) | inr past ↦ inr (omega (arith, past, at)) ];
         }
 
-    stands_further : StandsFull sum size log (s.site.place + size) (map begun_segment ss) (s.site.place + stop) H fits.holds.begun.first
-    stands_further = next_full sum size big log (begun_segment s) (map begun_segment ss) reach H fits.holds.begun.first full_now (follow sum size device fault place s ss fits big whole) ascends some_written
+    stands_further : StandsFull sum size log (s.site.place + size) (map begun_segment ss) (s.site.place + stop) (logged H) fits.holds.begun.first
+    stands_further = next_full sum size big log (begun_segment s) (map begun_segment ss) reach (logged H) fits.holds.begun.first full_now (follow sum size device fault place s ss fits big whole) ascends some_written
         goes (let header = behind_header in omega (arith, header)) begins_next
 
   -- With any number of zeros behind its end the file is read to the same place.
@@ -185,14 +186,14 @@ module _ (sum : List ℕ → ℕ) (size : ℕ) (device : State) (fault : Option 
       b.0 (its_read (padded to device.log.bytes) (fits.beyond to whole zeros)).0 (its_read (padded to device.log.bytes) (fits.beyond to whole zeros)).1 b.1
 
   -- all messages of the segments so far end below the next place
-  ends_all : (m : Message) → Contains H.messages m → m.place < s.site.place + size → (m.place < s.site.place + size) × (m.place + m.size ≤ s.site.place + size)
-  ends_all m there under = elim (which_part sum size s.site device fault s.bytes size [] [] H holds_full m there) [
+  ends_all : (m : Message) → Contains (logged H).messages m → m.place < s.site.place + size → (m.place < s.site.place + size) × (m.place + m.size ≤ s.site.place + size)
+  ends_all m there under = elim (which_part sum size s.site device fault s.bytes size [] [] (logged H) holds_full m there) [
     | inl mine ↦ (
         let low = All-contains (λ (x : Message). (x.place < s.site.place + length s.bytes) × (x.place + x.size ≤ s.site.place + length s.bytes)) holds_full.head m
-        (all_below sum size s.site device fault s.bytes size [] [] (of_first sum size s.site device fault s.bytes size [] [] H holds_full) holds_full.own) mine in
+        (all_below sum size s.site device fault s.bytes size [] [] (of_first sum size s.site device fault s.bytes size [] [] (logged H) holds_full) holds_full.own) mine in
         let end = low_end in
         (under, omega (arith, low.1, end, full)))
-    | inr later ↦ absurd (let far = All-contains (λ (x : Message). s.site.place + size ≤ x.place) holds_full.later m (later_above sum size s.site device fault s.bytes size [] [] H holds_full) later in omega (arith, far, under))
+    | inr later ↦ absurd (let far = All-contains (λ (x : Message). s.site.place + size ≤ x.place) holds_full.later m (later_above sum size s.site device fault s.bytes size [] [] (logged H) holds_full) later in omega (arith, far, under))
   ]
 
   -- So all before the next place is on the device.
@@ -206,7 +207,7 @@ module _ (sum : List ℕ → ℕ) (size : ℕ) (device : State) (fault : Option 
           s.site.place + stop device.log.bytes here_file,
           fits_further (s.site.place + stop device.log.bytes here_file) (omega (arith, near, at)) (omega (arith, short)) (ends_here device.log.bytes here_file)
               (begins_next device.log.bytes here_file).no_batch (begins_next device.log.bytes here_file).no_end
-              (λ to none. subst (λ n. StandsFull sum size (padded to device.log.bytes) (s.site.place + size) (map begun_segment ss) (s.site.place + n) H fits.holds.begun.first) (same_end zeros to)
+              (λ to none. subst (λ n. StandsFull sum size (padded to device.log.bytes) (s.site.place + size) (map begun_segment ss) (s.site.place + n) (logged H) fits.holds.begun.first) (same_end zeros to)
               (stands_further (padded to device.log.bytes) (fits.beyond to whole zeros))),
         ))
     | inr never ↦ (let near = fits.near in let at = begins in (

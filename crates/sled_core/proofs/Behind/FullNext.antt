@@ -12,6 +12,7 @@ use Rattle.sled_core.specs.Begun.{SegmentParts}
 use Rattle.sled_core.specs.Fits.{HoldsIn, HoldsNext, begun_segment, log_parts}
 use Rattle.sled_core.specs.Full.{FitsFull, StandsFull}
 use Rattle.sled_core.specs.LogFile.{StaysBelow, padded}
+use Rattle.sled_core.specs.Logged.{logged}
 use Rattle.sled_core.specs.OpenBatches.{stable_below}
 use Rattle.sled_core.specs.Reached.{FollowApart, StandsAmong}
 use Rattle.sled_core.specs.Recoverable.{NoBatchBegins, NoBatchEnds, NoHeaderOfZeros}
@@ -29,7 +30,7 @@ module _ (sum : List ℕ → ℕ) (size : ℕ) (device : State) (fault : Option 
   abbrev pub first : SnapshotModel
   first = fits.holds.begun.first
 
-  abbrev pub here : HoldsNext sum size device fault (fits.site.place + size) s (StaysBelow H (stable_place first.stable) fits.site.place) H.batches fits.holds.others.0
+  abbrev pub here : HoldsNext sum size device fault (fits.site.place + size) s (StaysBelow (logged H) (stable_place first.stable) fits.site.place) H.batches fits.holds.others.0
   here = fits.holds.others.3
 
   -- it begins at the place
@@ -37,11 +38,11 @@ module _ (sum : List ℕ → ℕ) (size : ℕ) (device : State) (fault : Option 
   at_place = here.next ∙ fits.next
 
   -- what the log holds with it as the first one
-  abbrev pub holds_now : HoldsIn sum (log_parts size s.site device fault s.bytes s.written_len s.sealed s.reserved) ss H
-  holds_now = promoted sum size fits.site device fault fits.bytes size [] [] H s ss fits.holds big refl refl
+  abbrev pub holds_now : HoldsIn sum (log_parts size s.site device fault s.bytes s.written_len s.sealed s.reserved) ss (logged H)
+  holds_now = promoted sum size fits.site device fault fits.bytes size [] [] (logged H) s ss fits.holds big refl refl
 
-  pub ordered : Ascends H.messages
-  ordered = whole_ascends sum size s.site device fault s.bytes s.written_len s.sealed s.reserved H holds_now here.inside
+  pub ordered : Ascends (logged H).messages
+  ordered = whole_ascends sum size s.site device fault s.bytes s.written_len s.sealed s.reserved (logged H) holds_now here.inside
 
   -- The log file is at rest.
   pub rest : device.log ≡ at_rest device.log.bytes
@@ -51,13 +52,13 @@ module _ (sum : List ℕ → ℕ) (size : ℕ) (device : State) (fault : Option 
   follow = fits.holds.apart.1
 
   -- the file itself stands as with nothing behind its end
-  pub full_file : NoHeaderOfZeros sum → StandsFull sum size device.log.bytes place (map begun_segment (s ∷ ss)) reach H first
-  full_file zeros = subst (λ (l : List ℕ). StandsFull sum size l place (map begun_segment (s ∷ ss)) reach H first) (padded_none 0 device.log.bytes (omega arith)) (fits.beyond 0 whole zeros)
+  pub full_file : NoHeaderOfZeros sum → StandsFull sum size device.log.bytes place (map begun_segment (s ∷ ss)) reach (logged H) first
+  full_file zeros = subst (λ (l : List ℕ). StandsFull sum size l place (map begun_segment (s ∷ ss)) reach (logged H) first) (padded_none 0 device.log.bytes (omega arith)) (fits.beyond 0 whole zeros)
 
   -- Where it stands as far as it was written, up to a place no lower, behind all messages that are written then.
-  module _ (reach' : ℕ) (up : reach ≤ reach') (near' : reach' ≤ s.site.place + s.written_len) (ends' : (m : Message) → Contains H.messages m → m.place < s.site.place + s.written_len → (m.place < reach') × (m.place + m.size ≤ reach'))
-      (no_batch' : NoBatchBegins H reach' (s.site.place + s.written_len)) (no_end' : NoBatchEnds H reach' (s.site.place + s.written_len))
-      (stands : (log : List ℕ) → StandsFull sum size log place (map begun_segment (s ∷ ss)) reach H first → StandsAmong sum size log s.site s.written_len (map begun_segment ss) reach' H first) where
+  module _ (reach' : ℕ) (up : reach ≤ reach') (near' : reach' ≤ s.site.place + s.written_len) (ends' : (m : Message) → Contains (logged H).messages m → m.place < s.site.place + s.written_len → (m.place < reach') × (m.place + m.size ≤ reach'))
+      (no_batch' : NoBatchBegins (logged H) reach' (s.site.place + s.written_len)) (no_end' : NoBatchEnds (logged H) reach' (s.site.place + s.written_len))
+      (stands : (log : List ℕ) → StandsFull sum size log place (map begun_segment (s ∷ ss)) reach (logged H) first → StandsAmong sum size log s.site s.written_len (map begun_segment ss) reach' (logged H) first) where
     abbrev stable : ℕ
     stable = stable_below reach' H.batches
 
@@ -88,27 +89,27 @@ module _ (sum : List ℕ → ℕ) (size : ℕ) (device : State) (fault : Option 
     }
 
   -- The messages below what is written of it end there.
-  ends_written : s.written_len < size → (m : Message) → Contains H.messages m → m.place < s.site.place + s.written_len → (m.place < s.site.place + s.written_len) × (m.place + m.size ≤ s.site.place + s.written_len)
-  ends_written left_over m there below = elim (which_part sum size s.site device fault s.bytes s.written_len s.sealed s.reserved H holds_now m there) [
+  ends_written : s.written_len < size → (m : Message) → Contains (logged H).messages m → m.place < s.site.place + s.written_len → (m.place < s.site.place + s.written_len) × (m.place + m.size ≤ s.site.place + s.written_len)
+  ends_written left_over m there below = elim (which_part sum size s.site device fault s.bytes s.written_len s.sealed s.reserved (logged H) holds_now m there) [
     | inl mine ↦ All-contains (λ (x : Message). (x.place < s.site.place + s.written_len) × (x.place + x.size ≤ s.site.place + s.written_len)) holds_now.own.earlier m holds_now.own.below
-        (written_before sum size s.site device fault s.bytes s.written_len s.sealed s.reserved (of_first sum size s.site device fault s.bytes s.written_len s.sealed s.reserved H holds_now) holds_now.own m mine below)
+        (written_before sum size s.site device fault s.bytes s.written_len s.sealed s.reserved (of_first sum size s.site device fault s.bytes s.written_len s.sealed s.reserved (logged H) holds_now) holds_now.own m mine below)
     | inr later ↦ absurd (
-        let far = All-contains (λ (x : Message). s.site.place + size ≤ x.place) holds_now.later m (later_above sum size s.site device fault s.bytes s.written_len s.sealed s.reserved H holds_now) later in
+        let far = All-contains (λ (x : Message). s.site.place + size ≤ x.place) holds_now.later m (later_above sum size s.site device fault s.bytes s.written_len s.sealed s.reserved (logged H) holds_now) later in
         omega (arith, far, left_over, below))
   ]
 
   -- it stands behind the full one in a file
-  pub full_here : (log : List ℕ) → StandsFull sum size log place (map begun_segment (s ∷ ss)) reach H first → StandsFull sum size log s.site.place (map begun_segment (s ∷ ss)) reach H first
-  full_here log full = subst (λ n. StandsFull sum size log n (map begun_segment (s ∷ ss)) reach H first) (sym at_place) full
+  pub full_here : (log : List ℕ) → StandsFull sum size log place (map begun_segment (s ∷ ss)) reach (logged H) first → StandsFull sum size log s.site.place (map begun_segment (s ∷ ss)) reach (logged H) first
+  full_here log full = subst (λ n. StandsFull sum size log n (map begun_segment (s ∷ ss)) reach (logged H) first) (sym at_place) full
 
-  goes_on : 0 < s.written_len → s.written_len < size → (log : List ℕ) → StandsFull sum size log place (map begun_segment (s ∷ ss)) reach H first
-      → StandsAmong sum size log s.site s.written_len (map begun_segment ss) (s.site.place + s.written_len) H first
+  goes_on : 0 < s.written_len → s.written_len < size → (log : List ℕ) → StandsFull sum size log place (map begun_segment (s ∷ ss)) reach (logged H) first
+      → StandsAmong sum size log s.site s.written_len (map begun_segment ss) (s.site.place + s.written_len) (logged H) first
   goes_on some left_over log full =
-      let is : StandsFull sum size log s.site.place (map begun_segment (s ∷ ss)) reach H first = full_here log full in
-      let r = read sum size big log (begun_segment s) (map begun_segment ss) reach H first is follow ordered some in
+      let is : StandsFull sum size log s.site.place (map begun_segment (s ∷ ss)) reach (logged H) first = full_here log full in
+      let r = read sum size big log (begun_segment s) (map begun_segment ss) reach (logged H) first is follow ordered some in
       let at : r.0 ≡ s.written_len = elim r.3 [ inl ends ↦ ends.0 | inr ends ↦ absurd (let all = ends.0 in omega (arith, all, left_over)) ] in
-      subst (λ n. StandsAmong sum size log s.site s.written_len (map begun_segment ss) (s.site.place + n) H first) at
-      (next_goes sum size big log (begun_segment s) (map begun_segment ss) reach H first is follow ordered some at)
+      subst (λ n. StandsAmong sum size log s.site s.written_len (map begun_segment ss) (s.site.place + n) (logged H) first) at
+      (next_goes sum size big log (begun_segment s) (map begun_segment ss) reach (logged H) first is follow ordered some at)
 
   -- So the log fits the history, with that one as its first segment.
   pub full_next : s.written_len < size → (now : ℕ) × FitsIn sum (log_parts size s.site device fault s.bytes s.written_len s.sealed s.reserved) ss now pins H A f U
@@ -125,7 +126,7 @@ module _ (sum : List ℕ → ℕ) (size : ℕ) (device : State) (fault : Option 
           fits_now reach (omega arith) (let near = fits.near in omega (arith, near, at)) (λ m there below. fits.ends m there (omega (arith, below, none, at)))
               (λ b there. elim (fits.no_batch b there) [ inl low ↦ inl low | inr far ↦ inr (omega (arith, far, none, at)) ])
               (λ b there. elim (fits.no_end b there) [ inl low ↦ inl low | inr far ↦ inr (omega (arith, far, none, at)) ])
-              (λ log full. subst (λ n. StandsAmong sum size log s.site n (map begun_segment ss) reach H first) (sym none)
-              (next_begins sum size big log (begun_segment s) (map begun_segment ss) reach H first (full_here log full) follow none)),
+              (λ log full. subst (λ n. StandsAmong sum size log s.site n (map begun_segment ss) reach (logged H) first) (sym none)
+              (next_begins sum size big log (begun_segment s) (map begun_segment ss) reach (logged H) first (full_here log full) follow none)),
         ))
   ]

@@ -14,6 +14,7 @@ use Rattle.sled_core.specs.Begun.{SegmentParts}
 use Rattle.sled_core.specs.Fits.{HoldsSegment, begun_segment, log_parts}
 use Rattle.sled_core.specs.Full.{FitsFull, StandsFull}
 use Rattle.sled_core.specs.LogFile.{StaysFrom}
+use Rattle.sled_core.specs.Logged.{logged}
 use Rattle.sled_core.specs.Running.{FitsIn}
 use Rattle.sled_core.specs.SealedBuffers.{AreSealed, FirstUnwritten, behind_run, bytes_between, is_ready, now_written, run_count, run_end, sealed_end, written_at}
 use Rattle.sled_core.proofs.Behind.FullHead.{plain_run}
@@ -42,22 +43,23 @@ module _ (sum : List ℕ → ℕ) (size : ℕ) (site : SegmentPosition) (device 
       → run_end from (front ++ now_written b ∷ rest) ≡ size → (now : ℕ) × FitsFull sum size (after front) fault (site.place + size) behind now pins H A f U
   full_around [] fits are fresh rise filled =
       let range = asked_range sum size site device fault bytes from b rest rs behind reach pins H A f U short big place_small slot_small closed whole [] are rise in
-      let up = last_up sum size site device fault bytes from b rest rs H fits.holds short big place_small slot_small are fresh closed rise whole in
+      let up = last_up sum size site device fault bytes from b rest rs (logged H) fits.holds short big place_small slot_small are fresh closed rise whole in
       let above = (stop_up from rs b rest closed are).0 in
-      let now : HoldsSegment sum (log_parts size site (after []) fault bytes (run_end b.end rest) (behind_run rest) (drop (b.count + run_count rest) rs)) (StaysFrom H (stable_place fits.holds.begun.first.stable)) (record { messages = fits.holds.head; batches = H.batches }) =
+      let now : HoldsSegment sum (log_parts size site (after []) fault bytes (run_end b.end rest) (behind_run rest) (drop (b.count + run_count rest) rs)) (StaysFrom (logged H) (stable_place fits.holds.begun.first.stable)) (record { messages = fits.holds.head; batches = H.batches }) =
       segment_first sum size site device fault bytes from b rest rs (record { messages = fits.holds.head; batches = H.batches }) fits.holds.own short big place_small slot_small are fresh closed rise whole (after []) refl in (
-        site.place + last_whole sum size site device fault bytes from b rest rs H fits.holds short big place_small slot_small are fresh closed rise whole,
-        fits_filled sum size site device fault bytes from (b ∷ rest) rs pins H A f U fits short big whole (run_end b.end rest) above (site.place + last_whole sum size site device fault bytes from b rest rs H fits.holds short big place_small slot_small are fresh closed rise whole)
-            (let near = fits.near in omega (arith, near, up)) (let low = last_low sum size site device fault bytes from b rest rs H fits.holds short big place_small slot_small are fresh closed rise whole in omega (arith, low))
-            (ends_full sum size site device fault bytes from b rest rs H fits.holds short big place_small slot_small are fresh closed rise whole filled)
-            (rest_batches sum size site device fault bytes from b rest rs H fits.holds short big place_small slot_small are fresh closed rise whole filled)
-            (site.slot + from) (asked []) (λ zeros. torn_first sum size site device fault bytes from b rest rs H fits.holds short big place_small slot_small are fresh closed rise whole reach zeros)
-            (λ (l : List ℕ) (is : StandsFull sum size l (site.place + size) (map begun_segment behind) (site.place + last_whole sum size site device fault bytes from b rest rs H fits.holds short big place_small slot_small are fresh closed rise whole) H fits.holds.begun.first). is.stands)
-            (λ zeros end far. full_first sum size site device fault bytes from b rest rs H fits.holds short big place_small slot_small are fresh closed rise whole filled reach zeros end far)
-            (reaches_first sum size site device fault bytes from b rest rs H fits.holds short big place_small slot_small are fresh closed rise whole) filled
-            (emptied sum size site (after []) fault bytes (run_end b.end rest) (behind_run rest) (drop (b.count + run_count rest) rs) behind H
-            (holds_over sum size site device fault bytes from (b ∷ rest) rs behind H fits.holds (after []) fault bytes (run_end b.end rest) (behind_run rest) (drop (b.count + run_count rest) rs) refl above now
-            (others_written sum size site device fault bytes from (b ∷ rest) rs H fits.holds (omega (arith, big)) whole (site.slot + from) (asked []) range.0 (omega arith) (omega (arith, range.2)) (after []) refl))
+        site.place + last_whole sum size site device fault bytes from b rest rs (logged H) fits.holds short big place_small slot_small are fresh closed rise whole,
+        fits_filled sum size site device fault bytes from (b ∷ rest) rs pins H A f U fits short big whole (run_end b.end rest) above (site.place + last_whole sum size site device fault bytes from b rest rs (logged H) fits.holds short big place_small slot_small are fresh closed rise whole)
+            (let near = fits.near in omega (arith, near, up)) (let low = last_low sum size site device fault bytes from b rest rs (logged H) fits.holds short big place_small slot_small are fresh closed rise whole in omega (arith, low))
+            (ends_full sum size site device fault bytes from b rest rs (logged H) fits.holds short big place_small slot_small are fresh closed rise whole filled)
+            (rest_batches sum size site device fault bytes from b rest rs (logged H) fits.holds short big place_small slot_small are fresh closed rise whole filled)
+            (site.slot + from) (asked []) (λ zeros. torn_first sum size site device fault bytes from b rest rs (logged H) fits.holds short big place_small slot_small are fresh closed rise whole reach zeros)
+            (λ (l : List ℕ) (is : StandsFull sum size l (site.place + size) (map begun_segment behind) (site.place + last_whole sum size site device fault bytes from b rest rs (logged H) fits.holds short big place_small slot_small are fresh closed rise whole)
+            (logged H) fits.holds.begun.first). is.stands)
+            (λ zeros end far. full_first sum size site device fault bytes from b rest rs (logged H) fits.holds short big place_small slot_small are fresh closed rise whole filled reach zeros end far)
+            (reaches_first sum size site device fault bytes from b rest rs (logged H) fits.holds short big place_small slot_small are fresh closed rise whole) filled
+            (emptied sum size site (after []) fault bytes (run_end b.end rest) (behind_run rest) (drop (b.count + run_count rest) rs) behind (logged H)
+            (holds_over sum size site device fault bytes from (b ∷ rest) rs behind (logged H) fits.holds (after []) fault bytes (run_end b.end rest) (behind_run rest) (drop (b.count + run_count rest) rs) refl above now
+            (others_written sum size site device fault bytes from (b ∷ rest) rs (logged H) fits.holds (omega (arith, big)) whole (site.slot + from) (asked []) range.0 (omega arith) (omega (arith, range.2)) (after []) refl))
             filled (none_sealed (run_end b.end rest) (behind_run rest) (length bytes) (rise_behind b.end rest (length bytes) rise.1) (omega (arith, filled, short)))
             (none_reserved sum size site (after []) fault bytes (run_end b.end rest) (behind_run rest) (drop (b.count + run_count rest) rs) (record { messages = fits.holds.head; batches = H.batches }) now (omega (arith, filled, short))))
             refl (λ l is. is),

@@ -13,6 +13,7 @@ use Rattle.sled_core.specs.declared.iobuf.SegmentPosition.{SegmentPosition}
 use Rattle.sled_core.specs.Begun.{SegmentParts, records_to}
 use Rattle.sled_core.specs.Fits.{HoldsIn, begun_segment, log_parts}
 use Rattle.sled_core.specs.LogFile.{padded}
+use Rattle.sled_core.specs.Logged.{logged}
 use Rattle.sled_core.specs.Reached.{BegunSegment, FollowApart, StandsAmong, StandsIn}
 use Rattle.sled_core.specs.Running.{FitsIn}
 use Rattle.sled_core.specs.Tail.{least_place}
@@ -66,10 +67,11 @@ module _ (sum : List ℕ → ℕ) (size : ℕ) (site : SegmentPosition) (device 
       marked = marks_same sum (site.place + from) pre s (filled_at o s) post refl (λ none. (none, refl)) holds.marked;
     }
 
+module _ (sum : List ℕ → ℕ) (size : ℕ) (site : SegmentPosition) (device : State) (fault : Option IoError) (bytes : List ℕ) (from : ℕ) (bs : List Sealed) (rs : List Reserved) (H : History) (pre : List SegmentParts) (s : SegmentParts) (post : List SegmentParts) (o : Option ℕ) where
   pub fits-refilled : (reach pins A f : ℕ) (U : List Message) → s.written_len < size → FitsIn sum (log_parts size site device fault bytes from bs rs) (pre ++ s ∷ post) reach pins H A f U
       → FitsIn sum (log_parts size site device fault bytes from bs rs) (pre ++ filled_at o s ∷ post) reach pins H A f U
   fits-refilled reach pins A f U less fits = record {
-    holds = holds-refilled fits.holds;
+    holds = holds-refilled sum size site device fault bytes from bs rs (logged H) pre s post o fits.holds;
     near = fits.near;
     ends = fits.ends;
     no_batch = fits.no_batch;
@@ -87,8 +89,8 @@ module _ (sum : List ℕ → ℕ) (size : ℕ) (site : SegmentPosition) (device 
       first : SnapshotModel
       first = fits.holds.begun.first
 
-      stands : (log : List ℕ) → StandsAmong sum size log site from (map begun_segment (pre ++ s ∷ post)) reach H first → StandsAmong sum size log site from (map begun_segment (pre ++ filled_at o s ∷ post)) reach H first
+      stands : (log : List ℕ) → StandsAmong sum size log site from (map begun_segment (pre ++ s ∷ post)) reach (logged H) first → StandsAmong sum size log site from (map begun_segment (pre ++ filled_at o s ∷ post)) reach (logged H) first
       stands log among =
-          subst (λ (l : List BegunSegment). StandsAmong sum size log site from l reach H first) (sym (map-append begun_segment pre (filled_at o s ∷ post)))
-          (refilled_stands sum size log site from (map begun_segment pre) (begun_segment s) (map begun_segment post) o reach H first less
-          (subst (λ (l : List BegunSegment). StandsAmong sum size log site from l reach H first) (begun_is pre s post) among))
+          subst (λ (l : List BegunSegment). StandsAmong sum size log site from l reach (logged H) first) (sym (map-append begun_segment pre (filled_at o s ∷ post)))
+          (refilled_stands sum size log site from (map begun_segment pre) (begun_segment s) (map begun_segment post) o reach (logged H) first less
+          (subst (λ (l : List BegunSegment). StandsAmong sum size log site from l reach (logged H) first) (begun_is pre s post) among))

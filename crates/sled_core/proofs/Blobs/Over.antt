@@ -11,6 +11,7 @@ use Rattle.sled_core.specs.declared.iobuf.SegmentPosition.{SegmentPosition}
 use Rattle.sled_core.specs.Begun.{SegmentParts, SegmentView}
 use Rattle.sled_core.specs.Fits.{HoldBehind, HoldsIn, HoldsLine, HoldsSegment, HoldsWith, log_parts, parts_in}
 use Rattle.sled_core.specs.LogFile.{StaysBelow, StaysFrom}
+use Rattle.sled_core.specs.Logged.{logged}
 use Rattle.sled_core.specs.OpenBatches.{stable_below}
 use Rattle.sled_core.specs.Running.{FitsIn, FitsLine, FitsWith}
 use Rattle.sled_core.specs.Slots.{HaveEntries}
@@ -82,7 +83,7 @@ module _ (sum : List ℕ → ℕ) (size : ℕ) (device : State) (blobs snapshots
         → FitsIn sum (log_parts size site device fault bytes from bs rs) behind reach pins H A f U → FitsIn sum (log_parts size site new fault bytes from bs rs) behind reach pins H A f U
     unfolding in_over
     fits_in_over site bytes from bs rs behind reach pins fits = record {
-      holds = in_over changes.same_files site bytes from bs rs behind H fits.holds;
+      holds = in_over changes.same_files site bytes from bs rs behind (logged H) fits.holds;
       near = fits.near;
       ends = fits.ends;
       no_batch = fits.no_batch;
@@ -91,7 +92,7 @@ module _ (sum : List ℕ → ℕ) (size : ℕ) (device : State) (blobs snapshots
       beyond = fits.beyond;
       blobs = blobs_fit_beside sum p device blobs snapshots changes H unnamed (stable_below reach H.batches) fits.blobs;
       stored = stored_beside sum p device blobs snapshots changes H unnamed (stable_below reach H.batches) fits.stored;
-      names = names_fit_beside sum p device blobs snapshots changes H size f fits.holds.begun.first fits.names;
+      names = names_fit_beside sum p device blobs snapshots changes (logged H) size f fits.holds.begun.first fits.names;
       passes = fits.passes;
       pinned = fits.pinned;
       left = leaves_beside sum p device blobs snapshots changes H unnamed size (stable_below reach H.batches) f fits.left;
@@ -108,5 +109,5 @@ module _ (sum : List ℕ → ℕ) (size : ℕ) (device : State) (blobs snapshots
       batches = fits.batches;
       slots = fits.slots;
       begun = fits.begun;
-      entries = subst (λ (file : ℤ → Option (List ℕ)). HaveEntries sum size file H m) (sym changes.same_files) fits.entries;
+      entries = subst (λ (file : ℤ → Option (List ℕ)). HaveEntries sum size file (logged H) m) (sym changes.same_files) fits.entries;
     }

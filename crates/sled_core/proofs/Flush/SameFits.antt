@@ -8,6 +8,7 @@ use Rattle.sled_core.specs.declared.iobuf.Sealed.{Sealed}
 use Rattle.sled_core.specs.declared.iobuf.SegmentPosition.{SegmentPosition}
 use Rattle.sled_core.specs.Begun.{SegmentParts}
 use Rattle.sled_core.specs.Fits.{log_parts}
+use Rattle.sled_core.specs.Logged.{logged}
 use Rattle.sled_core.specs.OpenBatches.{stable_below}
 use Rattle.sled_core.specs.Recoverable.{LeavesRecoverable}
 use Rattle.sled_core.specs.Running.{BlobsFit, FitsIn, KeepsItems, NamesFit}
@@ -24,12 +25,12 @@ module _ (sum : List ℕ → ℕ) (size : ℕ) (site : SegmentPosition) (device 
     ends = fits.ends;
     no_batch = fits.no_batch;
     no_end = fits.no_end;
-    holds = holds-faulty sum size site device fault bytes from bs rs H fits.holds new e now is (ap (λ (s : NamesState). s.file) snapshots);
+    holds = holds-faulty sum size site device fault bytes from bs rs (logged H) fits.holds new e now is (ap (λ (s : NamesState). s.file) snapshots);
     among = λ none. cc;
     beyond = λ to far none. cc;
     blobs = subst (λ (s : NamesState). BlobsFit sum s H (stable_below reach H.batches)) (sym blobs) fits.blobs;
     stored = subst (λ (s : NamesState). KeepsItems sum s H (stable_below reach H.batches)) (sym blobs) fits.stored;
-    names = subst (λ (s : NamesState). NamesFit sum size s H f fits.holds.begun.first) (sym snapshots) fits.names;
+    names = subst (λ (s : NamesState). NamesFit sum size s (logged H) f fits.holds.begun.first) (sym snapshots) fits.names;
     passes = fits.passes;
     pinned = fits.pinned;
     left = left;

@@ -8,6 +8,7 @@ use Rattle.sled_codec.specs.Snapshots.{SnapshotModel}
 use Rattle.sled_store.specs.Device.{LogState, State, Wrote, Synced, LeavesLog, at_rest, overwritten, step}
 use Rattle.sled_store.specs.Foreign.{NoForeignLog}
 use Rattle.sled_store.specs.Script.{Along}
+use Rattle.sled_core.specs.Logged.{logged}
 use Rattle.sled_core.specs.OpenBatches.{stable_below}
 use Rattle.sled_core.specs.declared.iobuf.Reserved.{Reserved}
 use Rattle.sled_core.specs.declared.iobuf.Sealed.{Sealed}
@@ -149,27 +150,33 @@ module _ (sum : List ℕ → ℕ) (size : ℕ) (site : SegmentPosition) (device 
       → Along (LeavesRecoverable sum size H (stable_below reach H.batches) f) (Wrote (site.slot + sealed_end from front) (asked_behind front) (asked_behind front) ∷ Synced ∷ []) device
   along_around [] fits are fresh rise = elim (cases_lt (run_end b.end rest) size) [
     | inl below ↦ along_behind sum size site device fault bytes from (b ∷ rest) rs pins H A f U fits short big whole (run_end b.end rest) (stop_up from rs b rest closed are).0 (site.place + run_end b.end rest) (let near = fits.near in let above = (stop_up from rs b rest closed are).0 in omega (arith, near, above)) (omega arith)
-        (ends_first sum size site device fault bytes from b rest rs H fits.holds short big place_small slot_small are fresh closed rise whole)
-        (none_between H (site.place + run_end b.end rest))
-        (site.slot + from) (asked_behind []) (λ zeros. torn_first sum size site device fault bytes from b rest rs H fits.holds short big place_small slot_small are fresh closed rise whole reach zeros)
-        (λ (l : List ℕ) (is : StandsAmong sum size l site (run_end b.end rest) (map begun_segment behind) (site.place + run_end b.end rest) H fits.holds.begun.first). is.stands) (λ zeros end far. alone_first sum size site device fault bytes from b rest rs H fits.holds short big place_small slot_small are fresh closed rise whole (plain_below sum size site device fault bytes from b rest rs H fits.holds short big place_small slot_small are fresh closed rise whole below) reach zeros end far)
-        (reaches_first sum size site device fault bytes from b rest rs H fits.holds short big place_small slot_small are fresh closed rise whole)
+        (ends_first sum size site device fault bytes from b rest rs (logged H) fits.holds short big place_small slot_small are fresh closed rise whole)
+        (none_between (logged H) (site.place + run_end b.end rest))
+        (site.slot + from) (asked_behind []) (λ zeros. torn_first sum size site device fault bytes from b rest rs (logged H) fits.holds short big place_small slot_small are fresh closed rise whole reach zeros)
+        (λ (l : List ℕ) (is : StandsAmong sum size l site (run_end b.end rest) (map begun_segment behind) (site.place + run_end b.end rest) (logged H) fits.holds.begun.first). is.stands)
+        (λ zeros end far. alone_first sum size site device fault bytes from b rest rs (logged H) fits.holds short big place_small slot_small are fresh closed rise whole
+        (plain_below sum size site device fault bytes from b rest rs (logged H) fits.holds short big place_small slot_small are fresh closed rise whole below) reach zeros end far)
+        (reaches_first sum size site device fault bytes from b rest rs (logged H) fits.holds short big place_small slot_small are fresh closed rise whole)
     | inr above ↦ (
         let filled : run_end b.end rest ≡ size = let low = run_below b.end rest (length bytes) rise.1 in omega (arith, above, low, short) in
-        let from_up = last_up sum size site device fault bytes from b rest rs H fits.holds short big place_small slot_small are fresh closed rise whole in
-        along_behind sum size site device fault bytes from (b ∷ rest) rs pins H A f U fits short big whole (run_end b.end rest) (stop_up from rs b rest closed are).0 (site.place + last_whole sum size site device fault bytes from b rest rs H fits.holds short big place_small slot_small are fresh closed rise whole) (let near = fits.near in omega (arith, near, from_up))
-        (let low = last_low sum size site device fault bytes from b rest rs H fits.holds short big place_small slot_small are fresh closed rise whole in omega (arith, low))
-        (ends_full sum size site device fault bytes from b rest rs H fits.holds short big place_small slot_small are fresh closed rise whole filled)
-        (rest_batches sum size site device fault bytes from b rest rs H fits.holds short big place_small slot_small are fresh closed rise whole filled)
-        (site.slot + from) (asked_behind []) (λ zeros. torn_first sum size site device fault bytes from b rest rs H fits.holds short big place_small slot_small are fresh closed rise whole reach zeros)
-        (λ (l : List ℕ) (is : StandsFull sum size l (site.place + size) (map begun_segment behind) (site.place + last_whole sum size site device fault bytes from b rest rs H fits.holds short big place_small slot_small are fresh closed rise whole) H fits.holds.begun.first). is.stands) (λ zeros end far. full_first sum size site device fault bytes from b rest rs H fits.holds short big place_small slot_small are fresh closed rise whole filled reach zeros end far)
-        (reaches_first sum size site device fault bytes from b rest rs H fits.holds short big place_small slot_small are fresh closed rise whole))
+        let from_up = last_up sum size site device fault bytes from b rest rs (logged H) fits.holds short big place_small slot_small are fresh closed rise whole in
+        along_behind sum size site device fault bytes from (b ∷ rest) rs pins H A f U fits short big whole (run_end b.end rest) (stop_up from rs b rest closed are).0
+        (site.place + last_whole sum size site device fault bytes from b rest rs (logged H) fits.holds short big place_small slot_small are fresh closed rise whole) (let near = fits.near in omega (arith, near, from_up))
+        (let low = last_low sum size site device fault bytes from b rest rs (logged H) fits.holds short big place_small slot_small are fresh closed rise whole in omega (arith, low))
+        (ends_full sum size site device fault bytes from b rest rs (logged H) fits.holds short big place_small slot_small are fresh closed rise whole filled)
+        (rest_batches sum size site device fault bytes from b rest rs (logged H) fits.holds short big place_small slot_small are fresh closed rise whole filled)
+        (site.slot + from) (asked_behind []) (λ zeros. torn_first sum size site device fault bytes from b rest rs (logged H) fits.holds short big place_small slot_small are fresh closed rise whole reach zeros)
+        (λ (l : List ℕ) (is : StandsFull sum size l (site.place + size) (map begun_segment behind)
+        (site.place + last_whole sum size site device fault bytes from b rest rs (logged H) fits.holds short big place_small slot_small are fresh closed rise whole) (logged H) fits.holds.begun.first). is.stands)
+        (λ zeros end far. full_first sum size site device fault bytes from b rest rs (logged H) fits.holds short big place_small slot_small are fresh closed rise whole filled reach zeros end far)
+        (reaches_first sum size site device fault bytes from b rest rs (logged H) fits.holds short big place_small slot_small are fresh closed rise whole))
   ]
   along_around (x ∷ xs) fits are fresh rise =
       along_behind sum size site device fault bytes from (x ∷ xs ++ b ∷ rest) rs pins H A f U fits short big whole from (omega arith) reach (omega arith) fits.near fits.ends (fits.no_batch, fits.no_end)
       (site.slot + sealed_end x.end xs) (asked_behind (x ∷ xs))
-      (λ zeros. torn_later sum size site device fault bytes from x xs b rest rs (own_of fits.holds.head) fits.holds.own short big place_small slot_small are rise whole fresh H fits.holds.begun.first reach zeros)
-      (λ (l : List ℕ) (is : StandsAmong sum size l site from (map begun_segment behind) reach H fits.holds.begun.first). is.stands) (λ zeros end far. alone_later sum size site device fault bytes from x xs b rest rs (own_of fits.holds.head) fits.holds.own short big place_small slot_small are rise whole fresh H fits.holds.begun.first reach zeros end far)
+      (λ zeros. torn_later sum size site device fault bytes from x xs b rest rs (own_of fits.holds.head) fits.holds.own short big place_small slot_small are rise whole fresh (logged H) fits.holds.begun.first reach zeros)
+      (λ (l : List ℕ) (is : StandsAmong sum size l site from (map begun_segment behind) reach (logged H) fits.holds.begun.first). is.stands)
+      (λ zeros end far. alone_later sum size site device fault bytes from x xs b rest rs (own_of fits.holds.head) fits.holds.own short big place_small slot_small are rise whole fresh (logged H) fits.holds.begun.first reach zeros end far)
       (reaches_later sum size site device fault bytes from x xs b rest rs (own_of fits.holds.head) fits.holds.own short big place_small slot_small are rise whole)
 
   abbrev after_behind : List Sealed → State
@@ -182,14 +189,15 @@ module _ (sum : List ℕ → ℕ) (size : ℕ) (site : SegmentPosition) (device 
       let range = asked_range [] are rise in (
         site.place + run_end b.end rest,
         fits_behind sum size site device fault bytes from (b ∷ rest) rs pins H A f U fits short big whole (run_end b.end rest) (stop_up from rs b rest closed are).0 (site.place + run_end b.end rest) (let near = fits.near in let above = (stop_up from rs b rest closed are).0 in omega (arith, near, above)) (omega arith)
-            (ends_first sum size site device fault bytes from b rest rs H fits.holds short big place_small slot_small are fresh closed rise whole)
-            (none_between H (site.place + run_end b.end rest))
-            (site.slot + from) (asked_behind []) (λ zeros. torn_first sum size site device fault bytes from b rest rs H fits.holds short big place_small slot_small are fresh closed rise whole reach zeros)
-            (λ (l : List ℕ) (is : StandsAmong sum size l site (run_end b.end rest) (map begun_segment behind) (site.place + run_end b.end rest) H fits.holds.begun.first). is.stands) (λ zeros end far. alone_first sum size site device fault bytes from b rest rs H fits.holds short big place_small slot_small are fresh closed rise whole plain reach zeros end far)
-            (reaches_first sum size site device fault bytes from b rest rs H fits.holds short big place_small slot_small are fresh closed rise whole) (behind_run rest) (drop (b.count + run_count rest) rs)
-            (holds_over sum size site device fault bytes from (b ∷ rest) rs behind H fits.holds (after_behind []) fault bytes (run_end b.end rest) (behind_run rest) (drop (b.count + run_count rest) rs) refl (stop_up from rs b rest closed are).0
+            (ends_first sum size site device fault bytes from b rest rs (logged H) fits.holds short big place_small slot_small are fresh closed rise whole)
+            (none_between (logged H) (site.place + run_end b.end rest))
+            (site.slot + from) (asked_behind []) (λ zeros. torn_first sum size site device fault bytes from b rest rs (logged H) fits.holds short big place_small slot_small are fresh closed rise whole reach zeros)
+            (λ (l : List ℕ) (is : StandsAmong sum size l site (run_end b.end rest) (map begun_segment behind) (site.place + run_end b.end rest) (logged H) fits.holds.begun.first). is.stands)
+            (λ zeros end far. alone_first sum size site device fault bytes from b rest rs (logged H) fits.holds short big place_small slot_small are fresh closed rise whole plain reach zeros end far)
+            (reaches_first sum size site device fault bytes from b rest rs (logged H) fits.holds short big place_small slot_small are fresh closed rise whole) (behind_run rest) (drop (b.count + run_count rest) rs)
+            (holds_over sum size site device fault bytes from (b ∷ rest) rs behind (logged H) fits.holds (after_behind []) fault bytes (run_end b.end rest) (behind_run rest) (drop (b.count + run_count rest) rs) refl (stop_up from rs b rest closed are).0
             (segment_first sum size site device fault bytes from b rest rs (own_of fits.holds.head) fits.holds.own short big place_small slot_small are fresh closed rise whole (after_behind []) refl)
-            (others_written sum size site device fault bytes from (b ∷ rest) rs H fits.holds (omega (arith, big)) whole (site.slot + from) (asked_behind []) range.0 (omega arith) (omega (arith, range.2)) (after_behind []) refl)) refl (λ l is. is),
+            (others_written sum size site device fault bytes from (b ∷ rest) rs (logged H) fits.holds (omega (arith, big)) whole (site.slot + from) (asked_behind []) range.0 (omega arith) (omega (arith, range.2)) (after_behind []) refl)) refl (λ l is. is),
       )
   fits_around (x ∷ xs) fits are fresh rise plain =
       let range = asked_range (x ∷ xs) are rise in
@@ -197,12 +205,14 @@ module _ (sum : List ℕ → ℕ) (size : ℕ) (site : SegmentPosition) (device 
         reach,
         fits_behind sum size site device fault bytes from (x ∷ xs ++ b ∷ rest) rs pins H A f U fits short big whole from (omega arith) reach (omega arith) fits.near fits.ends (fits.no_batch, fits.no_end)
             (site.slot + sealed_end x.end xs) (asked_behind (x ∷ xs))
-            (λ zeros. torn_later sum size site device fault bytes from x xs b rest rs (own_of fits.holds.head) fits.holds.own short big place_small slot_small are rise whole fresh H fits.holds.begun.first reach zeros)
-            (λ (l : List ℕ) (is : StandsAmong sum size l site from (map begun_segment behind) reach H fits.holds.begun.first). is.stands) (λ zeros end far. alone_later sum size site device fault bytes from x xs b rest rs (own_of fits.holds.head) fits.holds.own short big place_small slot_small are rise whole fresh H fits.holds.begun.first reach zeros end far)
+            (λ zeros. torn_later sum size site device fault bytes from x xs b rest rs (own_of fits.holds.head) fits.holds.own short big place_small slot_small are rise whole fresh (logged H) fits.holds.begun.first reach zeros)
+            (λ (l : List ℕ) (is : StandsAmong sum size l site from (map begun_segment behind) reach (logged H) fits.holds.begun.first). is.stands)
+            (λ zeros end far. alone_later sum size site device fault bytes from x xs b rest rs (own_of fits.holds.head) fits.holds.own short big place_small slot_small are rise whole fresh (logged H) fits.holds.begun.first reach zeros end far)
             (reaches_later sum size site device fault bytes from x xs b rest rs (own_of fits.holds.head) fits.holds.own short big place_small slot_small are rise whole) (x ∷ xs ++ now_written b ∷ rest) rs
-            (holds_over sum size site device fault bytes from (x ∷ xs ++ b ∷ rest) rs behind H fits.holds (after_behind (x ∷ xs)) fault bytes from (x ∷ xs ++ now_written b ∷ rest) rs refl (omega arith)
+            (holds_over sum size site device fault bytes from (x ∷ xs ++ b ∷ rest) rs behind (logged H) fits.holds (after_behind (x ∷ xs)) fault bytes from (x ∷ xs ++ now_written b ∷ rest) rs refl (omega arith)
             (segment_later sum size site device fault bytes from x xs b rest rs (own_of fits.holds.head) fits.holds.own short big place_small slot_small are rise whole (after_behind (x ∷ xs)) refl)
-            (others_written sum size site device fault bytes from (x ∷ xs ++ b ∷ rest) rs H fits.holds (omega (arith, big)) whole (site.slot + sealed_end x.end xs) (asked_behind (x ∷ xs)) range.0 (omega (arith, range.1)) (omega (arith, range.2)) (after_behind (x ∷ xs)) refl)) refl (λ l is. is),
+            (others_written sum size site device fault bytes from (x ∷ xs ++ b ∷ rest) rs (logged H) fits.holds (omega (arith, big)) whole (site.slot + sealed_end x.end xs) (asked_behind (x ∷ xs)) range.0 (omega (arith, range.1)) (omega (arith, range.2))
+            (after_behind (x ∷ xs)) refl)) refl (λ l is. is),
       )
 
 module _ (sum : List ℕ → ℕ) (size : ℕ) (site : SegmentPosition) (device : State) (fault : Option IoError) (bytes : List ℕ) (from : ℕ) (bs : List Sealed) (rs : List Reserved) (H : History)

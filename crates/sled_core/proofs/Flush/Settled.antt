@@ -11,8 +11,12 @@ use Rattle.sled_store.proofs.Histories.Ascending.{Ascends}
 use Rattle.sled_store.proofs.Histories.EarlierEntries.{entry_earlier}
 use Rattle.sled_store.proofs.LogFile.LogLemmas.{at_rest_left}
 use Rattle.sled_store.proofs.Segments.TableEntries.{from_table}
+use Rattle.sled_core.specs.Logged.{logged}
 use Rattle.sled_core.specs.Recoverable.{AreRecoverableSnapshots, AreRecoverableBlobs, HasItem, NoHeaderOfZeros, Recoverable, LeavesRecoverable}
 use Rattle.sled_core.specs.Running.{NamesFit, BlobsFit, KeepsItem, KeepsItems}
+use Rattle.sled_core.proofs.Logged.Messages.{logged_ascends, logged_twice}
+use Rattle.sled_core.proofs.Logged.Names.{snapshots_alike}
+use Rattle.sled_core.proofs.Logged.Stands.{stands_alike}
 use Rattle.sled_core.proofs.Reached.Recoverable.{reached_recoverable}
 use Rattle.sled_core.proofs.Reached.StandsTo.{StandsTo}
 
@@ -38,28 +42,35 @@ blobs_above sum blobs H low high ordered more items are = record {
 }
 
 -- whatever blobs a crash leaves
-pub blobs_higher : (sum : List ℕ → ℕ) (blobs : NamesState) (H : History) (low high : ℕ) → Ascends H.messages → low ≤ high → KeepsItems sum blobs H low → BlobsFit sum blobs H low → BlobsFit sum blobs H high
-blobs_higher sum blobs H low high ordered more stored fit = λ left leaves only_own. blobs_above sum left H low high ordered more (left_items sum blobs left H low leaves stored) (fit left leaves only_own)
+pub blobs_higher : (sum : List ℕ → ℕ) (blobs : NamesState) (H : History) (low high : ℕ) → Ascends (logged H).messages → low ≤ high → KeepsItems sum blobs H low → BlobsFit sum blobs H low → BlobsFit sum blobs H high
+blobs_higher sum blobs H low high ordered more stored fit = λ left leaves only_own. blobs_above sum left H low high (logged_ascends H ordered) more (left_items sum blobs left H low leaves stored) (fit left leaves only_own)
 
--- A content whose log file stands up to a place can be recovered, where its snapshots can and its blobs can for the stable place.
-pub stands_recoverable : (sum : List ℕ → ℕ) (size : ℕ) → 256 ≤ size → (content : Content) (H : History) (A f : ℕ) (first : SnapshotModel) (reach : ℕ) → Ascends H.messages → HaveItems sum content.blobs H A
-    → AreRecoverableSnapshots sum size content.snapshots H f first → AreRecoverableBlobs sum content.blobs H A → StandsTo sum size content.log H A first reach → Recoverable sum size content H A f
+-- A content whose log file stands up to a place can be recovered, where its snapshots can and its blobs can for the stable place. File and snapshots have the history as the log has it, which is turned here to the history itself.
+pub stands_recoverable : (sum : List ℕ → ℕ) (size : ℕ) → 256 ≤ size → (content : Content) (H : History) (A f : ℕ) (first : SnapshotModel) (reach : ℕ) → Ascends (logged H).messages → HaveItems sum content.blobs H A
+    → AreRecoverableSnapshots sum size content.snapshots (logged H) f first → AreRecoverableBlobs sum content.blobs H A → StandsTo sum size content.log (logged H) A first reach → Recoverable sum size content H A f
 unfolding Recoverable
 stands_recoverable sum size some content H A f first reach ordered items snapshots blobs stands =
-    let reached = reached_recoverable sum size content.log some H A first reach stands ordered in
-    record { first = first; cut = reached.0; snapshots = snapshots; log = reached.2; blobs = blobs_above sum content.blobs H A reached.0.0 ordered reached.1 items blobs }
+    let ascends : Ascends H.messages = logged_ascends H ordered in
+    let reached = reached_recoverable sum size content.log some H A first reach (stands_alike (logged H) H (logged_twice H) sum size content.log A first reach stands) ascends in
+    record {
+      first = first;
+      cut = reached.0;
+      snapshots = snapshots_alike (logged H) H (logged_twice H) sum size content.snapshots f first snapshots;
+      log = reached.2;
+      blobs = blobs_above sum content.blobs H A reached.0.0 ascends reached.1 items blobs;
+    }
 
 -- what is at rest is so with the bytes that are read
 pub rests : (device : LogState) (log : List ℕ) → device ≡ at_rest log → device ≡ at_rest device.bytes
 rests device log is = is ∙ sym (ap (λ (s : LogState). at_rest s.bytes) is)
 
 -- A device at rest whose log file stands up to a place leaves only contents that can be recovered.
-pub settled_recoverable : (sum : List ℕ → ℕ) (size : ℕ) → 256 ≤ size → (device : State) (H : History) (A f : ℕ) (first : SnapshotModel) (reach : ℕ) → Ascends H.messages → KeepsItems sum device.blobs H A → device.log ≡ at_rest device.log.bytes
-    → NamesFit sum size device.snapshots H f first → BlobsFit sum device.blobs H A → (NoHeaderOfZeros sum → StandsTo sum size device.log.bytes H A first reach) → LeavesRecoverable sum size H A f device
+pub settled_recoverable : (sum : List ℕ → ℕ) (size : ℕ) → 256 ≤ size → (device : State) (H : History) (A f : ℕ) (first : SnapshotModel) (reach : ℕ) → Ascends (logged H).messages → KeepsItems sum device.blobs H A → device.log ≡ at_rest device.log.bytes
+    → NamesFit sum size device.snapshots (logged H) f first → BlobsFit sum device.blobs H A → (NoHeaderOfZeros sum → StandsTo sum size device.log.bytes (logged H) A first reach) → LeavesRecoverable sum size H A f device
 settled_recoverable sum size some device H A f first reach ordered stored rest names blobs stands = λ left leaves only_own.
     let same : left.log ≡ device.log.bytes = at_rest_left device.log.bytes left.log (subst (λ (s : LogState). LeavesLog s left.log) rest leaves.log) in
     stands_recoverable sum size some left H A f first reach ordered (left_items sum device.blobs left.blobs H A leaves.blobs stored) (names left.snapshots leaves.snapshots only_own.snapshots) (blobs left.blobs leaves.blobs only_own.blobs)
-    (subst (λ (l : List ℕ). StandsTo sum size l H A first reach) (sym same) (stands only_own.zeros))
+    (subst (λ (l : List ℕ). StandsTo sum size l (logged H) A first reach) (sym same) (stands only_own.zeros))
 
 -- What can be recovered can be with less counted as acknowledged.
 pub recoverable_less : (sum : List ℕ → ℕ) (size : ℕ) (content : Content) (H : History) (A B f : ℕ) → A ≤ B → Recoverable sum size content H B f → Recoverable sum size content H A f

@@ -9,6 +9,7 @@ use Rattle.sled_store.specs.Device.{State, Wrote, Synced, LeavesLog, at_rest, ov
 use Rattle.sled_store.specs.Foreign.{NoForeignLog}
 use Rattle.sled_store.specs.Script.{Along}
 use Rattle.sled_store.proofs.Histories.Ascending.{Ascends}
+use Rattle.sled_core.specs.Logged.{logged}
 use Rattle.sled_core.specs.OpenBatches.{stable_below}
 use Rattle.sled_core.specs.declared.iobuf.Reserved.{Reserved}
 use Rattle.sled_core.specs.declared.iobuf.Sealed.{Sealed}
@@ -31,11 +32,12 @@ use Rattle.sled_core.proofs.Torn.TornLemmas.{after_write}
 -- A write to a log that fits, and the sync behind it, where what a crash leaves of the write stands as before, and all of it up to a place no lower, behind all messages that are written then.
 module _ (sum : List ℕ → ℕ) (size : ℕ) (site : SegmentPosition) (device : State) (fault : Option IoError) (bytes : List ℕ) (from : ℕ) (bs : List Sealed) (rs : List Reserved) (pins : ℕ) (H : History) (A f : ℕ) (U : List Message)
     {behind : List SegmentParts} {reach : ℕ} (fits : FitsIn sum (log_parts size site device fault bytes from bs rs) behind reach pins H A f U) (short : length bytes ≤ size) (big : 256 ≤ size) (whole : fault ≡ None) (to : ℕ) (grown : from ≤ to)
-    (reach' : ℕ) (up : reach ≤ reach') (near' : reach' ≤ site.place + to) (ends' : (m : Message) → Contains H.messages m → m.place < site.place + to → (m.place < reach') × (m.place + m.size ≤ reach')) (beside' : NoBatchBegins H reach' (site.place + to) × NoBatchEnds H reach' (site.place + to)) (at : ℕ) (asked : List ℕ)
-    (torn : NoHeaderOfZeros sum → StandsAmong sum size device.log.bytes site from (map begun_segment behind) reach H fits.holds.begun.first → (now left : List ℕ) → length now ≤ length asked → LeavesLog (after_write device.log.bytes at asked now) left
-    → (placed : List (ℕ × List ℕ)) → NoForeignLog sum size (after_write device.log.bytes at asked now) placed left → StandsTo sum size left H (stable_below reach H.batches) fits.holds.begun.first reach)
-    {Standing : List ℕ → Type 0} (standing : (l : List ℕ) → Standing l → StandsTo sum size l H (stable_below reach' H.batches) fits.holds.begun.first reach')
-    (alone : NoHeaderOfZeros sum → (end : ℕ) → site.slot ≤ end → StandsAmong sum size (padded end device.log.bytes) site from (map begun_segment behind) reach H fits.holds.begun.first
+    (reach' : ℕ) (up : reach ≤ reach') (near' : reach' ≤ site.place + to) (ends' : (m : Message) → Contains (logged H).messages m → m.place < site.place + to
+    → (m.place < reach') × (m.place + m.size ≤ reach')) (beside' : NoBatchBegins (logged H) reach' (site.place + to) × NoBatchEnds (logged H) reach' (site.place + to)) (at : ℕ) (asked : List ℕ)
+    (torn : NoHeaderOfZeros sum → StandsAmong sum size device.log.bytes site from (map begun_segment behind) reach (logged H) fits.holds.begun.first → (now left : List ℕ) → length now ≤ length asked → LeavesLog (after_write device.log.bytes at asked now) left
+    → (placed : List (ℕ × List ℕ)) → NoForeignLog sum size (after_write device.log.bytes at asked now) placed left → StandsTo sum size left (logged H) (stable_below reach H.batches) fits.holds.begun.first reach)
+    {Standing : List ℕ → Type 0} (standing : (l : List ℕ) → Standing l → StandsTo sum size l (logged H) (stable_below reach' H.batches) fits.holds.begun.first reach')
+    (alone : NoHeaderOfZeros sum → (end : ℕ) → site.slot ≤ end → StandsAmong sum size (padded end device.log.bytes) site from (map begun_segment behind) reach (logged H) fits.holds.begun.first
     → Standing (padded end (overwritten device.log.bytes at asked)))
     (reaches : site.slot ≤ length (overwritten device.log.bytes at asked)) where
   abbrev after_sync : State
@@ -45,18 +47,18 @@ module _ (sum : List ℕ → ℕ) (size : ℕ) (site : SegmentPosition) (device 
   rest_now : device.log ≡ at_rest device.log.bytes
   rest_now = let on_device = fits.holds.own.written whole in rests device.log on_device.log on_device.settled
 
-  ordered : Ascends H.messages
-  ordered = whole_ascends sum size site device fault bytes from bs rs H fits.holds short
+  ordered : Ascends (logged H).messages
+  ordered = whole_ascends sum size site device fault bytes from bs rs (logged H) fits.holds short
 
   torn_now : NoHeaderOfZeros sum → (now left : List ℕ) → length now ≤ length asked → LeavesLog (after_write device.log.bytes at asked now) left → (placed : List (ℕ × List ℕ))
-      → NoForeignLog sum size (after_write device.log.bytes at asked now) placed left → StandsTo sum size left H (stable_below reach H.batches) fits.holds.begun.first reach
+      → NoForeignLog sum size (after_write device.log.bytes at asked now) placed left → StandsTo sum size left (logged H) (stable_below reach H.batches) fits.holds.begun.first reach
   torn_now zeros = torn zeros (fits.among whole zeros)
 
   alone_now : NoHeaderOfZeros sum → Standing (overwritten device.log.bytes at asked)
   alone_now zeros = subst Standing (padded_none site.slot (overwritten device.log.bytes at asked) reaches)
       (alone zeros site.slot (omega arith) (fits.beyond site.slot (omega arith) whole zeros))
 
-  stands_now : NoHeaderOfZeros sum → StandsTo sum size (overwritten device.log.bytes at asked) H (stable_below reach' H.batches) fits.holds.begun.first reach'
+  stands_now : NoHeaderOfZeros sum → StandsTo sum size (overwritten device.log.bytes at asked) (logged H) (stable_below reach' H.batches) fits.holds.begun.first reach'
   stands_now zeros = standing (overwritten device.log.bytes at asked) (alone_now zeros)
 
   pub along_behind : Along (LeavesRecoverable sum size H (stable_below reach H.batches) f) (Wrote at asked asked ∷ Synced ∷ []) device
@@ -79,8 +81,8 @@ module _ (sum : List ℕ → ℕ) (size : ℕ) (site : SegmentPosition) (device 
   left_now = moments.synced_leaves sum size big device rest_now H f fits.holds.begun.first reach reach' up ordered fits.stored fits.names fits.blobs fits.left at asked torn_now stands_now
 
   -- Where it stands up to there in the first segment.
-  pub fits_behind : (cs : List Sealed) (others : List Reserved) (holds : HoldsIn sum (log_parts size site after_sync fault bytes to cs others) behind H)
-      → holds.begun.first ≡ fits.holds.begun.first → ((l : List ℕ) → Standing l → StandsAmong sum size l site to (map begun_segment behind) reach' H fits.holds.begun.first)
+  pub fits_behind : (cs : List Sealed) (others : List Reserved) (holds : HoldsIn sum (log_parts size site after_sync fault bytes to cs others) behind (logged H))
+      → holds.begun.first ≡ fits.holds.begun.first → ((l : List ℕ) → Standing l → StandsAmong sum size l site to (map begun_segment behind) reach' (logged H) fits.holds.begun.first)
       → FitsIn sum (log_parts size site after_sync fault bytes to cs others) behind reach' pins H A f U
   fits_behind cs others holds same among = record {
     holds = holds;
@@ -88,19 +90,19 @@ module _ (sum : List ℕ → ℕ) (size : ℕ) (site : SegmentPosition) (device 
     ends = ends';
     no_batch = beside'.0;
     no_end = beside'.1;
-    among = λ none zeros. subst (λ (s : SnapshotModel). StandsAmong sum size (overwritten device.log.bytes at asked) site to (map begun_segment behind) reach' H s) (sym same) (among (overwritten device.log.bytes at asked) (alone_now zeros));
-    beyond = λ end far none zeros. subst (λ (s : SnapshotModel). StandsAmong sum size (padded end (overwritten device.log.bytes at asked)) site to (map begun_segment behind) reach' H s) (sym same) (among (padded end (overwritten device.log.bytes at asked)) (padded_now zeros end));
+    among = λ none zeros. subst (λ (s : SnapshotModel). StandsAmong sum size (overwritten device.log.bytes at asked) site to (map begun_segment behind) reach' (logged H) s) (sym same) (among (overwritten device.log.bytes at asked) (alone_now zeros));
+    beyond = λ end far none zeros. subst (λ (s : SnapshotModel). StandsAmong sum size (padded end (overwritten device.log.bytes at asked)) site to (map begun_segment behind) reach' (logged H) s) (sym same) (among (padded end (overwritten device.log.bytes at asked)) (padded_now zeros end));
     blobs = blobs_now;
     stored = stored_now;
-    names = subst (λ (s : SnapshotModel). NamesFit sum size device.snapshots H f s) (sym same) fits.names;
+    names = subst (λ (s : SnapshotModel). NamesFit sum size device.snapshots (logged H) f s) (sym same) fits.names;
     passes = let old = fits.passes in let rises = stable_rises reach reach' up H.batches in omega (arith, old, rises);
     pinned = fits.pinned;
     left = left_now;
   }
 
   -- Where it stands behind it, as all of it is written.
-  pub fits_filled : (filled : to ≡ size) (holds : HoldsIn sum (log_parts size site after_sync fault bytes size [] []) behind H)
-      → holds.begun.first ≡ fits.holds.begun.first → ((l : List ℕ) → Standing l → StandsFull sum size l (site.place + size) (map begun_segment behind) reach' H fits.holds.begun.first)
+  pub fits_filled : (filled : to ≡ size) (holds : HoldsIn sum (log_parts size site after_sync fault bytes size [] []) behind (logged H))
+      → holds.begun.first ≡ fits.holds.begun.first → ((l : List ℕ) → Standing l → StandsFull sum size l (site.place + size) (map begun_segment behind) reach' (logged H) fits.holds.begun.first)
       → FitsFull sum size after_sync fault (site.place + size) behind reach' pins H A f U
   fits_filled filled holds same full = record {
     site = site;
@@ -109,12 +111,12 @@ module _ (sum : List ℕ → ℕ) (size : ℕ) (site : SegmentPosition) (device 
     holds = holds;
     near = omega (arith, near', filled);
     ends = λ m there under. ends' m there (omega (arith, under, filled));
-    no_batch = subst (λ n. NoBatchBegins H reach' (site.place + n)) filled beside'.0;
-    no_end = subst (λ n. NoBatchEnds H reach' (site.place + n)) filled beside'.1;
-    beyond = λ end none zeros. subst (λ (s : SnapshotModel). StandsFull sum size (padded end (overwritten device.log.bytes at asked)) (site.place + size) (map begun_segment behind) reach' H s) (sym same) (full (padded end (overwritten device.log.bytes at asked)) (padded_now zeros end));
+    no_batch = subst (λ n. NoBatchBegins (logged H) reach' (site.place + n)) filled beside'.0;
+    no_end = subst (λ n. NoBatchEnds (logged H) reach' (site.place + n)) filled beside'.1;
+    beyond = λ end none zeros. subst (λ (s : SnapshotModel). StandsFull sum size (padded end (overwritten device.log.bytes at asked)) (site.place + size) (map begun_segment behind) reach' (logged H) s) (sym same) (full (padded end (overwritten device.log.bytes at asked)) (padded_now zeros end));
     blobs = blobs_now;
     stored = stored_now;
-    names = subst (λ (s : SnapshotModel). NamesFit sum size device.snapshots H f s) (sym same) fits.names;
+    names = subst (λ (s : SnapshotModel). NamesFit sum size device.snapshots (logged H) f s) (sym same) fits.names;
     passes = let old = fits.passes in let rises = stable_rises reach reach' up H.batches in omega (arith, old, rises);
     pinned = fits.pinned;
     left = left_now;

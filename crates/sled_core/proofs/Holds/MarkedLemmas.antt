@@ -12,6 +12,7 @@ use Rattle.sled_core.specs.declared.iobuf.SegmentPosition.{SegmentPosition}
 use Rattle.sled_core.specs.Begun.{SegmentParts}
 use Rattle.sled_core.specs.Fits.{HoldsIn, begun_segment, log_parts}
 use Rattle.sled_core.specs.LogFile.{StaysBelow, padded}
+use Rattle.sled_core.specs.Logged.{logged}
 use Rattle.sled_core.specs.OpenBatches.{stable_below}
 use Rattle.sled_core.specs.Reached.{BegunSegment, StandsAmong}
 use Rattle.sled_core.specs.Recoverable.{IsPlacedBatch, LeavesRecoverable, NoBatchBegins, NoBatchEnds, NoHeaderOfZeros}
@@ -24,23 +25,29 @@ use Rattle.sled_core.proofs.Holds.BegunMarks.{blobs-marks, names-marks}
 use Rattle.sled_core.proofs.Holds.PegLemmas.{IsOff, LiesBesideFilling, behind_beside, beside_padded}
 use Rattle.sled_core.proofs.Holds.StandsBatch.{alone-marks}
 use Rattle.sled_core.proofs.Holds.WholeHistory.{whole_ascends}
+use Rattle.sled_core.proofs.Logged.Messages.{batch_logged}
 use Rattle.sled_core.proofs.Reached.StableBelow.{stable_one_more}
 use Rattle.sled_core.proofs.Sealed.Zeros.{begin_zeros}
 
 module _ (sum : List ℕ → ℕ) (size : ℕ) (site : SegmentPosition) (device : State) (fault : Option IoError) (bytes : List ℕ) (from : ℕ) (bs : List Sealed) (rs : List Reserved) (pins : ℕ) (H : History) (A f : ℕ) (U : List Message)
     {behind : List SegmentParts} {reach : ℕ} (fits : FitsIn sum (log_parts size site device fault bytes from bs rs) behind reach pins H A f U)
     (bytes' : List ℕ) (from' : ℕ) (bs' : List Sealed) (rs' : List Reserved) (H' : History) (b : Batch) (is : from' ≡ from) (least : 256 ≤ size) (in_segment : length bytes' ≤ size) (ok : fault ≡ None)
-    (holds : HoldsIn sum (log_parts size site device fault bytes' from' bs' rs') behind H') (adds : AddsBatch H b H') (placing : ((c : Batch) → Contains H.batches c → IsPlacedBatch size H c) → (c : Batch) → Contains H'.batches c → IsPlacedBatch size H' c) (later : b.low < b.peg) (offs : All (IsOff size b.peg) behind)
+    (holds : HoldsIn sum (log_parts size site device fault bytes' from' bs' rs') behind (logged H')) (adds : AddsBatch H b H') (placing : ((c : Batch) → Contains H.batches c → IsPlacedBatch size (logged H) c) → (c : Batch) → Contains H'.batches c
+    → IsPlacedBatch size (logged H') c) (later : b.low < b.peg) (offs : All (IsOff size b.peg) behind)
     (above : site.place + from ≤ b.low) (inside : b.low < site.place + size) (fresh : FirstUnwritten bs) (are : AreSealed from rs bs) where
   abbrev first : SnapshotModel
   first = fits.holds.begun.first
+
+  -- what the log has of the history has the batch too
+  abbrev put : AddsBatch (logged H) b (logged H')
+  put = batch_logged H b H' adds
 
   abbrev others : List BegunSegment
   others = map begun_segment behind
 
   -- where the peg lies of the segments behind it
   beside : (x : BegunSegment) → Contains others x → LiesBesideFilling size device.log.bytes b.peg x
-  beside = behind_beside sum size least device fault ok b.peg (site.place + size) behind (StaysBelow H (stable_place first.stable) site.place) H.batches fits.holds.later fits.holds.others offs
+  beside = behind_beside sum size least device fault ok b.peg (site.place + size) behind (StaysBelow (logged H) (stable_place first.stable) site.place) H.batches fits.holds.later fits.holds.others offs
 
   reached : reach ≤ b.low
   reached = let near = fits.near in omega (arith, near, above)
@@ -49,14 +56,15 @@ module _ (sum : List ℕ → ℕ) (size : ℕ) (site : SegmentPosition) (device 
   clean : from ≡ 0 → AreZeros device.log.bytes site.slot (site.slot + 20)
   clean none = begin_zeros device.log.bytes site.slot bytes from bs rs size fresh are (omega (arith, least)) (fits.holds.own.laid ok) none
 
-  alone_new : NoHeaderOfZeros sum → StandsAmong sum size device.log.bytes site from others reach H' first
-  alone_new none = alone-marks sum size device.log.bytes site from reach H H' first least none holds.own.place_begins clean b adds above inside (placing (fits.among ok none).stands.batched) later beside (fits.among ok none)
+  alone_new : NoHeaderOfZeros sum → StandsAmong sum size device.log.bytes site from others reach (logged H') first
+  alone_new none = alone-marks sum size device.log.bytes site from reach (logged H) (logged H') first least none holds.own.place_begins clean b put above inside (placing (fits.among ok none).stands.batched) later beside (fits.among ok none)
 
-  beyond_new : (to : ℕ) → site.slot ≤ to → NoHeaderOfZeros sum → StandsAmong sum size (padded to device.log.bytes) site from others reach H' first
-  beyond_new to far none = alone-marks sum size (padded to device.log.bytes) site from reach H H' first least none holds.own.place_begins (λ first_one i low high. padded_get to device.log.bytes i ∙ clean first_one i low high) b adds above inside (placing (fits.beyond to far ok none).stands.batched) later (λ x known. beside_padded size to device.log.bytes b.peg x (beside x known)) (fits.beyond to far ok none)
+  beyond_new : (to : ℕ) → site.slot ≤ to → NoHeaderOfZeros sum → StandsAmong sum size (padded to device.log.bytes) site from others reach (logged H') first
+  beyond_new to far none = alone-marks sum size (padded to device.log.bytes) site from reach (logged H) (logged H') first least none holds.own.place_begins (λ first_one i low high. padded_get to device.log.bytes i ∙ clean first_one i low high) b put above inside
+      (placing (fits.beyond to far ok none).stands.batched) later (λ x known. beside_padded size to device.log.bytes b.peg x (beside x known)) (fits.beyond to far ok none)
 
-  names_new : NamesFit sum size device.snapshots H' f first
-  names_new = let begun = fits.holds.begun.reached in names-marks H H' b adds sum size device.snapshots f first (omega (arith, begun, above)) fits.names
+  names_new : NamesFit sum size device.snapshots (logged H') f first
+  names_new = let begun = fits.holds.begun.reached in names-marks (logged H) (logged H') b put sum size device.snapshots f first (omega (arith, begun, above)) fits.names
 
   -- the batch begins behind what is read, so the stable place is the same
   same_stable : stable_below reach H'.batches ≡ stable_below reach H.batches
@@ -71,7 +79,7 @@ module _ (sum : List ℕ → ℕ) (size : ℕ) (site : SegmentPosition) (device 
   left_new : LeavesRecoverable sum size H' (stable_below reach H'.batches) f device
   left_new =
       let on = fits.holds.own.written ok in
-      settled_recoverable sum size least device H' (stable_below reach H'.batches) f first reach (whole_ascends sum size site device fault bytes' from' bs' rs' H' holds in_segment) stored_behind (rests device.log on.log on.settled) names_new blobs_new (λ none. (alone_new none).stands)
+      settled_recoverable sum size least device H' (stable_below reach H'.batches) f first reach (whole_ascends sum size site device fault bytes' from' bs' rs' (logged H') holds in_segment) stored_behind (rests device.log on.log on.settled) names_new blobs_new (λ none. (alone_new none).stands)
 
   -- It fits the history with the batch, with no other message to be marked.
   pub fits-marked : FitsIn sum (log_parts size site device fault bytes' from' bs' rs') behind reach pins H' A f U
@@ -80,15 +88,15 @@ module _ (sum : List ℕ → ℕ) (size : ℕ) (site : SegmentPosition) (device 
       record {
         holds = holds;
         near = let near = fits.near in omega (arith, near, is);
-        ends = λ x there below. fits.ends x (message_was H H' b adds x there) (omega (arith, below, is));
-        no_batch = subst (λ n. NoBatchBegins H' reach (site.place + n)) (sym is) (no_batch H H' b adds reach (site.place + from) (inr above) fits.no_batch);
-        no_end = subst (λ n. NoBatchEnds H' reach (site.place + n)) (sym is) (no_end H H' b adds reach (site.place + from) above fits.no_end);
-        among = λ fine none. subst (λ (s : SnapshotModel). StandsAmong sum size device.log.bytes site from' others reach H' s) same (subst (λ n. StandsAmong sum size device.log.bytes site n others reach H' first) (sym is) (alone_new none));
-        beyond = λ to far fine none. subst (λ (s : SnapshotModel). StandsAmong sum size (padded to device.log.bytes) site from' others reach H' s) same
-            (subst (λ n. StandsAmong sum size (padded to device.log.bytes) site n others reach H' first) (sym is) (beyond_new to far none));
+        ends = λ x there below. fits.ends x (message_was (logged H) (logged H') b put x there) (omega (arith, below, is));
+        no_batch = subst (λ n. NoBatchBegins (logged H') reach (site.place + n)) (sym is) (no_batch (logged H) (logged H') b put reach (site.place + from) (inr above) fits.no_batch);
+        no_end = subst (λ n. NoBatchEnds (logged H') reach (site.place + n)) (sym is) (no_end (logged H) (logged H') b put reach (site.place + from) above fits.no_end);
+        among = λ fine none. subst (λ (s : SnapshotModel). StandsAmong sum size device.log.bytes site from' others reach (logged H') s) same (subst (λ n. StandsAmong sum size device.log.bytes site n others reach (logged H') first) (sym is) (alone_new none));
+        beyond = λ to far fine none. subst (λ (s : SnapshotModel). StandsAmong sum size (padded to device.log.bytes) site from' others reach (logged H') s) same
+            (subst (λ n. StandsAmong sum size (padded to device.log.bytes) site n others reach (logged H') first) (sym is) (beyond_new to far none));
         blobs = blobs_new;
         stored = stored_behind;
-        names = subst (λ (s : SnapshotModel). NamesFit sum size device.snapshots H' f s) same names_new;
+        names = subst (λ (s : SnapshotModel). NamesFit sum size device.snapshots (logged H') f s) same names_new;
         passes = let passes = fits.passes in let same = same_stable in omega (arith, passes, same);
         pinned = fits.pinned;
         left = left_new;

@@ -17,6 +17,7 @@ use Rattle.sled_core.specs.declared.iobuf.Sealed.{Sealed}
 use Rattle.sled_core.specs.declared.iobuf.SegmentPosition.{SegmentPosition}
 use Rattle.sled_core.specs.declared.logger.Log.{Log}
 use Rattle.sled_core.specs.declared.reservation.Reservation.{Reservation}
+use Rattle.sled_core.specs.Logged.{in_log, logged}
 use Rattle.sled_core.specs.Tickets.{index_of, len_of, place_of, pointer_of, is_manifest_of}
 use Rattle.sled_core.specs.Manifests.{is_manifest}
 use Rattle.sled_core.specs.Begun.{AreFilled, SegmentView, segment_view, view_at}
@@ -29,6 +30,7 @@ use Rattle.sled_core.specs.Running.{Fits}
 use Rattle.sled_core.specs.Reading.{IsInline}
 use Rattle.sled_core.specs.Recoverable.{LiesInSegment, BlobIsBelow}
 use Rattle.sled_core.proofs.Holds.FitsBatches.{stable_noted}
+use Rattle.sled_core.proofs.Logged.Messages.{all_in_log, logged_apart, logged_there}
 use Rattle.sled_core.proofs.Reached.StableBelow.{stable_low, stable_rises}
 use Rattle.sled_core.proofs.Reserve.Ranges.{all_own, at_there, completed_between, chain_grows}
 use Rattle.sled_core.proofs.Reserve.Entries.{completed_plain, reserved_in, some_long}
@@ -144,19 +146,21 @@ unfolding Fits
 fits_reach trace sum log H A f U fits =
     let size : ℕ = log.config.config.segment_size in
     let past = position_past size (current_of log) (machine_of log.accountant) (current_facts log).short in
-    let low = line_below sum size _ log.fault (view_at log.site log.buffer) (map segment_view log.behind.items) H log.in_segment fits.parts.holds in
-    λ k d lt. let below = low k d lt in omega (arith, below, past)
+    let low = line_below sum size _ log.fault (view_at log.site log.buffer) (map segment_view log.behind.items) (logged H) log.in_segment fits.parts.holds in
+    let all = all_in_log (λ (m : Message). m.place < (current_of log).parts.site.place + length (current_of log).parts.bytes) H.messages low in
+    λ k d lt. let below = all k d lt in omega (arith, below, past)
 
 -- the messages lie one behind another
 pub fits_apart : {D C : Type 0} (trace : D → Trace) (sum : List ℕ → ℕ) (log : Log D C) (H : History) (A f : ℕ) (U : List Message) → Fits trace sum log H A f U → LieApart H.messages
 unfolding Fits
-fits_apart trace sum log H A f U fits = whole_apart sum log.config.config.segment_size log.site _ log.fault log.buffer.bytes.items log.buffer.written_len log.buffer.sealed.items log.buffer.reserved.items H fits.parts.holds log.in_segment
+fits_apart trace sum log H A f U fits =
+    logged_apart H (whole_apart sum log.config.config.segment_size log.site _ log.fault log.buffer.bytes.items log.buffer.written_len log.buffer.sealed.items log.buffer.reserved.items (logged H) fits.parts.holds log.in_segment)
 
 -- one that is not written yet has an inline pointer
 pub fits_inline : {D C : Type 0} (trace : D → Trace) (sum : List ℕ → ℕ) (log : Log D C) (H : History) (A f : ℕ) (U : List Message) → Fits trace sum log H A f U → (m : Message) → Contains H.messages m → synced_end log ≤ m.place → IsInline m.pointer
 unfolding Fits
 fits_inline trace sum log H A f U fits m there above =
-    let item = whole_inline sum log.config.config.segment_size log.site _ log.fault log.buffer.bytes.items log.buffer.written_len log.buffer.sealed.items log.buffer.reserved.items H fits.parts.holds m there above in
+    let item = whole_inline sum log.config.config.segment_size log.site _ log.fault log.buffer.bytes.items log.buffer.written_len log.buffer.sealed.items log.buffer.reserved.items (logged H) fits.parts.holds (in_log m) (logged_there H m there) above in
     subst IsInline (sym item.1) tt
 
 -- it holds the history
@@ -176,7 +180,7 @@ fits_stable trace sum log H A f U fits =
     let passes = fits.parts.passes in
     let near = fits.parts.near in
     let up = stable_rises fits.reach (synced_end log) near H.batches in
-    let same = stable_noted (synced_end log) (line_end log.config.config.segment_size (line_of log)) (noted_in log) H fits.batches in
+    let same = stable_noted (synced_end log) (line_end log.config.config.segment_size (line_of log)) (noted_in log) (logged H) fits.batches in
     omega (arith, passes, up, same)
 
 -- Of tickets and places.

@@ -13,6 +13,7 @@ use Rattle.sled_core.specs.declared.logger.Log.{Log}
 use Rattle.sled_core.specs.Begun.{SegmentParts}
 use Rattle.sled_core.specs.Fits.{FitsBatches, HoldsIn, begun_segment, device_of, log_parts, segment_size_of}
 use Rattle.sled_core.specs.LogFile.{padded}
+use Rattle.sled_core.specs.Logged.{logged}
 use Rattle.sled_core.specs.Running.{BlobsFit, Fits, FitsIn, KeepsItem, KeepsItems, NamesFit, end_below}
 use Rattle.sled_core.specs.Reached.{BegunSegment, StandsAmong}
 use Rattle.sled_core.specs.OpenBatches.{stable_below}
@@ -26,6 +27,7 @@ use Rattle.sled_core.proofs.Holds.ReachLemmas.{LiesBehind, completed_behind}
 use Rattle.sled_core.proofs.Flush.Settled.{leaves_less, rests, settled_recoverable}
 use Rattle.sled_core.proofs.Holds.StandsAdds.{alone-adds}
 use Rattle.sled_core.proofs.Holds.WholeHistory.{of_first, whole_ascends}
+use Rattle.sled_core.proofs.Logged.Messages.{end_logged, inline_logged}
 use Rattle.sled_core.proofs.Reached.OpenEnds.{acknowledged_stable}
 use Rattle.sled_core.proofs.Reached.StableBelow.{stable_low}
 use Rattle.sled_core.proofs.Sealed.Zeros.{begin_zeros}
@@ -39,25 +41,25 @@ module _ (sum : List ℕ → ℕ) (size : ℕ) (site : SegmentPosition) (device 
   others = map begun_segment behind
 
   -- Whatever else is held over this device, it was begun from the same snapshot.
-  first_same : (bytes' : List ℕ) (from' : ℕ) (bs' : List Sealed) (rs' : List Reserved) (H' : History) (holds : HoldsIn sum (log_parts size site device fault bytes' from' bs' rs') behind H') → first ≡ holds.begun.first
-  first_same bytes' from' bs' rs' H' holds = one_begin sum device.snapshots.file first holds.begun.first fits.holds.begun.begins holds.begun.begins
+  first_same : (bytes' : List ℕ) (from' : ℕ) (bs' : List Sealed) (rs' : List Reserved) (R : History) (holds : HoldsIn sum (log_parts size site device fault bytes' from' bs' rs') behind R) → first ≡ holds.begun.first
+  first_same bytes' from' bs' rs' R holds = one_begin sum device.snapshots.file first holds.begun.first fits.holds.begun.begins holds.begun.begins
 
   -- Other bytes and reservations behind what was written fit the history, where they hold it.
-  pub fits-moved : (bytes' : List ℕ) (from' : ℕ) (bs' : List Sealed) (rs' : List Reserved) → from' ≡ from → HoldsIn sum (log_parts size site device fault bytes' from' bs' rs') behind H → FitsIn sum (log_parts size site device fault bytes' from' bs' rs') behind reach pins H A f U
+  pub fits-moved : (bytes' : List ℕ) (from' : ℕ) (bs' : List Sealed) (rs' : List Reserved) → from' ≡ from → HoldsIn sum (log_parts size site device fault bytes' from' bs' rs') behind (logged H) → FitsIn sum (log_parts size site device fault bytes' from' bs' rs') behind reach pins H A f U
   fits-moved bytes' from' bs' rs' is holds =
-      let same : first ≡ holds.begun.first = first_same bytes' from' bs' rs' H holds in
+      let same : first ≡ holds.begun.first = first_same bytes' from' bs' rs' (logged H) holds in
       record {
         holds = holds;
         near = let near = fits.near in omega (arith, near, is);
         ends = λ m there below. fits.ends m there (omega (arith, below, is));
-        no_batch = subst (λ n. NoBatchBegins H reach (site.place + n)) (sym is) fits.no_batch;
-        no_end = subst (λ n. NoBatchEnds H reach (site.place + n)) (sym is) fits.no_end;
-        among = λ ok none. subst (λ (s : SnapshotModel). StandsAmong sum size device.log.bytes site from' others reach H s) same (subst (λ n. StandsAmong sum size device.log.bytes site n others reach H first) (sym is) (fits.among ok none));
-        beyond = λ to far ok none. subst (λ (s : SnapshotModel). StandsAmong sum size (padded to device.log.bytes) site from' others reach H s) same
-            (subst (λ n. StandsAmong sum size (padded to device.log.bytes) site n others reach H first) (sym is) (fits.beyond to far ok none));
+        no_batch = subst (λ n. NoBatchBegins (logged H) reach (site.place + n)) (sym is) fits.no_batch;
+        no_end = subst (λ n. NoBatchEnds (logged H) reach (site.place + n)) (sym is) fits.no_end;
+        among = λ ok none. subst (λ (s : SnapshotModel). StandsAmong sum size device.log.bytes site from' others reach (logged H) s) same (subst (λ n. StandsAmong sum size device.log.bytes site n others reach (logged H) first) (sym is) (fits.among ok none));
+        beyond = λ to far ok none. subst (λ (s : SnapshotModel). StandsAmong sum size (padded to device.log.bytes) site from' others reach (logged H) s) same
+            (subst (λ n. StandsAmong sum size (padded to device.log.bytes) site n others reach (logged H) first) (sym is) (fits.beyond to far ok none));
         blobs = fits.blobs;
         stored = fits.stored;
-        names = subst (λ (s : SnapshotModel). NamesFit sum size device.snapshots H f s) same fits.names;
+        names = subst (λ (s : SnapshotModel). NamesFit sum size device.snapshots (logged H) f s) same fits.names;
         passes = fits.passes;
         pinned = fits.pinned;
         left = fits.left;
@@ -86,13 +88,13 @@ module _ (sum : List ℕ → ℕ) (size : ℕ) (site : SegmentPosition) (device 
   }
 
   -- and so each message that begins below the stable place of what is written, and each batch.
-  pub fits-acknowledged : (last : ℕ) (noted : List Batch) → FitsBatches (site.place + from) last noted H → FitsIn sum (log_parts size site device fault bytes from bs rs) behind reach pins H (max A (end_below (stable_below (site.place + from) noted) H)) f U
+  pub fits-acknowledged : (last : ℕ) (noted : List Batch) → FitsBatches (site.place + from) last noted (logged H) → FitsIn sum (log_parts size site device fault bytes from bs rs) behind reach pins H (max A (end_below (stable_below (site.place + from) noted) H)) f U
   fits-acknowledged last noted batches =
       let old = fits.passes in
-      let stable = stable_noted (site.place + from) last noted H batches in
-      let passes = acknowledged_stable H reach (site.place + from) fits.near (λ m there low. (fits.ends m there low).1) fits.no_batch fits.no_end batches.apart batches.before in
+      let stable = stable_noted (site.place + from) last noted (logged H) batches in
+      let passes = acknowledged_stable (logged H) reach (site.place + from) fits.near (λ m there low. (fits.ends m there low).1) fits.no_batch fits.no_end batches.apart batches.before in
       fits-synced (max A (end_below (stable_below (site.place + from) noted) H))
-      (let all = subst (λ n. end_below n H ≤ stable_below reach H.batches) stable passes in omega (arith, old, all))
+      (let all = subst (λ n. end_below n (logged H) ≤ stable_below reach H.batches) stable passes in let same = end_logged (stable_below (site.place + from) noted) H in omega (arith, old, all, same))
 
   -- Another count of pins fits, where one is out while a completed message is not marked.
   pub fits-pinned : (pins' : ℕ) → (U ≢ [] → 0 < pins') → FitsIn sum (log_parts size site device fault bytes from bs rs) behind reach pins' H A f U
@@ -114,12 +116,16 @@ module _ (sum : List ℕ → ℕ) (size : ℕ) (site : SegmentPosition) (device 
 
   -- With one more message, which lies behind what was written, it fits the history that has that message.
   module _ (bytes' : List ℕ) (from' : ℕ) (bs' : List Sealed) (rs' : List Reserved) (H' : History) (m : Message) (is : from' ≡ from) (least : 256 ≤ size) (in_segment : length bytes' ≤ size) (ok : fault ≡ None)
-      (holds : HoldsIn sum (log_parts size site device fault bytes' from' bs' rs') behind H') (adds : AddsMessage H m H') (of_head : Contains holds.head m) (above : site.place + from ≤ m.place) (fresh : FirstUnwritten bs) (are : AreSealed from rs bs) where
+      (holds : HoldsIn sum (log_parts size site device fault bytes' from' bs' rs') behind (logged H')) (adds : AddsMessage H m H') (of_head : Contains holds.head m) (above : site.place + from ≤ m.place) (fresh : FirstUnwritten bs) (are : AreSealed from rs bs) where
     reached : reach ≤ m.place
     reached = let near = fits.near in omega (arith, near, above)
 
     lies : LiesBehind size site m
-    lies = completed_behind sum size site device fault bytes' from' bs' rs' (of_first sum size site device fault bytes' from' bs' rs' H' holds) holds.own in_segment m of_head (omega (arith, is, above))
+    lies = completed_behind sum size site device fault bytes' from' bs' rs' (of_first sum size site device fault bytes' from' bs' rs' (logged H') holds) holds.own in_segment m of_head (omega (arith, is, above))
+
+    -- the log has the message of that history as it is
+    put : AddsMessage (logged H) m (logged H')
+    put = inline_logged H m lies.lid H' lies.pointer adds
 
     -- where nothing was written of the segment, the beginning of its slot has zeros
     clean : from ≡ 0 → AreZeros device.log.bytes site.slot (site.slot + 20)
@@ -131,14 +137,15 @@ module _ (sum : List ℕ → ℕ) (size : ℕ) (site : SegmentPosition) (device 
     inside_segment : m.place < site.place + size
     inside_segment = let inside = lies.room in omega (arith, inside)
 
-    alone_new : NoHeaderOfZeros sum → StandsAmong sum size device.log.bytes site from others reach H' first
-    alone_new none = alone-adds sum size device.log.bytes site from reach H H' first least none holds.own.place_begins clean m adds above inside_segment room lies.lies (fits.among ok none)
+    alone_new : NoHeaderOfZeros sum → StandsAmong sum size device.log.bytes site from others reach (logged H') first
+    alone_new none = alone-adds sum size device.log.bytes site from reach (logged H) (logged H') first least none holds.own.place_begins clean m put above inside_segment room lies.lies (fits.among ok none)
 
-    beyond_new : (to : ℕ) → site.slot ≤ to → NoHeaderOfZeros sum → StandsAmong sum size (padded to device.log.bytes) site from others reach H' first
-    beyond_new to far none = alone-adds sum size (padded to device.log.bytes) site from reach H H' first least none holds.own.place_begins (λ first_one i low high. padded_get to device.log.bytes i ∙ clean first_one i low high) m adds above inside_segment room lies.lies (fits.beyond to far ok none)
+    beyond_new : (to : ℕ) → site.slot ≤ to → NoHeaderOfZeros sum → StandsAmong sum size (padded to device.log.bytes) site from others reach (logged H') first
+    beyond_new to far none = alone-adds sum size (padded to device.log.bytes) site from reach (logged H) (logged H') first least none holds.own.place_begins (λ first_one i low high. padded_get to device.log.bytes i ∙ clean first_one i low high) m put above inside_segment room lies.lies
+        (fits.beyond to far ok none)
 
-    names_new : NamesFit sum size device.snapshots H' f first
-    names_new = let begun = fits.holds.begun.reached in names-adds H H' m adds sum size device.snapshots f first (omega (arith, begun, above)) fits.names
+    names_new : NamesFit sum size device.snapshots (logged H') f first
+    names_new = let begun = fits.holds.begun.reached in names-adds (logged H) (logged H') m put sum size device.snapshots f first (omega (arith, begun, above)) fits.names
 
     -- no batch is added, so the stable place is the same
     same_stable : stable_below reach H'.batches ≡ stable_below reach H.batches
@@ -149,8 +156,8 @@ module _ (sum : List ℕ → ℕ) (size : ℕ) (site : SegmentPosition) (device 
         (let low = stable_low reach H.batches in let at = reached in blobs-adds H H' m adds sum device.blobs (stable_below reach H.batches) lies.lid (omega (arith, low, at)) lies.pointer fits.blobs)
 
     -- what is written still ends there
-    ends_new : (x : Message) → Contains H'.messages x → x.place < site.place + from → (x.place < reach) × (x.place + x.size ≤ reach)
-    ends_new x there below = elim (was_or_added H H' m adds x there) [
+    ends_new : (x : Message) → Contains (logged H').messages x → x.place < site.place + from → (x.place < reach) × (x.place + x.size ≤ reach)
+    ends_new x there below = elim (was_or_added (logged H) (logged H') m put x there) [
       | inl was ↦ fits.ends x was below
       | inr own ↦ absurd (let same = ap (λ (y : Message). y.place) own in omega (arith, same, above, below))
     ]
@@ -164,23 +171,23 @@ module _ (sum : List ℕ → ℕ) (size : ℕ) (site : SegmentPosition) (device 
     left_new : LeavesRecoverable sum size H' (stable_below reach H'.batches) f device
     left_new =
         let on = fits.holds.own.written ok in
-        settled_recoverable sum size least device H' (stable_below reach H'.batches) f first reach (whole_ascends sum size site device fault bytes' from' bs' rs' H' holds in_segment) stored_behind (rests device.log on.log on.settled) names_new blobs_new (λ none. (alone_new none).stands)
+        settled_recoverable sum size least device H' (stable_below reach H'.batches) f first reach (whole_ascends sum size site device fault bytes' from' bs' rs' (logged H') holds in_segment) stored_behind (rests device.log on.log on.settled) names_new blobs_new (λ none. (alone_new none).stands)
 
     pub fits-completed : 0 < pins → FitsIn sum (log_parts size site device fault bytes' from' bs' rs') behind reach pins H' A f (m ∷ U)
     fits-completed out =
-        let same : first ≡ holds.begun.first = first_same bytes' from' bs' rs' H' holds in
+        let same : first ≡ holds.begun.first = first_same bytes' from' bs' rs' (logged H') holds in
         record {
           holds = holds;
           near = let near = fits.near in omega (arith, near, is);
           ends = λ x there below. ends_new x there (omega (arith, below, is));
           no_batch = λ b there. subst (λ n. (b.low < reach) ⊎ (site.place + n ≤ b.low)) (sym is) (fits.no_batch b (subst (λ (l : List Batch). Contains l b) adds.batches there));
           no_end = λ b there. subst (λ n. (b.peg < reach) ⊎ (site.place + n ≤ b.peg)) (sym is) (fits.no_end b (subst (λ (l : List Batch). Contains l b) adds.batches there));
-          among = λ fine none. subst (λ (s : SnapshotModel). StandsAmong sum size device.log.bytes site from' others reach H' s) same (subst (λ n. StandsAmong sum size device.log.bytes site n others reach H' first) (sym is) (alone_new none));
-          beyond = λ to far fine none. subst (λ (s : SnapshotModel). StandsAmong sum size (padded to device.log.bytes) site from' others reach H' s) same
-              (subst (λ n. StandsAmong sum size (padded to device.log.bytes) site n others reach H' first) (sym is) (beyond_new to far none));
+          among = λ fine none. subst (λ (s : SnapshotModel). StandsAmong sum size device.log.bytes site from' others reach (logged H') s) same (subst (λ n. StandsAmong sum size device.log.bytes site n others reach (logged H') first) (sym is) (alone_new none));
+          beyond = λ to far fine none. subst (λ (s : SnapshotModel). StandsAmong sum size (padded to device.log.bytes) site from' others reach (logged H') s) same
+              (subst (λ n. StandsAmong sum size (padded to device.log.bytes) site n others reach (logged H') first) (sym is) (beyond_new to far none));
           blobs = blobs_new;
           stored = stored_behind;
-          names = subst (λ (s : SnapshotModel). NamesFit sum size device.snapshots H' f s) same names_new;
+          names = subst (λ (s : SnapshotModel). NamesFit sum size device.snapshots (logged H') f s) same names_new;
           passes = let passes = fits.passes in let same = same_stable in omega (arith, passes, same);
           pinned = λ some. out;
           left = left_new;

@@ -24,6 +24,7 @@ use Rattle.sled_core.specs.FreeSlots.{HasSlot}
 use Rattle.sled_core.specs.Iterators.{GivesMessages, GoesOver}
 use Rattle.sled_core.specs.LogFile.{HasHeader}
 use Rattle.sled_core.specs.LogSegments.{begins_from}
+use Rattle.sled_core.specs.Logged.{in_log, logged}
 use Rattle.sled_core.specs.OnFile.{item_of}
 use Rattle.sled_core.specs.OpenBatches.{stable_below}
 use Rattle.sled_core.specs.Reached.{ReachesIn, StandsAmong}
@@ -35,6 +36,9 @@ use Rattle.sled_core.proofs.Holds.FitsBatches.{stable_noted}
 use Rattle.sled_core.proofs.Holds.WholeHistory.{whole_apart}
 use Rattle.sled_core.proofs.Iterated.OnFile.{AreSlotsOf, HasEntryIn, IsEndOf, gives_on_file}
 use Rattle.sled_core.proofs.Line.WrittenSlots.{headers_line}
+use Rattle.sled_core.proofs.Logged.Messages.{logged_apart, logged_there, logged_twice}
+use Rattle.sled_core.proofs.Logged.Names.{have_entries_alike}
+use Rattle.sled_core.proofs.Logged.Stands.{among_alike}
 use Rattle.sled_core.proofs.Reached.StableBelow.{stable_closed, stable_low}
 use Rattle.sled_core.proofs.Start.ReadyLemmas.{raised_same}
 use Rattle.sled_core.proofs.Tail.Multiples.{apart, put_down, raised_within}
@@ -90,18 +94,18 @@ module _ {D C : Type 0} (trace : D → Trace) (sum : List ℕ → ℕ) (log : Lo
     first = fits.parts.holds.begun.first
 
     among : StandsAmong sum size state.log.bytes log.site log.buffer.written_len (map begun_segment (map parts_in (map segment_view log.behind.items))) fits.reach H first
-    among = fits.parts.among none own.zeros
+    among = among_alike (logged H) H (logged_twice H) sum size state.log.bytes log.site log.buffer.written_len (map begun_segment (map parts_in (map segment_view log.behind.items))) fits.reach first (fits.parts.among none own.zeros)
 
     -- the stable end is that of the history
     same_end : stable_below (synced_end log) H.batches ≡ stable_end log
-    same_end = stable_noted (synced_end log) (line_end size line) (noted_in log) H fits.batches
+    same_end = stable_noted (synced_end log) (line_end size line) (noted_in log) (logged H) fits.batches
 
     end_low : stable_end log ≤ synced_end log
     end_low = stable_low (synced_end log) (noted_in log)
 
     is_end : IsEndOf H fits.reach (stable_end log)
     is_end = record {
-      reached = λ n there low. (fits.parts.ends n there (omega (arith, low, end_low))).0;
+      reached = λ n there low. (fits.parts.ends (in_log n) (logged_there H n there) (omega (arith, low, end_low))).0;
       closed = λ b there low.
           let under = stable_closed size H among.stands.batched (synced_end log) b there (omega (arith, low, same_end)) in
           omega (arith, under, same_end);
@@ -112,7 +116,7 @@ module _ {D C : Type 0} (trace : D → Trace) (sum : List ℕ → ℕ) (log : Lo
     first_header k taken at some_written =
         let h = All-head (HasSlot size m) _ _ fits.slots.taken in
         let same : h.number ≡ k = fits.slots.own.one h.number k h.taken taken (h.is ∙ sym at) in
-        let has : HasHeader sum state.log.bytes log.site = headers_line sum size state log.fault none line 0 _ H fits.parts.holds refl some_written in
+        let has : HasHeader sum state.log.bytes log.site = headers_line sum size state log.fault none line 0 _ (logged H) fits.parts.holds refl some_written in
         let slot : log.site.slot ≡ k * size = h.lies ∙ ap (λ n. n * size) same in (
           has.mark,
           subst (λ n. IsHeader sum (part state.log.bytes n 20) (pos (slot_at m k).lsn) has.mark) slot (subst (λ n. IsHeader sum (part state.log.bytes log.site.slot 20) (pos n) has.mark) (sym at) has.header),
@@ -134,8 +138,10 @@ module _ {D C : Type 0} (trace : D → Trace) (sum : List ℕ → ℕ) (log : Lo
     ]
 
     entry : (k : ℕ) → is_free (slot_at m k).state ≡ false → (slot_at m k).lsn < least_place size first → HasEntryIn size H first m k
-    entry = subst (λ (s : SnapshotModel). (k : ℕ) → is_free (slot_at m k).state ≡ false → (slot_at m k).lsn < least_place size s → HasEntryIn size H s m k)
-        (one_begin sum state.snapshots.file fits.entries.first first fits.entries.begins fits.parts.holds.begun.begins) fits.entries.entry
+    entry =
+        let entries = have_entries_alike (logged H) H (logged_twice H) sum size state.snapshots.file m fits.entries in
+        subst (λ (s : SnapshotModel). (k : ℕ) → is_free (slot_at m k).state ≡ false → (slot_at m k).lsn < least_place size s → HasEntryIn size H s m k)
+        (one_begin sum state.snapshots.file entries.first first entries.begins fits.parts.holds.begun.begins) entries.entry
 
     slots : AreSlotsOf sum size state.log.bytes H first fits.reach (stable_end log) m
     slots = record {
@@ -156,7 +162,7 @@ module _ {D C : Type 0} (trace : D → Trace) (sum : List ℕ → ℕ) (log : Lo
     good = (fits.parts.blobs state.blobs.file (name_read_left state.blobs) own.blobs).named
 
     apart_messages : LieApart H.messages
-    apart_messages = whole_apart sum size log.site state log.fault log.buffer.bytes.items log.buffer.written_len log.buffer.sealed.items log.buffer.reserved.items H fits.parts.holds log.in_segment
+    apart_messages = logged_apart H (whole_apart sum size log.site state log.fault log.buffer.bytes.items log.buffer.written_len log.buffer.sealed.items log.buffer.reserved.items (logged H) fits.parts.holds log.in_segment)
 
     -- So an iterator that goes over the segments of the log gives its messages.
     pub gives_messages : (lsn : ℤ) (it : LogIter D C) → GoesOver trace sum log lsn it → GivesMessages trace sum log H lsn it

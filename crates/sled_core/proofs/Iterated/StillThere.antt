@@ -19,6 +19,7 @@ use Rattle.sled_core.specs.Begun.{SegmentView, segment_view, view_at}
 use Rattle.sled_core.specs.declared.logger.Log.{Log}
 use Rattle.sled_core.specs.Fits.{HasRecordOf, HoldsLine, begun_segment, current_of, fault_of, line_of, machine_at, noted_in, parts_in, segment_size_of, synced_end}
 use Rattle.sled_core.specs.FreeSlots.{HasSlot}
+use Rattle.sled_core.specs.Logged.{in_log, logged}
 use Rattle.sled_core.specs.OnFile.{HasSegment}
 use Rattle.sled_core.specs.Reached.{StandsAmong}
 use Rattle.sled_core.specs.Recoverable.{IsSegmentOf, NoHeaderOfZeros}
@@ -29,6 +30,8 @@ use Rattle.sled_core.proofs.Line.Ends.{with_part}
 use Rattle.sled_core.proofs.Line.Facts.{IsSegment, current_facts}
 use Rattle.sled_core.proofs.Line.Segments.{AreSegments, line_segments, nth_segment}
 use Rattle.sled_core.proofs.Line.WrittenSlots.{headers_line}
+use Rattle.sled_core.proofs.Logged.Messages.{logged_apart, logged_there, logged_twice}
+use Rattle.sled_core.proofs.Logged.Stands.{among_alike}
 use Rattle.sled_core.proofs.Reserve.Ranges.{at_there}
 use Rattle.sled_core.proofs.Sealed.Zeros.{begin_zeros}
 use Rattle.sled_core.proofs.Tail.Multiples.{apart, lower_multiple, next_multiple, put_down}
@@ -101,7 +104,7 @@ module _ {D C : Type 0} (trace : D → Trace) (sum : List ℕ → ℕ) (log : Lo
         let parts = put_down size m.place in
         let up = lower_multiple size some log.site.place m.place above in
         let end : ℕ = (current_of log).parts.site.place + length (current_of log).parts.bytes in
-        let low : m.place < end = All-contains (λ (n : Message). n.place < end) H.messages m (line_below sum size state log.fault (view_at log.site log.buffer) (map segment_view log.behind.items) H log.in_segment fits.parts.holds) there in
+        let low : m.place < end = All-contains (λ (n : Message). n.place < end) (logged H).messages (in_log m) (line_below sum size state log.fault (view_at log.site log.buffer) (map segment_view log.behind.items) (logged H) log.in_segment fits.parts.holds) (logged_there H m there) in
         let current = current_facts log in
         let at = current.at in
         let short = current.short in
@@ -114,15 +117,15 @@ module _ {D C : Type 0} (trace : D → Trace) (sum : List ℕ → ℕ) (log : Lo
     module _ (none : log.fault ≡ None) (zeros : NoHeaderOfZeros sum) (m : Message) (there : Contains H.messages m) (below : m.place < log.site.place) (cut : ℕ) (far : synced_end log ≤ cut) (entry : Contains (table H cut m.page) m) where
       -- what a reader finds of the file
       among : StandsAmong sum size state.log.bytes log.site log.buffer.written_len (map begun_segment (map parts_in (map segment_view log.behind.items))) fits.reach H fits.parts.holds.begun.first
-      among = fits.parts.among none zeros
+      among = among_alike (logged H) H (logged_twice H) sum size state.log.bytes log.site log.buffer.written_len (map begun_segment (map parts_in (map segment_view log.behind.items))) fits.reach fits.parts.holds.begun.first (fits.parts.among none zeros)
 
       -- it is an entry of the table of what a reader comes to, too,
       reached : Contains (table H fits.reach m.page) m
       reached =
           let near = fits.parts.near in
-          let low = (fits.parts.ends m there (omega (arith, below))).0 in
-          let lie = whole_apart sum size log.site state log.fault log.buffer.bytes.items log.buffer.written_len log.buffer.sealed.items log.buffer.reserved.items H fits.parts.holds log.in_segment in
-          entry_earlier H (apart_ascends H.messages lie) fits.reach cut m.page (omega (arith, near, far)) m low entry
+          let low = (fits.parts.ends (in_log m) (logged_there H m there) (omega (arith, below))).0 in
+          let lie = whole_apart sum size log.site state log.fault log.buffer.bytes.items log.buffer.written_len log.buffer.sealed.items log.buffer.reserved.items (logged H) fits.parts.holds log.in_segment in
+          entry_earlier H (apart_ascends H.messages (logged_apart H lie)) fits.reach cut m.page (omega (arith, near, far)) m low entry
 
       -- so its segment is found,
       of : IsSegmentOf sum size state.log.bytes H fits.reach m
@@ -150,7 +153,7 @@ module _ {D C : Type 0} (trace : D → Trace) (sum : List ℕ → ℕ) (log : Lo
           let h = its_slot (slot_at machine k).lsn b in
           let same : h.number ≡ k = fits.slots.own.one h.number k h.taken taken (h.is ∙ b.at) in
           let here : k * size ≡ b.segment.parts.site.slot = ap (λ n. n * size) (sym same) ∙ sym h.lies in
-          let is = own_header sum zeros size some state log.fault none log.site.place line (line_segments log) H fits.parts.holds b.number b.segment b.among of.segment.place of.segment.mark
+          let is = own_header sum zeros size some state log.fault none log.site.place line (line_segments log) (logged H) fits.parts.holds b.number b.segment b.among of.segment.place of.segment.mark
           (subst (λ n. IsHeader sum (part state.log.bytes n 20) (pos of.segment.place) of.segment.mark) here header) in
           let at = b.at in
           let place = of.place in

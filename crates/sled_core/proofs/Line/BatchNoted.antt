@@ -16,6 +16,7 @@ use Rattle.sled_core.specs.declared.logger.Log.{Log}
 use Rattle.sled_core.specs.declared.reservation.Reservation.{Reservation}
 use Rattle.sled_core.specs.Fits.{Awaits, AwaitsIn, Holds, KeepsAll, KeepsBuffers, config_of, current_of, fault_of, line_of, noted_in, open_places, reserved_end, synced_end}
 use Rattle.sled_core.specs.Keeps.{GoesOn, KeepsOthers, SamePosition}
+use Rattle.sled_core.specs.Logged.{logged}
 use Rattle.sled_core.specs.Manifests.{is_manifest}
 use Rattle.sled_core.specs.OpenBatches.{batch_of, not_whole, stable_below, with_batch}
 use Rattle.sled_core.specs.OpenPlaces.{TakesOut, open_manifests, open_places_along}
@@ -212,7 +213,8 @@ module _ {D C : Type 0} (trace : D → Trace) (sum : List ℕ → ℕ) (old mid 
     unfolding Holds
     batch_others H other m holds awaits elsewhere =
         subst (λ (l : List SegmentView). AwaitsIn l other m) (sym (noted_line mid new rest ∙ line))
-        (others_await old.config.config.segment_size (line_of old) old.site.place n v f.among (nth_facts old) i r f.there f.own.open_yet (marking sum v.parts.bytes r peg) short Manifest sum (state_of (trace old.config.device)) old.fault H holds.holds ticket other m f.own.place awaits elsewhere)
+        (others_await old.config.config.segment_size (line_of old) old.site.place n v f.among (nth_facts old) i r f.there f.own.open_yet (marking sum v.parts.bytes r peg) short Manifest sum (state_of (trace old.config.device)) old.fault
+        (logged H) holds.holds ticket other m f.own.place awaits elsewhere)
 
     -- so much is seen,
     pub batch_seen : IsBatchNoted trace sum old new ticket peg
@@ -228,7 +230,7 @@ module _ {D C : Type 0} (trace : D → Trace) (sum : List ℕ → ℕ) (old mid 
         let reach = reserved_in_reach old in
         let ends = reserved_ends old in
         let now = holds_noted sum old.config.config.segment_size (state_of (trace old.config.device)) old.fault (line_of old) n v f.among old.site.place (nth_facts old) i r f.there f.own.open_yet (of_manifest old ticket n index f manifest) peg (omega (arith, within, reach)) later (omega (arith, within, ends)) (machine_of old.accountant) (noted_in old)
-        (λ c known. elim (apart c known) [ inl front ↦ inl (omega (arith, ints, front, at)) | inr behind ↦ inr behind ]) H (log_off old peg within lies) holds in (
+        (λ c known. elim (apart c known) [ inl front ↦ inl (omega (arith, ints, front, at)) | inr behind ↦ inr behind ]) (logged H) (log_off old peg within lies) holds in (
           noted_history H b,
           subst (λ (x : Batch). AddsBatch H x (noted_history H b)) (λ j. record { low = (sym begins ∙ low_is) j; peg = peg }) (noted_adds H b later),
           holds_as trace sum old new now_config (rest.fault ∙ ended.fault) (with_batch b (noted_in old)) now_noted (set (line_of old) n (ended_now i r (marking sum v.parts.bytes r peg) Manifest v)) (noted_line mid new rest ∙ line) (machine_of old.accountant)

@@ -18,6 +18,7 @@ use Rattle.sled_core.specs.declared.logger.Log.{Log}
 use Rattle.sled_core.specs.declared.reservation.Reservation.{Reservation}
 use Rattle.sled_core.specs.Begun.{SegmentParts, SegmentView, begin_of, first_place, segment_view, view_at}
 use Rattle.sled_core.specs.Buffers.{IsHeaded}
+use Rattle.sled_core.specs.Logged.{logged}
 use Rattle.sled_core.specs.Tickets.{IsFor, index_of}
 use Rattle.sled_core.specs.declared.iobuf.Reserved.{Reserved}
 use Rattle.sled_core.specs.Fits.{written_to, AwaitsIn, CloseBelow, FitsBatches, HasMark, Holds, HoldsIn, HoldsLine, HoldsWith, KeepsAll, KeepsTickets, current_of, device_of, fault_of, line_end, line_of, noted_in, log_parts, machine_at, parts_in, pins_of, position_of, segment_size_of, stable_end, synced_end, waiting_of}
@@ -70,13 +71,13 @@ first_append [] ws some = absurd (omega (arith, some))
 first_append (v ∷ vs) ws some = refl
 
 -- A segment begins behind segments one behind another, in the slot that is handed out next, with a mark below what is written of the first one.
-module _ (sum : List ℕ → ℕ) (size : ℕ) (device : State) (fault : Option IoError) (m : Machine) (big : 256 ≤ size) (H : History) where
+module _ (sum : List ℕ → ℕ) (size : ℕ) (device : State) (fault : Option IoError) (m : Machine) (big : 256 ≤ size) where
   abbrev header_at : ℕ → ℕ → List ℕ
   header_at place stable = short_header sum (pos place) (pos stable -ℤ pos 1)
 
   -- its mark lies in no batch
-  marked : (site : SegmentPosition) (stable : ℕ) → stable ≤ site.place → ((b : Batch) → Contains H.batches b → b.low < stable → b.peg < stable) → HasMark sum site (header_at site.place stable) H
-  marked site stable below ended =
+  marked : (H : History) (site : SegmentPosition) (stable : ℕ) → stable ≤ site.place → ((b : Batch) → Contains H.batches b → b.low < stable → b.peg < stable) → HasMark sum site (header_at site.place stable) H
+  marked H site stable below ended =
       let is : IsMarkOf H (record { place = stable; slot = site.slot; mark = pos stable -ℤ pos 1 }) = buffer_mark H site.slot stable ended in
       record {
         mark = pos stable -ℤ pos 1;
@@ -99,51 +100,51 @@ module _ (sum : List ℕ → ℕ) (size : ℕ) (device : State) (fault : Option 
     above : (v : SegmentView) (vs : List SegmentView) → place ≡ first_place (v ∷ vs) + length (v ∷ vs) * size → v.parts.site.place + size ≤ place
     above v vs at = omega (arith, at, suc-mul (length vs) size)
 
-    written_within : (v : SegmentView) (vs : List SegmentView) → HoldsLine sum size device fault (v ∷ vs) H → v.parts.written_len ≤ length v.parts.bytes
-    written_within v vs holds =
+    written_within : (H : History) (v : SegmentView) (vs : List SegmentView) → HoldsLine sum size device fault (v ∷ vs) H → v.parts.written_len ≤ length v.parts.bytes
+    written_within H v vs holds =
         let grown = grows sum size v.parts.site device fault v.parts.bytes v.parts.written_len v.parts.sealed v.parts.reserved (record { messages = holds.head; batches = H.batches }) holds.own in
         omega (arith, grown)
 
-    written_before : (v : SegmentView) (vs : List SegmentView) → place ≡ first_place (v ∷ vs) + length (v ∷ vs) * size → length v.parts.bytes ≤ size → HoldsLine sum size device fault (v ∷ vs) H → written_to (v ∷ vs) ≤ place
-    written_before v vs at short holds =
+    written_before : (H : History) (v : SegmentView) (vs : List SegmentView) → place ≡ first_place (v ∷ vs) + length (v ∷ vs) * size → length v.parts.bytes ≤ size → HoldsLine sum size device fault (v ∷ vs) H → written_to (v ∷ vs) ≤ place
+    written_before H v vs at short holds =
         let up = above v vs at in
-        let within = written_within v vs holds in
+        let within = written_within H v vs holds in
         omega (arith, up, within, short)
 
     -- The mark is the place before this one, which is written, and in front of which no batch is open; and all batches end before the new segment.
-    module _ (stable : ℕ) (line : List SegmentView) (low : stable ≤ written_to line) (ended : (b : Batch) → Contains H.batches b → b.low < stable → b.peg < stable) (within : CloseBelow place H.batches)
+    module _ (H : History) (stable : ℕ) (line : List SegmentView) (low : stable ≤ written_to line) (ended : (b : Batch) → Contains H.batches b → b.low < stable → b.peg < stable) (within : CloseBelow place H.batches)
         (at : place ≡ first_place line + length line * size) (short : FirstShort size line) (has : HasSlots size line device.log.bytes fault m) where
       mark_of : (v : SegmentView) (vs : List SegmentView) → line ≡ v ∷ vs → HoldsLine sum size device fault (v ∷ vs) H → HasMark sum (record { place = place; slot = next_slot m * size }) (header_at place stable) H
       mark_of v vs is holds =
-          let before = written_before v vs (subst (λ (l : List SegmentView). place ≡ first_place l + length l * size) is at) (subst (FirstShort size) is short) holds in
+          let before = written_before H v vs (subst (λ (l : List SegmentView). place ≡ first_place l + length l * size) is at) (subst (FirstShort size) is short) holds in
           let under = subst (λ (l : List SegmentView). stable ≤ written_to l) is low in
-          marked (record { place = place; slot = next_slot m * size }) stable (omega (arith, before, under)) ended
+          marked H (record { place = place; slot = next_slot m * size }) stable (omega (arith, before, under)) ended
 
     -- What the others hold is held with it,
-    pub line_begun : (stable : ℕ) (line : List SegmentView) → stable ≤ written_to line → ((b : Batch) → Contains H.batches b → b.low < stable → b.peg < stable) → CloseBelow place H.batches
+    pub line_begun : (H : History) (stable : ℕ) (line : List SegmentView) → stable ≤ written_to line → ((b : Batch) → Contains H.batches b → b.low < stable → b.peg < stable) → CloseBelow place H.batches
         → place ≡ first_place line + length line * size → place < 2 ^ 63 → FirstShort size line → HasSlots size line device.log.bytes fault m → HoldsLine sum size device fault line H
         → HoldsLine sum size device fault (line ++ begun_at place stable ∷ []) H
     unfolding mark_of marked
-    line_begun stable [] low ended within at small short has holds = absurd holds
-    line_begun stable (v ∷ vs) low ended within at small short has holds =
+    line_begun H stable [] low ended within at small short has holds = absurd holds
+    line_begun H stable (v ∷ vs) low ended within at small short has holds =
         subst (λ (ss : List SegmentParts). HoldsIn sum (log_parts size v.parts.site device fault v.parts.bytes v.parts.written_len v.parts.sealed v.parts.reserved) ss H) (sym (map-append parts_in vs (begun_at place stable ∷ [])))
         (behind-begins sum size v.parts.site device fault v.parts.bytes v.parts.written_len v.parts.sealed v.parts.reserved H (map parts_in vs) holds big short
         (record { place = place; slot = next_slot m * size }) (header_at place stable) (place_is v vs at) (mul-mod_left (next_slot m) size) (length-short_header sum (pos place) (pos stable -ℤ pos 1))
-        (mark_of stable (v ∷ vs) low ended within at short has v vs refl holds) (next_other m slots size (omega (arith, big)) v (All-head (HasSlot size m) v vs has.taken))
+        (mark_of H stable (v ∷ vs) low ended within at short has v vs refl holds) (next_other m slots size (omega (arith, big)) v (All-head (HasSlot size m) v vs has.taken))
         (next_others m slots size (omega (arith, big)) vs (All-tail (HasSlot size m) v vs has.taken)) (λ none. has.zeros none (next_slot m) (next_free m slots)) within
         (mark_lower stable (v.parts.site.place + v.parts.written_len) low) small)
 
     -- and what they fit is fitted.
-    pub line_fits_begun : (reach pins A f : ℕ) (U : List Message) (stable : ℕ) (line : List SegmentView) → stable ≤ written_to line → ((b : Batch) → Contains H.batches b → b.low < stable → b.peg < stable) → CloseBelow place H.batches
+    pub line_fits_begun : (reach pins : ℕ) (H : History) (A f : ℕ) (U : List Message) (stable : ℕ) (line : List SegmentView) → stable ≤ written_to line → ((b : Batch) → Contains H.batches b → b.low < stable → b.peg < stable) → CloseBelow place H.batches
         → place ≡ first_place line + length line * size → place < 2 ^ 63 → FirstShort size line → HasSlots size line device.log.bytes fault m
         → FitsLine sum size device fault line reach pins H A f U → FitsLine sum size device fault (line ++ begun_at place stable ∷ []) reach pins H A f U
     unfolding mark_of marked
-    line_fits_begun reach pins A f U stable [] low ended within at small short has fits = absurd fits
-    line_fits_begun reach pins A f U stable (v ∷ vs) low ended within at small short has fits =
+    line_fits_begun reach pins H A f U stable [] low ended within at small short has fits = absurd fits
+    line_fits_begun reach pins H A f U stable (v ∷ vs) low ended within at small short has fits =
         subst (λ (ss : List SegmentParts). FitsIn sum (log_parts size v.parts.site device fault v.parts.bytes v.parts.written_len v.parts.sealed v.parts.reserved) ss reach pins H A f U) (sym (map-append parts_in vs (begun_at place stable ∷ [])))
         (behind-fits-begun sum size v.parts.site device fault v.parts.bytes v.parts.written_len v.parts.sealed v.parts.reserved pins H A f U (map parts_in vs) fits big short
         (record { place = place; slot = next_slot m * size }) (header_at place stable) (place_is v vs at) (mul-mod_left (next_slot m) size) (length-short_header sum (pos place) (pos stable -ℤ pos 1))
-        (mark_of stable (v ∷ vs) low ended within at short has v vs refl fits.holds) (next_other m slots size (omega (arith, big)) v (All-head (HasSlot size m) v vs has.taken))
+        (mark_of (logged H) stable (v ∷ vs) low ended within at short has v vs refl fits.holds) (next_other m slots size (omega (arith, big)) v (All-head (HasSlot size m) v vs has.taken))
         (next_others m slots size (omega (arith, big)) vs (All-tail (HasSlot size m) v vs has.taken)) (λ none. has.zeros none (next_slot m) (next_free m slots)) within
         (mark_lower stable (v.parts.site.place + v.parts.written_len) low) small)
 
@@ -247,7 +248,7 @@ module _ (sum : List ℕ → ℕ) (size : ℕ) where
 
       pub holds_next : (H : History) → HoldsWith sum noted size device fault (v ∷ vs) m H → HoldsWith sum noted size device fault next (handed_out place m) H
       holds_next H holds = record {
-        holds = line_begun sum size device fault m big H slots place stable (closed (v ∷ vs)) low (ended H holds.batches) (within H holds.batches) at in_reach (closed_short v vs short small) (closed_slots (v ∷ vs) device.log.bytes fault m holds.slots)
+        holds = line_begun sum size device fault m big slots place H stable (closed (v ∷ vs)) low (ended H holds.batches) (within H holds.batches) at in_reach (closed_short v vs short small) (closed_slots (v ∷ vs) device.log.bytes fault m holds.slots)
             (line_closed sum size device fault H v vs closable holds.holds);
         batches = batches_next H holds.batches;
         slots = slots_next holds.slots;
@@ -256,12 +257,12 @@ module _ (sum : List ℕ → ℕ) (size : ℕ) where
       pub fits_next : (pins : ℕ) (H : History) (A f : ℕ) (U : List Message) → FitsWith sum noted size device fault (v ∷ vs) m pins H A f U → FitsWith sum noted size device fault next (handed_out place m) pins H A f U
       fits_next pins H A f U fits = record {
         reach = fits.reach;
-        parts = line_fits_begun sum size device fault m big H slots place fits.reach pins A f U stable (closed (v ∷ vs)) low (ended H fits.batches) (within H fits.batches) at in_reach (closed_short v vs short small) (closed_slots (v ∷ vs) device.log.bytes fault m fits.slots)
+        parts = line_fits_begun sum size device fault m big slots place fits.reach pins H A f U stable (closed (v ∷ vs)) low (ended (logged H) fits.batches) (within (logged H) fits.batches) at in_reach (closed_short v vs short small) (closed_slots (v ∷ vs) device.log.bytes fault m fits.slots)
             (line_fits_closed sum size device fault fits.reach pins H A f U v vs closable fits.parts);
-        batches = batches_next H fits.batches;
+        batches = batches_next (logged H) fits.batches;
         slots = slots_next fits.slots;
         begun = λ none. begun_next (fits.begun none);
-        entries = entries_next H (line_holds sum size device fault (v ∷ vs) fits.reach pins H A f U fits.parts) fits.entries;
+        entries = entries_next (logged H) (line_holds sum size device fault (v ∷ vs) fits.reach pins H A f U fits.parts) fits.entries;
       }
 
   -- Tickets are for what they were for,
@@ -406,7 +407,7 @@ module _ {D C : Type 0} (trace : D → Trace) (sum : List ℕ → ℕ) (old new 
         goes_on = goes_on_quietly trace sum old new (record { config = ap (λ (x : RunningConfig D C). x.config) rest.config; checksum = ap (λ (x : RunningConfig D C). x.checksum) rest.config })
             (ap (λ (x : RunningConfig D C). trace x.device) rest.config) (let same = begins_synced in omega (arith, same));
         history = λ H holds. holds_as trace sum old new rest.config rest.fault (noted_in old) begins_noted _ line _ machine H
-            (holds_next sum its_size device (fault_of old) (machine_at old) big old.account.slots first behind closes g.short small lies f.place_small (noted_in old) H holds);
+            (holds_next sum its_size device (fault_of old) (machine_at old) big old.account.slots first behind closes g.short small lies f.place_small (noted_in old) (logged H) holds);
         fits = λ H A f' U fits. fits_as trace sum old new rest.config rest.fault (noted_in old) begins_noted _ line _ machine H A f' U rest.pins
             (fits_next sum its_size device (fault_of old) (machine_at old) big old.account.slots first behind closes g.short small lies f.place_small (noted_in old) (pins_of old) H A f' U fits);
         noted = noted_later old new rest.noted (let same = begins_synced in omega (arith, same));

@@ -13,6 +13,7 @@ use Rattle.sled_core.specs.Caps.{segment_rest}
 use Rattle.sled_core.specs.declared.iobuf.Reserved.{Reserved}
 use Rattle.sled_core.specs.declared.iobuf.Sealed.{Sealed}
 use Rattle.sled_core.specs.Fits.{HoldsIn, HoldsLine, LogParts, log_parts, parts_in}
+use Rattle.sled_core.specs.Logged.{logged}
 use Rattle.sled_core.specs.Running.{FitsIn, FitsLine}
 use Rattle.sled_core.specs.SealedBuffers.{seal_at, sealed_count}
 use Rattle.sled_core.specs.Waiting.{at_last, closed_now, filled_now, last_of, sealed_now, with_filling, with_parts}
@@ -179,11 +180,11 @@ module _ (sum : List ℕ → ℕ) (size : ℕ) where
         (behind_fits_filled reach pins H A f U v (map parts_in pre) w its (subst (λ (ss : List SegmentParts). FitsIn sum (as_first v) ss reach pins H A f U) (map-append parts_in pre (w ∷ [])) fits)) (filled_some w its).some))
       where
         first_moved : (v : SegmentView) → IsClosable size v → FitsIn sum (as_first v) [] reach pins H A f U → FitsIn sum (as_first (closed_now sum size v)) [] reach pins H A f U
-        first_moved v its fits = by_filled (λ (x : SegmentView). HoldsIn sum (as_first (sealed_now x)) [] H → FitsIn sum (as_first (sealed_now x)) [] reach pins H A f U) v
+        first_moved v its fits = by_filled (λ (x : SegmentView). HoldsIn sum (as_first (sealed_now x)) [] (logged H) → FitsIn sum (as_first (sealed_now x)) [] reach pins H A f U) v
             (λ _ holds. moved (sealed_now (filled_up v)).parts.bytes (sealed_now (filled_up v)).parts.sealed (sealed_now (filled_up v)).parts.reserved holds)
             (λ _ holds. moved (sealed_now v).parts.bytes (sealed_now v).parts.sealed (sealed_now v).parts.reserved holds)
-            (first_closed H v its [] fits.holds)
+            (first_closed (logged H) v its [] fits.holds)
           where
-            moved : (bytes : List ℕ) (bs : List Sealed) (rs : List Reserved) → HoldsIn sum (log_parts size v.parts.site device fault bytes v.parts.written_len bs rs) [] H
+            moved : (bytes : List ℕ) (bs : List Sealed) (rs : List Reserved) → HoldsIn sum (log_parts size v.parts.site device fault bytes v.parts.written_len bs rs) [] (logged H)
                 → FitsIn sum (log_parts size v.parts.site device fault bytes v.parts.written_len bs rs) [] reach pins H A f U
             moved bytes bs rs holds = fits-moved sum size v.parts.site device fault v.parts.bytes v.parts.written_len v.parts.sealed v.parts.reserved pins H A f U fits bytes v.parts.written_len bs rs refl holds

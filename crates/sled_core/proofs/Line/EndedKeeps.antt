@@ -18,6 +18,7 @@ use Rattle.sled_core.specs.declared.logger.Log.{Log}
 use Rattle.sled_core.specs.Begun.{SegmentView, segment_view, view_at}
 use Rattle.sled_core.specs.Fits.{Holds, HoldsWith, KeepsAll, current_of, line_of, noted_in, synced_end}
 use Rattle.sled_core.specs.Keeps.{GoesOn, SamePosition}
+use Rattle.sled_core.specs.Logged.{logged}
 use Rattle.sled_core.specs.Positions.{is_short, next_segment_at, position_in}
 use Rattle.sled_core.specs.OpenBatches.{not_whole}
 use Rattle.sled_core.specs.Running.{Fits, FitsWith}
@@ -128,14 +129,14 @@ module _ {D C : Type 0} (old new : Log D C) (n : ℕ) (v : SegmentView) (there :
 
   -- The log holds and fits what the changed segments do.
 
-  pub holds_ended : (trace : D → Trace) (sum : List ℕ → ℕ) (H : History) → HoldsWith sum (noted_in old) old.config.config.segment_size (state_of (trace old.config.device)) old.fault (set (line_of old) n e) (machine_of old.accountant) H → Holds trace sum new H
+  pub holds_ended : (trace : D → Trace) (sum : List ℕ → ℕ) (H : History) → HoldsWith sum (noted_in old) old.config.config.segment_size (state_of (trace old.config.device)) old.fault (set (line_of old) n e) (machine_of old.accountant) (logged H) → Holds trace sum new H
   unfolding Holds
   holds_ended trace sum H holds =
-      subst (λ (c : RunningConfig D C). HoldsWith sum (noted_in new) c.config.segment_size (state_of (trace c.device)) new.fault (line_of new) (machine_of new.accountant) H) (sym rest.config)
-      (subst (λ (f : Option IoError). HoldsWith sum (noted_in new) old.config.config.segment_size (state_of (trace old.config.device)) f (line_of new) (machine_of new.accountant) H) (sym rest.fault)
-      (subst (λ (l : List SegmentView). HoldsWith sum (noted_in new) old.config.config.segment_size (state_of (trace old.config.device)) old.fault l (machine_of new.accountant) H) (sym line)
-      (subst (λ (a : SegmentAccountant). HoldsWith sum (noted_in new) old.config.config.segment_size (state_of (trace old.config.device)) old.fault (set (line_of old) n e) (machine_of a) H) (sym rest.accountant)
-      (subst (λ (bs : List Batch). HoldsWith sum bs old.config.config.segment_size (state_of (trace old.config.device)) old.fault (set (line_of old) n e) (machine_of old.accountant) H) (sym noted_ended) holds))))
+      subst (λ (c : RunningConfig D C). HoldsWith sum (noted_in new) c.config.segment_size (state_of (trace c.device)) new.fault (line_of new) (machine_of new.accountant) (logged H)) (sym rest.config)
+      (subst (λ (f : Option IoError). HoldsWith sum (noted_in new) old.config.config.segment_size (state_of (trace old.config.device)) f (line_of new) (machine_of new.accountant) (logged H)) (sym rest.fault)
+      (subst (λ (l : List SegmentView). HoldsWith sum (noted_in new) old.config.config.segment_size (state_of (trace old.config.device)) old.fault l (machine_of new.accountant) (logged H)) (sym line)
+      (subst (λ (a : SegmentAccountant). HoldsWith sum (noted_in new) old.config.config.segment_size (state_of (trace old.config.device)) old.fault (set (line_of old) n e) (machine_of a) (logged H)) (sym rest.accountant)
+      (subst (λ (bs : List Batch). HoldsWith sum bs old.config.config.segment_size (state_of (trace old.config.device)) old.fault (set (line_of old) n e) (machine_of old.accountant) (logged H)) (sym noted_ended) holds))))
 
   pub fits_ended : (trace : D → Trace) (sum : List ℕ → ℕ) (H : History) (A f : ℕ) (U : List Message)
       → FitsWith sum (noted_in old) old.config.config.segment_size (state_of (trace old.config.device)) old.fault (set (line_of old) n e) (machine_of old.accountant) old.pins H A f U → Fits trace sum new H A f U

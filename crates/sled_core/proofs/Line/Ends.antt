@@ -10,6 +10,7 @@ use Rattle.sled_codec.specs.Snapshots.{SnapshotModel, stable_place}
 use Rattle.sled_store.specs.Device.{State}
 use Rattle.sled_store.specs.SegmentStates.{Machine}
 use Rattle.sled_store.specs.SnapshotFiles.{BeginsFrom}
+use Rattle.sled_core.specs.Logged.{logged}
 use Rattle.sled_core.specs.Manifests.{is_manifest}
 use Rattle.sled_core.specs.declared.iobuf.ReservationState.TheVariants.{Open, Canceled, Completed}
 use Rattle.sled_core.specs.declared.iobuf.Reserved.{Reserved}
@@ -35,6 +36,7 @@ use Rattle.sled_core.proofs.Line.Facts.{IsSegment}
 use Rattle.sled_core.proofs.Line.LineEnds.{end_set, first_set}
 use Rattle.sled_core.proofs.Line.Nth.{parts_set, parts_split}
 use Rattle.sled_core.proofs.Line.OlderSlots.{entries_adds, newest_low}
+use Rattle.sled_core.proofs.Logged.Messages.{inline_logged, inline_real}
 use Rattle.sled_core.proofs.Reserve.Ranges.{at_there, chain_within}
 use Rattle.sled_core.proofs.Sealed.Ended.{ends_up}
 
@@ -70,7 +72,7 @@ module _ (sum : List ℕ → ℕ) (size : ℕ) (device : State) (fault : Option 
   with_segment line n v H holds there go = with_part line n v H holds there (λ stays own segment. go stays (record { messages = own; batches = H.batches }) segment)
 
   -- Segments that fit a history hold it.
-  pub line_holds : (line : List SegmentView) (reach pins : ℕ) (H : History) (A f : ℕ) (U : List Message) → FitsLine sum size device fault line reach pins H A f U → HoldsLine sum size device fault line H
+  pub line_holds : (line : List SegmentView) (reach pins : ℕ) (H : History) (A f : ℕ) (U : List Message) → FitsLine sum size device fault line reach pins H A f U → HoldsLine sum size device fault line (logged H)
   line_holds [] reach pins H A f U fits = fits
   line_holds (v ∷ vs) reach pins H A f U fits = fits.holds
 
@@ -105,7 +107,7 @@ module _ (sum : List ℕ → ℕ) (size : ℕ) (device : State) (fault : Option 
         let same : w ≡ v = cc in
         let its : FitsLine sum size device fault (v ∷ ws) reach pins H A f U = subst (λ (x : SegmentView). FitsLine sum size device fault (x ∷ ws) reach pins H A f U) same fits in
         fits-moved sum size v.parts.site device fault v.parts.bytes v.parts.written_len v.parts.sealed v.parts.reserved pins H A f U its _ _ _ _ refl
-        (holds-aborted sum size v.parts.site device fault v.parts.bytes v.parts.written_len v.parts.sealed v.parts.reserved H its.holds i r at is_open (written_inside v facts) facts.are _ _ _ _ refl refl refl refl)
+        (holds-aborted sum size v.parts.site device fault v.parts.bytes v.parts.written_len v.parts.sealed v.parts.reserved (logged H) its.holds i r at is_open (written_inside v facts) facts.are _ _ _ _ refl refl refl refl)
     abort_fits (w ∷ ws) (suc k) reach pins H A f U there facts fits =
         let its : FitsIn sum (parts_of w) (map parts_in (take k ws) ++ v.parts ∷ map parts_in (drop (suc k) ws)) reach pins H A f U = subst (λ (l : List SegmentParts). FitsIn sum (parts_of w) l reach pins H A f U) (parts_split ws k v there) fits in
         subst (λ (l : List SegmentParts). FitsIn sum (parts_of w) l reach pins H A f U) (sym (parts_set ws k v canceled there))
@@ -141,24 +143,22 @@ module _ (sum : List ℕ → ℕ) (size : ℕ) (device : State) (fault : Option 
         let own = facts zero v there in
         let short = own.short in
         let first : History = record { messages = its.holds.head; batches = H.batches } in
-        let done = holds-complete sum size v.parts.site device fault v.parts.bytes v.parts.written_len v.parts.sealed v.parts.reserved H its.holds i r at is_open (written_inside v own) own.are short none in
+        let of_log = holds-complete sum size v.parts.site device fault v.parts.bytes v.parts.written_len v.parts.sealed v.parts.reserved (logged H) its.holds i r at is_open (written_inside v own) own.are short none in
+        let done = inline_real (HoldsIn sum _ (map parts_in ws)) H m (v.parts.site.slot + r.from) of_log.0 refl of_log.1 of_log.2 in
+        let put = inline_logged H m (v.parts.site.slot + r.from) done.0 refl done.1 in
         let long : length (written v.parts.bytes r.from (completing r)) ≡ length v.parts.bytes = ended_long sum size device fault v.parts first its.holds.own i r at is_open r.sum r.kind in
         let near = ends_within sum size v.parts.site device fault v.parts.bytes v.parts.written_len v.parts.sealed v.parts.reserved i r first its.holds.own at is_open in
         let above = behind_written sum size v.parts.site device fault v.parts.bytes v.parts.written_len v.parts.sealed v.parts.reserved i r first its.holds.own at in (
           done.0,
           done.1,
           fits-completed sum size v.parts.site device fault v.parts.bytes v.parts.written_len v.parts.sealed v.parts.reserved pins H A f U its _ _ _ _ done.0 m refl least (omega (arith, long, short)) ok done.2 done.1
-              (of_head sum size v.parts.site device fault _ _ _ _ done.0 done.2 m (added_there H done.0 m done.1) (omega (arith, near, short))) above own.fresh own.are out,
+              (of_head sum size v.parts.site device fault _ _ _ _ (logged done.0) done.2 m (added_there (logged H) (logged done.0) m put) (omega (arith, near, short))) above own.fresh own.are out,
         )
     complete_fits none (w ∷ ws) (suc k) place reach pins H A f U least ok out there facts fits =
         let its : FitsIn sum (parts_of w) (map parts_in (take k ws) ++ v.parts ∷ map parts_in (drop (suc k) ws)) reach pins H A f U = subst (λ (l : List SegmentParts). FitsIn sum (parts_of w) l reach pins H A f U) (parts_split ws k v there) fits in
         let short : length w.parts.bytes ≤ size = (facts zero w refl).short in
-        let now : History = completed_history sum size w.parts.site device fault w.parts.bytes w.parts.written_len w.parts.sealed w.parts.reserved H (map parts_in (take k ws)) v.parts (map parts_in (drop (suc k) ws)) its.holds short i r at is_open none in (
-          now,
-          adds_here sum size w.parts.site device fault w.parts.bytes w.parts.written_len w.parts.sealed w.parts.reserved H (map parts_in (take k ws)) v.parts (map parts_in (drop (suc k) ws)) its.holds short i r at is_open none,
-          subst (λ (l : List SegmentParts). FitsIn sum (parts_of w) l reach pins now A f (m ∷ U)) (sym (parts_set ws k v completed there))
-              (behind-fits-completed sum size w.parts.site device fault w.parts.bytes w.parts.written_len w.parts.sealed w.parts.reserved pins H A f U (map parts_in (take k ws)) v.parts (map parts_in (drop (suc k) ws)) its i r at is_open none least short ok (facts (suc k) v there).fresh out),
-        )
+        let done = behind-fits-completed sum size w.parts.site device fault w.parts.bytes w.parts.written_len w.parts.sealed w.parts.reserved pins H A f U (map parts_in (take k ws)) v.parts (map parts_in (drop (suc k) ws)) its i r at is_open none least short ok (facts (suc k) v there).fresh out in
+        (done.0, done.1, subst (λ (l : List SegmentParts). FitsIn sum (parts_of w) l reach pins done.0 A f (m ∷ U)) (sym (parts_set ws k v completed there)) done.2)
 
 -- The slots are those that they were.
 pub slots_set : (size : ℕ) (line : List SegmentView) (log : List ℕ) (fault : Option IoError) (m : Machine) (n : ℕ) (v w : SegmentView) → slice_get line n ≡ Some v → w.parts.site ≡ v.parts.site → HasSlots size line log fault m → HasSlots size (set line n w) log fault m
@@ -213,7 +213,7 @@ module _ (sum : List ℕ → ℕ) (size : ℕ) (device : State) (fault : Option 
   fits_aborted pins H A f U fits = record {
     reach = fits.reach;
     parts = abort_fits sum size device fault v i r at is_open line n fits.reach pins H A f U there (facts n v there) fits.parts;
-    batches = batches_set (ended_now i r (canceling sum v.parts.bytes r) Canceled v) refl refl H fits.batches;
+    batches = batches_set (ended_now i r (canceling sum v.parts.bytes r) Canceled v) refl refl (logged H) fits.batches;
     slots = slots_set size line device.log.bytes fault machine n v (ended_now i r (canceling sum v.parts.bytes r) Canceled v) there refl fits.slots;
     begun = λ none. subst (λ p. AreBegun sum size device.log.bytes p machine) (sym (first_set line n v (ended_now i r (canceling sum v.parts.bytes r) Canceled v) there refl)) (fits.begun none);
     entries = fits.entries;
@@ -237,16 +237,17 @@ module _ (sum : List ℕ → ℕ) (size : ℕ) (device : State) (fault : Option 
   pub fits_completed : is_manifest r.log_kind r.page ≡ false → (pins : ℕ) (H : History) (A f : ℕ) (U : List Message) → 256 ≤ size → fault ≡ None → 0 < pins → FitsWith sum noted size device fault line machine pins H A f U
       → (H' : History) × AddsMessage H (message_in v.parts.site v.parts.bytes r) H' × FitsWith sum noted size device fault (set line n (ended_now i r (completing r) Completed v)) machine pins H' A f (message_in v.parts.site v.parts.bytes r ∷ U)
   fits_completed none pins H A f U least ok out fits =
-      let done = complete_fits sum size device fault v i r at is_open none line n place fits.reach pins H A f U least ok out there facts fits.parts in (
+      let done = complete_fits sum size device fault v i r at is_open none line n place fits.reach pins H A f U least ok out there facts fits.parts in
+      let put = inline_logged H (message_in v.parts.site v.parts.bytes r) (v.parts.site.slot + r.from) done.0 refl done.1 in
+      let held = line_holds sum size device fault line fits.reach pins H A f U fits.parts in (
         done.0,
         done.1,
         record {
           reach = fits.reach;
           parts = done.2;
-          batches = batches_set (ended_now i r (completing r) Completed v) refl refl done.0 (batches_completed (written_to line) (line_end size line) noted H done.0 (message_in v.parts.site v.parts.bytes r) done.1 (beside H (line_holds sum size device fault line fits.reach pins H A f U fits.parts)) fits.batches);
+          batches = batches_set (ended_now i r (completing r) Completed v) refl refl (logged done.0) (batches_completed (written_to line) (line_end size line) noted (logged H) (logged done.0) (message_in v.parts.site v.parts.bytes r) put (beside (logged H) held) fits.batches);
           slots = slots_set size line device.log.bytes fault machine n v (ended_now i r (completing r) Completed v) there refl fits.slots;
           begun = λ none. subst (λ p. AreBegun sum size device.log.bytes p machine) (sym (first_set line n v (ended_now i r (completing r) Completed v) there refl)) (fits.begun none);
-          entries = entries_adds sum size device.snapshots.file H done.0 (message_in v.parts.site v.parts.bytes r) machine done.1 fits.entries
-              (newest_before H (line_holds sum size device fault line fits.reach pins H A f U fits.parts) fits.entries.first fits.entries.begins);
+          entries = entries_adds sum size device.snapshots.file (logged H) (logged done.0) (message_in v.parts.site v.parts.bytes r) machine put fits.entries (newest_before (logged H) held fits.entries.first fits.entries.begins);
         },
       )

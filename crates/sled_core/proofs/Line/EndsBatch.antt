@@ -14,6 +14,7 @@ use Rattle.sled_core.specs.declared.iobuf.Reserved.{Reserved}
 use Rattle.sled_core.specs.Begun.{SegmentView}
 use Rattle.sled_core.specs.Buffers.{marking}
 use Rattle.sled_core.specs.Fits.{FitsBatches, HoldBehind, HoldsLine, HoldsWith, line_end, parts_in, written_to}
+use Rattle.sled_core.specs.Logged.{logged}
 use Rattle.sled_core.specs.Manifests.{is_manifest}
 use Rattle.sled_core.specs.OpenBatches.{with_batch}
 use Rattle.sled_core.specs.Running.{FitsWith}
@@ -160,9 +161,9 @@ module _ (sum : List ℕ → ℕ) (size : ℕ) (device : State) (fault : Option 
       record {
         reach = fits.reach;
         parts = mark_fits sum size device fault v i r at is_open manifest peg small later line n place fits.reach pins H A f U least ok there facts offs
-            (λ placed. mark_placed sum size device fault v i r at is_open manifest peg small later line n place H there facts offs holds placed (others H fits.batches)) fits.parts;
-        batches = batches_now H holds fits.batches;
+            (λ placed. mark_placed sum size device fault v i r at is_open manifest peg small later line n place (logged H) there facts offs holds placed (others (logged H) fits.batches)) fits.parts;
+        batches = batches_now (logged H) holds fits.batches;
         slots = slots_set size line device.log.bytes fault machine n v (ended_now i r (marking sum v.parts.bytes r peg) Manifest v) there (λ j. v.parts.site) fits.slots;
         begun = λ none. subst (λ p. AreBegun sum size device.log.bytes p machine) (sym (first_set line n v (ended_now i r (marking sum v.parts.bytes r peg) Manifest v) there (λ j. v.parts.site))) (fits.begun none);
-        entries = entries_noted sum size device.snapshots.file H (noted_history H b) machine refl fits.entries;
+        entries = entries_noted sum size device.snapshots.file (logged H) (noted_history (logged H) b) machine refl fits.entries;
       }

@@ -10,6 +10,7 @@ use Rattle.sled_store.proofs.Traces.ScriptLemmas.{performs_throughout}
 use Rattle.sled_core.specs.Begun.{SegmentView}
 use Rattle.sled_core.specs.Fits.{HoldsLine, HoldsWith}
 use Rattle.sled_core.specs.FreeSlots.{HasSlots}
+use Rattle.sled_core.specs.Logged.{logged}
 use Rattle.sled_core.specs.OpenBatches.{stable_below}
 use Rattle.sled_core.specs.Recoverable.{LeavesRecoverable}
 use Rattle.sled_core.specs.Running.{FitsLine, FitsWith}
@@ -83,7 +84,7 @@ fits_with_kept sum noted size size' device new fault now line line' m m' pins pi
     batches = fits.batches;
     slots = slots_line_faulty size line device.log.bytes new.log.bytes fault m fits.slots e now is;
     begun = λ none. cc;
-    entries = subst (λ (s : State). HaveEntries sum size s.snapshots.file H m) (sym d) fits.entries;
+    entries = subst (λ (s : State). HaveEntries sum size s.snapshots.file (logged H) m) (sym d) fits.entries;
   }
 ])
 

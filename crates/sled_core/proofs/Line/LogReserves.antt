@@ -1,6 +1,7 @@
 -- A reservation is made in the segment that is being filled: where it is put, and what the log holds and fits then.
 use Rattle.std.proofs.Common.{◌≡◌, ◌∙◌, ◌<◌, ◌≤◌, ◌+◌, ◌-◌, ◌/◌, ◌^◌, nat_lt, ap, sym, refl, arith, subst, ℕ, Bool, true, false, if◌then◌else◌, List, [], ◌∷◌, ◌++◌, length, length-append, map, drop, Some, is_some, None}
 use Rattle.std.proofs.lemmas.Bool.Decides.{nat_tests}
+use Rattle.sled_core.specs.Logged.{logged}
 use Rattle.sled_core.specs.Manifests.{kind_for}
 use Rattle.sled_codec.specs.Spelling.{short_header_tail}
 use Rattle.sled_codec.specs.History.{Message}
@@ -181,15 +182,17 @@ module _ {D C : Type 0} (trace : D → Trace) (sum : List ℕ → ℕ) (old new 
         (ap (λ (x : RunningConfig D C). trace x.device) rest.config) (let same = reserves_synced in omega (arith, same));
     history = λ H holds. holds_as trace sum old new rest.config rest.fault (noted_in old) kept_noted (at_last (reserved_now more r) (line_of old)) line (machine_at old) machine H
         (record {
-          holds = line_reserved sum its_size more r (state_of (trace (device_of old))) (fault_of old) H v vs fits holds.holds;
-          batches = batches_up (written_to (line_of old)) (written_to (at_last (reserved_now more r) (line_of old))) (line_end its_size (line_of old)) (line_end its_size (at_last (reserved_now more r) (line_of old))) (noted_in old) H (let same = kept_written v vs in omega (arith, same)) (let same = end_last its_size (reserved_now more r) (λ _. refl) v vs in omega (arith, same)) holds.batches;
+          holds = line_reserved sum its_size more r (state_of (trace (device_of old))) (fault_of old) (logged H) v vs fits holds.holds;
+          batches = batches_up (written_to (line_of old)) (written_to (at_last (reserved_now more r) (line_of old))) (line_end its_size (line_of old)) (line_end its_size (at_last (reserved_now more r) (line_of old))) (noted_in old) (logged H) (let same = kept_written v vs in omega (arith, same))
+              (let same = end_last its_size (reserved_now more r) (λ _. refl) v vs in omega (arith, same)) holds.batches;
           slots = slots_reserved sum its_size more r (line_of old) (state_of (trace (device_of old))).log.bytes (fault_of old) (machine_at old) holds.slots;
         });
     fits = λ H A f U its. fits_as trace sum old new rest.config rest.fault (noted_in old) kept_noted (at_last (reserved_now more r) (line_of old)) line (machine_at old) machine H A f U rest.pins
         (record {
           reach = its.reach;
           parts = line_fits_reserved sum its_size more r (state_of (trace (device_of old))) (fault_of old) its.reach (pins_of old) H A f U v vs fits its.parts;
-          batches = batches_up (written_to (line_of old)) (written_to (at_last (reserved_now more r) (line_of old))) (line_end its_size (line_of old)) (line_end its_size (at_last (reserved_now more r) (line_of old))) (noted_in old) H (let same = kept_written v vs in omega (arith, same)) (let same = end_last its_size (reserved_now more r) (λ _. refl) v vs in omega (arith, same)) its.batches;
+          batches = batches_up (written_to (line_of old)) (written_to (at_last (reserved_now more r) (line_of old))) (line_end its_size (line_of old)) (line_end its_size (at_last (reserved_now more r) (line_of old))) (noted_in old) (logged H) (let same = kept_written v vs in omega (arith, same))
+              (let same = end_last its_size (reserved_now more r) (λ _. refl) v vs in omega (arith, same)) its.batches;
           slots = slots_reserved sum its_size more r (line_of old) (state_of (trace (device_of old))).log.bytes (fault_of old) (machine_at old) its.slots;
           begun = λ none. subst (λ p. AreBegun sum its_size (state_of (trace (device_of old))).log.bytes p (machine_at old)) (sym (first_at_last (reserved_now more r) (λ _. refl) (line_of old))) (its.begun none);
           entries = its.entries;

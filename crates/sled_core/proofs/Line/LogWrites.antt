@@ -11,6 +11,7 @@ use Rattle.sled_store.specs.Script.{Along, Performs, after_all}
 use Rattle.sled_store.specs.SegmentStates.{Machine}
 use Rattle.sled_store.proofs.Traces.MomentLemmas.{at_last, weaker}
 use Rattle.sled_store.proofs.Traces.ScriptLemmas.{performs_throughout}
+use Rattle.sled_core.specs.Logged.{logged}
 use Rattle.sled_core.specs.OpenBatches.{not_whole, stable_below}
 use Rattle.sled_core.specs.Begun.{AreFilled, FollowOn, SegmentView, line_at, segment_view, view_at}
 use Rattle.sled_core.specs.declared.iobuf.IoBuf.{IoBuf}
@@ -159,12 +160,12 @@ module _ {D C : Type 0} (log : Log D C) (n k : ℕ) (r : IsReadyIn (line_of log)
         (subst (λ (es : List Event). Performs es before new) calls came)
 
     -- Once they were made up to one that failed it holds and fits the same.
-    pub holds_failed : (new : Trace) → Performs (write_in line n k) before new → (now : Option IoError) → (now ≡ None → new ≡ before) → (H : History) → Holds trace sum log H → HoldsWith sum (noted_in log) size (state_of new) now line slots H
+    pub holds_failed : (new : Trace) → Performs (write_in line n k) before new → (now : Option IoError) → (now ≡ None → new ≡ before) → (H : History) → Holds trace sum log H → HoldsWith sum (noted_in log) size (state_of new) now line slots (logged H)
     unfolding Holds
     holds_failed new came now same H holds = elim (fault_or_none now) [
-      | inl none ↦ holds_with_device sum (noted_in log) size device (state_of new) log.fault now line slots H (ap state_of (same none)) (none ∙ sym whole) holds
+      | inl none ↦ holds_with_device sum (noted_in log) size device (state_of new) log.fault now line slots (logged H) (ap state_of (same none)) (none ∙ sym whole) holds
       | inr some ↦ record {
-        holds = holds_line_faulty sum size device log.fault line H holds.holds (state_of new) some.0 now some.1 (names new came).1;
+        holds = holds_line_faulty sum size device log.fault line (logged H) holds.holds (state_of new) some.0 now some.1 (names new came).1;
         batches = holds.batches;
         slots = slots_line_faulty size line device.log.bytes (state_of new).log.bytes log.fault slots holds.slots some.0 now some.1;
       }
@@ -181,7 +182,7 @@ module _ {D C : Type 0} (log : Log D C) (n k : ℕ) (r : IsReadyIn (line_of log)
         batches = fits.batches;
         slots = slots_line_faulty size line device.log.bytes (state_of new).log.bytes log.fault slots fits.slots some.0 now some.1;
         begun = λ none. let never = some.1 in cc;
-        entries = subst (λ (s : NamesState). HaveEntries sum size s.file H slots) (sym (names new came).1) fits.entries;
+        entries = subst (λ (s : NamesState). HaveEntries sum size s.file (logged H) slots) (sym (names new came).1) fits.entries;
       }
     ]
 
@@ -189,14 +190,14 @@ module _ {D C : Type 0} (log : Log D C) (n k : ℕ) (r : IsReadyIn (line_of log)
     made : (new : Trace) → new ≡ after_all (write_in line n k) before → new ≡ after_all (buffer_calls sum size log.config.config.least device log.fault whole v k r.buffer r.there r.ready) before
     made new came = came ∙ ap (λ (es : List Event). after_all es before) calls
 
-    pub holds_done : (new : Trace) → new ≡ after_all (write_in line n k) before → (now : Option IoError) → now ≡ None → (H : History) → Holds trace sum log H → HoldsWith sum noted_left size (state_of new) now line_left slots H
+    pub holds_done : (new : Trace) → new ≡ after_all (write_in line n k) before → (now : Option IoError) → now ≡ None → (H : History) → Holds trace sum log H → HoldsWith sum noted_left size (state_of new) now line_left slots (logged H)
     unfolding Holds
     holds_done new came now none H holds =
-        subst (λ (o : Option IoError). HoldsWith sum noted_left size (state_of new) o line_left slots H) (whole ∙ sym none)
-        (subst (λ (t : Trace). HoldsWith sum noted_left size (state_of t) log.fault line_left slots H) (sym (made new came)) (record {
-          holds = holds_promoted sum size (buffer_synced sum size log.config.config.least device log.fault whole v k r.buffer r.there r.ready) log.fault H log.config.config.least log.site.place line_written segments_written
-              (holds_write sum size log.config.config.least device log.fault whole v k r.buffer r.there r.ready log.site.place line (line_segments log) n r.among H holds.holds);
-          batches = batches_after H holds.batches;
+        subst (λ (o : Option IoError). HoldsWith sum noted_left size (state_of new) o line_left slots (logged H)) (whole ∙ sym none)
+        (subst (λ (t : Trace). HoldsWith sum noted_left size (state_of t) log.fault line_left slots (logged H)) (sym (made new came)) (record {
+          holds = holds_promoted sum size (buffer_synced sum size log.config.config.least device log.fault whole v k r.buffer r.there r.ready) log.fault (logged H) log.config.config.least log.site.place line_written segments_written
+              (holds_write sum size log.config.config.least device log.fault whole v k r.buffer r.there r.ready log.site.place line (line_segments log) n r.among (logged H) holds.holds);
+          batches = batches_after (logged H) holds.batches;
           slots = slots_write sum size log.config.config.least device log.fault whole v k r.buffer r.there r.ready log.site.place line (line_segments log) n r.among slots log.fault holds.slots;
         }))
 
@@ -208,9 +209,9 @@ module _ {D C : Type 0} (log : Log D C) (n k : ℕ) (r : IsReadyIn (line_of log)
         (subst (λ (t : Trace). FitsWith sum noted_left size (state_of t) None line_left slots log.pins H A f U) (sym (made new came)) (record {
           reach = after.0;
           parts = after.1;
-          batches = batches_after H fits.batches;
+          batches = batches_after (logged H) fits.batches;
           slots = slots_write sum size log.config.config.least device log.fault whole v k r.buffer r.there r.ready log.site.place line (line_segments log) n r.among slots None fits.slots;
-          begun = λ none. begun_write sum size log.config.config.least device log.fault whole v k r.buffer r.there r.ready log.site.place line (line_segments log) n r.among slots fits.slots H
+          begun = λ none. begun_write sum size log.config.config.least device log.fault whole v k r.buffer r.there r.ready log.site.place line (line_segments log) n r.among slots fits.slots (logged H)
               (line_holds sum size device log.fault line fits.reach log.pins H A f U fits.parts) (fits.begun whole);
           entries = fits.entries;
         }))

@@ -8,18 +8,19 @@ use Rattle.sled_store.specs.SegmentStates.{Machine}
 use Rattle.sled_core.specs.Begun.{SegmentView}
 use Rattle.sled_core.specs.declared.logger.Log.{Log}
 use Rattle.sled_core.specs.Fits.{Holds, HoldsWith, config_of, device_of, fault_of, line_of, machine_at, noted_in, pins_of, segment_size_of}
+use Rattle.sled_core.specs.Logged.{logged}
 use Rattle.sled_core.specs.Running.{Fits, FitsWith}
 
 module _ {D C : Type 0} (trace : D → Trace) (sum : List ℕ → ℕ) (old new : Log D C) (config : config_of new ≡ config_of old) (fault : fault_of new ≡ fault_of old) (bs : List Batch) (noted : noted_in new ≡ bs)
     (line : List SegmentView) (is_line : line_of new ≡ line) (m : Machine) (is_machine : machine_at new ≡ m) (H : History) where
-  pub holds_as : HoldsWith sum bs (segment_size_of old) (state_of (trace (device_of old))) (fault_of old) line m H → Holds trace sum new H
+  pub holds_as : HoldsWith sum bs (segment_size_of old) (state_of (trace (device_of old))) (fault_of old) line m (logged H) → Holds trace sum new H
   unfolding Holds
   holds_as holds =
-      subst (λ (x : RunningConfig D C). HoldsWith sum (noted_in new) x.config.segment_size (state_of (trace x.device)) (fault_of new) (line_of new) (machine_at new) H) (sym config)
-      (subst (λ (e : Option IoError). HoldsWith sum (noted_in new) (segment_size_of old) (state_of (trace (device_of old))) e (line_of new) (machine_at new) H) (sym fault)
-      (subst (λ (l : List SegmentView). HoldsWith sum (noted_in new) (segment_size_of old) (state_of (trace (device_of old))) (fault_of old) l (machine_at new) H) (sym is_line)
-      (subst (λ (x : Machine). HoldsWith sum (noted_in new) (segment_size_of old) (state_of (trace (device_of old))) (fault_of old) line x H) (sym is_machine)
-      (subst (λ (l : List Batch). HoldsWith sum l (segment_size_of old) (state_of (trace (device_of old))) (fault_of old) line m H) (sym noted) holds))))
+      subst (λ (x : RunningConfig D C). HoldsWith sum (noted_in new) x.config.segment_size (state_of (trace x.device)) (fault_of new) (line_of new) (machine_at new) (logged H)) (sym config)
+      (subst (λ (e : Option IoError). HoldsWith sum (noted_in new) (segment_size_of old) (state_of (trace (device_of old))) e (line_of new) (machine_at new) (logged H)) (sym fault)
+      (subst (λ (l : List SegmentView). HoldsWith sum (noted_in new) (segment_size_of old) (state_of (trace (device_of old))) (fault_of old) l (machine_at new) (logged H)) (sym is_line)
+      (subst (λ (x : Machine). HoldsWith sum (noted_in new) (segment_size_of old) (state_of (trace (device_of old))) (fault_of old) line x (logged H)) (sym is_machine)
+      (subst (λ (l : List Batch). HoldsWith sum l (segment_size_of old) (state_of (trace (device_of old))) (fault_of old) line m (logged H)) (sym noted) holds))))
 
   pub fits_as : (A f : ℕ) (U : List Message) → pins_of new ≡ pins_of old → FitsWith sum bs (segment_size_of old) (state_of (trace (device_of old))) (fault_of old) line m (pins_of old) H A f U → Fits trace sum new H A f U
   unfolding Fits

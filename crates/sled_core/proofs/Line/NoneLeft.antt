@@ -14,6 +14,7 @@ use Rattle.sled_core.specs.declared.logger.batches.NotedBatch.{NotedBatch}
 use Rattle.sled_core.specs.declared.logger.Log.{Log}
 use Rattle.sled_core.specs.declared.logger.segments.SegmentBuffer.{SegmentBuffer}
 use Rattle.sled_core.specs.Fits.{CloseBelow, Holds, HoldsIn, IsWritten, fault_of, line_end, line_of, log_parts, noted_in, parts_in, reserved_end, stable_end, synced_end}
+use Rattle.sled_core.specs.Logged.{logged}
 use Rattle.sled_core.specs.OpenBatches.{batch_of}
 use Rattle.sled_core.specs.SealedBuffers.{AreSealed}
 use Rattle.sled_core.proofs.Flush.FlushLemmas.{all_kept}
@@ -81,6 +82,6 @@ all_written trace sum log all whole H holds =
     let left = none_left log all in
     let size : ℕ = log.config.config.segment_size in
     let inside = written_behind log.buffer in
-    all_kept sum size log.site (state_of (trace log.config.device)) log.fault log.buffer.bytes.items log.buffer.written_len log.buffer.sealed.items log.buffer.reserved.items H
-    (subst (λ (ss : List SegmentBuffer). HoldsIn sum (log_parts size log.site (state_of (trace log.config.device)) log.fault log.buffer.bytes.items log.buffer.written_len log.buffer.sealed.items log.buffer.reserved.items) (map parts_in (map segment_view ss)) H) left.0 holds.holds)
+    all_kept sum size log.site (state_of (trace log.config.device)) log.fault log.buffer.bytes.items log.buffer.written_len log.buffer.sealed.items log.buffer.reserved.items (logged H)
+    (subst (λ (ss : List SegmentBuffer). HoldsIn sum (log_parts size log.site (state_of (trace log.config.device)) log.fault log.buffer.bytes.items log.buffer.written_len log.buffer.sealed.items log.buffer.reserved.items) (map parts_in (map segment_view ss)) (logged H)) left.0 holds.holds)
     (all_ended trace sum log all left.1 left.0 H holds) left.1 whole log.place_in_reach (omega (arith, inside, log.in_segment)) log.buffer.head log.buffer.are

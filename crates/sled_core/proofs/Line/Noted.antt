@@ -10,6 +10,7 @@ use Rattle.sled_core.specs.declared.iobuf.Reserved.{Reserved}
 use Rattle.sled_core.specs.Begun.{SegmentParts, SegmentView}
 use Rattle.sled_core.specs.Buffers.{marking}
 use Rattle.sled_core.specs.Fits.{HoldsIn, HoldsLine, LogParts, log_parts, parts_in}
+use Rattle.sled_core.specs.Logged.{logged}
 use Rattle.sled_core.specs.Manifests.{is_manifest}
 use Rattle.sled_core.specs.Recoverable.{BeginsInSegment, IsPlacedBatch}
 use Rattle.sled_core.specs.Running.{FitsIn, FitsLine}
@@ -94,7 +95,8 @@ module _ (sum : List ℕ → ℕ) (size : ℕ) (device : State) (fault : Option 
     -- The segments fit the history with the batch.
     pub mark_fits : (line : List SegmentView) (n place reach pins : ℕ) (H : History) (A f : ℕ) (U : List Message) → 256 ≤ size → fault ≡ None → slice_get line n ≡ Some v
         → ((k : ℕ) (x : SegmentView) → slice_get line k ≡ Some x → IsSegment size (place + k * size) x) → ((k : ℕ) (x : SegmentView) → slice_get line k ≡ Some x → IsOff size peg x.parts)
-        → (((c : Batch) → Contains H.batches c → IsPlacedBatch size H c) → (c : Batch) → Contains (noted_history H (record { low = v.parts.site.place + r.from; peg = peg })).batches c → IsPlacedBatch size (noted_history H (record { low = v.parts.site.place + r.from; peg = peg })) c)
+        → (((c : Batch) → Contains H.batches c → IsPlacedBatch size (logged H) c) → (c : Batch) → Contains (noted_history H (record { low = v.parts.site.place + r.from; peg = peg })).batches c
+        → IsPlacedBatch size (noted_history (logged H) (record { low = v.parts.site.place + r.from; peg = peg })) c)
         → FitsLine sum size device fault line reach pins H A f U
         → FitsLine sum size device fault (set line n (ended_now i r (marking sum v.parts.bytes r peg) Manifest v)) reach pins (noted_history H (record { low = v.parts.site.place + r.from; peg = peg })) A f U
     mark_fits [] n place reach pins H A f U least ok there facts offs placing fits = cc
@@ -103,13 +105,15 @@ module _ (sum : List ℕ → ℕ) (size : ℕ) (device : State) (fault : Option 
         let its : FitsLine sum size device fault (v ∷ ws) reach pins H A f U = subst (λ (x : SegmentView). FitsLine sum size device fault (x ∷ ws) reach pins H A f U) same fits in
         let own = facts zero v there in
         let reached = behind_reach w ws place facts in
-        let long = first_long sum size v.parts.site device fault v.parts.bytes v.parts.written_len v.parts.sealed v.parts.reserved H its.holds own.short reached i r at is_open manifest own.are peg small later (offs zero v there).off (all_off size peg ws (λ k x among. offs (suc k) x among)) in
+        let long = first_long sum size v.parts.site device fault v.parts.bytes v.parts.written_len v.parts.sealed v.parts.reserved (logged H) its.holds own.short reached i r at is_open manifest own.are peg small later (offs zero v there).off
+        (all_off size peg ws (λ k x among. offs (suc k) x among)) in
         let short = own.short in
         fits-marked sum size v.parts.site device fault v.parts.bytes v.parts.written_len v.parts.sealed v.parts.reserved pins H A f U its _ _ _ _ (noted_history H b) b refl least (omega (arith, long, short)) ok
-        (holds-marked sum size v.parts.site device fault v.parts.bytes v.parts.written_len v.parts.sealed v.parts.reserved H its.holds own.short reached i r at is_open manifest own.are peg small later (offs zero v there).off (all_off size peg ws (λ k x among. offs (suc k) x among)))
+        (holds-marked sum size v.parts.site device fault v.parts.bytes v.parts.written_len v.parts.sealed v.parts.reserved (logged H) its.holds own.short reached i r at is_open manifest own.are peg small later (offs zero v there).off (all_off size peg ws (λ k x among. offs (suc k) x among)))
         (noted_adds H b later) placing later (all_off size peg ws (λ k x among. offs (suc k) x among))
-        (first_above sum size v.parts.site device fault v.parts.bytes v.parts.written_len v.parts.sealed v.parts.reserved H its.holds own.short reached i r at is_open manifest own.are peg small later (offs zero v there).off (all_off size peg ws (λ k x among. offs (suc k) x among)))
-        (first_inside sum size v.parts.site device fault v.parts.bytes v.parts.written_len v.parts.sealed v.parts.reserved H its.holds own.short reached i r at is_open manifest own.are peg small later (offs zero v there).off (all_off size peg ws (λ k x among. offs (suc k) x among))) own.fresh own.are
+        (first_above sum size v.parts.site device fault v.parts.bytes v.parts.written_len v.parts.sealed v.parts.reserved (logged H) its.holds own.short reached i r at is_open manifest own.are peg small later (offs zero v there).off (all_off size peg ws (λ k x among. offs (suc k) x among)))
+        (first_inside sum size v.parts.site device fault v.parts.bytes v.parts.written_len v.parts.sealed v.parts.reserved (logged H) its.holds own.short reached i r at is_open manifest own.are peg small later (offs zero v there).off
+        (all_off size peg ws (λ k x among. offs (suc k) x among))) own.fresh own.are
     mark_fits (w ∷ ws) (suc k) place reach pins H A f U least ok there facts offs placing fits =
         let pre : List SegmentParts = map parts_in (take k ws) in
         let post : List SegmentParts = map parts_in (drop (suc k) ws) in
@@ -119,8 +123,11 @@ module _ (sum : List ℕ → ℕ) (size : ℕ) (device : State) (fault : Option 
         subst (λ (l : List SegmentParts). FitsIn sum (parts_of w) l reach pins (noted_history H b) A f U) (sym (parts_set ws k v noted there))
         (behind-fits-marked sum size w.parts.site device fault w.parts.bytes w.parts.written_len w.parts.sealed w.parts.reserved pins H A f U pre v.parts post its noted.parts refl refl refl
         (noted_history H b) b least short ok
-        (behind-holds-marked sum size w.parts.site device fault w.parts.bytes w.parts.written_len w.parts.sealed w.parts.reserved H pre v.parts post its.holds short reached i r at is_open manifest peg small later (offs zero w refl).off (subst (All (IsOff size peg)) (parts_split ws k v there) (all_off size peg ws (λ j x among. offs (suc j) x among))))
+        (behind-holds-marked sum size w.parts.site device fault w.parts.bytes w.parts.written_len w.parts.sealed w.parts.reserved (logged H) pre v.parts post its.holds short reached i r at is_open manifest peg small later (offs zero w refl).off
+        (subst (All (IsOff size peg)) (parts_split ws k v there) (all_off size peg ws (λ j x among. offs (suc j) x among))))
         (noted_adds H b later) placing later (subst (All (IsOff size peg)) (parts_split ws k v there) (all_off size peg ws (λ j x among. offs (suc j) x among)))
-        (batch_above sum size w.parts.site device fault w.parts.bytes w.parts.written_len w.parts.sealed w.parts.reserved H pre v.parts post its.holds short reached i r at is_open manifest peg small later (offs zero w refl).off (subst (All (IsOff size peg)) (parts_split ws k v there) (all_off size peg ws (λ j x among. offs (suc j) x among))))
-        (batch_inside sum size w.parts.site device fault w.parts.bytes w.parts.written_len w.parts.sealed w.parts.reserved H pre v.parts post its.holds short reached i r at is_open manifest peg small later (offs zero w refl).off (subst (All (IsOff size peg)) (parts_split ws k v there) (all_off size peg ws (λ j x among. offs (suc j) x among))))
+        (batch_above sum size w.parts.site device fault w.parts.bytes w.parts.written_len w.parts.sealed w.parts.reserved (logged H) pre v.parts post its.holds short reached i r at is_open manifest peg small later (offs zero w refl).off
+        (subst (All (IsOff size peg)) (parts_split ws k v there) (all_off size peg ws (λ j x among. offs (suc j) x among))))
+        (batch_inside sum size w.parts.site device fault w.parts.bytes w.parts.written_len w.parts.sealed w.parts.reserved (logged H) pre v.parts post its.holds short reached i r at is_open manifest peg small later (offs zero w refl).off
+        (subst (All (IsOff size peg)) (parts_split ws k v there) (all_off size peg ws (λ j x among. offs (suc j) x among))))
         (facts (suc k) v there).fresh)

@@ -9,7 +9,7 @@ use Rattle.sled_codec.specs.declared.result.Error.{Error}
 use Rattle.sled_codec.specs.declared.result.Error.TheVariants.{Corruption, Held, Io, NotReserved, OutOfMemory, PlacesUsedUp}
 use Rattle.sled_codec.specs.declared.result.DiskPtr.TheVariants.{Inline}
 use Rattle.sled_codec.specs.Errors.{IsCorruption}
-use Rattle.sled_codec.specs.History.{Message, History}
+use Rattle.sled_codec.specs.History.{Message, History, table}
 use Rattle.sled_codec.specs.Places.{MayBegin}
 use Rattle.sled_codec.specs.Snapshots.{SnapshotModel, stable_place}
 use Rattle.sled_store.specs.Device.{NamesState, State, Trace, state_of}
@@ -22,6 +22,7 @@ use Rattle.sled_core.specs.Causes.{HeldAnswers, IsHeld, OnDone, RecordAnswers}
 use Rattle.sled_core.specs.declared.logger.Log.{Log}
 use Rattle.sled_core.specs.Fits.{HasRecordOf, Holds, HoldsLine, current_begin, device_of, fault_of, line_of, reserved_end, segment_size_of, start_of, synced_end, waiting_of}
 use Rattle.sled_core.specs.LogFile.{StaysFrom}
+use Rattle.sled_core.specs.Logged.{in_log, logged}
 use Rattle.sled_core.specs.ReadBuffer.{IsWrittenPlace, LeavesWritten, ReadAnswers, RefusesPlace, SealsAround, Settles, WritesAround, held_at, settling}
 use Rattle.sled_core.specs.Reading.{IsNoPlace}
 use Rattle.sled_core.specs.Running.{Fits}
@@ -34,6 +35,7 @@ use Rattle.sled_core.proofs.Line.Outcomes.{all_done, all_err, all_ok, held_alike
 use Rattle.sled_core.proofs.Line.Records.{IsHeldAt, entry_stays, first_stable, line_begins, line_record}
 use Rattle.sled_core.proofs.Line.Segments.{line_segments}
 use Rattle.sled_core.proofs.Line.Settles.{stable_written}
+use Rattle.sled_core.proofs.Logged.Messages.{in_map, inline_same, inline_there, table_logged}
 use Rattle.sled_core.proofs.Stable.EndLemmas.{or_beyond}
 
 -- The calls that settle a place leave the snapshots as they were.
@@ -71,6 +73,13 @@ module _ {D C : Type 0} (sum : List ℕ → ℕ) (log : Log D C) (device : State
       line_record sum (segment_size_of log) device log.reserved_to log.site.place (view_at log.site log.buffer) (map segment_view log.behind.items) (line_segments log) H holds log.filled m there has written.0
       (none_is _ (sym (none_found m.place (waiting_of log)) ∙ written.1)) lid pointer
 
+-- A log has the record of a message with its item in it in what it has of the history, too.
+inline_record : {D C : Type 0} (log : Log D C) (H : History) (m : Message) (lid : ℕ) → m.pointer ≡ Inline lid → HasRecordOf log H m → HasRecordOf log (logged H) m
+inline_record log H m lid inline (inl above) = inl above
+inline_record log H m lid inline (inr (cut, far, entry)) =
+    let there : Contains (map in_log (table H cut m.page)) m = subst (Contains (map in_log (table H cut m.page))) (inline_same m lid inline) (in_map in_log (table H cut m.page) m entry) in
+    inr (cut, far, subst (λ (l : List Message). Contains l m) (sym (table_logged H cut m.page)) there)
+
 -- At the pointer of a message that a log has the record of a record may begin, where the log keeps no failure.
 pub fits_begins : {D C : Type 0} (trace : D → Trace) (sum : List ℕ → ℕ) (log : Log D C) (H : History) (A f : ℕ) (U : List Message) → Fits trace sum log H A f U → fault_of log ≡ None → (m : Message) → Contains H.messages m → HasRecordOf log H m
     → (lid : ℕ) → m.pointer ≡ Inline lid → MayBegin (segment_size_of log) lid
@@ -78,8 +87,9 @@ unfolding Fits
 fits_begins trace sum log H A f U fits none m there has lid pointer =
     let size : ℕ = segment_size_of log in
     let device : State = state_of (trace log.config.device) in
-    let holds : HoldsLine sum size device None (line_of log) H = subst (λ (o : Option IoError). HoldsLine sum size device o (line_of log) H) none fits.parts.holds in
-    line_begins sum size device 0 log.site.place (view_at log.site log.buffer) (map segment_view log.behind.items) (line_segments log) H holds m there (has_record sum log device H holds m there has) lid pointer
+    let holds : HoldsLine sum size device None (line_of log) (logged H) = subst (λ (o : Option IoError). HoldsLine sum size device o (line_of log) (logged H)) none fits.parts.holds in
+    let known : Contains (logged H).messages m = inline_there H m lid pointer there in
+    line_begins sum size device 0 log.site.place (view_at log.site log.buffer) (map segment_view log.behind.items) (line_segments log) (logged H) holds m known (has_record sum log device (logged H) holds m known (inline_record log H m lid pointer has)) lid pointer
 
 -- The record of a message of the history stands where its pointer says, once its place was brought to the device.
 pub settled_record : {D C : Type 0} (trace : D → Trace) (sum : List ℕ → ℕ) (old mid : Log D C) (H : History) (m : Message) → Holds trace sum old H → Holds trace sum mid H → fault_of old ≡ None → fault_of mid ≡ None → Contains H.messages m → HasRecordOf old H m
@@ -89,15 +99,17 @@ unfolding Holds
 settled_record {D} {C} trace sum old mid H m before after whole whole_now there has written still names lid pointer =
     let device : State = state_of (trace (device_of old)) in
     let now : State = state_of (trace (device_of mid)) in
-    let first : HoldsLine sum (segment_size_of old) device None (line_of old) H = subst (λ (o : Option IoError). HoldsLine sum (segment_size_of old) device o (line_of old) H) whole before.holds in
-    let later : HoldsLine sum (segment_size_of mid) now None (line_of mid) H = subst (λ (o : Option IoError). HoldsLine sum (segment_size_of mid) now o (line_of mid) H) whole_now after.holds in
+    let first : HoldsLine sum (segment_size_of old) device None (line_of old) (logged H) = subst (λ (o : Option IoError). HoldsLine sum (segment_size_of old) device o (line_of old) (logged H)) whole before.holds in
+    let later : HoldsLine sum (segment_size_of mid) now None (line_of mid) (logged H) = subst (λ (o : Option IoError). HoldsLine sum (segment_size_of mid) now o (line_of mid) (logged H)) whole_now after.holds in
     let reached = first.begun.reached in
+    let known : Contains (logged H).messages m = inline_there H m lid pointer there in
     elim (cases_lt m.place (synced_end old)) [
-      | inl below ↦ subst (λ (l : Log D C). IsHeldAt sum (segment_size_of l) (state_of (trace (device_of l))).log.bytes lid m) (sym (still below)) (its_record sum old device H first m there (has_record sum old device H first m there has) (stable_written old m.place below) lid pointer)
+      | inl below ↦ subst (λ (l : Log D C). IsHeldAt sum (segment_size_of l) (state_of (trace (device_of l))).log.bytes lid m) (sym (still below))
+          (its_record sum old device (logged H) first m known (has_record sum old device (logged H) first m known (inline_record old H m lid pointer has)) (stable_written old m.place below) lid pointer)
       | inr above ↦ (
           let same : later.begun.first ≡ first.begun.first = one_begin sum _ later.begun.first first.begun.first later.begun.begins (subst (λ (s : NamesState). BeginsFrom sum s.file first.begun.first) (sym names) first.begun.begins) in
           let low : stable_place later.begun.first.stable ≡ stable_place first.begun.first.stable = ap (λ (x : SnapshotModel). stable_place x.stable) same in
-          its_record sum mid now H later m there (inr (inr (omega (arith, low, reached, above), there))) written lid pointer)
+          its_record sum mid now (logged H) later m known (inr (inr (omega (arith, low, reached, above), known))) written lid pointer)
     ]
 
 -- What a read answers of a place that was reserved, where that isn't brought to the device.

@@ -15,6 +15,7 @@ use Rattle.sled_core.specs.declared.iobuf.SegmentPosition.{SegmentPosition}
 use Rattle.sled_core.specs.declared.reservation.Reservation.{Reservation}
 use Rattle.sled_core.specs.Fits.{AwaitsIn, HoldsIn, HoldsLine, log_parts, parts_in}
 use Rattle.sled_core.specs.FreeSlots.{HasSlot, HasSlots, HaveOwn}
+use Rattle.sled_core.specs.Logged.{logged}
 use Rattle.sled_core.specs.Running.{FitsIn, FitsLine}
 use Rattle.sled_core.specs.SealedBuffers.{AreSealed, sealed_end}
 use Rattle.sled_core.specs.Tickets.{IsFor, index_of}
@@ -79,7 +80,7 @@ module _ (sum : List ℕ → ℕ) (size : ℕ) (more : List ℕ) (r : Reserved) 
         → FitsLine sum size device fault (at_last now (v ∷ vs)) reach pins H A f U
     line_fits_reserved reach pins H A f U = by_last (λ line. FitsLine sum size device fault line reach pins H A f U) (HasPlaceFor sum size more r) now
         (λ v its fits. fits-moved sum size v.parts.site device fault v.parts.bytes v.parts.written_len v.parts.sealed v.parts.reserved pins H A f U fits (v.parts.bytes ++ more) v.parts.written_len v.parts.sealed (v.parts.reserved ++ r ∷ []) refl
-        (first_reserved H v its fits.holds))
+        (first_reserved (logged H) v its fits.holds))
         (λ v pre w its fits. subst (λ (ss : List SegmentParts). FitsIn sum (log_parts size v.parts.site device fault v.parts.bytes v.parts.written_len v.parts.sealed v.parts.reserved) ss reach pins H A f U) (sym (map-append parts_in pre (now w ∷ [])))
         (behind-fits-reserved sum size v.parts.site device fault v.parts.bytes v.parts.written_len v.parts.sealed v.parts.reserved pins H A f U (map parts_in pre) w.parts []
         (subst (λ (ss : List SegmentParts). FitsIn sum (log_parts size v.parts.site device fault v.parts.bytes v.parts.written_len v.parts.sealed v.parts.reserved) ss reach pins H A f U) (map-append parts_in pre (w ∷ [])) fits)

@@ -14,6 +14,7 @@ use Rattle.sled_core.specs.declared.reservation.Reservation.{Reservation}
 use Rattle.sled_core.specs.Fits.{written_to, AwaitsIn, Holds, HoldsIn, HoldsLine, KeepsAll, KeepsTickets, buffers_of, current_begin, current_of, device_of, fault_of, line_end, line_of, noted_in, log_parts, machine_at, parts_in, pins_of, segment_size_of, synced_end, waiting_of}
 use Rattle.sled_core.specs.FreeSlots.{HasSlot, HasSlots, HaveOwn}
 use Rattle.sled_core.specs.Keeps.{Preserves, SamePosition}
+use Rattle.sled_core.specs.Logged.{logged}
 use Rattle.sled_core.specs.OpenPlaces.{open_places_along}
 use Rattle.sled_core.specs.Positions.{is_short, position_in}
 use Rattle.sled_core.specs.Running.{Fits, FitsIn, FitsLine}
@@ -58,7 +59,7 @@ module _ (sum : List ℕ → ℕ) (size : ℕ) (device : State) (fault : Option 
       → FitsLine sum size device fault (at_last sealed_now (v ∷ vs)) reach pins H A f U
   line_fits_sealed reach pins H A f U = by_last (λ line. FitsLine sum size device fault line reach pins H A f U) (IsFilledSome size) sealed_now
       (λ v its fits. fits-moved sum size v.parts.site device fault v.parts.bytes v.parts.written_len v.parts.sealed v.parts.reserved pins H A f U fits v.parts.bytes v.parts.written_len (sealed_now v).parts.sealed v.parts.reserved refl
-      (first_sealed H v its fits.holds))
+      (first_sealed (logged H) v its fits.holds))
       (λ v pre w its fits. subst (λ (ss : List SegmentParts). FitsIn sum (log_parts size v.parts.site device fault v.parts.bytes v.parts.written_len v.parts.sealed v.parts.reserved) ss reach pins H A f U) (sym (map-append parts_in pre (sealed_now w ∷ [])))
       (behind-fits-sealed sum size v.parts.site device fault v.parts.bytes v.parts.written_len v.parts.sealed v.parts.reserved pins H A f U (map parts_in pre) w.parts []
       (subst (λ (ss : List SegmentParts). FitsIn sum (log_parts size v.parts.site device fault v.parts.bytes v.parts.written_len v.parts.sealed v.parts.reserved) ss reach pins H A f U) (map-append parts_in pre (w ∷ [])) fits) its.some))
@@ -146,15 +147,17 @@ module _ {D C : Type 0} (trace : D → Trace) (sum : List ℕ → ℕ) (old new 
         (ap (λ (x : RunningConfig D C). trace x.device) rest.config) (let same = sealed_synced in omega (arith, same));
     history = λ H holds. holds_as trace sum old new rest.config rest.fault (noted_in old) kept_noted (at_last sealed_now (line_of old)) line (machine_at old) machine H
         (record {
-          holds = line_sealed sum size (state_of (trace (device_of old))) (fault_of old) H v vs its holds.holds;
-          batches = batches_up (written_to (line_of old)) (written_to (at_last sealed_now (line_of old))) (line_end size (line_of old)) (line_end size (at_last sealed_now (line_of old))) (noted_in old) H (let same = kept_written v vs in omega (arith, same)) (let same = end_last size sealed_now (λ _. refl) v vs in omega (arith, same)) holds.batches;
+          holds = line_sealed sum size (state_of (trace (device_of old))) (fault_of old) (logged H) v vs its holds.holds;
+          batches = batches_up (written_to (line_of old)) (written_to (at_last sealed_now (line_of old))) (line_end size (line_of old)) (line_end size (at_last sealed_now (line_of old))) (noted_in old) (logged H) (let same = kept_written v vs in omega (arith, same))
+              (let same = end_last size sealed_now (λ _. refl) v vs in omega (arith, same)) holds.batches;
           slots = slots_sealed size (line_of old) (state_of (trace (device_of old))).log.bytes (fault_of old) (machine_at old) holds.slots;
         });
     fits = λ H A f U fits. fits_as trace sum old new rest.config rest.fault (noted_in old) kept_noted (at_last sealed_now (line_of old)) line (machine_at old) machine H A f U rest.pins
         (record {
           reach = fits.reach;
           parts = line_fits_sealed sum size (state_of (trace (device_of old))) (fault_of old) fits.reach (pins_of old) H A f U v vs its fits.parts;
-          batches = batches_up (written_to (line_of old)) (written_to (at_last sealed_now (line_of old))) (line_end size (line_of old)) (line_end size (at_last sealed_now (line_of old))) (noted_in old) H (let same = kept_written v vs in omega (arith, same)) (let same = end_last size sealed_now (λ _. refl) v vs in omega (arith, same)) fits.batches;
+          batches = batches_up (written_to (line_of old)) (written_to (at_last sealed_now (line_of old))) (line_end size (line_of old)) (line_end size (at_last sealed_now (line_of old))) (noted_in old) (logged H) (let same = kept_written v vs in omega (arith, same))
+              (let same = end_last size sealed_now (λ _. refl) v vs in omega (arith, same)) fits.batches;
           slots = slots_sealed size (line_of old) (state_of (trace (device_of old))).log.bytes (fault_of old) (machine_at old) fits.slots;
           begun = λ none. subst (λ p. AreBegun sum size (state_of (trace (device_of old))).log.bytes p (machine_at old)) (sym (first_at_last sealed_now (λ _. refl) (line_of old))) (fits.begun none);
           entries = fits.entries;

@@ -1,5 +1,5 @@
 -- What the log has of messages and histories: the same messages in the same order, with the same tables, but for items that blobs have.
-use Rattle.std.proofs.Common.{◌≡◌, ◌∙◌, ◌+◌, ◌<◌, ◌≤◌, ◌&&◌, ◌==◌, nat_lt, if◌then◌else◌, ℕ, pos, Bool, true, false, List, [], ◌∷◌, ◌++◌, map, Option, Some, None, refl, sym, ap, subst, inl, inr}
+use Rattle.std.proofs.Common.{◌≡◌, ◌∙◌, ◌+◌, ◌<◌, ◌≤◌, ◌&&◌, ◌==◌, nat_lt, if◌then◌else◌, max, ℕ, pos, Bool, true, false, List, [], ◌∷◌, ◌++◌, map, Option, Some, None, refl, sym, ap, subst, inl, inr}
 use Rattle.std.specs.List.{All, Contains, filter}
 use Rattle.std.proofs.lemmas.List.{map-append}
 use Rattle.std.proofs.lemmas.List.Elements.{All-contains, All-map}
@@ -14,6 +14,7 @@ use Rattle.sled_store.proofs.Marks.DeactivationSteps.{from_map}
 use Rattle.sled_store.proofs.Segments.Elements.{all_from_in, in_cases, in_first, in_nothing, in_rest}
 use Rattle.sled_core.specs.Fits.{EndBelow}
 use Rattle.sled_core.specs.Logged.{in_log, item_in_log, logged}
+use Rattle.sled_core.specs.Running.{end_below, last_batch, last_message}
 
 -- One message.
 
@@ -163,6 +164,10 @@ logged_twice H = let same = list_twice H.messages in λ i. record { messages = s
 pub logged_there : (H : History) (m : Message) → Contains H.messages m → Contains (logged H).messages (in_log m)
 logged_there H m there = in_map in_log H.messages m there
 
+-- and where that has its item in its record, it is that message
+pub inline_there : (H : History) (m : Message) (lid : ℕ) → m.pointer ≡ Inline lid → Contains H.messages m → Contains (logged H).messages m
+inline_there H m lid inline there = subst (Contains (logged H).messages) (inline_same m lid inline) (logged_there H m there)
+
 -- and there is nothing else
 pub from_logged : (H : History) (m : Message) → Contains (logged H).messages m → (n : Message) × Contains H.messages n × (in_log n ≡ m)
 from_logged H m there = from_map in_log H.messages m there
@@ -195,6 +200,17 @@ logged_below place H below = all_in_log (λ (m : Message). (m.place < place) × 
 pub table_logged : (H : History) (cut page : ℕ) → table (logged H) cut page ≡ map in_log (table H cut page)
 unfolding table
 table_logged H cut page = ap page_state (of_page_logged H.messages cut page) ∙ page_state_logged (of_page H.messages cut page)
+
+-- Ends.
+
+-- the greatest end of messages that begin below it
+last_same : (place : ℕ) (ms : List Message) → last_message place (map in_log ms) ≡ last_message place ms
+last_same place [] = refl
+last_same place (m ∷ ms) = ap (λ n. if nat_lt m.place place then max (m.place + m.size) n else n) (last_same place ms)
+
+-- and what is acknowledged once all below a place is durable
+pub end_logged : (place : ℕ) (H : History) → end_below place (logged H) ≡ end_below place H
+end_logged place H = ap (λ n. max n (last_batch place H.batches)) (last_same place H.messages)
 
 -- Steps.
 
@@ -232,6 +248,16 @@ adds_real H m R' adds =
       },
       λ i. record { messages = messages i; batches = batches i },
     )
+
+-- Of a message that has its item in its record the log has all: that message is put in of what the log has where it is of the history.
+pub inline_logged : (H : History) (m : Message) (lid : ℕ) (H' : History) → m.pointer ≡ Inline lid → AddsMessage H m H' → AddsMessage (logged H) m (logged H')
+inline_logged H m lid H' inline adds = subst (λ (x : Message). AddsMessage (logged H) x (logged H')) (inline_same m lid inline) (adds_logged H m H' adds)
+
+-- And where it is put in of that it can be of the history; what is so of what the log has then is so of what it has of the new history.
+pub inline_real : (P : History → Type 0) (H : History) (m : Message) (lid : ℕ) (R' : History) → m.pointer ≡ Inline lid → AddsMessage (logged H) m R' → P R' → (H' : History) × AddsMessage H m H' × P (logged H')
+inline_real P H m lid R' inline adds is =
+    let real = adds_real H m R' (subst (λ (x : Message). AddsMessage (logged H) x R') (sym (inline_same m lid inline)) adds) in
+    (real.0, real.1, subst P (sym real.2) is)
 
 -- A batch is noted of what the log has of a history where it is of the history.
 pub batch_logged : (H : History) (b : Batch) (H' : History) → AddsBatch H b H' → AddsBatch (logged H) b (logged H')

@@ -109,7 +109,7 @@ module _ (H R : History) (same : logged H ≡ logged R) where
       has_file_alike log s (Some active) has = has_active_alike log s active has
 
       -- Snapshot and device are ready for a log that holds the other one.
-      pub ready_alike : (device : State) (s : SnapshotModel) → IsReady sum size device s H → IsReady sum size device s R
+      unfoldable pub ready_alike : (device : State) (s : SnapshotModel) → IsReady sum size device s H → IsReady sum size device s R
       ready_alike device s ready = record {
         log = ready.log;
         settled = ready.settled;

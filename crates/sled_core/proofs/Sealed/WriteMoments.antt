@@ -6,6 +6,7 @@ use Rattle.sled_store.specs.Device.{Event, LogState, State, Wrote, Synced, Leave
 use Rattle.sled_store.specs.Foreign.{NoForeignLog}
 use Rattle.sled_store.specs.Script.{Along}
 use Rattle.sled_store.proofs.Histories.Ascending.{Ascends}
+use Rattle.sled_core.specs.Logged.{logged}
 use Rattle.sled_core.specs.OpenBatches.{stable_below}
 use Rattle.sled_core.specs.Recoverable.{LeavesRecoverable, NoHeaderOfZeros}
 use Rattle.sled_core.specs.Running.{BlobsFit, KeepsItems, NamesFit}
@@ -15,11 +16,11 @@ use Rattle.sled_core.proofs.Reached.StandsTo.{StandsTo}
 use Rattle.sled_core.proofs.Torn.TornLemmas.{after_write}
 
 module _ (sum : List ℕ → ℕ) (size : ℕ) (some : 256 ≤ size) (device : State) (rest : device.log ≡ at_rest device.log.bytes) (H : History) (f : ℕ) (first : SnapshotModel) (reach reach' : ℕ) (up : reach ≤ reach')
-    (ordered : Ascends H.messages) (stored : KeepsItems sum device.blobs H (stable_below reach H.batches)) (names : NamesFit sum size device.snapshots H f first) (blobs : BlobsFit sum device.blobs H (stable_below reach H.batches))
+    (ordered : Ascends (logged H).messages) (stored : KeepsItems sum device.blobs H (stable_below reach H.batches)) (names : NamesFit sum size device.snapshots (logged H) f first) (blobs : BlobsFit sum device.blobs H (stable_below reach H.batches))
     (before : LeavesRecoverable sum size H (stable_below reach H.batches) f device) (at : ℕ) (asked : List ℕ)
     (torn : NoHeaderOfZeros sum → (now left : List ℕ) → length now ≤ length asked → LeavesLog (after_write device.log.bytes at asked now) left → (placed : List (ℕ × List ℕ))
-    → NoForeignLog sum size (after_write device.log.bytes at asked now) placed left → StandsTo sum size left H (stable_below reach H.batches) first reach)
-    (whole : NoHeaderOfZeros sum → StandsTo sum size (overwritten device.log.bytes at asked) H (stable_below reach' H.batches) first reach') where
+    → NoForeignLog sum size (after_write device.log.bytes at asked now) placed left → StandsTo sum size left (logged H) (stable_below reach H.batches) first reach)
+    (whole : NoHeaderOfZeros sum → StandsTo sum size (overwritten device.log.bytes at asked) (logged H) (stable_below reach' H.batches) first reach') where
   -- the stable place before the write, and behind it
   abbrev low : ℕ
   low = stable_below reach H.batches

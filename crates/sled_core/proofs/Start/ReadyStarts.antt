@@ -11,6 +11,7 @@ use Rattle.sled_store.specs.Device.{State}
 use Rattle.sled_store.specs.SnapshotFiles.{BeginsFrom}
 use Rattle.sled_store.proofs.Segments.Elements.{all_from_in}
 use Rattle.sled_store.proofs.Segments.SnapshotEntries.{all_seen}
+use Rattle.sled_core.specs.Logged.{logged}
 use Rattle.sled_core.specs.Running.{IsReadyFor}
 use Rattle.sled_core.specs.Reached.{StandsActive}
 use Rattle.sled_core.specs.Recoverable.{ActiveFits}
@@ -50,21 +51,21 @@ module _ (sum : List ℕ → ℕ) (size : ℕ) (device : State) (s : SnapshotMod
   abbrev es : List Entry
   es = entries_of s.pages
 
-  abbrev alone : StandsActive sum size log s H
+  abbrev alone : StandsActive sum size log s (logged H)
   alone = ready.alone
 
   some : 0 < size
   some = omega (arith, long)
 
   -- An entry is of a message of the table, whose segment is found.
-  abbrev table_is : IsTable s.pages H stable
+  abbrev table_is : IsTable s.pages (logged H) stable
   table_is = ready.ready.table
 
   abbrev KnownHere : Entry → Type 0
-  KnownHere = Known sum size log s H long table_is alone
+  KnownHere = Known sum size log s (logged H) long table_is alone
 
   seen : (e : Entry) → Contains es e → KnownHere e
-  seen = known sum size log s H long table_is alone
+  seen = known sum size log s (logged H) long table_is alone
 
   -- The active segment.
   module _ (a : ℕ) (active : s.active ≡ Some a) where
@@ -89,19 +90,19 @@ module _ (sum : List ℕ → ℕ) (size : ℕ) (device : State) (s : SnapshotMod
 
     active_slot : (e : Entry) → KnownHere e → slot_of size e ≡ a / size → segment_number_of size e ≡ stable / size
     active_slot e k same =
-        let slots_same : k.segment.segment.slot / size ≡ scan.segment.slot / size = sym (slot_is sum size log s H long table_is alone e k) ∙ same ∙ ap (λ n. n / size) (sym in_slot) in
+        let slots_same : k.segment.segment.slot / size ≡ scan.segment.slot / size = sym (slot_is sum size log s (logged H) long table_is alone e k) ∙ same ∙ ap (λ n. n / size) (sym in_slot) in
         let begins : k.segment.segment.slot ≡ scan.segment.slot =
         slot_found sum size log 0 k.segment.segment k.segment.found ∙ ap (λ n. n * size) slots_same ∙ sym (slot_found sum size log (least_place size s) scan.segment scan_found) in
         let one = one_in_slot sum size log 0 (least_place size s) k.segment.segment scan.segment k.segment.found scan_found begins in
-        number_is sum size log s H long table_is alone e k ∙ same_number size (k.message.place / size) (stable / size) some (sym k.segment.place ∙ one ∙ (alone.going a active).at_place)
+        number_is sum size log s (logged H) long table_is alone e k ∙ same_number size (k.message.place / size) (stable / size) some (sym k.segment.place ∙ one ∙ (alone.going a active).at_place)
 
     active_number : (e : Entry) → KnownHere e → segment_number_of size e ≡ stable / size → slot_of size e ≡ a / size
     active_number e k same =
-        let at : k.segment.segment.place ≡ least_place size s = k.segment.place ∙ ap (λ n. n * size) (sym (number_is sum size log s H long table_is alone e k) ∙ same) in
+        let at : k.segment.segment.place ≡ least_place size s = k.segment.place ∙ ap (λ n. n * size) (sym (number_is sum size log s (logged H) long table_is alone e k) ∙ same) in
         let found : IsFoundSegment sum size log (least_place size s) k.segment.segment = record { slot = k.segment.found.slot; header = k.segment.found.header; not_below = omega (arith, at) } in
         let here : Some a ≡ Some k.segment.segment.slot = sym active ∙ alone.only k.segment.segment found in
         let same_slot : k.segment.segment.slot ≡ a = cc in
-        slot_is sum size log s H long table_is alone e k ∙ ap (λ n. n / size) same_slot
+        slot_is sum size log s (logged H) long table_is alone e k ∙ ap (λ n. n / size) same_slot
 
   sound : is_sound s ≡ true
   sound =
@@ -115,12 +116,12 @@ module _ (sum : List ℕ → ℕ) (size : ℕ) (device : State) (s : SnapshotMod
   pub ready_starts : IsStartable size (length log) s
   ready_starts = record {
     sound = sound;
-    seen = all_seen s.pages H stable ready.ready.table;
+    seen = all_seen s.pages (logged H) stable ready.ready.table;
     active = by_active s.active refl;
-    placed = all_from_in (IsPlacedIn size slots stable) es (λ e there. placed sum size log s H long table_is alone e (seen e there));
-    apart = λ d e has_d has_e. (of_slot sum size log s H long table_is alone d e (seen d has_d) (seen e has_e), of_number sum size log s H long table_is alone d e (seen d has_d) (seen e has_e));
+    placed = all_from_in (IsPlacedIn size slots stable) es (λ e there. placed sum size log s (logged H) long table_is alone e (seen e there));
+    apart = λ d e has_d has_e. (of_slot sum size log s (logged H) long table_is alone d e (seen d has_d) (seen e has_e), of_number sum size log s (logged H) long table_is alone d e (seen d has_d) (seen e has_e));
     of_active = by_entries s.active refl;
-    counted = slot_counted size most s.pages H stable ready.ready.table ready.ready.apart (λ m there. (alone.stands.placed m there).ends) (λ d e has_d has_e same. of_slot sum size log s H long table_is alone d e (seen d has_d) (seen e has_e) same);
+    counted = slot_counted size most s.pages (logged H) stable ready.ready.table ready.ready.apart (λ m there. (alone.stands.placed m there).ends) (λ d e has_d has_e same. of_slot sum size log s (logged H) long table_is alone d e (seen d has_d) (seen e has_e) same);
   } where
     by_active : (o : Option ℕ) → s.active ≡ o → IfSome o (MayBeActive size slots stable)
     by_active None none = tt

@@ -10,10 +10,14 @@ use Rattle.sled_store.proofs.Histories.Ascending.{apart_ascends}
 use Rattle.sled_store.proofs.Histories.EarlierEntries.{entry_earlier}
 use Rattle.sled_store.proofs.Histories.TableParts.{from_table}
 use Rattle.sled_core.specs.Fits.{EndBelow}
+use Rattle.sled_core.specs.Logged.{logged}
 use Rattle.sled_core.specs.Recoverable.{Recoverable, LeavesRecoverable, IsMarkBelow, NoHeaderOfZeros, AreRecoverableSnapshots, AreRecoverableBlobs}
 use Rattle.sled_core.specs.Running.{BlobsFit, NamesFit}
 use Rattle.sled_core.specs.Tail.{IsOrdering}
 use Rattle.sled_core.proofs.Flush.Settled.{recoverable_less}
+use Rattle.sled_core.proofs.Logged.Messages.{logged_apart, logged_below, logged_twice}
+use Rattle.sled_core.proofs.Logged.Names.{snapshots_alike}
+use Rattle.sled_core.proofs.Logged.Stands.{stands_alike}
 use Rattle.sled_core.proofs.Reached.Recoverable.{reached_recoverable}
 use Rattle.sled_core.proofs.Reached.StandsTo.{StandsTo}
 
@@ -53,18 +57,26 @@ blobs_above sum H reach cut apart below far blobs are = record {
   named = are.named;
 }
 
--- A content is recoverable whose log file stands up to a place at which the history has ended.
-pub stands_recoverable : (sum : List ℕ → ℕ) (size : ℕ) (left : Content) (H : History) (A f : ℕ) (first : SnapshotModel) (reach : ℕ) → 256 ≤ size → LieApart H.messages → EndBelow reach H.messages
-    → StandsTo sum size left.log H reach first reach → A ≤ reach → AreRecoverableSnapshots sum size left.snapshots H f first → AreRecoverableBlobs sum left.blobs H reach → Recoverable sum size left H A f
+-- A content is recoverable whose log file stands up to a place at which the history has ended. File and snapshots have the history as the log has it.
+pub stands_recoverable : (sum : List ℕ → ℕ) (size : ℕ) (left : Content) (H : History) (A f : ℕ) (first : SnapshotModel) (reach : ℕ) → 256 ≤ size → LieApart (logged H).messages → EndBelow reach (logged H).messages
+    → StandsTo sum size left.log (logged H) reach first reach → A ≤ reach → AreRecoverableSnapshots sum size left.snapshots (logged H) f first → AreRecoverableBlobs sum left.blobs H reach → Recoverable sum size left H A f
 unfolding Recoverable
 stands_recoverable sum size left H A f first reach long apart below stands passes snapshots blobs =
-    let log = reached_recoverable sum size left.log long H reach first reach stands (apart_ascends H.messages apart) in
-    recoverable_less sum size left H A reach f passes (record { first = first; cut = log.0; snapshots = snapshots; log = log.2; blobs = blobs_above sum H reach log.0.0 apart below log.1 left.blobs blobs })
+    let lie : LieApart H.messages = logged_apart H apart in
+    let log = reached_recoverable sum size left.log long H reach first reach (stands_alike (logged H) H (logged_twice H) sum size left.log reach first reach stands) (apart_ascends H.messages lie) in
+    recoverable_less sum size left H A reach f passes
+    (record {
+      first = first;
+      cut = log.0;
+      snapshots = snapshots_alike (logged H) H (logged_twice H) sum size left.snapshots f first snapshots;
+      log = log.2;
+      blobs = blobs_above sum H reach log.0.0 lie (logged_below reach H below) log.1 left.blobs blobs;
+    })
 
 -- So it is with whatever a crash leaves of a settled log file that stands so.
-pub settled_leaves : (sum : List ℕ → ℕ) (size : ℕ) (device : State) (log : List ℕ) (H : History) (A f : ℕ) (first : SnapshotModel) (reach : ℕ) → 256 ≤ size → LieApart H.messages → EndBelow reach H.messages → device.log ≡ at_rest log
-    → (NoHeaderOfZeros sum → StandsTo sum size log H reach first reach) → A ≤ reach → NamesFit sum size device.snapshots H f first → BlobsFit sum device.blobs H reach → LeavesRecoverable sum size H A f device
+pub settled_leaves : (sum : List ℕ → ℕ) (size : ℕ) (device : State) (log : List ℕ) (H : History) (A f : ℕ) (first : SnapshotModel) (reach : ℕ) → 256 ≤ size → LieApart (logged H).messages → EndBelow reach (logged H).messages → device.log ≡ at_rest log
+    → (NoHeaderOfZeros sum → StandsTo sum size log (logged H) reach first reach) → A ≤ reach → NamesFit sum size device.snapshots (logged H) f first → BlobsFit sum device.blobs H reach → LeavesRecoverable sum size H A f device
 settled_leaves sum size device log H A f first reach long apart below settled stands passes names blobs left leaves own =
     let here : left.log ≡ log = at_rest_left log left.log (subst (λ (l : LogState). LeavesLog l left.log) settled leaves.log) in
-    stands_recoverable sum size left H A f first reach long apart below (subst (λ (l : List ℕ). StandsTo sum size l H reach first reach) (sym here) (stands own.zeros)) passes
+    stands_recoverable sum size left H A f first reach long apart below (subst (λ (l : List ℕ). StandsTo sum size l (logged H) reach first reach) (sym here) (stands own.zeros)) passes
     (names left.snapshots leaves.snapshots own.snapshots) (blobs left.blobs leaves.blobs own.blobs)

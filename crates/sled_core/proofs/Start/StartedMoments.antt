@@ -9,6 +9,7 @@ use Rattle.sled_store.specs.Script.{Performs, Along, after_all}
 use Rattle.sled_store.specs.SegmentStates.{SlotState, may_be_cut, cutting}
 use Rattle.sled_store.specs.Started.{found, started}
 use Rattle.sled_store.proofs.Traces.ScriptLemmas.{performs_throughout, along_last}
+use Rattle.sled_core.specs.Logged.{logged}
 use Rattle.sled_core.specs.Recoverable.{Recoverable, RecoverableIfOwn, LeavesRecoverable, NoForeign, NoHeaderOfZeros}
 use Rattle.sled_core.specs.Running.{BlobsFit, NamesFit, IsReadyFor, Ready}
 use Rattle.sled_core.specs.Reached.{StandsActive}
@@ -71,11 +72,11 @@ module _ (sum : List ℕ → ℕ) (size : ℕ) (t : Trace) (s : SnapshotModel) (
   stable = stable_place s.stable
 
   -- One content that a crash leaves, in which the log file stands, with the names as they were.
-  recoverable_left : (x : State) → HasNames device x → (left : Content) → Leaves x left → NoForeign sum size x left → StandsActive sum size left.log s H → Recoverable sum size left H A f
+  recoverable_left : (x : State) → HasNames device x → (left : Content) → Leaves x left → NoForeign sum size x left → StandsActive sum size left.log s (logged H) → Recoverable sum size left H A f
   recoverable_left x has left leaves own active =
-      let names : NamesFit sum size x.snapshots H f ready.ready.first = subst (λ (n : NamesState). NamesFit sum size n H f ready.ready.first) (sym has.snapshots) ready.names in
+      let names : NamesFit sum size x.snapshots (logged H) f ready.ready.first = subst (λ (n : NamesState). NamesFit sum size n (logged H) f ready.ready.first) (sym has.snapshots) ready.names in
       let blobs : BlobsFit sum x.blobs H stable = subst (λ (n : NamesState). BlobsFit sum n H stable) (sym has.blobs) ready.blobs in
-      let on = same_place sum size left.log H s ready.ready.first stable stable stable (ap stable_place ready.ready.same_place) refl refl active.stands in
+      let on = same_place sum size left.log (logged H) s ready.ready.first stable stable stable (ap stable_place ready.ready.same_place) refl refl active.stands in
       stands_recoverable sum size left H A f ready.ready.first stable long ready.ready.apart ready.ready.below on.0 ready.passes (names left.snapshots leaves.snapshots own.snapshots) (blobs left.blobs leaves.blobs own.blobs)
 
   settled : device.log ≡ at_rest log
@@ -84,10 +85,10 @@ module _ (sum : List ℕ → ℕ) (size : ℕ) (t : Trace) (s : SnapshotModel) (
   -- Whatever is filled and cut off, a crash leaves a content that can be recovered.
   pub started_along : Along (LeavesRecoverable sum size H A f) (started size (length log) s).calls device
   started_along =
-      both_along (λ x. NoHeaderOfZeros sum → AllLeft (ActiveIfOwn sum size s H) x) (HasNames device) (LeavesRecoverable sum size H A f)
+      both_along (λ x. NoHeaderOfZeros sum → AllLeft (ActiveIfOwn sum size s (logged H)) x) (HasNames device) (LeavesRecoverable sum size H A f)
       (λ x active has left leaves own. recoverable_left x has left leaves own (active own.zeros left leaves own.log))
       (started size (length log) s).calls device
-      (along_if (NoHeaderOfZeros sum) (AllLeft (ActiveIfOwn sum size s H)) (started size (length log) s).calls device (λ zeros. starting_active sum size long zeros log s H ready.ready.table ready.alone t settled))
+      (along_if (NoHeaderOfZeros sum) (AllLeft (ActiveIfOwn sum size s (logged H))) (started size (length log) s).calls device (λ zeros. starting_active sum size long zeros log s (logged H) ready.ready.table ready.alone t settled))
       (starting_names size (length log) s t)
 
 -- At each moment of the start, a crash leaves a content that can be recovered.

@@ -8,8 +8,9 @@ use Rattle.sled_store.specs.Device.{state_of}
 use Rattle.sled_core.specs.declared.iobuf.ReservationState.TheVariants.{Completed}
 use Rattle.sled_core.specs.declared.iobuf.Reserved.{Reserved}
 use Rattle.sled_core.specs.Begun.{SegmentView}
-use Rattle.sled_core.specs.Buffers.{completing}
-use Rattle.sled_core.specs.Fits.{AwaitsIn, Holds, line_of, noted_in, open_places}
+use Rattle.sled_core.specs.Buffers.{completing, message_in}
+use Rattle.sled_core.specs.Fits.{AwaitsIn, Holds, HoldsWith, line_of, noted_in, open_places}
+use Rattle.sled_core.specs.Logged.{logged}
 use Rattle.sled_core.specs.OpenPlaces.{TakesOut, open_places_along}
 use Rattle.sled_core.specs.Running.{Fits}
 use Rattle.sled_core.specs.Tickets.{place_of}
@@ -20,6 +21,7 @@ use Rattle.sled_core.proofs.Line.Ends.{fits_completed, holds_completed}
 use Rattle.sled_core.proofs.Line.EndedLine.{completing_short}
 use Rattle.sled_core.proofs.Line.Facts.{nth_facts}
 use Rattle.sled_core.proofs.Line.LogSpans.{ended_buffers}
+use Rattle.sled_core.proofs.Logged.Messages.{inline_real}
 use Rattle.sled_core.proofs.logger.Log.complete.Given.{Over}
 use Rattle.sled_core.proofs.logger.Log.complete.Goals as goal
 
@@ -60,10 +62,13 @@ returns-clause-history g c = λ H m holds awaits.
     let i : ℕ = c.index-index.result - v.gone in
     let at = among g c m awaits in
     let its = there g c m awaits in
-    let done = holds_completed g.C.Checksum.sum_of old.config.config.segment_size (state_of (g.D.Device.trace old.config.device)) old.fault (line_of old) c.segment_of-n.result v at old.site.place (nth_facts old) i r its awaits.own.open_yet (machine_of old.accountant) (noted_in old) (sym awaits.own.manifest ∙ c.requires.message) H holds in (
-      done.0,
-      subst (λ (x : Message). AddsMessage H x done.0) (sym awaits.message) done.1,
-      holds_ended old c.complete_in.new.self c.segment_of-n.result v at i r its awaits.own.open_yet (completing r) (completing_short v i r (nth_facts old c.segment_of-n.result v at) its awaits.own.open_yet) Completed (c.complete_in.ensures.line v r at its) c.complete_in.ensures.rest g.D.Device.trace g.C.Checksum.sum_of done.0 done.2,
+    let done = holds_completed g.C.Checksum.sum_of old.config.config.segment_size (state_of (g.D.Device.trace old.config.device)) old.fault (line_of old) c.segment_of-n.result v at old.site.place (nth_facts old) i r its awaits.own.open_yet (machine_of old.accountant) (noted_in old)
+    (sym awaits.own.manifest ∙ c.requires.message) (logged H) holds in
+    let real = inline_real (HoldsWith g.C.Checksum.sum_of (noted_in old) old.config.config.segment_size (state_of (g.D.Device.trace old.config.device)) old.fault _ (machine_of old.accountant)) H (message_in v.parts.site v.parts.bytes r) (v.parts.site.slot + r.from) done.0 refl done.1 done.2 in (
+      real.0,
+      subst (λ (x : Message). AddsMessage H x real.0) (sym awaits.message) real.1,
+      holds_ended old c.complete_in.new.self c.segment_of-n.result v at i r its awaits.own.open_yet (completing r) (completing_short v i r (nth_facts old c.segment_of-n.result v at) its awaits.own.open_yet) Completed
+          (c.complete_in.ensures.line v r at its) c.complete_in.ensures.rest g.D.Device.trace g.C.Checksum.sum_of real.0 real.2,
     )
 
 pub returns-clause-fits : goal.returns-clause-fits
@@ -92,7 +97,9 @@ returns-clause-others g c = λ H other m holds awaits apart.
     let at = among g c c.requires.awaited.0 own in
     let its = there g c c.requires.awaited.0 own in
     subst (λ (l : List SegmentView). AwaitsIn l other m) (sym (c.complete_in.ensures.line own.segment own.reserved at its))
-    (others_await old.config.config.segment_size (line_of old) old.site.place c.segment_of-n.result own.segment at (nth_facts old) (c.index-index.result - own.segment.gone) own.reserved its own.own.open_yet (completing own.reserved) (completing_short own.segment (c.index-index.result - own.segment.gone) own.reserved (nth_facts c.args.self.now c.segment_of-n.result own.segment at) its own.own.open_yet) Completed g.C.Checksum.sum_of (state_of (g.D.Device.trace old.config.device)) old.fault H holds.holds c.args.ticket other m own.own.place awaits apart)
+    (others_await old.config.config.segment_size (line_of old) old.site.place c.segment_of-n.result own.segment at (nth_facts old) (c.index-index.result - own.segment.gone) own.reserved its own.own.open_yet (completing own.reserved)
+    (completing_short own.segment (c.index-index.result - own.segment.gone) own.reserved (nth_facts c.args.self.now c.segment_of-n.result own.segment at) its own.own.open_yet) Completed g.C.Checksum.sum_of (state_of (g.D.Device.trace old.config.device)) old.fault
+    (logged H) holds.holds c.args.ticket other m own.own.place awaits apart)
 
 pub returns-clause-opens : goal.returns-clause-opens
 returns-clause-opens g c = λ place is.

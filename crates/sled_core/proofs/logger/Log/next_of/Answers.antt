@@ -3,6 +3,7 @@ use Rattle.sled_store.specs.Device.{state_of}
 use Rattle.sled_store.specs.declared.config.Config.{Config}
 use Rattle.sled_store.specs.Accounts.{machine_of}
 use Rattle.sled_core.specs.Fits.{Holds, current_of}
+use Rattle.sled_core.specs.Logged.{logged}
 use Rattle.sled_core.specs.Positions.{position_in}
 use Rattle.sled_core.specs.Running.{Fits}
 use Rattle.sled_core.proofs.Holds.KeptCalls.{goes_on_quietly}
@@ -22,7 +23,7 @@ returns-clause-log g c =
       read = record {
         keeps = record {
           goes_on = goes_on_quietly g.D.Device.trace g.C.Checksum.sum_of old _ (record { config = reads.config; checksum = reads.checksum }) reads.unwritten (omega arith);
-          history = λ H holds. holds_with_kept g.C.Checksum.sum_of _ _ _ _ _ _ _ _ _ _ _ H size refl refl (ap state_of reads.unwritten) kept holds;
+          history = λ H holds. holds_with_kept g.C.Checksum.sum_of _ _ _ _ _ _ _ _ _ _ _ (logged H) size refl refl (ap state_of reads.unwritten) kept holds;
           fits = λ H A f U fits. fits_with_kept g.C.Checksum.sum_of _ _ _ _ _ _ _ _ _ _ _ _ _ H A f U size refl refl refl (ap state_of reads.unwritten) kept fits;
           noted = noted_still old;
         };

@@ -2,6 +2,7 @@ use Rattle.std.proofs.Common.{ap, arith, refl}
 use Rattle.sled_store.specs.Device.{state_of}
 use Rattle.sled_store.specs.declared.config.Config.{Config}
 use Rattle.sled_core.specs.Fits.{Holds}
+use Rattle.sled_core.specs.Logged.{logged}
 use Rattle.sled_core.specs.Running.{Fits}
 use Rattle.sled_core.proofs.Holds.KeptCalls.{goes_on_quietly}
 use Rattle.sled_core.proofs.Line.Faulty.{fits_with_kept, holds_with_kept, none_or_kept}
@@ -16,7 +17,7 @@ returns-clause-keeps g c =
     let size = ap (λ (x : Config). x.segment_size) answer.config in
     record {
       goes_on = goes_on_quietly g.D.Device.trace g.C.Checksum.sum_of old _ (record { config = answer.config; checksum = answer.checksum }) answer.trace (omega arith);
-      history = λ H holds. holds_with_kept g.C.Checksum.sum_of _ _ _ _ _ _ _ _ _ _ _ H size refl refl (ap state_of answer.trace) (none_or_kept _ _ c.requires.fault) holds;
+      history = λ H holds. holds_with_kept g.C.Checksum.sum_of _ _ _ _ _ _ _ _ _ _ _ (logged H) size refl refl (ap state_of answer.trace) (none_or_kept _ _ c.requires.fault) holds;
       fits = λ H A f U fits. fits_with_kept g.C.Checksum.sum_of _ _ _ _ _ _ _ _ _ _ _ _ _ H A f U size refl refl refl (ap state_of answer.trace) (none_or_kept _ _ c.requires.fault) fits;
       noted = noted_still old;
     }

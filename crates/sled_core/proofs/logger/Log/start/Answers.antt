@@ -23,9 +23,11 @@ use Rattle.sled_core.specs.declared.logger.segments.SegmentBuffer.{SegmentBuffer
 use Rattle.sled_core.specs.Begun.{AreEntered, AreFilled, FollowOn, IsUnfilled, SegmentView, begin_of, line_at, segment_view, view_at}
 use Rattle.sled_core.specs.Fits.{CloseBelow, FitsBatches, Holds, HoldsIn, HoldsLine, NoneOpenIn, line_end, log_parts, written_to}
 use Rattle.sled_core.specs.FreeSlots.{HasSlots, begun_machine}
+use Rattle.sled_core.specs.Logged.{logged}
 use Rattle.sled_core.specs.OpenBatches.{AreByPlace, batch_of, not_whole}
 use Rattle.sled_core.specs.OpenPlaces.{open_manifests, open_manifests_in}
 use Rattle.sled_core.specs.Positions.{Position, is_short, next_segment_at, position_in}
+use Rattle.sled_core.specs.Ready.{IsReady}
 use Rattle.sled_core.specs.SealedBuffers.{sealed_end}
 use Rattle.sled_core.specs.Starts.{site_from}
 use Rattle.sled_core.specs.Waiting.{last_of, start_in, unwritten, unwritten_in}
@@ -33,6 +35,8 @@ use Rattle.sled_core.specs.declared.iobuf.SegmentPosition.{SegmentPosition}
 use Rattle.sled_core.specs.Running.{Ready, Fits, FitsIn, FitsLine}
 use Rattle.sled_store.proofs.Segments.StartedFile.{started_file, started-log, started-snapshots, started-blobs}
 use Rattle.sled_core.proofs.Holds.FitsBatches.{batches_begun}
+use Rattle.sled_core.proofs.Logged.Messages.{logged_twice}
+use Rattle.sled_core.proofs.Logged.Names.{ready_alike}
 use Rattle.sled_core.proofs.Start.BegunSlots.{begun_slots}
 use Rattle.sled_core.proofs.Start.OlderStarted.{start_begun, start_entries}
 use Rattle.sled_core.proofs.Start.StartedMoments.{started_throughout}
@@ -123,25 +127,27 @@ pub returns-in-Ok-clause-history : goal.returns-in-Ok-clause-history
 unfolding Holds
 returns-in-Ok-clause-history g c = λ H ready.
     let size : ℕ = c.args.config.config.segment_size in
+    let R : History = logged H in
     let s : SnapshotModel = model_of c.args.snapshot.now in
     let old : State = state_of (g.D.Device.trace c.args.config.device) in
+    let of_log : IsReady g.C.Checksum.sum_of size old s R = ready_alike H R (sym (logged_twice H)) g.C.Checksum.sum_of size old s ready in
     let some : 0 < size = (let least = c.args.config.config.least in omega (arith, least)) in
     let now : State = state_of (g.D.Device.trace c.begin.new.config.device) in
-    let log_now = started_log size some s (g.D.Device.trace c.args.config.device) (g.D.Device.trace c.begin.new.config.device) c.in-Ok.ensures.made ready.log ready.settled in
+    let log_now = started_log size some s (g.D.Device.trace c.args.config.device) (g.D.Device.trace c.begin.new.config.device) c.in-Ok.ensures.made of_log.log of_log.settled in
     let names_now = ap (λ (t : Trace). (state_of t).snapshots.file) c.in-Ok.ensures.made ∙ ap (λ (n : NamesState). n.file) (started-snapshots size some old.log.bytes s (g.D.Device.trace c.args.config.device)) in
     let first = c.in-Ok.ensures.buffer in
-    let holds = begins_ready g.C.Checksum.sum_of size old now s H c.in-Ok.buffer.bytes.items c.args.config.config.least ready c.in-Ok.ensures.answers.0 log_now names_now c.in-Ok.beginning c.in-Ok.ensures.beginning first.header first.resumed in
+    let holds = begins_ready g.C.Checksum.sum_of size old now s R c.in-Ok.buffer.bytes.items c.args.config.config.least of_log c.in-Ok.ensures.answers.0 log_now names_now c.in-Ok.beginning c.in-Ok.ensures.beginning first.header first.resumed in
     record {
-      holds = subst (λ (ss : List SegmentBuffer). HoldsLine g.C.Checksum.sum_of c.begin.new.config.config.segment_size now None (line_at (record { place = c.in-Ok.beginning.place; slot = c.in-Ok.beginning.slot }) c.in-Ok.buffer ss) H) (sym c.no_segments.ensures)
-          (subst (λ (n : ℕ). HoldsIn g.C.Checksum.sum_of (log_parts n (record { place = c.in-Ok.beginning.place; slot = c.in-Ok.beginning.slot }) now None c.in-Ok.buffer.bytes.items c.in-Ok.buffer.written_len c.in-Ok.buffer.sealed.items c.in-Ok.buffer.reserved.items) [] H)
+      holds = subst (λ (ss : List SegmentBuffer). HoldsLine g.C.Checksum.sum_of c.begin.new.config.config.segment_size now None (line_at (record { place = c.in-Ok.beginning.place; slot = c.in-Ok.beginning.slot }) c.in-Ok.buffer ss) R) (sym c.no_segments.ensures)
+          (subst (λ (n : ℕ). HoldsIn g.C.Checksum.sum_of (log_parts n (record { place = c.in-Ok.beginning.place; slot = c.in-Ok.beginning.slot }) now None c.in-Ok.buffer.bytes.items c.in-Ok.buffer.written_len c.in-Ok.buffer.sealed.items c.in-Ok.buffer.reserved.items) [] R)
           (sym (ap (λ (x : Config). x.segment_size) c.begin.ensures.config))
-          (subst (λ (n : ℕ). HoldsIn g.C.Checksum.sum_of (log_parts size (record { place = c.in-Ok.beginning.place; slot = c.in-Ok.beginning.slot }) now None c.in-Ok.buffer.bytes.items n c.in-Ok.buffer.sealed.items c.in-Ok.buffer.reserved.items) [] H) (sym first.from)
-          (subst (λ (l : List Sealed). HoldsIn g.C.Checksum.sum_of (log_parts size (record { place = c.in-Ok.beginning.place; slot = c.in-Ok.beginning.slot }) now None c.in-Ok.buffer.bytes.items c.in-Ok.beginning.offset l c.in-Ok.buffer.reserved.items) [] H) (sym first.sealed)
-          (subst (λ (r : List Reserved). HoldsIn g.C.Checksum.sum_of (log_parts size (record { place = c.in-Ok.beginning.place; slot = c.in-Ok.beginning.slot }) now None c.in-Ok.buffer.bytes.items c.in-Ok.beginning.offset [] r) [] H) (sym first.reserved) holds))));
-      batches = started_batches c.begin.new.config.config.segment_size (view_at (record { place = c.in-Ok.beginning.place; slot = c.in-Ok.beginning.slot }) c.in-Ok.buffer) (map segment_view c.no_segments.result.items) H c.new.ensures.items
+          (subst (λ (n : ℕ). HoldsIn g.C.Checksum.sum_of (log_parts size (record { place = c.in-Ok.beginning.place; slot = c.in-Ok.beginning.slot }) now None c.in-Ok.buffer.bytes.items n c.in-Ok.buffer.sealed.items c.in-Ok.buffer.reserved.items) [] R) (sym first.from)
+          (subst (λ (l : List Sealed). HoldsIn g.C.Checksum.sum_of (log_parts size (record { place = c.in-Ok.beginning.place; slot = c.in-Ok.beginning.slot }) now None c.in-Ok.buffer.bytes.items c.in-Ok.beginning.offset l c.in-Ok.buffer.reserved.items) [] R) (sym first.sealed)
+          (subst (λ (r : List Reserved). HoldsIn g.C.Checksum.sum_of (log_parts size (record { place = c.in-Ok.beginning.place; slot = c.in-Ok.beginning.slot }) now None c.in-Ok.buffer.bytes.items c.in-Ok.beginning.offset [] r) [] R) (sym first.reserved) holds))));
+      batches = started_batches c.begin.new.config.config.segment_size (view_at (record { place = c.in-Ok.beginning.place; slot = c.in-Ok.beginning.slot }) c.in-Ok.buffer) (map segment_view c.no_segments.result.items) R c.new.ensures.items
           (let low = offset_low c.args.config.config.segment_size (length (state_of (g.D.Device.trace c.args.config.device)).log.bytes) s c.in-Ok.beginning c.in-Ok.ensures.beginning some in let from = first.from in let same = ap (λ (x : Config). x.segment_size) c.begin.ensures.config in omega (arith, low, from, same))
-          (subst (λ n. CloseBelow (c.in-Ok.beginning.place + n) H.batches) (sym first.from)
-          (begins_closed g.C.Checksum.sum_of size old now s H c.in-Ok.buffer.bytes.items c.args.config.config.least ready c.in-Ok.ensures.answers.0 log_now names_now c.in-Ok.beginning c.in-Ok.ensures.beginning first.header first.resumed));
+          (subst (λ n. CloseBelow (c.in-Ok.beginning.place + n) R.batches) (sym first.from)
+          (begins_closed g.C.Checksum.sum_of size old now s R c.in-Ok.buffer.bytes.items c.args.config.config.least of_log c.in-Ok.ensures.answers.0 log_now names_now c.in-Ok.beginning c.in-Ok.ensures.beginning first.header first.resumed));
       slots = subst (λ (ss : List SegmentBuffer). HasSlots c.begin.new.config.config.segment_size (line_at (record { place = c.in-Ok.beginning.place; slot = c.in-Ok.beginning.slot }) c.in-Ok.buffer ss) now.log.bytes None (machine_of c.in-Ok.accountant)) (sym c.no_segments.ensures)
           (start_slots size (ap (λ (x : Config). x.segment_size) c.begin.ensures.config) some s old.log.bytes now.log.bytes c.in-Ok.ensures.answers.0 (ap (λ (l : LogState). l.bytes) log_now) (view_at (record { place = c.in-Ok.beginning.place; slot = c.in-Ok.beginning.slot }) c.in-Ok.buffer) (ap (λ (x : Beginning). record { place = x.place; slot = x.slot }) c.in-Ok.ensures.beginning) c.in-Ok.ensures.machine);
     }
@@ -173,15 +179,16 @@ returns-in-Ok-clause-fits g c = λ H A f ready.
           (start_fits g.C.Checksum.sum_of size (state_of old) now s H A f c.args.config.config.least ready c.in-Ok.ensures.answers.0
           log_now (ap (λ (t : Trace). (state_of t).blobs) c.in-Ok.ensures.made ∙ started-blobs size some (state_of old).log.bytes s old) (ap (λ (t : Trace). (state_of t).snapshots) c.in-Ok.ensures.made ∙ started-snapshots size some (state_of old).log.bytes s old)
           c.in-Ok.beginning c.in-Ok.ensures.beginning c.in-Ok.buffer.bytes.items c.in-Ok.buffer.written_len c.in-Ok.buffer.sealed.items c.in-Ok.buffer.reserved.items first.header first.resumed first.from first.sealed first.reserved));
-      batches = started_batches c.begin.new.config.config.segment_size (view_at (record { place = c.in-Ok.beginning.place; slot = c.in-Ok.beginning.slot }) c.in-Ok.buffer) (map segment_view c.no_segments.result.items) H c.new.ensures.items
+      batches = started_batches c.begin.new.config.config.segment_size (view_at (record { place = c.in-Ok.beginning.place; slot = c.in-Ok.beginning.slot }) c.in-Ok.buffer) (map segment_view c.no_segments.result.items) (logged H) c.new.ensures.items
           (let low = offset_low c.args.config.config.segment_size (length (state_of (g.D.Device.trace c.args.config.device)).log.bytes) s c.in-Ok.beginning c.in-Ok.ensures.beginning some in let from = first.from in let same = ap (λ (x : Config). x.segment_size) c.begin.ensures.config in omega (arith, low, from, same))
-          (subst (λ n. CloseBelow (c.in-Ok.beginning.place + n) H.batches) (sym first.from)
-          (begins_closed g.C.Checksum.sum_of size (state_of old) now s H c.in-Ok.buffer.bytes.items c.args.config.config.least ready.ready c.in-Ok.ensures.answers.0 log_now (ap (λ (t : Trace). (state_of t).snapshots.file) c.in-Ok.ensures.made ∙ ap (λ (n : NamesState). n.file) (started-snapshots size some (state_of old).log.bytes s old)) c.in-Ok.beginning c.in-Ok.ensures.beginning first.header first.resumed));
+          (subst (λ n. CloseBelow (c.in-Ok.beginning.place + n) (logged H).batches) (sym first.from)
+          (begins_closed g.C.Checksum.sum_of size (state_of old) now s (logged H) c.in-Ok.buffer.bytes.items c.args.config.config.least ready.ready c.in-Ok.ensures.answers.0 log_now
+          (ap (λ (t : Trace). (state_of t).snapshots.file) c.in-Ok.ensures.made ∙ ap (λ (n : NamesState). n.file) (started-snapshots size some (state_of old).log.bytes s old)) c.in-Ok.beginning c.in-Ok.ensures.beginning first.header first.resumed));
       slots = subst (λ (ss : List SegmentBuffer). HasSlots c.begin.new.config.config.segment_size (line_at site c.in-Ok.buffer ss) now.log.bytes None (machine_of c.in-Ok.accountant)) (sym c.no_segments.ensures)
           (start_slots size same some s (state_of old).log.bytes now.log.bytes c.in-Ok.ensures.answers.0 (ap (λ (l : LogState). l.bytes) log_now) (view_at site c.in-Ok.buffer) (ap (λ (x : Beginning). record { place = x.place; slot = x.slot }) c.in-Ok.ensures.beginning) c.in-Ok.ensures.machine);
-      begun = λ none. start_begun g.C.Checksum.sum_of size c.args.config.config.least (state_of old) s H ready.ready ready.alone c.in-Ok.ensures.answers.0 same (ap (λ (l : LogState). l.bytes) log_now)
+      begun = λ none. start_begun g.C.Checksum.sum_of size c.args.config.config.least (state_of old) s (logged H) ready.ready ready.alone c.in-Ok.ensures.answers.0 same (ap (λ (l : LogState). l.bytes) log_now)
           (ap (λ (x : Beginning). x.place) c.in-Ok.ensures.beginning ∙ begins_place size (slots_of size (length (state_of old).log.bytes)) (stable_place s.stable) (unused size (slots_of size (length (state_of old).log.bytes)) s) s.active) c.in-Ok.ensures.machine;
-      entries = start_entries g.C.Checksum.sum_of size c.args.config.config.least (state_of old) s H ready.ready ready.alone c.in-Ok.ensures.answers.0 same now.snapshots.file
+      entries = start_entries g.C.Checksum.sum_of size c.args.config.config.least (state_of old) s (logged H) ready.ready ready.alone c.in-Ok.ensures.answers.0 same now.snapshots.file
           (ap (λ (t : Trace). (state_of t).snapshots.file) c.in-Ok.ensures.made ∙ ap (λ (n : NamesState). n.file) (started-snapshots size some (state_of old).log.bytes s old)) c.in-Ok.ensures.machine;
     }
 

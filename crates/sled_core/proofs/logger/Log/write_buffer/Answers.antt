@@ -10,6 +10,7 @@ use Rattle.sled_core.specs.declared.logger.segments.SegmentBuffer.{SegmentBuffer
 use Rattle.sled_core.specs.declared.logger.batches.NotedBatch.{NotedBatch}
 use Rattle.sled_core.specs.declared.logger.Log.{Log}
 use Rattle.sled_core.specs.Fits.{written_to, AwaitsIn, Holds, line_of, noted_in, segment_size_of}
+use Rattle.sled_core.specs.Logged.{logged}
 use Rattle.sled_core.specs.OpenBatches.{batch_of, not_whole}
 use Rattle.sled_core.specs.OpenPlaces.{open_manifests, open_places_along}
 use Rattle.sled_core.specs.Positions.{Position, position_in}
@@ -57,7 +58,7 @@ returns-in_err-write_bytes-clause-keeps g c =
         stable = let same = ap written_to (same_line old mid rest) in omega (arith, same);
         crash = λ H A f U fits. crash_write old c.args.n c.args.k r g.D.Device.trace g.C.Checksum.sum_of c.requires.fault (g.D.Device.trace mid.config.device) did.at_most H A f U fits;
       };
-      history = λ H holds. holds_with_same g.C.Checksum.sum_of _ _ _ _ _ _ _ _ _ _ H kept_noted sizes (same_line old mid rest) slots
+      history = λ H holds. holds_with_same g.C.Checksum.sum_of _ _ _ _ _ _ _ _ _ _ (logged H) kept_noted sizes (same_line old mid rest) slots
           (holds_failed old c.args.n c.args.k r g.D.Device.trace g.C.Checksum.sum_of c.requires.fault (g.D.Device.trace mid.config.device) did.at_most mid.fault did.refused H holds);
       fits = λ H A f U fits. fits_with_same g.C.Checksum.sum_of _ _ _ _ _ _ _ _ _ _ _ _ H A f U kept_noted sizes (same_line old mid rest) slots rest.pins
           (fits_failed old c.args.n c.args.k r g.D.Device.trace g.C.Checksum.sum_of c.requires.fault (g.D.Device.trace mid.config.device) did.at_most mid.fault did.refused H A f U fits);
@@ -108,7 +109,7 @@ returns-clause-keeps g c =
         stable = let same = ap written_to line in let up = end_grows old c.args.n c.args.k r in omega (arith, same, up);
         crash = λ H A f U fits. crash_write old c.args.n c.args.k r g.D.Device.trace g.C.Checksum.sum_of c.requires.fault (g.D.Device.trace mid.config.device) did.at_most H A f U fits;
       };
-      history = λ H holds. holds_with_same g.C.Checksum.sum_of _ _ _ _ _ _ _ _ _ _ H (noted_left_is old c.args.n c.args.k r (noted_items old mid rest) line) sizes line slots
+      history = λ H holds. holds_with_same g.C.Checksum.sum_of _ _ _ _ _ _ _ _ _ _ (logged H) (noted_left_is old c.args.n c.args.k r (noted_items old mid rest) line) sizes line slots
           (holds_done old c.args.n c.args.k r g.D.Device.trace g.C.Checksum.sum_of c.requires.fault (g.D.Device.trace mid.config.device) did.calls mid.fault did.answers.1 H holds);
       fits = λ H A f U fits. fits_with_same g.C.Checksum.sum_of _ _ _ _ _ _ _ _ _ _ _ _ H A f U (noted_left_is old c.args.n c.args.k r (noted_items old mid rest) line) sizes line slots rest.pins
           (fits_done old c.args.n c.args.k r g.D.Device.trace g.C.Checksum.sum_of c.requires.fault (g.D.Device.trace mid.config.device) did.calls mid.fault did.answers.1 H A f U fits);
