@@ -21,6 +21,7 @@ use Rattle.sled_store.specs.Causes.{StartRefuses}
 use Rattle.sled_core.specs.Causes.{IsFault}
 use Rattle.sled_core.specs.declared.iobuf.SegmentPosition.{SegmentPosition}
 use Rattle.sled_core.specs.Fits.{IsKept}
+use Rattle.sled_core.specs.Logged.{logged}
 use Rattle.sled_core.specs.Manifests.{manifest_page}
 use Rattle.sled_core.specs.OpenBatches.{behind_batch, not_whole, stable_below}
 use Rattle.sled_core.specs.SealedBuffers.{writing}
@@ -239,7 +240,7 @@ pub record HasWrittenTo (a : RunState) (l : LogView) (to n : ℕ) (new : DeviceV
     log = Some (flushed l (left_from to l) (start_below to l) None);
   }
 
--- All that was reserved is, so all completed messages are on the device.
+-- All that was reserved is, so all completed messages are on the device: their records are, as the log has them, without the items that blobs have.
 pub record HasFlushed (sum : List ℕ → ℕ) (size : ℕ) (a : RunState) (l : LogView) (n : ℕ) (new : DeviceView) (b : RunState) : Type 0 where
   pub written : HasWrittenTo a l l.end n new b
   pub all : All (λ m. m.place + m.size ≤ stable_from l.end l) a.history.messages
@@ -247,7 +248,7 @@ pub record HasFlushed (sum : List ℕ → ℕ) (size : ℕ) (a : RunState) (l : 
   pub site : SegmentPosition
   pub from : ℕ
   pub at : site.place + from ≡ stable_from l.end l
-  pub kept : IsKept sum size site from (state_of new.trace) a.history
+  pub kept : IsKept sum size site from (state_of new.trace) (logged a.history)
 
 -- A flush up to a place failed: nothing was sealed and written, or the current buffer was sealed, where it begins below that, and so many buffers at the front were written.
 pub record HasStopped (a : RunState) (l : LogView) (to : ℕ) (fault : Option IoError) (new : DeviceView) (b : RunState) : Type 0 where

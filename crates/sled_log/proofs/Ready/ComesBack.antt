@@ -7,9 +7,11 @@ use Rattle.sled_store.specs.Moments.{LeavesOnly}
 use Rattle.sled_store.proofs.Traces.MomentLemmas.{weaker}
 use Rattle.sled_core.specs.declared.iobuf.SegmentPosition.{SegmentPosition}
 use Rattle.sled_core.specs.Fits.{EndBelow, CloseBelow, IsKept}
+use Rattle.sled_core.specs.Logged.{logged}
 use Rattle.sled_core.specs.Recoverable.{LeavesRecoverable, RecoverableIfOwn}
 use Rattle.sled_core.specs.Running.{Ready, end_below}
 use Rattle.sled_core.proofs.Holds.LastEnds.{batches_last, messages_last}
+use Rattle.sled_core.proofs.Logged.Messages.{logged_apart, logged_below}
 use Rattle.sled_log.proofs.Recovers.Readable.{LeavesReadable}
 use Rattle.sled_log.specs.Orderly.{CanRecover}
 use Rattle.sled_log.specs.Restores.{BeginsAgain, RecoveryCalls, Restores}
@@ -45,7 +47,7 @@ module _ (sum : List ℕ → ℕ) (size : ℕ) (some : 256 ≤ size) (old : Trac
     ready_whole messages batches = subst (λ (K : History). Ready sum size (state_of new) s K A (stable_place s.stable)) (whole_below H A (stable_place s.stable) messages batches passes) is_ready
 
 -- Behind a flush all of a history is on the device: a recovery of that leaves what a log goes on from that holds the whole history.
-pub ready_kept : (sum : List ℕ → ℕ) (size : ℕ) (site : SegmentPosition) (from : ℕ) (old new : Trace) (H : History) (A f : ℕ) → 256 ≤ size → IsKept sum size site from (state_of old) H → end_below (site.place + from) H ≤ A → CanRecover sum size (state_of old) H A f
+pub ready_kept : (sum : List ℕ → ℕ) (size : ℕ) (site : SegmentPosition) (from : ℕ) (old new : Trace) (H : History) (A f : ℕ) → 256 ≤ size → IsKept sum size site from (state_of old) (logged H) → end_below (site.place + from) H ≤ A → CanRecover sum size (state_of old) H A f
     → (s : SnapshotModel) → Restores sum size old new s → Ready sum size (state_of new) s H A (stable_place s.stable)
 ready_kept sum size site from old new H A f some kept up can s ok =
-    ready_whole sum size some old H A f can new s ok (messages_last (site.place + from) A H.messages (omega (arith, up)) kept.below kept.apart) (batches_last (site.place + from) A H.batches (omega (arith, up)) kept.batches)
+    ready_whole sum size some old H A f can new s ok (messages_last (site.place + from) A H.messages (omega (arith, up)) (logged_below (site.place + from) H kept.below) (logged_apart H kept.apart)) (batches_last (site.place + from) A H.batches (omega (arith, up)) kept.batches)

@@ -9,6 +9,7 @@ use Rattle.sled_store.specs.Device.{Synced, NamesSynced, LogState, State, Conten
 use Rattle.sled_store.specs.SnapshotFiles.{BeginsFrom}
 use Rattle.sled_store.proofs.Histories.Ascending.{apart_ascends, all_from_in}
 use Rattle.sled_core.specs.Fits.{EndBelow, CloseBelow}
+use Rattle.sled_core.specs.Logged.{logged}
 use Rattle.sled_core.specs.Ready.{HasFile, IsReady}
 use Rattle.sled_core.specs.Running.{BlobsFit, NamesFit, IsReadyFor, Ready}
 use Rattle.sled_core.specs.Reached.{StandsActive}
@@ -34,6 +35,9 @@ use Rattle.sled_log.proofs.Recovers.RecoversGood.{RecoversWell, well_of}
 use Rattle.sled_log.proofs.SnapshotFile.BeginLemmas.{one_begin}
 use Rattle.sled_log.proofs.SnapshotFile.NewestLemmas.{begins_from_only}
 use Rattle.sled_log.proofs.WriteBack.WriteLemmas.{written_as}
+use Rattle.sled_core.proofs.Logged.Messages.{logged_twice}
+use Rattle.sled_core.proofs.Logged.Names.{names_alike, ready_alike}
+use Rattle.sled_core.proofs.Logged.Stands.{active_alike}
 
 -- The log file that a recovery leaves, for what lies below the cut.
 module _ (sum : List ℕ → ℕ) (size : ℕ) (content : Content) (H : History) (A f : ℕ) (some : 256 ≤ size) (can : CanRead sum size content H A f) (x : RecoveryResult)
@@ -153,14 +157,18 @@ module _ (sum : List ℕ → ℕ) (size : ℕ) (H : History) (A f : ℕ) (some :
     file = file_left sum size content H A f some can x well own.zeros;
   }
 
+  -- A log has of it what it has.
+  of_log : logged kept ≡ logged (logged kept)
+  of_log = sym (logged_twice kept)
+
   at_cut : IsReadyFor sum size now x.model kept A cut
-  unfolding ready
+  unfolding ready ready_alike
   at_cut = record {
-    ready = ready;
-    alone = subst (λ (l : LogState). StandsActive sum size l.bytes x.model kept) (sym log_left) (stands_left sum size content H A f some can x well own.zeros);
+    ready = ready_alike kept (logged kept) of_log sum size now x.model ready;
+    alone = active_alike kept (logged kept) of_log sum size now.log.bytes x.model (subst (λ (l : LogState). StandsActive sum size l.bytes x.model kept) (sym log_left) (stands_left sum size content H A f some can x well own.zeros));
     active = active sum size content H A f some can x well;
     blobs = subst (BlobsFit sum now.blobs kept) (sym well.place) blobs;
-    names = names;
+    names = names_alike kept (logged kept) of_log sum size now.snapshots cut first names;
     passes = subst (λ n. A ≤ n) (sym well.place) can.log.passes;
     left = leaves_recoverable sum size kept A cut now (below_cut sum size H A f some old readable own x recovers spelled new has);
   }

@@ -12,7 +12,10 @@ use Rattle.sled_store.specs.Moments.{LeavesOnly}
 use Rattle.sled_store.specs.Script.{Performs, after_all}
 use Rattle.sled_store.proofs.Traces.MomentLemmas.{joined}
 use Rattle.sled_core.specs.Fits.{IsKept, IsUsedUpBelow, device_of, fault_of, flushing, holding_below, reserved_end, segment_size_of, synced_end}
+use Rattle.sled_core.proofs.Logged.Alike.{table_alike}
+use Rattle.sled_core.proofs.Logged.Messages.{logged_below, logged_twice}
 use Rattle.sled_core.proofs.PublicLaws.{ready_with_less}
+use Rattle.sled_core.specs.Logged.{logged}
 use Rattle.sled_core.specs.Recoverable.{LeavesRecoverable, NoForeign, RecoverableIfOwn}
 use Rattle.sled_core.specs.Running.{Ready, end_below}
 use Rattle.sled_core.proofs.Holds.ReachLemmas.{fits_holds}
@@ -46,9 +49,9 @@ returns-in-Ok-clause-ready g c = λ H A f U can.
     subst (λ (t : Trace). LeavesRecoverable sum size H end f (state_of t)) (sym same) (subst (λ n. LeavesRecoverable sum n H end f (state_of (trace (device_of log)))) now_size (fits_leaves trace sum log H end f U (c.in-Ok.ensures.acknowledges H A f U can.fits))) in
     let there : CanRecover sum size (state_of old) H end f =
     record { orderly = can.orderly; left = left; own = subst (λ (t : Trace). NoForeign sum size (state_of t) (content_of (state_of t))) (sym came) can.own } in
-    let kept : IsKept sum size log.site log.buffer.written_len (state_of old) H =
-    subst (λ (t : Trace). IsKept sum size log.site log.buffer.written_len (state_of t) H) (sym same)
-    (subst (λ n. IsKept sum n log.site log.buffer.written_len (state_of (trace (device_of log))) H) now_size (c.in-Ok.ensures.records H (fits_holds trace sum c.args.log H A f U can.fits))) in
+    let kept : IsKept sum size log.site log.buffer.written_len (state_of old) (logged H) =
+    subst (λ (t : Trace). IsKept sum size log.site log.buffer.written_len (state_of t) (logged H)) (sym same)
+    (subst (λ n. IsKept sum n log.site log.buffer.written_len (state_of (trace (device_of log))) (logged H)) now_size (c.in-Ok.ensures.records H (fits_holds trace sum c.args.log H A f U can.fits))) in
     let long : 256 ≤ size = (let least = config.config.least in omega (arith, least, sizes)) in
     let less : max A (end_below (reserved_end c.args.log) H) ≤ end = (let low = end_rises (reserved_end c.args.log) (synced_end log) H c.in-Ok.ensures.synced.whole in omega (arith, low)) in
     if_ok c.read_snapshot_or_default-snapshot.result _ (λ s. Ready sum size (state_of new) (model_of s) H (max A (end_below (reserved_end c.args.log) H)) (stable_place s.stable_lsn))
@@ -59,12 +62,13 @@ returns-in-Ok-clause-ready g c = λ H A f U can.
 pub returns-in-Ok-clause-table : goal.returns-in-Ok-clause-table
 unfolding Ready
 returns-in-Ok-clause-table g c = λ H A f U can.
-    if_ok c.read_snapshot_or_default-snapshot.result _ (λ s. IsTable (model_of s).pages H (stable_place s.stable_lsn)) (λ s ready. ready.ready.table) (returns-in-Ok-clause-ready g c H A f U can)
+    if_ok c.read_snapshot_or_default-snapshot.result _ (λ s. IsTable (model_of s).pages H (stable_place s.stable_lsn)) (λ s ready. table_alike (logged H) H (logged_twice H) (model_of s).pages (stable_place s.stable_lsn) ready.ready.table) (returns-in-Ok-clause-ready g c H A f U can)
 
 pub returns-in-Ok-clause-past : goal.returns-in-Ok-clause-past
 unfolding Ready
 returns-in-Ok-clause-past g c = λ H A f U can.
-    if_ok c.read_snapshot_or_default-snapshot.result _ (λ s. All (λ (m : Message). m.place + m.size ≤ stable_place s.stable_lsn) H.messages) (λ s ready k d lt. (ready.ready.below k d lt).1) (returns-in-Ok-clause-ready g c H A f U can)
+    if_ok c.read_snapshot_or_default-snapshot.result _ (λ s. All (λ (m : Message). m.place + m.size ≤ stable_place s.stable_lsn) H.messages)
+    (λ s ready k d lt. (logged_below (stable_place s.stable_lsn) H ready.ready.below k d lt).1) (returns-in-Ok-clause-ready g c H A f U can)
 
 -- the size is the same behind flush and halt
 pub returns-in-Ok-clause-did : goal.returns-in-Ok-clause-did

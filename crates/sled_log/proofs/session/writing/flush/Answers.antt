@@ -5,8 +5,10 @@ use Rattle.sled_store.specs.Device.{Event, state_of}
 use Rattle.sled_store.specs.Script.{Performs, after_all}
 use Rattle.sled_core.specs.Causes.{OnDone}
 use Rattle.sled_core.specs.Fits.{IsKept, IsUsedUpBelow, current_begin, device_of, fault_of, held_len, holding_below, reserved_end, segment_size_of, stable_end, synced_end}
+use Rattle.sled_core.specs.Logged.{logged}
 use Rattle.sled_core.specs.Running.{Fits, end_below}
-use Rattle.sled_core.proofs.Holds.ReachLemmas.{kept_past, fits_holds, fits_stable}
+use Rattle.sled_core.proofs.Holds.ReachLemmas.{fits_holds, fits_stable}
+use Rattle.sled_core.proofs.PublicLaws.{written_past}
 use Rattle.sled_log.specs.RunPhases.{seen, stands, view_by}
 use Rattle.sled_log.specs.RunStates.{LogView}
 use Rattle.sled_log.specs.Runs.{stable_from}
@@ -35,8 +37,8 @@ returns-in-Ok-clause-step g c = λ k at free.
     let position = c.flush.ensures.position in
     let put = stays_put trace sum old new c.flush.ensures.tickets position c.flush.ensures.keeps in
     let ends : synced_end new ≡ stable_from to l = sym c.in-Ok.ensures.synced.stable ∙ stable_seen old sum begun k.tickets to some new (view old.config.device) (view new.config.device) H k.acknowledged k.floor put above in
-    let kept : IsKept sum (segment_size_of old) new.site new.buffer.written_len (state_of (trace (device_of new))) H =
-    subst (λ n. IsKept sum n new.site new.buffer.written_len (state_of (trace (device_of new))) H) position.size (c.in-Ok.ensures.records H holds) in
+    let kept : IsKept sum (segment_size_of old) new.site new.buffer.written_len (state_of (trace (device_of new))) (logged H) =
+    subst (λ n. IsKept sum n new.site new.buffer.written_len (state_of (trace (device_of new))) (logged H)) position.size (c.in-Ok.ensures.records H holds) in
     let reached : ℕ = max k.acknowledged (end_below (stable_end new) H) in
     record {
       not_refused = refl;
@@ -45,7 +47,7 @@ returns-in-Ok-clause-step g c = λ k at free.
         record { history = H; acknowledged = reached; floor = k.floor; tickets = k.tickets },
         record {
           written = has_written old sum begun k.tickets to some new (view old.config.device) (view new.config.device) H k.acknowledged k.floor put c.in-Ok.grown answers.2 answers.3 answers.0 c.in-Ok.ensures.answer c.in-Ok.ensures.synced.whole past above;
-          all = λ i d lt. let low = kept_past sum (segment_size_of old) new.site new.buffer.written_len _ H kept i d lt in omega (arith, low, ends);
+          all = λ i d lt. let low = written_past trace sum new H (c.in-Ok.ensures.records H holds) i d lt in omega (arith, low, ends);
           site = new.site;
           from = new.buffer.written_len;
           at = ends;
