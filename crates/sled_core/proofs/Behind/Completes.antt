@@ -21,7 +21,7 @@ use Rattle.sled_core.specs.SealedBuffers.{one_ended}
 use Rattle.sled_core.proofs.Behind.Around.{HoldAround, apart_with, behind_below, behind_place, held_around, now_with, stays_below, together}
 use Rattle.sled_core.proofs.Behind.Calls.{ended_are, ended_head, ended_long, held_here}
 use Rattle.sled_core.proofs.Behind.FitsMoved.{marks_same}
-use Rattle.sled_core.proofs.Flush.Completed.{all_below, grows}
+use Rattle.sled_core.proofs.Flush.Completed.{all_below, grows, open_inline}
 use Rattle.sled_core.proofs.Holds.Added.{was_or_added}
 use Rattle.sled_core.proofs.Holds.BegunLemmas.{begun-adds, stays_adds}
 use Rattle.sled_core.proofs.Holds.BehindKept.{behind_fewer}
@@ -157,7 +157,6 @@ module _ (sum : List ℕ → ℕ) (size : ℕ) (site : SegmentPosition) (device 
       let inside = here.inside in
       let held = here.held in
       let behind = here.behind in
-      let stands = reserved_in sum size (s.site.place / size) s.bytes r (open_plain r.state is_open) (at_there (Stands sum size (s.site.place / size) s.bytes) s.reserved i r there here.segment.stand) in
       let long : length completed ≡ length s.bytes = ended_long sum size device fault s own_history here.segment i r there is_open r.sum r.kind in
       record {
         next = here.next;
@@ -167,7 +166,7 @@ module _ (sum : List ℕ → ℕ) (size : ℕ) (site : SegmentPosition) (device 
         behind = omega (arith, behind, long);
         segment = done_here.2 (StaysBelow completed_history stable site.place) (λ x under its. stayed x its);
         above = all_still (λ x. begins ≤ x.place) here.above low;
-        inline = all_still HasInline here.inline (s.site.slot + r.from, ap (λ (o : Option ℤ). pointer_as o (s.site.slot + r.from)) stands.text.plain);
+        inline = all_still HasInline here.inline (s.site.slot + r.from, open_inline sum size (s.site.place / size) s.site s.bytes s.reserved i r there is_open here.segment.stand);
       }
 
   pub behind_completed : HoldBehind sum size device fault (site.place + size) (pre ++ now_with s completed s.written_len (one_ended i s.sealed) (set s.reserved i (ended Completed r)) ∷ post) (StaysBelow completed_history stable site.place) done_here.0.batches

@@ -25,6 +25,8 @@ use Rattle.sled_core.proofs.Behind.FitsMoved.{behind-moved}
 use Rattle.sled_core.proofs.Behind.Refilled.{filled_at, fits-refilled}
 use Rattle.sled_core.proofs.Holds.CompletedLemmas.{behind_written, ends_within}
 use Rattle.sled_core.proofs.Logged.Messages.{inline_real}
+use Rattle.sled_codec.specs.declared.result.DiskPtr.TheVariants.{Inline}
+use Rattle.sled_core.proofs.Flush.Completed.{open_inline}
 
 module _ (sum : List ℕ → ℕ) (size : ℕ) (site : SegmentPosition) (device : State) (fault : Option IoError) (bytes : List ℕ) (from : ℕ) (bs : List Sealed) (rs : List Reserved) (pins : ℕ) (H : History) (A f : ℕ) (U : List Message)
     (pre : List SegmentParts) (s : SegmentParts) (post : List SegmentParts) {reach : ℕ} (its : FitsIn sum (log_parts size site device fault bytes from bs rs) (pre ++ s ∷ post) reach pins H A f U) where
@@ -71,14 +73,15 @@ module _ (sum : List ℕ → ℕ) (size : ℕ) (site : SegmentPosition) (device 
         × FitsIn sum (log_parts size site device fault bytes from bs rs) (pre ++ now_with s (written s.bytes r.from (completing r)) s.written_len (one_ended i s.sealed) (set s.reserved i (ended Completed r)) ∷ post) reach pins H' A f (message_in s.site s.bytes r ∷ U)
     behind-fits-completed none big short whole fresh out =
         let now : SegmentParts = now_with s (written s.bytes r.from (completing r)) s.written_len (one_ended i s.sealed) (set s.reserved i (ended Completed r)) in
+        let inline : (message_in s.site s.bytes r).pointer ≡ Inline (s.site.slot + r.from) = open_inline sum size (s.site.place / size) s.site s.bytes s.reserved i r there is_open here.segment.stand in
         let done = inline_real (HoldsIn sum (log_parts size site device fault bytes from bs rs) (pre ++ now ∷ post)) H (message_in s.site s.bytes r) (s.site.slot + r.from)
-        (completed_history sum size site device fault bytes from bs rs (logged H) pre s post its.holds short i r there is_open none) refl
+        (completed_history sum size site device fault bytes from bs rs (logged H) pre s post its.holds short i r there is_open none) inline
         (adds_here sum size site device fault bytes from bs rs (logged H) pre s post its.holds short i r there is_open none)
         (behind-complete sum size site device fault bytes from bs rs (logged H) pre s post its.holds short i r there is_open none) in
         let inside = here.inside in (
           done.0,
           done.1,
-          behind-completed sum size site device fault bytes from bs rs pins H A f U pre s post its now refl refl refl done.0 (message_in s.site s.bytes r) big short whole done.2 done.1 refl
+          behind-completed sum size site device fault bytes from bs rs pins H A f U pre s post its now refl refl refl done.0 (message_in s.site s.bytes r) big short whole done.2 done.1 inline
               (behind_written sum size s.site device fault s.bytes s.written_len s.sealed s.reserved i r own_history here.segment there)
               (let near = ends_within sum size s.site device fault s.bytes s.written_len s.sealed s.reserved i r own_history here.segment there is_open in omega (arith, near, inside)) fresh out,
         )

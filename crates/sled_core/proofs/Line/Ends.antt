@@ -1,5 +1,5 @@
 -- One of the reservations of the n-th of a log's segments ends, whichever that is: what the log holds and fits then, and what it keeps.
-use Rattle.std.proofs.Common.{◌⊎◌, ◌≡◌, ◌∙◌, ◌≤◌, ◌<◌, ◌+◌, ◌*◌, ap, sym, refl, arith, subst, ℕ, zero, suc, max, List, [], ◌∷◌, ◌++◌, length, take, drop, set, map, Option, None, Some, false}
+use Rattle.std.proofs.Common.{◌⊎◌, ◌≡◌, ◌∙◌, ◌≤◌, ◌<◌, ◌+◌, ◌*◌, ap, sym, refl, arith, subst, ℕ, zero, suc, max, List, [], ◌∷◌, ◌++◌, length, take, drop, set, map, Option, None, Some, false, ◌/◌}
 use Rattle.std.specs.declared.io.Error.{Error as IoError}
 use Rattle.std.specs.List.{Contains, slice_get}
 use Rattle.std.proofs.Math.Nat.{suc-mul}
@@ -39,6 +39,8 @@ use Rattle.sled_core.proofs.Line.OlderSlots.{entries_adds, newest_low}
 use Rattle.sled_core.proofs.Logged.Messages.{inline_logged, inline_real}
 use Rattle.sled_core.proofs.Reserve.Ranges.{at_there, chain_within}
 use Rattle.sled_core.proofs.Sealed.Ended.{ends_up}
+use Rattle.sled_codec.specs.declared.result.DiskPtr.TheVariants.{Inline}
+use Rattle.sled_core.proofs.Flush.Completed.{open_inline}
 
 -- What the one that is set has as the one before it had it, each has as before.
 pub set_keeps : {T X : Type 0} (f : T → X) (xs : List T) (n : ℕ) (x y : T) → slice_get xs n ≡ Some x → f y ≡ f x → (k : ℕ) (a b : T) → slice_get xs k ≡ Some a → slice_get (set xs n y) k ≡ Some b → f b ≡ f a
@@ -144,8 +146,9 @@ module _ (sum : List ℕ → ℕ) (size : ℕ) (device : State) (fault : Option 
         let short = own.short in
         let first : History = record { messages = its.holds.head; batches = H.batches } in
         let of_log = holds-complete sum size v.parts.site device fault v.parts.bytes v.parts.written_len v.parts.sealed v.parts.reserved (logged H) its.holds i r at is_open (written_inside v own) own.are short none in
-        let done = inline_real (HoldsIn sum _ (map parts_in ws)) H m (v.parts.site.slot + r.from) of_log.0 refl of_log.1 of_log.2 in
-        let put = inline_logged H m (v.parts.site.slot + r.from) done.0 refl done.1 in
+        let inline : m.pointer ≡ Inline (v.parts.site.slot + r.from) = open_inline sum size (v.parts.site.place / size) v.parts.site v.parts.bytes v.parts.reserved i r at is_open its.holds.own.stand in
+        let done = inline_real (HoldsIn sum _ (map parts_in ws)) H m (v.parts.site.slot + r.from) of_log.0 inline of_log.1 of_log.2 in
+        let put = inline_logged H m (v.parts.site.slot + r.from) done.0 inline done.1 in
         let long : length (written v.parts.bytes r.from (completing r)) ≡ length v.parts.bytes = ended_long sum size device fault v.parts first its.holds.own i r at is_open r.sum r.kind in
         let near = ends_within sum size v.parts.site device fault v.parts.bytes v.parts.written_len v.parts.sealed v.parts.reserved i r first its.holds.own at is_open in
         let above = behind_written sum size v.parts.site device fault v.parts.bytes v.parts.written_len v.parts.sealed v.parts.reserved i r first its.holds.own at in (
@@ -238,8 +241,10 @@ module _ (sum : List ℕ → ℕ) (size : ℕ) (device : State) (fault : Option 
       → (H' : History) × AddsMessage H (message_in v.parts.site v.parts.bytes r) H' × FitsWith sum noted size device fault (set line n (ended_now i r (completing r) Completed v)) machine pins H' A f (message_in v.parts.site v.parts.bytes r ∷ U)
   fits_completed none pins H A f U least ok out fits =
       let done = complete_fits sum size device fault v i r at is_open none line n place fits.reach pins H A f U least ok out there facts fits.parts in
-      let put = inline_logged H (message_in v.parts.site v.parts.bytes r) (v.parts.site.slot + r.from) done.0 refl done.1 in
-      let held = line_holds sum size device fault line fits.reach pins H A f U fits.parts in (
+      let held = line_holds sum size device fault line fits.reach pins H A f U fits.parts in
+      let inline : (message_in v.parts.site v.parts.bytes r).pointer ≡ Inline (v.parts.site.slot + r.from) =
+      with_segment sum size device fault line n v (logged H) held there (λ stays own segment. open_inline sum size (v.parts.site.place / size) v.parts.site v.parts.bytes v.parts.reserved i r at is_open segment.stand) in
+      let put = inline_logged H (message_in v.parts.site v.parts.bytes r) (v.parts.site.slot + r.from) done.0 inline done.1 in (
         done.0,
         done.1,
         record {

@@ -1,5 +1,5 @@
 -- The message of a ticket is completed, in whichever segment it lies: its reservation ends there, and nothing else changes.
-use Rattle.std.proofs.Common.{◌≡◌, ◌∙◌, ap, ◌+◌, ◌-◌, ◌∷◌, sym, subst, arith, refl, ℕ, List, Some}
+use Rattle.std.proofs.Common.{◌≡◌, ◌∙◌, ap, ◌+◌, ◌-◌, ◌∷◌, sym, subst, arith, refl, ℕ, List, Some, Option, ℤ}
 use Rattle.std.specs.Prelude.{unsigned_abs}
 use Rattle.std.specs.List.{slice_get}
 use Rattle.sled_codec.specs.History.{AddsMessage, Message, Step}
@@ -8,7 +8,7 @@ use Rattle.sled_store.specs.Device.{state_of}
 use Rattle.sled_core.specs.declared.iobuf.ReservationState.TheVariants.{Completed}
 use Rattle.sled_core.specs.declared.iobuf.Reserved.{Reserved}
 use Rattle.sled_core.specs.Begun.{SegmentView}
-use Rattle.sled_core.specs.Buffers.{completing, message_in}
+use Rattle.sled_core.specs.Buffers.{completing, message_in, pointer_as}
 use Rattle.sled_core.specs.Fits.{AwaitsIn, Holds, HoldsWith, line_of, noted_in, open_places}
 use Rattle.sled_core.specs.Logged.{logged}
 use Rattle.sled_core.specs.OpenPlaces.{TakesOut, open_places_along}
@@ -64,7 +64,7 @@ returns-clause-history g c = λ H m holds awaits.
     let its = there g c m awaits in
     let done = holds_completed g.C.Checksum.sum_of old.config.config.segment_size (state_of (g.D.Device.trace old.config.device)) old.fault (line_of old) c.segment_of-n.result v at old.site.place (nth_facts old) i r its awaits.own.open_yet (machine_of old.accountant) (noted_in old)
     (sym awaits.own.manifest ∙ c.requires.message) (logged H) holds in
-    let real = inline_real (HoldsWith g.C.Checksum.sum_of (noted_in old) old.config.config.segment_size (state_of (g.D.Device.trace old.config.device)) old.fault _ (machine_of old.accountant)) H (message_in v.parts.site v.parts.bytes r) (v.parts.site.slot + r.from) done.0 refl done.1 done.2 in (
+    let real = inline_real (HoldsWith g.C.Checksum.sum_of (noted_in old) old.config.config.segment_size (state_of (g.D.Device.trace old.config.device)) old.fault _ (machine_of old.accountant)) H (message_in v.parts.site v.parts.bytes r) (v.parts.site.slot + r.from) done.0 (ap (λ (o : Option ℤ). pointer_as o (v.parts.site.slot + r.from)) awaits.own.plain) done.1 done.2 in (
       real.0,
       subst (λ (x : Message). AddsMessage H x real.0) (sym awaits.message) real.1,
       holds_ended old c.complete_in.new.self c.segment_of-n.result v at i r its awaits.own.open_yet (completing r) (completing_short v i r (nth_facts old c.segment_of-n.result v at) its awaits.own.open_yet) Completed
