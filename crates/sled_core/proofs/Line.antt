@@ -3,6 +3,7 @@ pub mod Around
 pub mod BatchNoted
 pub mod Begins
 pub mod Below
+pub mod BlobReads
 pub mod Buffers
 pub mod Canceled
 pub mod Closes

@@ -1,6 +1,10 @@
 -- Why a call of a log failed.
-use Rattle.std.specs.Prelude.{◌≡◌, ◌⊎◌, [], ◌+◌, ◌<◌, ◌%◌, ◌^◌, ℕ, ℤ, pos, List, Option, None, Some, Result, Ok, Err, IsTrue, IsSome}
+use Rattle.std.specs.Prelude.{◌≡◌, ◌⊎◌, [], ◌+◌, ◌<◌, ◌%◌, ◌^◌, ℕ, ℤ, pos, if◌then◌else◌, List, Option, None, Some, Result, Ok, Err, IsTrue, IsSome}
 use Rattle.std.specs.declared.io.Error.{Error as IoError}
+use Rattle.std.specs.IoError.{error_kind}
+use Rattle.std.specs.declared.io.ErrorKind.TheVariants.{NotFound}
+use Rattle.sled_codec.specs.declared.result.DiskPtr.{DiskPtr}
+use Rattle.sled_codec.specs.declared.result.DiskPtr.TheVariants.{Inline, Blob}
 use Rattle.sled_codec.specs.declared.result.Error.{Error}
 use Rattle.std.specs.String.{string_bytes}
 use Rattle.sled_codec.specs.declared.result.Error.TheVariants.{Io, OutOfMemory, Unsupported, Held, Corruption, PlacesUsedUp}
@@ -83,13 +87,23 @@ ReaderAnswers (Err _) early before after = ⊥
 abbrev pub ItemAnswersOver : {T D C : Type 0} → (D → Trace) → (D → ℕ) → (List ℕ → ℕ) → Result T Error → RunningConfig D C → RunningConfig D C → Type 0
 ItemAnswersOver trace faults sum result old new = ItemAnswers sum (state_of (trace old.device)).blobs.file result (faults old.device) (faults new.device)
 
--- A read of a record: as each call that may touch the device, and damage besides.
-abbrev pub RecordAnswers : {T : Type 0} → (List ℕ → ℕ) → (ℤ → Option (List ℕ)) → Result T Error → Option IoError → Option IoError → ℕ → ℕ → Type 0
-RecordAnswers sum blobs (Ok _) old new before after = (old ≡ None) × (new ≡ None) × (after ≡ before)
-RecordAnswers sum blobs (Err (Io e)) old new before after = IsFault e old new before after
-RecordAnswers sum blobs (Err OutOfMemory) old new before after = (old ≡ None) × (new ≡ None) × (after ≡ before)
-RecordAnswers sum blobs (Err (Corruption at)) old new before after = (old ≡ None) × (new ≡ None) × (after ≡ before) × NamesDamage sum blobs at
-RecordAnswers sum blobs (Err _) old new before after = ⊥
+-- Why the device gave nothing for a pointer: a failure, as for each call that may touch it; or the blob is missing, where this is so, and the log doesn't keep that.
+abbrev pub IsFaultAt : (ℤ → Option (List ℕ)) → DiskPtr → IoError → Type 0 → Option IoError → Option IoError → ℕ → ℕ → Type 0
+IsFaultAt blobs (Inline lid) e so old new before after = IsFault e old new before after
+IsFaultAt blobs (Blob lid place) e so old new before after = IsFault e old new before after ⊎ ((error_kind e ≡ NotFound) × (blobs place ≡ None) × so × (old ≡ None) × (new ≡ None) × (after ≡ before))
+
+-- A read of a pointer: as each call that may touch the device, and damage or a missing blob besides.
+abbrev pub RecordAnswers : {T : Type 0} → (List ℕ → ℕ) → (ℤ → Option (List ℕ)) → DiskPtr → Result T Error → Option IoError → Option IoError → ℕ → ℕ → Type 0
+RecordAnswers sum blobs p (Ok _) old new before after = (old ≡ None) × (new ≡ None) × (after ≡ before)
+RecordAnswers sum blobs p (Err (Io e)) old new before after = IsFaultAt blobs p e (Unit {0}) old new before after
+RecordAnswers sum blobs p (Err OutOfMemory) old new before after = (old ≡ None) × (new ≡ None) × (after ≡ before)
+RecordAnswers sum blobs p (Err (Corruption at)) old new before after = (old ≡ None) × (new ≡ None) × (after ≡ before) × NamesDamage sum blobs at
+RecordAnswers sum blobs p (Err _) old new before after = ⊥
+
+-- the failure of the device that an answer tells of; a missing blob is none
+abbrev pub fault_in : {T : Type 0} → Result T Error → Option IoError
+fault_in (Err (Io e)) = if is_fault e then Some e else None
+fault_in _ = None
 
 -- the failure of the device that an answer tells of
 abbrev pub failure_in : {T : Type 0} → Result T Error → Option IoError

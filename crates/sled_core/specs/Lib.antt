@@ -26,6 +26,7 @@ pub mod Positions
 pub mod Prepared
 pub mod Reached
 pub mod ReadBuffer
+pub mod ReadPointer
 pub mod Reading
 pub mod Ready
 pub mod Recoverable

@@ -1,17 +1,21 @@
--- What a read writes first: the one buffer that has the place, where that isn't stable; and what it answers.
+-- What a read writes first: the one buffer that has the place of the message, or of its blob, where that isn't stable; and what it answers.
 use Rattle.std.specs.Prelude.{◌≡◌, ◌⊎◌, ◌≤ℤ◌, ◌<ℤ◌, ◌<◌, int_lt, nat_le, unsigned_abs, ℕ, ℤ, pos, true, if◌then◌else◌, List, [], Option, None, Some, Result, Ok, Err, OnOk, OnErr}
 use Rattle.std.specs.declared.io.Error.{Error as IoError}
+use Rattle.sled_codec.specs.declared.result.DiskPtr.{DiskPtr}
+use Rattle.sled_codec.specs.declared.result.DiskPtr.TheVariants.{Inline, Blob}
 use Rattle.sled_codec.specs.declared.result.Error.{Error}
 use Rattle.sled_codec.specs.declared.result.Error.TheVariants.{Io, OutOfMemory, Held, NotReserved, Corruption, PlacesUsedUp}
 use Rattle.sled_codec.specs.Errors.{IsCorruption}
-use Rattle.sled_store.specs.Blobs.{NamesDamage}
+use Rattle.sled_codec.specs.Pointers.{lid_of}
+use Rattle.sled_store.specs.Blobs.{IsMissing, NamesDamage}
 use Rattle.sled_store.specs.Device.{Event, Trace}
 use Rattle.sled_store.specs.Script.{Performs, after_all}
 use Rattle.sled_core.specs.declared.logger.Log.{Log}
-use Rattle.sled_core.specs.Causes.{IsFault, IsHeld, OnDone}
+use Rattle.sled_core.specs.Causes.{HeldAnswers, IsFaultAt, IsHeld, OnDone}
 use Rattle.sled_core.specs.Fits.{IsUsedUp, NoneSealed, buffers_of, current_begin, device_of, fault_of, reserved_end, sealing_end, segment_size_of, start_of, synced_end, waiting_of}
 use Rattle.sled_core.specs.Keeps.{start_sealed}
 use Rattle.sled_core.specs.Reading.{IsNoPlace}
+use Rattle.sled_core.specs.ReadPointer.{place_read}
 use Rattle.sled_core.specs.Stable.{IsNotReserved}
 use Rattle.sled_core.specs.Waiting.{BufferAt, BufferStart, held_around, none_around, without_around, write_around}
 
@@ -31,14 +35,29 @@ IsWrittenPlace log place = (place < current_begin log) × (none_around place (wa
 abbrev pub IsUsedUpAt : {D C : Type 0} → Log D C → ℤ → Type 0
 IsUsedUpAt log lsn = (pos (current_begin log) ≤ℤ lsn) × IsUsedUp log
 
--- What a read writes: by the calls that settle its place alone, and by all of them where it succeeded, was held, or found damage, which it looks for where nothing holds it.
-pub record Settles {T D C : Type 0} (trace : D → Trace) (sum : List ℕ → ℕ) (result : Result T Error) (lsn : ℤ) (lid : ℕ) (old new : Log D C) : Type 0 where
-  pub made : OnDone result (trace (device_of new) ≡ after_all (settling sum old lsn) (trace (device_of old)))
-  pub damaged : IsCorruption result → IsNoPlace (segment_size_of old) lsn lid ⊎ ((held_at sum old lsn ≡ None) × (trace (device_of new) ≡ after_all (settling sum old lsn) (trace (device_of old))))
-  pub at_most : Performs (settling sum old lsn) (trace (device_of old)) (trace (device_of new))
+-- the place that was read is on the device; a blob of a negative place is before all
+abbrev pub IsSettled : {D C : Type 0} → Log D C → ℤ → DiskPtr → Type 0
+IsSettled log lsn (Inline lid) = IsWrittenPlace log (unsigned_abs lsn)
+IsSettled log lsn (Blob lid place) = pos 0 ≤ℤ place → IsWrittenPlace log (unsigned_abs place)
+
+-- a call answers that a blob is missing
+abbrev pub IsMissed : {T : Type 0} → Result T Error → Type 0
+IsMissed (Err e) = IsMissing e
+IsMissed _ = ⊥
+
+-- the calls that settle a place were made, as no reservation holds it
+abbrev pub IsMade : {D C : Type 0} → (D → Trace) → (List ℕ → ℕ) → ℤ → Log D C → Log D C → Type 0
+IsMade trace sum at old new = (held_at sum old at ≡ None) × (trace (device_of new) ≡ after_all (settling sum old at) (trace (device_of old)))
+
+-- What a read of a pointer writes: by the calls that settle its place alone, and by all of them where it succeeded, was held, or found damage or no blob, for which it looks where nothing holds it.
+pub record Settles {T D C : Type 0} (trace : D → Trace) (sum : List ℕ → ℕ) (result : Result T Error) (lsn : ℤ) (p : DiskPtr) (old new : Log D C) : Type 0 where
+  pub made : OnDone result (trace (device_of new) ≡ after_all (settling sum old (place_read lsn p)) (trace (device_of old)))
+  pub damaged : IsCorruption result → IsNoPlace (segment_size_of old) lsn (lid_of p) ⊎ IsMade trace sum (place_read lsn p) old new
+  pub missed : fault_of old ≡ None → IsMissed result → IsMade trace sum (place_read lsn p) old new
+  pub at_most : Performs (settling sum old (place_read lsn p)) (trace (device_of old)) (trace (device_of new))
   -- the place is on the device then, so that another read writes nothing
-  pub settled : OnOk result (IsWrittenPlace new (unsigned_abs lsn))
-  pub unwritten : lsn <ℤ pos (synced_end old) → trace (device_of new) ≡ trace (device_of old)
+  pub settled : OnOk result (IsSettled new lsn p)
+  pub unwritten : place_read lsn p <ℤ pos (synced_end old) → trace (device_of new) ≡ trace (device_of old)
 
 -- What a read seals: nothing where its place is stable or in a sealed buffer; else the current buffer, at most, which is written then unless an open reservation holds it.
 pub record SealsAround {T D C : Type 0} (result : Result T Error) (lsn : ℤ) (old new : Log D C) : Type 0 where
@@ -75,19 +94,25 @@ pub record WritesAround {T D C : Type 0} (sum : List ℕ → ℕ) (result : Resu
   pub held : IsHeld result → LeavesSealed sum (unsigned_abs lsn) old new
   pub some : OnErr result (LeavesUnsealed sum (unsigned_abs lsn) old new ⊎ LeavesSealed sum (unsigned_abs lsn) old new ⊎ LeavesWritten sum (unsigned_abs lsn) old new)
 
--- What a read refuses, where the log keeps no failure: what is no place as damage, and then a place that wasn't reserved as that. The log is as it was.
-pub record RefusesPlace {T D C : Type 0} (result : Result T Error) (lsn : ℤ) (lid : ℕ) (old new : Log D C) : Type 0 where
-  pub no_place : fault_of old ≡ None → IsNoPlace (segment_size_of old) lsn lid → IsCorruption result × (new ≡ old)
-  pub not_reserved : fault_of old ≡ None → (IsNoPlace (segment_size_of old) lsn lid → ⊥) → pos (reserved_end old) ≤ℤ lsn → pos (synced_end old) ≤ℤ lsn → IsNotReserved result
+-- What a read refuses: all where the log keeps a failure; else what is no place as damage, and then a place that wasn't reserved as that. The log is as it was.
+pub record RefusesPlace {T D C : Type 0} (result : Result T Error) (lsn : ℤ) (p : DiskPtr) (old new : Log D C) : Type 0 where
+  pub faulty : (e : IoError) → fault_of old ≡ Some e → new ≡ old
+  pub no_place : fault_of old ≡ None → IsNoPlace (segment_size_of old) lsn (lid_of p) → IsCorruption result × (new ≡ old)
+  pub not_reserved : fault_of old ≡ None → (IsNoPlace (segment_size_of old) lsn (lid_of p) → ⊥) → pos (reserved_end old) ≤ℤ place_read lsn p → pos (synced_end old) ≤ℤ place_read lsn p → IsNotReserved result
   pub unchanged : IsNotReserved result → new ≡ old
 
--- A read at a place, where all is stable before the one place and what was reserved ends before the other, and an open reservation of the place's buffer begins there: as each call that may touch the device, and damage besides. Held it is exactly where there is such a reservation, and places are used up exactly where that is so.
-abbrev pub ReadAnswers : {T : Type 0} → (List ℕ → ℕ) → (ℤ → Option (List ℕ)) → Result T Error → ℤ → ℕ → ℕ → Option ℕ → Type 0 → Option IoError → Option IoError → ℕ → ℕ → Type 0
-ReadAnswers sum blobs (Ok _) lsn stable end held used old new before after = ((lsn <ℤ pos stable) ⊎ (lsn <ℤ pos end)) × (held ≡ None) × (used → ⊥) × (old ≡ None) × (new ≡ None) × (after ≡ before)
-ReadAnswers sum blobs (Err (Io e)) lsn stable end held used old new before after = IsFault e old new before after
-ReadAnswers sum blobs (Err OutOfMemory) lsn stable end held used old new before after = ((lsn <ℤ pos stable) ⊎ (lsn <ℤ pos end)) × (old ≡ None) × (new ≡ None) × (after ≡ before)
-ReadAnswers sum blobs (Err (Corruption at)) lsn stable end held used old new before after = (old ≡ None) × (new ≡ None) × (after ≡ before) × NamesDamage sum blobs at
-ReadAnswers sum blobs (Err (Held at)) lsn stable end held used old new before after = (lsn <ℤ pos end) × ((place : ℕ) × (held ≡ Some place) × (at ≡ pos place)) × (used → ⊥) × (old ≡ None) × (new ≡ None) × (after ≡ before)
-ReadAnswers sum blobs (Err PlacesUsedUp) lsn stable end held used old new before after = (lsn <ℤ pos end) × used × (old ≡ None) × (new ≡ None) × (after ≡ before)
-ReadAnswers sum blobs (Err (NotReserved at)) lsn stable end held used old new before after = (at ≡ lsn) × (pos stable ≤ℤ lsn) × (pos end ≤ℤ lsn) × (old ≡ None) × (new ≡ None) × (after ≡ before)
-ReadAnswers sum blobs (Err _) lsn stable end held used old new before after = ⊥
+-- A place is settled, where all is stable before the one place and what was reserved ends before the other: as each call that writes buffers, and not reserved exactly where that is so.
+abbrev pub SettleAnswers : {T : Type 0} → Result T Error → ℤ → ℕ → ℕ → Option ℕ → Type 0 → Option IoError → ℕ → ℕ → Type 0
+SettleAnswers (Err (NotReserved at)) lsn stable end held used new before after = (at ≡ lsn) × (pos stable ≤ℤ lsn) × (pos end ≤ℤ lsn) × (new ≡ None) × (after ≡ before)
+SettleAnswers result lsn stable end held used new before after = ((lsn <ℤ pos stable) ⊎ (lsn <ℤ pos end)) × HeldAnswers result held used None new before after
+
+-- A read of a pointer by a place, where all is stable before the one place and what was reserved ends before the other, and an open reservation of the place's buffer begins there: as each call that may touch the device, and damage or a missing blob besides. Held it is exactly where there is such a reservation, and places are used up exactly where that is so.
+abbrev pub ReadAnswers : {T : Type 0} → (List ℕ → ℕ) → (ℤ → Option (List ℕ)) → DiskPtr → Result T Error → ℤ → ℕ → ℕ → Option ℕ → Type 0 → Option IoError → Option IoError → ℕ → ℕ → Type 0
+ReadAnswers sum blobs p (Ok _) lsn stable end held used old new before after = ((lsn <ℤ pos stable) ⊎ (lsn <ℤ pos end)) × (held ≡ None) × (used → ⊥) × (old ≡ None) × (new ≡ None) × (after ≡ before)
+ReadAnswers sum blobs p (Err (Io e)) lsn stable end held used old new before after = IsFaultAt blobs p e (((lsn <ℤ pos stable) ⊎ (lsn <ℤ pos end)) × (held ≡ None) × (used → ⊥)) old new before after
+ReadAnswers sum blobs p (Err OutOfMemory) lsn stable end held used old new before after = ((lsn <ℤ pos stable) ⊎ (lsn <ℤ pos end)) × (old ≡ None) × (new ≡ None) × (after ≡ before)
+ReadAnswers sum blobs p (Err (Corruption at)) lsn stable end held used old new before after = (old ≡ None) × (new ≡ None) × (after ≡ before) × NamesDamage sum blobs at
+ReadAnswers sum blobs p (Err (Held at)) lsn stable end held used old new before after = (lsn <ℤ pos end) × ((place : ℕ) × (held ≡ Some place) × (at ≡ pos place)) × (used → ⊥) × (old ≡ None) × (new ≡ None) × (after ≡ before)
+ReadAnswers sum blobs p (Err PlacesUsedUp) lsn stable end held used old new before after = (lsn <ℤ pos end) × used × (old ≡ None) × (new ≡ None) × (after ≡ before)
+ReadAnswers sum blobs p (Err (NotReserved at)) lsn stable end held used old new before after = (at ≡ lsn) × (pos stable ≤ℤ lsn) × (pos end ≤ℤ lsn) × (old ≡ None) × (new ≡ None) × (after ≡ before)
+ReadAnswers sum blobs p (Err _) lsn stable end held used old new before after = ⊥

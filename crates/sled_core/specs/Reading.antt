@@ -132,9 +132,10 @@ pub record HasDamagedBlob (sum : List ℕ → ℕ) (size : ℕ) (log : List ℕ)
 abbrev pub IsUnreadable : (List ℕ → ℕ) → ℕ → List ℕ → (ℤ → Option (List ℕ)) → ℕ → ℕ → Type 0
 IsUnreadable sum size log blobs lid number = IsMalformed sum size log lid number ⊎ HasDamagedBlob sum size log blobs lid number
 
--- The message is given: its kind, its page and its item, and how long its record is.
+-- The message is given: its kind, its page and its item, and how long its record is, or where its blob lies.
 abbrev pub GivesMessage : Message → LogRead → Type 0
 GivesMessage m (Inline h bytes len) = (kind_written m.kind m.page false ≡ Some h.kind) × (h.pid ≡ m.page) × (bytes.items ≡ m.bytes) × (len ≡ m.size)
+GivesMessage m (Blob h bytes place len) = (kind_written m.kind m.page true ≡ Some h.kind) × (h.pid ≡ m.page) × (bytes.items ≡ m.bytes) × ((lid : ℕ) × (m.pointer ≡ ptr.Blob lid place))
 GivesMessage m _ = ⊥
 
 -- the item stands in the record

@@ -8,22 +8,22 @@ ghost use Rattle.sled_codec.specs.History.{History, Message, Completed, Step};
 ghost use Rattle.std.specs.IoError.{error_kind};
 ghost use Rattle.std.specs.declared.io.ErrorKind.TheVariants.{OutOfMemory};
 ghost use Rattle.sled_codec.specs.Errors.{IsErrorOf, IsCorrupt, IsCorruption};
-ghost use Rattle.sled_store.specs.Device.{state_of, Wrote, Synced};
+ghost use Rattle.sled_store.specs.Device.{content_of, state_of, Wrote, Synced};
 ghost use Rattle.sled_store.specs.Answers.{Counts, FailsOr};
 ghost use Rattle.sled_core.specs.Tickets.{IsPlaceOf, is_manifest_of};
-ghost use Rattle.sled_core.specs.Reading.{GivesMessage, IsInline, IsReading, IsUnreadable, IsNoPlace};
+ghost use Rattle.sled_core.specs.Reading.{GivesMessage, IsInline};
 ghost use Rattle.sled_codec.specs.Places.{MayBegin};
 ghost use Rattle.sled_codec.specs.Pointers.{lid_of};
 ghost use Rattle.sled_codec.specs.Snapshots.{model_of};
 ghost use Rattle.sled_store.specs.Moments.{IsLater, LeavesOnly};
 ghost use Rattle.sled_store.specs.Accounts.{IsAccountant};
 ghost use Rattle.sled_store.specs.Begin.{IsStartable, IsInReach};
-ghost use Rattle.sled_core.specs.Recoverable.{LeavesRecoverable, RecoverableIfOwn};
+ghost use Rattle.sled_core.specs.Recoverable.{LeavesRecoverable, NoForeign, RecoverableIfOwn};
 ghost use Rattle.sled_core.specs.AccountProps.{IsAccountant-prop};
 ghost use Rattle.sled_core.specs.Begun.{FollowOn, FollowOn-prop, IsFilledLine, IsFilledLine-prop, line_at};
 ghost use Rattle.sled_core.specs.OpenBatches.{AreByPlace, AreByPlace-prop, batch_of};
 ghost use Rattle.sled_core.specs.OpenPlaces.{open_manifests};
-ghost use Rattle.sled_core.specs.Causes.{FaultAnswers, RecordAnswers, ReserveAnswers, failure_in};
+ghost use Rattle.sled_core.specs.Causes.{FaultAnswers, RecordAnswers, ReserveAnswers};
 
 mod abort;
 pub(crate) mod batches;
@@ -33,6 +33,7 @@ mod iterating;
 mod mark_writebatch;
 pub mod read_at;
 pub mod read_message;
+mod read_pointer;
 mod reserving;
 mod segments;
 mod settle;
@@ -43,7 +44,8 @@ mod writing;
 use crate::iobuf::start::begin;
 use crate::iobuf::{IoBuf, Purpose, SegmentPosition};
 use crate::logger::batches::NotedBatch;
-use crate::logger::read_message::{LogRead, read_message};
+use crate::logger::read_message::LogRead;
+use crate::logger::read_pointer::{fault_in, place_read, read_pointer};
 use crate::logger::reserving::kind_for;
 use crate::logger::segments::{SegmentBuffer, no_segments};
 use crate::reservation::{Guard, Reservation};
@@ -93,6 +95,7 @@ impl<D: Device, C: Checksum> Log<D, C> {
     ghost use Rattle.sled_core.specs.OpenPlaces.{TakesOutPlaceOf};
     ghost use Rattle.sled_core.specs.Keeps.{ConfigKept, GoesOn, KeepsOthers, Preserves, SamePosition};
     ghost use Rattle.sled_core.specs.ReadBuffer.{IsUsedUpAt, ReadAnswers, RefusesPlace, SealsAround, Settles, WritesAround, held_at};
+    ghost use Rattle.sled_core.specs.ReadPointer.{GivesBlob, IsDamageAt, IsDamageOf, IsReadOf, IsStableBlob, place_read};
     ghost use Rattle.sled_core.specs.Ready.{IsReady};
     ghost use Rattle.sled_core.specs.Running.{Fits, Ready, end_below};
     ghost use Rattle.sled_core.specs.Starts.{BeginsBehind, HasMadeStart, StartCalls, StartsOrRefuses, config_left};
@@ -304,6 +307,10 @@ impl<D: Device, C: Checksum> Log<D, C> {
     /// buffer is written. Returns what stands there. A message has its record as long as it is of a segment that isn't wholly
     /// on the device, or the table of what was written needs it; else its slot may have been filled when the log started.
     ///
+    /// Of a message whose item is a blob that blob alone is read, and the place that counts is the blob's: a negative one is
+    /// before all. Its header has the blob's kind, this page, the number of the segment of this place, and 0 for checksum and
+    /// length; the length of its record is answered as 0.
+    ///
     /// # Errors
     ///
     /// In this order: `Io` where the log keeps a failure of its device; `Corruption` for a negative place, and for an offset at
@@ -311,28 +318,29 @@ impl<D: Device, C: Checksum> Log<D, C> {
     /// is as it was after each of these); `PlacesUsedUp` exactly where the current buffer has to be sealed, no further record
     /// has room in its segment, and the next one would not end below 2^63; `Held` exactly where the place isn't stable and its buffer has an open reservation,
     /// with the least place of those of that buffer; `Corruption` for a record that can't be read
-    /// (`read_message`). `Io` where the device failed in this call: the log keeps that. `OutOfMemory` where the current
+    /// (`read_message`), for a blob of fewer than five bytes, and with the blob's place for one whose checksum fails. `Io` of kind `NotFound` where the
+    /// pointer's blob is missing: the log doesn't keep that. `Io` where the device failed in this call: the log keeps that. `OutOfMemory` where the current
     /// buffer could not be sealed, or from the device.
-    pub fn read(&mut self, _pid: PageId, lsn: Lsn, ptr: DiskPtr) -> Result<LogRead>
-        requires inline { IsInline ptr }
+    pub fn read(&mut self, pid: PageId, lsn: Lsn, ptr: DiskPtr) -> Result<LogRead>
         ensures message { (H : History) (m : Message) → Holds D.trace C.sum_of self.old H → Contains H.messages m → HasRecordOf self.old H m
-            → pos m.place ≡ lsn → m.pointer ≡ ptr → IfOk result (GivesMessage m) }
+            → pos m.place ≡ lsn → m.pointer ≡ ptr → IsInline ptr → IfOk result (GivesMessage m) }
         ensures undamaged { (H : History) (A f : ℕ) (U : List Message) (m : Message) → Fits D.trace C.sum_of self.old H A f U → Contains H.messages m
-            → HasRecordOf self.old H m → pos m.place ≡ lsn → m.pointer ≡ ptr → IsCorruption result → ⊥ }
-        ensures reading { let s = state_of (D.trace (device_of self.new)) in let size = segment_size_of self.old in
-            IfOk result (IsReading C.sum_of size s.log.bytes s.blobs.file (lid_of ptr) (unsigned_abs lsn / size)) }
-        ensures corrupt { let s = state_of (D.trace (device_of self.new)) in let size = segment_size_of self.old in
-            IsCorruption result → IsNoPlace size lsn (lid_of ptr) ⊎ IsUnreadable C.sum_of size s.log.bytes s.blobs.file (lid_of ptr) (unsigned_abs lsn / size) }
-        ensures calls { Settles D.trace C.sum_of result lsn (lid_of ptr) self.old self.new }
-        ensures refused { RefusesPlace result lsn (lid_of ptr) self.old self.new }
-        ensures buffers { SealsAround result lsn self.old self.new × WritesAround C.sum_of result lsn self.old self.new }
+            → HasRecordOf self.old H m → pos m.place ≡ lsn → m.pointer ≡ ptr → IsInline ptr → IsCorruption result → ⊥ }
+        ensures blob { let s = state_of (D.trace (device_of self.new)) in (H : History) (A f : ℕ) (U : List Message) (m : Message)
+            → Fits D.trace C.sum_of self.old H A f U → NoForeign C.sum_of (segment_size_of self.old) s (content_of s)
+            → IsStableBlob self.old H m pid lsn ptr → GivesBlob m (fault_of self.old) result }
+        ensures reading { let size = segment_size_of self.old in
+            IfOk result (IsReadOf C.sum_of size (state_of (D.trace (device_of self.new))) pid (unsigned_abs lsn / size) ptr) }
+        ensures corrupt { IfErr result (IsDamageAt C.sum_of (segment_size_of self.old) (state_of (D.trace (device_of self.new))) lsn ptr) }
+        ensures calls { Settles D.trace C.sum_of result lsn ptr self.old self.new }
+        ensures refused { RefusesPlace result lsn ptr self.old self.new }
+        ensures buffers { let at = place_read lsn ptr in SealsAround result at self.old self.new × WritesAround C.sum_of result at self.old self.new }
         ensures keeps { Preserves D.trace C.sum_of self.old self.new }
         ensures tickets { KeepsTickets self.old self.new }
         ensures position { SamePosition self.old self.new }
-        ensures answers { let blobs = (state_of (D.trace (device_of self.new))).blobs.file in
-            ReadAnswers C.sum_of blobs result lsn (synced_end self.old) (reserved_end self.old) (held_at C.sum_of self.old lsn) (IsUsedUpAt self.old lsn)
+        ensures answers { let blobs = (state_of (D.trace (device_of self.new))).blobs.file in let at = place_read lsn ptr in
+            ReadAnswers C.sum_of blobs ptr result at (synced_end self.old) (reserved_end self.old) (held_at C.sum_of self.old at) (IsUsedUpAt self.old at)
             (fault_of self.old) (fault_of self.new) (D.faults (device_of self.old)) (D.faults (device_of self.new)) }
-        ensures faulty { (e : IoError) → fault_of self.old ≡ Some e → self.new ≡ self.old }
     {
         if let Some(e) = self.fault {
             return Err(Error::Io(e));
@@ -342,32 +350,26 @@ impl<D: Device, C: Checksum> Log<D, C> {
         if lsn < 0 || !may_begin(lid, size) {
             return Err(Error::Corruption { at: None });
         }
-        let place = lsn.unsigned_abs();
-        if place >= self.synced_end() && place >= self.reserved_to {
-            return Err(Error::NotReserved(lsn));
-        }
-        self.settle(place)?;
-        self.read_settled(lid, SegmentNumber(place / size))
+        self.settle_at(place_read(lsn, &ptr))?;
+        self.read_settled(pid, SegmentNumber(lsn.unsigned_abs() / size), ptr)
     }
 
-    /// Reads at an offset of the device, and keeps a failure of it.
-    fn read_settled(&mut self, lid: LogOffset, number: SegmentNumber) -> Result<LogRead>
+    /// Reads what a pointer names from the device, and keeps a failure of it.
+    fn read_settled(&mut self, page: PageId, number: SegmentNumber, ptr: DiskPtr) -> Result<LogRead>
         requires fault { fault_of self.old ≡ None }
-        requires begin { MayBegin (segment_size_of self.old) lid }
-        ensures reading { let s = state_of (D.trace (device_of self.old)) in
-            IfOk result (IsReading C.sum_of (segment_size_of self.old) s.log.bytes s.blobs.file lid number.0) }
-        ensures unreadable { let s = state_of (D.trace (device_of self.old)) in
-            IsCorruption result → IsUnreadable C.sum_of (segment_size_of self.old) s.log.bytes s.blobs.file lid number.0 }
+        requires begin { MayBegin (segment_size_of self.old) (lid_of ptr) }
+        ensures reading { IfOk result (IsReadOf C.sum_of (segment_size_of self.old) (state_of (D.trace (device_of self.old))) page number.0 ptr) }
+        ensures damage { IfErr result (IsDamageOf C.sum_of (segment_size_of self.old) (state_of (D.trace (device_of self.old))) number.0 ptr) }
         ensures keeps { Preserves D.trace C.sum_of self.old self.new }
         ensures tickets { KeepsTickets self.old self.new }
         ensures position { SamePosition self.old self.new }
         ensures trace { D.trace (device_of self.new) ≡ D.trace (device_of self.old) }
         ensures line { line_of self.new ≡ line_of self.old }
         ensures answers { let blobs = (state_of (D.trace (device_of self.old))).blobs.file in
-            RecordAnswers C.sum_of blobs result None (fault_of self.new) (D.faults (device_of self.old)) (D.faults (device_of self.new)) }
+            RecordAnswers C.sum_of blobs ptr result None (fault_of self.new) (D.faults (device_of self.old)) (D.faults (device_of self.new)) }
     {
-        let answer = read_message(&mut self.config, None, lid, number);
-        self.fault = failure_of(&answer);
+        let answer = read_pointer(&mut self.config, page, number, ptr);
+        self.fault = fault_in(&answer);
         answer
     }
 
@@ -398,15 +400,5 @@ impl<D: Device, C: Checksum> Log<D, C> {
             manifests: _,
         } = self;
         config
-    }
-}
-
-/// The failure of the device that an answer tells of.
-fn failure_of(answer: &Result<LogRead>) -> Option<io::Error>
-    ensures { result ≡ failure_in answer.now }
-{
-    match answer {
-        Err(Error::Io(e)) => Some(*e),
-        _ => None,
     }
 }

@@ -1,29 +1,37 @@
 -- What a read finds of a message that a log has the record of; and what it answers and asks for, by whether its place was brought to the device.
-use Rattle.std.proofs.Common.{◌≡◌, ◌∙◌, ◌⊎◌, ◌≤◌, ◌<◌, ◌≤ℤ◌, ◌<ℤ◌, ℕ, ℤ, pos, unsigned_abs, Bool, true, false, if◌then◌else◌, List, [], ◌∷◌, map, Option, None, Some, Result, Ok, Err, arith, inl, inr, ap, sym, refl, subst}
+use Rattle.std.proofs.Common.{SFits, of_z, to_z, IsTrue, ◌≡◌, ◌∙◌, ◌⊎◌, ◌≤◌, ◌<◌, ◌≤ℤ◌, ◌<ℤ◌, ℕ, ℤ, pos, unsigned_abs, Bool, true, false, if◌then◌else◌, List, [], ◌∷◌, map, Option, None, Some, Result, Ok, Err, arith, inl, inr, ap, sym, refl, subst}
 use Rattle.std.specs.List.{Contains}
 use Rattle.std.specs.Prelude.{int_lt}
 use Rattle.std.specs.declared.io.Error.{Error as IoError}
+use Rattle.std.specs.declared.io.ErrorKind.{ErrorKind}
+use Rattle.std.specs.declared.io.ErrorKind.TheVariants.{NotFound}
+use Rattle.std.specs.Int.{w64}
+use Rattle.std.specs.IoError.{error_kind}
 use Rattle.std.proofs.lemmas.Bool.{cases_lt}
-use Rattle.std.proofs.lemmas.Int.{ints}
+use Rattle.std.proofs.lemmas.Int.{ints, to_z-of_z}
 use Rattle.sled_codec.specs.declared.result.Error.{Error}
 use Rattle.sled_codec.specs.declared.result.Error.TheVariants.{Corruption, Held, Io, NotReserved, OutOfMemory, PlacesUsedUp}
-use Rattle.sled_codec.specs.declared.result.DiskPtr.TheVariants.{Inline}
+use Rattle.sled_codec.specs.declared.result.DiskPtr.{DiskPtr}
+use Rattle.sled_codec.specs.declared.result.DiskPtr.TheVariants.{Inline, Blob}
 use Rattle.sled_codec.specs.Errors.{IsCorruption}
 use Rattle.sled_codec.specs.History.{Message, History, table}
 use Rattle.sled_codec.specs.Places.{MayBegin}
+use Rattle.sled_codec.specs.Pointers.{lid_of}
 use Rattle.sled_codec.specs.Snapshots.{SnapshotModel, stable_place}
+use Rattle.sled_store.specs.Answers.{is_fault_kind}
 use Rattle.sled_store.specs.Device.{NamesState, State, Trace, state_of}
 use Rattle.sled_store.specs.Script.{Performs, after_all}
 use Rattle.sled_store.specs.SnapshotFiles.{BeginsFrom}
 use Rattle.sled_store.proofs.Names.OneBegin.{one_begin}
 use Rattle.sled_store.proofs.Traces.ScriptLemmas.{performs_whole}
 use Rattle.sled_core.specs.Begun.{segment_view, view_at}
-use Rattle.sled_core.specs.Causes.{HeldAnswers, IsHeld, OnDone, RecordAnswers}
+use Rattle.sled_core.specs.Causes.{HeldAnswers, IsFault, IsFaultAt, IsHeld, OnDone, RecordAnswers}
 use Rattle.sled_core.specs.declared.logger.Log.{Log}
 use Rattle.sled_core.specs.Fits.{HasRecordOf, Holds, HoldsLine, current_begin, device_of, fault_of, line_of, reserved_end, segment_size_of, start_of, synced_end, waiting_of}
 use Rattle.sled_core.specs.LogFile.{StaysFrom}
 use Rattle.sled_core.specs.Logged.{in_log, logged}
-use Rattle.sled_core.specs.ReadBuffer.{IsWrittenPlace, LeavesWritten, ReadAnswers, RefusesPlace, SealsAround, Settles, WritesAround, held_at, settling}
+use Rattle.sled_core.specs.ReadBuffer.{IsSettled, IsWrittenPlace, LeavesWritten, ReadAnswers, RefusesPlace, SealsAround, SettleAnswers, Settles, WritesAround, held_at, settling}
+use Rattle.sled_core.specs.ReadPointer.{GivesBlob, IsDamageAt, place_read}
 use Rattle.sled_core.specs.Reading.{IsNoPlace}
 use Rattle.sled_core.specs.Running.{Fits}
 use Rattle.sled_core.specs.SealedBuffers.{writing}
@@ -53,6 +61,22 @@ settled_names sum log lsn t = by_test (int_lt lsn (pos (synced_end log))) where
   by_test : (o : Bool) → (state_of (after_all (if o then [] else write_around (unsigned_abs lsn) (buffers_of sum log)) t)).snapshots ≡ (state_of t).snapshots
   by_test true = refl
   by_test false = around_names (unsigned_abs lsn) (buffers_of sum log) t
+
+-- and the blobs
+around_blobs : (at : ℕ) (bs : List BufferAt) (t : Trace) → (state_of (after_all (write_around at bs) t)).blobs ≡ (state_of t).blobs
+around_blobs at [] t = refl
+around_blobs at (b ∷ bs) t = by_test (around_blobs at bs t) (has_place at b) b.held where
+  by_test : (state_of (after_all (write_around at bs) t)).blobs ≡ (state_of t).blobs → (o : Bool) (held : Option ℕ)
+      → (state_of (after_all (if o then unless_held held (writing b.lid b.bytes []) else write_around at bs) t)).blobs ≡ (state_of t).blobs
+  by_test rest true None = refl
+  by_test rest true (Some place) = refl
+  by_test rest false held = rest
+
+pub settled_blobs : {D C : Type 0} (sum : List ℕ → ℕ) (log : Log D C) (lsn : ℤ) (t : Trace) → (state_of (after_all (settling sum log lsn) t)).blobs ≡ (state_of t).blobs
+settled_blobs sum log lsn t = by_test (int_lt lsn (pos (synced_end log))) where
+  by_test : (o : Bool) → (state_of (after_all (if o then [] else write_around (unsigned_abs lsn) (buffers_of sum log)) t)).blobs ≡ (state_of t).blobs
+  by_test true = refl
+  by_test false = around_blobs (unsigned_abs lsn) (buffers_of sum log) t
 
 none_is : (o : Option BufferAt) → is_none o ≡ true → o ≡ None
 none_is None is = refl
@@ -112,81 +136,135 @@ settled_record {D} {C} trace sum old mid H m before after whole whole_now there 
           its_record sum mid now (logged H) later m known (inr (inr (omega (arith, low, reached, above), known))) written lid pointer)
     ]
 
--- What a read answers of a place that was reserved, where that isn't brought to the device.
+-- What a read answers where its place isn't brought to the device.
 
-module _ {D C : Type 0} (lsn : ℤ) (lid : ℕ) (sum : List ℕ → ℕ) (old new : Log D C) where
-  pub err_settles : (S T : Type 0) (trace : D → Trace) (e : Error) (held : Option ℕ) (used : Type 0) (now : Option IoError) (before after : ℕ) → HeldAnswers {T = S} (Err e) held used None now before after
-      → OnDone {T = S} (Err e) (trace (device_of new) ≡ after_all (settling sum old lsn) (trace (device_of old))) → Performs (settling sum old lsn) (trace (device_of old)) (trace (device_of new))
-      → (lsn <ℤ pos (synced_end old) → trace (device_of new) ≡ trace (device_of old)) → Settles {T = T} trace sum (Err e) lsn lid old new
-  err_settles S T trace (Held at) held used now before after answers made most still = record { made = made; damaged = λ is. absurd is; at_most = most; settled = tt; unwritten = still }
-  err_settles S T trace (Io e) held used now before after answers made most still = record { made = tt; damaged = λ is. absurd is; at_most = most; settled = tt; unwritten = still }
-  err_settles S T trace OutOfMemory held used now before after answers made most still = record { made = tt; damaged = λ is. absurd is; at_most = most; settled = tt; unwritten = still }
-  err_settles S T trace PlacesUsedUp held used now before after answers made most still = record { made = tt; damaged = λ is. absurd is; at_most = most; settled = tt; unwritten = still }
-  err_settles S T trace _ held used now before after answers made most still = absurd answers
+none_kept : {e : IoError} → None ≡ Some e → ⊥
+none_kept is = cc
+
+-- a failure of the device isn't that a blob is missing
+no_miss : (kind : ErrorKind) → IsTrue (is_fault_kind kind) → kind ≡ NotFound → ⊥
+no_miss kind fault is = let bad : IsTrue false = subst (λ k. IsTrue (is_fault_kind k)) is fault in cc
+
+pub fault_missed : (e : IoError) (now : Option IoError) (before after : ℕ) → IsFault e None now before after → error_kind e ≡ NotFound → ⊥
+fault_missed e now before after fault missed = elim fault [ inl kept ↦ none_kept kept.0 | inr here ↦ no_miss (error_kind e) here.3 missed ]
+
+-- a failure of the device is one, whatever is read
+pub fault_at : (blobs : ℤ → Option (List ℕ)) (p : DiskPtr) (e : IoError) (so : Type 0) (old now : Option IoError) (before after : ℕ) → IsFault e old now before after → IsFaultAt blobs p e so old now before after
+fault_at blobs (Inline lid) e so old now before after fault = fault
+fault_at blobs (Blob lid place) e so old now before after fault = inl fault
+
+module _ {D C : Type 0} (lsn : ℤ) (p : DiskPtr) (sum : List ℕ → ℕ) (old new : Log D C) where
+  abbrev at_read : ℤ
+  at_read = place_read lsn p
 
   -- It was a place, and stable or reserved.
-  pub refuses_none : {T : Type 0} (r : Result T Error) → (IsNotReserved r → ⊥) → (IsNoPlace (segment_size_of old) lsn lid → ⊥) → (lsn <ℤ pos (synced_end old)) ⊎ (lsn <ℤ pos (reserved_end old)) → RefusesPlace r lsn lid old new
-  refuses_none r not_so is_place inside = record {
+  pub refuses_none : {T : Type 0} (r : Result T Error) → fault_of old ≡ None → (IsNotReserved r → ⊥) → (IsNoPlace (segment_size_of old) lsn (lid_of p) → ⊥) → (at_read <ℤ pos (synced_end old)) ⊎ (at_read <ℤ pos (reserved_end old)) → RefusesPlace r lsn p old new
+  refuses_none r free not_so is_place inside = record {
+    faulty = λ e kept. absurd (none_kept (sym free ∙ kept));
     no_place = λ _ none. absurd (is_place none);
     not_reserved = λ _ _ behind beyond. elim inside [ inl below ↦ absurd (omega (arith, ints, below, beyond)) | inr lower ↦ absurd (omega (arith, ints, lower, behind)) ];
     unchanged = λ is. absurd (not_so is);
   }
 
-pub err_reserved : (S T : Type 0) (e : Error) (held : Option ℕ) (used : Type 0) (now : Option IoError) (before after : ℕ) → HeldAnswers {T = S} (Err e) held used None now before after → IsNotReserved {T = T} (Err e) → ⊥
-err_reserved S T (Held at) held used now before after answers is = is
-err_reserved S T (Io e) held used now before after answers is = is
-err_reserved S T OutOfMemory held used now before after answers is = is
-err_reserved S T PlacesUsedUp held used now before after answers is = is
-err_reserved S T _ held used now before after answers is = absurd answers
+  module _ (S T : Type 0) (e : Error) (held : Option ℕ) (used : Type 0) (now : Option IoError) (before after : ℕ) where
+    pub err_settles : (trace : D → Trace) → SettleAnswers {T = S} (Err e) at_read (synced_end old) (reserved_end old) held used now before after
+        → OnDone {T = S} (Err e) (trace (device_of new) ≡ after_all (settling sum old at_read) (trace (device_of old))) → Performs (settling sum old at_read) (trace (device_of old)) (trace (device_of new))
+        → (at_read <ℤ pos (synced_end old) → trace (device_of new) ≡ trace (device_of old)) → Settles {T = T} trace sum (Err e) lsn p old new
+    err_settles trace answers made most still = by e answers made where
+      by : (x : Error) → SettleAnswers {T = S} (Err x) at_read (synced_end old) (reserved_end old) held used now before after
+          → OnDone {T = S} (Err x) (trace (device_of new) ≡ after_all (settling sum old at_read) (trace (device_of old))) → Settles {T = T} trace sum (Err x) lsn p old new
+      by (Held at) answers made = record { made = made; damaged = λ is. absurd is; missed = λ _ is. absurd is; at_most = most; settled = tt; unwritten = still }
+      by (Io x) answers made = record { made = tt; damaged = λ is. absurd is; missed = λ _ is. absurd (fault_missed x now before after answers.1 is); at_most = most; settled = tt; unwritten = still }
+      by OutOfMemory answers made = record { made = tt; damaged = λ is. absurd is; missed = λ _ is. absurd is; at_most = most; settled = tt; unwritten = still }
+      by PlacesUsedUp answers made = record { made = tt; damaged = λ is. absurd is; missed = λ _ is. absurd is; at_most = most; settled = tt; unwritten = still }
+      by (NotReserved at) answers made = record { made = tt; damaged = λ is. absurd is; missed = λ _ is. absurd is; at_most = most; settled = tt; unwritten = still }
+      by _ answers made = absurd answers.1
 
-pub err_damaged : (S T : Type 0) (e : Error) (held : Option ℕ) (used : Type 0) (now : Option IoError) (before after : ℕ) → HeldAnswers {T = S} (Err e) held used None now before after → IsCorruption {T = T} (Err e) → ⊥
-err_damaged S T (Held at) held used now before after answers is = is
-err_damaged S T (Io e) held used now before after answers is = is
-err_damaged S T OutOfMemory held used now before after answers is = is
-err_damaged S T PlacesUsedUp held used now before after answers is = is
-err_damaged S T _ held used now before after answers is = absurd answers
+    pub err_refuses : SettleAnswers {T = S} (Err e) at_read (synced_end old) (reserved_end old) held used now before after → fault_of old ≡ None → (IsNotReserved {T = S} (Err e) → new ≡ old) → (IsNoPlace (segment_size_of old) lsn (lid_of p) → ⊥)
+        → RefusesPlace {T = T} (Err e) lsn p old new
+    err_refuses answers free same is_place = by e answers same where
+      by : (x : Error) → SettleAnswers {T = S} (Err x) at_read (synced_end old) (reserved_end old) held used now before after → (IsNotReserved {T = S} (Err x) → new ≡ old) → RefusesPlace {T = T} (Err x) lsn p old new
+      by (NotReserved at) answers same = record { faulty = λ x kept. absurd (none_kept (sym free ∙ kept)); no_place = λ _ none. absurd (is_place none); not_reserved = λ _ _ _ _. tt; unchanged = λ _. same tt }
+      by (Held at) answers same = refuses_none (Err (Held at)) free (λ is. is) is_place answers.0
+      by (Io x) answers same = refuses_none (Err (Io x)) free (λ is. is) is_place answers.0
+      by OutOfMemory answers same = refuses_none (Err OutOfMemory) free (λ is. is) is_place answers.0
+      by PlacesUsedUp answers same = refuses_none (Err PlacesUsedUp) free (λ is. is) is_place answers.0
+      by _ answers same = absurd answers.1
 
-pub err_answers : (S T : Type 0) (sum : List ℕ → ℕ) (blobs : ℤ → Option (List ℕ)) (e : Error) (lsn : ℤ) (stable end : ℕ) (held : Option ℕ) (used : Type 0) (now : Option IoError) (before after : ℕ) → (lsn <ℤ pos stable) ⊎ (lsn <ℤ pos end) → (lsn <ℤ pos stable → held ≡ None)
-    → (used → pos stable ≤ℤ lsn) → HeldAnswers {T = S} (Err e) held used None now before after → ReadAnswers {T = T} sum blobs (Err e) lsn stable end held used None now before after
-err_answers S T sum blobs (Held at) lsn stable end held used now before after inside free up answers = elim inside [
+-- What it says is no damage.
+pub err_damage : (S : Type 0) (e : Error) (lsn : ℤ) (stable end : ℕ) (held : Option ℕ) (used : Type 0) (now : Option IoError) (before after : ℕ) → SettleAnswers {T = S} (Err e) lsn stable end held used now before after
+    → (sum : List ℕ → ℕ) (size : ℕ) (s : State) (at : ℤ) (p : DiskPtr) → IsDamageAt sum size s at p e
+err_damage S (Corruption at) lsn stable end held used now before after answers sum size s place p = absurd answers.1
+err_damage S _ lsn stable end held used now before after answers sum size s place p = tt
+
+pub err_damaged : (S T : Type 0) (e : Error) (lsn : ℤ) (stable end : ℕ) (held : Option ℕ) (used : Type 0) (now : Option IoError) (before after : ℕ) → SettleAnswers {T = S} (Err e) lsn stable end held used now before after → IsCorruption {T = T} (Err e) → ⊥
+err_damaged S T (Corruption at) lsn stable end held used now before after answers is = answers.1
+err_damaged S T _ lsn stable end held used now before after answers is = is
+
+-- No message that is missed.
+pub err_gives : (S : Type 0) (e : Error) (m : Message) (kept : Option IoError) (lsn : ℤ) (stable end : ℕ) (held : Option ℕ) (used : Type 0) (now : Option IoError) (before after : ℕ) → SettleAnswers {T = S} (Err e) lsn stable end held used now before after → GivesBlob m kept (Err e)
+err_gives S (Corruption at) m kept lsn stable end held used now before after answers = absurd answers.1
+err_gives S (Io e) m kept lsn stable end held used now before after answers = λ _ missed. fault_missed e now before after answers.1 missed
+err_gives S _ m kept lsn stable end held used now before after answers = tt
+
+pub err_answers : (S T : Type 0) (sum : List ℕ → ℕ) (blobs : ℤ → Option (List ℕ)) (p : DiskPtr) (e : Error) (lsn : ℤ) (stable end : ℕ) (held : Option ℕ) (used : Type 0) (now : Option IoError) (before after : ℕ) → (lsn <ℤ pos stable → held ≡ None)
+    → (used → pos stable ≤ℤ lsn) → SettleAnswers {T = S} (Err e) lsn stable end held used now before after → ReadAnswers {T = T} sum blobs p (Err e) lsn stable end held used None now before after
+err_answers S T sum blobs p (Held at) lsn stable end held used now before after free up (inside, answers) = elim inside [
   | inl below ↦ absurd (let some : None ≡ Some answers.0.0 = sym (free below) ∙ answers.0.1 in cc)
   | inr lower ↦ (lower, answers.0, answers.1, answers.2, answers.3, answers.4)
 ]
-err_answers S T sum blobs (Io e) lsn stable end held used now before after inside free up answers = answers
-err_answers S T sum blobs OutOfMemory lsn stable end held used now before after inside free up answers = (inside, answers.0, answers.1, answers.2)
-err_answers S T sum blobs PlacesUsedUp lsn stable end held used now before after inside free up answers = elim inside [
+err_answers S T sum blobs p (Io e) lsn stable end held used now before after free up (inside, answers) = fault_at blobs p e _ None now before after answers
+err_answers S T sum blobs p OutOfMemory lsn stable end held used now before after free up (inside, answers) = (inside, answers.0, answers.1, answers.2)
+err_answers S T sum blobs p PlacesUsedUp lsn stable end held used now before after free up (inside, answers) = elim inside [
   | inl below ↦ absurd (let above = up answers.0 in omega (arith, ints, below, above))
   | inr lower ↦ (lower, answers.0, answers.1, answers.2, answers.3)
 ]
-err_answers S T sum blobs _ lsn stable end held used now before after inside free up answers = absurd answers
+err_answers S T sum blobs p (NotReserved at) lsn stable end held used now before after free up answers = (answers.0, answers.1, answers.2, refl, answers.3, answers.4)
+err_answers S T sum blobs p _ lsn stable end held used now before after free up answers = absurd answers.1
+
+-- a place is settled as its buffers are written, where it was reserved
+pub settle_answers : {T : Type 0} (r : Result T Error) (lsn : ℤ) (stable end : ℕ) (held : Option ℕ) (used : Type 0) (now : Option IoError) (before after : ℕ) → (lsn <ℤ pos stable) ⊎ (lsn <ℤ pos end) → HeldAnswers r held used None now before after
+    → SettleAnswers r lsn stable end held used now before after
+settle_answers (Err (NotReserved at)) lsn stable end held used now before after inside answers = absurd answers
+settle_answers _ lsn stable end held used now before after inside answers = (inside, answers)
 
 -- And where it is.
 
-pub read_reserved : {T : Type 0} (sum : List ℕ → ℕ) (blobs : ℤ → Option (List ℕ)) (r : Result T Error) (old now : Option IoError) (before after : ℕ) → RecordAnswers sum blobs r old now before after → IsNotReserved r → ⊥
-read_reserved sum blobs (Err (NotReserved at)) old now before after answers is = answers
-read_reserved sum blobs _ old now before after answers is = is
+pub read_reserved : {T : Type 0} (sum : List ℕ → ℕ) (blobs : ℤ → Option (List ℕ)) (p : DiskPtr) (r : Result T Error) (old now : Option IoError) (before after : ℕ) → RecordAnswers sum blobs p r old now before after → IsNotReserved r → ⊥
+read_reserved sum blobs p (Err (NotReserved at)) old now before after answers is = answers
+read_reserved sum blobs p _ old now before after answers is = is
 
-pub read_held : {T : Type 0} (sum : List ℕ → ℕ) (blobs : ℤ → Option (List ℕ)) (r : Result T Error) (old now : Option IoError) (before after : ℕ) → RecordAnswers sum blobs r old now before after → IsHeld r → ⊥
-read_held sum blobs (Err (Held at)) old now before after answers is = answers
-read_held sum blobs _ old now before after answers is = is
+pub read_held : {T : Type 0} (sum : List ℕ → ℕ) (blobs : ℤ → Option (List ℕ)) (p : DiskPtr) (r : Result T Error) (old now : Option IoError) (before after : ℕ) → RecordAnswers sum blobs p r old now before after → IsHeld r → ⊥
+read_held sum blobs p (Err (Held at)) old now before after answers is = answers
+read_held sum blobs p _ old now before after answers is = is
 
-pub read_settles : {T D C : Type 0} (trace : D → Trace) (sum : List ℕ → ℕ) (r : Result T Error) (lsn : ℤ) (lid : ℕ) (old mid new : Log D C) → held_at sum old lsn ≡ None → trace (device_of mid) ≡ after_all (settling sum old lsn) (trace (device_of old))
-    → (lsn <ℤ pos (synced_end old) → trace (device_of mid) ≡ trace (device_of old)) → trace (device_of new) ≡ trace (device_of mid) → IsWrittenPlace new (unsigned_abs lsn) → Settles trace sum r lsn lid old new
-read_settles trace sum r lsn lid old mid new held made still read written = record {
+pub read_settles : {T D C : Type 0} (trace : D → Trace) (sum : List ℕ → ℕ) (r : Result T Error) (lsn : ℤ) (p : DiskPtr) (old mid new : Log D C) → held_at sum old (place_read lsn p) ≡ None → trace (device_of mid) ≡ after_all (settling sum old (place_read lsn p)) (trace (device_of old))
+    → (place_read lsn p <ℤ pos (synced_end old) → trace (device_of mid) ≡ trace (device_of old)) → trace (device_of new) ≡ trace (device_of mid) → IsSettled new lsn p → Settles trace sum r lsn p old new
+read_settles trace sum r lsn p old mid new held made still read written = record {
   made = all_done r _ (read ∙ made);
   damaged = λ _. inr (held, read ∙ made);
+  missed = λ _ _. (held, read ∙ made);
   at_most = performs_whole _ _ _ (read ∙ made);
   settled = all_ok r _ written;
   unwritten = λ below. read ∙ still below;
 }
 
-pub read_answers : {T : Type 0} (sum : List ℕ → ℕ) (blobs : ℤ → Option (List ℕ)) (r : Result T Error) (lsn : ℤ) (stable end : ℕ) (held : Option ℕ) (used : Type 0) (now : Option IoError) (before after : ℕ) → (lsn <ℤ pos stable) ⊎ (lsn <ℤ pos end) → held ≡ None → (used → ⊥)
-    → RecordAnswers sum blobs r None now before after → ReadAnswers sum blobs r lsn stable end held used None now before after
-read_answers sum blobs (Ok x) lsn stable end held used now before after inside none unused answers = (inside, none, unused, answers.0, answers.1, answers.2)
-read_answers sum blobs (Err (Io e)) lsn stable end held used now before after inside none unused answers = answers
-read_answers sum blobs (Err OutOfMemory) lsn stable end held used now before after inside none unused answers = (inside, answers.0, answers.1, answers.2)
-read_answers sum blobs (Err (Corruption at)) lsn stable end held used now before after inside none unused answers = answers
-read_answers sum blobs (Err _) lsn stable end held used now before after inside none unused answers = absurd answers
+-- the place that was read is on the device
+pub is_settled : {D C : Type 0} (log : Log D C) (lsn : ℤ) (p : DiskPtr) → pos 0 ≤ℤ lsn → (pos 0 ≤ℤ place_read lsn p → IsWrittenPlace log (unsigned_abs (place_read lsn p))) → IsSettled log lsn p
+is_settled log lsn (Inline lid) above written = written above
+is_settled log lsn (Blob lid place) above written = written
+
+pub read_answers : {T : Type 0} (sum : List ℕ → ℕ) (blobs : ℤ → Option (List ℕ)) (p : DiskPtr) (r : Result T Error) (lsn : ℤ) (stable end : ℕ) (held : Option ℕ) (used : Type 0) (now : Option IoError) (before after : ℕ) → (lsn <ℤ pos stable) ⊎ (lsn <ℤ pos end) → held ≡ None → (used → ⊥)
+    → RecordAnswers sum blobs p r None now before after → ReadAnswers sum blobs p r lsn stable end held used None now before after
+read_answers sum blobs p (Ok x) lsn stable end held used now before after inside none unused answers = (inside, none, unused, answers.0, answers.1, answers.2)
+read_answers sum blobs (Inline lid) (Err (Io e)) lsn stable end held used now before after inside none unused answers = answers
+read_answers sum blobs (Blob lid place) (Err (Io e)) lsn stable end held used now before after inside none unused answers = elim answers [
+  | inl fault ↦ inl fault
+  | inr missed ↦ inr (missed.0, missed.1, (inside, none, unused), missed.3, missed.4, missed.5)
+]
+read_answers sum blobs p (Err OutOfMemory) lsn stable end held used now before after inside none unused answers = (inside, answers.0, answers.1, answers.2)
+read_answers sum blobs p (Err (Corruption at)) lsn stable end held used now before after inside none unused answers = answers
+read_answers sum blobs p (Err _) lsn stable end held used now before after inside none unused answers = absurd answers
 
 -- What is sealed.
 
@@ -224,3 +302,10 @@ module _ {D C : Type 0} (lsn : ℤ) (old mid : Log D C) where
 -- a place that isn't negative
 pub pos_abs : (z : ℤ) → pos 0 ≤ℤ z → pos (unsigned_abs z) ≡ z
 pos_abs z above = omega (arith, ints)
+
+-- such a one, as code holds it
+pub at_place : (lsn : ℤ) (bits : ℤ) (place : ℕ) → place ≡ unsigned_abs bits → bits ≡ lsn → pos 0 ≤ℤ lsn → pos place ≡ lsn
+at_place lsn bits place is same above = ap pos (is ∙ ap unsigned_abs same) ∙ pos_abs lsn above
+
+pub above_zero : (lsn : ℤ) → SFits w64 lsn → int_lt (to_z w64 (of_z w64 lsn)) (pos 0) ≡ false → pos 0 ≤ℤ lsn
+above_zero lsn fits test = let same = to_z-of_z w64 lsn fits in let known : int_lt lsn (pos 0) ≡ false = subst (λ z. int_lt z (pos 0) ≡ false) same test in grind (arith, ints, known)

@@ -1,22 +1,49 @@
 //! Bringing the buffer of one place to the device.
 //!
 //! The others aren't written, so it may lie behind a gap (`specs/ReadBuffer.antt`).
-ghost use Rattle.std.specs.Prelude.{◌≡◌, ◌<◌, ◌≤◌, ◌⊎◌, Contains, pos, None, true, OnErr, OnOk};
+ghost use Rattle.std.specs.Prelude.{◌≡◌, ◌<◌, ◌≤◌, ◌<ℤ◌, ◌≤ℤ◌, ◌⊎◌, Contains, pos, unsigned_abs, None, true, OnErr, OnOk};
 ghost use Rattle.sled_store.specs.Script.{after_all, Performs};
 ghost use Rattle.sled_core.specs.Causes.{HeldAnswers, IsHeld, OnDone};
 ghost use Rattle.sled_core.specs.Fits.{KeepsTickets, NoneSealed, current_begin, device_of, fault_of, reserved_end, start_of, synced_end, waiting_of};
 ghost use Rattle.sled_core.specs.Keeps.{Preserves, SamePosition};
-ghost use Rattle.sled_core.specs.ReadBuffer.{IsUsedUpAt, IsWrittenPlace, SealsAround, WritesAround, held_at, settling};
+ghost use Rattle.sled_core.specs.ReadBuffer.{IsUsedUpAt, IsWrittenPlace, SealsAround, SettleAnswers, WritesAround, held_at, settling};
+ghost use Rattle.sled_core.specs.Stable.{IsNotReserved};
 ghost use Rattle.sled_core.specs.Waiting.{BufferAt, has_place, without_around};
 
 use crate::logger::Log;
-use sled_codec::result::{Error, Result};
+use sled_codec::result::{Error, Lsn, Result};
 use sled_codec::serialization::Checksum;
 use sled_store::Device;
 
 impl<D: Device, C: Checksum> Log<D, C> {
+    /// Brings the buffer of a place to the device, where that was reserved and isn't stable. A negative place is before all.
+    pub(crate) fn settle_at(&mut self, place: Lsn) -> Result<()>
+        requires { fault_of self.old ≡ None }
+        ensures written { OnOk result (pos 0 ≤ℤ place → IsWrittenPlace self.new (unsigned_abs place)) }
+        ensures still { place <ℤ pos (synced_end self.old) → self.new ≡ self.old }
+        ensures unchanged { IsNotReserved result → self.new ≡ self.old }
+        ensures calls { OnDone result (D.trace (device_of self.new) ≡ after_all (settling C.sum_of self.old place) (D.trace (device_of self.old))) }
+        ensures at_most { Performs (settling C.sum_of self.old place) (D.trace (device_of self.old)) (D.trace (device_of self.new)) }
+        ensures keeps { Preserves D.trace C.sum_of self.old self.new }
+        ensures tickets { KeepsTickets self.old self.new }
+        ensures position { SamePosition self.old self.new }
+        ensures answers { SettleAnswers result place (synced_end self.old) (reserved_end self.old) (held_at C.sum_of self.old place) (IsUsedUpAt self.old place)
+            (fault_of self.new) (D.faults (device_of self.old)) (D.faults (device_of self.new)) }
+        ensures seals { SealsAround result place self.old self.new }
+        ensures buffers { WritesAround C.sum_of result place self.old self.new }
+    {
+        if place < 0 {
+            return Ok(());
+        }
+        let at = place.unsigned_abs();
+        if at >= self.synced_end() && at >= self.reserved_to {
+            return Err(Error::NotReserved(place));
+        }
+        self.settle(at)
+    }
+
     /// Brings the buffer of a place to the device, where the place isn't stable. The current one is sealed for that.
-    pub(crate) fn settle(&mut self, place: u64) -> Result<()>
+    fn settle(&mut self, place: u64) -> Result<()>
         requires fault { fault_of self.old ≡ None }
         requires reserved { (place < synced_end self.old) ⊎ (place < reserved_end self.old) }
         ensures written { OnOk result (IsWrittenPlace self.new place) }

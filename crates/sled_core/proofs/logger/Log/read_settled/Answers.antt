@@ -13,7 +13,7 @@ pub returns-clause-keeps : goal.returns-clause-keeps
 unfolding Holds Fits
 returns-clause-keeps g c =
     let old = c.args.self.now in
-    let answer = c.read_message-answer.ensures in
+    let answer = c.read_pointer-answer.ensures in
     let size = ap (λ (x : Config). x.segment_size) answer.config in
     record {
       goes_on = goes_on_quietly g.D.Device.trace g.C.Checksum.sum_of old _ (record { config = answer.config; checksum = answer.checksum }) answer.trace (omega arith);

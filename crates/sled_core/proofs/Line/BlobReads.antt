@@ -1,0 +1,197 @@
+-- A message whose item is a blob, and that is in the table of all that is stable, is read: a record may begin at its offset, and its blob is there, has its item, and lies below the stable end.
+use Rattle.std.proofs.Common.{◌≡◌, ◌∙◌, ◌<◌, ◌≤◌, ◌%◌, ◌++◌, ◌∷◌, ℕ, ℤ, List, length, map, Option, None, Some, Result, Ok, Err, sym, ap, subst, arith, inl, inr}
+use Rattle.std.specs.Prelude.{IfErr, IfOk}
+use Rattle.std.specs.List.{Contains}
+use Rattle.std.specs.declared.io.Error.{Error as IoError}
+use Rattle.std.proofs.Common.{length-append}
+use Rattle.std.proofs.lemmas.Bool.{cases_lt}
+use Rattle.sled_codec.specs.declared.result.DiskPtr.{DiskPtr}
+use Rattle.sled_codec.specs.declared.result.DiskPtr.TheVariants as ptr
+use Rattle.sled_codec.specs.declared.result.Error.{Error}
+use Rattle.sled_codec.specs.declared.result.Error.TheVariants as error
+use Rattle.sled_codec.specs.declared.serialization.message.MessageKind.{MessageKind}
+use Rattle.sled_codec.specs.HeaderLaws.{kind_of-code_of}
+use Rattle.sled_codec.specs.History.{Message, History, table}
+use Rattle.sled_codec.specs.Kinds.{code_of, kind_of}
+use Rattle.sled_codec.specs.Places.{MayBegin}
+use Rattle.sled_codec.specs.Pointers.{lid_of}
+use Rattle.sled_codec.specs.Spelling.{low_bytes}
+use Rattle.sled_codec.specs.SpellingLaws.{length-low_bytes, same_fronts, same_rests}
+use Rattle.sled_store.specs.Blobs.{HoldsItem, IsBlob, IsDamagedBlob}
+use Rattle.sled_store.specs.Device.{NamesState, State, Trace, content_of, state_of}
+use Rattle.sled_store.specs.Foreign.{NoForeignNames}
+use Rattle.sled_store.proofs.Crashes.SettledLemmas.{name_read_left}
+use Rattle.sled_store.proofs.Histories.EarlierEntries.{entry_earlier}
+use Rattle.sled_store.proofs.Segments.TableEntries.{from_table}
+use Rattle.sled_core.specs.declared.logger.Log.{Log}
+use Rattle.sled_core.specs.declared.logger.read_message.LogRead.{LogRead}
+use Rattle.sled_core.specs.declared.logger.read_message.LogRead.TheVariants as read
+use Rattle.sled_core.specs.Begun.{line_end, segment_view}
+use Rattle.sled_core.specs.Reached.{StandsAmong}
+use Rattle.sled_core.specs.Fits.{begun_segment, parts_in, device_of, fault_of, line_of, machine_at, noted_in, segment_size_of, stable_end, synced_end}
+use Rattle.sled_core.specs.OpenBatches.{stable_below}
+use Rattle.sled_core.specs.Causes.{IsFault, RecordAnswers}
+use Rattle.sled_core.specs.Reading.{GivesMessage, IsInline}
+use Rattle.sled_core.specs.ReadPointer.{GivesBlob, IsBlobDamage, IsBlobRead, IsDamageOf, IsReadOf}
+use Rattle.sled_core.specs.Recoverable.{BlobIsBelow, HasItem, IsSegmentOf, NoForeign, NoHeaderOfZeros}
+use Rattle.sled_core.specs.Running.{Fits, FitsWith}
+use Rattle.sled_core.proofs.Holds.FitsBatches.{stable_noted}
+use Rattle.sled_core.proofs.Holds.WholeHistory.{whole_ascends}
+use Rattle.sled_core.proofs.Line.Reads.{fault_missed}
+use Rattle.sled_core.proofs.Read.ScanLemmas.{aligned_offset}
+use Rattle.sled_core.proofs.Reached.StableBelow.{stable_is, stable_low, stable_open}
+use Rattle.sled_core.proofs.Torn.WrittenParts.{path_rises}
+
+-- Behind two sums the same follows.
+behind_sums : (a b : ℕ) (xs ys : List ℕ) → low_bytes 4 a ++ xs ≡ low_bytes 4 b ++ ys → xs ≡ ys
+behind_sums a b xs ys is = same_rests (low_bytes 4 a) (low_bytes 4 b) xs ys (same_fronts (low_bytes 4 a) (low_bytes 4 b) xs ys (length-low_bytes 4 a (omega arith) ∙ sym (length-low_bytes 4 b (omega arith))) is) is
+
+-- A blob holds one kind and one item, and isn't damaged.
+module _ (sum : List ℕ → ℕ) (bytes : List ℕ) (kind : MessageKind) (item : List ℕ) (is : IsBlob sum bytes kind item) where
+  pub holds_own : (k : MessageKind) (x : List ℕ) → HoldsItem sum bytes k x → (kind ≡ k) × (x ≡ item)
+  holds_own k x holds =
+      let rest : code_of kind ∷ item ≡ holds.code ∷ x = behind_sums _ _ _ _ (sym is ∙ holds.is) in
+      let code : code_of kind ≡ holds.code = cc in
+      let same : item ≡ x = cc in
+      (sym (kind_of-code_of kind) ∙ ap kind_of code ∙ sym holds.kind_is, sym same)
+
+  pub undamaged : IsDamagedBlob sum bytes → ⊥
+  undamaged damaged = damaged (code_of kind) item is
+
+  pub some_long : 5 ≤ length bytes
+  some_long =
+      let whole = ap length is in
+      let front = length-low_bytes 4 (sum (code_of kind ∷ item)) (omega arith) in
+      omega (arith, whole, front, length-append (low_bytes 4 (sum (code_of kind ∷ item))) (code_of kind ∷ item))
+
+-- bytes that are there are those that are
+one_file : (file : Option (List ℕ)) (a b : List ℕ) → file ≡ Some a → file ≡ Some b → a ≡ b
+one_file file a b x y = let both : Some a ≡ Some b = sym x ∙ y in cc
+
+-- What is read of a blob that has the item of a message gives that message; it isn't missing, nor damaged.
+module _ (sum : List ℕ → ℕ) (blobs : ℤ → Option (List ℕ)) (m : Message) (lid : ℕ) (place : ℤ) (pointer : m.pointer ≡ ptr.Blob lid place) (has : HasItem sum blobs m (ptr.Blob lid place)) where
+  pub gives_blob : (page number : ℕ) → m.page ≡ page → (r : LogRead) → IsBlobRead sum blobs page number place r → GivesMessage m r
+  gives_blob page number of (read.Blob h bytes at len) reads =
+      let file : has.file ≡ reads.3 = one_file (blobs place) has.file reads.3 has.there reads.4 in
+      let own = holds_own sum has.file has.kind m.bytes has.is h.kind bytes.items (subst (λ (b : List ℕ). HoldsItem sum b h.kind bytes.items) (sym file) reads.5) in (
+        has.known ∙ ap (λ (k : MessageKind). Some k) own.0,
+        reads.0.paged ∙ sym of,
+        own.1,
+        (lid, pointer ∙ ap (ptr.Blob lid) (sym reads.1)),
+      )
+  gives_blob page number of (read.Inline h bytes len) reads = absurd reads
+  gives_blob page number of (read.Canceled len) reads = absurd reads
+  gives_blob page number of (read.Cap segment) reads = absurd reads
+  gives_blob page number of read.Corrupted reads = absurd reads
+  gives_blob page number of (read.DanglingBlob h at len) reads = absurd reads
+  gives_blob page number of (read.BatchManifest peg len) reads = absurd reads
+
+  pub blob_whole : (at : Option DiskPtr) → IsBlobDamage sum (blobs place) place at → ⊥
+  blob_whole None (bytes, there, short) = let same = ap length (one_file (blobs place) has.file bytes has.there there) in let long = some_long sum has.file has.kind m.bytes has.is in omega (arith, same, long, short)
+  blob_whole (Some (ptr.Blob l p)) (none, at, bytes, there, long, damaged) = undamaged sum has.file has.kind m.bytes has.is (subst (IsDamagedBlob sum) (sym (one_file (blobs place) has.file bytes has.there there)) damaged)
+  blob_whole (Some (ptr.Inline l)) damage = damage
+
+  pub blob_there : blobs place ≡ None → ⊥
+  blob_there none = let both : None ≡ Some has.file = sym none ∙ has.there in cc
+
+-- So it is of a pointer to it.
+pub gives_read : (sum : List ℕ → ℕ) (size : ℕ) (s : State) (m : Message) (page number : ℕ) (p : DiskPtr) (kept : Option IoError) (r : Result LogRead Error) (old now : Option IoError) (before after : ℕ)
+    → (IsInline p → ⊥) → m.pointer ≡ p → m.page ≡ page → HasItem sum s.blobs.file m p → old ≡ None
+    → IfOk r (IsReadOf sum size s page number p) → IfErr r (IsDamageOf sum size s number p) → RecordAnswers sum s.blobs.file p r old now before after → GivesBlob m kept r
+gives_read sum size s m page number (ptr.Inline lid) kept r old now before after beside pointer of has none reads damage answers = absurd (beside tt)
+gives_read sum size s m page number (ptr.Blob lid place) kept (Ok x) old now before after beside pointer of has none reads damage answers = gives_blob sum s.blobs.file m lid place pointer has page number of x reads
+gives_read sum size s m page number (ptr.Blob lid place) kept (Err (error.Corruption at)) old now before after beside pointer of has none reads damage answers = absurd (blob_whole sum s.blobs.file m lid place pointer has at damage)
+gives_read sum size s m page number (ptr.Blob lid place) kept (Err (error.Io e)) old now before after beside pointer of has none reads damage answers = λ _ missed. elim answers [
+  | inl fault ↦ fault_missed e now before after (subst (λ (o : Option IoError). IsFault e o now before after) none fault) missed
+  | inr missing ↦ blob_there sum s.blobs.file m lid place pointer has missing.1
+]
+gives_read sum size s m page number (ptr.Blob lid place) kept (Err _) old now before after beside pointer of has none reads damage answers = tt
+
+-- Of a log that fits a history, and keeps no failure.
+module _ {D C : Type 0} (trace : D → Trace) (sum : List ℕ → ℕ) (log : Log D C) (H : History) (A f : ℕ) (U : List Message) where
+  abbrev size : ℕ
+  size = log.config.config.segment_size
+
+  abbrev state : State
+  state = state_of (trace log.config.device)
+
+  module _ (fits : FitsWith sum (noted_in log) size state log.fault (line_of log) (machine_at log) log.pins H A f U) (m : Message) (entry : Contains (table H (stable_end log) m.page) m) where
+    abbrev cut : ℕ
+    cut = stable_below fits.reach H.batches
+
+    there : Contains H.messages m
+    there = (from_table H (stable_end log) m.page m entry).0
+
+    stable : m.place < synced_end log
+    stable = let low = stable_low (synced_end log) (noted_in log) in let under = (from_table H (stable_end log) m.page m entry).2 in omega (arith, low, under)
+
+    same_end : stable_below (synced_end log) H.batches ≡ stable_end log
+    same_end = stable_noted (synced_end log) (line_end size (line_of log)) (noted_in log) H fits.batches
+
+    -- nothing of the history begins between where a reader stops and the stable end
+    under_cut : m.place < cut
+    under_cut = elim (stable_is fits.reach H.batches) [
+      | inl all ↦ (let low = (fits.parts.ends m there stable).0 in omega (arith, all, low))
+      | inr (b, known, at, is_open) ↦ (
+          let near = fits.parts.near in
+          let low = is_open.0 in
+          let high = is_open.1 in
+          let under = (from_table H (stable_end log) m.page m entry).2 in
+          elim (fits.parts.no_end b known) [
+            | inl ended ↦ absurd (omega (arith, ended, high))
+            | inr beyond ↦ (let at_most = stable_open (synced_end log) H.batches b known (omega (arith, low, near), beyond) in omega (arith, at_most, same_end, under, at))
+          ])
+    ]
+
+    cut_low : cut ≤ stable_end log
+    cut_low = elim (stable_is (synced_end log) H.batches) [
+      | inl all ↦ (let low = stable_low fits.reach H.batches in let near = fits.parts.near in omega (arith, all, low, near, same_end))
+      | inr (b, known, at, is_open) ↦ elim (cases_lt b.low fits.reach) [
+        | inl lower ↦ (let near = fits.parts.near in let high = is_open.1 in let at_most = stable_open fits.reach H.batches b known (lower, omega (arith, near, high)) in omega (arith, at_most, at, same_end))
+        | inr above ↦ (let low = stable_low fits.reach H.batches in omega (arith, low, above, at, same_end))
+      ]
+    ]
+
+    early : Contains (table H cut m.page) m
+    early = entry_earlier H (whole_ascends sum size log.site state log.fault log.buffer.bytes.items log.buffer.written_len log.buffer.sealed.items log.buffer.reserved.items H fits.parts.holds log.in_segment) cut (stable_end log) m.page cut_low m under_cut entry
+
+    -- so that its blob is there
+    has_blob : NoForeignNames (λ bytes. (k : MessageKind) × (item : List ℕ) × IsBlob sum bytes k item) state.blobs state.blobs.file → HasItem sum state.blobs.file m m.pointer
+    has_blob own = (fits.parts.blobs state.blobs.file (name_read_left state.blobs) own).needed m.page m early
+
+    module _ (none : log.fault ≡ None) (zeros : NoHeaderOfZeros sum) where
+      among : StandsAmong sum size state.log.bytes log.site log.buffer.written_len (map begun_segment (map parts_in (map segment_view log.behind.items))) fits.reach H fits.parts.holds.begun.first
+      among = fits.parts.among none zeros
+
+      segment : IsSegmentOf sum size state.log.bytes H cut m
+      segment = (among.stands.needed cut among.stands.not_below among.stands.passes m.page m early).0
+
+      begins : MayBegin size (lid_of m.pointer)
+      begins =
+          let at = segment.reached in
+          let up = path_rises sum size state.log.bytes segment.segment.slot segment.segment.place 20 at.before at.at at.path in
+          let room = at.room in
+          let offset : lid_of m.pointer % size ≡ at.at = ap (λ n. n % size) at.lid ∙ aligned_offset segment.segment.slot at.at size segment.found.slot (omega (arith, room)) in
+          record { behind_header = omega (arith, offset, up); before_end = omega (arith, offset, room) }
+
+      below : BlobIsBelow m m.pointer
+      below = (among.stands.placed m there).blob
+
+-- The same, of a log whose blobs are read as they are.
+pub record IsReadable {D C : Type 0} (sum : List ℕ → ℕ) (log : Log D C) (s : State) (m : Message) (p : DiskPtr) : Type 0 where
+  pub has : HasItem sum s.blobs.file m p
+  pub begins : MayBegin (segment_size_of log) (lid_of p)
+  pub low : BlobIsBelow m p
+  pub stable : m.place < synced_end log
+
+pub readable : {D C : Type 0} (trace : D → Trace) (sum : List ℕ → ℕ) (log : Log D C) (H : History) (A f : ℕ) (U : List Message) → Fits trace sum log H A f U → fault_of log ≡ None
+    → (s : State) → s.blobs ≡ (state_of (trace (device_of log))).blobs → NoForeign sum (segment_size_of log) s (content_of s) → (m : Message) → Contains (table H (stable_end log) m.page) m → IsReadable sum log s m m.pointer
+unfolding Fits
+readable trace sum log H A f U fits none s same own m entry =
+    record {
+      has = subst (λ (b : NamesState). HasItem sum b.file m m.pointer) (sym same)
+          (has_blob trace sum log H A f U fits m entry (subst (λ (b : NamesState). NoForeignNames (λ bytes. (k : MessageKind) × (item : List ℕ) × IsBlob sum bytes k item) b b.file) same own.blobs));
+      begins = begins trace sum log H A f U fits m entry none own.zeros;
+      low = below trace sum log H A f U fits m entry none own.zeros;
+      stable = stable trace sum log H A f U fits m entry;
+    }

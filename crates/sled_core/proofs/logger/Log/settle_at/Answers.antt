@@ -1,0 +1,54 @@
+-- A place that isn't negative is settled where it is stable or was reserved.
+use Rattle.std.proofs.Common.{◌≡◌, ◌<ℤ◌, ◌⊎◌, inl, inr, subst, refl, arith, pos, None}
+use Rattle.std.specs.Int.{w64}
+use Rattle.std.proofs.lemmas.Int.{ints, to_z-of_z}
+use Rattle.sled_store.specs.Script.{after_all}
+use Rattle.sled_store.proofs.Traces.ScriptLemmas.{performs_nothing}
+use Rattle.sled_core.specs.Causes.{HeldAnswers, OnDone}
+use Rattle.sled_core.specs.Fits.{device_of, fault_of, reserved_end, synced_end}
+use Rattle.sled_core.specs.ReadBuffer.{IsUsedUpAt, SealsAround, WritesAround, held_at, settling}
+use Rattle.sled_core.proofs.Holds.KeptCalls.{kept_still}
+use Rattle.sled_core.proofs.Line.Reads.{above_zero, at_place, settle_answers}
+use Rattle.sled_core.proofs.logger.Log.settle_at.Given as given
+use Rattle.sled_core.proofs.logger.Log.settle_at.Goals.{else-at-synced_end-via-then-at-synced_end+else-at-self, else-at-synced_end-via-else-at-synced_end}
+use Rattle.sled_core.proofs.logger.Log.settle_at.Goals as goal
+
+pub returns-then-place-lt0-clause-at_most : goal.returns-then-place-lt0-clause-at_most
+returns-then-place-lt0-clause-at_most g c = performs_nothing _ _ _ refl
+
+pub returns-then-place-lt0-clause-keeps : goal.returns-then-place-lt0-clause-keeps
+returns-then-place-lt0-clause-keeps g c = kept_still g.D.Device.trace g.C.Checksum.sum_of c.args.self.now
+
+pub returns-then-at-self-clause-at_most : goal.returns-then-at-self-clause-at_most
+returns-then-at-self-clause-at_most g c = performs_nothing _ _ _ refl
+
+pub returns-then-at-self-clause-keeps : goal.returns-then-at-self-clause-keeps
+returns-then-at-self-clause-keeps g c = kept_still g.D.Device.trace g.C.Checksum.sum_of c.args.self.now
+
+-- it is a place
+is_at : (g : given.Over) (c : goal.After-settle g) → pos c.unsigned_abs-at.result ≡ c.args.place
+is_at g c = at_place c.args.place _ c.unsigned_abs-at.result c.unsigned_abs-at.ensures.value (to_z-of_z w64 c.args.place c.ranges.place) (above_zero c.args.place c.ranges.place c.if-place-lt0.false)
+
+pub returns-clause-calls : goal.returns-clause-calls
+returns-clause-calls g c =
+    let sum = g.C.Checksum.sum_of in
+    let old = c.args.self.now in
+    subst (λ z. OnDone c.settle.result (g.D.Device.trace (device_of c.settle.new.self) ≡ after_all (settling sum old z) (g.D.Device.trace (device_of old)))) (is_at g c) c.settle.ensures.calls
+
+pub returns-clause-answers : goal.returns-clause-answers
+returns-clause-answers g c =
+    let sum = g.C.Checksum.sum_of in
+    let old = c.args.self.now in
+    let at = is_at g c in
+    let inside : (c.args.place <ℤ pos (synced_end old)) ⊎ (c.args.place <ℤ pos (reserved_end old)) = elim c.else-at-synced_end.branch [
+      | else-at-synced_end-via-then-at-synced_end+else-at-self w ↦ (let lower = w.if-at-self.false in inr (omega (arith, ints, at, lower)))
+      | else-at-synced_end-via-else-at-synced_end w ↦ (let lower = w.if-at-synced_end.false in let is = c.synced_end.ensures.is in inl (omega (arith, ints, at, lower, is)))
+    ] in
+    settle_answers c.settle.result c.args.place _ _ _ _ _ _ _ inside
+    (subst (λ z. HeldAnswers c.settle.result (held_at sum old z) (IsUsedUpAt old z) None (fault_of c.settle.new.self) (g.D.Device.faults (device_of old)) (g.D.Device.faults (device_of c.settle.new.self))) at c.settle.ensures.answers)
+
+pub returns-clause-seals : goal.returns-clause-seals
+returns-clause-seals g c = subst (λ z. SealsAround c.settle.result z c.args.self.now c.settle.new.self) (is_at g c) c.settle.ensures.seals
+
+pub returns-clause-buffers : goal.returns-clause-buffers
+returns-clause-buffers g c = subst (λ z. WritesAround g.C.Checksum.sum_of c.settle.result z c.args.self.now c.settle.new.self) (is_at g c) c.settle.ensures.buffers
