@@ -34,7 +34,7 @@ use Rattle.ids.specs.Readings.{CountsError, CountsFailure, HasTable, HoldsAt, Is
 -- the item of a message that was read
 pub gives_data : (m : Message) (r : LogRead) → GivesMessage m r → data_of r ≡ Some m.bytes
 gives_data m (read.Inline h bytes len) gives = ap (λ (b : List ℕ). Some b) gives.2
-gives_data m (read.Blob h bytes place len) gives = absurd gives
+gives_data m (read.Blob h bytes place len) gives = ap (λ (b : List ℕ). Some b) gives.2
 gives_data m (read.Canceled len) gives = absurd gives
 gives_data m (read.Cap number) gives = absurd gives
 gives_data m read.Corrupted gives = absurd gives
@@ -163,9 +163,9 @@ pub record_there : {D C : Type 0} (trace : D → Trace) (sum : List ℕ → ℕ)
 record_there trace sum log H m cut n holds = inr (cut, (let stable = holds.stable in omega (arith, stable)), holds.entry)
 
 -- What a read answers in place of a message.
-module _ (sum : List ℕ → ℕ) (blobs : ℤ → Option (List ℕ)) (lsn : ℤ) (stable end : ℕ) (held : Option ℕ) (used : Type 0) (old new : Option IoError) (before now : ℕ) where
+module _ (sum : List ℕ → ℕ) (blobs : ℤ → Option (List ℕ)) (lid : ℕ) (lsn : ℤ) (stable end : ℕ) (held : Option ℕ) (used : Type 0) (old new : Option IoError) (before now : ℕ) where
   -- it counts a failure of the device, and nothing else
-  pub read_counts : (e : Error) → old ≡ None → ReadAnswers {T = LogRead} sum blobs (Err e) lsn stable end held used old new before now → CountsError e before now
+  pub read_counts : (e : Error) → old ≡ None → ReadAnswers {T = LogRead} sum blobs (ptr.Inline lid) (Err e) lsn stable end held used old new before now → CountsError e before now
   read_counts (error.Io e) none answers = fails_now e old new before now none answers
   read_counts error.OutOfMemory none answers = answers.3
   read_counts error.PlacesUsedUp none answers = answers.4
@@ -177,7 +177,7 @@ module _ (sum : List ℕ → ℕ) (blobs : ℤ → Option (List ℕ)) (lsn : ℤ
   read_counts (error.ReportableBug text) none answers = absurd answers
 
   -- where the place is stable, and no damage is met, it fails only as an opening may
-  pub read_fails : (e : Error) → lsn <ℤ pos stable → held ≡ None → (IsCorruption {T = LogRead} (Err e) → ⊥) → ReadAnswers {T = LogRead} sum blobs (Err e) lsn stable end held used old new before now → IsOpenError e
+  pub read_fails : (e : Error) → lsn <ℤ pos stable → held ≡ None → (IsCorruption {T = LogRead} (Err e) → ⊥) → ReadAnswers {T = LogRead} sum blobs (ptr.Inline lid) (Err e) lsn stable end held used old new before now → IsOpenError e
   read_fails (error.Io e) low free whole answers = tt
   read_fails error.OutOfMemory low free whole answers = tt
   read_fails error.PlacesUsedUp low free whole answers = tt

@@ -5,7 +5,7 @@ ghost use Rattle.sled_codec.specs.History.{History, Message};
 ghost use Rattle.sled_codec.specs.PageTables.{entry_of};
 ghost use Rattle.sled_codec.specs.Snapshots.{Present, model_of, page_of};
 ghost use Rattle.sled_core.specs.Fits.{device_of, fault_of};
-ghost use Rattle.sled_core.specs.Reading.{GivesMessage, IsInline};
+ghost use Rattle.sled_core.specs.Reading.{GivesMessage};
 ghost use Rattle.ids.specs.Bounds.{HasBound, IsLastBound};
 ghost use Rattle.ids.specs.Readings.{CountsFailure, HasTable, HoldsAt, IsOpenError, OnlyRead};
 
@@ -70,22 +70,12 @@ fn read_number<D: Device, C: Checksum>(
     ensures fault { OnOk result (fault_of log.old ≡ None → fault_of log.new ≡ None) }
     ensures answers { fault_of log.old ≡ None → CountsFailure result (D.faults (device_of log.old)) (D.faults (device_of log.new)) }
 {
-    if !is_inline(&pointer) {
+    let DiskPtr::Inline(lid) = pointer else {
         return Err(Error::Corruption { at: None });
-    }
-    match log.read(BOUND_PAGE, place, pointer) {
+    };
+    match log.read(BOUND_PAGE, place, DiskPtr::Inline(lid)) {
         Ok(read) => number_in(alloc, read),
         Err(e) => Err(e),
-    }
-}
-
-/// Whether a message has its item in its record.
-fn is_inline(pointer: &DiskPtr) -> bool
-    ensures { IsTrue result ↔ IsInline pointer.now }
-{
-    match pointer {
-        DiskPtr::Inline(_) => true,
-        DiskPtr::Blob(_, _) => false,
     }
 }
 

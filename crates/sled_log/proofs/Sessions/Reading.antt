@@ -10,6 +10,7 @@ use Rattle.std.proofs.lemmas.Bool.{cases_lt}
 use Rattle.std.proofs.lemmas.Int.{ints}
 use Rattle.std.proofs.lemmas.List.{append-nil, get_or-map, map-append}
 use Rattle.std.proofs.lemmas.List.Elements.{All-cons, All-contains, All-contains_itself, All-head, All-nil, All-tail, All-weaker}
+use Rattle.sled_codec.specs.declared.result.DiskPtr.TheVariants as ptr
 use Rattle.sled_codec.specs.declared.result.Error.{Error}
 use Rattle.sled_codec.specs.declared.result.Error.TheVariants as error
 use Rattle.sled_codec.specs.Errors.{IsCorruption}
@@ -176,7 +177,7 @@ module _ {D C : Type 0} (view : D → DeviceView) (sum : List ℕ → ℕ) (old 
 
   -- It failed.
 
-  read_fails : {T : Type 0} (e : Error) (a : RunState) (fault : Option IoError) → Settles {T = T} (traces view) sum (Err e) (pos m.place) lid old new → WritesAround {T = T} sum (Err e) (pos m.place) old new → fault_of new ≡ fault
+  read_fails : {T : Type 0} (e : Error) (a : RunState) (fault : Option IoError) → Settles {T = T} (traces view) sum (Err e) (pos m.place) (ptr.Inline lid) old new → WritesAround {T = T} sum (Err e) (pos m.place) old new → fault_of new ≡ fault
       → ReadFails a before m.place fault old_view new_view (with_log a new_view (Some after))
   read_fails e a fault settles writes kept = record {
     buffers = sealed_at sum m.place old;
@@ -192,8 +193,8 @@ module _ {D C : Type 0} (view : D → DeviceView) (sum : List ℕ → ℕ) (old 
     leads = ap (λ (x : LogView). with_log a new_view (Some x)) (leaves (spans (waiting_of new)) (start_of new) fault refl refl kept);
   }
 
-  pub read_failed : (T : Type 0) (blobs : ℤ → Option (List ℕ)) (e : Error) → Settles {T = T} (traces view) sum (Err e) (pos m.place) lid old new → WritesAround {T = T} sum (Err e) (pos m.place) old new
-      → ReadAnswers {T = T} sum blobs (Err e) (pos m.place) (synced_end old) (reserved_end old) (held_at sum old (pos m.place)) (IsUsedUpAt old (pos m.place)) (fault_of old) (fault_of new) old_view.failures new_view.failures
+  pub read_failed : (T : Type 0) (blobs : ℤ → Option (List ℕ)) (e : Error) → Settles {T = T} (traces view) sum (Err e) (pos m.place) (ptr.Inline lid) old new → WritesAround {T = T} sum (Err e) (pos m.place) old new
+      → ReadAnswers {T = T} sum blobs (ptr.Inline lid) (Err e) (pos m.place) (synced_end old) (reserved_end old) (held_at sum old (pos m.place)) (IsUsedUpAt old (pos m.place)) (fault_of old) (fault_of new) old_view.failures new_view.failures
       → (IsCorruption {T = T} (Err e) → ⊥) → (a : RunState) → ReadFailsFor (segment_size_of old) a before m.place e old_view new_view (with_log a new_view (Some after))
   read_failed T blobs (error.Io x) settles writes answers whole a = elim answers [
     | inl kept ↦ (inl (kept.0, refl, kept.2), read_fails (error.Io x) a (Some x) settles writes kept.1)
@@ -224,8 +225,8 @@ module _ {D C : Type 0} (view : D → DeviceView) (sum : List ℕ → ℕ) (old 
         leaves (spans_without m.place (sealed_around m.place before)) (start_around m.place before) (fault_of old)
         (ap spans high.0 ∙ without_around_seen old sum m.place begun k of.below) (high.1 ∙ start_seen old sum m.place begun k of.below) kept
 
-  pub was_read : {T : Type 0} (blobs : ℤ → Option (List ℕ)) (r : T) → Settles (traces view) sum (Ok r) (pos m.place) lid old new → WritesAround sum (Ok r) (pos m.place) old new
-      → ReadAnswers sum blobs (Ok r) (pos m.place) (synced_end old) (reserved_end old) (held_at sum old (pos m.place)) (IsUsedUpAt old (pos m.place)) (fault_of old) (fault_of new) old_view.failures new_view.failures
+  pub was_read : {T : Type 0} (blobs : ℤ → Option (List ℕ)) (r : T) → Settles (traces view) sum (Ok r) (pos m.place) (ptr.Inline lid) old new → WritesAround sum (Ok r) (pos m.place) old new
+      → ReadAnswers sum blobs (ptr.Inline lid) (Ok r) (pos m.place) (synced_end old) (reserved_end old) (held_at sum old (pos m.place)) (IsUsedUpAt old (pos m.place)) (fault_of old) (fault_of new) old_view.failures new_view.failures
       → (before.fault ≡ None) × ReadsAt before m.place old_view new_view × (after ≡ read_around before m.place)
   was_read blobs r settles writes answers = (
     answers.3,

@@ -7,8 +7,8 @@ use Rattle.ids.specs.Readings.{IsOpenError}
 use Rattle.ids.proofs.ReadLemmas.{counts_damage, no_error, none_holds, on_ok, read_counts, read_fails, read_still, record_there}
 use Rattle.ids.proofs.reading.read_number.Goals as goal
 
-pub returns-then-not-is_inline-clause-only : goal.returns-then-not-is_inline-clause-only
-returns-then-not-is_inline-clause-only g c = read_still g.D.Device.trace g.C.Checksum.sum_of c.args.log.now
+pub returns-in_default-clause-only : goal.returns-in_default-clause-only
+returns-in_default-clause-only g c = read_still g.D.Device.trace g.C.Checksum.sum_of c.args.log.now
 
 -- The message was read.
 
@@ -17,7 +17,7 @@ returns-in-Ok-clause-number g c = λ H m cut n holds place pointer.
     let trace = g.D.Device.trace in
     let sum = g.C.Checksum.sum_of in
     let log = c.args.log.now in
-    let gives = c.in-Ok.ensures.message H m (fits_holds trace sum log H holds.acknowledged holds.floor holds.unmarked holds.fits) holds.last.there (record_there trace sum log H m cut n holds) (place ∙ sym (to_z-of_z w64 c.args.place c.ranges.place)) pointer in
+    let gives = c.in-Ok.ensures.message H m (fits_holds trace sum log H holds.acknowledged holds.floor holds.unmarked holds.fits) holds.last.there (record_there trace sum log H m cut n holds) (place ∙ sym (to_z-of_z w64 c.args.place c.ranges.place)) (pointer ∙ c.in-Inline.is) tt in
     (c.number_in.ensures.number m n gives holds.last.has).0
 
 pub returns-in-Ok-clause-errors : goal.returns-in-Ok-clause-errors
@@ -25,7 +25,7 @@ returns-in-Ok-clause-errors g c = λ H m cut n holds place pointer.
     let trace = g.D.Device.trace in
     let sum = g.C.Checksum.sum_of in
     let log = c.args.log.now in
-    let gives = c.in-Ok.ensures.message H m (fits_holds trace sum log H holds.acknowledged holds.floor holds.unmarked holds.fits) holds.last.there (record_there trace sum log H m cut n holds) (place ∙ sym (to_z-of_z w64 c.args.place c.ranges.place)) pointer in
+    let gives = c.in-Ok.ensures.message H m (fits_holds trace sum log H holds.acknowledged holds.floor holds.unmarked holds.fits) holds.last.there (record_there trace sum log H m cut n holds) (place ∙ sym (to_z-of_z w64 c.args.place c.ranges.place)) (pointer ∙ c.in-Inline.is) tt in
     no_error IsOpenError c.number_in.result (c.number_in.ensures.number m n gives holds.last.has).1
 
 pub returns-in-Ok-clause-fault : goal.returns-in-Ok-clause-fault
@@ -45,8 +45,8 @@ returns-in-Err-clause-errors g c = λ H m cut n holds place pointer.
     let stable = holds.stable in
     let at = place ∙ sym (to_z-of_z w64 c.args.place c.ranges.place) in
     let low = subst (λ z. z <ℤ pos (synced_end log)) at (omega (arith, ints, below, stable)) in
-    read_fails sum _ _ (synced_end log) _ _ _ _ _ _ _ c.in-Err.e low (none_holds _ (synced_end log) _ low)
-    (c.in-Err.ensures.undamaged H holds.acknowledged holds.floor holds.unmarked m holds.fits holds.last.there (record_there trace sum log H m cut n holds) at pointer) c.in-Err.ensures.answers
+    read_fails sum _ c.in-Inline.lid _ (synced_end log) _ _ _ _ _ _ _ c.in-Err.e low (none_holds _ (synced_end log) _ low)
+    (c.in-Err.ensures.undamaged H holds.acknowledged holds.floor holds.unmarked m holds.fits holds.last.there (record_there trace sum log H m cut n holds) at (pointer ∙ c.in-Inline.is) tt) c.in-Err.ensures.answers
 
 pub returns-in-Err-clause-answers : goal.returns-in-Err-clause-answers
-returns-in-Err-clause-answers g c = λ free. read_counts g.C.Checksum.sum_of _ _ _ _ _ _ _ _ _ _ c.in-Err.e free c.in-Err.ensures.answers
+returns-in-Err-clause-answers g c = λ free. read_counts g.C.Checksum.sum_of _ c.in-Inline.lid _ _ _ _ _ _ _ _ _ c.in-Err.e free c.in-Err.ensures.answers
