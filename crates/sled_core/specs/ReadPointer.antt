@@ -6,7 +6,7 @@ use Rattle.std.specs.declared.io.ErrorKind.TheVariants.{NotFound}
 use Rattle.sled_codec.specs.declared.result.DiskPtr.{DiskPtr}
 use Rattle.sled_codec.specs.declared.result.DiskPtr.TheVariants as ptr
 use Rattle.sled_codec.specs.declared.result.Error.{Error}
-use Rattle.sled_codec.specs.declared.result.Error.TheVariants.{Corruption, Io}
+use Rattle.sled_codec.specs.declared.result.Error.TheVariants.{Corruption, Io, OutOfMemory}
 use Rattle.sled_codec.specs.declared.serialization.message.MessageHeader.{MessageHeader}
 use Rattle.sled_codec.specs.History.{Message, History, table}
 use Rattle.sled_codec.specs.Pointers.{lid_of}
@@ -75,9 +75,9 @@ pub record IsStableBlob {D C : Type 0} (log : Log D C) (H : History) (m : Messag
   pub pointer : m.pointer ≡ p
   pub beside : IsInline p → ⊥
 
--- The message is given, unless the device fails, or memory is refused, or the log keeps a failure: its blob isn't missing, nor damaged.
+-- The message is given, unless the device fails, memory is refused, or the log keeps a failure: its blob is neither missing nor damaged, and nothing holds the read.
 abbrev pub GivesBlob : Message → Option IoError → Result LogRead Error → Type 0
 GivesBlob m kept (Ok read) = GivesMessage m read
-GivesBlob m kept (Err (Corruption at)) = ⊥
 GivesBlob m kept (Err (Io e)) = kept ≡ None → error_kind e ≢ NotFound
-GivesBlob m kept (Err _) = Unit {0}
+GivesBlob m kept (Err OutOfMemory) = Unit {0}
+GivesBlob m kept (Err _) = ⊥

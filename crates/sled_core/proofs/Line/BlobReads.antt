@@ -1,10 +1,11 @@
 -- A message whose item is a blob, and that is in the table of all that is stable, is read: a record may begin at its offset, and its blob is there, has its item, and lies below the stable end.
-use Rattle.std.proofs.Common.{◌≡◌, ◌∙◌, ◌<◌, ◌≤◌, ◌%◌, ◌++◌, ◌∷◌, ℕ, ℤ, List, length, map, Option, None, Some, Result, Ok, Err, sym, ap, subst, arith, inl, inr}
+use Rattle.std.proofs.Common.{◌≡◌, ◌∙◌, ◌<◌, ◌≤◌, ◌%◌, ◌++◌, ◌∷◌, ℕ, ℤ, List, length, map, Option, None, Some, Result, Ok, Err, sym, ap, subst, arith, inl, inr, ◌<ℤ◌, pos}
 use Rattle.std.specs.Prelude.{IfErr, IfOk}
 use Rattle.std.specs.List.{Contains}
 use Rattle.std.specs.declared.io.Error.{Error as IoError}
 use Rattle.std.proofs.Common.{length-append}
 use Rattle.std.proofs.lemmas.Bool.{cases_lt}
+use Rattle.std.proofs.lemmas.Int.{ints}
 use Rattle.sled_codec.specs.declared.result.DiskPtr.{DiskPtr}
 use Rattle.sled_codec.specs.declared.result.DiskPtr.TheVariants as ptr
 use Rattle.sled_codec.specs.declared.result.Error.{Error}
@@ -32,7 +33,7 @@ use Rattle.sled_core.specs.Fits.{begun_segment, parts_in, device_of, fault_of, l
 use Rattle.sled_core.specs.OpenBatches.{stable_below}
 use Rattle.sled_core.specs.Causes.{IsFault, RecordAnswers}
 use Rattle.sled_core.specs.Reading.{GivesMessage, IsInline}
-use Rattle.sled_core.specs.ReadPointer.{GivesBlob, IsBlobDamage, IsBlobRead, IsDamageOf, IsReadOf}
+use Rattle.sled_core.specs.ReadPointer.{GivesBlob, IsBlobDamage, IsBlobRead, IsDamageOf, IsReadOf, IsStableBlob, place_read}
 use Rattle.sled_core.specs.Recoverable.{BlobIsBelow, HasItem, IsSegmentOf, NoForeign, NoHeaderOfZeros}
 use Rattle.sled_core.specs.Running.{Fits, FitsWith}
 use Rattle.sled_core.proofs.Holds.FitsBatches.{stable_noted}
@@ -105,7 +106,8 @@ gives_read sum size s m page number (ptr.Blob lid place) kept (Err (error.Io e))
   | inl fault ↦ fault_missed e now before after (subst (λ (o : Option IoError). IsFault e o now before after) none fault) missed
   | inr missing ↦ blob_there sum s.blobs.file m lid place pointer has missing.1
 ]
-gives_read sum size s m page number (ptr.Blob lid place) kept (Err _) old now before after beside pointer of has none reads damage answers = tt
+gives_read sum size s m page number (ptr.Blob lid place) kept (Err error.OutOfMemory) old now before after beside pointer of has none reads damage answers = tt
+gives_read sum size s m page number (ptr.Blob lid place) kept (Err _) old now before after beside pointer of has none reads damage answers = absurd answers
 
 -- Of a log that fits a history, and keeps no failure.
 module _ {D C : Type 0} (trace : D → Trace) (sum : List ℕ → ℕ) (log : Log D C) (H : History) (A f : ℕ) (U : List Message) where
@@ -181,8 +183,6 @@ module _ {D C : Type 0} (trace : D → Trace) (sum : List ℕ → ℕ) (log : Lo
 pub record IsReadable {D C : Type 0} (sum : List ℕ → ℕ) (log : Log D C) (s : State) (m : Message) (p : DiskPtr) : Type 0 where
   pub has : HasItem sum s.blobs.file m p
   pub begins : MayBegin (segment_size_of log) (lid_of p)
-  pub low : BlobIsBelow m p
-  pub stable : m.place < synced_end log
 
 pub readable : {D C : Type 0} (trace : D → Trace) (sum : List ℕ → ℕ) (log : Log D C) (H : History) (A f : ℕ) (U : List Message) → Fits trace sum log H A f U → fault_of log ≡ None
     → (s : State) → s.blobs ≡ (state_of (trace (device_of log))).blobs → NoForeign sum (segment_size_of log) s (content_of s) → (m : Message) → Contains (table H (stable_end log) m.page) m → IsReadable sum log s m m.pointer
@@ -192,6 +192,15 @@ readable trace sum log H A f U fits none s same own m entry =
       has = subst (λ (b : NamesState). HasItem sum b.file m m.pointer) (sym same)
           (has_blob trace sum log H A f U fits m entry (subst (λ (b : NamesState). NoForeignNames (λ bytes. (k : MessageKind) × (item : List ℕ) × IsBlob sum bytes k item) b b.file) same own.blobs));
       begins = begins trace sum log H A f U fits m entry none own.zeros;
-      low = below trace sum log H A f U fits m entry none own.zeros;
-      stable = stable trace sum log H A f U fits m entry;
     }
+
+-- and the place that is read is stable
+low_place : (stable : ℕ) (lsn : ℤ) (m : Message) (p : DiskPtr) → pos m.place ≡ lsn → m.place < stable → BlobIsBelow m p → place_read lsn p <ℤ pos stable
+low_place stable lsn m (ptr.Inline lid) at below low = omega (arith, ints, at, below)
+low_place stable lsn m (ptr.Blob lid place) at below low = omega (arith, ints, below, low)
+
+pub reads_stable : {D C : Type 0} (trace : D → Trace) (sum : List ℕ → ℕ) (log : Log D C) (H : History) (A f : ℕ) (U : List Message) → Fits trace sum log H A f U → fault_of log ≡ None → NoHeaderOfZeros sum
+    → (m : Message) (page : ℕ) (lsn : ℤ) (p : DiskPtr) → IsStableBlob log H m page lsn p → place_read lsn p <ℤ pos (synced_end log)
+unfolding Fits
+reads_stable trace sum log H A f U fits none zeros m page lsn p is =
+    low_place (synced_end log) lsn m p is.place (stable trace sum log H A f U fits m is.entry) (subst (BlobIsBelow m) is.pointer (below trace sum log H A f U fits m is.entry none zeros))

@@ -201,11 +201,15 @@ pub err_damaged : (S T : Type 0) (e : Error) (lsn : ℤ) (stable end : ℕ) (hel
 err_damaged S T (Corruption at) lsn stable end held used now before after answers is = answers.1
 err_damaged S T _ lsn stable end held used now before after answers is = is
 
--- No message that is missed.
-pub err_gives : (S : Type 0) (e : Error) (m : Message) (kept : Option IoError) (lsn : ℤ) (stable end : ℕ) (held : Option ℕ) (used : Type 0) (now : Option IoError) (before after : ℕ) → SettleAnswers {T = S} (Err e) lsn stable end held used now before after → GivesBlob m kept (Err e)
-err_gives S (Corruption at) m kept lsn stable end held used now before after answers = absurd answers.1
-err_gives S (Io e) m kept lsn stable end held used now before after answers = λ _ missed. fault_missed e now before after answers.1 missed
-err_gives S _ m kept lsn stable end held used now before after answers = tt
+-- Nor does it come of a place that is stable, but for a failure of the device or want of memory.
+pub err_gives : (S : Type 0) (e : Error) (m : Message) (kept : Option IoError) (lsn : ℤ) (stable end : ℕ) (held : Option ℕ) (used : Type 0) (now : Option IoError) (before after : ℕ) → lsn <ℤ pos stable → held ≡ None → (used → pos stable ≤ℤ lsn)
+    → SettleAnswers {T = S} (Err e) lsn stable end held used now before after → GivesBlob m kept (Err e)
+err_gives S (Io e) m kept lsn stable end held used now before after below free up answers = λ _ missed. fault_missed e now before after answers.1 missed
+err_gives S OutOfMemory m kept lsn stable end held used now before after below free up answers = tt
+err_gives S (Held at) m kept lsn stable end held used now before after below free up (inside, answers) = let some : None ≡ Some answers.0.0 = sym free ∙ answers.0.1 in cc
+err_gives S PlacesUsedUp m kept lsn stable end held used now before after below free up (inside, answers) = let above = up answers.0 in omega (arith, ints, below, above)
+err_gives S (NotReserved at) m kept lsn stable end held used now before after below free up answers = let above = answers.1 in omega (arith, ints, below, above)
+err_gives S _ m kept lsn stable end held used now before after below free up answers = absurd answers.1
 
 pub err_answers : (S T : Type 0) (sum : List ℕ → ℕ) (blobs : ℤ → Option (List ℕ)) (p : DiskPtr) (e : Error) (lsn : ℤ) (stable end : ℕ) (held : Option ℕ) (used : Type 0) (now : Option IoError) (before after : ℕ) → (lsn <ℤ pos stable → held ≡ None)
     → (used → pos stable ≤ℤ lsn) → SettleAnswers {T = S} (Err e) lsn stable end held used now before after → ReadAnswers {T = T} sum blobs p (Err e) lsn stable end held used None now before after

@@ -24,7 +24,7 @@ use Rattle.sled_core.specs.Recoverable.{NoForeign}
 use Rattle.sled_core.proofs.Holds.KeptCalls.{kept_further, kept_still, tickets_further}
 use Rattle.sled_core.proofs.Holds.ReachLemmas.{fits_holds}
 use Rattle.sled_core.proofs.Line.Advanced.{same_current}
-use Rattle.sled_core.proofs.Line.BlobReads.{IsReadable, gives_read, readable}
+use Rattle.sled_core.proofs.Line.BlobReads.{IsReadable, gives_read, readable, reads_stable}
 use Rattle.sled_core.proofs.Line.LogSpans.{same_buffers}
 use Rattle.sled_core.proofs.Line.Reads.{above_zero, around_err, around_read, err_answers, err_gives, err_refuses, err_settles, fits_begins, is_settled, read_answers, read_held, read_reserved, read_settles, refuses_none, seals_err, seals_read, settled_blobs, settled_names, settled_record}
 use Rattle.sled_core.proofs.Line.Records.{inline_is}
@@ -98,11 +98,6 @@ is_place size lid other lsn may there begins same above none = elim none [
 
 -- It isn't settled.
 
-pub returns-in_err-settle_at-clause-blob : goal.returns-in_err-settle_at-clause-blob
-returns-in_err-settle_at-clause-blob g c = λ H A f U m fits own is.
-    let e = err_from_is_err_and c.from_residual.result c.from_residual.ensures.1 in
-    rw (e.1, e.2) (err_gives (Unit {0}) c.in_err-settle_at.field-0.0 m _ _ _ _ _ _ _ _ _ c.in_err-settle_at.ensures.answers)
-
 at_err : (g : given.Over) (c : goal.After-from_residual g) → to_z w64 (of_z w64 c.place_read.result) ≡ place_read c.args.lsn c.args.ptr
 at_err g c = at_is c.args.lsn c.place_read.result c.args.ptr c.ranges.lsn (record { sfits = c.place_read.type_inv }) c.place_read.ensures
 
@@ -111,6 +106,14 @@ err_at : (g : given.Over) (c : goal.After-from_residual g) → SettleAnswers {T 
     (IsUsedUpAt c.args.self.now (place_read c.args.lsn c.args.ptr)) c.settle_at.new.self.fault (g.D.Device.faults c.args.self.now.config.device) (g.D.Device.faults c.settle_at.new.self.config.device)
 err_at g c = subst (λ z. SettleAnswers {T = Unit {0}} (Err c.in_err-settle_at.field-0.0) z (synced_end c.args.self.now) (reserved_end c.args.self.now) (held_at g.C.Checksum.sum_of c.args.self.now z) (IsUsedUpAt c.args.self.now z) c.settle_at.new.self.fault
     (g.D.Device.faults c.args.self.now.config.device) (g.D.Device.faults c.settle_at.new.self.config.device)) (at_err g c) c.in_err-settle_at.ensures.answers
+
+pub returns-in_err-settle_at-clause-blob : goal.returns-in_err-settle_at-clause-blob
+returns-in_err-settle_at-clause-blob g c = λ H A f U m fits own is.
+    let old = c.args.self.now in
+    let at : ℤ = place_read c.args.lsn c.args.ptr in
+    let below : at <ℤ pos (synced_end old) = reads_stable g.D.Device.trace g.C.Checksum.sum_of old H A f U fits c.in_default.is own.zeros m c.args.pid c.args.lsn c.args.ptr is in
+    let e = err_from_is_err_and c.from_residual.result c.from_residual.ensures.1 in
+    rw (e.1, e.2) (err_gives (Unit {0}) c.in_err-settle_at.field-0.0 m _ at _ _ _ _ _ _ _ below (held_stable old g.C.Checksum.sum_of at below) (λ used. stable_up old at used.0) (err_at g c))
 
 pub returns-in_err-settle_at-clause-calls : goal.returns-in_err-settle_at-clause-calls
 returns-in_err-settle_at-clause-calls g c =
