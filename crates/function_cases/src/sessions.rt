@@ -1,13 +1,14 @@
-//! What a session tells beside its replies, and a log and a ticket beside their answers.
+//! What a session tells beside its replies, and a log, a ticket and the header of a blob beside their answers.
 
 use sled_log::config::{Config, RunningConfig};
 use sled_log::device::{MemDevice, PlaceSum};
-use sled_log::logger::{Log, LogKind};
+use sled_log::logger::{DiskPtr, Log, LogKind, LogRead, MessageKind, SegmentNumber};
 use sled_log::reservation::{Guard, Reservation};
 use sled_log::result::{Error, Result};
-use sled_log::serialization::Snapshot;
+use sled_log::serialization::{MessageHeader, Snapshot};
 use sled_log::serialization::snapshot::PageState;
 use sled_log::session::{Command, Refusal, Reply, Session};
+use sled_store::blob_io::write_blob;
 use std::alloc::Global;
 
 /// A page takes 254 links and no further one, as the replies and the table of a session say. Once it is halted no table is shown.
@@ -63,6 +64,33 @@ pub fn keeps_failure(alloc: Global) -> Result<bool> {
     guard.abandon();
     log.halt();
     is_kept
+}
+
+/// A blob that is read by its pointer comes under a header of its kind, of the page and the segment that are asked for.
+pub fn heads_blob(alloc: Global) -> Result<bool> {
+    let Some(size) = Config::new(256) else {
+        return Ok(false);
+    };
+    let mut config = RunningConfig::new(alloc, size, MemDevice::new(alloc), PlaceSum);
+    let item = [7].to_vec(alloc)?;
+    write_blob(&mut config, MessageKind::BlobNode, -20, &item)?;
+    let mut log = match Log::start(config, &Snapshot::empty(alloc)) {
+        Ok(log) => log,
+        Err((e, _config)) => return Err(e),
+    };
+    let read = log.read(9, 520, DiskPtr::Blob(20, -20));
+    log.halt();
+    let LogRead::Blob(header, bytes, place, len) = read? else {
+        return Ok(false);
+    };
+    let wanted = MessageHeader {
+        crc32: 0,
+        kind: MessageKind::BlobNode,
+        segment_number: SegmentNumber(2),
+        pid: 9,
+        len: 0,
+    };
+    Ok(header == wanted && bytes.as_slice() == [1, 7].as_slice() && place == -20 && len == 0)
 }
 
 fn stops(alloc: Global, log: &mut Log<MemDevice, PlaceSum>, guard: &Guard) -> Result<bool> {
