@@ -30,6 +30,7 @@ use Rattle.sled_core.specs.declared.logger.read_message.LogRead.TheVariants as r
 use Rattle.sled_core.specs.Begun.{line_end, segment_view}
 use Rattle.sled_core.specs.Reached.{StandsAmong}
 use Rattle.sled_core.specs.Fits.{begun_segment, parts_in, device_of, fault_of, line_of, machine_at, noted_in, segment_size_of, stable_end, synced_end}
+use Rattle.sled_core.specs.Logged.{in_log, logged}
 use Rattle.sled_core.specs.OpenBatches.{stable_below}
 use Rattle.sled_core.specs.Causes.{IsFault, RecordAnswers}
 use Rattle.sled_core.specs.Reading.{GivesMessage, IsInline}
@@ -39,6 +40,8 @@ use Rattle.sled_core.specs.Running.{Fits, FitsWith}
 use Rattle.sled_core.proofs.Holds.FitsBatches.{stable_noted}
 use Rattle.sled_core.proofs.Holds.WholeHistory.{whole_ascends}
 use Rattle.sled_core.proofs.Line.Reads.{fault_missed}
+use Rattle.sled_core.proofs.Logged.Messages.{logged_ascends, logged_there, logged_twice}
+use Rattle.sled_core.proofs.Logged.Stands.{among_alike}
 use Rattle.sled_core.proofs.Read.ScanLemmas.{aligned_offset}
 use Rattle.sled_core.proofs.Reached.StableBelow.{stable_is, stable_low, stable_open}
 use Rattle.sled_core.proofs.Torn.WrittenParts.{path_rises}
@@ -128,12 +131,12 @@ module _ {D C : Type 0} (trace : D → Trace) (sum : List ℕ → ℕ) (log : Lo
     stable = let low = stable_low (synced_end log) (noted_in log) in let under = (from_table H (stable_end log) m.page m entry).2 in omega (arith, low, under)
 
     same_end : stable_below (synced_end log) H.batches ≡ stable_end log
-    same_end = stable_noted (synced_end log) (line_end size (line_of log)) (noted_in log) H fits.batches
+    same_end = stable_noted (synced_end log) (line_end size (line_of log)) (noted_in log) (logged H) fits.batches
 
     -- nothing of the history begins between where a reader stops and the stable end
     under_cut : m.place < cut
     under_cut = elim (stable_is fits.reach H.batches) [
-      | inl all ↦ (let low = (fits.parts.ends m there stable).0 in omega (arith, all, low))
+      | inl all ↦ (let low = (fits.parts.ends (in_log m) (logged_there H m there) stable).0 in omega (arith, all, low))
       | inr (b, known, at, is_open) ↦ (
           let near = fits.parts.near in
           let low = is_open.0 in
@@ -155,7 +158,7 @@ module _ {D C : Type 0} (trace : D → Trace) (sum : List ℕ → ℕ) (log : Lo
     ]
 
     early : Contains (table H cut m.page) m
-    early = entry_earlier H (whole_ascends sum size log.site state log.fault log.buffer.bytes.items log.buffer.written_len log.buffer.sealed.items log.buffer.reserved.items H fits.parts.holds log.in_segment) cut (stable_end log) m.page cut_low m under_cut entry
+    early = entry_earlier H (logged_ascends H (whole_ascends sum size log.site state log.fault log.buffer.bytes.items log.buffer.written_len log.buffer.sealed.items log.buffer.reserved.items (logged H) fits.parts.holds log.in_segment)) cut (stable_end log) m.page cut_low m under_cut entry
 
     -- so that its blob is there
     has_blob : NoForeignNames (λ bytes. (k : MessageKind) × (item : List ℕ) × IsBlob sum bytes k item) state.blobs state.blobs.file → HasItem sum state.blobs.file m m.pointer
@@ -163,7 +166,7 @@ module _ {D C : Type 0} (trace : D → Trace) (sum : List ℕ → ℕ) (log : Lo
 
     module _ (none : log.fault ≡ None) (zeros : NoHeaderOfZeros sum) where
       among : StandsAmong sum size state.log.bytes log.site log.buffer.written_len (map begun_segment (map parts_in (map segment_view log.behind.items))) fits.reach H fits.parts.holds.begun.first
-      among = fits.parts.among none zeros
+      among = among_alike (logged H) H (logged_twice H) sum size state.log.bytes log.site log.buffer.written_len (map begun_segment (map parts_in (map segment_view log.behind.items))) fits.reach fits.parts.holds.begun.first (fits.parts.among none zeros)
 
       segment : IsSegmentOf sum size state.log.bytes H cut m
       segment = (among.stands.needed cut among.stands.not_below among.stands.passes m.page m early).0
