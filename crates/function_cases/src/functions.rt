@@ -50,7 +50,12 @@ pub fn run(alloc: Global, tally: &mut Tally<'_>) {
     holds(tally, 18, "slots are handed out", known(hands_out(alloc)));
     holds(tally, 19, "links", known(sessions::links_pages(alloc)));
     holds(tally, 20, "faults", known(sessions::keeps_failure(alloc)));
-    holds(tally, 27, "the header of a blob", known(sessions::heads_blob(alloc)));
+    holds(
+        tally,
+        27,
+        "the header of a blob",
+        known(sessions::heads_blob(alloc)),
+    );
     hold_orders(alloc, tally);
     hold_identifiers(alloc, tally);
 }

@@ -273,11 +273,7 @@ impl Opened {
 
     // Reads a message.
     fn read(&mut self, page: PageId, place: i64, at: DiskPtr, out: &mut Answer) {
-        let DiskPtr::Inline(lid) = at else {
-            out.refused();
-            return;
-        };
-        push_read(self.log.read(page, place, DiskPtr::Inline(lid)), out);
+        push_read(self.log.read(page, place, at), out);
     }
 
     // The failure of the device that the log keeps, or a dash.
