@@ -111,6 +111,7 @@ ready_with_less sum size device s H A less f le ready = record {
   active = ready.active;
   blobs = ready.blobs;
   names = ready.names;
+  own_names = ready.own_names;
   passes = (let passes = ready.passes in omega (arith, le, passes));
   left = leaves_less sum size H less A f device le ready.left;
 }

@@ -12,6 +12,7 @@ use Rattle.sled_core.specs.LogFile.{padded}
 use Rattle.sled_core.specs.Logged.{logged}
 use Rattle.sled_core.specs.Reached.{BeginsNext, BeginsOne, BegunSegment, LeadsTo, StandsIn, StandsTo}
 use Rattle.sled_core.specs.OpenBatches.{stable_below}
+use Rattle.sled_core.specs.OwnNames.{ReadsStayOwn}
 use Rattle.sled_core.specs.Recoverable.{LeavesRecoverable, NoBatchBegins, NoBatchEnds, NoHeaderOfZeros}
 use Rattle.sled_core.specs.Running.{BlobsFit, KeepsItems, NamesFit}
 use Rattle.sled_core.specs.Scan.{IsFoundSegment}
@@ -46,6 +47,8 @@ pub record FitsFull (sum : List ℕ → ℕ) (size : ℕ) (device : State) (faul
   pub blobs : BlobsFit sum device.blobs H (stable_below reach H.batches)
   pub stored : KeepsItems sum device.blobs H (stable_below reach H.batches)
   pub names : NamesFit sum size device.snapshots (logged H) f holds.begun.first
+  -- what is read under names is the log's own, so that a sync of names makes nothing own that was foreign
+  pub own_names : fault ≡ None → ReadsStayOwn sum device
   -- all that was acknowledged is stable
   pub passes : A ≤ stable_below reach H.batches
   -- a pin is out while a completed message is not marked

@@ -22,6 +22,7 @@ pub mod OnFile
 pub mod OpenBatches
 pub mod OpenPlaces
 pub mod Own
+pub mod OwnNames
 pub mod Positions
 pub mod Prepared
 pub mod Reached

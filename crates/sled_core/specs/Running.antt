@@ -19,6 +19,7 @@ use Rattle.sled_core.specs.FreeSlots.{HasSlots}
 use Rattle.sled_core.specs.Logged.{logged}
 use Rattle.sled_core.specs.Good.{HasOwnBlob}
 use Rattle.sled_core.specs.OpenBatches.{stable_below}
+use Rattle.sled_core.specs.OwnNames.{ReadsStayOwn}
 use Rattle.sled_core.specs.Recoverable.{ActiveFits, AreRecoverableSnapshots, AreRecoverableBlobs, NoBatchBegins, NoBatchEnds, NoHeaderOfZeros, LeavesRecoverable}
 use Rattle.sled_core.specs.Reached.{StandsAmong, StandsActive}
 use Rattle.sled_core.specs.LogFile.{padded}
@@ -74,6 +75,8 @@ pub record FitsIn (sum : List ℕ → ℕ) (parts : LogParts) (behind : List Seg
   pub blobs : BlobsFit sum parts.device.blobs H (stable_below reach H.batches)
   pub stored : KeepsItems sum parts.device.blobs H (stable_below reach H.batches)
   pub names : NamesFit sum parts.size parts.device.snapshots (logged H) f holds.begun.first
+  -- what is read under names is the log's own, so that a sync of names makes nothing own that was foreign
+  pub own_names : parts.fault ≡ None → ReadsStayOwn sum parts.device
   -- all that was acknowledged is stable
   pub passes : A ≤ stable_below reach H.batches
   -- a pin is out while a completed message is not marked
@@ -107,6 +110,8 @@ pub record IsReadyFor (sum : List ℕ → ℕ) (size : ℕ) (device : State) (s 
   pub active : ActiveFits size (stable_place s.stable) s.active
   pub blobs : BlobsFit sum device.blobs H (stable_place s.stable)
   pub names : NamesFit sum size device.snapshots (logged H) f ready.first
+  -- what is read under names is the log's own
+  pub own_names : ReadsStayOwn sum device
   pub passes : A ≤ stable_place s.stable
   pub left : LeavesRecoverable sum size H A f device
 

@@ -64,6 +64,7 @@ module _ (sum : List ℕ → ℕ) (size : ℕ) (site : SegmentPosition) (device 
     blobs = fits.blobs;
     stored = fits.stored;
     names = fits.names;
+    own_names = fits.own_names;
     passes = fits.passes;
     pinned = fits.pinned;
     left = fits.left;

@@ -188,6 +188,7 @@ module _ (sum : List ℕ → ℕ) (size : ℕ) (site : SegmentPosition) (device 
         blobs = blobs_new;
         stored = stored_behind;
         names = subst (λ (z : SnapshotModel). NamesFit sum size device.snapshots (logged H') f z) same names_new;
+        own_names = fits.own_names;
         passes = let passes = fits.passes in let same = same_stable in omega (arith, passes, same);
         pinned = λ some. out;
         left = left_new;

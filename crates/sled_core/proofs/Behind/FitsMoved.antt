@@ -70,6 +70,7 @@ module _ (sum : List ℕ → ℕ) (size : ℕ) (site : SegmentPosition) (device 
         blobs = fits.blobs;
         stored = fits.stored;
         names = subst (λ (first : SnapshotModel). NamesFit sum size device.snapshots (logged H) f first) same fits.names;
+        own_names = fits.own_names;
         passes = fits.passes;
         pinned = fits.pinned;
         left = fits.left;

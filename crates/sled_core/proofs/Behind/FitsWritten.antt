@@ -28,6 +28,7 @@ use Rattle.sled_core.proofs.Behind.Calls.{held_here}
 use Rattle.sled_core.proofs.Behind.OneWrite.{reaches, some_asked, torn_one, whole_one}
 use Rattle.sled_core.proofs.Behind.Shorter.{shorter_stands}
 use Rattle.sled_core.proofs.Behind.Writes.{behind-written}
+use Rattle.sled_core.proofs.Blobs.StaysOwn.{own_same}
 use Rattle.sled_core.proofs.Flush.Padded.{length-padded, overwritten-further, padded_get, padded_long, padded_none}
 use Rattle.sled_core.proofs.Flush.Settled.{rests}
 use Rattle.sled_core.proofs.Holds.WholeHistory.{whole_ascends}
@@ -173,6 +174,7 @@ module _ (sum : List ℕ → ℕ) (size : ℕ) (site : SegmentPosition) (device 
     blobs = fits.blobs;
     stored = fits.stored;
     names = fits.names;
+    own_names = λ none. own_same sum device after_sync refl refl (fits.own_names none);
     passes = fits.passes;
     pinned = fits.pinned;
     left = moments.synced_leaves sum size big device rest_now H f first reach reach (omega arith) ordered fits.stored fits.names fits.blobs fits.left (s.site.slot + at) asked torn stands_new;

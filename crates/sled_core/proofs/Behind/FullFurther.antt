@@ -89,6 +89,7 @@ module _ (sum : List ℕ → ℕ) (size : ℕ) (device : State) (fault : Option 
       blobs = blobs_now;
       stored = stored_now;
       names = fits.names;
+      own_names = fits.own_names;
       passes = let passes = fits.passes in let up = rises in omega (arith, passes, up);
       pinned = fits.pinned;
       left = settled_recoverable sum size big device H stable f fits.holds.begun.first reach' ascends stored_now (rest sum size device fault place s ss fits big whole) fits.names blobs_now

@@ -83,6 +83,7 @@ module _ (sum : List ℕ → ℕ) (size : ℕ) (device : State) (fault : Option 
       blobs = blobs_now;
       stored = stored_now;
       names = fits.names;
+      own_names = fits.own_names;
       passes = let passes = fits.passes in let up = rises in omega (arith, passes, up);
       pinned = fits.pinned;
       left = settled_recoverable sum size big device H stable f first reach' ordered stored_now rest fits.names blobs_now (λ zeros. (stands device.log.bytes (full_file zeros)).stands);

@@ -7,23 +7,20 @@ use Rattle.sled_store.specs.Foreign.{NoForeignNames}
 use Rattle.sled_store.proofs.Crashes.SettledLemmas.{name_settled_left}
 use Rattle.sled_store.proofs.Names.NamesLemmas.{after_renamed}
 use Rattle.sled_store.proofs.Segments.Elements.{in_nothing}
-
--- bytes were settled under a name, or asked for since
-abbrev pub IsOwn : NamesState → ℤ → List ℕ → Type 0
-IsOwn s n bytes = (settled_files s n ≡ Some bytes) ⊎ Contains (s.asked n) bytes
+use Rattle.sled_core.specs.OwnNames.{IsOwn}
 
 -- Of all names but those that are skipped: what a crash leaves after a change it could leave before, and what is the log's own then was so before.
 pub record GoesBack (passes : List ℕ → Type 0) (skip : ℤ → Bool) (s t : NamesState) : Type 0 where
   pub leaves : (n : ℤ) (left : Option (List ℕ)) → skip n ≡ false → LeavesName t n left → LeavesName s n left
   pub own : (n : ℤ) (bytes : List ℕ) → skip n ≡ false → passes bytes → IsOwn t n bytes → IsOwn s n bytes
 
--- Of all names but those that are skipped: what is read under them is the log's own.
+-- Of all names but those that are skipped: what is read under them is the log's own, where its bytes are synced.
 pub record ReadsOwn (passes : List ℕ → Type 0) (skip : ℤ → Bool) (s : NamesState) : Type 0 where
-  pub own : (n : ℤ) (bytes : List ℕ) → skip n ≡ false → passes bytes → s.file n ≡ Some bytes → IsOwn s n bytes
+  pub own : (n : ℤ) (bytes : List ℕ) → skip n ≡ false → passes bytes → s.file n ≡ Some bytes → s.is_unsynced n ≡ false → IsOwn s n bytes
 
 -- where nothing that is read under names is foreign
 pub reads_own : (passes : List ℕ → Type 0) (skip : ℤ → Bool) (s : NamesState) → NoForeignNames passes s s.file → ReadsOwn passes skip s
-reads_own passes skip s own = record { own = λ n bytes other is there. own.own n bytes there is }
+reads_own passes skip s own = record { own = λ n bytes other is there firm. own.own n bytes there is }
 
 -- With what a crash leaves after a change goes what it could leave before: what is skipped was settled then.
 module _ (passes : List ℕ → Type 0) (skip : ℤ → Bool) (s t : NamesState) (back : GoesBack passes skip s t) (left : ℤ → Option (List ℕ)) where
@@ -89,13 +86,13 @@ module _ (passes : List ℕ → Type 0) (s : NamesState) (p : ℤ) where
   -- What is read under the other names is the log's own still.
 
   pub renamed_own : (done : Bool) (top : NameState) (asked : List (List ℕ)) → ReadsOwn passes (int_eq p) s → ReadsOwn passes (int_eq p) (renamed s p done top asked)
-  renamed_own done top asked reads = record { own = λ n bytes other is there. own_by n bytes other is done (int_eq p n) other there } where
-    own_by : (n : ℤ) (bytes : List ℕ) → int_eq p n ≡ false → passes bytes → (done here : Bool) → here ≡ false → (if done && here then top.file else s.file n) ≡ Some bytes
+  renamed_own done top asked reads = record { own = λ n bytes other is there firm. own_by n bytes other is done (int_eq p n) other there firm } where
+    own_by : (n : ℤ) (bytes : List ℕ) → int_eq p n ≡ false → passes bytes → (done here : Bool) → here ≡ false → (if done && here then top.file else s.file n) ≡ Some bytes → (if done && here then top.is_unsynced else s.is_unsynced n) ≡ false
         → (settled_file (if done && here then top.file else s.file n) (if done && here then top.is_unsynced else s.is_unsynced n) (if done && here then record { file = s.file n; is_unsynced = s.is_unsynced n } ∷ s.earlier n else s.earlier n) ≡ Some bytes)
         ⊎ Contains (if here then asked ++ s.asked n else s.asked n) bytes
-    own_by n bytes apart is done true other there = cc
-    own_by n bytes apart is true false other there = reads.own n bytes apart is there
-    own_by n bytes apart is false false other there = reads.own n bytes apart is there
+    own_by n bytes apart is done true other there firm = cc
+    own_by n bytes apart is true false other there firm = reads.own n bytes apart is there firm
+    own_by n bytes apart is false false other there firm = reads.own n bytes apart is there firm
 
   pub removed_own : (done : Bool) → ReadsOwn passes (int_eq p) s → ReadsOwn passes (int_eq p) (unnamed s p done)
   removed_own done reads = by (is_some (s.file p)) where
@@ -104,16 +101,18 @@ module _ (passes : List ℕ → Type 0) (s : NamesState) (p : ℤ) where
     by false = reads
 
   pub file_synced_own : ReadsOwn passes (int_eq p) s → ReadsOwn passes (int_eq p) (file_synced s p)
-  file_synced_own reads = record { own = λ n bytes other is there. subst (λ (b : Bool). IsOwn (after_sync b) n bytes) (sym other) (reads.own n bytes other is there) }
+  file_synced_own reads = record {
+    own = λ n bytes other is there firm. subst (λ (b : Bool). IsOwn (after_sync b) n bytes) (sym other) (reads.own n bytes other is there (ap (λ (b : Bool). not b && s.is_unsynced n) (sym other) ∙ firm));
+  }
 
 -- A sync of all names.
 module _ (passes : List ℕ → Type 0) (no_bytes : passes [] → ⊥) (skip : ℤ → Bool) (s : NamesState) where
-  -- It settles what is read, which was the log's own.
+  -- It settles what is read and synced, which was the log's own.
   pub names_synced_back : ReadsOwn passes skip s → GoesBack passes skip s (names_synced s)
   names_synced_back reads = record {
     leaves = λ n left other is. left_by n left is;
     own = λ n bytes other is own. elim own [
-      | inl settled ↦ reads.own n bytes other is (by_file n bytes is (s.file n) (s.is_unsynced n) refl settled)
+      | inl settled ↦ (let read = by_file n bytes is (s.file n) (s.is_unsynced n) refl refl settled in reads.own n bytes other is read.0 read.1)
       | inr asked ↦ inr (by_asked (s.is_unsynced n) (s.asked n) bytes asked)
     ];
   } where
@@ -122,10 +121,10 @@ module _ (passes : List ℕ → Type 0) (no_bytes : passes [] → ⊥) (skip : �
     left_by n left (inr (inl earlier)) = absurd earlier
     left_by n left (inr (inr half)) = absurd half
 
-    by_file : (n : ℤ) (bytes : List ℕ) → passes bytes → (file : Option (List ℕ)) (unsynced : Bool) → s.file n ≡ file → settled_file file unsynced [] ≡ Some bytes → s.file n ≡ Some bytes
-    by_file n bytes is None unsynced at settled = cc
-    by_file n bytes is (Some file) false at settled = at ∙ settled
-    by_file n bytes is (Some file) true at settled = let empty : [] ≡ bytes = cc in absurd (no_bytes (subst passes (sym empty) is))
+    by_file : (n : ℤ) (bytes : List ℕ) → passes bytes → (file : Option (List ℕ)) (unsynced : Bool) → s.file n ≡ file → s.is_unsynced n ≡ unsynced → settled_file file unsynced [] ≡ Some bytes → (s.file n ≡ Some bytes) × (s.is_unsynced n ≡ false)
+    by_file n bytes is None unsynced at state settled = cc
+    by_file n bytes is (Some file) false at state settled = (at ∙ settled, state)
+    by_file n bytes is (Some file) true at state settled = let empty : [] ≡ bytes = cc in absurd (no_bytes (subst passes (sym empty) is))
 
     by_asked : (unsynced : Bool) (asked : List (List ℕ)) (bytes : List ℕ) → Contains (if unsynced then asked else []) bytes → Contains asked bytes
     by_asked true asked bytes there = there

@@ -5,9 +5,11 @@ use Rattle.sled_store.specs.Answers.{Tears}
 use Rattle.sled_store.specs.Blobs.{making, removing_blobs}
 use Rattle.sled_store.specs.Device.{BlobMade, BlobSynced, BlobRemoved, NamesSynced, Event, NamesState, State, content_of, file_synced, names_synced, renamed, step, unnamed}
 use Rattle.sled_store.specs.Script.{Along}
+use Rattle.sled_core.specs.OwnNames.{IsAnyBlob, IsAnySnapshot, ReadsStayOwn, StayOwn}
 use Rattle.sled_core.specs.Recoverable.{NoForeign}
 use Rattle.sled_core.proofs.Blobs.ChangesBack.{ReadsOwn, GoesBack, reads_own, renamed_back, removed_back, file_synced_back, names_synced_back, renamed_own, removed_own, file_synced_own}
-use Rattle.sled_core.proofs.Blobs.Leaves.{IsAnyBlob, IsAnySnapshot, no_name, blob_not_empty, snapshot_not_empty, ChangesAt, with_names}
+use Rattle.sled_core.proofs.Blobs.Leaves.{no_name, blob_not_empty, snapshot_not_empty, ChangesAt, with_names}
+use Rattle.sled_core.proofs.Blobs.StaysOwn.{IsAskedAt, asked_made, own_bytes_synced, own_made, own_removed, own_settled}
 
 -- What is read under the names of a device is the log's own, but for the blob of one place.
 pub record ReadsNames (sum : List ℕ → ℕ) (p : ℤ) (s : State) : Type 0 where
@@ -21,6 +23,13 @@ reads_names sum size p s own = record {
   of_snapshots = reads_own (IsAnySnapshot sum) no_name s.snapshots own.snapshots;
 }
 
+-- where it is so with all of them
+pub own_reads : (sum : List ℕ → ℕ) (p : ℤ) (s : State) → ReadsStayOwn sum s → ReadsNames sum p s
+own_reads sum p s are = record {
+  of_blobs = record { own = λ n bytes other is there firm. are.of_blobs.own n bytes is there firm };
+  of_snapshots = record { own = λ n bytes other is there firm. are.of_snapshots.own n bytes is there firm };
+}
+
 -- A property of a device holds with other names, of which a crash leaves what it could leave before, but for the blob of a place.
 abbrev pub KeepsBeside : (List ℕ → ℕ) → ℤ → (State → Type 0) → Type 0
 KeepsBeside sum p P = (s : State) (blobs snapshots : NamesState) → ChangesAt sum p s blobs snapshots → P s → P (with_names s blobs snapshots)
@@ -31,25 +40,26 @@ same_snapshots sum s = record { leaves = λ n left other is. is; own = λ n byte
 
 module _ (sum : List ℕ → ℕ) (p : ℤ) (s : State) where
   -- other blobs alone
-  blobs_changed : (blobs : NamesState) → GoesBack (IsAnyBlob sum) (int_eq p) s.blobs blobs → ChangesAt sum p s blobs s.snapshots
-  blobs_changed blobs back = record { of_blobs = back; of_snapshots = same_snapshots sum s.snapshots; same_files = refl }
+  blobs_changed : (blobs : NamesState) → GoesBack (IsAnyBlob sum) (int_eq p) s.blobs blobs → (StayOwn (IsAnyBlob sum) s.blobs → StayOwn (IsAnyBlob sum) blobs) → ChangesAt sum p s blobs s.snapshots
+  blobs_changed blobs back stay = record { of_blobs = back; of_snapshots = same_snapshots sum s.snapshots; same_files = refl; stay_own = λ are. record { of_blobs = stay are.of_blobs; of_snapshots = are.of_snapshots } }
 
   -- What each of the calls changes.
 
   pub made_changes : (asked now : List ℕ) (done : Bool) → ChangesAt sum p s (renamed s.blobs p done (record { file = Some now; is_unsynced = true }) (asked ∷ [])) s.snapshots
-  made_changes asked now done = blobs_changed _ (renamed_back (IsAnyBlob sum) s.blobs p done (record { file = Some now; is_unsynced = true }) (asked ∷ []))
+  made_changes asked now done = blobs_changed _ (renamed_back (IsAnyBlob sum) s.blobs p done (record { file = Some now; is_unsynced = true }) (asked ∷ [])) (own_made (IsAnyBlob sum) s.blobs p asked now done)
 
-  pub blob_synced_changes : ChangesAt sum p s (file_synced s.blobs p) s.snapshots
-  blob_synced_changes = blobs_changed _ (file_synced_back (IsAnyBlob sum) s.blobs p)
+  pub blob_synced_changes : IsAskedAt (IsAnyBlob sum) s.blobs p → ChangesAt sum p s (file_synced s.blobs p) s.snapshots
+  blob_synced_changes asked = blobs_changed _ (file_synced_back (IsAnyBlob sum) s.blobs p) (own_bytes_synced (IsAnyBlob sum) s.blobs p asked)
 
   pub removed_changes : (done : Bool) → ChangesAt sum p s (unnamed s.blobs p done) s.snapshots
-  removed_changes done = blobs_changed _ (removed_back (IsAnyBlob sum) s.blobs p done)
+  removed_changes done = blobs_changed _ (removed_back (IsAnyBlob sum) s.blobs p done) (own_removed (IsAnyBlob sum) s.blobs p done)
 
   pub names_synced_changes : ReadsNames sum p s → ChangesAt sum p s (names_synced s.blobs) (names_synced s.snapshots)
   names_synced_changes reads = record {
     of_blobs = names_synced_back (IsAnyBlob sum) (blob_not_empty sum) (int_eq p) s.blobs reads.of_blobs;
     of_snapshots = names_synced_back (IsAnySnapshot sum) (snapshot_not_empty sum) no_name s.snapshots reads.of_snapshots;
     same_files = refl;
+    stay_own = λ are. own_settled sum s;
   }
 
   -- What is read under the other names is the log's own behind them.
@@ -69,8 +79,8 @@ module _ (sum : List ℕ → ℕ) (p : ℤ) (s : State) where
     pub made_keeps : (asked now : List ℕ) (done : Bool) → P (step (BlobMade p asked now done) s)
     made_keeps asked now done = keeps s _ _ (made_changes asked now done) here
 
-    pub blob_synced_keeps : P (step (BlobSynced p) s)
-    blob_synced_keeps = keeps s _ _ blob_synced_changes here
+    pub blob_synced_keeps : IsAskedAt (IsAnyBlob sum) s.blobs p → P (step (BlobSynced p) s)
+    blob_synced_keeps asked = keeps s _ _ (blob_synced_changes asked) here
 
     pub removed_keeps : (done : Bool) → P (step (BlobRemoved p done) s)
     removed_keeps done = keeps s _ _ (removed_changes done) here
@@ -92,7 +102,7 @@ making_keeps sum p bytes s P keeps reads here =
     let made : State = step (BlobMade p bytes bytes true) s in
     let synced : State = step (BlobSynced p) made in
     let one : P made = made_keeps sum p s P keeps here bytes bytes true in
-    let two : P synced = blob_synced_keeps sum p made P keeps one in
+    let two : P synced = blob_synced_keeps sum p made P keeps one (asked_made (IsAnyBlob sum) s.blobs p bytes) in
     let reads_one : ReadsNames sum p made = made_reads sum p s bytes bytes true reads in
     let reads_two : ReadsNames sum p synced = blob_synced_reads sum p made reads_one in
     (here, made_torn sum p s P keeps here bytes bytes true, (one, λ torn tears. absurd tears, (two, λ torn tears. absurd tears, names_synced_keeps sum p synced P keeps two reads_two)))

@@ -11,18 +11,11 @@ use Rattle.sled_codec.specs.Spelling.{low_bytes}
 use Rattle.sled_store.specs.Blobs.{IsBlob}
 use Rattle.sled_store.specs.Device.{Content, NamesState, State}
 use Rattle.sled_store.specs.SnapshotFiles.{IsSnapshotFile}
+use Rattle.sled_core.specs.OwnNames.{IsAnyBlob, IsAnySnapshot, ReadsStayOwn}
 use Rattle.sled_core.specs.Recoverable.{Recoverable, LeavesRecoverable}
 use Rattle.sled_core.specs.Running.{BlobsFit, KeepsItem, KeepsItems, NamesFit}
 use Rattle.sled_core.proofs.Blobs.ChangesBack.{GoesBack, before, before_same, before_left, before_own}
 use Rattle.sled_core.proofs.Blobs.Unnamed.{IsUnnamed, beside_recoverable, told_apart}
-
--- the bytes of some blob
-abbrev pub IsAnyBlob : (List ℕ → ℕ) → List ℕ → Type 0
-IsAnyBlob sum bytes = (k : MessageKind) × (item : List ℕ) × IsBlob sum bytes k item
-
--- the bytes of some snapshot
-abbrev pub IsAnySnapshot : (List ℕ → ℕ) → List ℕ → Type 0
-IsAnySnapshot sum bytes = (s : SnapshotModel) × IsSnapshotFile sum bytes s
 
 -- no name is skipped
 abbrev pub no_name : ℤ → Bool
@@ -43,11 +36,12 @@ snapshot_not_empty sum (s, file) = no_end (file.text ++ low_bytes 8 (length file
 abbrev pub with_names : State → NamesState → NamesState → State
 with_names s blobs snapshots = record { log = s.log; blobs = blobs; snapshots = snapshots; temporary = s.temporary; placed = s.placed }
 
--- A device gets other names: what a crash leaves of them it could leave before, but for the blob of a place. The snapshots that are read are the same.
+-- A device gets other names: what a crash leaves of them it could leave before, but for the blob of a place. The snapshots that are read are the same. What is read stays the log's own.
 pub record ChangesAt (sum : List ℕ → ℕ) (p : ℤ) (s : State) (blobs snapshots : NamesState) : Type 0 where
   pub of_blobs : GoesBack (IsAnyBlob sum) (int_eq p) s.blobs blobs
   pub of_snapshots : GoesBack (IsAnySnapshot sum) no_name s.snapshots snapshots
   pub same_files : snapshots.file ≡ s.snapshots.file
+  pub stay_own : ReadsStayOwn sum s → ReadsStayOwn sum (with_names s blobs snapshots)
 
 module _ (sum : List ℕ → ℕ) (p : ℤ) (s : State) (blobs snapshots : NamesState) (changes : ChangesAt sum p s blobs snapshots) (H : History) where
   -- the blobs that a log needs

@@ -93,6 +93,7 @@ module _ (sum : List ℕ → ℕ) (size : ℕ) (device : State) (blobs snapshots
       blobs = blobs_fit_beside sum p device blobs snapshots changes H unnamed (stable_below reach H.batches) fits.blobs;
       stored = stored_beside sum p device blobs snapshots changes H unnamed (stable_below reach H.batches) fits.stored;
       names = names_fit_beside sum p device blobs snapshots changes (logged H) size f fits.holds.begun.first fits.names;
+      own_names = λ none. changes.stay_own (fits.own_names none);
       passes = fits.passes;
       pinned = fits.pinned;
       left = leaves_beside sum p device blobs snapshots changes H unnamed size (stable_below reach H.batches) f fits.left;

@@ -31,6 +31,7 @@ module _ (sum : List ℕ → ℕ) (size : ℕ) (site : SegmentPosition) (device 
     blobs = subst (λ (s : NamesState). BlobsFit sum s H (stable_below reach H.batches)) (sym blobs) fits.blobs;
     stored = subst (λ (s : NamesState). KeepsItems sum s H (stable_below reach H.batches)) (sym blobs) fits.stored;
     names = subst (λ (s : NamesState). NamesFit sum size s (logged H) f fits.holds.begun.first) (sym snapshots) fits.names;
+    own_names = λ none. cc;
     passes = fits.passes;
     pinned = fits.pinned;
     left = left;

@@ -21,6 +21,7 @@ use Rattle.sled_core.specs.LogFile.{padded}
 use Rattle.sled_core.specs.Reached.{StandsAmong}
 use Rattle.sled_core.specs.Recoverable.{LeavesRecoverable, NoBatchBegins, NoBatchEnds, NoHeaderOfZeros}
 use Rattle.sled_core.specs.Running.{BlobsFit, FitsIn, KeepsItems, NamesFit}
+use Rattle.sled_core.proofs.Blobs.StaysOwn.{own_same}
 use Rattle.sled_core.proofs.Flush.Padded.{padded_none}
 use Rattle.sled_core.proofs.Flush.Settled.{rests}
 use Rattle.sled_core.proofs.Holds.WholeHistory.{whole_ascends}
@@ -95,6 +96,7 @@ module _ (sum : List ℕ → ℕ) (size : ℕ) (site : SegmentPosition) (device 
     blobs = blobs_now;
     stored = stored_now;
     names = subst (λ (s : SnapshotModel). NamesFit sum size device.snapshots (logged H) f s) (sym same) fits.names;
+    own_names = λ none. own_same sum device after_sync refl refl (fits.own_names none);
     passes = let old = fits.passes in let rises = stable_rises reach reach' up H.batches in omega (arith, old, rises);
     pinned = fits.pinned;
     left = left_now;
@@ -117,6 +119,7 @@ module _ (sum : List ℕ → ℕ) (size : ℕ) (site : SegmentPosition) (device 
     blobs = blobs_now;
     stored = stored_now;
     names = subst (λ (s : SnapshotModel). NamesFit sum size device.snapshots (logged H) f s) (sym same) fits.names;
+    own_names = λ none. own_same sum device after_sync refl refl (fits.own_names none);
     passes = let old = fits.passes in let rises = stable_rises reach reach' up H.batches in omega (arith, old, rises);
     pinned = fits.pinned;
     left = left_now;

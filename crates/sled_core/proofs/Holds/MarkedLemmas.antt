@@ -97,6 +97,7 @@ module _ (sum : List ℕ → ℕ) (size : ℕ) (site : SegmentPosition) (device 
         blobs = blobs_new;
         stored = stored_behind;
         names = subst (λ (s : SnapshotModel). NamesFit sum size device.snapshots (logged H') f s) same names_new;
+        own_names = fits.own_names;
         passes = let passes = fits.passes in let same = same_stable in omega (arith, passes, same);
         pinned = fits.pinned;
         left = left_new;

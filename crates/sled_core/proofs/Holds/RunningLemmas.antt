@@ -60,6 +60,7 @@ module _ (sum : List ℕ → ℕ) (size : ℕ) (site : SegmentPosition) (device 
         blobs = fits.blobs;
         stored = fits.stored;
         names = subst (λ (s : SnapshotModel). NamesFit sum size device.snapshots (logged H) f s) same fits.names;
+        own_names = fits.own_names;
         passes = fits.passes;
         pinned = fits.pinned;
         left = fits.left;
@@ -82,6 +83,7 @@ module _ (sum : List ℕ → ℕ) (size : ℕ) (site : SegmentPosition) (device 
     blobs = fits.blobs;
     stored = fits.stored;
     names = fits.names;
+    own_names = fits.own_names;
     passes = passes;
     pinned = fits.pinned;
     left = fits.left;
@@ -109,6 +111,7 @@ module _ (sum : List ℕ → ℕ) (size : ℕ) (site : SegmentPosition) (device 
     blobs = fits.blobs;
     stored = fits.stored;
     names = fits.names;
+    own_names = fits.own_names;
     passes = fits.passes;
     pinned = pinned;
     left = fits.left;
@@ -188,6 +191,7 @@ module _ (sum : List ℕ → ℕ) (size : ℕ) (site : SegmentPosition) (device 
           blobs = blobs_new;
           stored = stored_behind;
           names = subst (λ (s : SnapshotModel). NamesFit sum size device.snapshots (logged H') f s) same names_new;
+          own_names = fits.own_names;
           passes = let passes = fits.passes in let same = same_stable in omega (arith, passes, same);
           pinned = λ some. out;
           left = left_new;

@@ -6,10 +6,12 @@ use Rattle.sled_store.specs.Device.{Content, State, fresh, at_rest, names_at_res
 use Rattle.sled_store.proofs.LogFile.LogLemmas.{at_rest_left}
 use Rattle.sled_store.proofs.Names.NamesLemmas.{settled_name_left, settled_name_at_rest}
 use Rattle.sled_store.proofs.Segments.Elements.{in_nothing}
+use Rattle.sled_core.specs.OwnNames.{IsAnyBlob, IsAnySnapshot}
 use Rattle.sled_core.specs.Recoverable.{Recoverable, LeavesRecoverable, AreRecoverableSnapshots, AreRecoverableBlobs}
 use Rattle.sled_core.specs.Ready.{IsReady}
 use Rattle.sled_core.specs.Running.{Ready}
 use Rattle.sled_core.specs.Reached.{StandsTo}
+use Rattle.sled_core.proofs.Blobs.StaysOwn.{own_at_rest}
 use Rattle.sled_core.proofs.Start.FreshLemmas.{no_entry, ready_fresh, nothing_stands, nothing_active}
 use Rattle.sled_core.proofs.Start.Recoverable.{stands_recoverable}
 use Rattle.sled_core.proofs.Read.FoundLemmas.{zero_mod}
@@ -50,6 +52,7 @@ fresh_ready sum size large small = record {
   active = zero_mod size;
   blobs = λ left leaves own. no_blobs sum left;
   names = λ left leaves own. none_listed sum size left (λ n. none_left n (left n) (leaves n));
+  own_names = record { of_blobs = own_at_rest (IsAnyBlob sum) (λ n. None); of_snapshots = own_at_rest (IsAnySnapshot sum) (λ n. None) };
   passes = omega arith;
   left = fresh_leaves sum size large small;
 }
