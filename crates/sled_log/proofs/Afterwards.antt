@@ -2,5 +2,6 @@ pub mod EndsBelow
 pub mod ForgottenSlots
 pub mod KeptBelow
 pub mod LastNames
+pub mod LastOwn
 pub mod LeftGood
 pub mod OrderlyBelow

@@ -21,6 +21,7 @@ use Rattle.sled_log.specs.WritesBack.{FitsIfNew, HasWrittenBack, IsWrittenBack, 
 use Rattle.sled_log.proofs.Afterwards.EndsBelow.{recoverable_below}
 use Rattle.sled_log.proofs.Afterwards.ForgottenSlots.{zeroed_rests}
 use Rattle.sled_log.proofs.Afterwards.KeptBelow.{begin_below, names_end, below_cut}
+use Rattle.sled_log.proofs.Afterwards.LastOwn.{own_end}
 use Rattle.sled_log.proofs.Afterwards.LeftGood.{left_log, log_is, stops_left, nothing_above, fits, active}
 use Rattle.sled_log.proofs.Afterwards.OrderlyBelow.{orderly_below}
 use Rattle.sled_log.proofs.Moments.ForgottenAbove.{message_from, batch_from, blobs_forget}
@@ -169,6 +170,7 @@ module _ (sum : List ℕ → ℕ) (size : ℕ) (H : History) (A f : ℕ) (some :
     active = active sum size content H A f some can x well;
     blobs = subst (BlobsFit sum now.blobs kept) (sym well.place) blobs;
     names = names_alike kept (logged kept) of_log sum size now.snapshots cut first names;
+    own_names = own_end sum size x old new has;
     passes = subst (λ n. A ≤ n) (sym well.place) can.log.passes;
     left = leaves_recoverable sum size kept A cut now (below_cut sum size H A f some old readable own x recovers spelled new has);
   }
