@@ -3,14 +3,11 @@ use Rattle.std.proofs.Common.{◌≡◌, ◌<◌, ◌++◌, ◌∷◌, ℕ, ℤ,
 use Rattle.std.specs.Ordering.{int_eq}
 use Rattle.sled_codec.specs.declared.result.DiskPtr.{DiskPtr}
 use Rattle.sled_codec.specs.declared.result.DiskPtr.TheVariants.{Inline, Blob}
-use Rattle.sled_codec.specs.declared.serialization.message.MessageKind.{MessageKind}
 use Rattle.sled_codec.specs.Kinds.{code_of}
-use Rattle.sled_codec.specs.History.{Message, History}
+use Rattle.sled_codec.specs.History.{History}
 use Rattle.sled_codec.specs.Snapshots.{SnapshotModel}
 use Rattle.sled_codec.specs.Spelling.{low_bytes}
-use Rattle.sled_store.specs.Blobs.{IsBlob}
 use Rattle.sled_store.specs.Device.{Content, NamesState, State}
-use Rattle.sled_store.specs.SnapshotFiles.{IsSnapshotFile}
 use Rattle.sled_core.specs.OwnNames.{IsAnyBlob, IsAnySnapshot, ReadsStayOwn}
 use Rattle.sled_core.specs.Recoverable.{Recoverable, LeavesRecoverable}
 use Rattle.sled_core.specs.Running.{BlobsFit, KeepsItem, KeepsItems, NamesFit}
