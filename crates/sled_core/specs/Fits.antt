@@ -23,7 +23,7 @@ pub use Rattle.sled_core.specs.Begun.{line_end}
 use Rattle.sled_core.specs.Buffers.{Stands, IsChain, batches_in, completed_in, message_in, none_open, open_in, first_open_in, records_end}
 use Rattle.sled_core.specs.FreeSlots.{HasSlots}
 use Rattle.sled_core.specs.LogFile.{IsLogFile, StaysBelow, StaysFrom}
-use Rattle.sled_core.specs.Logged.{logged}
+use Rattle.sled_core.specs.Logged.{in_log, logged}
 use Rattle.sled_core.specs.OpenBatches.{AreApart, batch_of, not_whole, stable_below}
 use Rattle.sled_core.specs.OpenPlaces.{open_places_along}
 use Rattle.sled_core.specs.Positions.{Position, behind_record, is_short, placed_at, pointer_at, position_in, size_at}
@@ -170,7 +170,7 @@ IsUsedUp log = (is_short log.config.config.segment_size (length (current_of log)
 abbrev pub IsUsedUpBelow : {D C : Type 0} → Log D C → ℕ → Type 0
 IsUsedUpBelow log to = (current_begin log < to) × IsUsedUp log
 
--- A ticket is for an open reservation of the log, which keeps the place of this message.
+-- A ticket is for an open reservation of the log, which keeps the place of this message, as the log has it.
 pub record AwaitsIn (line : List SegmentView) (ticket : Reservation) (m : Message) : Type 0 where
   -- which segment it is of, and which of its reservations
   pub number : ℕ
@@ -183,7 +183,7 @@ pub record AwaitsIn (line : List SegmentView) (ticket : Reservation) (m : Messag
   pub message : m ≡ message_in segment.parts.site segment.parts.bytes reserved
 
 abbrev pub Awaits : {D C : Type 0} → Log D C → Reservation → Message → Type 0
-Awaits log ticket m = AwaitsIn (line_of log) ticket m
+Awaits log ticket m = AwaitsIn (line_of log) ticket (in_log m)
 
 -- a ticket is for an open reservation of the log
 abbrev pub IsOpen : {D C : Type 0} → Log D C → Reservation → Type 0

@@ -20,7 +20,7 @@ use Rattle.sled_core.specs.Logged.{logged}
 use Rattle.sled_core.specs.Good.{HasOwnBlob}
 use Rattle.sled_core.specs.OpenBatches.{stable_below}
 use Rattle.sled_core.specs.OwnNames.{ReadsStayOwn}
-use Rattle.sled_core.specs.Recoverable.{ActiveFits, AreRecoverableSnapshots, AreRecoverableBlobs, NoBatchBegins, NoBatchEnds, NoHeaderOfZeros, LeavesRecoverable}
+use Rattle.sled_core.specs.Recoverable.{ActiveFits, BlobIsBelow, AreRecoverableSnapshots, AreRecoverableBlobs, NoBatchBegins, NoBatchEnds, NoHeaderOfZeros, LeavesRecoverable}
 use Rattle.sled_core.specs.Reached.{StandsAmong, StandsActive}
 use Rattle.sled_core.specs.LogFile.{padded}
 use Rattle.sled_core.specs.Ready.{IsReady}
@@ -83,6 +83,11 @@ pub record FitsIn (sum : List ℕ → ℕ) (parts : LogParts) (behind : List Seg
   pub pinned : U ≢ [] → 0 < pins
   -- what a crash leaves now can be recovered, with all that is stable counted as acknowledged
   pub left : LeavesRecoverable sum parts.size H (stable_below reach H.batches) f parts.device
+
+-- The blob of a message, if it has one, was made no later than its record, and whatever a crash leaves of it, it has the item.
+pub record IsStored {D C : Type 0} (trace : D → Trace) (sum : List ℕ → ℕ) (log : Log D C) (m : Message) : Type 0 where
+  pub below : BlobIsBelow m m.pointer
+  pub item : KeepsItem sum (state_of (trace log.config.device)).blobs m m.pointer
 
 -- Segments one behind another fit them, as far as a reader comes.
 abbrev pub FitsLine : (List ℕ → ℕ) → ℕ → State → Option IoError → List SegmentView → ℕ → ℕ → History → ℕ → ℕ → List Message → Type 0

@@ -97,7 +97,7 @@ impl<D: Device, C: Checksum> Log<D, C> {
     ghost use Rattle.sled_core.specs.ReadBuffer.{IsUsedUpAt, ReadAnswers, RefusesPlace, SealsAround, Settles, WritesAround, held_at};
     ghost use Rattle.sled_core.specs.ReadPointer.{GivesBlob, IsDamageAt, IsDamageOf, IsReadOf, IsStableBlob, place_read};
     ghost use Rattle.sled_core.specs.Ready.{IsReady};
-    ghost use Rattle.sled_core.specs.Running.{Fits, Ready, end_below};
+    ghost use Rattle.sled_core.specs.Running.{Fits, IsStored, Ready, end_below};
     ghost use Rattle.sled_core.specs.Starts.{BeginsBehind, HasMadeStart, StartCalls, StartsOrRefuses, config_left};
 
     /// Begins a log on what a recovery left: it goes on at the snapshot's stable place. First it fills the
@@ -282,7 +282,7 @@ impl<D: Device, C: Checksum> Log<D, C> {
         ensures opens { TakesOutPlaceOf result ticket (open_places self.old) (open_places self.new) }
         ensures answers { FaultAnswers result (fault_of self.old) }
         ensures fits { (H : History) (A f : ℕ) (U : List Message) (m : Message)
-            → Fits D.trace C.sum_of self.old H A f U → Awaits self.old ticket m → 0 < pins_of self.old
+            → Fits D.trace C.sum_of self.old H A f U → Awaits self.old ticket m → IsStored D.trace C.sum_of self.old m → 0 < pins_of self.old
             → OnOk result ((H' : History) × Step H (Completed m) H' × Fits D.trace C.sum_of self.new H' A f (m ∷ U)) }
         ensures goes_on { GoesOn D.trace C.sum_of self.old self.new }
         ensures same { KeepsAll self.old self.new }

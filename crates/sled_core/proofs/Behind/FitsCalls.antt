@@ -1,11 +1,11 @@
 -- What is done to a segment behind the first one, each where the log fits a history: its current buffer is sealed, a place is reserved in it, it is filled to its end, and a reservation of it is aborted or completed.
-use Rattle.std.proofs.Common.{◌≡◌, ◌≤◌, ◌<◌, ◌+◌, ◌/◌, ◌^◌, ℕ, List, [], ◌∷◌, ◌++◌, length, set, drop, Option, None, Some, refl, arith, false}
+use Rattle.std.proofs.Common.{◌≡◌, ◌≤◌, ◌<◌, ◌+◌, ◌/◌, ◌^◌, ℕ, List, [], ◌∷◌, ◌++◌, length, set, drop, Option, None, Some, refl, arith, false, subst, sym, ap}
 use Rattle.std.specs.List.{slice_get}
 use Rattle.std.specs.declared.io.Error.{Error as IoError}
 use Rattle.sled_codec.specs.History.{AddsMessage, History, Message}
 use Rattle.sled_codec.specs.Written.{written}
 use Rattle.sled_store.specs.Device.{State}
-use Rattle.sled_core.specs.Logged.{logged}
+use Rattle.sled_core.specs.Logged.{logged, in_log}
 use Rattle.sled_core.specs.Manifests.{is_manifest}
 use Rattle.sled_core.specs.declared.iobuf.ReservationState.TheVariants.{Open, Canceled, Completed}
 use Rattle.sled_core.specs.declared.iobuf.Reserved.{Reserved}
@@ -15,7 +15,7 @@ use Rattle.sled_core.specs.Buffers.{HasText, canceling, completing, ended, messa
 use Rattle.sled_core.specs.Caps.{segment_rest}
 use Rattle.sled_core.specs.Begun.{SegmentParts}
 use Rattle.sled_core.specs.Fits.{HoldsIn, HoldsNext, log_parts}
-use Rattle.sled_core.specs.Running.{FitsIn}
+use Rattle.sled_core.specs.Running.{FitsIn, KeepsItem}
 use Rattle.sled_core.specs.SealedBuffers.{FirstUnwritten, one_ended, seal_at, sealed_count, sealed_end}
 use Rattle.sled_core.proofs.Behind.Around.{behind_place, held_around, now_with, stays_below}
 use Rattle.sled_core.proofs.Behind.Calls.{behind-aborted, behind-append, behind-pad, behind-sealed, held_here}
@@ -24,7 +24,7 @@ use Rattle.sled_core.proofs.Behind.FitsCompleted.{behind-completed}
 use Rattle.sled_core.proofs.Behind.FitsMoved.{behind-moved}
 use Rattle.sled_core.proofs.Behind.Refilled.{filled_at, fits-refilled}
 use Rattle.sled_core.proofs.Holds.CompletedLemmas.{behind_written, ends_within}
-use Rattle.sled_core.proofs.Logged.Messages.{inline_real}
+use Rattle.sled_core.proofs.Logged.Messages.{put_real}
 use Rattle.sled_codec.specs.declared.result.DiskPtr.TheVariants.{Inline}
 use Rattle.sled_core.proofs.Flush.Completed.{open_inline}
 
@@ -68,20 +68,20 @@ module _ (sum : List ℕ → ℕ) (size : ℕ) (site : SegmentPosition) (device 
         (behind-aborted sum size site device fault bytes from bs rs (logged H) pre s post its.holds i r there is_open)
 
     -- or its message is completed: the log fits the history with it.
-    pub behind-fits-completed : (none : is_manifest r.log_kind r.page ≡ false) → 256 ≤ size → (short : length bytes ≤ size) → fault ≡ None → FirstUnwritten s.sealed → 0 < pins
-        → (H' : History) × AddsMessage H (message_in s.site s.bytes r) H'
-        × FitsIn sum (log_parts size site device fault bytes from bs rs) (pre ++ now_with s (written s.bytes r.from (completing r)) s.written_len (one_ended i s.sealed) (set s.reserved i (ended Completed r)) ∷ post) reach pins H' A f (message_in s.site s.bytes r ∷ U)
-    behind-fits-completed none big short whole fresh out =
+    pub behind-fits-completed : (m : Message) → in_log m ≡ message_in s.site s.bytes r → KeepsItem sum device.blobs m m.pointer → (none : is_manifest r.log_kind r.page ≡ false) → 256 ≤ size → (short : length bytes ≤ size) → fault ≡ None → FirstUnwritten s.sealed → 0 < pins
+        → (H' : History) × AddsMessage H m H'
+        × FitsIn sum (log_parts size site device fault bytes from bs rs) (pre ++ now_with s (written s.bytes r.from (completing r)) s.written_len (one_ended i s.sealed) (set s.reserved i (ended Completed r)) ∷ post) reach pins H' A f (m ∷ U)
+    behind-fits-completed m its_message stored none big short whole fresh out =
         let now : SegmentParts = now_with s (written s.bytes r.from (completing r)) s.written_len (one_ended i s.sealed) (set s.reserved i (ended Completed r)) in
-        let inline : (message_in s.site s.bytes r).pointer ≡ Inline (s.site.slot + r.from) = open_inline sum size (s.site.place / size) s.site s.bytes s.reserved i r there is_open here.segment.stand in
-        let done = inline_real (HoldsIn sum (log_parts size site device fault bytes from bs rs) (pre ++ now ∷ post)) H (message_in s.site s.bytes r) (s.site.slot + r.from)
-        (completed_history sum size site device fault bytes from bs rs (logged H) pre s post its.holds short i r there is_open none) inline
-        (adds_here sum size site device fault bytes from bs rs (logged H) pre s post its.holds short i r there is_open none)
+        let real : History = completed_history sum size site device fault bytes from bs rs (logged H) pre s post its.holds short i r there is_open none in
+        let done = put_real (HoldsIn sum (log_parts size site device fault bytes from bs rs) (pre ++ now ∷ post)) H m real
+        (subst (λ (x : Message). AddsMessage (logged H) x real) (sym its_message) (adds_here sum size site device fault bytes from bs rs (logged H) pre s post its.holds short i r there is_open none))
         (behind-complete sum size site device fault bytes from bs rs (logged H) pre s post its.holds short i r there is_open none) in
+        let place = ap (λ (x : Message). x.place) its_message in
         let inside = here.inside in (
           done.0,
           done.1,
-          behind-completed sum size site device fault bytes from bs rs pins H A f U pre s post its now refl refl refl done.0 (message_in s.site s.bytes r) big short whole done.2 done.1 inline
-              (behind_written sum size s.site device fault s.bytes s.written_len s.sealed s.reserved i r own_history here.segment there)
-              (let near = ends_within sum size s.site device fault s.bytes s.written_len s.sealed s.reserved i r own_history here.segment there is_open in omega (arith, near, inside)) fresh out,
+          behind-completed sum size site device fault bytes from bs rs pins H A f U pre s post its now refl refl refl done.0 m big short whole done.2 done.1 stored
+              (let far = behind_written sum size s.site device fault s.bytes s.written_len s.sealed s.reserved i r own_history here.segment there in omega (arith, far, place))
+              (let near = ends_within sum size s.site device fault s.bytes s.written_len s.sealed s.reserved i r own_history here.segment there is_open in omega (arith, near, inside, place)) fresh out,
         )

@@ -15,7 +15,7 @@ use Rattle.sled_core.specs.declared.iobuf.SegmentPosition.{SegmentPosition}
 use Rattle.sled_core.specs.Begun.{SegmentParts}
 use Rattle.sled_core.specs.Fits.{HoldsIn, HoldsNext, begun_segment, log_parts}
 use Rattle.sled_core.specs.LogFile.{padded}
-use Rattle.sled_core.specs.Logged.{logged}
+use Rattle.sled_core.specs.Logged.{logged, in_log}
 use Rattle.sled_core.specs.OpenBatches.{stable_below}
 use Rattle.sled_core.specs.Reached.{BegunSegment, StandsAmong}
 use Rattle.sled_core.specs.Recoverable.{LeavesRecoverable, NoHeaderOfZeros}
@@ -32,7 +32,7 @@ use Rattle.sled_core.proofs.Holds.BegunLemmas.{blobs-adds, names-adds}
 use Rattle.sled_core.proofs.Holds.ReachLemmas.{LiesBehind, completed_behind}
 use Rattle.sled_core.proofs.Holds.StandsAdds.{other_adds}
 use Rattle.sled_core.proofs.Holds.WholeHistory.{behind_above, which_part, whole_ascends}
-use Rattle.sled_core.proofs.Logged.Messages.{inline_logged}
+use Rattle.sled_core.proofs.Logged.Messages.{adds_logged}
 use Rattle.sled_core.proofs.Reached.StableBelow.{stable_low}
 use Rattle.sled_core.proofs.Sealed.Zeros.{begin_zeros}
 
@@ -77,7 +77,7 @@ module _ (sum : List ℕ → ℕ) (size : ℕ) (site : SegmentPosition) (device 
 module _ (sum : List ℕ → ℕ) (size : ℕ) (site : SegmentPosition) (device : State) (fault : Option IoError) (bytes : List ℕ) (from : ℕ) (bs : List Sealed) (rs : List Reserved) (pins : ℕ) (H : History) (A f : ℕ) (U : List Message)
     (pre : List SegmentParts) (s : SegmentParts) (post : List SegmentParts) {reach : ℕ} (fits : FitsIn sum (log_parts size site device fault bytes from bs rs) (pre ++ s ∷ post) reach pins H A f U)
     (s' : SegmentParts) (its_site : s'.site ≡ s.site) (so_far : s'.written_len ≡ s.written_len) (filling : s'.filled ≡ s.filled)
-    (H' : History) (m : Message) (least : 256 ≤ size) (short : length bytes ≤ size) (ok : fault ≡ None) (holds : HoldsIn sum (log_parts size site device fault bytes from bs rs) (pre ++ s' ∷ post) (logged H')) (adds : AddsMessage H m H') {lid : ℕ} (inline : m.pointer ≡ Inline lid)
+    (H' : History) (m : Message) (least : 256 ≤ size) (short : length bytes ≤ size) (ok : fault ≡ None) (holds : HoldsIn sum (log_parts size site device fault bytes from bs rs) (pre ++ s' ∷ post) (logged H')) (adds : AddsMessage H m H') (stored : KeepsItem sum device.blobs m m.pointer)
     (above : s.site.place + s.written_len ≤ m.place) (inside : m.place < s.site.place + size) (fresh : FirstUnwritten s.sealed) where
   abbrev first : SnapshotModel
   first = fits.holds.begun.first
@@ -101,17 +101,16 @@ module _ (sum : List ℕ → ℕ) (size : ℕ) (site : SegmentPosition) (device 
   same_place : s'.site.place ≡ s.site.place
   same_place = ap (λ (p : SegmentPosition). p.place) its_site
 
-  -- the log has the message of that history as it is
-  put : AddsMessage (logged H) m (logged H')
-  put = inline_logged H m lid H' inline adds
+  put : AddsMessage (logged H) (in_log m) (logged H')
+  put = adds_logged H m H' adds
 
-  it_is_there : Contains (logged H').messages m
-  it_is_there = subst (λ (l : List Message). Contains l m) (sym put.new) (Contains-append_right put.before (m ∷ put.after) m (in_first m put.after))
+  it_is_there : Contains (logged H').messages (in_log m)
+  it_is_there = subst (λ (l : List Message). Contains l (in_log m)) (sym put.new) (Contains-append_right put.before (in_log m ∷ put.after) (in_log m) (in_first (in_log m) put.after))
 
-  lies : LiesBehind size s'.site m
+  lies : LiesBehind size s'.site (in_log m)
   lies =
-      let mine = of_segment sum size site device fault bytes from bs rs (logged H') pre s' post holds short m it_is_there (omega (arith, above, same_place)) (omega (arith, inside, same_place)) in
-      completed_behind sum size s'.site device fault s'.bytes s'.written_len s'.sealed s'.reserved (record { messages = own; batches = H'.batches }) here.segment here.inside m mine (omega (arith, above, same_place, so_far))
+      let mine = of_segment sum size site device fault bytes from bs rs (logged H') pre s' post holds short (in_log m) it_is_there (omega (arith, above, same_place)) (omega (arith, inside, same_place)) in
+      completed_behind sum size s'.site device fault s'.bytes s'.written_len s'.sealed s'.reserved (record { messages = own; batches = H'.batches }) here.segment here.inside (in_log m) mine (omega (arith, above, same_place, so_far))
 
   -- It lies behind what is written of the first segment, and so behind what a reader comes to.
   past : site.place + from ≤ m.place
@@ -136,7 +135,7 @@ module _ (sum : List ℕ → ℕ) (size : ℕ) (site : SegmentPosition) (device 
   -- A reader finds the same of a file that has these zeros.
   stands_new : NoHeaderOfZeros sum → (log : List ℕ) → (s.written_len ≡ 0 → AreZeros log s.site.slot (s.site.slot + 20)) → StandsAmong sum size log site from others reach (logged H) first → StandsAmong sum size log site from others' reach (logged H') first
   stands_new none log zeros among = subst (λ (l : List BegunSegment). StandsAmong sum size log site from l reach (logged H') first) (sym (begun_same pre s s' post its_site so_far filling))
-      (other_adds sum size log site from reach (logged H) (logged H') first least none (begun_segment s) among_others had.segment.place_begins zeros m put above inside room lies.lies among)
+      (other_adds sum size log site from reach (logged H) (logged H') first least none (begun_segment s) among_others had.segment.place_begins zeros (in_log m) put above inside room lies.lies among)
 
   alone_new : NoHeaderOfZeros sum → StandsAmong sum size device.log.bytes site from others' reach (logged H') first
   alone_new none = stands_new none device.log.bytes clean (fits.among ok none)
@@ -145,7 +144,7 @@ module _ (sum : List ℕ → ℕ) (size : ℕ) (site : SegmentPosition) (device 
   beyond_new to far none = stands_new none (padded to device.log.bytes) (λ first_one i low high. padded_get to device.log.bytes i ∙ clean first_one i low high) (fits.beyond to far ok none)
 
   names_new : NamesFit sum size device.snapshots (logged H') f first
-  names_new = let begun = fits.holds.begun.reached in let at = past in names-adds (logged H) (logged H') m put sum size device.snapshots f first (omega (arith, begun, at)) fits.names
+  names_new = let begun = fits.holds.begun.reached in let at = past in names-adds (logged H) (logged H') (in_log m) put sum size device.snapshots f first (omega (arith, begun, at)) fits.names
 
   -- no batch is added, so the stable place is the same
   same_stable : stable_below reach H'.batches ≡ stable_below reach H.batches
@@ -153,11 +152,11 @@ module _ (sum : List ℕ → ℕ) (size : ℕ) (site : SegmentPosition) (device 
 
   blobs_new : BlobsFit sum device.blobs H' (stable_below reach H'.batches)
   blobs_new = subst (λ n. BlobsFit sum device.blobs H' n) (sym same_stable)
-      (let low = stable_low reach H.batches in let at = reached in blobs-adds H H' m adds sum device.blobs (stable_below reach H.batches) lid (omega (arith, low, at)) inline fits.blobs)
+      (let low = stable_low reach H.batches in let at = reached in blobs-adds H H' m adds sum device.blobs (stable_below reach H.batches) (omega (arith, low, at)) stored fits.blobs)
 
   -- what is written still ends there
   ends_new : (x : Message) → Contains (logged H').messages x → x.place < site.place + from → (x.place < reach) × (x.place + x.size ≤ reach)
-  ends_new x there below = elim (was_or_added (logged H) (logged H') m put x there) [
+  ends_new x there below = elim (was_or_added (logged H) (logged H') (in_log m) put x there) [
     | inl was ↦ fits.ends x was below
     | inr added ↦ absurd (let same = ap (λ (y : Message). y.place) added in let at = past in omega (arith, same, at, below))
   ]
@@ -165,7 +164,7 @@ module _ (sum : List ℕ → ℕ) (size : ℕ) (site : SegmentPosition) (device 
   stored_behind : KeepsItems sum device.blobs H' (stable_below reach H'.batches)
   stored_behind x there beyond = elim (was_or_added H H' m adds x there) [
     | inl was ↦ (let same = same_stable in fits.stored x was (omega (arith, beyond, same)))
-    | inr own ↦ subst (λ (y : Message). KeepsItem sum device.blobs y y.pointer) own (subst (KeepsItem sum device.blobs m) (sym inline) tt)
+    | inr own ↦ subst (λ (y : Message). KeepsItem sum device.blobs y y.pointer) own stored
   ]
 
   left_new : LeavesRecoverable sum size H' (stable_below reach H'.batches) f device

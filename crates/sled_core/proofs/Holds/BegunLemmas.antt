@@ -3,18 +3,20 @@ use Rattle.std.proofs.Common.{◌≡◌, ◌∙◌, ◌<◌, ◌≤◌, ◌≤�
 use Rattle.std.proofs.Math.Dec.{leb→le}
 use Rattle.std.specs.List.{Contains}
 use Rattle.sled_codec.specs.declared.result.DiskPtr.{DiskPtr}
-use Rattle.sled_codec.specs.declared.result.DiskPtr.TheVariants.{Inline}
+use Rattle.sled_codec.specs.declared.result.DiskPtr.TheVariants.{Inline, Blob}
+use Rattle.sled_codec.specs.declared.serialization.message.MessageKind.{MessageKind}
 use Rattle.sled_codec.specs.History.{Message, History, AddsMessage, table}
 use Rattle.sled_codec.specs.Snapshots.{SnapshotModel, stable_place}
 use Rattle.sled_codec.proofs.Histories.{table_stays, table-adds, fits-adds}
-use Rattle.sled_store.specs.Device.{NamesState}
+use Rattle.sled_store.specs.Blobs.{IsBlob}
+use Rattle.sled_store.specs.Device.{LeavesName, NamesState}
 use Rattle.sled_store.specs.SnapshotFiles.{BeginsFrom}
 use Rattle.sled_store.proofs.Names.Trailers.{one_snapshot}
 use Rattle.sled_core.specs.declared.iobuf.SegmentPosition.{SegmentPosition}
 use Rattle.sled_core.specs.Recoverable.{AreRecoverableSnapshots, AreRecoverableBlobs, IsTableFile, PassesIfThere}
 use Rattle.sled_core.specs.Fits.{IsBegunFrom}
 use Rattle.sled_core.specs.LogFile.{StaysFrom}
-use Rattle.sled_core.specs.Running.{NamesFit, BlobsFit}
+use Rattle.sled_core.specs.Running.{KeepsItem, NamesFit, BlobsFit}
 use Rattle.sled_core.proofs.Holds.Added.{was_or_added}
 
 -- All snapshots that are listed.
@@ -47,6 +49,17 @@ table_file-adds sum H H' m n bytes adds past file =
       table = table-adds file.model.pages H H' m (stable_place file.model.stable) adds past' file.table;
       fits = fits-adds H H' m (stable_place file.model.stable) adds past' file.fits;
     }
+
+-- a blob that no crash takes, and that has the item of its message, passes for it
+passes_kept : (sum : List ℕ → ℕ) (blobs : NamesState) (m : Message) (left : ℤ → Option (List ℕ)) → ((n : ℤ) → LeavesName blobs n (left n)) → (p : DiskPtr) → KeepsItem sum blobs m p → PassesIfThere sum left m p
+passes_kept sum blobs m left leaves (Inline lid) stored = tt
+passes_kept sum blobs m left leaves (Blob lid place) stored = λ k known damaged.
+    let has = stored (left place) (leaves place) in
+    let one : Some has.kind ≡ Some k = sym has.known ∙ known in
+    let kind : has.kind ≡ k = cc in
+    let two : Some has.file ≡ Some damaged.0 = sym has.there ∙ damaged.1 in
+    let file : has.file ≡ damaged.0 = cc in
+    damaged.2 (m.bytes, subst (λ (l : List ℕ). IsBlob sum l k m.bytes) file (subst (λ (q : MessageKind). IsBlob sum has.file q m.bytes) kind has.is))
 
 module _ (H H' : History) (m : Message) (adds : AddsMessage H m H') where
   -- an entry of the table below a place that the message doesn't lie below was one
@@ -89,13 +102,13 @@ module _ (H H' : History) (m : Message) (adds : AddsMessage H m H') where
       }
 
   -- Whatever a crash leaves of the blobs, each is there that the table needs below what was written.
-  pub blobs-adds : (sum : List ℕ → ℕ) (blobs : NamesState) (reach lid : ℕ) → reach ≤ m.place → m.pointer ≡ Inline lid → BlobsFit sum blobs H reach → BlobsFit sum blobs H' reach
-  blobs-adds sum blobs reach lid past inline fits = λ left leaves only_own.
+  pub blobs-adds : (sum : List ℕ → ℕ) (blobs : NamesState) (reach : ℕ) → reach ≤ m.place → KeepsItem sum blobs m m.pointer → BlobsFit sum blobs H reach → BlobsFit sum blobs H' reach
+  blobs-adds sum blobs reach past stored fits = λ left leaves only_own.
       let are : AreRecoverableBlobs sum left H reach = fits left leaves only_own in
       record {
         needed = λ page x entry. are.needed page x (entry_stays reach page past x entry);
         named = λ x there. elim (was_or_added H H' m adds x there) [
           | inl was ↦ are.named x was
-          | inr own ↦ subst (λ (y : Message). PassesIfThere sum left y y.pointer) own (subst (λ (p : DiskPtr). PassesIfThere sum left m p) (sym inline) tt)
+          | inr own ↦ subst (λ (y : Message). PassesIfThere sum left y y.pointer) own (passes_kept sum blobs m left leaves m.pointer stored)
         ];
       }

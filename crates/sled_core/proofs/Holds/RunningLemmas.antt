@@ -13,7 +13,7 @@ use Rattle.sled_core.specs.declared.logger.Log.{Log}
 use Rattle.sled_core.specs.Begun.{SegmentParts}
 use Rattle.sled_core.specs.Fits.{FitsBatches, HoldsIn, begun_segment, device_of, log_parts, segment_size_of}
 use Rattle.sled_core.specs.LogFile.{padded}
-use Rattle.sled_core.specs.Logged.{logged}
+use Rattle.sled_core.specs.Logged.{logged, in_log}
 use Rattle.sled_core.specs.Running.{BlobsFit, Fits, FitsIn, KeepsItem, KeepsItems, NamesFit, end_below}
 use Rattle.sled_core.specs.Reached.{BegunSegment, StandsAmong}
 use Rattle.sled_core.specs.OpenBatches.{stable_below}
@@ -27,7 +27,7 @@ use Rattle.sled_core.proofs.Holds.ReachLemmas.{LiesBehind, completed_behind}
 use Rattle.sled_core.proofs.Flush.Settled.{leaves_less, rests, settled_recoverable}
 use Rattle.sled_core.proofs.Holds.StandsAdds.{alone-adds}
 use Rattle.sled_core.proofs.Holds.WholeHistory.{of_first, whole_ascends}
-use Rattle.sled_core.proofs.Logged.Messages.{end_logged, inline_logged}
+use Rattle.sled_core.proofs.Logged.Messages.{adds_logged, end_logged}
 use Rattle.sled_core.proofs.Reached.OpenEnds.{acknowledged_stable}
 use Rattle.sled_core.proofs.Reached.StableBelow.{stable_low}
 use Rattle.sled_core.proofs.Sealed.Zeros.{begin_zeros}
@@ -119,16 +119,16 @@ module _ (sum : List ℕ → ℕ) (size : ℕ) (site : SegmentPosition) (device 
 
   -- With one more message, which lies behind what was written, it fits the history that has that message.
   module _ (bytes' : List ℕ) (from' : ℕ) (bs' : List Sealed) (rs' : List Reserved) (H' : History) (m : Message) (is : from' ≡ from) (least : 256 ≤ size) (in_segment : length bytes' ≤ size) (ok : fault ≡ None)
-      (holds : HoldsIn sum (log_parts size site device fault bytes' from' bs' rs') behind (logged H')) (adds : AddsMessage H m H') (of_head : Contains holds.head m) (above : site.place + from ≤ m.place) (fresh : FirstUnwritten bs) (are : AreSealed from rs bs) where
+      (holds : HoldsIn sum (log_parts size site device fault bytes' from' bs' rs') behind (logged H')) (adds : AddsMessage H m H') (of_head : Contains holds.head (in_log m)) (above : site.place + from ≤ m.place) (fresh : FirstUnwritten bs) (are : AreSealed from rs bs)
+      (stored : KeepsItem sum device.blobs m m.pointer) where
     reached : reach ≤ m.place
     reached = let near = fits.near in omega (arith, near, above)
 
-    lies : LiesBehind size site m
-    lies = completed_behind sum size site device fault bytes' from' bs' rs' (of_first sum size site device fault bytes' from' bs' rs' (logged H') holds) holds.own in_segment m of_head (omega (arith, is, above))
+    lies : LiesBehind size site (in_log m)
+    lies = completed_behind sum size site device fault bytes' from' bs' rs' (of_first sum size site device fault bytes' from' bs' rs' (logged H') holds) holds.own in_segment (in_log m) of_head (omega (arith, is, above))
 
-    -- the log has the message of that history as it is
-    put : AddsMessage (logged H) m (logged H')
-    put = inline_logged H m lies.lid H' lies.pointer adds
+    put : AddsMessage (logged H) (in_log m) (logged H')
+    put = adds_logged H m H' adds
 
     -- where nothing was written of the segment, the beginning of its slot has zeros
     clean : from ≡ 0 → AreZeros device.log.bytes site.slot (site.slot + 20)
@@ -141,14 +141,14 @@ module _ (sum : List ℕ → ℕ) (size : ℕ) (site : SegmentPosition) (device 
     inside_segment = let inside = lies.room in omega (arith, inside)
 
     alone_new : NoHeaderOfZeros sum → StandsAmong sum size device.log.bytes site from others reach (logged H') first
-    alone_new none = alone-adds sum size device.log.bytes site from reach (logged H) (logged H') first least none holds.own.place_begins clean m put above inside_segment room lies.lies (fits.among ok none)
+    alone_new none = alone-adds sum size device.log.bytes site from reach (logged H) (logged H') first least none holds.own.place_begins clean (in_log m) put above inside_segment room lies.lies (fits.among ok none)
 
     beyond_new : (to : ℕ) → site.slot ≤ to → NoHeaderOfZeros sum → StandsAmong sum size (padded to device.log.bytes) site from others reach (logged H') first
-    beyond_new to far none = alone-adds sum size (padded to device.log.bytes) site from reach (logged H) (logged H') first least none holds.own.place_begins (λ first_one i low high. padded_get to device.log.bytes i ∙ clean first_one i low high) m put above inside_segment room lies.lies
+    beyond_new to far none = alone-adds sum size (padded to device.log.bytes) site from reach (logged H) (logged H') first least none holds.own.place_begins (λ first_one i low high. padded_get to device.log.bytes i ∙ clean first_one i low high) (in_log m) put above inside_segment room lies.lies
         (fits.beyond to far ok none)
 
     names_new : NamesFit sum size device.snapshots (logged H') f first
-    names_new = let begun = fits.holds.begun.reached in names-adds (logged H) (logged H') m put sum size device.snapshots f first (omega (arith, begun, above)) fits.names
+    names_new = let begun = fits.holds.begun.reached in names-adds (logged H) (logged H') (in_log m) put sum size device.snapshots f first (omega (arith, begun, above)) fits.names
 
     -- no batch is added, so the stable place is the same
     same_stable : stable_below reach H'.batches ≡ stable_below reach H.batches
@@ -156,11 +156,11 @@ module _ (sum : List ℕ → ℕ) (size : ℕ) (site : SegmentPosition) (device 
 
     blobs_new : BlobsFit sum device.blobs H' (stable_below reach H'.batches)
     blobs_new = subst (λ n. BlobsFit sum device.blobs H' n) (sym same_stable)
-        (let low = stable_low reach H.batches in let at = reached in blobs-adds H H' m adds sum device.blobs (stable_below reach H.batches) lies.lid (omega (arith, low, at)) lies.pointer fits.blobs)
+        (let low = stable_low reach H.batches in let at = reached in blobs-adds H H' m adds sum device.blobs (stable_below reach H.batches) (omega (arith, low, at)) stored fits.blobs)
 
     -- what is written still ends there
     ends_new : (x : Message) → Contains (logged H').messages x → x.place < site.place + from → (x.place < reach) × (x.place + x.size ≤ reach)
-    ends_new x there below = elim (was_or_added (logged H) (logged H') m put x there) [
+    ends_new x there below = elim (was_or_added (logged H) (logged H') (in_log m) put x there) [
       | inl was ↦ fits.ends x was below
       | inr own ↦ absurd (let same = ap (λ (y : Message). y.place) own in omega (arith, same, above, below))
     ]
@@ -168,7 +168,7 @@ module _ (sum : List ℕ → ℕ) (size : ℕ) (site : SegmentPosition) (device 
     stored_behind : KeepsItems sum device.blobs H' (stable_below reach H'.batches)
     stored_behind x there past = elim (was_or_added H H' m adds x there) [
       | inl was ↦ (let same = same_stable in fits.stored x was (omega (arith, past, same)))
-      | inr own ↦ subst (λ (y : Message). KeepsItem sum device.blobs y y.pointer) own (subst (KeepsItem sum device.blobs m) (sym lies.pointer) tt)
+      | inr own ↦ subst (λ (y : Message). KeepsItem sum device.blobs y y.pointer) own stored
     ]
 
     left_new : LeavesRecoverable sum size H' (stable_below reach H'.batches) f device

@@ -16,7 +16,7 @@ use Rattle.sled_core.specs.declared.logger.Log.{Log}
 use Rattle.sled_core.specs.declared.reservation.Reservation.{Reservation}
 use Rattle.sled_core.specs.Fits.{Awaits, AwaitsIn, Holds, KeepsAll, KeepsBuffers, config_of, current_of, fault_of, line_of, noted_in, open_places, reserved_end, synced_end}
 use Rattle.sled_core.specs.Keeps.{GoesOn, KeepsOthers, SamePosition}
-use Rattle.sled_core.specs.Logged.{logged}
+use Rattle.sled_core.specs.Logged.{logged, in_log}
 use Rattle.sled_core.specs.Manifests.{is_manifest}
 use Rattle.sled_core.specs.OpenBatches.{batch_of, not_whole, stable_below, with_batch}
 use Rattle.sled_core.specs.OpenPlaces.{TakesOut, open_manifests, open_places_along}
@@ -212,9 +212,9 @@ module _ {D C : Type 0} (trace : D → Trace) (sum : List ℕ → ℕ) (old mid 
     batch_others : KeepsOthers trace sum ticket old new
     unfolding Holds
     batch_others H other m holds awaits elsewhere =
-        subst (λ (l : List SegmentView). AwaitsIn l other m) (sym (noted_line mid new rest ∙ line))
+        subst (λ (l : List SegmentView). AwaitsIn l other (in_log m)) (sym (noted_line mid new rest ∙ line))
         (others_await old.config.config.segment_size (line_of old) old.site.place n v f.among (nth_facts old) i r f.there f.own.open_yet (marking sum v.parts.bytes r peg) short Manifest sum (state_of (trace old.config.device)) old.fault
-        (logged H) holds.holds ticket other m f.own.place awaits elsewhere)
+        (logged H) holds.holds ticket other (in_log m) f.own.place awaits elsewhere)
 
     -- so much is seen,
     pub batch_seen : IsBatchNoted trace sum old new ticket peg

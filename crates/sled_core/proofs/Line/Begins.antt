@@ -18,7 +18,7 @@ use Rattle.sled_core.specs.declared.logger.Log.{Log}
 use Rattle.sled_core.specs.declared.reservation.Reservation.{Reservation}
 use Rattle.sled_core.specs.Begun.{SegmentParts, SegmentView, begin_of, first_place, segment_view, view_at}
 use Rattle.sled_core.specs.Buffers.{IsHeaded}
-use Rattle.sled_core.specs.Logged.{logged}
+use Rattle.sled_core.specs.Logged.{logged, in_log}
 use Rattle.sled_core.specs.Tickets.{IsFor, index_of}
 use Rattle.sled_core.specs.declared.iobuf.Reserved.{Reserved}
 use Rattle.sled_core.specs.Fits.{written_to, AwaitsIn, CloseBelow, FitsBatches, HasMark, Holds, HoldsIn, HoldsLine, HoldsWith, KeepsAll, KeepsTickets, current_of, device_of, fault_of, line_end, line_of, noted_in, log_parts, machine_at, parts_in, pins_of, position_of, segment_size_of, stable_end, synced_end, waiting_of}
@@ -378,9 +378,9 @@ module _ {D C : Type 0} (trace : D → Trace) (sum : List ℕ → ℕ) (old new 
   -- tickets are for what they were for,
   pub begins_tickets : KeepsTickets old new
   begins_tickets = record {
-    awaits = λ ticket m awaits. subst (λ (l : List SegmentView). AwaitsIn l ticket m) (sym line)
-        (awaits_more sum its_size (closed sum its_size (line_of old)) (begun_view sum its_size (machine_at old) (stable_end old) (current_of old) ∷ []) ticket m
-        (awaits_closed sum its_size first behind (old.site.place + length old.behind.items * its_size) facts ticket m awaits));
+    awaits = λ ticket m awaits. subst (λ (l : List SegmentView). AwaitsIn l ticket (in_log m)) (sym line)
+        (awaits_more sum its_size (closed sum its_size (line_of old)) (begun_view sum its_size (machine_at old) (stable_end old) (current_of old) ∷ []) ticket (in_log m)
+        (awaits_closed sum its_size first behind (old.site.place + length old.behind.items * its_size) facts ticket (in_log m) awaits));
     opens = ap open_places_along line
         ∙ places_begun (closed sum its_size (line_of old)) (begun_view sum its_size (machine_at old) (stable_end old) (current_of old)) refl
         ∙ places_closed sum its_size first behind;

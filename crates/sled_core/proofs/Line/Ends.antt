@@ -10,7 +10,7 @@ use Rattle.sled_codec.specs.Snapshots.{SnapshotModel, stable_place}
 use Rattle.sled_store.specs.Device.{State}
 use Rattle.sled_store.specs.SegmentStates.{Machine}
 use Rattle.sled_store.specs.SnapshotFiles.{BeginsFrom}
-use Rattle.sled_core.specs.Logged.{logged}
+use Rattle.sled_core.specs.Logged.{logged, in_log}
 use Rattle.sled_core.specs.Manifests.{is_manifest}
 use Rattle.sled_core.specs.declared.iobuf.ReservationState.TheVariants.{Open, Canceled, Completed}
 use Rattle.sled_core.specs.declared.iobuf.Reserved.{Reserved}
@@ -19,7 +19,7 @@ use Rattle.sled_core.specs.Begun.{SegmentParts, SegmentView}
 use Rattle.sled_core.specs.Buffers.{canceling, completing, message_in}
 use Rattle.sled_core.specs.Fits.{FitsBatches, line_end, written_to, HoldsIn, HoldsLine, HoldsSegment, HoldsWith, LogParts, log_parts, parts_in}
 use Rattle.sled_core.specs.FreeSlots.{HasSlot, HasSlots, HaveOwn}
-use Rattle.sled_core.specs.Running.{FitsIn, FitsLine, FitsWith}
+use Rattle.sled_core.specs.Running.{FitsIn, FitsLine, FitsWith, KeepsItem}
 use Rattle.sled_core.specs.Slots.{AreBegun}
 use Rattle.sled_core.specs.Turned.{ended_now}
 use Rattle.sled_core.proofs.Behind.Calls.{behind-aborted, ended_long, held_here}
@@ -36,7 +36,7 @@ use Rattle.sled_core.proofs.Line.Facts.{IsSegment}
 use Rattle.sled_core.proofs.Line.LineEnds.{end_set, first_set}
 use Rattle.sled_core.proofs.Line.Nth.{parts_set, parts_split}
 use Rattle.sled_core.proofs.Line.OlderSlots.{entries_adds, newest_low}
-use Rattle.sled_core.proofs.Logged.Messages.{inline_logged, inline_real}
+use Rattle.sled_core.proofs.Logged.Messages.{adds_logged, put_real}
 use Rattle.sled_core.proofs.Reserve.Ranges.{at_there, chain_within}
 use Rattle.sled_core.proofs.Sealed.Ended.{ends_up}
 use Rattle.sled_codec.specs.declared.result.DiskPtr.TheVariants.{Inline}
@@ -135,33 +135,33 @@ module _ (sum : List ℕ → ℕ) (size : ℕ) (device : State) (fault : Option 
         )
 
     -- and they fit it, where a pin is out.
-    pub complete_fits : is_manifest r.log_kind r.page ≡ false → (line : List SegmentView) (n place reach pins : ℕ) (H : History) (A f : ℕ) (U : List Message) → 256 ≤ size → fault ≡ None → 0 < pins → slice_get line n ≡ Some v
+    pub complete_fits : (x : Message) → in_log x ≡ m → KeepsItem sum device.blobs x x.pointer → is_manifest r.log_kind r.page ≡ false → (line : List SegmentView) (n place reach pins : ℕ) (H : History) (A f : ℕ) (U : List Message) → 256 ≤ size → fault ≡ None → 0 < pins → slice_get line n ≡ Some v
         → ((k : ℕ) (x : SegmentView) → slice_get line k ≡ Some x → IsSegment size (place + k * size) x)
-        → FitsLine sum size device fault line reach pins H A f U → (H' : History) × AddsMessage H m H' × FitsLine sum size device fault (set line n completed) reach pins H' A f (m ∷ U)
-    complete_fits none [] n place reach pins H A f U least ok out there facts fits = cc
-    complete_fits none (w ∷ ws) zero place reach pins H A f U least ok out there facts fits =
+        → FitsLine sum size device fault line reach pins H A f U → (H' : History) × AddsMessage H x H' × FitsLine sum size device fault (set line n completed) reach pins H' A f (x ∷ U)
+    complete_fits x its_message stored none [] n place reach pins H A f U least ok out there facts fits = cc
+    complete_fits x its_message stored none (w ∷ ws) zero place reach pins H A f U least ok out there facts fits =
         let same : w ≡ v = cc in
         let its : FitsLine sum size device fault (v ∷ ws) reach pins H A f U = subst (λ (x : SegmentView). FitsLine sum size device fault (x ∷ ws) reach pins H A f U) same fits in
         let own = facts zero v there in
         let short = own.short in
         let first : History = record { messages = its.holds.head; batches = H.batches } in
         let of_log = holds-complete sum size v.parts.site device fault v.parts.bytes v.parts.written_len v.parts.sealed v.parts.reserved (logged H) its.holds i r at is_open (written_inside v own) own.are short none in
-        let inline : m.pointer ≡ Inline (v.parts.site.slot + r.from) = open_inline sum size (v.parts.site.place / size) v.parts.site v.parts.bytes v.parts.reserved i r at is_open its.holds.own.stand in
-        let done = inline_real (HoldsIn sum _ (map parts_in ws)) H m (v.parts.site.slot + r.from) of_log.0 inline of_log.1 of_log.2 in
-        let put = inline_logged H m (v.parts.site.slot + r.from) done.0 inline done.1 in
+        let done = put_real (HoldsIn sum _ (map parts_in ws)) H x of_log.0 (subst (λ (y : Message). AddsMessage (logged H) y of_log.0) (sym its_message) of_log.1) of_log.2 in
+        let put = adds_logged H x done.0 done.1 in
+        let placed = ap (λ (y : Message). y.place) its_message in
         let long : length (written v.parts.bytes r.from (completing r)) ≡ length v.parts.bytes = ended_long sum size device fault v.parts first its.holds.own i r at is_open r.sum r.kind in
         let near = ends_within sum size v.parts.site device fault v.parts.bytes v.parts.written_len v.parts.sealed v.parts.reserved i r first its.holds.own at is_open in
         let above = behind_written sum size v.parts.site device fault v.parts.bytes v.parts.written_len v.parts.sealed v.parts.reserved i r first its.holds.own at in (
           done.0,
           done.1,
-          fits-completed sum size v.parts.site device fault v.parts.bytes v.parts.written_len v.parts.sealed v.parts.reserved pins H A f U its _ _ _ _ done.0 m refl least (omega (arith, long, short)) ok done.2 done.1
-              (of_head sum size v.parts.site device fault _ _ _ _ (logged done.0) done.2 m (added_there (logged H) (logged done.0) m put) (omega (arith, near, short))) above own.fresh own.are out,
+          fits-completed sum size v.parts.site device fault v.parts.bytes v.parts.written_len v.parts.sealed v.parts.reserved pins H A f U its _ _ _ _ done.0 x refl least (omega (arith, long, short)) ok done.2 done.1
+              (of_head sum size v.parts.site device fault _ _ _ _ (logged done.0) done.2 (in_log x) (added_there (logged H) (logged done.0) (in_log x) put) (omega (arith, near, short, placed))) (omega (arith, above, placed)) own.fresh own.are stored out,
         )
-    complete_fits none (w ∷ ws) (suc k) place reach pins H A f U least ok out there facts fits =
+    complete_fits x its_message stored none (w ∷ ws) (suc k) place reach pins H A f U least ok out there facts fits =
         let its : FitsIn sum (parts_of w) (map parts_in (take k ws) ++ v.parts ∷ map parts_in (drop (suc k) ws)) reach pins H A f U = subst (λ (l : List SegmentParts). FitsIn sum (parts_of w) l reach pins H A f U) (parts_split ws k v there) fits in
         let short : length w.parts.bytes ≤ size = (facts zero w refl).short in
-        let done = behind-fits-completed sum size w.parts.site device fault w.parts.bytes w.parts.written_len w.parts.sealed w.parts.reserved pins H A f U (map parts_in (take k ws)) v.parts (map parts_in (drop (suc k) ws)) its i r at is_open none least short ok (facts (suc k) v there).fresh out in
-        (done.0, done.1, subst (λ (l : List SegmentParts). FitsIn sum (parts_of w) l reach pins done.0 A f (m ∷ U)) (sym (parts_set ws k v completed there)) done.2)
+        let done = behind-fits-completed sum size w.parts.site device fault w.parts.bytes w.parts.written_len w.parts.sealed w.parts.reserved pins H A f U (map parts_in (take k ws)) v.parts (map parts_in (drop (suc k) ws)) its i r at is_open x its_message stored none least short ok (facts (suc k) v there).fresh out in
+        (done.0, done.1, subst (λ (l : List SegmentParts). FitsIn sum (parts_of w) l reach pins done.0 A f (x ∷ U)) (sym (parts_set ws k v completed there)) done.2)
 
 -- The slots are those that they were.
 pub slots_set : (size : ℕ) (line : List SegmentView) (log : List ℕ) (fault : Option IoError) (m : Machine) (n : ℕ) (v w : SegmentView) → slice_get line n ≡ Some v → w.parts.site ≡ v.parts.site → HasSlots size line log fault m → HasSlots size (set line n w) log fault m
@@ -237,22 +237,23 @@ module _ (sum : List ℕ → ℕ) (size : ℕ) (device : State) (fault : Option 
       let done = complete_holds sum size device fault v i r at is_open none line n place H there facts holds.holds in
       (done.0, done.1, record { holds = done.2; batches = batches_set (ended_now i r (completing r) Completed v) refl refl done.0 (batches_completed (written_to line) (line_end size line) noted H done.0 (message_in v.parts.site v.parts.bytes r) done.1 (beside H holds.holds) holds.batches); slots = slots_set size line device.log.bytes fault machine n v (ended_now i r (completing r) Completed v) there refl holds.slots })
 
-  pub fits_completed : is_manifest r.log_kind r.page ≡ false → (pins : ℕ) (H : History) (A f : ℕ) (U : List Message) → 256 ≤ size → fault ≡ None → 0 < pins → FitsWith sum noted size device fault line machine pins H A f U
-      → (H' : History) × AddsMessage H (message_in v.parts.site v.parts.bytes r) H' × FitsWith sum noted size device fault (set line n (ended_now i r (completing r) Completed v)) machine pins H' A f (message_in v.parts.site v.parts.bytes r ∷ U)
-  fits_completed none pins H A f U least ok out fits =
-      let done = complete_fits sum size device fault v i r at is_open none line n place fits.reach pins H A f U least ok out there facts fits.parts in
+  pub fits_completed : (x : Message) → in_log x ≡ message_in v.parts.site v.parts.bytes r → KeepsItem sum device.blobs x x.pointer → is_manifest r.log_kind r.page ≡ false → (pins : ℕ) (H : History) (A f : ℕ) (U : List Message) → 256 ≤ size → fault ≡ None → 0 < pins
+      → FitsWith sum noted size device fault line machine pins H A f U
+      → (H' : History) × AddsMessage H x H' × FitsWith sum noted size device fault (set line n (ended_now i r (completing r) Completed v)) machine pins H' A f (x ∷ U)
+  fits_completed x its_message stored none pins H A f U least ok out fits =
+      let done = complete_fits sum size device fault v i r at is_open x its_message stored none line n place fits.reach pins H A f U least ok out there facts fits.parts in
       let held = line_holds sum size device fault line fits.reach pins H A f U fits.parts in
-      let inline : (message_in v.parts.site v.parts.bytes r).pointer ≡ Inline (v.parts.site.slot + r.from) =
-      with_segment sum size device fault line n v (logged H) held there (λ stays own segment. open_inline sum size (v.parts.site.place / size) v.parts.site v.parts.bytes v.parts.reserved i r at is_open segment.stand) in
-      let put = inline_logged H (message_in v.parts.site v.parts.bytes r) (v.parts.site.slot + r.from) done.0 inline done.1 in (
+      let put = adds_logged H x done.0 done.1 in
+      let apart : (b : Batch) → Contains H.batches b → (b.low ≤ x.place) ⊎ (x.place + x.size ≤ b.low) = λ b among. subst (λ (y : Message). (b.low ≤ y.place) ⊎ (y.place + y.size ≤ b.low)) (sym its_message) (beside (logged H) held b among) in
+      let past : stable_place fits.entries.first.stable ≤ x.place = subst (λ (y : Message). stable_place fits.entries.first.stable ≤ y.place) (sym its_message) (newest_before (logged H) held fits.entries.first fits.entries.begins) in (
         done.0,
         done.1,
         record {
           reach = fits.reach;
           parts = done.2;
-          batches = batches_set (ended_now i r (completing r) Completed v) refl refl (logged done.0) (batches_completed (written_to line) (line_end size line) noted (logged H) (logged done.0) (message_in v.parts.site v.parts.bytes r) put (beside (logged H) held) fits.batches);
+          batches = batches_set (ended_now i r (completing r) Completed v) refl refl (logged done.0) (batches_completed (written_to line) (line_end size line) noted (logged H) (logged done.0) (in_log x) put apart fits.batches);
           slots = slots_set size line device.log.bytes fault machine n v (ended_now i r (completing r) Completed v) there refl fits.slots;
           begun = λ none. subst (λ p. AreBegun sum size device.log.bytes p machine) (sym (first_set line n v (ended_now i r (completing r) Completed v) there refl)) (fits.begun none);
-          entries = entries_adds sum size device.snapshots.file (logged H) (logged done.0) (message_in v.parts.site v.parts.bytes r) machine put fits.entries (newest_before (logged H) held fits.entries.first fits.entries.begins);
+          entries = entries_adds sum size device.snapshots.file (logged H) (logged done.0) (in_log x) machine put fits.entries past;
         },
       )

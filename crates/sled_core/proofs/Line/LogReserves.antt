@@ -1,7 +1,7 @@
 -- A reservation is made in the segment that is being filled: where it is put, and what the log holds and fits then.
 use Rattle.std.proofs.Common.{◌≡◌, ◌∙◌, ◌<◌, ◌≤◌, ◌+◌, ◌-◌, ◌/◌, ◌^◌, nat_lt, ap, sym, refl, arith, subst, ℕ, Bool, true, false, if◌then◌else◌, List, [], ◌∷◌, ◌++◌, length, length-append, map, drop, Some, is_some, None}
 use Rattle.std.proofs.lemmas.Bool.Decides.{nat_tests}
-use Rattle.sled_core.specs.Logged.{logged}
+use Rattle.sled_core.specs.Logged.{logged, in_log}
 use Rattle.sled_core.specs.Manifests.{kind_for}
 use Rattle.sled_codec.specs.Spelling.{short_header_tail}
 use Rattle.sled_codec.specs.History.{Message}
@@ -168,7 +168,7 @@ module _ {D C : Type 0} (trace : D → Trace) (sum : List ℕ → ℕ) (old new 
 
   -- tickets are for what they were for,
   pub reserves_others : (ticket : Reservation) (m : Message) → Awaits old ticket m → Awaits new ticket m
-  reserves_others ticket m awaits = subst (λ (l : List SegmentView). AwaitsIn l ticket m) (sym line) (awaits_reserved sum its_size more r v vs fits ticket m awaits)
+  reserves_others ticket m awaits = subst (λ (l : List SegmentView). AwaitsIn l ticket (in_log m)) (sym line) (awaits_reserved sum its_size more r v vs fits ticket (in_log m) awaits)
 
   -- the new reservation is open behind those that were,
   pub reserves_opens : open_places new ≡ open_places old ++ ((current_of old).parts.site.place + r.from) ∷ []

@@ -249,6 +249,6 @@ module _ {D C : Type 0} (trace : D → Trace) (sum : List ℕ → ℕ) (old mid 
     pub made_ticket : Awaits new ticket (message_for old kept.log_kind kept.page item)
     made_ticket =
         let is = message_here ∙ its_message in
-        subst (λ (m : Message). Awaits new ticket m) (sym is)
+        subst (λ (m : Message). AwaitsIn (line_of new) ticket m) (sym is)
         (subst (λ (l : List SegmentView). AwaitsIn l ticket (message_in w.parts.site (w.parts.bytes ++ more) r)) (sym line)
         (ticket_reserved sum (segment_size_of mid) more r (view_at mid.site mid.buffer) (map segment_view mid.behind.items) ticket own.index (record { open_yet = refl; place = own.place; pointer = own.pointer ∙ ap (λ (o : Option ℤ). pointer_as o (w.parts.site.slot + length w.parts.bytes)) (sym plain); plain = plain; long = own.long; manifest = manifest })))

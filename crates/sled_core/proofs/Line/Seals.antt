@@ -14,7 +14,7 @@ use Rattle.sled_core.specs.declared.reservation.Reservation.{Reservation}
 use Rattle.sled_core.specs.Fits.{written_to, AwaitsIn, Holds, HoldsIn, HoldsLine, KeepsAll, KeepsTickets, buffers_of, current_begin, current_of, device_of, fault_of, line_end, line_of, noted_in, log_parts, machine_at, parts_in, pins_of, segment_size_of, synced_end, waiting_of}
 use Rattle.sled_core.specs.FreeSlots.{HasSlot, HasSlots, HaveOwn}
 use Rattle.sled_core.specs.Keeps.{Preserves, SamePosition}
-use Rattle.sled_core.specs.Logged.{logged}
+use Rattle.sled_core.specs.Logged.{logged, in_log}
 use Rattle.sled_core.specs.OpenPlaces.{open_places_along}
 use Rattle.sled_core.specs.Positions.{is_short, position_in}
 use Rattle.sled_core.specs.Running.{Fits, FitsIn, FitsLine}
@@ -135,7 +135,7 @@ module _ {D C : Type 0} (trace : D → Trace) (sum : List ℕ → ℕ) (old new 
   -- Tickets are for what they were for, and the same reservations are open,
   pub sealed_tickets : KeepsTickets old new
   sealed_tickets = record {
-    awaits = λ ticket m awaits. subst (λ (l : List SegmentView). AwaitsIn l ticket m) (sym line) (awaits_sealed v vs ticket m awaits);
+    awaits = λ ticket m awaits. subst (λ (l : List SegmentView). AwaitsIn l ticket (in_log m)) (sym line) (awaits_sealed v vs ticket (in_log m) awaits);
     opens = ap open_places_along line ∙ places_sealed v vs;
   }
 

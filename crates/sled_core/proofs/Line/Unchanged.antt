@@ -15,6 +15,7 @@ use Rattle.sled_core.specs.Waiting.{last_of}
 use Rattle.sled_core.proofs.Holds.KeptCalls.{goes_on_quietly}
 use Rattle.sled_core.proofs.Line.LineEnds.{noted_quiet, noted_same}
 use Rattle.sled_core.proofs.Line.Moves.{fits_as, holds_as}
+use Rattle.sled_core.specs.Logged.{in_log}
 
 -- A call that changes the segments alone, and leaves what is seen of them, leaves it so.
 pub left_alone : {D C : Type 0} (old new : Log D C) → line_of new ≡ line_of old → ChangesLine old new → IsUnchanged old new
@@ -35,7 +36,7 @@ module _ {D C : Type 0} (old new : Log D C) (same : IsUnchanged old new) where
 
   pub unchanged_tickets : KeepsTickets old new
   unchanged_tickets = record {
-    awaits = λ ticket m awaits. subst (λ (l : List SegmentView). AwaitsIn l ticket m) (sym same.line) awaits;
+    awaits = λ ticket m awaits. subst (λ (l : List SegmentView). AwaitsIn l ticket (in_log m)) (sym same.line) awaits;
     opens = ap open_places_along same.line;
   }
 

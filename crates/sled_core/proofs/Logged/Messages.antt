@@ -249,15 +249,9 @@ adds_real H m R' adds =
       λ i. record { messages = messages i; batches = batches i },
     )
 
--- Of a message that has its item in its record the log has all: that message is put in of what the log has where it is of the history.
-pub inline_logged : (H : History) (m : Message) (lid : ℕ) (H' : History) → m.pointer ≡ Inline lid → AddsMessage H m H' → AddsMessage (logged H) m (logged H')
-inline_logged H m lid H' inline adds = subst (λ (x : Message). AddsMessage (logged H) x (logged H')) (inline_same m lid inline) (adds_logged H m H' adds)
-
--- And where it is put in of that it can be of the history; what is so of what the log has then is so of what it has of the new history.
-pub inline_real : (P : History → Type 0) (H : History) (m : Message) (lid : ℕ) (R' : History) → m.pointer ≡ Inline lid → AddsMessage (logged H) m R' → P R' → (H' : History) × AddsMessage H m H' × P (logged H')
-inline_real P H m lid R' inline adds is =
-    let real = adds_real H m R' (subst (λ (x : Message). AddsMessage (logged H) x R') (sym (inline_same m lid inline)) adds) in
-    (real.0, real.1, subst P (sym real.2) is)
+-- What is so of what the log has then is so of what it has of the new history.
+pub put_real : (P : History → Type 0) (H : History) (m : Message) (R' : History) → AddsMessage (logged H) (in_log m) R' → P R' → (H' : History) × AddsMessage H m H' × P (logged H')
+put_real P H m R' adds is = let real = adds_real H m R' adds in (real.0, real.1, subst P (sym real.2) is)
 
 -- A batch is noted of what the log has of a history where it is of the history.
 pub batch_logged : (H : History) (b : Batch) (H' : History) → AddsBatch H b H' → AddsBatch (logged H) b (logged H')

@@ -15,7 +15,7 @@ use Rattle.sled_core.specs.Begun.{SegmentView}
 use Rattle.sled_core.specs.Buffers.{Stands, body_in, canceling, message_in, item_as, pointer_as}
 use Rattle.sled_core.specs.Canceled.{canceled_record}
 use Rattle.sled_core.specs.Fits.{AwaitsIn, Holds, line_of, noted_in, open_places}
-use Rattle.sled_core.specs.Logged.{logged}
+use Rattle.sled_core.specs.Logged.{logged, in_log}
 use Rattle.sled_core.specs.Manifests.{is_manifest}
 use Rattle.sled_core.specs.OpenPlaces.{TakesOut, open_places_along}
 use Rattle.sled_core.specs.Running.{Fits}
@@ -36,6 +36,8 @@ use Rattle.sled_core.proofs.Reserve.Ranges.{at_there}
 use Rattle.sled_core.proofs.logger.Log.abort.Given.{Over}
 use Rattle.sled_core.proofs.logger.Log.abort.Goals as goal
 use Rattle.sled_codec.specs.Record.{short_record}
+use Rattle.sled_codec.specs.declared.result.DiskPtr.TheVariants.{Inline}
+use Rattle.sled_core.proofs.Logged.Messages.{inline_same}
 
 pub returns-in-Some-clause-keeps : goal.returns-in-Some-clause-keeps
 returns-in-Some-clause-keeps g c = kept_still g.D.Device.trace g.C.Checksum.sum_of c.args.self.now
@@ -51,7 +53,7 @@ segment_of-n-requires g c =
 pub abort_in-requires-clause-kind : goal.abort_in-requires-clause-kind
 abort_in-requires-clause-kind g c = λ v r at there.
     let place : c.unsigned_abs.result ≡ unsigned_abs (place_of c.args.ticket) = c.unsigned_abs.ensures.value ∙ says_place c.lsn-place.result (place_of c.args.ticket) c.lsn-place.type_inv c.lsn-place.ensures in
-    let own : AwaitsIn (line_of c.args.self.now) c.args.ticket c.requires.0 = c.requires.1 in
+    let own : AwaitsIn (line_of c.args.self.now) c.args.ticket (in_log c.requires.0) = c.requires.1 in
     let its_at = ticket_among c.args.self.now c.args.ticket c.requires.0 own c.unsigned_abs.result c.segment_of-n.result c.index-index.result place c.segment_of-n.ensures c.index-index.ensures in
     let its_there = ticket_there c.args.self.now c.args.ticket c.requires.0 own c.unsigned_abs.result c.segment_of-n.result c.index-index.result place c.segment_of-n.ensures c.index-index.ensures in
     let both : Some own.segment ≡ Some v = sym its_at ∙ at in
@@ -65,12 +67,12 @@ abort_in-requires-clause-awaited g c =
     let place : c.unsigned_abs.result ≡ unsigned_abs (place_of c.args.ticket) = c.unsigned_abs.ensures.value ∙ says_place c.lsn-place.result (place_of c.args.ticket) c.lsn-place.type_inv c.lsn-place.ensures in
     ticket_open c.args.self.now c.args.ticket c.requires.0 c.requires.1 c.unsigned_abs.result c.segment_of-n.result c.index-index.result place c.segment_of-n.ensures c.index-index.ensures
 
-among : (g : Over) (c : goal.After-abort_in g) (m : Message) (awaits : AwaitsIn (line_of c.args.self.now) c.args.ticket m) → slice_get (line_of c.args.self.now) c.segment_of-n.result ≡ Some awaits.segment
+among : (g : Over) (c : goal.After-abort_in g) (m : Message) (awaits : AwaitsIn (line_of c.args.self.now) c.args.ticket (in_log m)) → slice_get (line_of c.args.self.now) c.segment_of-n.result ≡ Some awaits.segment
 among g c m awaits =
     let place : c.unsigned_abs.result ≡ unsigned_abs (place_of c.args.ticket) = c.unsigned_abs.ensures.value ∙ says_place c.lsn-place.result (place_of c.args.ticket) c.lsn-place.type_inv c.lsn-place.ensures in
     ticket_among c.args.self.now c.args.ticket m awaits c.unsigned_abs.result c.segment_of-n.result c.index-index.result place c.segment_of-n.ensures c.index-index.ensures
 
-there : (g : Over) (c : goal.After-abort_in g) (m : Message) (awaits : AwaitsIn (line_of c.args.self.now) c.args.ticket m) → slice_get awaits.segment.parts.reserved (c.index-index.result - awaits.segment.gone) ≡ Some awaits.reserved
+there : (g : Over) (c : goal.After-abort_in g) (m : Message) (awaits : AwaitsIn (line_of c.args.self.now) c.args.ticket (in_log m)) → slice_get awaits.segment.parts.reserved (c.index-index.result - awaits.segment.gone) ≡ Some awaits.reserved
 there g c m awaits =
     let place : c.unsigned_abs.result ≡ unsigned_abs (place_of c.args.ticket) = c.unsigned_abs.ensures.value ∙ says_place c.lsn-place.result (place_of c.args.ticket) c.lsn-place.type_inv c.lsn-place.ensures in
     ticket_there c.args.self.now c.args.ticket m awaits c.unsigned_abs.result c.segment_of-n.result c.index-index.result place c.segment_of-n.ensures c.index-index.ensures
@@ -80,7 +82,7 @@ pub returns-clause-keeps : goal.returns-clause-keeps
 unfolding Fits Holds
 returns-clause-keeps g c =
     let old = c.args.self.now in
-    let own : AwaitsIn (line_of old) c.args.ticket c.requires.0 = c.requires.1 in
+    let own : AwaitsIn (line_of old) c.args.ticket (in_log c.requires.0) = c.requires.1 in
     let v : SegmentView = own.segment in
     let r : Reserved = own.reserved in
     let i : ℕ = c.index-index.result - v.gone in
@@ -118,7 +120,9 @@ returns-clause-canceled g c = λ H m holds awaits.
     let its_text = canceled_there sum size v.parts.site.place v.parts.bytes r segment.place_begins stands.room inside stands.text awaits.own.open_yet in
     let body : List ℕ = body_in v.parts.bytes r in
     let canceled : List ℕ = short_record sum kind.Canceled r.page ((v.parts.site.place + r.from) / size) body in
-    let record_is : canceled ≡ canceled_record sum c.abort_in.new.self.config.config.segment_size m = ap (short_record sum kind.Canceled r.page ((v.parts.site.place + r.from) / size)) (sym (ap (λ (o : Option ℤ). item_as o body) awaits.own.plain)) ∙ (λ j. canceled_record sum (sym now_size j) (sym awaits.message j)) in
+    let pointer : m.pointer ≡ Inline (v.parts.site.slot + r.from) = ap (λ (x : Message). x.pointer) awaits.message ∙ ap (λ (o : Option ℤ). pointer_as o (v.parts.site.slot + r.from)) awaits.own.plain in
+    let whole : m ≡ message_in v.parts.site v.parts.bytes r = sym (inline_same m (v.parts.site.slot + r.from) pointer) ∙ awaits.message in
+    let record_is : canceled ≡ canceled_record sum c.abort_in.new.self.config.config.segment_size m = ap (short_record sum kind.Canceled r.page ((v.parts.site.place + r.from) / size)) (sym (ap (λ (o : Option ℤ). item_as o body) awaits.own.plain)) ∙ (λ j. canceled_record sum (sym now_size j) (sym whole j)) in
     let long = canceled_long sum size v.parts.site.place v.parts.bytes r segment.place_begins stands.room inside stands.text in
     let found = ended_stands sum size old.reserved_to (line_of old) c.segment_of-n.result v facts i r its awaits.own.open_yet (sum (body_in v.parts.bytes r ++ code_of kind.Canceled ∷ part v.parts.bytes (r.from + 5) (r.header_len - 5))) kind.Canceled Canceled canceled at old.filled its_text in
     let list : buffers_in sum size (set (line_of old) c.segment_of-n.result (ended_now i r (canceling sum v.parts.bytes r) Canceled v)) ≡ buffers_in sum c.abort_in.new.self.config.config.segment_size (line_of c.abort_in.new.self) = λ j. buffers_in sum (sym now_size j) (sym line j) in
@@ -128,7 +132,7 @@ returns-clause-canceled g c = λ H m holds awaits.
       begins = (let low = found.begins in omega (arith, low, place_is));
       ends = (let high = found.ends in omega (arith, high, place_is, size_is));
       lid = v.parts.site.slot + r.from;
-      pointer = ap (λ (x : Message). x.pointer) awaits.message ∙ ap (λ (o : Option ℤ). pointer_as o (v.parts.site.slot + r.from)) awaits.own.plain;
+      pointer = pointer;
       behind = found.behind;
       whole = ap (part found.buffer.bytes (v.parts.site.slot + r.from - found.buffer.lid)) size_is ∙ found.whole ∙ record_is;
       long = ap length (sym record_is) ∙ long ∙ sym size_is;
@@ -140,18 +144,18 @@ pub returns-clause-others : goal.returns-clause-others
 unfolding Holds
 returns-clause-others g c = λ H other m holds awaits apart.
     let old = c.args.self.now in
-    let own : AwaitsIn (line_of old) c.args.ticket c.requires.0 = c.requires.1 in
+    let own : AwaitsIn (line_of old) c.args.ticket (in_log c.requires.0) = c.requires.1 in
     let at = among g c c.requires.0 own in
     let its = there g c c.requires.0 own in
-    subst (λ (l : List SegmentView). AwaitsIn l other m) (sym (c.abort_in.ensures.line own.segment own.reserved at its))
+    subst (λ (l : List SegmentView). AwaitsIn l other (in_log m)) (sym (c.abort_in.ensures.line own.segment own.reserved at its))
     (others_await old.config.config.segment_size (line_of old) old.site.place c.segment_of-n.result own.segment at (nth_facts old) (c.index-index.result - own.segment.gone) own.reserved its own.own.open_yet (canceling g.C.Checksum.sum_of own.segment.parts.bytes own.reserved)
     (canceling_short g.C.Checksum.sum_of own.segment (c.index-index.result - own.segment.gone) own.reserved (nth_facts c.args.self.now c.segment_of-n.result own.segment at) its own.own.open_yet) Canceled g.C.Checksum.sum_of (state_of (g.D.Device.trace old.config.device)) old.fault
-    (logged H) holds.holds c.args.ticket other m own.own.place awaits apart)
+    (logged H) holds.holds c.args.ticket other (in_log m) own.own.place awaits apart)
 
 pub returns-clause-opens : goal.returns-clause-opens
 returns-clause-opens g c = λ place is.
     let old = c.args.self.now in
-    let own : AwaitsIn (line_of old) c.args.ticket c.requires.0 = c.requires.1 in
+    let own : AwaitsIn (line_of old) c.args.ticket (in_log c.requires.0) = c.requires.1 in
     let at = among g c c.requires.0 own in
     let its = there g c c.requires.0 own in
     let here : own.segment.parts.site.place + own.reserved.from ≡ place = sym (ap unsigned_abs (is ∙ own.own.place)) in
@@ -161,21 +165,21 @@ returns-clause-opens g c = λ place is.
 
 pub returns-clause-same : goal.returns-clause-same
 returns-clause-same g c =
-    let own : AwaitsIn (line_of c.args.self.now) c.args.ticket c.requires.0 = c.requires.1 in
+    let own : AwaitsIn (line_of c.args.self.now) c.args.ticket (in_log c.requires.0) = c.requires.1 in
     let at = among g c c.requires.0 own in
     let its = there g c c.requires.0 own in
     keeps_ended c.args.self.now c.abort_in.new.self c.segment_of-n.result own.segment at (c.index-index.result - own.segment.gone) own.reserved its own.own.open_yet (canceling g.C.Checksum.sum_of own.segment.parts.bytes own.reserved) (canceling_short g.C.Checksum.sum_of own.segment (c.index-index.result - own.segment.gone) own.reserved (nth_facts c.args.self.now c.segment_of-n.result own.segment at) its own.own.open_yet) Canceled (c.abort_in.ensures.line own.segment own.reserved at its) c.abort_in.ensures.rest
 
 pub returns-clause-position : goal.returns-clause-position
 returns-clause-position g c =
-    let own : AwaitsIn (line_of c.args.self.now) c.args.ticket c.requires.0 = c.requires.1 in
+    let own : AwaitsIn (line_of c.args.self.now) c.args.ticket (in_log c.requires.0) = c.requires.1 in
     let at = among g c c.requires.0 own in
     let its = there g c c.requires.0 own in
     position_ended c.args.self.now c.abort_in.new.self c.segment_of-n.result own.segment at (c.index-index.result - own.segment.gone) own.reserved its own.own.open_yet (canceling g.C.Checksum.sum_of own.segment.parts.bytes own.reserved) (canceling_short g.C.Checksum.sum_of own.segment (c.index-index.result - own.segment.gone) own.reserved (nth_facts c.args.self.now c.segment_of-n.result own.segment at) its own.own.open_yet) Canceled (c.abort_in.ensures.line own.segment own.reserved at its) c.abort_in.ensures.rest
 
 pub returns-clause-buffers : goal.returns-clause-buffers
 returns-clause-buffers g c =
-    let own : AwaitsIn (line_of c.args.self.now) c.args.ticket c.requires.0 = c.requires.1 in
+    let own : AwaitsIn (line_of c.args.self.now) c.args.ticket (in_log c.requires.0) = c.requires.1 in
     let at = among g c c.requires.0 own in
     let its = there g c c.requires.0 own in
     ended_buffers c.args.self.now c.abort_in.new.self c.segment_of-n.result own.segment (c.index-index.result - own.segment.gone) own.reserved (canceling g.C.Checksum.sum_of own.segment.parts.bytes own.reserved) Canceled at (c.abort_in.ensures.line own.segment own.reserved at its)

@@ -10,7 +10,7 @@ use Rattle.sled_core.specs.declared.iobuf.Reserved.{Reserved}
 use Rattle.sled_core.specs.Begun.{SegmentView}
 use Rattle.sled_core.specs.Buffers.{completing, message_in, pointer_as}
 use Rattle.sled_core.specs.Fits.{AwaitsIn, Holds, HoldsWith, line_of, noted_in, open_places}
-use Rattle.sled_core.specs.Logged.{logged}
+use Rattle.sled_core.specs.Logged.{logged, in_log}
 use Rattle.sled_core.specs.OpenPlaces.{TakesOut, open_places_along}
 use Rattle.sled_core.specs.Running.{Fits}
 use Rattle.sled_core.specs.Tickets.{place_of}
@@ -21,7 +21,7 @@ use Rattle.sled_core.proofs.Line.Ends.{fits_completed, holds_completed}
 use Rattle.sled_core.proofs.Line.EndedLine.{completing_short}
 use Rattle.sled_core.proofs.Line.Facts.{nth_facts}
 use Rattle.sled_core.proofs.Line.LogSpans.{ended_buffers}
-use Rattle.sled_core.proofs.Logged.Messages.{inline_real}
+use Rattle.sled_core.proofs.Logged.Messages.{put_real}
 use Rattle.sled_core.proofs.logger.Log.complete.Given.{Over}
 use Rattle.sled_core.proofs.logger.Log.complete.Goals as goal
 
@@ -41,12 +41,12 @@ complete_in-requires g c =
     let place : c.unsigned_abs.result ≡ unsigned_abs (place_of c.args.ticket) = c.unsigned_abs.ensures.value ∙ says_place c.lsn-place.result (place_of c.args.ticket) c.lsn-place.type_inv c.lsn-place.ensures in
     ticket_open c.args.self.now c.args.ticket c.requires.awaited.0 c.requires.awaited.1 c.unsigned_abs.result c.segment_of-n.result c.index-index.result place c.segment_of-n.ensures c.index-index.ensures
 
-among : (g : Over) (c : goal.After-complete_in g) (m : Message) (awaits : AwaitsIn (line_of c.args.self.now) c.args.ticket m) → slice_get (line_of c.args.self.now) c.segment_of-n.result ≡ Some awaits.segment
+among : (g : Over) (c : goal.After-complete_in g) (m : Message) (awaits : AwaitsIn (line_of c.args.self.now) c.args.ticket (in_log m)) → slice_get (line_of c.args.self.now) c.segment_of-n.result ≡ Some awaits.segment
 among g c m awaits =
     let place : c.unsigned_abs.result ≡ unsigned_abs (place_of c.args.ticket) = c.unsigned_abs.ensures.value ∙ says_place c.lsn-place.result (place_of c.args.ticket) c.lsn-place.type_inv c.lsn-place.ensures in
     ticket_among c.args.self.now c.args.ticket m awaits c.unsigned_abs.result c.segment_of-n.result c.index-index.result place c.segment_of-n.ensures c.index-index.ensures
 
-there : (g : Over) (c : goal.After-complete_in g) (m : Message) (awaits : AwaitsIn (line_of c.args.self.now) c.args.ticket m) → slice_get awaits.segment.parts.reserved (c.index-index.result - awaits.segment.gone) ≡ Some awaits.reserved
+there : (g : Over) (c : goal.After-complete_in g) (m : Message) (awaits : AwaitsIn (line_of c.args.self.now) c.args.ticket (in_log m)) → slice_get awaits.segment.parts.reserved (c.index-index.result - awaits.segment.gone) ≡ Some awaits.reserved
 there g c m awaits =
     let place : c.unsigned_abs.result ≡ unsigned_abs (place_of c.args.ticket) = c.unsigned_abs.ensures.value ∙ says_place c.lsn-place.result (place_of c.args.ticket) c.lsn-place.type_inv c.lsn-place.ensures in
     ticket_there c.args.self.now c.args.ticket m awaits c.unsigned_abs.result c.segment_of-n.result c.index-index.result place c.segment_of-n.ensures c.index-index.ensures
@@ -64,27 +64,26 @@ returns-clause-history g c = λ H m holds awaits.
     let its = there g c m awaits in
     let done = holds_completed g.C.Checksum.sum_of old.config.config.segment_size (state_of (g.D.Device.trace old.config.device)) old.fault (line_of old) c.segment_of-n.result v at old.site.place (nth_facts old) i r its awaits.own.open_yet (machine_of old.accountant) (noted_in old)
     (sym awaits.own.manifest ∙ c.requires.message) (logged H) holds in
-    let real = inline_real (HoldsWith g.C.Checksum.sum_of (noted_in old) old.config.config.segment_size (state_of (g.D.Device.trace old.config.device)) old.fault _ (machine_of old.accountant)) H (message_in v.parts.site v.parts.bytes r) (v.parts.site.slot + r.from) done.0 (ap (λ (o : Option ℤ). pointer_as o (v.parts.site.slot + r.from)) awaits.own.plain) done.1 done.2 in (
+    let real = put_real (HoldsWith g.C.Checksum.sum_of (noted_in old) old.config.config.segment_size (state_of (g.D.Device.trace old.config.device)) old.fault _ (machine_of old.accountant)) H m done.0 (subst (λ (x : Message). AddsMessage (logged H) x done.0) (sym awaits.message) done.1) done.2 in (
       real.0,
-      subst (λ (x : Message). AddsMessage H x real.0) (sym awaits.message) real.1,
+      real.1,
       holds_ended old c.complete_in.new.self c.segment_of-n.result v at i r its awaits.own.open_yet (completing r) (completing_short v i r (nth_facts old c.segment_of-n.result v at) its awaits.own.open_yet) Completed
           (c.complete_in.ensures.line v r at its) c.complete_in.ensures.rest g.D.Device.trace g.C.Checksum.sum_of real.0 real.2,
     )
 
 pub returns-clause-fits : goal.returns-clause-fits
 unfolding Fits Step
-returns-clause-fits g c = λ H A f U m fits awaits out.
+returns-clause-fits g c = λ H A f U m fits awaits stored out.
     let old = c.args.self.now in
     let v : SegmentView = awaits.segment in
     let r : Reserved = awaits.reserved in
     let i : ℕ = c.index-index.result - v.gone in
     let at = among g c m awaits in
     let its = there g c m awaits in
-    let done = fits_completed g.C.Checksum.sum_of old.config.config.segment_size (state_of (g.D.Device.trace old.config.device)) old.fault (line_of old) c.segment_of-n.result v at old.site.place (nth_facts old) i r its awaits.own.open_yet (machine_of old.accountant) (noted_in old) (sym awaits.own.manifest ∙ c.requires.message) old.pins H A f U old.config.config.least c.in_default.is out fits in (
+    let done = fits_completed g.C.Checksum.sum_of old.config.config.segment_size (state_of (g.D.Device.trace old.config.device)) old.fault (line_of old) c.segment_of-n.result v at old.site.place (nth_facts old) i r its awaits.own.open_yet (machine_of old.accountant) (noted_in old) m awaits.message stored.item (sym awaits.own.manifest ∙ c.requires.message) old.pins H A f U old.config.config.least c.in_default.is out fits in (
       done.0,
-      subst (λ (x : Message). AddsMessage H x done.0) (sym awaits.message) done.1,
-      subst (λ (x : Message). Fits g.D.Device.trace g.C.Checksum.sum_of c.complete_in.new.self done.0 A f (x ∷ U)) (sym awaits.message)
-          (fits_ended old c.complete_in.new.self c.segment_of-n.result v at i r its awaits.own.open_yet (completing r) (completing_short v i r (nth_facts old c.segment_of-n.result v at) its awaits.own.open_yet) Completed (c.complete_in.ensures.line v r at its) c.complete_in.ensures.rest g.D.Device.trace g.C.Checksum.sum_of done.0 A f _ done.2),
+      done.1,
+      fits_ended old c.complete_in.new.self c.segment_of-n.result v at i r its awaits.own.open_yet (completing r) (completing_short v i r (nth_facts old c.segment_of-n.result v at) its awaits.own.open_yet) Completed (c.complete_in.ensures.line v r at its) c.complete_in.ensures.rest g.D.Device.trace g.C.Checksum.sum_of done.0 A f _ done.2,
     )
 
 -- Other tickets stay, and nothing else changes.
@@ -93,18 +92,18 @@ pub returns-clause-others : goal.returns-clause-others
 unfolding Holds
 returns-clause-others g c = λ H other m holds awaits apart.
     let old = c.args.self.now in
-    let own : AwaitsIn (line_of old) c.args.ticket c.requires.awaited.0 = c.requires.awaited.1 in
+    let own : AwaitsIn (line_of old) c.args.ticket (in_log c.requires.awaited.0) = c.requires.awaited.1 in
     let at = among g c c.requires.awaited.0 own in
     let its = there g c c.requires.awaited.0 own in
-    subst (λ (l : List SegmentView). AwaitsIn l other m) (sym (c.complete_in.ensures.line own.segment own.reserved at its))
+    subst (λ (l : List SegmentView). AwaitsIn l other (in_log m)) (sym (c.complete_in.ensures.line own.segment own.reserved at its))
     (others_await old.config.config.segment_size (line_of old) old.site.place c.segment_of-n.result own.segment at (nth_facts old) (c.index-index.result - own.segment.gone) own.reserved its own.own.open_yet (completing own.reserved)
     (completing_short own.segment (c.index-index.result - own.segment.gone) own.reserved (nth_facts c.args.self.now c.segment_of-n.result own.segment at) its own.own.open_yet) Completed g.C.Checksum.sum_of (state_of (g.D.Device.trace old.config.device)) old.fault
-    (logged H) holds.holds c.args.ticket other m own.own.place awaits apart)
+    (logged H) holds.holds c.args.ticket other (in_log m) own.own.place awaits apart)
 
 pub returns-clause-opens : goal.returns-clause-opens
 returns-clause-opens g c = λ place is.
     let old = c.args.self.now in
-    let own : AwaitsIn (line_of old) c.args.ticket c.requires.awaited.0 = c.requires.awaited.1 in
+    let own : AwaitsIn (line_of old) c.args.ticket (in_log c.requires.awaited.0) = c.requires.awaited.1 in
     let at = among g c c.requires.awaited.0 own in
     let its = there g c c.requires.awaited.0 own in
     let here : own.segment.parts.site.place + own.reserved.from ≡ place = sym (ap unsigned_abs (is ∙ own.own.place)) in
@@ -114,28 +113,28 @@ returns-clause-opens g c = λ place is.
 
 pub returns-clause-goes_on : goal.returns-clause-goes_on
 returns-clause-goes_on g c =
-    let own : AwaitsIn (line_of c.args.self.now) c.args.ticket c.requires.awaited.0 = c.requires.awaited.1 in
+    let own : AwaitsIn (line_of c.args.self.now) c.args.ticket (in_log c.requires.awaited.0) = c.requires.awaited.1 in
     let at = among g c c.requires.awaited.0 own in
     let its = there g c c.requires.awaited.0 own in
     goes_on_ended c.args.self.now c.complete_in.new.self c.segment_of-n.result own.segment at (c.index-index.result - own.segment.gone) own.reserved its own.own.open_yet (completing own.reserved) (completing_short own.segment (c.index-index.result - own.segment.gone) own.reserved (nth_facts c.args.self.now c.segment_of-n.result own.segment at) its own.own.open_yet) Completed (c.complete_in.ensures.line own.segment own.reserved at its) c.complete_in.ensures.rest g.D.Device.trace g.C.Checksum.sum_of
 
 pub returns-clause-same : goal.returns-clause-same
 returns-clause-same g c =
-    let own : AwaitsIn (line_of c.args.self.now) c.args.ticket c.requires.awaited.0 = c.requires.awaited.1 in
+    let own : AwaitsIn (line_of c.args.self.now) c.args.ticket (in_log c.requires.awaited.0) = c.requires.awaited.1 in
     let at = among g c c.requires.awaited.0 own in
     let its = there g c c.requires.awaited.0 own in
     keeps_ended c.args.self.now c.complete_in.new.self c.segment_of-n.result own.segment at (c.index-index.result - own.segment.gone) own.reserved its own.own.open_yet (completing own.reserved) (completing_short own.segment (c.index-index.result - own.segment.gone) own.reserved (nth_facts c.args.self.now c.segment_of-n.result own.segment at) its own.own.open_yet) Completed (c.complete_in.ensures.line own.segment own.reserved at its) c.complete_in.ensures.rest
 
 pub returns-clause-position : goal.returns-clause-position
 returns-clause-position g c =
-    let own : AwaitsIn (line_of c.args.self.now) c.args.ticket c.requires.awaited.0 = c.requires.awaited.1 in
+    let own : AwaitsIn (line_of c.args.self.now) c.args.ticket (in_log c.requires.awaited.0) = c.requires.awaited.1 in
     let at = among g c c.requires.awaited.0 own in
     let its = there g c c.requires.awaited.0 own in
     position_ended c.args.self.now c.complete_in.new.self c.segment_of-n.result own.segment at (c.index-index.result - own.segment.gone) own.reserved its own.own.open_yet (completing own.reserved) (completing_short own.segment (c.index-index.result - own.segment.gone) own.reserved (nth_facts c.args.self.now c.segment_of-n.result own.segment at) its own.own.open_yet) Completed (c.complete_in.ensures.line own.segment own.reserved at its) c.complete_in.ensures.rest
 
 pub returns-clause-buffers : goal.returns-clause-buffers
 returns-clause-buffers g c =
-    let own : AwaitsIn (line_of c.args.self.now) c.args.ticket c.requires.awaited.0 = c.requires.awaited.1 in
+    let own : AwaitsIn (line_of c.args.self.now) c.args.ticket (in_log c.requires.awaited.0) = c.requires.awaited.1 in
     let at = among g c c.requires.awaited.0 own in
     let its = there g c c.requires.awaited.0 own in
     ended_buffers c.args.self.now c.complete_in.new.self c.segment_of-n.result own.segment (c.index-index.result - own.segment.gone) own.reserved (completing own.reserved) Completed at (c.complete_in.ensures.line own.segment own.reserved at its)

@@ -1,5 +1,5 @@
 -- A ticket is for an open reservation of the log where it is for one of the segment that its place says.
-use Rattle.std.proofs.Common.{◌≡◌, ◌∙◌, ◌≤◌, ◌<◌, ◌+◌, ◌-◌, ◌/◌, ap, sym, subst, refl, arith, rules, ℕ, zero, suc, pos, map, ◌∷◌, true, false, List, length, Some}
+use Rattle.std.proofs.Common.{◌≡◌, ◌∙◌, ◌≤◌, ◌<◌, ◌+◌, ◌-◌, ◌/◌, ap, sym, subst, refl, arith, rules, ℕ, zero, suc, pos, map, ◌∷◌, true, false, List, length, Some, None, Option, ℤ}
 use Rattle.std.specs.Prelude.{unsigned_abs, ◌<ℤ◌}
 use Rattle.std.specs.List.{slice_get}
 use Rattle.std.specs.VecDeque.{deque_len}
@@ -7,7 +7,7 @@ use Rattle.sled_core.specs.declared.logger.Log.{Log}
 use Rattle.sled_core.specs.declared.logger.segments.SegmentBuffer.{SegmentBuffer}
 use Rattle.sled_core.specs.declared.reservation.Reservation.{Reservation}
 use Rattle.sled_core.specs.Begun.{SegmentView, segment_view, view_at}
-use Rattle.sled_core.specs.Buffers.{message_in}
+use Rattle.sled_core.specs.Buffers.{pointer_as, item_as, message_in, body_in}
 use Rattle.sled_core.specs.Fits.{AwaitsIn, IsOpen, line_of}
 use Rattle.sled_core.specs.Tickets.{IsFor, index_of, place_of}
 use Rattle.sled_core.specs.Turned.{IsOpenIn}
@@ -19,20 +19,31 @@ use Rattle.sled_core.proofs.Reserve.Parts.{there_is}
 use Rattle.sled_core.proofs.logger.Log.is_open.Given.{Over}
 use Rattle.sled_core.proofs.logger.Log.is_open.Goals as goal
 use Rattle.sled_core.proofs.logger.Log.is_open.Goals.{then-place-lt0-via-then-place-lt0, then-place-lt0-via-else-place-lt0+then-place-self}
+use Rattle.sled_core.specs.declared.iobuf.SegmentPosition.{SegmentPosition}
+use Rattle.sled_core.specs.declared.iobuf.Reserved.{Reserved}
+use Rattle.sled_core.specs.Logged.{in_log, item_in_log}
 
 -- the segment at a number above 0 is one of those behind the first
 get_next : (v : SegmentView) (vs : List SegmentView) (n : ℕ) (w : SegmentView) → (n ≡ 0 → ⊥) → slice_get vs (n - 1) ≡ Some w → slice_get (v ∷ vs) n ≡ Some w
 get_next v vs zero w some there = absurd (some refl)
 get_next v vs (suc k) w some there = let at : k ≡ suc k - 1 = omega arith in ap (slice_get vs) at ∙ there
 
+-- what the log has of the message of a reservation is that
+logged_message : (site : SegmentPosition) (bytes : List ℕ) (r : Reserved) → in_log (message_in site bytes r) ≡ message_in site bytes r
+logged_message site bytes r = by r.blob where
+  by : (o : Option ℤ) → record (message_in site bytes r) { pointer = pointer_as o (site.slot + r.from); bytes = item_in_log (pointer_as o (site.slot + r.from)) (item_as o (body_in bytes r)) }
+      ≡ record (message_in site bytes r) { pointer = pointer_as o (site.slot + r.from); bytes = item_as o (body_in bytes r) }
+  by None = refl
+  by (Some place) = refl
+
 -- in the n-th segment, which code has so
 module _ {D C : Type 0} (log : Log D C) (n : ℕ) (s : SegmentBuffer) (there : slice_get (line_of log) n ≡ Some (segment_view s)) (ticket : Reservation) where
   opens : IsOpenIn s.site s.buffer ticket → IsOpen log ticket
-  opens is = (message_in s.site s.buffer.bytes.items is.reserved, record { number = n; segment = segment_view s; among = there; reserved = is.reserved; numbered = is.numbered; there = is.there; own = is.own; message = refl })
+  opens is = (message_in s.site s.buffer.bytes.items is.reserved, record { number = n; segment = segment_view s; among = there; reserved = is.reserved; numbered = is.numbered; there = is.there; own = is.own; message = logged_message s.site s.buffer.bytes.items is.reserved })
 
   is_there : (place : ℕ) → place ≡ unsigned_abs (place_of ticket) → n ≡ (place - log.site.place) / log.config.config.segment_size → IsOpen log ticket → IsOpenIn s.site s.buffer ticket
   is_there place place_is n_is is =
-      let awaits : AwaitsIn (line_of log) ticket is.0 = is.1 in
+      let awaits : AwaitsIn (line_of log) ticket (in_log is.0) = is.1 in
       let among = ticket_among log ticket is.0 is.1 place n (index_of ticket) place_is n_is refl in
       let both : Some awaits.segment ≡ Some (segment_view s) = sym among ∙ there in
       let same : awaits.segment ≡ segment_view s = cc in

@@ -10,7 +10,7 @@ use Rattle.sled_core.specs.declared.logger.segments.SegmentBuffer.{SegmentBuffer
 use Rattle.sled_core.specs.declared.logger.batches.NotedBatch.{NotedBatch}
 use Rattle.sled_core.specs.declared.logger.Log.{Log}
 use Rattle.sled_core.specs.Fits.{written_to, AwaitsIn, Holds, line_of, noted_in, segment_size_of}
-use Rattle.sled_core.specs.Logged.{logged}
+use Rattle.sled_core.specs.Logged.{logged, in_log}
 use Rattle.sled_core.specs.OpenBatches.{batch_of, not_whole}
 use Rattle.sled_core.specs.OpenPlaces.{open_manifests, open_places_along}
 use Rattle.sled_core.specs.Positions.{Position, position_in}
@@ -124,9 +124,9 @@ returns-clause-tickets g c =
     let is = nth_segment (segment_size_of old) old.site.place (line_of old) (line_segments old) c.args.n r.segment r.among in
     record {
       awaits = λ ticket m awaits.
-          subst (λ (l : List SegmentView). AwaitsIn l ticket m) (sym line)
-          (awaits_promoted (segment_size_of old) old.site.place (set (line_of old) c.args.n (written_now c.args.k r.segment)) ticket m old.config.config.least (segments_written old c.args.n c.args.k r)
-          (awaits_written (line_of old) c.args.n c.args.k r.segment r.buffer r.among r.there r.ready is.are ticket m awaits));
+          subst (λ (l : List SegmentView). AwaitsIn l ticket (in_log m)) (sym line)
+          (awaits_promoted (segment_size_of old) old.site.place (set (line_of old) c.args.n (written_now c.args.k r.segment)) ticket (in_log m) old.config.config.least (segments_written old c.args.n c.args.k r)
+          (awaits_written (line_of old) c.args.n c.args.k r.segment r.buffer r.among r.there r.ready is.are ticket (in_log m) awaits));
       opens = ap open_places_along line
           ∙ places_promoted (segment_size_of old) old.site.place (set (line_of old) c.args.n (written_now c.args.k r.segment)) old.config.config.least (segments_written old c.args.n c.args.k r)
           ∙ set_places (line_of old) c.args.n r.segment (written_now c.args.k r.segment) r.among (places_written (line_of old) c.args.n c.args.k r.segment r.buffer r.among r.there r.ready is.are);
