@@ -35,7 +35,7 @@ use Rattle.sled_core.specs.OpenBatches.{stable_below}
 use Rattle.sled_core.proofs.Line.LineEnds.{stable_kept}
 use Rattle.sled_core.proofs.Reached.StableBelow.{stable_low}
 pub use Rattle.sled_core.proofs.Holds.LastEnds.{message_acknowledged, batch_acknowledged, acknowledged_least}
-pub use Rattle.sled_core.proofs.Holds.ReachLemmas.{fits_holds, fits_acknowledged, fits_stable, fits_reach, fits_apart, fits_inline, awaited, awaited_inline, awaited_small, reserved_small}
+pub use Rattle.sled_core.proofs.Holds.ReachLemmas.{fits_holds, fits_acknowledged, fits_stable, fits_reach, fits_apart, fits_inline, awaited, awaited_inline, awaited_small, inline_stored, reserved_small}
 pub use Rattle.sled_core.proofs.Holds.RunningLemmas.{fits_leaves}
 pub use Rattle.sled_core.proofs.Iterated.StillThere.{still_there}
 pub use Rattle.sled_core.proofs.Line.Buffers.{first_waits}

@@ -23,7 +23,7 @@ ghost use Rattle.sled_core.specs.Ready.{IsReady};
 ghost use Rattle.sled_core.specs.Recoverable.{NoForeign, Recoverable, RecoverableIfOwn, LeavesRecoverable, NoHeaderOfZeros};
 ghost use Rattle.sled_core.specs.OnFile.{HasSegment};
 ghost use Rattle.sled_core.specs.OpenPlaces.{first_between, places_from};
-ghost use Rattle.sled_core.specs.Running.{Fits, Ready, end_below};
+ghost use Rattle.sled_core.specs.Running.{Fits, IsStored, Ready, end_below};
 ghost use Rattle.sled_core.specs.Manifests.{is_manifest};
 ghost use Rattle.sled_core.specs.Tickets.{is_manifest_of, len_of, place_of, pointer_of};
 ghost use Rattle.sled_core.specs.Own.{IsSomeRecord, written_out_of_order, IsReachedToEnd};
@@ -43,7 +43,7 @@ pub fn a_fitting_log_holds<D: Device, C: Checksum>()
 {}
 
 /// The messages of a history that a log fits lie below its next place, one behind another. Those that are not stable yet
-/// have inline pointers, and so have the messages of tickets. The places of these, and the end of what was reserved, lie
+/// have inline pointers, and so have the messages of tickets; of such a message no crash takes the item from a blob. The places of these, and the end of what was reserved, lie
 /// below 2^63. The record of a message that comes is put at the next place or behind it.
 pub fn messages_lie_in_order<D: Device, C: Checksum>()
     ensures below { (log : Log D C) (H : History) (A f : ℕ) (U : List Message) → Fits D.trace C.sum_of log H A f U
@@ -52,6 +52,7 @@ pub fn messages_lie_in_order<D: Device, C: Checksum>()
     ensures inline { (log : Log D C) (H : History) (A f : ℕ) (U : List Message) → Fits D.trace C.sum_of log H A f U
         → (m : Message) → Contains H.messages m → synced_end log ≤ m.place → IsInline m.pointer }
     ensures awaited { (log : Log D C) (ticket : Reservation) (m : Message) → Awaits log ticket m → IsInline m.pointer }
+    ensures stored { (log : Log D C) (m : Message) → IsInline m.pointer → IsStored D.trace C.sum_of log m }
     ensures small { (log : Log D C) (ticket : Reservation) (m : Message) → Awaits log ticket m → m.place < 2 ^ 63 }
     ensures reserved { (log : Log D C) → reserved_end log < 2 ^ 63 }
     ensures target { (log : Log D C) (page n : ℕ) → FitsInline (segment_size_of log) n → next_place log ≤ (target_of log page n).place }

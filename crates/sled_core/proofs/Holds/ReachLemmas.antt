@@ -4,13 +4,14 @@ use Rattle.std.specs.List.{All, Contains}
 use Rattle.std.specs.declared.io.Error.{Error as IoError}
 use Rattle.std.proofs.lemmas.List.{append-nil}
 use Rattle.std.proofs.lemmas.List.Elements.{All-append, All-tail, All-contains}
-use Rattle.sled_codec.specs.declared.result.DiskPtr.TheVariants.{Inline}
+use Rattle.sled_codec.specs.declared.result.DiskPtr.{DiskPtr}
+use Rattle.sled_codec.specs.declared.result.DiskPtr.TheVariants.{Inline, Blob}
 use Rattle.sled_codec.specs.History.{Message, Batch, History}
 use Rattle.sled_codec.specs.Places.{MayBegin}
 use Rattle.sled_codec.specs.WellFormed.{LieApart}
 use Rattle.sled_codec.specs.Snapshots.{stable_place}
 use Rattle.sled_store.specs.Accounts.{machine_of}
-use Rattle.sled_store.specs.Device.{Trace, State}
+use Rattle.sled_store.specs.Device.{Trace, State, state_of}
 use Rattle.sled_store.specs.SegmentStates.{Machine}
 use Rattle.sled_core.specs.declared.iobuf.Reserved.{Reserved}
 use Rattle.sled_core.specs.declared.iobuf.Sealed.{Sealed}
@@ -26,7 +27,7 @@ use Rattle.sled_core.specs.Fits.{Awaits, HoldBehind, HoldsLine, HoldsNext, curre
 use Rattle.sled_core.specs.LogFile.{StaysBelow}
 use Rattle.sled_core.specs.Positions.{is_short, next_segment_at, position_in}
 use Rattle.sled_core.specs.Waiting.{last_of}
-use Rattle.sled_core.specs.Running.{Fits}
+use Rattle.sled_core.specs.Running.{Fits, IsStored, KeepsItem}
 use Rattle.sled_core.specs.Reading.{IsInline}
 use Rattle.sled_core.specs.Recoverable.{LiesInSegment, BlobIsBelow}
 use Rattle.sled_core.proofs.Holds.FitsBatches.{stable_noted}
@@ -199,7 +200,18 @@ awaited log ticket m awaits = (
 pub awaited_inline : {D C : Type 0} (log : Log D C) (ticket : Reservation) (m : Message) → Awaits log ticket m → IsInline m.pointer
 awaited_inline log ticket m awaits = subst (λ (x : Message). IsInline x.pointer) (sym awaits.message) (subst (λ (o : Option ℤ). IsInline (pointer_as o (awaits.segment.parts.site.slot + awaits.reserved.from))) (sym awaits.own.plain) tt)
 
--- and that place is one of those that code counts
+-- A message that has its item in its record is stored.
+pub inline_stored : {D C : Type 0} (trace : D → Trace) (sum : List ℕ → ℕ) (log : Log D C) (m : Message) → IsInline m.pointer → IsStored trace sum log m
+inline_stored trace sum log m inline = record { below = no_lower m.pointer inline; item = no_blob m.pointer inline } where
+  no_lower : (p : DiskPtr) → IsInline p → BlobIsBelow m p
+  no_lower (Inline lid) is = tt
+  no_lower (Blob lid place) is = absurd is
+
+  no_blob : (p : DiskPtr) → IsInline p → KeepsItem sum (state_of (trace log.config.device)).blobs m p
+  no_blob (Inline lid) is = tt
+  no_blob (Blob lid place) is = absurd is
+
+-- The place of a ticket is one of those that code counts
 pub awaited_small : {D C : Type 0} (log : Log D C) (ticket : Reservation) (m : Message) → Awaits log ticket m → m.place < 2 ^ 63
 awaited_small log ticket m awaits =
     let v : SegmentView = awaits.segment in

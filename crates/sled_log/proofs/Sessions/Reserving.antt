@@ -12,6 +12,7 @@ use Rattle.sled_codec.specs.declared.serialization.message.MessageKind.TheVarian
 use Rattle.sled_codec.specs.declared.result.Error.{Error}
 use Rattle.sled_codec.specs.declared.result.Error.TheVariants as error
 use Rattle.sled_codec.specs.History.{Batch, ChangesPage, History, Message}
+use Rattle.sled_core.specs.Logged.{in_log}
 use Rattle.sled_core.specs.Manifests.{kind_for, manifest_page}
 use Rattle.sled_codec.specs.PageTables.{IsTable, entry_of, page_with}
 use Rattle.sled_codec.specs.Snapshots.{Free, Page, Present, Uninitialized, page_of}
@@ -328,7 +329,7 @@ unchanged_at trace sum old new k fits line end pins fault pages tickets busy bat
       there = ap (λ (l : List (Option Ticket)). slice_get l n) tickets ∙ is.there;
       kind = is.kind;
       page = is.page;
-      awaits = subst (λ (l : List SegmentView). AwaitsIn l is.ticket.reservation m) (sym line) is.awaits;
+      awaits = subst (λ (l : List SegmentView). AwaitsIn l is.ticket.reservation (in_log m)) (sym line) is.awaits;
       joins = is.joins;
       begins_batch = λ of. let begun = is.begins_batch of in record { kind = begun.kind; apart = λ b known. begun.apart b (subst (λ (bs : List Batch). Contains bs b) noted known) };
       begins = subst (λ e. m.place + 1 < e) (sym end) is.begins;

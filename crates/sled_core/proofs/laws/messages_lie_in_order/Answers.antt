@@ -1,4 +1,4 @@
-use Rattle.sled_core.proofs.PublicLaws.{fits_reach, fits_apart, fits_inline, awaited_inline, awaited_small, reserved_small, target_above}
+use Rattle.sled_core.proofs.PublicLaws.{fits_reach, fits_apart, fits_inline, awaited_inline, awaited_small, inline_stored, reserved_small, target_above}
 use Rattle.sled_core.proofs.laws.messages_lie_in_order.Goals as goal
 
 pub returns-clause-below : goal.returns-clause-below
@@ -12,6 +12,9 @@ returns-clause-inline g c = λ log H A f U fits m there above. fits_inline g.D.D
 
 pub returns-clause-awaited : goal.returns-clause-awaited
 returns-clause-awaited g c = λ log ticket m awaits. awaited_inline log ticket m awaits
+
+pub returns-clause-stored : goal.returns-clause-stored
+returns-clause-stored g c = λ log m inline. inline_stored g.D.Device.trace g.C.Checksum.sum_of log m inline
 
 pub returns-clause-small : goal.returns-clause-small
 returns-clause-small g c = λ log ticket m awaits. awaited_small log ticket m awaits

@@ -1,7 +1,7 @@
 use Rattle.std.proofs.Common.{◌∙◌, ◌+◌, ap, arith, refl}
 use Rattle.std.proofs.lemmas.Bool.Decides.{nat_tests}
 use Rattle.sled_core.specs.Fits.{config_of}
-use Rattle.sled_core.proofs.PublicLaws.{awaited, goes_on_further}
+use Rattle.sled_core.proofs.PublicLaws.{awaited, awaited_inline, goes_on_further, inline_stored}
 use Rattle.ids.proofs.Generating.{generates_has, gives_still, has_asked, has_generates, has_still, has_throughout, none_for, none_behind, ends_well, number_fits, reserve_fails}
 use Rattle.ids.proofs.Moments.{through_less}
 use Rattle.ids.proofs.generator.IdGenerator.ask.Goals as goal
@@ -78,7 +78,8 @@ returns-in-Ok-complete-clause-gives_on g c =
       block = refl;
       generates = λ generates. has_generates trace sum _ (has_asked trace sum old.log c.reserve.new.self c.complete.new.self c.in-Ok.ticket old.bound old.asked c.saturating_add-asked.result (generates_has trace sum old generates)
           (omega (arith, asked, small, ahead, none)) c.saturating_add-asked.type_inv (number_fits _ c.saturating_add-asked.result (config_of old.log).config.least c.saturating_add-asked.type_inv) c.in-Ok.ensures.keeps c.in-Ok.ensures.ticket c.in-Ok.ensures.reserved c.in-Ok-complete.ensures.position.reserved c.in-Ok-complete.ensures.goes_on
-          (λ H A f U fits. c.in-Ok-complete.ensures.fits H A f U _ fits c.in-Ok.ensures.ticket (omega (arith, pins, pinned))));
+          (λ H A f U fits. c.in-Ok-complete.ensures.fits H A f U _ fits c.in-Ok.ensures.ticket
+          (inline_stored trace sum c.reserve.new.self _ (awaited_inline c.reserve.new.self c.in-Ok.ticket _ c.in-Ok.ensures.ticket)) (omega (arith, pins, pinned))));
       keeps = λ generates. through_less sum _ old.bound old.bound old.asked (old.asked + old.block) _ _ (omega arith) (omega arith)
           (has_throughout trace sum old.log c.complete.new.self old.bound old.asked (generates_has trace sum old generates) both);
       config = both.config;
