@@ -7,5 +7,6 @@
 mod batches;
 pub mod functions;
 mod identifiers;
+mod laws;
 mod orders;
 mod sessions;
