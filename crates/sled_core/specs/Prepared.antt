@@ -9,7 +9,7 @@ use Rattle.sled_core.specs.declared.iobuf.record.Head.{Head}
 use Rattle.sled_core.specs.declared.logger.Log.{Log}
 use Rattle.sled_core.specs.Begun.{last_buffer}
 use Rattle.sled_core.specs.Buffers.{most_open}
-use Rattle.sled_core.specs.Fits.{IsUsedUpFor, KeepsAll, KeepsTickets, current_of, machine_at, open_for, segment_size_of, start_behind, start_of, target_of, waiting_behind, waiting_of}
+use Rattle.sled_core.specs.Fits.{KeepsAll, KeepsTickets, current_of, machine_at, segment_size_of, start_behind, start_of, target_of, waiting_behind, waiting_of}
 use Rattle.sled_core.specs.Keeps.{Preserves}
 use Rattle.sled_core.specs.Manifests.{is_manifest}
 use Rattle.sled_core.specs.Positions.{Position}

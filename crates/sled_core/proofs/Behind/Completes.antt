@@ -1,5 +1,5 @@
 -- A message is completed in a segment behind the first one: it is added between those of the segments before it and those of the segments behind it, and the log holds the history with it.
-use Rattle.std.proofs.Common.{◌≡◌, ◌≤◌, ◌<◌, ◌+◌, ◌∙◌, ℕ, List, ◌∷◌, ◌++◌, length, set, Option, Some, refl, sym, ap, subst, arith, append_assoc, inl, inr, false, ◌/◌, ℤ}
+use Rattle.std.proofs.Common.{◌≡◌, ◌≤◌, ◌<◌, ◌+◌, ◌∙◌, ℕ, List, ◌∷◌, ◌++◌, length, set, Option, Some, refl, sym, ap, subst, arith, append_assoc, inl, inr, false, ◌/◌}
 use Rattle.std.specs.List.{All, Contains, slice_get}
 use Rattle.std.specs.declared.io.Error.{Error as IoError}
 use Rattle.std.proofs.lemmas.List.Elements.{All-contains, Contains-append_cases}
@@ -13,7 +13,7 @@ use Rattle.sled_core.specs.declared.iobuf.ReservationState.TheVariants.{Open, Co
 use Rattle.sled_core.specs.declared.iobuf.Reserved.{Reserved}
 use Rattle.sled_core.specs.declared.iobuf.Sealed.{Sealed}
 use Rattle.sled_core.specs.declared.iobuf.SegmentPosition.{SegmentPosition}
-use Rattle.sled_core.specs.Buffers.{completing, ended, message_in, Stands, pointer_as}
+use Rattle.sled_core.specs.Buffers.{completing, ended, message_in}
 use Rattle.sled_core.specs.Begun.{SegmentParts}
 use Rattle.sled_core.specs.Fits.{HasInline, HoldBehind, HoldsIn, HoldsNext, HoldsSegment, log_parts}
 use Rattle.sled_core.specs.LogFile.{StaysBelow, StaysFrom}
@@ -28,8 +28,6 @@ use Rattle.sled_core.proofs.Holds.BehindKept.{behind_fewer}
 use Rattle.sled_core.proofs.Holds.CompletedLemmas.{behind_written, ends_within, segment-complete, segment-fewer}
 use Rattle.sled_core.proofs.Holds.WholeHistory.{behind_above}
 use Rattle.sled_core.proofs.Sealed.InBuffer.{end_ended}
-use Rattle.sled_core.proofs.Reserve.Entries.{reserved_in, open_plain}
-use Rattle.sled_core.proofs.Reserve.Ranges.{at_there}
 
 -- a list in four parts
 four : (a b c d : List Message) → a ++ (b ++ (c ++ d)) ≡ (a ++ (b ++ c)) ++ d

@@ -1,6 +1,6 @@
 -- Where the messages lie of a segment that holds a history: what was written one behind another, below what was completed since, which is in the buffer.
 use Rattle.sled_core.proofs.Reserve.Batches.{batches-append, batches_between}
-use Rattle.std.proofs.Common.{◌≡◌, ◌⊎◌, ◌≤◌, ◌<◌, ◌+◌, ◌/◌, ℕ, max, List, [], ◌∷◌, ◌++◌, length, Option, Some, sym, subst, arith, refl, inl, inr, ◌∙◌, take, drop, ap, ℤ}
+use Rattle.std.proofs.Common.{◌≡◌, ◌⊎◌, ◌≤◌, ◌<◌, ◌+◌, ◌/◌, ℕ, max, List, [], ◌∷◌, ◌++◌, length, Option, Some, sym, subst, arith, inl, inr, ◌∙◌, take, drop, ap, ℤ}
 use Rattle.std.specs.List.{All, Contains, slice_get}
 use Rattle.std.specs.declared.io.Error.{Error as IoError}
 use Rattle.std.proofs.lemmas.List.{take-append-drop}

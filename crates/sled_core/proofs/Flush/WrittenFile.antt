@@ -2,15 +2,13 @@
 use Rattle.std.proofs.Common.{◌≡◌, ◌≤◌, ◌<◌, ◌+◌, ◌^◌, ◌∙◌, ℕ, pos, List, ◌++◌, length, take, sym, ap, arith, subst, inl, inr}
 use Rattle.std.specs.List.{All}
 use Rattle.std.proofs.lemmas.List.Elements.{All-contains, Contains-append_cases}
-use Rattle.sled_codec.specs.declared.result.DiskPtr.TheVariants.{Inline}
 use Rattle.sled_codec.specs.Places.{part}
-use Rattle.sled_codec.specs.Pointers.{lid_of}
 use Rattle.sled_codec.specs.Record.{IsHeader}
 use Rattle.sled_codec.specs.History.{Message, History}
 use Rattle.sled_store.specs.Device.{overwritten}
 use Rattle.sled_core.specs.declared.iobuf.SegmentPosition.{SegmentPosition}
 use Rattle.sled_core.specs.Fits.{HasMark}
-use Rattle.sled_core.specs.LogFile.{StandsHere, HasHeader, IsLogFile}
+use Rattle.sled_core.specs.LogFile.{HasHeader, IsLogFile}
 use Rattle.sled_core.proofs.Flush.LogFileKept.{here_below, here_kept, elsewhere_kept}
 use Rattle.sled_core.proofs.Reached.BufferPath.{buffer_header}
 use Rattle.sled_core.specs.SealedBuffers.{Agrees}

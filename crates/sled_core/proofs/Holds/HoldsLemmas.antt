@@ -1,7 +1,7 @@
 -- How a segment of a log goes on holding a history when a place is reserved.
 use Rattle.sled_core.proofs.Reserve.Batches.{batches-append, batches-same}
 use Rattle.sled_core.proofs.Reserve.RecordEnds.{behind_open, no_end_up, records_more}
-use Rattle.std.proofs.Common.{◌≡◌, ◌≤◌, ◌+◌, ◌-◌, ◌/◌, ℕ, zero, suc, max, List, [], ◌∷◌, ◌++◌, length, sym, ◌∙◌, ap, arith, refl, subst, length-append, Option, get_or, None}
+use Rattle.std.proofs.Common.{◌≡◌, ◌≤◌, ◌+◌, ◌-◌, ◌/◌, ℕ, zero, suc, max, List, [], ◌∷◌, ◌++◌, length, sym, ◌∙◌, ap, arith, refl, subst, length-append, Option, get_or}
 use Rattle.std.specs.List.{All}
 use Rattle.std.specs.declared.io.Error.{Error as IoError}
 use Rattle.std.proofs.lemmas.List.{append-nil, take-append-le}

@@ -7,18 +7,17 @@ use Rattle.sled_core.specs.Tickets.{is_manifest_of}
 use Rattle.sled_codec.specs.Spelling.{short_header_tail}
 use Rattle.sled_codec.specs.History.{Message}
 use Rattle.sled_codec.specs.declared.result.DiskPtr.TheVariants.{Inline}
-use Rattle.sled_store.specs.Accounts.{MayHandOut}
 use Rattle.sled_store.specs.Device.{Trace}
 use Rattle.sled_store.specs.SegmentStates.{handed_out, next_slot}
 use Rattle.sled_store.specs.declared.config.RunningConfig.{RunningConfig}
 use Rattle.sled_core.specs.Begun.{SegmentView, last_buffer, segment_view, view_at}
-use Rattle.sled_core.specs.Buffers.{message_in, most_open, placeholder_head, record_size, reserved_for, pointer_as, item_as}
+use Rattle.sled_core.specs.Buffers.{message_in, placeholder_head, record_size, reserved_for, pointer_as, item_as}
 use Rattle.sled_core.specs.declared.iobuf.Purpose.{Purpose}
 use Rattle.sled_core.specs.declared.iobuf.Reserved.{Reserved}
 use Rattle.sled_core.specs.declared.iobuf.record.Head.{Head}
 use Rattle.sled_core.specs.declared.logger.Log.{Log}
 use Rattle.sled_core.specs.declared.reservation.Reservation.{Reservation}
-use Rattle.sled_core.specs.Fits.{Awaits, AwaitsIn, FitsInline, open_places, IsUnchanged, IsUsedUpFor, KeepsAll, KeepsTickets, NoFurther, current_of, is_moved, line_of, machine_at, message_for, open_for, open_of, position_behind, position_of, reserved_end, segment_size_of, stable_end, size_for, start_behind, start_of, target_of, waiting_behind, waiting_of}
+use Rattle.sled_core.specs.Fits.{Awaits, AwaitsIn, FitsInline, open_places, IsUnchanged, IsUsedUpFor, KeepsAll, NoFurther, current_of, is_moved, line_of, machine_at, message_for, open_for, open_of, position_behind, position_of, reserved_end, segment_size_of, stable_end, size_for, start_behind, start_of, target_of, waiting_behind, waiting_of}
 use Rattle.sled_core.specs.Keeps.{Preserves}
 use Rattle.sled_core.specs.Positions.{Position, behind_record, next_segment_at}
 use Rattle.sled_core.specs.Prepared.{IsPrepared, next_here, number_of, text_of}
@@ -31,7 +30,6 @@ use Rattle.sled_core.proofs.Line.LogSpans.{next_buffers, reserved_buffers, same_
 use Rattle.sled_core.proofs.Line.Reserves.{HasPlaceFor, ticket_reserved}
 use Rattle.sled_core.proofs.Line.Targets.{record_short}
 use Rattle.sled_core.proofs.Line.Unchanged.{left_alone, unchanged_current, unchanged_keeps, unchanged_same, unchanged_size, unchanged_tickets}
-use Rattle.sled_core.proofs.Reserve.Heads.{length-short_header_tail}
 use Rattle.sled_core.proofs.Reserve.ReserveLemmas.{head_whole, message_is, more_long}
 
 -- The header is one of a record with a body of n bytes, in a segment of this number.

@@ -1,5 +1,5 @@
 -- A place is reserved in the segment that is being filled: its placeholder stands behind what is there, and the log holds and fits what it did.
-use Rattle.std.proofs.Common.{◌≡◌, ◌∙◌, ◌<◌, ◌≤◌, ◌+◌, ◌-◌, ◌/◌, ap, sym, refl, arith, subst, inl, inr, ℕ, List, [], ◌∷◌, ◌++◌, length, length-append, length-take, map, take, drop, Option, Some, if◌then◌else◌, None}
+use Rattle.std.proofs.Common.{◌≡◌, ◌∙◌, ◌<◌, ◌≤◌, ◌+◌, ◌-◌, ◌/◌, ap, sym, refl, arith, subst, inl, inr, ℕ, List, [], ◌∷◌, ◌++◌, length, length-append, length-take, map, take, drop, Option, Some, if◌then◌else◌}
 use Rattle.std.specs.List.{All, slice_get}
 use Rattle.std.specs.declared.io.Error.{Error as IoError}
 use Rattle.std.proofs.lemmas.List.{drop-append-le, map-append, take-append-le}

@@ -1,5 +1,5 @@
 -- The message of a ticket is completed, in whichever segment it lies: its reservation ends there, and nothing else changes.
-use Rattle.std.proofs.Common.{◌≡◌, ◌∙◌, ap, ◌+◌, ◌-◌, ◌∷◌, sym, subst, arith, refl, ℕ, List, Some, Option, ℤ}
+use Rattle.std.proofs.Common.{◌≡◌, ◌∙◌, ap, ◌+◌, ◌-◌, sym, subst, arith, refl, ℕ, List, Some}
 use Rattle.std.specs.Prelude.{unsigned_abs}
 use Rattle.std.specs.List.{slice_get}
 use Rattle.sled_codec.specs.History.{AddsMessage, Message, Step}
@@ -8,7 +8,7 @@ use Rattle.sled_store.specs.Device.{state_of}
 use Rattle.sled_core.specs.declared.iobuf.ReservationState.TheVariants.{Completed}
 use Rattle.sled_core.specs.declared.iobuf.Reserved.{Reserved}
 use Rattle.sled_core.specs.Begun.{SegmentView}
-use Rattle.sled_core.specs.Buffers.{completing, message_in, pointer_as}
+use Rattle.sled_core.specs.Buffers.{completing}
 use Rattle.sled_core.specs.Fits.{AwaitsIn, Holds, HoldsWith, line_of, noted_in, open_places}
 use Rattle.sled_core.specs.Logged.{logged, in_log}
 use Rattle.sled_core.specs.OpenPlaces.{TakesOut, open_places_along}

@@ -1,16 +1,14 @@
 -- A record has a place in the current segment, or a further one is begun for it.
-use Rattle.std.proofs.Common.{◌≡◌, ◌∙◌, ◌<◌, ◌+◌, ◌/◌, ap, refl, arith, ℕ, ℤ, true, false, Err}
+use Rattle.std.proofs.Common.{◌≡◌, ◌∙◌, ◌+◌, refl, arith, ℕ, ℤ, true, false, Err}
 use Rattle.std.proofs.lemmas.Result.{err_from_is_err_and}
 use Rattle.sled_codec.specs.declared.result.Error.{Error}
 use Rattle.sled_codec.specs.declared.result.Error.TheVariants as error
 use Rattle.sled_store.specs.Accounts.{NextAnswers}
 use Rattle.sled_core.specs.Buffers.{record_size}
 use Rattle.sled_core.specs.Causes.{MakesRoom}
-use Rattle.sled_core.specs.Fits.{IsUsedUpFor}
 use Rattle.sled_core.specs.Prepared.{PrepareAnswers, number_of}
 use Rattle.sled_core.specs.Turned.{HasPlace}
 use Rattle.sled_core.proofs.Line.Prepares.{IsHeadOf, head_size, here_further, here_open, next_open, next_used, prepared_here, prepared_next}
-use Rattle.sled_core.proofs.logger.Log.prepare.Given.{Over}
 use Rattle.sled_core.proofs.logger.Log.prepare.Goals as goal
 
 -- Why it failed.

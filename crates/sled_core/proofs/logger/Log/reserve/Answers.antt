@@ -1,5 +1,5 @@
 -- The log is made ready for a record; then its placeholder is laid out there.
-use Rattle.std.proofs.Common.{◌≡◌, ◌∙◌, ◌<◌, ◌+◌, ◌++◌, ap, sym, subst, refl, arith, ℕ, List, length, drop, Some, None, false}
+use Rattle.std.proofs.Common.{◌≡◌, ◌∙◌, ◌+◌, ◌++◌, ap, sym, subst, refl, arith, ℕ, List, length, drop, Some, None, false}
 use Rattle.std.specs.Option.{IsSome}
 use Rattle.sled_core.specs.Buffers.{placeholder_head, reserved_for}
 use Rattle.sled_core.specs.declared.iobuf.Purpose.{Purpose}
