@@ -12,7 +12,7 @@ use Rattle.sled_codec.specs.declared.serialization.message.MessageKind.{MessageK
 use Rattle.sled_codec.specs.Kinds.{kind_of, code_of}
 use Rattle.sled_codec.specs.Spelling.{low_bytes}
 use Rattle.sled_store.specs.Answers.{is_fault}
-use Rattle.sled_store.specs.Device.{Content, State, Leaves, Event, BlobMade, BlobSynced, BlobRemoved, NamesSynced}
+use Rattle.sled_store.specs.Device.{Content, State, Leaves, Event, Trace, BlobMade, BlobSynced, BlobRemoved, NamesSynced}
 
 -- The bytes of a blob that passes: a checksum, the code of a kind, and an item.
 abbrev pub blob_bytes : (List ℕ → ℕ) → ℕ → List ℕ → List ℕ
@@ -81,6 +81,12 @@ MakeAnswers (Ok _) file before after = (file ≡ None) × (after ≡ before)
 MakeAnswers (Err (Io e)) file before after = (IsTrue (is_fault e) × (after ≡ (before + 1) % 2 ^ 64)) ⊎ ((error_kind e ≡ AlreadyExists) × IsSome file × (after ≡ before))
 MakeAnswers (Err OutOfMemory) file before after = after ≡ before
 MakeAnswers (Err _) file before after = ⊥
+
+-- What a refusal to make one leaves: all as it was. Only a failure of the device may leave a part.
+abbrev pub UnlessFault : {T : Type 0} → Result T Error → Trace → Trace → Type 0
+UnlessFault (Ok _) old new = Unit {0}
+UnlessFault (Err (Io e)) old new = IsTrue (is_fault e) ⊎ (new ≡ old)
+UnlessFault (Err _) old new = new ≡ old
 
 -- Why a blob was not read: it is missing or damaged, the device failed, or memory was refused. Damage names the blob where its checksum fails, and nothing where it is too short to have one.
 abbrev pub BlobAnswers : {T : Type 0} → (List ℕ → ℕ) → ℤ → Result T Error → Option (List ℕ) → ℕ → ℕ → Type 0

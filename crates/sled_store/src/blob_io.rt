@@ -6,7 +6,7 @@ ghost use Rattle.std.specs.Prelude.{◌≡◌, ◌≢◌, ◌⊎◌, ◌≤◌, 
 ghost use Rattle.sled_codec.specs.Kinds.{code_of};
 ghost use Rattle.sled_codec.specs.Spelling.{low_bytes};
 ghost use Rattle.sled_codec.specs.Errors.{IsCorruption};
-ghost use Rattle.sled_store.specs.Blobs.{blob_bytes, HoldsItem, IsDamagedBlob, KeepsBlob, IsItemOf, IsDamagedFor, IsMissing, making, removing_blobs, AreFrom, MayGo, from_place, MakeAnswers, BlobAnswers, ItemAnswers, RemoveAnswers};
+ghost use Rattle.sled_store.specs.Blobs.{blob_bytes, HoldsItem, IsDamagedBlob, KeepsBlob, IsItemOf, IsDamagedFor, IsMissing, making, removing_blobs, AreFrom, MayGo, from_place, MakeAnswers, UnlessFault, BlobAnswers, ItemAnswers, RemoveAnswers};
 ghost use Rattle.sled_codec.specs.declared.serialization.message.MessageKind.TheVariants as kind;
 ghost use Rattle.sled_store.specs.Device.{state_of, BlobRemoved};
 ghost use Rattle.sled_store.specs.Script.{Performs, after_all};
@@ -42,6 +42,7 @@ pub fn write_blob<D: Device, C: Checksum, T: Serialize>(
         Performs (making place bytes) (D.trace config.old.device) (D.trace config.new.device) }
     ensures answers { let file = (state_of (D.trace config.old.device)).blobs.file place in
         MakeAnswers result file (D.faults config.old.device) (D.faults config.new.device) }
+    ensures refused { UnlessFault result (D.trace config.old.device) (D.trace config.new.device) }
     ensures config { config.new.config ≡ config.old.config }
     ensures checksum { config.new.checksum ≡ config.old.checksum }
 {
@@ -87,6 +88,7 @@ fn make_blob<D: Device>(device: &mut D, place: Lsn, bytes: &[u8]) -> Result<()>
     ensures kept { OnOk result (KeepsBlob (state_of (D.trace device.new)) place bytes.now) }
     ensures calls { Performs (making place bytes.now) (D.trace device.old) (D.trace device.new) }
     ensures answers { MakeAnswers result ((state_of (D.trace device.old)).blobs.file place) (D.faults device.old) (D.faults device.new) }
+    ensures refused { UnlessFault result (D.trace device.old) (D.trace device.new) }
 {
     device.blob_create(place, bytes)?;
     device.blob_sync(place)?;
