@@ -43,6 +43,7 @@ fn laws_of_logs() {
     store_laws::traces_go_on();
     core_laws::a_fitting_log_holds::<MemDevice, PlaceSum>();
     core_laws::messages_lie_in_order::<MemDevice, PlaceSum>();
+    core_laws::what_is_in_the_table_can_be_rewritten::<MemDevice, PlaceSum>();
     core_laws::a_log_goes_on_where_its_snapshot_ends::<PlaceSum>();
     core_laws::written_messages_are_stable::<MemDevice, PlaceSum>();
     core_laws::an_unchanged_log_has_none_open::<MemDevice, PlaceSum>();

@@ -7,7 +7,6 @@ use Rattle.sled_codec.specs.declared.result.DiskPtr.{DiskPtr}
 use Rattle.sled_codec.specs.declared.result.Error.{Error}
 use Rattle.sled_codec.specs.declared.result.Error.TheVariants as error
 use Rattle.sled_codec.specs.declared.serialization.message.LogKind.TheVariants.{Replace}
-use Rattle.sled_codec.specs.declared.serialization.message.MessageKind.{MessageKind}
 use Rattle.sled_codec.specs.History.{Completed, History, Message, Step}
 use Rattle.sled_codec.specs.Spelling.{short_number}
 use Rattle.sled_codec.specs.SpellingLaws.{length-short_number, short_spells-number}
@@ -18,12 +17,12 @@ use Rattle.sled_store.specs.Moments.{Throughout}
 use Rattle.sled_store.proofs.PublicLaws.{joined, started}
 use Rattle.sled_core.specs.declared.logger.Log.{Log}
 use Rattle.sled_core.specs.declared.reservation.Reservation.{Reservation}
-use Rattle.sled_core.specs.Causes.{FaultAnswers, HeldAnswers, ReserveAnswers}
-use Rattle.sled_core.specs.Fits.{Awaits, FitsInline, current_begin, device_of, is_moved, message_for, next_place, open_for, open_of, open_places, reserved_end, segment_size_of, synced_end}
+use Rattle.sled_core.specs.Causes.{FaultAnswers, HeldAnswers, ReserveAnswers, ReserveCauses}
+use Rattle.sled_core.specs.Fits.{FitsInline, current_begin, device_of, is_moved, next_place, open_for, open_of, open_places, reserved_end, segment_size_of, synced_end}
 use Rattle.sled_core.specs.Keeps.{ConfigKept, GoesOn, Preserves}
 use Rattle.sled_core.specs.OpenPlaces.{TakesOut, places_from}
 use Rattle.sled_core.specs.Running.{Fits, end_below}
-use Rattle.sled_core.proofs.PublicLaws.{awaited_inline, current_count, fits_apart, fits_leaves, fits_reach, message_acknowledged, target_above}
+use Rattle.sled_core.proofs.PublicLaws.{current_count, fits_apart, fits_leaves, fits_reach, inline_message, message_acknowledged, target_above}
 use Rattle.ids.specs.Bounds.{GivesFrom, HasBound}
 use Rattle.ids.specs.declared.generator.IdGenerator.{IdGenerator}
 use Rattle.ids.specs.Generators.{Generates, GivesOn, HasBounds, NextFails, asked_of, block_of, bound_of, running, size_of}
@@ -123,13 +122,13 @@ module _ {D C : Type 0} (trace : D → Trace) (sum : List ℕ → ℕ) where
       }
 
   -- The bound of a further block, which was reserved and completed.
-  module _ (log mid new : Log D C) (ticket : Reservation) (bound most asked : ℕ) (has : HasBounds trace sum log bound most) (higher : most ≤ asked) (small : asked < 2 ^ 64)
-      (inline : FitsInline (segment_size_of log) (length (short_number asked))) (first : Preserves trace sum log mid) (awaits : Awaits mid ticket (message_for log Replace 0 (short_number asked)))
-      (put : reserved_end mid ≡ (message_for log Replace 0 (short_number asked)).place + (message_for log Replace 0 (short_number asked)).size) (same : reserved_end new ≡ reserved_end mid)
+  module _ (log mid new : Log D C) (bound most asked : ℕ) (has : HasBounds trace sum log bound most) (higher : most ≤ asked) (small : asked < 2 ^ 64)
+      (inline : FitsInline (segment_size_of log) (length (short_number asked))) (first : Preserves trace sum log mid)
+      (put : reserved_end mid ≡ (inline_message log Replace 0 (short_number asked)).place + (inline_message log Replace 0 (short_number asked)).size) (same : reserved_end new ≡ reserved_end mid)
       (goes : GoesOn trace sum mid new)
-      (fits : (H : History) (A f : ℕ) (U : List Message) → Fits trace sum mid H A f U → (H' : History) × Step H (Completed (message_for log Replace 0 (short_number asked))) H' × Fits trace sum new H' A f (message_for log Replace 0 (short_number asked) ∷ U)) where
+      (fits : (H : History) (A f : ℕ) (U : List Message) → Fits trace sum mid H A f U → (H' : History) × Step H (Completed (inline_message log Replace 0 (short_number asked))) H' × Fits trace sum new H' A f (inline_message log Replace 0 (short_number asked) ∷ U)) where
     abbrev m : Message
-    m = message_for log Replace 0 (short_number asked)
+    m = inline_message log Replace 0 (short_number asked)
 
     abbrev after : (H' : History) × Step has.history (Completed m) H' × Fits trace sum new H' has.acknowledged has.floor (m ∷ has.unmarked)
     after = fits has.history has.acknowledged has.floor has.unmarked (first.fits has.history has.acknowledged has.floor has.unmarked has.fits)
@@ -153,12 +152,12 @@ module _ {D C : Type 0} (trace : D → Trace) (sum : List ℕ → ℕ) where
       floor = has.floor;
       unmarked = m ∷ has.unmarked;
       fits = after.2;
-      bounds = bounds_added has.history after.0 m asked most after.1 has.bounds has.most higher refl refl (awaited_inline mid ticket m awaits) spells behind apart;
-      reserved = reserves_still has.history after.0 m asked most after.1 has.bounds has.most higher refl refl (awaited_inline mid ticket m awaits) spells behind apart (max has.acknowledged has.floor) bound has.reserved;
-      most = most_added has.history after.0 m asked most after.1 has.bounds has.most higher refl refl (awaited_inline mid ticket m awaits) spells behind apart;
+      bounds = bounds_added has.history after.0 m asked most after.1 has.bounds has.most higher refl refl tt spells behind apart;
+      reserved = reserves_still has.history after.0 m asked most after.1 has.bounds has.most higher refl refl tt spells behind apart (max has.acknowledged has.floor) bound has.reserved;
+      most = most_added has.history after.0 m asked most after.1 has.bounds has.most higher refl refl tt spells behind apart;
       there = inr (record {
         message = m;
-        there = bound_there has.history after.0 m asked most after.1 has.bounds has.most higher refl refl (awaited_inline mid ticket m awaits) spells behind apart;
+        there = bound_there has.history after.0 m asked most after.1 has.bounds has.most higher refl refl tt spells behind apart;
         ends = omega (arith, put, same);
         bound = asked;
         has = spells;
@@ -175,9 +174,6 @@ pub number_fits : (size n : ℕ) → 256 ≤ size → n < 2 ^ 64 → FitsInline 
 number_fits size n least small = let short = (length-short_number n small).1 in omega (arith, short, least)
 
 -- What a reservation answers where none is open.
-
-some_kind : (kind : MessageKind) → Some kind ≡ None → ⊥
-some_kind kind is = cc
 
 some_error : (e : IoError) → None ≡ Some e → ⊥
 some_error e is = cc
@@ -218,18 +214,19 @@ ends_well (error.NotReserved at) fault none answers = answers
 ends_well (error.CollectionNotFound name) fault none answers = answers
 ends_well (error.ReportableBug text) fault none answers = answers
 
--- It fails only as a generator may.
-pub reserve_fails : (e : Error) (old new : Option IoError) (before now count : ℕ) (kind : MessageKind) (used : Type 0) (least : ℤ → Type 0) → new ≡ old → now ≡ before → count ≡ 0
-    → ReserveAnswers {T = Reservation} (Err e) old (Some kind) used count least → NextFails e old new before now
-reserve_fails (error.Io e) old new before now count kind used least same counted none answers = inl (answers, same ∙ answers, counted)
-reserve_fails error.OutOfMemory old new before now count kind used least same counted none answers = (answers.0, same ∙ answers.0, counted)
-reserve_fails error.PlacesUsedUp old new before now count kind used least same counted none answers = (same, counted)
-reserve_fails (error.Unsupported text) old new before now count kind used least same counted none answers = absurd (some_kind kind answers.1)
-reserve_fails (error.Held at) old new before now count kind used least same counted none answers = absurd (let full = answers.3 in omega (arith, full, none))
-reserve_fails (error.Corruption at) old new before now count kind used least same counted none answers = absurd answers
-reserve_fails (error.NotReserved at) old new before now count kind used least same counted none answers = absurd answers
-reserve_fails (error.CollectionNotFound name) old new before now count kind used least same counted none answers = absurd answers
-reserve_fails (error.ReportableBug text) old new before now count kind used least same counted none answers = absurd answers
+-- It fails only as a generator may, where its item goes to no blob.
+pub reserve_fails : (e : Error) (used : Type 0) (least : ℤ → Type 0) (causes : ReserveCauses) → (causes.kind ≡ None → ⊥) → causes.in_blob ≡ false → causes.open_count ≡ 0
+    → ReserveAnswers {T = Reservation} (Err e) used least causes → NextFails e causes.old causes.new causes.before causes.after
+reserve_fails (error.Io e) used least causes written inline none (inl kept) = inl kept
+reserve_fails (error.Io e) used least causes written inline none (inr refused) = let clash : false ≡ true = sym inline ∙ refused.in_blob in cc
+reserve_fails error.OutOfMemory used least causes written inline none answers = answers.0
+reserve_fails error.PlacesUsedUp used least causes written inline none answers = (answers.0.1 ∙ sym answers.0.0, answers.0.2)
+reserve_fails (error.Unsupported text) used least causes written inline none answers = absurd (written answers.1)
+reserve_fails (error.Held at) used least causes written inline none answers = absurd (let full = answers.3 in omega (arith, full, none))
+reserve_fails (error.Corruption at) used least causes written inline none answers = absurd answers
+reserve_fails (error.NotReserved at) used least causes written inline none answers = absurd answers
+reserve_fails (error.CollectionNotFound name) used least causes written inline none answers = absurd answers
+reserve_fails (error.ReportableBug text) used least causes written inline none answers = absurd answers
 
 -- So does a flush that nothing holds.
 pub flush_fails : (e : Error) (held : Option ℕ) (used : Type 0) (old new : Option IoError) (before now : ℕ) → held ≡ None → HeldAnswers {T = ℕ} (Err e) held used old new before now → NextFails e old new before now

@@ -1,6 +1,7 @@
 pub mod Along
 pub mod ChangesBack
 pub mod Events
+pub mod ItemsStay
 pub mod Leaves
 pub mod Over
 pub mod Removes

@@ -25,5 +25,7 @@ pub mod RunningLemmas
 pub mod SealedCalls
 pub mod StandsAdds
 pub mod StandsBatch
+pub mod StoredItems
 pub mod WholeHistory
 pub mod WholeLemmas
+pub mod WithoutBlob

@@ -2,10 +2,13 @@
 use Rattle.std.proofs.Common.{◌≡◌, ◌∙◌, ◌≤◌, ◌<◌, ◌+◌, ◌*◌, ◌^◌, ℕ, ℤ, pos, Bool, true, false, nat_lt, if◌then◌else◌, List, [], ◌∷◌, ◌++◌, Option, None, Some, rules, refl, sym, ap, subst, arith, inl, inr}
 use Rattle.std.specs.Prelude.{FitsSigned}
 use Rattle.std.specs.Int.{w64, cast_signed, cast_unsigned}
-use Rattle.std.specs.List.{All}
+use Rattle.std.specs.List.{All, Contains}
+use Rattle.std.proofs.lemmas.Bool.Decides.{nat_tests}
 use Rattle.std.proofs.lemmas.Int.{to_z-of_z}
 use Rattle.std.proofs.lemmas.List.Elements.{All-tail}
-use Rattle.sled_codec.specs.History.{History, Message}
+use Rattle.sled_codec.specs.declared.result.DiskPtr.TheVariants.{Blob}
+use Rattle.sled_codec.specs.declared.serialization.message.LogKind.TheVariants.{Replace}
+use Rattle.sled_codec.specs.History.{History, Message, table}
 use Rattle.sled_codec.specs.Snapshots.{SnapshotModel, stable_place}
 use Rattle.sled_store.specs.Begin.{offset_at, place_at}
 use Rattle.sled_store.specs.Device.{Trace, State, Content, Left, Leaves, Crashed, state_of, content_of, content_left, names_at_rest, step}
@@ -13,16 +16,17 @@ use Rattle.sled_store.proofs.LogFile.LogLemmas.{at_rest_left}
 use Rattle.sled_store.proofs.Names.NamesLemmas.{settled_name_left, settled_name_at_rest}
 use Rattle.sled_store.proofs.Crashes.SettledLemmas.{read_left}
 use Rattle.sled_core.specs.declared.logger.Log.{Log}
-use Rattle.sled_core.specs.Fits.{KeepsAll, stable_end, FitsInline, NoneOpen, NoneOpenIn, IsUnchanged, IsWritten, synced_end, segment_size_of, buffers_of, current_begin, current_of, held_len, holding_below, is_moved, line_of, machine_at, next_place, noted_in, reserved_end, sealing_end, start_behind, start_of, target_of, waiting_behind, waiting_of}
+use Rattle.sled_core.specs.Fits.{KeepsAll, stable_end, FitsInline, NoneOpen, NoneOpenIn, IsUnchanged, IsWritten, synced_end, segment_size_of, buffers_of, current_begin, current_of, held_len, holding_below, is_moved, line_of, machine_at, message_rewriting, next_place, noted_in, reserved_end, sealing_end, start_behind, start_of, target_of, waiting_behind, waiting_of}
 use Rattle.sled_core.specs.Logged.{logged}
 use Rattle.sled_core.specs.Waiting.{BufferAt, BufferStart, HasLength, at_last, closed_now, first_held, held_below, spans, unwritten}
 use Rattle.sled_store.specs.SegmentStates.{next_slot}
 use Rattle.sled_core.specs.Recoverable.{NoForeign, Recoverable, LeavesRecoverable}
-use Rattle.sled_core.specs.Running.{Ready}
+use Rattle.sled_core.specs.Running.{Fits, IsStored, Ready}
 use Rattle.sled_core.proofs.Flush.Settled.{leaves_less}
 use Rattle.sled_core.proofs.Holds.CallMoments.{own_after_crash}
 use Rattle.sled_core.proofs.Holds.ReachLemmas.{kept_past}
 use Rattle.sled_core.proofs.Line.Facts.{current_facts}
+use Rattle.sled_core.proofs.Line.Rewritten.{rewritten_stored}
 use Rattle.sled_core.proofs.Line.Targets.{lies}
 use Rattle.sled_core.proofs.Line.Shows.{buffers_add, buffers_closed, buffers_free, buffers_long, buffers_still}
 use Rattle.sled_core.proofs.Line.Spans.{spans_added}
@@ -30,18 +34,21 @@ use Rattle.sled_core.proofs.Logged.Messages.{all_in_log}
 use Rattle.sled_core.proofs.Start.Places.{goes_on_at}
 pub use Rattle.sled_core.proofs.Start.FreshReady.{fresh_leaves, fresh_ready, empty_ready, empty_recoverable}
 pub use Rattle.sled_core.proofs.Holds.KeptCalls.{goes_on_still, goes_on_further, kept_still, kept_further}
+pub use Rattle.sled_core.proofs.Holds.WithoutBlob.{alone_answers, alone_keeps, alone_same, inline_alone, without_further, without_none}
 use Rattle.sled_core.specs.Keeps.{Preserves}
 use Rattle.sled_core.specs.OpenBatches.{stable_below}
 use Rattle.sled_core.proofs.Line.LineEnds.{stable_kept}
 use Rattle.sled_core.proofs.Reached.StableBelow.{stable_low}
 pub use Rattle.sled_core.proofs.Holds.LastEnds.{message_acknowledged, batch_acknowledged, acknowledged_least}
-pub use Rattle.sled_core.proofs.Holds.ReachLemmas.{fits_holds, fits_acknowledged, fits_stable, fits_reach, fits_apart, fits_inline, awaited, awaited_inline, awaited_small, inline_stored, reserved_small}
+pub use Rattle.sled_core.proofs.Holds.ReachLemmas.{fits_holds, fits_acknowledged, fits_stable, fits_reach, fits_apart, awaited, awaited_small, inline_stored, reserved_small}
 pub use Rattle.sled_core.proofs.Holds.RunningLemmas.{fits_leaves}
 pub use Rattle.sled_core.proofs.Iterated.StillThere.{still_there}
 pub use Rattle.sled_core.proofs.Line.Buffers.{first_waits}
 pub use Rattle.sled_core.proofs.Line.Fillings.{end_off}
 pub use Rattle.sled_core.proofs.Line.NoneLeft.{noted_pegs}
 pub use Rattle.sled_core.proofs.Line.OpenSeen.{buffers_held, current_count, current_least, none_is_empty, ticket_places}
+-- A reservation of an item that fits inline: its clauses, without the blob that it doesn't make.
+pub use Rattle.sled_core.proofs.Line.ReservedInline.{ReservesInline, comes_inline, inline_keeps, inline_message, not_in_blob, refused_inline}
 -- An iterator of a log only reads it, and gives it back.
 pub use Rattle.sled_core.proofs.Iterates.OverLog.{over_back, over_begun, over_next}
 
@@ -81,6 +88,13 @@ shows_behind sum log page n moves =
 pub target_above : {D C : Type 0} (log : Log D C) (page n : ℕ) → FitsInline (segment_size_of log) n → next_place log ≤ (target_of log page n).place
 target_above log page n inline = elim (lies (segment_size_of log) (current_of log) (machine_at log) page n log.config.config.least (current_facts log).short inline) [ inl here ↦ here.above | inr far ↦ far.above ]
 
+-- The Replace of a page whose item is in a blob can be made once more: no crash takes that, and the record lies behind it.
+pub can_rewrite : {D C : Type 0} (trace : D → Trace) (sum : List ℕ → ℕ) (log : Log D C) (H : History) (A f : ℕ) (U : List Message) (m : Message) (lid : ℕ) (blob : ℤ) → Fits trace sum log H A f U
+    → Contains (table H (next_place log) m.page) m → m.kind ≡ Replace → m.pointer ≡ Blob lid blob → IsStored trace sum log (message_rewriting log m.page blob m.bytes)
+unfolding Fits
+can_rewrite trace sum log H A f U m lid blob fits entry replaces is =
+    rewritten_stored trace sum log H A f U fits m entry replaces lid blob is (target_above log m.page 8 (let least = log.config.config.least in omega (arith, least)))
+
 -- each has as many bytes as places,
 pub shows_long : {D C : Type 0} (sum : List ℕ → ℕ) (log : Log D C) → All HasLength (buffers_of sum log)
 shows_long sum log = buffers_long sum log
@@ -110,6 +124,8 @@ ready_with_less sum size device s H A less f le ready = record {
   alone = ready.alone;
   active = ready.active;
   blobs = ready.blobs;
+  entries = ready.entries;
+  below = ready.below;
   names = ready.names;
   own_names = ready.own_names;
   passes = (let passes = ready.passes in omega (arith, le, passes));

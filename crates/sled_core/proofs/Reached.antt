@@ -7,6 +7,7 @@ pub mod KeptStands
 pub mod LeftBeside
 pub mod LongerStands
 pub mod Marks
+pub mod MetWritten
 pub mod NextSegment
 pub mod OneWrite
 pub mod NotedSteps

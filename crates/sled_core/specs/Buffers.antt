@@ -75,8 +75,6 @@ pub record StandsAs (sum : List ℕ → ℕ) (number : ℕ) (text body : List �
   pub long : r.header_len ≤ r.len
   pub known : kind_for r.log_kind r.page (is_some r.blob) (length body) ≡ Some r.kind
   pub names : SpellsBlob r.blob body
-  -- no log makes blobs yet
-  pub plain : r.blob ≡ None
   -- a completed one is a message
   pub whole : r.state ≡ Completed → is_manifest r.log_kind r.page ≡ false
   -- and an ended manifest is none, and has a peg

@@ -1,8 +1,8 @@
 -- Why a call of a log failed.
-use Rattle.std.specs.Prelude.{◌≡◌, ◌⊎◌, [], ◌+◌, ◌<◌, ◌%◌, ◌^◌, ℕ, ℤ, pos, if◌then◌else◌, List, Option, None, Some, Result, Ok, Err, IsTrue, IsSome}
+use Rattle.std.specs.Prelude.{Bool, true, ◌≡◌, ◌⊎◌, [], ◌+◌, ◌<◌, ◌%◌, ◌^◌, ℕ, ℤ, pos, if◌then◌else◌, List, Option, None, Some, Result, Ok, Err, IsTrue, IsSome}
 use Rattle.std.specs.declared.io.Error.{Error as IoError}
 use Rattle.std.specs.IoError.{error_kind}
-use Rattle.std.specs.declared.io.ErrorKind.TheVariants.{NotFound}
+use Rattle.std.specs.declared.io.ErrorKind.TheVariants.{AlreadyExists, NotFound}
 use Rattle.sled_codec.specs.declared.result.DiskPtr.{DiskPtr}
 use Rattle.sled_codec.specs.declared.result.DiskPtr.TheVariants.{Inline, Blob}
 use Rattle.sled_codec.specs.declared.result.Error.{Error}
@@ -59,15 +59,50 @@ FaultAnswers (Ok _) fault = fault ≡ None
 FaultAnswers (Err (Io e)) fault = fault ≡ Some e
 FaultAnswers (Err _) fault = ⊥
 
--- A reservation, where so many are open in the buffer that it would be of, and it needs a further segment that isn't in reach where that is said: the failure that the log keeps comes first, then a kind that the page has no messages of, with an empty text, then that no further segment is in reach or, in the same buffer, that no further reservation may be open, with the least place of those that are, and then want of memory.
-abbrev pub ReserveAnswers : {T : Type 0} → Result T Error → Option IoError → Option MessageKind → Type 0 → ℕ → (ℤ → Type 0) → Type 0
-ReserveAnswers (Ok _) fault kind used open_count least = (fault ≡ None) × IsSome kind × (used → ⊥) × (open_count < most_open)
-ReserveAnswers (Err (Io e)) fault kind used open_count least = fault ≡ Some e
-ReserveAnswers (Err (Unsupported text)) fault kind used open_count least = (fault ≡ None) × (kind ≡ None) × (string_bytes text ≡ [])
-ReserveAnswers (Err PlacesUsedUp) fault kind used open_count least = (fault ≡ None) × IsSome kind × used
-ReserveAnswers (Err (Held at)) fault kind used open_count least = (fault ≡ None) × IsSome kind × (used → ⊥) × (open_count ≡ most_open) × least at
-ReserveAnswers (Err OutOfMemory) fault kind used open_count least = (fault ≡ None) × IsSome kind × (open_count < most_open)
-ReserveAnswers (Err _) fault kind used open_count least = ⊥
+-- What a reservation finds: the failure that the log keeps, before and behind it; the kind of its record, or none; how many reservations are open of the buffer that it would be of; whether its item goes to a blob, and what lies under that name; and the device's count of failures, before and behind it.
+pub record ReserveCauses : Type 0 where
+  pub old : Option IoError
+  pub new : Option IoError
+  pub kind : Option MessageKind
+  pub open_count : ℕ
+  pub in_blob : Bool
+  pub file : Option (List ℕ)
+  pub before : ℕ
+  pub after : ℕ
+
+-- no failure was kept before, none is behind it, and the device had none
+abbrev pub NoFault : ReserveCauses → Type 0
+NoFault at = (at.old ≡ None) × (at.new ≡ None) × (at.after ≡ at.before)
+
+-- there is a place for the record: it needs no further segment, or one is in reach
+abbrev pub HasRecordPlace : Type 0 → ReserveCauses → Type 0
+HasRecordPlace used at = IsSome at.kind × (used → ⊥) × (at.open_count < most_open)
+
+-- The blob could not be made: the device failed, and the log keeps that; or there is a blob of that name, and the log doesn't keep that.
+pub record IsBlobRefused (e : IoError) (used : Type 0) (at : ReserveCauses) : Type 0 where
+  pub in_blob : at.in_blob ≡ true
+  pub room : HasRecordPlace used at
+  pub none : at.old ≡ None
+  pub refused : ((at.new ≡ Some e) × IsTrue (is_fault e) × (at.after ≡ (at.before + 1) % 2 ^ 64)) ⊎ ((at.new ≡ None) × (error_kind e ≡ AlreadyExists) × IsSome at.file × (at.after ≡ at.before))
+
+-- A reservation, which may need a further segment that isn't in reach: the failure that the log keeps comes first, then a kind that the page has no messages of, with an empty text, then that no further segment is in reach or, in the same buffer, that no further reservation may be open, with the least place of those that are, then want of memory, and last that the blob was refused.
+abbrev pub ReserveAnswers : {T : Type 0} → Result T Error → Type 0 → (ℤ → Type 0) → ReserveCauses → Type 0
+ReserveAnswers (Ok _) used least at = NoFault at × HasRecordPlace used at × (at.in_blob ≡ true → at.file ≡ None)
+ReserveAnswers (Err (Io e)) used least at = ((at.old ≡ Some e) × (at.new ≡ Some e) × (at.after ≡ at.before)) ⊎ IsBlobRefused e used at
+ReserveAnswers (Err (Unsupported text)) used least at = NoFault at × (at.kind ≡ None) × (string_bytes text ≡ [])
+ReserveAnswers (Err PlacesUsedUp) used least at = NoFault at × IsSome at.kind × used
+ReserveAnswers (Err (Held place)) used least at = NoFault at × IsSome at.kind × (used → ⊥) × (at.open_count ≡ most_open) × least place
+ReserveAnswers (Err OutOfMemory) used least at = NoFault at × IsSome at.kind × (at.open_count < most_open)
+ReserveAnswers (Err _) used least at = ⊥
+
+-- A reservation of a record that every page may have, and that needs nothing of the device: as `ReserveAnswers`, without a kind to refuse or a blob.
+abbrev pub RewriteAnswers : {T : Type 0} → Result T Error → Option IoError → Type 0 → ℕ → (ℤ → Type 0) → Type 0
+RewriteAnswers (Ok _) fault used open_count least = (fault ≡ None) × (used → ⊥) × (open_count < most_open)
+RewriteAnswers (Err (Io e)) fault used open_count least = fault ≡ Some e
+RewriteAnswers (Err PlacesUsedUp) fault used open_count least = (fault ≡ None) × used
+RewriteAnswers (Err (Held at)) fault used open_count least = (fault ≡ None) × (used → ⊥) × (open_count ≡ most_open) × least at
+RewriteAnswers (Err OutOfMemory) fault used open_count least = (fault ≡ None) × (open_count < most_open)
+RewriteAnswers (Err _) fault used open_count least = ⊥
 
 -- Room for one more reservation of a buffer of which so many are open: no further one may be open, with the least place of those that are, or memory was refused.
 abbrev pub MakesRoom : {T : Type 0} → Result T Error → ℕ → (ℤ → Type 0) → Type 0

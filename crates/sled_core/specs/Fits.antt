@@ -1,8 +1,9 @@
 -- What a log has to do with the history of what was completed, and with its device. Its segments lie one behind another; the first one isn't wholly on the device, and the last one is being filled.
-use Rattle.std.specs.Prelude.{◌≡◌, ◌⊎◌, ◌+◌, ◌-◌, ◌*◌, ◌/◌, ◌%◌, ◌^◌, ◌≤◌, ◌<◌, ◌<ℤ◌, if◌then◌else◌, nat_le, Bool, ℕ, ℤ, pos, max, true, List, [], ◌++◌, ◌∷◌, length, map, take, drop, All, Option, None, Some, slice_get, Contains}
+use Rattle.std.specs.Prelude.{◌≡◌, ◌⊎◌, ◌+◌, ◌-◌, ◌*◌, ◌/◌, ◌%◌, ◌^◌, ◌≤◌, ◌<◌, ◌<ℤ◌, if◌then◌else◌, nat_le, nat_lt, Bool, ℕ, ℤ, pos, max, true, List, [], ◌++◌, ◌∷◌, length, map, take, drop, All, Option, None, Some, slice_get, Contains}
 use Rattle.std.specs.declared.io.Error.{Error as IoError}
-use Rattle.sled_codec.specs.declared.result.DiskPtr.TheVariants.{Inline}
+use Rattle.sled_codec.specs.declared.result.DiskPtr.TheVariants.{Blob}
 use Rattle.sled_codec.specs.declared.serialization.message.LogKind.{LogKind}
+use Rattle.sled_codec.specs.declared.serialization.message.LogKind.TheVariants.{Replace}
 use Rattle.sled_codec.specs.Record.{IsHeader, short_header}
 use Rattle.sled_codec.specs.History.{Message, Batch, History, CutFits, table}
 use Rattle.sled_codec.specs.WellFormed.{LieApart}
@@ -20,13 +21,13 @@ use Rattle.sled_core.specs.declared.logger.Log.{Log}
 use Rattle.sled_store.specs.declared.config.RunningConfig.{RunningConfig}
 use Rattle.sled_core.specs.Begun.{SegmentParts, SegmentView, begin_of, line_at, segment_view, view_at}
 pub use Rattle.sled_core.specs.Begun.{line_end}
-use Rattle.sled_core.specs.Buffers.{Stands, IsChain, batches_in, completed_in, message_in, none_open, open_in, first_open_in, records_end}
+use Rattle.sled_core.specs.Buffers.{Stands, IsChain, pointer_as, batches_in, completed_in, message_in, none_open, open_in, first_open_in, records_end}
 use Rattle.sled_core.specs.FreeSlots.{HasSlots}
 use Rattle.sled_core.specs.LogFile.{IsLogFile, StaysBelow, StaysFrom}
 use Rattle.sled_core.specs.Logged.{in_log, logged}
 use Rattle.sled_core.specs.OpenBatches.{AreApart, batch_of, not_whole, stable_below}
 use Rattle.sled_core.specs.OpenPlaces.{open_places_along}
-use Rattle.sled_core.specs.Positions.{Position, behind_record, is_short, placed_at, pointer_at, position_in, size_at}
+use Rattle.sled_core.specs.Positions.{Position, behind_record, is_short, placed_at, lid_at, position_in, size_at}
 use Rattle.sled_core.specs.Reached.{BegunSegment, FollowApart}
 use Rattle.sled_core.specs.Recoverable.{IsMarkOf, NoBatchEnds}
 use Rattle.sled_core.specs.SealedBuffers.{AreSealed, AreZeros, Laid, sealed_count, sealed_end}
@@ -115,11 +116,37 @@ target_of log page n = placed_at (segment_size_of log) (position_of log) page n
 abbrev pub size_for : {D C : Type 0} → Log D C → ℕ → ℕ → ℕ
 size_for log page n = size_at (segment_size_of log) (position_of log) page n
 
--- the message that is reserved next for an item of these bytes
+-- a message with an item of n bytes has that in a blob: it takes more than a quarter of a segment
+abbrev pub in_blob : ℕ → ℕ → Bool
+in_blob size n = nat_lt (size / 4 - 20) (32 + n)
+
+-- whether one of a log has
+abbrev pub in_blob_of : {D C : Type 0} → Log D C → ℕ → Bool
+in_blob_of log n = in_blob (segment_size_of log) n
+
+-- how long the body of its record is then: it is the item, or the blob's place
+abbrev pub body_length : {D C : Type 0} → Log D C → ℕ → ℕ
+body_length log n = if in_blob_of log n then 8 else n
+
+-- the blob of a message whose record stands at a place, where it has one: it has that place for its name
+abbrev pub blob_at : Bool → ℕ → Option ℤ
+blob_at has place = if has then Some (pos place) else None
+
+-- the message that is reserved next for an item of these bytes, which goes to a blob or not, with a body of n bytes in its record
+abbrev pub message_as : {D C : Type 0} → Log D C → LogKind → ℕ → Bool → ℕ → List ℕ → Message
+message_as log kind page blob n item =
+    let q = target_of log page n in
+    record { kind = kind; page = page; place = q.place; pointer = pointer_as (blob_at blob q.place) (lid_at q); size = size_for log page n; bytes = item }
+
+-- by how long the item is
 abbrev pub message_for : {D C : Type 0} → Log D C → LogKind → ℕ → List ℕ → Message
-message_for log kind page bytes =
-    let q = target_of log page (length bytes) in
-    record { kind = kind; page = page; place = q.place; pointer = pointer_at q; size = size_for log page (length bytes); bytes = bytes }
+message_for log kind page item = message_as log kind page (in_blob_of log (length item)) (body_length log (length item)) item
+
+-- that of a page whose item stays in an old blob, at this place
+abbrev pub message_rewriting : {D C : Type 0} → Log D C → ℕ → ℤ → List ℕ → Message
+message_rewriting log page blob item =
+    let q = target_of log page 8 in
+    record { kind = Replace; page = page; place = q.place; pointer = Blob (lid_at q) blob; size = size_for log page 8; bytes = item }
 
 -- where the next record may begin behind that one
 abbrev pub position_behind : {D C : Type 0} → Log D C → ℕ → ℕ → Position
@@ -286,10 +313,6 @@ pub record HoldsSegment (sum : List ℕ → ℕ) (parts : LogParts) (stays : Mes
 abbrev pub begun_segment : SegmentParts → BegunSegment
 begun_segment s = record { site = s.site; from = s.written_len; filled = s.filled }
 
--- a message has its item in its record
-abbrev pub HasInline : Message → Type 0
-HasInline m = (lid : ℕ) × (m.pointer ≡ Inline lid)
-
 -- A segment that begins at a place holds these messages.
 pub record HoldsNext (sum : List ℕ → ℕ) (size : ℕ) (device : State) (fault : Option IoError) (place : ℕ) (s : SegmentParts) (stays : Message → Type 0) (batches : List Batch) (own : List Message) : Type 0 where
   pub next : s.site.place ≡ place
@@ -299,7 +322,6 @@ pub record HoldsNext (sum : List ℕ → ℕ) (size : ℕ) (device : State) (fau
   pub behind : s.written_len ≤ length s.bytes
   pub segment : HoldsSegment sum (log_parts size s.site device fault s.bytes s.written_len s.sealed s.reserved) stays (record { messages = own; batches = batches })
   pub above : All (λ m. place ≤ m.place) own
-  pub inline : All HasInline own
 
 -- Segments that begin one behind another at a place hold these messages.
 abbrev pub HoldBehind : (List ℕ → ℕ) → ℕ → State → Option IoError → ℕ → List SegmentParts → (Message → Type 0) → List Batch → List Message → Type 0

@@ -13,8 +13,8 @@ use Rattle.sled_core.specs.Logged.{logged}
 use Rattle.sled_core.specs.Reached.{BeginsNext, BeginsOne, BegunSegment, LeadsTo, StandsIn, StandsTo}
 use Rattle.sled_core.specs.OpenBatches.{stable_below}
 use Rattle.sled_core.specs.OwnNames.{ReadsStayOwn}
-use Rattle.sled_core.specs.Recoverable.{LeavesRecoverable, NoBatchBegins, NoBatchEnds, NoHeaderOfZeros}
-use Rattle.sled_core.specs.Running.{BlobsFit, KeepsItems, NamesFit}
+use Rattle.sled_core.specs.Recoverable.{LeavesRecoverable, NoBatchBegins, NoBatchEnds, NoHeaderOfZeros, BlobsAreBelow}
+use Rattle.sled_core.specs.Running.{BlobsFit, KeepsEntries, KeepsItems, NamesFit}
 use Rattle.sled_core.specs.Scan.{IsFoundSegment}
 use Rattle.sled_core.specs.Tail.{least_place}
 
@@ -45,7 +45,11 @@ pub record FitsFull (sum : List ℕ → ℕ) (size : ℕ) (device : State) (faul
   -- so stands the file, with any number of zeros behind its end
   pub beyond : (to : ℕ) → fault ≡ None → NoHeaderOfZeros sum → StandsFull sum size (padded to device.log.bytes) place (map begun_segment behind) reach (logged H) holds.begun.first
   pub blobs : BlobsFit sum device.blobs H (stable_below reach H.batches)
+  -- no crash takes the item of a message that isn't stable yet, nor that of an entry of the table of what is stable
   pub stored : KeepsItems sum device.blobs H (stable_below reach H.batches)
+  pub entries : KeepsEntries sum device.blobs H (stable_below reach H.batches)
+  -- the blob of each message lies no higher than it
+  pub below : BlobsAreBelow H
   pub names : NamesFit sum size device.snapshots (logged H) f holds.begun.first
   -- what is read under names is the log's own, so that a sync of names makes nothing own that was foreign
   pub own_names : fault ≡ None → ReadsStayOwn sum device

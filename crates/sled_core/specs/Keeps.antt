@@ -1,5 +1,5 @@
 -- What a call keeps of a log, and of what it runs on, said once for all of them.
-use Rattle.std.specs.Prelude.{◌≡◌, ◌≢◌, ◌⊎◌, ◌≤◌, ◌+◌, ◌*◌, nat_lt, if◌then◌else◌, ℕ, List, length, drop, Result, OnErr, OnOk}
+use Rattle.std.specs.Prelude.{◌≡◌, ◌≢◌, ◌⊎◌, ◌≤◌, ◌+◌, ◌*◌, nat_lt, if◌then◌else◌, ℕ, List, length, drop, None, Result, OnErr, OnOk}
 use Rattle.sled_codec.specs.declared.result.Error.{Error}
 use Rattle.sled_core.specs.Causes.{IsHeld}
 use Rattle.sled_codec.specs.History.{Message, History}
@@ -15,7 +15,7 @@ use Rattle.sled_core.specs.Tickets.{place_of}
 use Rattle.sled_core.specs.Waiting.{BufferAt, BufferStart, not_below}
 use Rattle.sled_core.specs.Recoverable.{RecoverableIfOwn}
 use Rattle.sled_core.specs.OpenBatches.{not_whole}
-use Rattle.sled_core.specs.Running.{Fits}
+use Rattle.sled_core.specs.Running.{Fits, IsStored}
 
 -- It has the same sizes and the same checksum.
 pub record ConfigKept {D C : Type 0} (old new : RunningConfig D C) : Type 0 where
@@ -28,13 +28,17 @@ pub record OnlyReads {D C : Type 0} (trace : D → Trace) (old new : RunningConf
   pub checksum : new.checksum ≡ old.checksum
   pub unwritten : trace new.device ≡ trace old.device
 
--- The log goes on from what it was: its device's trace goes on from the old one, what is on its device without a gap doesn't get less, and at each moment between them a crash leaves what can be recovered.
+-- The log goes on from what it was: its device's trace goes on from the old one, what is on its device without a gap doesn't get less, at each moment between them a crash leaves what can be recovered, and what blobs hold stays.
 pub record GoesOn {D C : Type 0} (trace : D → Trace) (sum : List ℕ → ℕ) (old new : Log D C) : Type 0 where
   pub config : ConfigKept (config_of old) (config_of new)
   pub later : IsLater (trace (device_of old)) (trace (device_of new))
   pub stable : synced_end old ≤ synced_end new
   pub crash : (H : History) (A f : ℕ) (U : List Message) → Fits trace sum old H A f U
       → LeavesOnly (RecoverableIfOwn sum (segment_size_of old) H A f) (trace (device_of old)) (trace (device_of new))
+  -- a log that keeps no failure kept none before
+  pub sound : fault_of new ≡ None → fault_of old ≡ None
+  -- and the items of messages that were safe from a crash are safe still
+  pub items : fault_of new ≡ None → (m : Message) → IsStored trace sum old m → IsStored trace sum new m
 
 -- The log goes on, and what it held it still holds, and what it fitted it still fits.
 pub record Preserves {D C : Type 0} (trace : D → Trace) (sum : List ℕ → ℕ) (old new : Log D C) : Type 0 where
@@ -54,6 +58,12 @@ pub record SealsBelow {T D C : Type 0} (result : Result T Error) (to : ℕ) (old
   pub held : IsHeld result → to ≤ current_begin new
   pub none : NoneSealed old → OnOk result (NoneSealed new)
   pub err : NoneSealed old → OnErr result (synced_end new ≡ synced_end old)
+
+-- What is durable of the log is what was, with the batches that are noted, and as many pins are out.
+pub record KeepsSeen {D C : Type 0} (old new : Log D C) : Type 0 where
+  pub synced : synced_end new ≡ synced_end old
+  pub noted : noted_in new ≡ noted_in old
+  pub pins : pins_of new ≡ pins_of old
 
 -- The next record begins where it would have begun, what was reserved ends where it did, and as many pins are out.
 pub record SamePosition {D C : Type 0} (old new : Log D C) : Type 0 where

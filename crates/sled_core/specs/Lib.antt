@@ -22,6 +22,7 @@ pub mod OnFile
 pub mod OpenBatches
 pub mod OpenPlaces
 pub mod Own
+pub mod OwnBlobs
 pub mod OwnNames
 pub mod Positions
 pub mod Prepared
@@ -32,6 +33,7 @@ pub mod Reading
 pub mod Ready
 pub mod Recoverable
 pub mod Replayed
+pub mod Reserves
 pub mod Running
 pub mod Scan
 pub mod SealedBuffers

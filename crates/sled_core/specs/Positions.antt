@@ -33,9 +33,13 @@ placed_at size q page n = if nat_lt size (q.place - q.begins + record_size (q.be
 abbrev pub size_at : ℕ → Position → ℕ → ℕ → ℕ
 size_at size q page n = record_size ((placed_at size q page n).begins / size) page n
 
--- where it lies on the disk
+-- where it lies in the log file
+abbrev pub lid_at : Position → ℕ
+lid_at q = q.slot + (q.place - q.begins)
+
+-- its pointer, where its item is in its record
 abbrev pub pointer_at : Position → DiskPtr
-pointer_at q = Inline (q.slot + (q.place - q.begins))
+pointer_at q = Inline (lid_at q)
 
 -- where the next record may begin behind one of this length
 abbrev pub behind_record : ℕ → Position → ℕ → Position

@@ -15,7 +15,7 @@ use Rattle.sled_store.specs.Device.{State}
 use Rattle.sled_core.specs.declared.logger.Log.{Log}
 use Rattle.sled_core.specs.declared.logger.read_message.LogRead.{LogRead}
 use Rattle.sled_core.specs.declared.logger.read_message.LogRead.TheVariants.{Blob}
-use Rattle.sled_core.specs.Fits.{stable_end}
+use Rattle.sled_core.specs.Fits.{next_place, stable_end}
 use Rattle.sled_core.specs.Reading.{GivesMessage, IsInline, IsNoPlace, IsReading, IsUnreadable}
 
 -- The place whose buffer a read brings to the device: that of the message, or for one whose item is a blob the place of that.
@@ -81,3 +81,18 @@ GivesBlob m kept (Ok read) = GivesMessage m read
 GivesBlob m kept (Err (Io e)) = kept ≡ None → error_kind e ≢ NotFound
 GivesBlob m kept (Err OutOfMemory) = Unit {0}
 GivesBlob m kept (Err _) = ⊥
+
+-- The same of a message in the table of all that there is, on the device or not.
+pub record IsKeptBlob {D C : Type 0} (log : Log D C) (H : History) (m : Message) (pid : ℕ) (lsn : ℤ) (p : DiskPtr) : Type 0 where
+  pub entry : Contains (table H (next_place log) m.page) m
+  pub page : m.page ≡ pid
+  pub place : pos m.place ≡ lsn
+  pub pointer : m.pointer ≡ p
+  pub beside : IsInline p → ⊥
+
+-- The message is given, or the read has to wait or fails: its blob is neither missing nor damaged.
+abbrev pub GivesBlobOrWaits : Message → Option IoError → Result LogRead Error → Type 0
+GivesBlobOrWaits m kept (Ok read) = GivesMessage m read
+GivesBlobOrWaits m kept (Err (Io e)) = kept ≡ None → error_kind e ≢ NotFound
+GivesBlobOrWaits m kept (Err (Corruption at)) = ⊥
+GivesBlobOrWaits m kept (Err _) = Unit {0}

@@ -154,6 +154,10 @@ abbrev pub BlobIsBelow : Message → DiskPtr → Type 0
 BlobIsBelow m (Inline lid) = Unit {0}
 BlobIsBelow m (Blob lid place) = place ≤ℤ pos m.place
 
+-- so it is with each message of a history
+abbrev pub BlobsAreBelow : History → Type 0
+BlobsAreBelow H = (m : Message) → Contains H.messages m → BlobIsBelow m m.pointer
+
 -- A message lies in one segment, and its blob was made no later.
 pub record LiesInSegment (size : ℕ) (m : Message) : Type 0 where
   pub begins : BeginsInSegment size m.place

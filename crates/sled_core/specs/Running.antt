@@ -4,7 +4,7 @@ use Rattle.std.specs.Prelude.{◌≡◌, ◌≢◌, ◌≤◌, ◌<◌, ◌+◌,
 use Rattle.sled_codec.specs.declared.result.DiskPtr.{DiskPtr}
 use Rattle.sled_codec.specs.declared.result.DiskPtr.TheVariants.{Inline, Blob}
 use Rattle.sled_codec.specs.declared.serialization.message.MessageKind.{MessageKind}
-use Rattle.sled_codec.specs.History.{Message, Batch, History}
+use Rattle.sled_codec.specs.History.{Message, Batch, History, table}
 use Rattle.sled_codec.specs.Snapshots.{SnapshotModel, stable_place}
 use Rattle.sled_store.specs.Accounts.{machine_of}
 use Rattle.sled_store.specs.Blobs.{IsBlob}
@@ -20,7 +20,7 @@ use Rattle.sled_core.specs.Logged.{logged}
 use Rattle.sled_core.specs.Good.{HasOwnBlob}
 use Rattle.sled_core.specs.OpenBatches.{stable_below}
 use Rattle.sled_core.specs.OwnNames.{ReadsStayOwn}
-use Rattle.sled_core.specs.Recoverable.{ActiveFits, BlobIsBelow, AreRecoverableSnapshots, AreRecoverableBlobs, NoBatchBegins, NoBatchEnds, NoHeaderOfZeros, LeavesRecoverable}
+use Rattle.sled_core.specs.Recoverable.{ActiveFits, BlobIsBelow, AreRecoverableSnapshots, AreRecoverableBlobs, NoBatchBegins, NoBatchEnds, NoHeaderOfZeros, LeavesRecoverable, BlobsAreBelow}
 use Rattle.sled_core.specs.Reached.{StandsAmong, StandsActive}
 use Rattle.sled_core.specs.LogFile.{padded}
 use Rattle.sled_core.specs.Ready.{IsReady}
@@ -44,6 +44,10 @@ KeepsItem sum blobs m (Blob lid place) = (left : Option (List ℕ)) → LeavesNa
 -- so it is with each message of a history from a place on
 abbrev pub KeepsItems : (List ℕ → ℕ) → NamesState → History → ℕ → Type 0
 KeepsItems sum blobs H place = (m : Message) → Contains H.messages m → place ≤ m.place → KeepsItem sum blobs m m.pointer
+
+-- and so with each entry of the table below a place, also where what a crash leaves of the others is foreign
+abbrev pub KeepsEntries : (List ℕ → ℕ) → NamesState → History → ℕ → Type 0
+KeepsEntries sum blobs H place = (page : ℕ) (m : Message) → Contains (table H place page) m → KeepsItem sum blobs m m.pointer
 
 -- The greatest end of messages that begin below a place, and of batches.
 
@@ -73,7 +77,11 @@ pub record FitsIn (sum : List ℕ → ℕ) (parts : LogParts) (behind : List Seg
   -- and so does the file with zeros behind its end, as a write there makes it
   pub beyond : (to : ℕ) → parts.site.slot ≤ to → parts.fault ≡ None → NoHeaderOfZeros sum → StandsAmong sum parts.size (padded to parts.device.log.bytes) parts.site parts.written_len (map begun_segment behind) reach (logged H) holds.begun.first
   pub blobs : BlobsFit sum parts.device.blobs H (stable_below reach H.batches)
+  -- No crash takes the item of a message that isn't stable yet, nor that of an entry of the table of what is stable: so a page's pointer can be written again.
   pub stored : KeepsItems sum parts.device.blobs H (stable_below reach H.batches)
+  pub entries : KeepsEntries sum parts.device.blobs H (stable_below reach H.batches)
+  -- the blob of each message lies no higher than it
+  pub below : BlobsAreBelow H
   pub names : NamesFit sum parts.size parts.device.snapshots (logged H) f holds.begun.first
   -- what is read under names is the log's own, so that a sync of names makes nothing own that was foreign
   pub own_names : parts.fault ≡ None → ReadsStayOwn sum parts.device
@@ -114,6 +122,10 @@ pub record IsReadyFor (sum : List ℕ → ℕ) (size : ℕ) (device : State) (s 
   pub alone : StandsActive sum size device.log.bytes s (logged H)
   pub active : ActiveFits size (stable_place s.stable) s.active
   pub blobs : BlobsFit sum device.blobs H (stable_place s.stable)
+  -- no crash takes the item of an entry of its table
+  pub entries : KeepsEntries sum device.blobs H (stable_place s.stable)
+  -- the blob of each message lies no higher than it
+  pub below : BlobsAreBelow H
   pub names : NamesFit sum size device.snapshots (logged H) f ready.first
   -- what is read under names is the log's own
   pub own_names : ReadsStayOwn sum device

@@ -1,5 +1,5 @@
 -- What a ticket says.
-use Rattle.std.specs.Prelude.{◌≡◌, ◌+◌, ℕ, ℤ, pos, Bool, None}
+use Rattle.std.specs.Prelude.{◌≡◌, ◌+◌, ℕ, ℤ, pos, Bool}
 use Rattle.sled_core.specs.declared.iobuf.ReservationState.TheVariants.{Open}
 use Rattle.sled_core.specs.declared.iobuf.Reserved.{Reserved}
 use Rattle.sled_core.specs.declared.iobuf.SegmentPosition.{SegmentPosition}
@@ -37,7 +37,5 @@ pub record IsFor (site : SegmentPosition) (r : Reserved) (ticket : Reservation) 
   pub open_yet : r.state ≡ Open
   pub place : place_of ticket ≡ pos (site.place + r.from)
   pub pointer : pointer_of ticket ≡ pointer_as r.blob (site.slot + r.from)
-  -- no log makes blobs yet
-  pub plain : r.blob ≡ None
   pub long : len_of ticket ≡ r.len
   pub manifest : is_manifest_of ticket ≡ is_manifest r.log_kind r.page

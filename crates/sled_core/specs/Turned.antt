@@ -1,7 +1,6 @@
 -- What the calls of a log make of its segments, one behind another.
-use Rattle.std.specs.Prelude.{◌≡◌, ◌⊎◌, ◌+◌, ◌*◌, ◌≤◌, ◌<◌, ◌==◌, ◌-◌, ◌-ℤ◌, ℕ, pos, Bool, if◌then◌else◌, List, [], ◌∷◌, ◌++◌, length, drop, set, slice_get, take, nat_lt, true, false, Option, None, Some, vec_capacity}
+use Rattle.std.specs.Prelude.{◌≡◌, ◌⊎◌, ◌+◌, ◌*◌, ◌≤◌, ◌<◌, ◌==◌, ◌-◌, ◌-ℤ◌, ℕ, ℤ, pos, Bool, if◌then◌else◌, List, [], ◌∷◌, ◌++◌, length, drop, set, slice_get, take, nat_lt, true, false, Option, None, Some, vec_capacity}
 use Rattle.std.specs.VecDeque.{deque_len, deque_capacity}
-use Rattle.sled_codec.specs.declared.result.DiskPtr.TheVariants.{Inline}
 use Rattle.sled_codec.specs.Record.{short_header}
 use Rattle.sled_codec.specs.Written.{written}
 use Rattle.sled_store.specs.Device.{Event}
@@ -14,7 +13,7 @@ use Rattle.sled_core.specs.declared.iobuf.ReservationState.{ReservationState}
 use Rattle.sled_core.specs.declared.iobuf.ReservationState.TheVariants.{Open}
 use Rattle.sled_core.specs.declared.logger.Log.{Log}
 use Rattle.sled_core.specs.Begun.{SegmentView, view_at}
-use Rattle.sled_core.specs.Buffers.{ended, most_open, open_in}
+use Rattle.sled_core.specs.Buffers.{ended, most_open, open_in, pointer_as}
 use Rattle.sled_core.specs.Fits.{current_of, reserved_end, segment_size_of}
 use Rattle.sled_core.specs.SealedBuffers.{behind_run, bytes_between, first_ready, is_ready, one_ended, run_count, run_end, sealed_count, sealed_end, writing, written_at}
 use Rattle.sled_core.specs.declared.reservation.Reservation.{Reservation}
@@ -119,11 +118,11 @@ pub record HasPlace {D C : Type 0} (log : Log D C) (len : ℕ) : Type 0 where
   pub header : length (current_of log).parts.bytes + 32 ≤ segment_size_of log
   pub record_fits : length (current_of log).parts.bytes + len ≤ segment_size_of log
 
--- the ticket is for what is reserved next behind all bytes of that segment, with a record of this length
-pub record IsTicketFor {D C : Type 0} (log : Log D C) (ticket : Reservation) (len : ℕ) : Type 0 where
+-- the ticket is for what is reserved next behind all bytes of that segment, with a record of this length, and with this blob, if it has one
+pub record IsTicketFor {D C : Type 0} (log : Log D C) (ticket : Reservation) (blob : Option ℤ) (len : ℕ) : Type 0 where
   pub index : index_of ticket ≡ (current_of log).gone + length (current_of log).parts.reserved
   pub place : place_of ticket ≡ pos ((current_of log).parts.site.place + length (current_of log).parts.bytes)
-  pub pointer : pointer_of ticket ≡ Inline ((current_of log).parts.site.slot + length (current_of log).parts.bytes)
+  pub pointer : pointer_of ticket ≡ pointer_as blob ((current_of log).parts.site.slot + length (current_of log).parts.bytes)
   pub long : len_of ticket ≡ len
 
 -- A reservation of a segment is open, by their numbers.

@@ -7,12 +7,14 @@ ghost use Rattle.sled_core.specs.Iterates.{Item};
 ghost use Rattle.sled_core.specs.Iterators.{BorrowsLog, IsLogOf, IsNext, IsOnlyRead, IsOverLog};
 ghost use Rattle.std.specs.Int.{w64, cast_signed, cast_unsigned};
 ghost use Rattle.std.specs.List.{All};
-ghost use Rattle.sled_codec.specs.History.{Message, Batch, History, no_history};
+ghost use Rattle.sled_codec.specs.declared.result.DiskPtr.TheVariants.{Blob};
+ghost use Rattle.sled_codec.specs.declared.serialization.message.LogKind.TheVariants.{Replace};
+ghost use Rattle.sled_codec.specs.History.{Message, Batch, History, no_history, table};
 ghost use Rattle.sled_codec.specs.Record.{IsHeader};
 ghost use Rattle.sled_codec.specs.WellFormed.{LieApart};
 ghost use Rattle.sled_store.specs.Device.{Trace, State, Left, Leaves, Crashed, state_of, content_of, content_left, at_rest, fresh, Content, Settled, Wrote, Synced, step};
 ghost use Rattle.sled_store.specs.Moments.{IsLater, LeavesOnly};
-ghost use Rattle.sled_core.specs.Fits.{stable_end, KeepsAll, Awaits, FitsInline, HasRecordOf, Holds, IsLeastOpen, IsUnchanged, IsWritten, NoneOpen, buffers_of, current_begin, device_of, fault_of, held_len, holding_below, is_moved, line_of, machine_at, next_place, noted_in, open_of, open_places, reserved_end, sealing_end, segment_size_of, start_behind, start_of, synced_end, target_of, waiting_behind, waiting_of};
+ghost use Rattle.sled_core.specs.Fits.{stable_end, KeepsAll, Awaits, FitsInline, HasRecordOf, Holds, IsLeastOpen, IsUnchanged, IsWritten, NoneOpen, buffers_of, current_begin, device_of, fault_of, held_len, holding_below, is_moved, line_of, machine_at, message_rewriting, next_place, noted_in, open_of, open_places, reserved_end, sealing_end, segment_size_of, start_behind, start_of, synced_end, target_of, waiting_behind, waiting_of};
 ghost use Rattle.sled_codec.specs.Snapshots.{SnapshotModel, empty_model, stable_place};
 ghost use Rattle.sled_store.specs.Begin.{offset_at, place_at};
 ghost use Rattle.sled_core.specs.Waiting.{HasLength, spans};
@@ -42,20 +44,25 @@ pub fn a_fitting_log_holds<D: Device, C: Checksum>()
     ensures acknowledged { (log : Log D C) (H : History) (A f : ℕ) (U : List Message) → Fits D.trace C.sum_of log H A f U → A ≤ stable_end log }
 {}
 
-/// The messages of a history that a log fits lie below its next place, one behind another. Those that are not stable yet
-/// have inline pointers, and so have the messages of tickets; of such a message no crash takes the item from a blob. The places of these, and the end of what was reserved, lie
-/// below 2^63. The record of a message that comes is put at the next place or behind it.
+/// The messages of a history that a log fits lie below its next place, one behind another. Of a message with an inline
+/// pointer no crash takes the item from a blob. The places of the messages of tickets, and the end of what was reserved,
+/// lie below 2^63. The record of a message that comes is put at the next place or behind it.
 pub fn messages_lie_in_order<D: Device, C: Checksum>()
     ensures below { (log : Log D C) (H : History) (A f : ℕ) (U : List Message) → Fits D.trace C.sum_of log H A f U
         → All (λ m. m.place < next_place log) H.messages }
     ensures apart { (log : Log D C) (H : History) (A f : ℕ) (U : List Message) → Fits D.trace C.sum_of log H A f U → LieApart H.messages }
-    ensures inline { (log : Log D C) (H : History) (A f : ℕ) (U : List Message) → Fits D.trace C.sum_of log H A f U
-        → (m : Message) → Contains H.messages m → synced_end log ≤ m.place → IsInline m.pointer }
-    ensures awaited { (log : Log D C) (ticket : Reservation) (m : Message) → Awaits log ticket m → IsInline m.pointer }
     ensures stored { (log : Log D C) (m : Message) → IsInline m.pointer → IsStored D.trace C.sum_of log m }
     ensures small { (log : Log D C) (ticket : Reservation) (m : Message) → Awaits log ticket m → m.place < 2 ^ 63 }
     ensures reserved { (log : Log D C) → reserved_end log < 2 ^ 63 }
     ensures target { (log : Log D C) (page n : ℕ) → FitsInline (segment_size_of log) n → next_place log ≤ (target_of log page n).place }
+{}
+
+/// The pointer of a page can be rewritten (`Log::rewrite_blob_pointer`): where the page's Replace is in the table of a history that a log
+/// fits, and has its item in a blob, no crash takes the item of the same Replace with the next record, whose blob was made before it.
+pub fn what_is_in_the_table_can_be_rewritten<D: Device, C: Checksum>()
+    ensures { (log : Log D C) (H : History) (A f : ℕ) (U : List Message) (m : Message) (lid : ℕ) (blob : ℤ) → Fits D.trace C.sum_of log H A f U
+        → Contains (table H (next_place log) m.page) m → m.kind ≡ Replace → m.pointer ≡ Blob lid blob
+        → IsStored D.trace C.sum_of log (message_rewriting log m.page blob m.bytes) }
 {}
 
 /// What counts as acknowledged once all below a place is durable (`end_below`) is the greatest end of what begins there:

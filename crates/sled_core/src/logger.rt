@@ -8,7 +8,7 @@ ghost use Rattle.sled_codec.specs.History.{History, Message, Completed, Step};
 ghost use Rattle.std.specs.IoError.{error_kind};
 ghost use Rattle.std.specs.declared.io.ErrorKind.TheVariants.{OutOfMemory};
 ghost use Rattle.sled_codec.specs.Errors.{IsErrorOf, IsCorrupt, IsCorruption};
-ghost use Rattle.sled_store.specs.Device.{content_of, state_of, Wrote, Synced};
+ghost use Rattle.sled_store.specs.Device.{state_of, Wrote, Synced};
 ghost use Rattle.sled_store.specs.Answers.{Counts, FailsOr};
 ghost use Rattle.sled_core.specs.Tickets.{IsPlaceOf, is_manifest_of};
 ghost use Rattle.sled_core.specs.Reading.{GivesMessage, IsInline};
@@ -18,7 +18,7 @@ ghost use Rattle.sled_codec.specs.Snapshots.{model_of};
 ghost use Rattle.sled_store.specs.Moments.{IsLater, LeavesOnly};
 ghost use Rattle.sled_store.specs.Accounts.{IsAccountant};
 ghost use Rattle.sled_store.specs.Begin.{IsStartable, IsInReach};
-ghost use Rattle.sled_core.specs.Recoverable.{LeavesRecoverable, NoForeign, RecoverableIfOwn};
+ghost use Rattle.sled_core.specs.Recoverable.{LeavesRecoverable, NoHeaderOfZeros, RecoverableIfOwn};
 ghost use Rattle.sled_core.specs.AccountProps.{IsAccountant-prop};
 ghost use Rattle.sled_core.specs.Begun.{FollowOn, FollowOn-prop, IsFilledLine, IsFilledLine-prop, line_at};
 ghost use Rattle.sled_core.specs.OpenBatches.{AreByPlace, AreByPlace-prop, batch_of};
@@ -27,6 +27,7 @@ ghost use Rattle.sled_core.specs.Causes.{FaultAnswers, RecordAnswers, ReserveAns
 
 mod abort;
 pub(crate) mod batches;
+mod blobs;
 mod crash;
 mod ending;
 mod iterating;
@@ -34,6 +35,7 @@ mod mark_writebatch;
 pub mod read_at;
 pub mod read_message;
 mod read_pointer;
+mod reserve;
 mod reserving;
 mod segments;
 mod settle;
@@ -42,11 +44,10 @@ pub(crate) mod unverified_record;
 mod writing;
 
 use crate::iobuf::start::begin;
-use crate::iobuf::{IoBuf, Purpose, SegmentPosition};
+use crate::iobuf::{IoBuf, SegmentPosition};
 use crate::logger::batches::NotedBatch;
 use crate::logger::read_message::LogRead;
 use crate::logger::read_pointer::{fault_in, place_read, read_pointer};
-use crate::logger::reserving::kind_for;
 use crate::logger::segments::{SegmentBuffer, no_segments};
 use crate::reservation::{Guard, Reservation};
 use sled_codec::result::{DiskPtr, Error, LogOffset, Lsn, PageId, Result};
@@ -95,7 +96,7 @@ impl<D: Device, C: Checksum> Log<D, C> {
     ghost use Rattle.sled_core.specs.OpenPlaces.{TakesOutPlaceOf};
     ghost use Rattle.sled_core.specs.Keeps.{ConfigKept, GoesOn, KeepsOthers, Preserves, SamePosition};
     ghost use Rattle.sled_core.specs.ReadBuffer.{IsUsedUpAt, ReadAnswers, RefusesPlace, SealsAround, Settles, WritesAround, held_at};
-    ghost use Rattle.sled_core.specs.ReadPointer.{GivesBlob, IsDamageAt, IsDamageOf, IsReadOf, IsStableBlob, place_read};
+    ghost use Rattle.sled_core.specs.ReadPointer.{GivesBlob, GivesBlobOrWaits, IsDamageAt, IsDamageOf, IsKeptBlob, IsReadOf, IsStableBlob, place_read};
     ghost use Rattle.sled_core.specs.Ready.{IsReady};
     ghost use Rattle.sled_core.specs.Running.{Fits, IsStored, Ready, end_below};
     ghost use Rattle.sled_core.specs.Starts.{BeginsBehind, HasMadeStart, StartCalls, StartsOrRefuses, config_left};
@@ -208,63 +209,6 @@ impl<D: Device, C: Checksum> Log<D, C> {
         self.fault
     }
 
-    /// Keeps a place for a message of this page, at the end of what was reserved, and returns the ticket for it. Where its
-    /// record has no room in the current segment, that is filled to its end and sealed, and the record begins the next one.
-    /// The guard shows that a pin is out.
-    ///
-    /// The caller owes the log an order of pages, which is not tested here: a page gets a Replace only once
-    /// all lower pages have one, or a recovery finds damage (`docs/USING.md`, "Write").
-    ///
-    /// # Errors
-    ///
-    /// `Io` where the log keeps a failure of its device, `Unsupported` where the page has no messages of this kind, and for the manifest of a
-    /// batch (a `Skip` of the page `BATCH_MANIFEST_PID`) whose item hasn't 8 bytes,
-    /// `PlacesUsedUp` where the record needs a further segment and that would not end below 2^63 in the log and in the file,
-    /// `Held` with the least place of an open reservation where 127 are open in the buffer that the record would be of, and
-    /// `OutOfMemory`. After each of them the log is as it was.
-    pub fn reserve<T: Serialize>(
-        &mut self,
-        kind: LogKind,
-        pid: PageId,
-        item: &T,
-        _guard: &Guard,
-    ) -> Result<Reservation>
-        requires fits { T.fits (T.meaning item.now) }
-        requires inline { FitsInline (segment_size_of self.old) (length (T.short (T.meaning item.now))) }
-        ensures ticket { IfOk result (λ ticket. Awaits self.new ticket (message_for self.old kind pid (T.short (T.meaning item.now)))) }
-        ensures manifest { IfOk result (λ ticket. is_manifest_of ticket ≡ is_manifest kind pid) }
-        ensures position { OnOk result (position_of self.new ≡ position_behind self.old pid (length (T.short (T.meaning item.now)))) }
-        ensures reserved { let n = length (T.short (T.meaning item.now)) in
-            OnOk result (reserved_end self.new ≡ (target_of self.old pid n).place + size_for self.old pid n) }
-        ensures others { (ticket : Reservation) (m : Message) → Awaits self.old ticket m → Awaits self.new ticket m }
-        ensures opens { let n = length (T.short (T.meaning item.now)) in
-            OnOk result (open_places self.new ≡ open_places self.old ++ (target_of self.old pid n).place ∷ []) }
-        ensures seals { let n = length (T.short (T.meaning item.now)) in
-            OnOk result ((waiting_of self.new ≡ waiting_behind C.sum_of self.old pid n) × (start_of self.new ≡ start_behind self.old pid n)) }
-        ensures answers { let n = length (T.short (T.meaning item.now)) in
-            ReserveAnswers result (fault_of self.old) (kind_for kind pid false n) (IsUsedUpFor self.old pid n) (open_for self.old pid n)
-            (IsLeastOpen self.old) }
-        ensures keeps { Preserves D.trace C.sum_of self.old self.new }
-        ensures same { KeepsAll self.old self.new }
-        ensures err { OnErr result (IsUnchanged self.old self.new) }
-    {
-        if let Some(e) = self.fault {
-            return Err(Error::Io(e));
-        }
-        let item_len = item.serialized_size() as usize;
-        let Some(message_kind) = kind_for(kind, pid, false, item_len) else {
-            return Err(Error::Unsupported(String::new(self.config.alloc())));
-        };
-        let purpose = Purpose {
-            log_kind: kind,
-            kind: message_kind,
-            page: pid,
-            blob: None,
-        };
-        let head = self.prepare(&purpose, item_len)?;
-        Ok(self.append(&head, &purpose, item, item_len))
-    }
-
     /// Completes a message: from now on it is in the log's history. Returns its place and its pointer. It takes no
     /// memory. A ticket of the manifest of a batch isn't for it: that one is ended by `mark_writebatch`, or given up by `abort`.
     ///
@@ -326,9 +270,12 @@ impl<D: Device, C: Checksum> Log<D, C> {
             → pos m.place ≡ lsn → m.pointer ≡ ptr → IsInline ptr → IfOk result (GivesMessage m) }
         ensures undamaged { (H : History) (A f : ℕ) (U : List Message) (m : Message) → Fits D.trace C.sum_of self.old H A f U → Contains H.messages m
             → HasRecordOf self.old H m → pos m.place ≡ lsn → m.pointer ≡ ptr → IsInline ptr → IsCorruption result → ⊥ }
-        ensures blob { let s = state_of (D.trace (device_of self.new)) in (H : History) (A f : ℕ) (U : List Message) (m : Message)
-            → Fits D.trace C.sum_of self.old H A f U → NoForeign C.sum_of (segment_size_of self.old) s (content_of s)
+        ensures blob { (H : History) (A f : ℕ) (U : List Message) (m : Message)
+            → Fits D.trace C.sum_of self.old H A f U → NoHeaderOfZeros C.sum_of
             → IsStableBlob self.old H m pid lsn ptr → GivesBlob m (fault_of self.old) result }
+        ensures kept { (H : History) (A f : ℕ) (U : List Message) (m : Message)
+            → Fits D.trace C.sum_of self.old H A f U → NoHeaderOfZeros C.sum_of
+            → IsKeptBlob self.old H m pid lsn ptr → GivesBlobOrWaits m (fault_of self.old) result }
         ensures reading { let size = segment_size_of self.old in
             IfOk result (IsReadOf C.sum_of size (state_of (D.trace (device_of self.new))) pid (unsigned_abs lsn / size) ptr) }
         ensures corrupt { IfErr result (IsDamageAt C.sum_of (segment_size_of self.old) (state_of (D.trace (device_of self.new))) lsn ptr) }
@@ -373,7 +320,7 @@ impl<D: Device, C: Checksum> Log<D, C> {
         answer
     }
 
-    /// Returns whether a message with this item has it in its record, as `reserve` asks of it.
+    /// Returns whether a message with this item has it in its record. Else `reserve` puts it into a blob.
     pub fn fits_inline<T: Serialize>(&self, item: &T) -> bool
         requires { T.fits (T.meaning item.now) }
         ensures { IsTrue result ↔ FitsInline (segment_size_of self.now) (length (T.short (T.meaning item.now))) }

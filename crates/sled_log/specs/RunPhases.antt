@@ -13,6 +13,7 @@ use Rattle.sled_core.specs.Fits.{Awaits, config_of, fault_of, noted_in, open_pla
 use Rattle.sled_core.specs.Manifests.{manifest_page}
 use Rattle.sled_core.specs.Waiting.{spans}
 use Rattle.sled_core.specs.Keeps.{ConfigKept}
+use Rattle.sled_core.specs.Reading.{IsInline}
 use Rattle.sled_core.specs.Recoverable.{LeavesRecoverable}
 use Rattle.sled_core.specs.Running.{Fits, Ready}
 use Rattle.sled_log.specs.declared.session.Session.{Session}
@@ -94,9 +95,10 @@ pub record IsClosedAt (sum : List ℕ → ℕ) (size : ℕ) (trace : Trace) (k :
   pub made : IsMade k.history
   pub left : LeavesRecoverable sum size k.history k.acknowledged k.floor (state_of trace)
 
--- A message is a manifest whose batch can end where what was reserved does: in front of it all batches end that are noted.
+-- A message is a manifest, with its item in its record, whose batch can end where what was reserved does: in front of it all batches end that are noted.
 pub record BeginsBatch {D C : Type 0} (log : Log D C) (m : Message) : Type 0 where
   pub kind : m.kind ≡ Skip
+  pub inline : IsInline m.pointer
   pub apart : (b : Batch) → Contains (noted_in log) b → b.peg < m.place
 
 -- The ticket of a number is for this message, which may come to the history or begins a batch.

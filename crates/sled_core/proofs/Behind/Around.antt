@@ -113,7 +113,6 @@ next_with sum size device fault place s stays batches own holds new now bytes fr
   behind = behind;
   segment = segment;
   above = holds.above;
-  inline = holds.inline;
 }
 
 module _ (pre : List SegmentParts) (s : SegmentParts) (post : List SegmentParts) where

@@ -15,7 +15,7 @@ use Rattle.sled_core.specs.declared.iobuf.Reserved.{Reserved}
 use Rattle.sled_core.specs.declared.iobuf.Sealed.{Sealed}
 use Rattle.sled_core.specs.declared.iobuf.SegmentPosition.{SegmentPosition}
 use Rattle.sled_core.specs.Begun.{SegmentParts}
-use Rattle.sled_core.specs.Fits.{CloseBelow, HasInline, HasMark, HoldBehind, HoldsIn, HoldsNext, begun_segment, log_parts}
+use Rattle.sled_core.specs.Fits.{CloseBelow, HasMark, HoldBehind, HoldsIn, HoldsNext, begun_segment, log_parts}
 use Rattle.sled_core.specs.LogFile.{IsLogFile, MessageStands, StandsElsewhere, StaysBelow, StaysFrom}
 use Rattle.sled_core.specs.Reached.{BegunSegment, FollowApart}
 use Rattle.sled_core.specs.SealedBuffers.{AreZeros}
@@ -149,7 +149,6 @@ module _ (sum : List ℕ → ℕ) (size : ℕ) (site : SegmentPosition) (device 
       laid = λ whole i above below. zeros whole i (omega (arith, above)) below;
     };
     above = All-nil (λ (m : Message). behind_place size (site.place + size) behind ≤ m.place);
-    inline = All-nil HasInline;
   }
 
   -- The log holds what it held, begun from the same snapshot, where the mark of the new segment lies below what is written.

@@ -1,5 +1,5 @@
 -- A message is completed in a segment behind the first one: it is added between those of the segments before it and those of the segments behind it, and the log holds the history with it.
-use Rattle.std.proofs.Common.{◌≡◌, ◌≤◌, ◌<◌, ◌+◌, ◌∙◌, ℕ, List, ◌∷◌, ◌++◌, length, set, Option, Some, refl, sym, ap, subst, arith, append_assoc, inl, inr, false, ◌/◌}
+use Rattle.std.proofs.Common.{◌≡◌, ◌≤◌, ◌<◌, ◌+◌, ◌∙◌, ℕ, List, ◌∷◌, ◌++◌, length, set, Option, Some, refl, sym, ap, subst, arith, append_assoc, inl, inr, false}
 use Rattle.std.specs.List.{All, Contains, slice_get}
 use Rattle.std.specs.declared.io.Error.{Error as IoError}
 use Rattle.std.proofs.lemmas.List.Elements.{All-contains, Contains-append_cases}
@@ -15,13 +15,13 @@ use Rattle.sled_core.specs.declared.iobuf.Sealed.{Sealed}
 use Rattle.sled_core.specs.declared.iobuf.SegmentPosition.{SegmentPosition}
 use Rattle.sled_core.specs.Buffers.{completing, ended, message_in}
 use Rattle.sled_core.specs.Begun.{SegmentParts}
-use Rattle.sled_core.specs.Fits.{HasInline, HoldBehind, HoldsIn, HoldsNext, HoldsSegment, log_parts}
+use Rattle.sled_core.specs.Fits.{HoldBehind, HoldsIn, HoldsNext, HoldsSegment, log_parts}
 use Rattle.sled_core.specs.LogFile.{StaysBelow, StaysFrom}
 use Rattle.sled_core.specs.SealedBuffers.{one_ended}
 use Rattle.sled_core.proofs.Behind.Around.{HoldAround, apart_with, behind_below, behind_place, held_around, now_with, stays_below, together}
 use Rattle.sled_core.proofs.Behind.Calls.{ended_are, ended_head, ended_long, held_here}
 use Rattle.sled_core.proofs.Behind.FitsMoved.{marks_same}
-use Rattle.sled_core.proofs.Flush.Completed.{all_below, grows, open_inline}
+use Rattle.sled_core.proofs.Flush.Completed.{all_below, grows}
 use Rattle.sled_core.proofs.Holds.Added.{was_or_added}
 use Rattle.sled_core.proofs.Holds.BegunLemmas.{begun-adds, stays_adds}
 use Rattle.sled_core.proofs.Holds.BehindKept.{behind_fewer}
@@ -164,7 +164,6 @@ module _ (sum : List ℕ → ℕ) (size : ℕ) (site : SegmentPosition) (device 
         behind = omega (arith, behind, long);
         segment = done_here.2 (StaysBelow completed_history stable site.place) (λ x under its. stayed x its);
         above = all_still (λ x. begins ≤ x.place) here.above low;
-        inline = all_still HasInline here.inline (s.site.slot + r.from, open_inline sum size (s.site.place / size) s.site s.bytes s.reserved i r there is_open here.segment.stand);
       }
 
   pub behind_completed : HoldBehind sum size device fault (site.place + size) (pre ++ now_with s completed s.written_len (one_ended i s.sealed) (set s.reserved i (ended Completed r)) ∷ post) (StaysBelow completed_history stable site.place) done_here.0.batches

@@ -63,6 +63,8 @@ module _ (sum : List ℕ → ℕ) (size : ℕ) (site : SegmentPosition) (device 
     beyond = λ to far ok none. stands_begun none (padded to device.log.bytes) (λ i low high. padded_get to device.log.bytes i ∙ zeros ok i low high) (fits.beyond to far ok none);
     blobs = fits.blobs;
     stored = fits.stored;
+    entries = fits.entries;
+    below = fits.below;
     names = fits.names;
     own_names = fits.own_names;
     passes = fits.passes;

@@ -17,6 +17,7 @@ use Rattle.sled_core.specs.Begun.{SegmentParts}
 use Rattle.sled_core.specs.Fits.{HoldsIn, HoldsNext, log_parts}
 use Rattle.sled_core.specs.Running.{FitsIn, KeepsItem}
 use Rattle.sled_core.specs.SealedBuffers.{FirstUnwritten, one_ended, seal_at, sealed_count, sealed_end}
+use Rattle.sled_core.specs.Recoverable.{BlobIsBelow}
 use Rattle.sled_core.proofs.Behind.Around.{behind_place, held_around, now_with, stays_below}
 use Rattle.sled_core.proofs.Behind.Calls.{behind-aborted, behind-append, behind-pad, behind-sealed, held_here}
 use Rattle.sled_core.proofs.Behind.Completes.{adds_here, behind-complete, completed_history}
@@ -66,10 +67,10 @@ module _ (sum : List ℕ → ℕ) (size : ℕ) (site : SegmentPosition) (device 
         (behind-aborted sum size site device fault bytes from bs rs (logged H) pre s post its.holds i r there is_open)
 
     -- or its message is completed: the log fits the history with it.
-    pub behind-fits-completed : (m : Message) → in_log m ≡ message_in s.site s.bytes r → KeepsItem sum device.blobs m m.pointer → (none : is_manifest r.log_kind r.page ≡ false) → 256 ≤ size → (short : length bytes ≤ size) → fault ≡ None → FirstUnwritten s.sealed → 0 < pins
+    pub behind-fits-completed : (m : Message) → in_log m ≡ message_in s.site s.bytes r → BlobIsBelow m m.pointer → KeepsItem sum device.blobs m m.pointer → (none : is_manifest r.log_kind r.page ≡ false) → 256 ≤ size → (short : length bytes ≤ size) → fault ≡ None → FirstUnwritten s.sealed → 0 < pins
         → (H' : History) × AddsMessage H m H'
         × FitsIn sum (log_parts size site device fault bytes from bs rs) (pre ++ now_with s (written s.bytes r.from (completing r)) s.written_len (one_ended i s.sealed) (set s.reserved i (ended Completed r)) ∷ post) reach pins H' A f (m ∷ U)
-    behind-fits-completed m its_message stored none big short whole fresh out =
+    behind-fits-completed m its_message below stored none big short whole fresh out =
         let now : SegmentParts = now_with s (written s.bytes r.from (completing r)) s.written_len (one_ended i s.sealed) (set s.reserved i (ended Completed r)) in
         let real : History = completed_history sum size site device fault bytes from bs rs (logged H) pre s post its.holds short i r there is_open none in
         let done = put_real (HoldsIn sum (log_parts size site device fault bytes from bs rs) (pre ++ now ∷ post)) H m real
@@ -79,7 +80,7 @@ module _ (sum : List ℕ → ℕ) (size : ℕ) (site : SegmentPosition) (device 
         let inside = here.inside in (
           done.0,
           done.1,
-          behind-completed sum size site device fault bytes from bs rs pins H A f U pre s post its now refl refl refl done.0 m big short whole done.2 done.1 stored
+          behind-completed sum size site device fault bytes from bs rs pins H A f U pre s post its now refl refl refl done.0 m big short whole done.2 done.1 below stored
               (let far = behind_written sum size s.site device fault s.bytes s.written_len s.sealed s.reserved i r own_history here.segment there in omega (arith, far, place))
               (let near = ends_within sum size s.site device fault s.bytes s.written_len s.sealed s.reserved i r own_history here.segment there is_open in omega (arith, near, inside, place)) fresh out,
         )

@@ -17,8 +17,8 @@ use Rattle.sled_core.specs.LogFile.{padded}
 use Rattle.sled_core.specs.Logged.{logged, in_log}
 use Rattle.sled_core.specs.OpenBatches.{stable_below}
 use Rattle.sled_core.specs.Reached.{BegunSegment, StandsAmong}
-use Rattle.sled_core.specs.Recoverable.{LeavesRecoverable, NoHeaderOfZeros}
-use Rattle.sled_core.specs.Running.{BlobsFit, FitsIn, KeepsItem, KeepsItems, NamesFit}
+use Rattle.sled_core.specs.Recoverable.{LeavesRecoverable, NoHeaderOfZeros, BlobIsBelow, BlobsAreBelow}
+use Rattle.sled_core.specs.Running.{BlobsFit, FitsIn, KeepsEntries, KeepsItem, KeepsItems, NamesFit}
 use Rattle.sled_core.specs.SealedBuffers.{AreZeros, FirstUnwritten}
 use Rattle.sled_core.proofs.Behind.Around.{HoldAround, begun_is, behind_below, behind_place, held_around, stays_below}
 use Rattle.sled_core.proofs.Behind.Calls.{held_here}
@@ -27,11 +27,11 @@ use Rattle.sled_core.proofs.Flush.Completed.{all_below, grows}
 use Rattle.sled_core.proofs.Flush.Padded.{padded_get}
 use Rattle.sled_core.proofs.Flush.Settled.{rests, settled_recoverable}
 use Rattle.sled_core.proofs.Holds.Added.{was_or_added}
-use Rattle.sled_core.proofs.Holds.BegunLemmas.{blobs-adds, names-adds}
+use Rattle.sled_core.proofs.Holds.BegunLemmas.{blobs-adds, entries-adds, names-adds}
 use Rattle.sled_core.proofs.Holds.ReachLemmas.{LiesBehind, completed_behind}
 use Rattle.sled_core.proofs.Holds.StandsAdds.{other_adds}
 use Rattle.sled_core.proofs.Holds.WholeHistory.{behind_above, which_part, whole_ascends}
-use Rattle.sled_core.proofs.Logged.Messages.{adds_logged}
+use Rattle.sled_core.proofs.Logged.Messages.{adds_logged, below_in_log}
 use Rattle.sled_core.proofs.Reached.StableBelow.{stable_low}
 use Rattle.sled_core.proofs.Sealed.Zeros.{begin_zeros}
 
@@ -76,7 +76,8 @@ module _ (sum : List ℕ → ℕ) (size : ℕ) (site : SegmentPosition) (device 
 module _ (sum : List ℕ → ℕ) (size : ℕ) (site : SegmentPosition) (device : State) (fault : Option IoError) (bytes : List ℕ) (from : ℕ) (bs : List Sealed) (rs : List Reserved) (pins : ℕ) (H : History) (A f : ℕ) (U : List Message)
     (pre : List SegmentParts) (s : SegmentParts) (post : List SegmentParts) {reach : ℕ} (fits : FitsIn sum (log_parts size site device fault bytes from bs rs) (pre ++ s ∷ post) reach pins H A f U)
     (s' : SegmentParts) (its_site : s'.site ≡ s.site) (so_far : s'.written_len ≡ s.written_len) (filling : s'.filled ≡ s.filled)
-    (H' : History) (m : Message) (least : 256 ≤ size) (short : length bytes ≤ size) (ok : fault ≡ None) (holds : HoldsIn sum (log_parts size site device fault bytes from bs rs) (pre ++ s' ∷ post) (logged H')) (adds : AddsMessage H m H') (stored : KeepsItem sum device.blobs m m.pointer)
+    (H' : History) (m : Message) (least : 256 ≤ size) (short : length bytes ≤ size) (ok : fault ≡ None) (holds : HoldsIn sum (log_parts size site device fault bytes from bs rs) (pre ++ s' ∷ post) (logged H')) (adds : AddsMessage H m H')
+    (below : BlobIsBelow m m.pointer) (stored : KeepsItem sum device.blobs m m.pointer)
     (above : s.site.place + s.written_len ≤ m.place) (inside : m.place < s.site.place + size) (fresh : FirstUnwritten s.sealed) where
   abbrev first : SnapshotModel
   first = fits.holds.begun.first
@@ -134,7 +135,7 @@ module _ (sum : List ℕ → ℕ) (size : ℕ) (site : SegmentPosition) (device 
   -- A reader finds the same of a file that has these zeros.
   stands_new : NoHeaderOfZeros sum → (log : List ℕ) → (s.written_len ≡ 0 → AreZeros log s.site.slot (s.site.slot + 20)) → StandsAmong sum size log site from others reach (logged H) first → StandsAmong sum size log site from others' reach (logged H') first
   stands_new none log zeros among = subst (λ (l : List BegunSegment). StandsAmong sum size log site from l reach (logged H') first) (sym (begun_same pre s s' post its_site so_far filling))
-      (other_adds sum size log site from reach (logged H) (logged H') first least none (begun_segment s) among_others had.segment.place_begins zeros (in_log m) put above inside room lies.lies among)
+      (other_adds sum size log site from reach (logged H) (logged H') first least none (begun_segment s) among_others had.segment.place_begins zeros (in_log m) put above inside room (lies.lies (below_in_log m below)) among)
 
   alone_new : NoHeaderOfZeros sum → StandsAmong sum size device.log.bytes site from others' reach (logged H') first
   alone_new none = stands_new none device.log.bytes clean (fits.among ok none)
@@ -153,6 +154,10 @@ module _ (sum : List ℕ → ℕ) (size : ℕ) (site : SegmentPosition) (device 
   blobs_new = subst (λ n. BlobsFit sum device.blobs H' n) (sym same_stable)
       (let low = stable_low reach H.batches in let at = reached in blobs-adds H H' m adds sum device.blobs (stable_below reach H.batches) (omega (arith, low, at)) stored fits.blobs)
 
+  entries_new : KeepsEntries sum device.blobs H' (stable_below reach H'.batches)
+  entries_new = subst (KeepsEntries sum device.blobs H') (sym same_stable)
+      (let low = stable_low reach H.batches in let at = reached in entries-adds H H' m adds sum device.blobs (stable_below reach H.batches) (omega (arith, low, at)) fits.entries)
+
   -- what is written still ends there
   ends_new : (x : Message) → Contains (logged H').messages x → x.place < site.place + from → (x.place < reach) × (x.place + x.size ≤ reach)
   ends_new x there below = elim (was_or_added (logged H) (logged H') (in_log m) put x there) [
@@ -165,6 +170,9 @@ module _ (sum : List ℕ → ℕ) (size : ℕ) (site : SegmentPosition) (device 
     | inl was ↦ (let same = same_stable in fits.stored x was (omega (arith, beyond, same)))
     | inr own ↦ subst (λ (y : Message). KeepsItem sum device.blobs y y.pointer) own stored
   ]
+
+  below_new : BlobsAreBelow H'
+  below_new x there = elim (was_or_added H H' m adds x there) [ inl was ↦ fits.below x was | inr own ↦ subst (λ (y : Message). BlobIsBelow y y.pointer) own below ]
 
   left_new : LeavesRecoverable sum size H' (stable_below reach H'.batches) f device
   left_new =
@@ -185,6 +193,8 @@ module _ (sum : List ℕ → ℕ) (size : ℕ) (site : SegmentPosition) (device 
         beyond = λ to far fine none. subst (λ (z : SnapshotModel). StandsAmong sum size (padded to device.log.bytes) site from others' reach (logged H') z) same (beyond_new to far none);
         blobs = blobs_new;
         stored = stored_behind;
+        entries = entries_new;
+        below = below_new;
         names = subst (λ (z : SnapshotModel). NamesFit sum size device.snapshots (logged H') f z) same names_new;
         own_names = fits.own_names;
         passes = let passes = fits.passes in let same = same_stable in omega (arith, passes, same);

@@ -18,7 +18,7 @@ use Rattle.sled_core.specs.Logged.{logged}
 use Rattle.sled_core.specs.OpenBatches.{stable_below}
 use Rattle.sled_core.specs.Reached.{BegunSegment, StandsAmong}
 use Rattle.sled_core.specs.Recoverable.{IsPlacedBatch, LeavesRecoverable, NoHeaderOfZeros}
-use Rattle.sled_core.specs.Running.{BlobsFit, FitsIn, KeepsItems, NamesFit}
+use Rattle.sled_core.specs.Running.{BlobsFit, FitsIn, KeepsEntries, KeepsItems, NamesFit}
 use Rattle.sled_core.specs.SealedBuffers.{AreZeros, FirstUnwritten}
 use Rattle.sled_core.proofs.Behind.Around.{begun_is, behind_place, held_around, stays_below}
 use Rattle.sled_core.proofs.Behind.Calls.{held_here}
@@ -28,7 +28,7 @@ use Rattle.sled_core.proofs.Flush.Completed.{grows}
 use Rattle.sled_core.proofs.Flush.Padded.{padded_get}
 use Rattle.sled_core.proofs.Flush.Settled.{rests, settled_recoverable}
 use Rattle.sled_core.proofs.Holds.AddedBatch.{message_was, no_batch, no_end}
-use Rattle.sled_core.proofs.Holds.BegunMarks.{blobs-marks, names-marks}
+use Rattle.sled_core.proofs.Holds.BegunMarks.{blobs-marks, entries-marks, names-marks}
 use Rattle.sled_core.proofs.Holds.PegLemmas.{IsOff, LiesBesideFilling, behind_beside, beside_padded}
 use Rattle.sled_core.proofs.Holds.StandsBatch.{other-marks}
 use Rattle.sled_core.proofs.Holds.WholeHistory.{whole_ascends}
@@ -105,6 +105,9 @@ module _ (sum : List ℕ → ℕ) (size : ℕ) (site : SegmentPosition) (device 
   stored_behind : KeepsItems sum device.blobs H' (stable_below reach H'.batches)
   stored_behind x there beyond = let same = same_stable in fits.stored x (message_was H H' b adds x there) (omega (arith, beyond, same))
 
+  entries_new : KeepsEntries sum device.blobs H' (stable_below reach H'.batches)
+  entries_new = subst (KeepsEntries sum device.blobs H') (sym same_stable) (entries-marks H H' b adds sum device.blobs (stable_below reach H.batches) fits.entries)
+
   left_new : LeavesRecoverable sum size H' (stable_below reach H'.batches) f device
   left_new =
       let on = fits.holds.own.written ok in
@@ -124,6 +127,8 @@ module _ (sum : List ℕ → ℕ) (size : ℕ) (site : SegmentPosition) (device 
         beyond = λ to far fine none. subst (λ (z : SnapshotModel). StandsAmong sum size (padded to device.log.bytes) site from others' reach (logged H') z) same (beyond_new to far none);
         blobs = blobs_new;
         stored = stored_behind;
+        entries = entries_new;
+        below = λ x there. fits.below x (message_was H H' b adds x there);
         names = subst (λ (z : SnapshotModel). NamesFit sum size device.snapshots (logged H') f z) same names_new;
         own_names = fits.own_names;
         passes = let passes = fits.passes in let same = same_stable in omega (arith, passes, same);

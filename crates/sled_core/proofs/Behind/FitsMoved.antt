@@ -69,6 +69,8 @@ module _ (sum : List ℕ → ℕ) (size : ℕ) (site : SegmentPosition) (device 
             (subst (λ (l : List BegunSegment). StandsAmong sum size (padded to device.log.bytes) site from l reach (logged H) fits.holds.begun.first) lie (fits.beyond to far ok none));
         blobs = fits.blobs;
         stored = fits.stored;
+        entries = fits.entries;
+        below = fits.below;
         names = subst (λ (first : SnapshotModel). NamesFit sum size device.snapshots (logged H) f first) same fits.names;
         own_names = fits.own_names;
         passes = fits.passes;

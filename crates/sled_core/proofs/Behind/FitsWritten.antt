@@ -173,6 +173,8 @@ module _ (sum : List ℕ → ℕ) (size : ℕ) (site : SegmentPosition) (device 
     beyond = λ to far ok none. beyond_new none to far;
     blobs = fits.blobs;
     stored = fits.stored;
+    entries = fits.entries;
+    below = fits.below;
     names = fits.names;
     own_names = λ none. own_same sum device after_sync refl refl (fits.own_names none);
     passes = fits.passes;

@@ -19,7 +19,7 @@ use Rattle.sled_core.specs.Full.{FitsFull, StandsFull}
 use Rattle.sled_core.specs.LogFile.{padded}
 use Rattle.sled_core.specs.Reached.{BeginsNext, IsReadTo, IsSoFar}
 use Rattle.sled_core.specs.Recoverable.{NoBatchBegins, NoBatchEnds, NoHeaderOfZeros}
-use Rattle.sled_core.specs.Running.{BlobsFit, KeepsItems}
+use Rattle.sled_core.specs.Running.{BlobsFit, KeepsEntries, KeepsItems}
 use Rattle.sled_core.specs.Scan.{IsScan}
 use Rattle.sled_core.specs.Tail.{Scanned}
 use Rattle.sled_core.proofs.Behind.FullHolds.{emptied, none_reserved, none_sealed}
@@ -27,7 +27,7 @@ use Rattle.sled_core.proofs.Behind.FullNext.{at_place, follow, full_file, full_h
 use Rattle.sled_core.proofs.Behind.FullRead.{ends_read, inside, no_batch_behind, no_end_behind, none_behind, same_stop}
 use Rattle.sled_core.proofs.Behind.FullZeros.{zeros_or_not}
 use Rattle.sled_core.proofs.Flush.Padded.{padded_none}
-use Rattle.sled_core.proofs.Flush.Settled.{blobs_higher, settled_recoverable}
+use Rattle.sled_core.proofs.Flush.Settled.{blobs_higher, entries_higher, settled_recoverable}
 use Rattle.sled_core.proofs.Holds.WholeHistory.{later_above, of_first, which_part}
 use Rattle.sled_core.proofs.Flush.Completed.{all_below}
 use Rattle.sled_core.proofs.Reached.NextSegment.{next_full, read}
@@ -72,6 +72,9 @@ module _ (sum : List ℕ → ℕ) (size : ℕ) (device : State) (fault : Option 
     stored_now : KeepsItems sum device.blobs H stable
     stored_now m there past = let up = rises in fits.stored m there (omega (arith, up, past))
 
+    entries_now : KeepsEntries sum device.blobs H stable
+    entries_now = entries_higher sum device.blobs H (stable_below reach H.batches) stable ascends rises fits.stored fits.entries
+
     blobs_now : BlobsFit sum device.blobs H stable
     blobs_now = blobs_higher sum device.blobs H (stable_below reach H.batches) stable ascends rises fits.stored fits.blobs
 
@@ -88,6 +91,8 @@ module _ (sum : List ℕ → ℕ) (size : ℕ) (device : State) (fault : Option 
       beyond = λ to none zeros. stands to zeros;
       blobs = blobs_now;
       stored = stored_now;
+      entries = entries_now;
+      below = fits.below;
       names = fits.names;
       own_names = fits.own_names;
       passes = let passes = fits.passes in let up = rises in omega (arith, passes, up);

@@ -16,10 +16,10 @@ use Rattle.sled_core.specs.Logged.{logged}
 use Rattle.sled_core.specs.OpenBatches.{stable_below}
 use Rattle.sled_core.specs.Reached.{FollowApart, StandsAmong}
 use Rattle.sled_core.specs.Recoverable.{NoBatchBegins, NoBatchEnds, NoHeaderOfZeros}
-use Rattle.sled_core.specs.Running.{BlobsFit, FitsIn, KeepsItems}
+use Rattle.sled_core.specs.Running.{BlobsFit, FitsIn, KeepsEntries, KeepsItems}
 use Rattle.sled_core.proofs.Behind.Promoted.{promoted}
 use Rattle.sled_core.proofs.Flush.Padded.{padded_none}
-use Rattle.sled_core.proofs.Flush.Settled.{blobs_higher, rests, settled_recoverable}
+use Rattle.sled_core.proofs.Flush.Settled.{blobs_higher, entries_higher, rests, settled_recoverable}
 use Rattle.sled_core.proofs.Holds.ReachLemmas.{written_before}
 use Rattle.sled_core.proofs.Holds.WholeHistory.{later_above, of_first, which_part, whole_ascends}
 use Rattle.sled_core.proofs.Reached.NextSegment.{next_begins, next_goes, read}
@@ -68,6 +68,9 @@ module _ (sum : List ℕ → ℕ) (size : ℕ) (device : State) (fault : Option 
     stored_now : KeepsItems sum device.blobs H stable
     stored_now m there past = let up = rises in fits.stored m there (omega (arith, up, past))
 
+    entries_now : KeepsEntries sum device.blobs H stable
+    entries_now = entries_higher sum device.blobs H (stable_below reach H.batches) stable ordered rises fits.stored fits.entries
+
     blobs_now : BlobsFit sum device.blobs H stable
     blobs_now = blobs_higher sum device.blobs H (stable_below reach H.batches) stable ordered rises fits.stored fits.blobs
 
@@ -82,6 +85,8 @@ module _ (sum : List ℕ → ℕ) (size : ℕ) (device : State) (fault : Option 
       beyond = λ to far none zeros. stands (padded to device.log.bytes) (fits.beyond to none zeros);
       blobs = blobs_now;
       stored = stored_now;
+      entries = entries_now;
+      below = fits.below;
       names = fits.names;
       own_names = fits.own_names;
       passes = let passes = fits.passes in let up = rises in omega (arith, passes, up);

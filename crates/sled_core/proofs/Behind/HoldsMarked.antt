@@ -172,7 +172,6 @@ module _ (sum : List ℕ → ℕ) (size : ℕ) (site : SegmentPosition) (device 
         segment = segment-fewer sum size s.site device fault new s.written_len (one_ended i s.sealed) (set s.reserved i (ended Manifest r)) (record { messages = parts.own; batches = now.batches }) stays stays' (λ x under its. stayed x its)
             (segment-marked sum size s.site device fault s.bytes s.written_len s.sealed s.reserved parts.own H.batches here.segment i r there is_open manifest here.are peg small off_here);
         above = here.above;
-        inline = here.inline;
       }
 
   others_marked : HoldBehind sum size device fault (site.place + size) (pre ++ marked_now ∷ post) stays' now.batches (parts.before ++ (parts.own ++ parts.after))

@@ -61,7 +61,7 @@ module _ (sum : List ℕ → ℕ) (size : ℕ) (site : SegmentPosition) (device 
       messages = holds.messages ∙ ap (λ (l : List Message). holds.head ++ l) parts.messages;
       own = holds.own;
       others = together sum size device fault (site.place + size) pre (filled_at o s) post (stays_below sum size site device fault bytes from bs rs H pre s post holds) H.batches parts.before parts.own parts.after parts.front
-          (record { next = parts.here.next; inside = parts.here.inside; are = parts.here.are; held = parts.here.held; behind = parts.here.behind; segment = parts.here.segment; above = parts.here.above; inline = parts.here.inline }) parts.rest;
+          (record { next = parts.here.next; inside = parts.here.inside; are = parts.here.are; held = parts.here.held; behind = parts.here.behind; segment = parts.here.segment; above = parts.here.above }) parts.rest;
       apart = subst (FollowApart site) (sym (map-append begun_segment pre (filled_at o s ∷ post)))
           (follow_still site (map begun_segment pre) (begun_segment s) (map begun_segment post) s.written_len o (apart_around pre s post site holds.apart));
       marked = marks_same sum (site.place + from) pre s (filled_at o s) post refl (λ none. (none, refl)) holds.marked;
@@ -80,6 +80,8 @@ module _ (sum : List ℕ → ℕ) (size : ℕ) (site : SegmentPosition) (device 
     beyond = λ to far ok none. stands (padded to device.log.bytes) (fits.beyond to far ok none);
     blobs = fits.blobs;
     stored = fits.stored;
+    entries = fits.entries;
+    below = fits.below;
     names = fits.names;
     own_names = fits.own_names;
     passes = fits.passes;

@@ -132,7 +132,6 @@ behind_stays sum size device fault place (s ∷ ss) stays stays' batches ms othe
     behind = here.behind;
     segment = segment-stays sum size s.site device fault s.bytes s.written_len s.sealed s.reserved (record { messages = own; batches = batches }) stays stays' (others (begun_segment s) (in_first (begun_segment s) (map begun_segment ss)) here.segment.slot_begins) here.segment;
     above = here.above;
-    inline = here.inline;
   },
   behind_stays sum size device fault (place + size) ss stays stays' batches later (λ y among. others y (in_rest (begun_segment s) y (map begun_segment ss) among)) rest,
 )

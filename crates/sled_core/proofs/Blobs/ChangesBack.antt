@@ -105,22 +105,23 @@ module _ (passes : List ℕ → Type 0) (s : NamesState) (p : ℤ) where
     own = λ n bytes other is there firm. subst (λ (b : Bool). IsOwn (after_sync b) n bytes) (sym other) (reads.own n bytes other is there (ap (λ (b : Bool). not b && s.is_unsynced n) (sym other) ∙ firm));
   }
 
+-- What a crash leaves behind a sync of names it could leave before.
+pub leaves_synced : (s : NamesState) (n : ℤ) (left : Option (List ℕ)) → LeavesName (names_synced s) n left → LeavesName s n left
+leaves_synced s n left (inl now) = inl now
+leaves_synced s n left (inr (inl earlier)) = absurd earlier
+leaves_synced s n left (inr (inr half)) = absurd half
+
 -- A sync of all names.
 module _ (passes : List ℕ → Type 0) (no_bytes : passes [] → ⊥) (skip : ℤ → Bool) (s : NamesState) where
   -- It settles what is read and synced, which was the log's own.
   pub names_synced_back : ReadsOwn passes skip s → GoesBack passes skip s (names_synced s)
   names_synced_back reads = record {
-    leaves = λ n left other is. left_by n left is;
+    leaves = λ n left other is. leaves_synced s n left is;
     own = λ n bytes other is own. elim own [
       | inl settled ↦ (let read = by_file n bytes is (s.file n) (s.is_unsynced n) refl refl settled in reads.own n bytes other is read.0 read.1)
       | inr asked ↦ inr (by_asked (s.is_unsynced n) (s.asked n) bytes asked)
     ];
   } where
-    left_by : (n : ℤ) (left : Option (List ℕ)) → LeavesName (names_synced s) n left → LeavesName s n left
-    left_by n left (inl now) = inl now
-    left_by n left (inr (inl earlier)) = absurd earlier
-    left_by n left (inr (inr half)) = absurd half
-
     by_file : (n : ℤ) (bytes : List ℕ) → passes bytes → (file : Option (List ℕ)) (unsynced : Bool) → s.file n ≡ file → s.is_unsynced n ≡ unsynced → settled_file file unsynced [] ≡ Some bytes → (s.file n ≡ Some bytes) × (s.is_unsynced n ≡ false)
     by_file n bytes is None unsynced at state settled = cc
     by_file n bytes is (Some file) false at state settled = (at ∙ settled, state)

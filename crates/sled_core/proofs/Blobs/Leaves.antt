@@ -4,13 +4,15 @@ use Rattle.std.specs.Ordering.{int_eq}
 use Rattle.sled_codec.specs.declared.result.DiskPtr.{DiskPtr}
 use Rattle.sled_codec.specs.declared.result.DiskPtr.TheVariants.{Inline, Blob}
 use Rattle.sled_codec.specs.Kinds.{code_of}
-use Rattle.sled_codec.specs.History.{History}
+use Rattle.std.specs.List.{Contains}
+use Rattle.sled_codec.specs.History.{Message, History}
 use Rattle.sled_codec.specs.Snapshots.{SnapshotModel}
 use Rattle.sled_codec.specs.Spelling.{low_bytes}
 use Rattle.sled_store.specs.Device.{Content, NamesState, State}
+use Rattle.sled_store.proofs.Segments.TableEntries.{from_table}
 use Rattle.sled_core.specs.OwnNames.{IsAnyBlob, IsAnySnapshot, ReadsStayOwn}
 use Rattle.sled_core.specs.Recoverable.{Recoverable, LeavesRecoverable}
-use Rattle.sled_core.specs.Running.{BlobsFit, KeepsItem, KeepsItems, NamesFit}
+use Rattle.sled_core.specs.Running.{BlobsFit, KeepsEntries, KeepsItem, KeepsItems, NamesFit}
 use Rattle.sled_core.proofs.Blobs.ChangesBack.{GoesBack, before, before_same, before_left, before_own}
 use Rattle.sled_core.proofs.Blobs.Unnamed.{IsUnnamed, beside_recoverable, told_apart}
 
@@ -49,12 +51,20 @@ module _ (sum : List ℕ → ℕ) (p : ℤ) (s : State) (blobs snapshots : Names
       beside_recoverable sum p was left H unnamed (λ n other. sym (before_same (IsAnyBlob sum) (int_eq p) s.blobs blobs back left n other)) reach
       (fit was (before_left (IsAnyBlob sum) (int_eq p) s.blobs blobs back left leaves) (before_own (IsAnyBlob sum) (int_eq p) s.blobs blobs back left own))
 
-  -- and those that hold the items of its messages
-  pub stored_beside : IsUnnamed H p → (place : ℕ) → KeepsItems sum s.blobs H place → KeepsItems sum blobs H place
-  stored_beside unnamed place keeps m there above = by m.pointer refl (keeps m there above) where
+  -- the one that holds the item of a message
+  kept_beside : IsUnnamed H p → (m : Message) → Contains H.messages m → KeepsItem sum s.blobs m m.pointer → KeepsItem sum blobs m m.pointer
+  kept_beside unnamed m there keeps = by m.pointer refl keeps where
     by : (pointer : DiskPtr) → m.pointer ≡ pointer → KeepsItem sum s.blobs m pointer → KeepsItem sum blobs m pointer
     by (Inline lid) is its = tt
     by (Blob lid q) is its = λ left may. its left (changes.of_blobs.leaves q left (told_apart p q (unnamed m there lid q is)) may)
+
+  -- so those of the messages from a place on
+  pub stored_beside : IsUnnamed H p → (place : ℕ) → KeepsItems sum s.blobs H place → KeepsItems sum blobs H place
+  stored_beside unnamed place keeps m there above = kept_beside unnamed m there (keeps m there above)
+
+  -- and those of the entries of the table below it
+  pub entries_beside : IsUnnamed H p → (place : ℕ) → KeepsEntries sum s.blobs H place → KeepsEntries sum blobs H place
+  entries_beside unnamed place keeps page m entry = kept_beside unnamed m (from_table H place page m entry).0 (keeps page m entry)
 
   -- the snapshots that it begins from
   pub names_fit_beside : (size f : ℕ) (first : SnapshotModel) → NamesFit sum size s.snapshots H f first → NamesFit sum size snapshots H f first

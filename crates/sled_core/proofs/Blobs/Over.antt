@@ -15,7 +15,7 @@ use Rattle.sled_core.specs.Logged.{logged}
 use Rattle.sled_core.specs.OpenBatches.{stable_below}
 use Rattle.sled_core.specs.Running.{FitsIn, FitsLine, FitsWith}
 use Rattle.sled_core.specs.Slots.{HaveEntries}
-use Rattle.sled_core.proofs.Blobs.Leaves.{ChangesAt, with_names, blobs_fit_beside, names_fit_beside, leaves_beside, stored_beside}
+use Rattle.sled_core.proofs.Blobs.Leaves.{ChangesAt, with_names, blobs_fit_beside, names_fit_beside, leaves_beside, entries_beside, stored_beside}
 use Rattle.sled_core.proofs.Blobs.Unnamed.{IsUnnamed}
 use Rattle.sled_core.proofs.Flush.FlushLemmas.{holds_over}
 
@@ -56,7 +56,6 @@ module _ (sum : List ℕ → ℕ) (size : ℕ) (device : State) (blobs snapshots
       behind = here.behind;
       segment = segment_over s.site s.bytes s.written_len s.sealed s.reserved stays (record { messages = own; batches = batches }) here.segment;
       above = here.above;
-      inline = here.inline;
     },
     behind_over (place + size) ss stays batches later rest,
   )
@@ -92,6 +91,8 @@ module _ (sum : List ℕ → ℕ) (size : ℕ) (device : State) (blobs snapshots
       beyond = fits.beyond;
       blobs = blobs_fit_beside sum p device blobs snapshots changes H unnamed (stable_below reach H.batches) fits.blobs;
       stored = stored_beside sum p device blobs snapshots changes H unnamed (stable_below reach H.batches) fits.stored;
+      entries = entries_beside sum p device blobs snapshots changes H unnamed (stable_below reach H.batches) fits.entries;
+      below = fits.below;
       names = names_fit_beside sum p device blobs snapshots changes (logged H) size f fits.holds.begun.first fits.names;
       own_names = λ none. changes.stay_own (fits.own_names none);
       passes = fits.passes;

@@ -1,11 +1,10 @@
 -- Where the messages lie of a segment that holds a history: what was written one behind another, below what was completed since, which is in the buffer.
 use Rattle.sled_core.proofs.Reserve.Batches.{batches-append, batches_between}
-use Rattle.std.proofs.Common.{◌≡◌, ◌⊎◌, ◌≤◌, ◌<◌, ◌+◌, ◌/◌, ℕ, max, List, [], ◌∷◌, ◌++◌, length, Option, Some, sym, subst, arith, inl, inr, ◌∙◌, take, drop, ap, ℤ}
-use Rattle.std.specs.List.{All, Contains, slice_get}
+use Rattle.std.proofs.Common.{◌≡◌, ◌⊎◌, ◌≤◌, ◌<◌, ◌+◌, ◌/◌, ℕ, max, List, [], ◌∷◌, ◌++◌, length, Option, sym, subst, arith, inl, inr, ◌∙◌, take, drop, ap}
+use Rattle.std.specs.List.{All, Contains}
 use Rattle.std.specs.declared.io.Error.{Error as IoError}
 use Rattle.std.proofs.lemmas.List.{take-append-drop}
 use Rattle.std.proofs.lemmas.List.Elements.{All-append, All-contains, All-tail, Contains-append_cases, Contains-append_right, Contains-append_left}
-use Rattle.sled_codec.specs.declared.result.DiskPtr.TheVariants.{Inline}
 use Rattle.sled_codec.specs.History.{Message, Batch, History}
 use Rattle.sled_codec.specs.WellFormed.{LieApart}
 use Rattle.sled_store.specs.Device.{State}
@@ -14,15 +13,11 @@ use Rattle.sled_core.specs.declared.iobuf.ReservationState.TheVariants.{Open, Co
 use Rattle.sled_core.specs.declared.iobuf.Reserved.{Reserved}
 use Rattle.sled_core.specs.declared.iobuf.Sealed.{Sealed}
 use Rattle.sled_core.specs.declared.iobuf.SegmentPosition.{SegmentPosition}
-use Rattle.sled_core.specs.Buffers.{IsChain, Stands, pointer_as, batches_in, completed_in, message_in, with_own}
-use Rattle.sled_core.specs.Fits.{log_parts, HoldsSegment, EndBelow, HasInline}
+use Rattle.sled_core.specs.Buffers.{IsChain, batches_in, completed_in, message_in, with_own}
+use Rattle.sled_core.specs.Fits.{log_parts, HoldsSegment, EndBelow}
 use Rattle.sled_core.proofs.Reached.BufferPath.{HasOnly}
-use Rattle.sled_core.proofs.Reserve.Ranges.{all_own, at_there, chain_grows, completed_between, completed-append}
-use Rattle.sled_core.proofs.Reserve.Entries.{completed_plain, open_plain, reserved_in, some_long}
-
--- each message of a history from a place on has its item in its record
-abbrev pub InlineFrom : History → ℕ → Type 0
-InlineFrom H place = (m : Message) → Contains H.messages m → place ≤ m.place → HasInline m
+use Rattle.sled_core.proofs.Reserve.Ranges.{chain_grows, completed_between, completed-append}
+use Rattle.sled_core.proofs.Reserve.Entries.{some_long}
 
 -- messages that lie apart, and below others that do
 pub apart_both : (place : ℕ) (xs ys : List Message) → LieApart xs → LieApart ys → All (λ m. m.place + m.size ≤ place) xs → All (λ m. place ≤ m.place) ys → LieApart (xs ++ ys)
@@ -43,20 +38,6 @@ completed_apart site bytes from end (r ∷ rs) is some =
     let over : All (λ n. site.place + r.from + r.len ≤ n.place) (completed_in site bytes rs) = λ k d lt. let b = later k d lt in omega (arith, b.0, here) in
     elim r.state as (λ s. LieApart (with_own s (message_in site bytes r) (completed_in site bytes rs)))
     [ Open ↦ rest | Completed ↦ (long, over, rest) | Canceled ↦ rest | Manifest ↦ rest | Padding ↦ rest ]
-
--- and has its items in its records
-completed_inline : (sum : List ℕ → ℕ) (size number : ℕ) (site : SegmentPosition) (bytes : List ℕ) (rs : List Reserved) → All (Stands sum size number bytes) rs → All HasInline (completed_in site bytes rs)
-completed_inline sum size number site bytes [] stand = λ k d lt. absurd (omega arith)
-completed_inline sum size number site bytes (r ∷ rs) stand =
-    let rest : All HasInline (completed_in site bytes rs) = completed_inline sum size number site bytes rs (All-tail (Stands sum size number bytes) r rs stand) in
-    all_own HasInline r.state (message_in site bytes r) (completed_in site bytes rs)
-    (λ own. let stands = reserved_in sum size number bytes r (completed_plain r.state own) (stand 0 r (omega arith)) in (site.slot + r.from, ap (λ (o : Option ℤ). pointer_as o (site.slot + r.from)) stands.text.plain)) rest
-
--- so has the message of an open reservation
-pub open_inline : (sum : List ℕ → ℕ) (size number : ℕ) (site : SegmentPosition) (bytes : List ℕ) (rs : List Reserved) (i : ℕ) (r : Reserved) → slice_get rs i ≡ Some r → r.state ≡ Open → All (Stands sum size number bytes) rs
-    → (message_in site bytes r).pointer ≡ Inline (site.slot + r.from)
-open_inline sum size number site bytes rs i r there is_open stand =
-    ap (λ (o : Option ℤ). pointer_as o (site.slot + r.from)) (reserved_in sum size number bytes r (open_plain r.state is_open) (at_there (Stands sum size number bytes) rs i r there stand)).text.plain
 
 module _ (sum : List ℕ → ℕ) (size : ℕ) (site : SegmentPosition) (device : State) (fault : Option IoError) (bytes : List ℕ) (from : ℕ) (bs : List Sealed) (rs : List Reserved) (H : History) {stays : Message → Type 0} (holds : HoldsSegment sum (log_parts size site device fault bytes from bs rs) stays H) where
   abbrev pub done : List Message
@@ -95,13 +76,6 @@ module _ (sum : List ℕ → ℕ) (size : ℕ) (site : SegmentPosition) (device 
 
   pub all_ascend : Ascends H.messages
   all_ascend = apart_ascends H.messages all_apart
-
-  -- Those that aren't written have their items in their records.
-  pub inline_from : InlineFrom H (site.place + from)
-  inline_from m there above = elim (which m there) [
-    | inl early ↦ (let b = below_in m early in absurd (omega (arith, b.0, above)))
-    | inr late ↦ All-contains HasInline done m (completed_inline sum size (site.place / size) site bytes rs holds.stand) late
-  ]
 
   -- Of the history they, and the batches of the manifests that have ended, are all that begins in the buffer.
   pub has_only : length bytes ≤ size → HasOnly H done (batches_in site bytes rs) (site.place + max 20 from) (site.place + length bytes)

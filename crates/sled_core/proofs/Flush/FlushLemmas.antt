@@ -108,7 +108,6 @@ behind_faulty sum size device fault place (s ∷ ss) stays batches ms (own, late
     behind = here.behind;
     segment = segment-faulty sum size s.site device fault s.bytes s.written_len s.sealed s.reserved (record { messages = own; batches = batches }) here.segment new e now is;
     above = here.above;
-    inline = here.inline;
   },
   behind_faulty sum size device fault (place + size) ss stays batches later rest new e now is,
 )

@@ -11,7 +11,7 @@ use Rattle.sled_core.specs.Fits.{log_parts}
 use Rattle.sled_core.specs.Logged.{logged}
 use Rattle.sled_core.specs.OpenBatches.{stable_below}
 use Rattle.sled_core.specs.Recoverable.{LeavesRecoverable}
-use Rattle.sled_core.specs.Running.{BlobsFit, FitsIn, KeepsItems, NamesFit}
+use Rattle.sled_core.specs.Running.{BlobsFit, FitsIn, KeepsEntries, KeepsItems, NamesFit}
 use Rattle.sled_core.proofs.Flush.FlushLemmas.{fault_or_none, holds-faulty}
 
 module _ (sum : List ℕ → ℕ) (size : ℕ) (site : SegmentPosition) (device : State) (fault : Option IoError) (bytes : List ℕ) (from : ℕ) (bs : List Sealed) (rs : List Reserved) (pins : ℕ) (H : History) (A f : ℕ) (U : List Message)
@@ -30,6 +30,8 @@ module _ (sum : List ℕ → ℕ) (size : ℕ) (site : SegmentPosition) (device 
     beyond = λ to far none. cc;
     blobs = subst (λ (s : NamesState). BlobsFit sum s H (stable_below reach H.batches)) (sym blobs) fits.blobs;
     stored = subst (λ (s : NamesState). KeepsItems sum s H (stable_below reach H.batches)) (sym blobs) fits.stored;
+    entries = subst (λ (s : NamesState). KeepsEntries sum s H (stable_below reach H.batches)) (sym blobs) fits.entries;
+    below = fits.below;
     names = subst (λ (s : NamesState). NamesFit sum size s (logged H) f fits.holds.begun.first) (sym snapshots) fits.names;
     own_names = λ none. cc;
     passes = fits.passes;

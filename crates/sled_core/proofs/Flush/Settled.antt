@@ -13,7 +13,7 @@ use Rattle.sled_store.proofs.LogFile.LogLemmas.{at_rest_left}
 use Rattle.sled_store.proofs.Segments.TableEntries.{from_table}
 use Rattle.sled_core.specs.Logged.{logged}
 use Rattle.sled_core.specs.Recoverable.{AreRecoverableSnapshots, AreRecoverableBlobs, HasItem, NoHeaderOfZeros, Recoverable, LeavesRecoverable}
-use Rattle.sled_core.specs.Running.{NamesFit, BlobsFit, KeepsItem, KeepsItems}
+use Rattle.sled_core.specs.Running.{NamesFit, BlobsFit, KeepsEntries, KeepsItem, KeepsItems}
 use Rattle.sled_core.proofs.Logged.Messages.{logged_ascends, logged_twice}
 use Rattle.sled_core.proofs.Logged.Names.{snapshots_alike}
 use Rattle.sled_core.proofs.Logged.Stands.{stands_alike}
@@ -44,6 +44,13 @@ blobs_above sum blobs H low high ordered more items are = record {
 -- whatever blobs a crash leaves
 pub blobs_higher : (sum : List ℕ → ℕ) (blobs : NamesState) (H : History) (low high : ℕ) → Ascends (logged H).messages → low ≤ high → KeepsItems sum blobs H low → BlobsFit sum blobs H low → BlobsFit sum blobs H high
 blobs_higher sum blobs H low high ordered more stored fit = λ left leaves only_own. blobs_above sum left H low high (logged_ascends H ordered) more (left_items sum blobs left H low leaves stored) (fit left leaves only_own)
+
+-- So no crash takes the item of an entry of the table of a higher place.
+pub entries_higher : (sum : List ℕ → ℕ) (blobs : NamesState) (H : History) (low high : ℕ) → Ascends (logged H).messages → low ≤ high → KeepsItems sum blobs H low → KeepsEntries sum blobs H low → KeepsEntries sum blobs H high
+entries_higher sum blobs H low high ordered more stored keeps page m entry = elim (cases_lt m.place low) [
+  | inl lower ↦ keeps page m (entry_earlier H (logged_ascends H ordered) low high page more m lower entry)
+  | inr above ↦ stored m (from_table H high page m entry).0 above
+]
 
 -- A content whose log file stands up to a place can be recovered, where its snapshots can and its blobs can for the stable place. File and snapshots have the history as the log has it, which is turned here to the history itself.
 pub stands_recoverable : (sum : List ℕ → ℕ) (size : ℕ) → 256 ≤ size → (content : Content) (H : History) (A f : ℕ) (first : SnapshotModel) (reach : ℕ) → Ascends (logged H).messages → HaveItems sum content.blobs H A

@@ -20,10 +20,10 @@ use Rattle.sled_core.specs.Full.{FitsFull, StandsFull}
 use Rattle.sled_core.specs.LogFile.{padded}
 use Rattle.sled_core.specs.Reached.{StandsAmong}
 use Rattle.sled_core.specs.Recoverable.{LeavesRecoverable, NoBatchBegins, NoBatchEnds, NoHeaderOfZeros}
-use Rattle.sled_core.specs.Running.{BlobsFit, FitsIn, KeepsItems, NamesFit}
+use Rattle.sled_core.specs.Running.{BlobsFit, FitsIn, KeepsEntries, KeepsItems, NamesFit}
 use Rattle.sled_core.proofs.Blobs.StaysOwn.{own_same}
 use Rattle.sled_core.proofs.Flush.Padded.{padded_none}
-use Rattle.sled_core.proofs.Flush.Settled.{rests}
+use Rattle.sled_core.proofs.Flush.Settled.{entries_higher, rests}
 use Rattle.sled_core.proofs.Holds.WholeHistory.{whole_ascends}
 use Rattle.sled_core.proofs.Reached.StandsTo.{StandsTo}
 use Rattle.sled_core.proofs.Sealed.WriteMoments as moments
@@ -78,6 +78,9 @@ module _ (sum : List ℕ → ℕ) (size : ℕ) (site : SegmentPosition) (device 
   stored_now : KeepsItems sum device.blobs H (stable_below reach' H.batches)
   stored_now = moments.stored_up sum size big device rest_now H f fits.holds.begun.first reach reach' up ordered fits.stored fits.names fits.blobs fits.left at asked torn_now stands_now
 
+  entries_now : KeepsEntries sum device.blobs H (stable_below reach' H.batches)
+  entries_now = entries_higher sum device.blobs H (stable_below reach H.batches) (stable_below reach' H.batches) ordered (stable_rises reach reach' up H.batches) fits.stored fits.entries
+
   left_now : LeavesRecoverable sum size H (stable_below reach' H.batches) f after_sync
   left_now = moments.synced_leaves sum size big device rest_now H f fits.holds.begun.first reach reach' up ordered fits.stored fits.names fits.blobs fits.left at asked torn_now stands_now
 
@@ -95,6 +98,8 @@ module _ (sum : List ℕ → ℕ) (size : ℕ) (site : SegmentPosition) (device 
     beyond = λ end far none zeros. subst (λ (s : SnapshotModel). StandsAmong sum size (padded end (overwritten device.log.bytes at asked)) site to (map begun_segment behind) reach' (logged H) s) (sym same) (among (padded end (overwritten device.log.bytes at asked)) (padded_now zeros end));
     blobs = blobs_now;
     stored = stored_now;
+    entries = entries_now;
+    below = fits.below;
     names = subst (λ (s : SnapshotModel). NamesFit sum size device.snapshots (logged H) f s) (sym same) fits.names;
     own_names = λ none. own_same sum device after_sync refl refl (fits.own_names none);
     passes = let old = fits.passes in let rises = stable_rises reach reach' up H.batches in omega (arith, old, rises);
@@ -118,6 +123,8 @@ module _ (sum : List ℕ → ℕ) (size : ℕ) (site : SegmentPosition) (device 
     beyond = λ end none zeros. subst (λ (s : SnapshotModel). StandsFull sum size (padded end (overwritten device.log.bytes at asked)) (site.place + size) (map begun_segment behind) reach' (logged H) s) (sym same) (full (padded end (overwritten device.log.bytes at asked)) (padded_now zeros end));
     blobs = blobs_now;
     stored = stored_now;
+    entries = entries_now;
+    below = fits.below;
     names = subst (λ (s : SnapshotModel). NamesFit sum size device.snapshots (logged H) f s) (sym same) fits.names;
     own_names = λ none. own_same sum device after_sync refl refl (fits.own_names none);
     passes = let old = fits.passes in let rises = stable_rises reach reach' up H.batches in omega (arith, old, rises);

@@ -16,7 +16,7 @@ use Rattle.sled_core.specs.declared.iobuf.SegmentPosition.{SegmentPosition}
 use Rattle.sled_core.specs.Recoverable.{AreRecoverableSnapshots, AreRecoverableBlobs, IsTableFile, PassesIfThere}
 use Rattle.sled_core.specs.Fits.{IsBegunFrom}
 use Rattle.sled_core.specs.LogFile.{StaysFrom}
-use Rattle.sled_core.specs.Running.{KeepsItem, NamesFit, BlobsFit}
+use Rattle.sled_core.specs.Running.{KeepsEntries, KeepsItem, NamesFit, BlobsFit}
 use Rattle.sled_core.proofs.Holds.Added.{was_or_added}
 
 -- All snapshots that are listed.
@@ -112,3 +112,7 @@ module _ (H H' : History) (m : Message) (adds : AddsMessage H m H') where
           | inr own ↦ subst (λ (y : Message). PassesIfThere sum left y y.pointer) own (passes_kept sum blobs m left leaves m.pointer stored)
         ];
       }
+
+  -- No crash takes the item of an entry of the table below that.
+  pub entries-adds : (sum : List ℕ → ℕ) (blobs : NamesState) (reach : ℕ) → reach ≤ m.place → KeepsEntries sum blobs H reach → KeepsEntries sum blobs H' reach
+  entries-adds sum blobs reach past keeps page x entry = keeps page x (entry_stays reach page past x entry)

@@ -9,7 +9,7 @@ use Rattle.sled_core.specs.declared.iobuf.SegmentPosition.{SegmentPosition}
 use Rattle.sled_core.specs.Fits.{IsBegunFrom}
 use Rattle.sled_core.specs.LogFile.{StaysBelow, StaysFrom}
 use Rattle.sled_core.specs.Recoverable.{AreRecoverableBlobs, AreRecoverableSnapshots, IsTableFile}
-use Rattle.sled_core.specs.Running.{BlobsFit, NamesFit}
+use Rattle.sled_core.specs.Running.{BlobsFit, KeepsEntries, NamesFit}
 use Rattle.sled_core.proofs.Holds.AddedBatch.{entry_was, message_stays, message_was, same_table, was_or_batch}
 use Rattle.sled_core.proofs.Holds.BegunLemmas.{not_above_newest}
 
@@ -92,3 +92,7 @@ module _ (H H' : History) (b : Batch) (adds : AddsBatch H b H') where
   blobs-marks sum blobs reach fits = λ left leaves only_own.
       let are : AreRecoverableBlobs sum left H reach = fits left leaves only_own in
       record { needed = λ page x entry. are.needed page x (entry_was H H' b adds reach page x entry); named = λ x there. are.named x (message_was H H' b adds x there) }
+
+  -- No crash takes the item of an entry, which is the same.
+  pub entries-marks : (sum : List ℕ → ℕ) (blobs : NamesState) (reach : ℕ) → KeepsEntries sum blobs H reach → KeepsEntries sum blobs H' reach
+  entries-marks sum blobs reach keeps page x entry = keeps page x (entry_was H H' b adds reach page x entry)

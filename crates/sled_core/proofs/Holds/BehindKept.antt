@@ -43,7 +43,6 @@ behind_fewer sum size device fault place (s ∷ ss) stays stays' batches ms fewe
     behind = here.behind;
     segment = segment-fewer sum size s.site device fault s.bytes s.written_len s.sealed s.reserved (record { messages = own; batches = batches }) stays stays' (λ x low its. fewer x its) here.segment;
     above = here.above;
-    inline = here.inline;
   },
   behind_fewer sum size device fault (place + size) ss stays stays' batches later fewer rest,
 )
@@ -150,7 +149,6 @@ behind_beside sum size some site slot_begins device fault whole at xs long low h
         ] in
         segment_beside sum size s.site device fault s.bytes s.written_len s.sealed s.reserved (record { messages = own; batches = batches }) here.segment here.are (omega (arith, inside, begun)) (omega (arith, inside, held)) whole at xs long beside new is (others s.site));
     above = here.above;
-    inline = here.inline;
   },
   behind_beside sum size some site slot_begins device fault whole at xs long low high new is stays others (place + size) ss batches later (λ y among. other y (in_rest (begun_segment s) y (map begun_segment ss) among)) rest,
 )

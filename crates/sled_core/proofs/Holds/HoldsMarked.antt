@@ -56,7 +56,6 @@ next-with sum size device fault place s stays batches own b apart off small mark
   segment = segment-with sum size s.site device fault s.bytes s.written_len s.sealed s.reserved own batches b apart off here.segment
       (λ none. let m = here.segment.header none in marked s (in_first s []) none m.mark (buffer_header sum s.site s.bytes (record { messages = own; batches = batches }) m small));
   above = here.above;
-  inline = here.inline;
 }
 
 -- So do segments one behind another.

@@ -1,17 +1,18 @@
 -- A call keeps what a log held and fitted where it leaves its device and what is written alone, and where it is two such calls in a row.
-use Rattle.std.proofs.Common.{◌≡◌, ◌∙◌, ◌≤◌, ℕ, List, [], refl, ap, subst, arith}
+use Rattle.std.proofs.Common.{◌≡◌, ◌∙◌, ◌≤◌, ℕ, List, [], None, refl, ap, subst, arith}
 use Rattle.sled_codec.specs.History.{Message, History}
 use Rattle.sled_store.specs.declared.config.Config.{Config}
-use Rattle.sled_store.specs.Device.{Trace}
+use Rattle.sled_store.specs.Device.{Trace, state_of}
 use Rattle.sled_store.specs.Moments.{LeavesOnly}
 use Rattle.sled_store.proofs.PublicLaws.{later_both}
 use Rattle.sled_store.proofs.Traces.MomentLemmas.{started, stays, joined}
 use Rattle.sled_core.specs.declared.logger.Log.{Log}
-use Rattle.sled_core.specs.Fits.{KeepsTickets, config_of, device_of, segment_size_of, synced_end}
+use Rattle.sled_core.specs.Fits.{KeepsTickets, config_of, device_of, fault_of, segment_size_of, synced_end}
 use Rattle.sled_core.specs.Keeps.{ConfigKept, GoesOn, Preserves, SamePosition}
 use Rattle.sled_core.specs.Recoverable.{RecoverableIfOwn}
 use Rattle.sled_core.specs.Running.{Fits}
 use Rattle.sled_core.proofs.Holds.RunningLemmas.{fits_leaves}
+use Rattle.sled_core.proofs.Holds.StoredItems.{items_same}
 use Rattle.sled_core.proofs.Line.LineEnds.{noted_further, noted_still}
 
 module _ {D C : Type 0} (trace : D → Trace) (sum : List ℕ → ℕ) where
@@ -20,11 +21,18 @@ module _ {D C : Type 0} (trace : D → Trace) (sum : List ℕ → ℕ) where
       → LeavesOnly (RecoverableIfOwn sum (segment_size_of old) H A f) (trace (device_of old)) (trace (device_of new))
   no_moments old new same H A f U fits = stays _ _ _ _ (started _ _ (fits_leaves trace sum old H A f U fits)) same
 
-  pub goes_on_quietly : (old new : Log D C) → ConfigKept (config_of old) (config_of new) → trace (device_of new) ≡ trace (device_of old) → synced_end old ≤ synced_end new → GoesOn trace sum old new
-  goes_on_quietly old new config same stable = record { config = config; later = ([], same); stable = stable; crash = no_moments old new same }
+  pub goes_on_quietly : (old new : Log D C) → ConfigKept (config_of old) (config_of new) → trace (device_of new) ≡ trace (device_of old) → synced_end old ≤ synced_end new → (fault_of new ≡ None → fault_of old ≡ None) → GoesOn trace sum old new
+  goes_on_quietly old new config same stable sound = record {
+    config = config;
+    later = ([], same);
+    stable = stable;
+    crash = no_moments old new same;
+    sound = sound;
+    items = λ none. items_same trace sum old new (ap (λ (t : Trace). (state_of t).blobs) same);
+  }
 
   pub goes_on_still : (log : Log D C) → GoesOn trace sum log log
-  goes_on_still log = goes_on_quietly log log (record { config = refl; checksum = refl }) refl (omega arith)
+  goes_on_still log = goes_on_quietly log log (record { config = refl; checksum = refl }) refl (omega arith) (λ none. none)
 
   -- nothing was done
   pub kept_still : (log : Log D C) → Preserves trace sum log log
@@ -38,6 +46,8 @@ module _ {D C : Type 0} (trace : D → Trace) (sum : List ℕ → ℕ) where
     crash = λ H A f U fits. joined _ _ _ _ (first.goes_on.crash H A f U fits)
         (subst (λ n. LeavesOnly (RecoverableIfOwn sum n H A f) (trace (device_of mid)) (trace (device_of new))) (ap (λ (x : Config). x.segment_size) first.goes_on.config.config)
         (then.crash H A f U (first.fits H A f U fits)));
+    sound = λ none. first.goes_on.sound (then.sound none);
+    items = λ none m stored. then.items none m (first.goes_on.items (then.sound none) m stored);
   }
 
   -- one call, and then another

@@ -1,5 +1,5 @@
--- Where the messages of a log lie that fits its history: one behind another, below the next place; those behind the written end in the current segment, with inline pointers.
-use Rattle.std.proofs.Common.{◌^◌, ◌≡◌, ◌∙◌, ◌≤◌, ◌<◌, ◌+◌, ◌-◌, ◌/◌, ◌%◌, ℕ, max, Bool, true, false, if◌then◌else◌, List, [], ◌∷◌, ◌++◌, length, map, Option, sym, ap, subst, arith, pos, inl, inr, None, ℤ}
+-- Where the messages of a log lie that fits its history: one behind another, below the next place; those behind the written end in the current segment.
+use Rattle.std.proofs.Common.{◌^◌, ◌≡◌, ◌∙◌, ◌≤◌, ◌<◌, ◌+◌, ◌-◌, ◌/◌, ◌%◌, ℕ, max, Bool, true, false, if◌then◌else◌, List, [], ◌∷◌, ◌++◌, length, map, Option, sym, ap, subst, arith, pos, inl, inr, None, Some, refl, ℤ}
 use Rattle.std.specs.List.{All, Contains}
 use Rattle.std.specs.declared.io.Error.{Error as IoError}
 use Rattle.std.proofs.lemmas.List.{append-nil}
@@ -8,6 +8,7 @@ use Rattle.sled_codec.specs.declared.result.DiskPtr.{DiskPtr}
 use Rattle.sled_codec.specs.declared.result.DiskPtr.TheVariants.{Inline, Blob}
 use Rattle.sled_codec.specs.History.{Message, Batch, History}
 use Rattle.sled_codec.specs.Places.{MayBegin}
+use Rattle.sled_codec.specs.Pointers.{lid_of}
 use Rattle.sled_codec.specs.WellFormed.{LieApart}
 use Rattle.sled_codec.specs.Snapshots.{stable_place}
 use Rattle.sled_store.specs.Accounts.{machine_of}
@@ -18,7 +19,7 @@ use Rattle.sled_core.specs.declared.iobuf.Sealed.{Sealed}
 use Rattle.sled_core.specs.declared.iobuf.SegmentPosition.{SegmentPosition}
 use Rattle.sled_core.specs.declared.logger.Log.{Log}
 use Rattle.sled_core.specs.declared.reservation.Reservation.{Reservation}
-use Rattle.sled_core.specs.Logged.{in_log, logged}
+use Rattle.sled_core.specs.Logged.{logged}
 use Rattle.sled_core.specs.Tickets.{index_of, len_of, place_of, pointer_of, is_manifest_of}
 use Rattle.sled_core.specs.Manifests.{is_manifest}
 use Rattle.sled_core.specs.Begun.{AreFilled, SegmentView, segment_view, view_at}
@@ -31,34 +32,35 @@ use Rattle.sled_core.specs.Running.{Fits, IsStored, KeepsItem}
 use Rattle.sled_core.specs.Reading.{IsInline}
 use Rattle.sled_core.specs.Recoverable.{LiesInSegment, BlobIsBelow}
 use Rattle.sled_core.proofs.Holds.FitsBatches.{stable_noted}
-use Rattle.sled_core.proofs.Logged.Messages.{all_in_log, logged_apart, logged_there}
+use Rattle.sled_core.proofs.Logged.Messages.{all_in_log, logged_apart}
 use Rattle.sled_core.proofs.Reached.StableBelow.{stable_low, stable_rises}
 use Rattle.sled_core.proofs.Reserve.Ranges.{all_own, at_there, completed_between, chain_grows}
 use Rattle.sled_core.proofs.Reserve.Entries.{completed_plain, reserved_in, some_long}
 use Rattle.sled_core.proofs.Flush.Completed.{all_below, which}
-use Rattle.sled_core.proofs.Holds.WholeHistory.{whole_apart, whole_inline}
+use Rattle.sled_core.proofs.Holds.WholeHistory.{whole_apart}
 use Rattle.sled_core.proofs.Line.Facts.{current_facts, nth_facts}
 use Rattle.sled_core.proofs.Read.ScanLemmas.{aligned_offset}
 
--- A message lies behind a place in a segment, where a record may begin and in the segment's slot, and its pointer says so.
+-- A message lies behind a place in a segment, and its record where one may begin; where its blob was made no later, it lies as a log places messages.
 pub record LiesBehind (size : ℕ) (site : SegmentPosition) (m : Message) : Type 0 where
-  pub lid : ℕ
-  pub pointer : m.pointer ≡ Inline lid
-  pub begins : MayBegin size lid
+  pub begins : MayBegin size (lid_of m.pointer)
   pub room : m.place + 32 ≤ site.place + size
-  pub lies : LiesInSegment size m
+  pub lies : BlobIsBelow m m.pointer → LiesInSegment size m
+
+-- in a blob or not, the record lies at its offset
+pub lid_as : (o : Option ℤ) (lid : ℕ) → lid_of (pointer_as o lid) ≡ lid
+lid_as None lid = refl
+lid_as (Some place) lid = refl
 
 module _ (size : ℕ) (site : SegmentPosition) (place_begins : site.place % size ≡ 0) (slot_begins : site.slot % size ≡ 0) where
-  lies_behind : (bytes : List ℕ) (r : Reserved) → 20 ≤ r.from → r.from + 32 ≤ size → r.from + r.len ≤ size → r.blob ≡ None → LiesBehind size site (message_in site bytes r)
-  lies_behind bytes r behind room whole plain =
+  lies_behind : (bytes : List ℕ) (r : Reserved) → 20 ≤ r.from → r.from + 32 ≤ size → r.from + r.len ≤ size → LiesBehind size site (message_in site bytes r)
+  lies_behind bytes r behind room whole =
       let offset : (site.slot + r.from) % size ≡ r.from = aligned_offset site.slot r.from size slot_begins (omega (arith, room)) in
       let place : (site.place + r.from) % size ≡ r.from = aligned_offset site.place r.from size place_begins (omega (arith, room)) in
       record {
-        lid = site.slot + r.from;
-        pointer = ap (λ (o : Option ℤ). pointer_as o (site.slot + r.from)) plain;
-        begins = record { behind_header = omega (arith, offset, behind); before_end = omega (arith, offset, room) };
+        begins = subst (MayBegin size) (sym (lid_as r.blob (site.slot + r.from))) (record { behind_header = omega (arith, offset, behind); before_end = omega (arith, offset, room) });
         room = omega (arith, room);
-        lies = record { begins = record { behind = omega (arith, place, behind); room = omega (arith, place, room) }; ends = omega (arith, place, whole); blob = subst (λ (o : Option ℤ). BlobIsBelow (message_in site bytes r) (pointer_as o (site.slot + r.from))) (sym plain) tt };
+        lies = λ below. record { begins = record { behind = omega (arith, place, behind); room = omega (arith, place, room) }; ends = omega (arith, place, whole); blob = below };
       }
 
   -- the messages of reservations that were completed
@@ -68,7 +70,7 @@ module _ (size : ℕ) (site : SegmentPosition) (place_begins : site.place % size
       let here : r.from ≡ from = chain.0 in
       let grows : from + r.len ≤ end = chain_grows (from + r.len) end rs chain.1 in
       let rest : All (LiesBehind size site) (completed_in site bytes rs) = completed_lie sum number bytes (from + r.len) end rs (omega (arith, behind)) inside chain.1 (All-tail (Stands sum size number bytes) r rs stand) in
-      all_own (LiesBehind size site) r.state (message_in site bytes r) (completed_in site bytes rs) (λ own. let stands = reserved_in sum size number bytes r (completed_plain r.state own) (stand 0 r (omega arith)) in lies_behind bytes r (omega (arith, here, behind)) stands.room (omega (arith, here, grows, inside)) stands.text.plain) rest
+      all_own (LiesBehind size site) r.state (message_in site bytes r) (completed_in site bytes rs) (λ own. let stands = reserved_in sum size number bytes r (completed_plain r.state own) (stand 0 r (omega arith)) in lies_behind bytes r (omega (arith, here, behind)) stands.room (omega (arith, here, grows, inside))) rest
 
 module _ (sum : List ℕ → ℕ) (size : ℕ) (site : SegmentPosition) (device : State) (fault : Option IoError) (bytes : List ℕ) (from : ℕ) (bs : List Sealed) (rs : List Reserved) (H : History) {stays : Message → Type 0} (holds : HoldsSegment sum (log_parts size site device fault bytes from bs rs) stays H) where
   abbrev done : List Message
@@ -136,7 +138,7 @@ module _ (sum : List ℕ → ℕ) (size : ℕ) (device : State) (fault : Option 
         subst (All (λ (m : Message). m.place < end_of (last_of x xs))) (sym all) (All-append (λ (m : Message). m.place < end_of (last_of x xs)) holds.head later (λ k d lt. let low = mine k d lt in omega (arith, low, inside, up)) far.1)
 
 -- the next one begins behind all bytes
-position_past : (size : ℕ) (v : SegmentView) (m : Machine) → length v.parts.bytes ≤ size → v.parts.site.place + length v.parts.bytes ≤ (position_in size v m).place
+pub position_past : (size : ℕ) (v : SegmentView) (m : Machine) → length v.parts.bytes ≤ size → v.parts.site.place + length v.parts.bytes ≤ (position_in size v m).place
 position_past size v m inside = by (is_short size (length v.parts.bytes)) where
   by : (b : Bool) → v.parts.site.place + length v.parts.bytes ≤ (if b then next_segment_at size v.parts.site.place m else record { place = v.parts.site.place + length v.parts.bytes; begins = v.parts.site.place; slot = v.parts.site.slot; machine = m }).place
   by true = omega (arith, inside)
@@ -156,13 +158,6 @@ pub fits_apart : {D C : Type 0} (trace : D → Trace) (sum : List ℕ → ℕ) (
 unfolding Fits
 fits_apart trace sum log H A f U fits =
     logged_apart H (whole_apart sum log.config.config.segment_size log.site _ log.fault log.buffer.bytes.items log.buffer.written_len log.buffer.sealed.items log.buffer.reserved.items (logged H) fits.parts.holds log.in_segment)
-
--- one that is not written yet has an inline pointer
-pub fits_inline : {D C : Type 0} (trace : D → Trace) (sum : List ℕ → ℕ) (log : Log D C) (H : History) (A f : ℕ) (U : List Message) → Fits trace sum log H A f U → (m : Message) → Contains H.messages m → synced_end log ≤ m.place → IsInline m.pointer
-unfolding Fits
-fits_inline trace sum log H A f U fits m there above =
-    let item = whole_inline sum log.config.config.segment_size log.site _ log.fault log.buffer.bytes.items log.buffer.written_len log.buffer.sealed.items log.buffer.reserved.items (logged H) fits.parts.holds (in_log m) (logged_there H m there) above in
-    subst IsInline (sym item.1) tt
 
 -- it holds the history
 pub fits_holds : {D C : Type 0} (trace : D → Trace) (sum : List ℕ → ℕ) (log : Log D C) (H : History) (A f : ℕ) (U : List Message) → Fits trace sum log H A f U → Holds trace sum log H
@@ -195,10 +190,6 @@ awaited log ticket m awaits = (
   ap (λ (x : Message). x.size) awaits.message ∙ sym awaits.own.long,
   awaits.own.manifest ∙ ap (λ (x : Message). is_manifest x.kind x.page) (sym awaits.message),
 )
-
--- and that pointer is inline
-pub awaited_inline : {D C : Type 0} (log : Log D C) (ticket : Reservation) (m : Message) → Awaits log ticket m → IsInline m.pointer
-awaited_inline log ticket m awaits = subst (λ (x : Message). IsInline x.pointer) (sym awaits.message) (subst (λ (o : Option ℤ). IsInline (pointer_as o (awaits.segment.parts.site.slot + awaits.reserved.from))) (sym awaits.own.plain) tt)
 
 -- A message that has its item in its record is stored.
 pub inline_stored : {D C : Type 0} (trace : D → Trace) (sum : List ℕ → ℕ) (log : Log D C) (m : Message) → IsInline m.pointer → IsStored trace sum log m

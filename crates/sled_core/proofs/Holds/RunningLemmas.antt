@@ -14,20 +14,20 @@ use Rattle.sled_core.specs.Begun.{SegmentParts}
 use Rattle.sled_core.specs.Fits.{FitsBatches, HoldsIn, begun_segment, device_of, log_parts, segment_size_of}
 use Rattle.sled_core.specs.LogFile.{padded}
 use Rattle.sled_core.specs.Logged.{logged, in_log}
-use Rattle.sled_core.specs.Running.{BlobsFit, Fits, FitsIn, KeepsItem, KeepsItems, NamesFit, end_below}
+use Rattle.sled_core.specs.Running.{BlobsFit, Fits, FitsIn, KeepsEntries, KeepsItem, KeepsItems, NamesFit, end_below}
 use Rattle.sled_core.specs.Reached.{BegunSegment, StandsAmong}
 use Rattle.sled_core.specs.OpenBatches.{stable_below}
-use Rattle.sled_core.specs.Recoverable.{LeavesRecoverable, NoBatchBegins, NoBatchEnds, NoHeaderOfZeros}
+use Rattle.sled_core.specs.Recoverable.{LeavesRecoverable, NoBatchBegins, NoBatchEnds, NoHeaderOfZeros, BlobIsBelow, BlobsAreBelow}
 use Rattle.sled_core.specs.SealedBuffers.{AreSealed, AreZeros, FirstUnwritten}
 use Rattle.sled_core.proofs.Holds.Added.{was_or_added}
-use Rattle.sled_core.proofs.Holds.BegunLemmas.{names-adds, blobs-adds}
+use Rattle.sled_core.proofs.Holds.BegunLemmas.{names-adds, blobs-adds, entries-adds}
 use Rattle.sled_core.proofs.Flush.Padded.{padded_get}
 use Rattle.sled_core.proofs.Holds.FitsBatches.{stable_noted}
 use Rattle.sled_core.proofs.Holds.ReachLemmas.{LiesBehind, completed_behind}
 use Rattle.sled_core.proofs.Flush.Settled.{leaves_less, rests, settled_recoverable}
 use Rattle.sled_core.proofs.Holds.StandsAdds.{alone-adds}
 use Rattle.sled_core.proofs.Holds.WholeHistory.{of_first, whole_ascends}
-use Rattle.sled_core.proofs.Logged.Messages.{adds_logged, end_logged}
+use Rattle.sled_core.proofs.Logged.Messages.{adds_logged, end_logged, below_in_log}
 use Rattle.sled_core.proofs.Reached.OpenEnds.{acknowledged_stable}
 use Rattle.sled_core.proofs.Reached.StableBelow.{stable_low}
 use Rattle.sled_core.proofs.Sealed.Zeros.{begin_zeros}
@@ -59,6 +59,8 @@ module _ (sum : List ℕ → ℕ) (size : ℕ) (site : SegmentPosition) (device 
             (subst (λ n. StandsAmong sum size (padded to device.log.bytes) site n others reach (logged H) first) (sym is) (fits.beyond to far ok none));
         blobs = fits.blobs;
         stored = fits.stored;
+        entries = fits.entries;
+        below = fits.below;
         names = subst (λ (s : SnapshotModel). NamesFit sum size device.snapshots (logged H) f s) same fits.names;
         own_names = fits.own_names;
         passes = fits.passes;
@@ -82,6 +84,8 @@ module _ (sum : List ℕ → ℕ) (size : ℕ) (site : SegmentPosition) (device 
     beyond = fits.beyond;
     blobs = fits.blobs;
     stored = fits.stored;
+    entries = fits.entries;
+    below = fits.below;
     names = fits.names;
     own_names = fits.own_names;
     passes = passes;
@@ -110,6 +114,8 @@ module _ (sum : List ℕ → ℕ) (size : ℕ) (site : SegmentPosition) (device 
     beyond = fits.beyond;
     blobs = fits.blobs;
     stored = fits.stored;
+    entries = fits.entries;
+    below = fits.below;
     names = fits.names;
     own_names = fits.own_names;
     passes = fits.passes;
@@ -120,7 +126,7 @@ module _ (sum : List ℕ → ℕ) (size : ℕ) (site : SegmentPosition) (device 
   -- With one more message, which lies behind what was written, it fits the history that has that message.
   module _ (bytes' : List ℕ) (from' : ℕ) (bs' : List Sealed) (rs' : List Reserved) (H' : History) (m : Message) (is : from' ≡ from) (least : 256 ≤ size) (in_segment : length bytes' ≤ size) (ok : fault ≡ None)
       (holds : HoldsIn sum (log_parts size site device fault bytes' from' bs' rs') behind (logged H')) (adds : AddsMessage H m H') (of_head : Contains holds.head (in_log m)) (above : site.place + from ≤ m.place) (fresh : FirstUnwritten bs) (are : AreSealed from rs bs)
-      (stored : KeepsItem sum device.blobs m m.pointer) where
+      (below : BlobIsBelow m m.pointer) (stored : KeepsItem sum device.blobs m m.pointer) where
     reached : reach ≤ m.place
     reached = let near = fits.near in omega (arith, near, above)
 
@@ -141,10 +147,10 @@ module _ (sum : List ℕ → ℕ) (size : ℕ) (site : SegmentPosition) (device 
     inside_segment = let inside = lies.room in omega (arith, inside)
 
     alone_new : NoHeaderOfZeros sum → StandsAmong sum size device.log.bytes site from others reach (logged H') first
-    alone_new none = alone-adds sum size device.log.bytes site from reach (logged H) (logged H') first least none holds.own.place_begins clean (in_log m) put above inside_segment room lies.lies (fits.among ok none)
+    alone_new none = alone-adds sum size device.log.bytes site from reach (logged H) (logged H') first least none holds.own.place_begins clean (in_log m) put above inside_segment room (lies.lies (below_in_log m below)) (fits.among ok none)
 
     beyond_new : (to : ℕ) → site.slot ≤ to → NoHeaderOfZeros sum → StandsAmong sum size (padded to device.log.bytes) site from others reach (logged H') first
-    beyond_new to far none = alone-adds sum size (padded to device.log.bytes) site from reach (logged H) (logged H') first least none holds.own.place_begins (λ first_one i low high. padded_get to device.log.bytes i ∙ clean first_one i low high) (in_log m) put above inside_segment room lies.lies
+    beyond_new to far none = alone-adds sum size (padded to device.log.bytes) site from reach (logged H) (logged H') first least none holds.own.place_begins (λ first_one i low high. padded_get to device.log.bytes i ∙ clean first_one i low high) (in_log m) put above inside_segment room (lies.lies (below_in_log m below))
         (fits.beyond to far ok none)
 
     names_new : NamesFit sum size device.snapshots (logged H') f first
@@ -158,6 +164,10 @@ module _ (sum : List ℕ → ℕ) (size : ℕ) (site : SegmentPosition) (device 
     blobs_new = subst (λ n. BlobsFit sum device.blobs H' n) (sym same_stable)
         (let low = stable_low reach H.batches in let at = reached in blobs-adds H H' m adds sum device.blobs (stable_below reach H.batches) (omega (arith, low, at)) stored fits.blobs)
 
+    entries_new : KeepsEntries sum device.blobs H' (stable_below reach H'.batches)
+    entries_new = subst (KeepsEntries sum device.blobs H') (sym same_stable)
+        (let low = stable_low reach H.batches in let at = reached in entries-adds H H' m adds sum device.blobs (stable_below reach H.batches) (omega (arith, low, at)) fits.entries)
+
     -- what is written still ends there
     ends_new : (x : Message) → Contains (logged H').messages x → x.place < site.place + from → (x.place < reach) × (x.place + x.size ≤ reach)
     ends_new x there below = elim (was_or_added (logged H) (logged H') (in_log m) put x there) [
@@ -170,6 +180,9 @@ module _ (sum : List ℕ → ℕ) (size : ℕ) (site : SegmentPosition) (device 
       | inl was ↦ (let same = same_stable in fits.stored x was (omega (arith, past, same)))
       | inr own ↦ subst (λ (y : Message). KeepsItem sum device.blobs y y.pointer) own stored
     ]
+
+    below_new : BlobsAreBelow H'
+    below_new x there = elim (was_or_added H H' m adds x there) [ inl was ↦ fits.below x was | inr own ↦ subst (λ (y : Message). BlobIsBelow y y.pointer) own below ]
 
     left_new : LeavesRecoverable sum size H' (stable_below reach H'.batches) f device
     left_new =
@@ -190,6 +203,8 @@ module _ (sum : List ℕ → ℕ) (size : ℕ) (site : SegmentPosition) (device 
               (subst (λ n. StandsAmong sum size (padded to device.log.bytes) site n others reach (logged H') first) (sym is) (beyond_new to far none));
           blobs = blobs_new;
           stored = stored_behind;
+          entries = entries_new;
+          below = below_new;
           names = subst (λ (s : SnapshotModel). NamesFit sum size device.snapshots (logged H') f s) same names_new;
           own_names = fits.own_names;
           passes = let passes = fits.passes in let same = same_stable in omega (arith, passes, same);

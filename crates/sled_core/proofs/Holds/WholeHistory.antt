@@ -12,8 +12,8 @@ use Rattle.sled_core.specs.declared.iobuf.Reserved.{Reserved}
 use Rattle.sled_core.specs.declared.iobuf.Sealed.{Sealed}
 use Rattle.sled_core.specs.declared.iobuf.SegmentPosition.{SegmentPosition}
 use Rattle.sled_core.specs.Begun.{SegmentParts}
-use Rattle.sled_core.specs.Fits.{HasInline, HoldBehind, HoldsIn, log_parts}
-use Rattle.sled_core.proofs.Flush.Completed.{InlineFrom, all_apart, all_below, apart_both, inline_from}
+use Rattle.sled_core.specs.Fits.{HoldBehind, HoldsIn, log_parts}
+use Rattle.sled_core.proofs.Flush.Completed.{all_apart, all_below, apart_both}
 use Rattle.sled_core.proofs.Reached.BufferPath.{HasOnly}
 
 -- The messages of segments behind a place lie at or above it,
@@ -24,7 +24,7 @@ behind_above sum size device fault place (s ∷ ss) stays batches ms (own, later
     let far = behind_above sum size device fault (place + size) ss stays batches later rest in
     subst (All (λ (m : Message). place ≤ m.place)) (sym all) (All-append (λ (m : Message). place ≤ m.place) own later here.above (λ k d lt. let b = far k d lt in omega (arith, b)))
 
--- lie one behind another,
+-- and lie one behind another.
 pub behind_apart : (sum : List ℕ → ℕ) (size : ℕ) (device : State) (fault : Option IoError) (place : ℕ) (ss : List SegmentParts) (stays : Message → Type 0) (batches : List Batch) (ms : List Message)
     → HoldBehind sum size device fault place ss stays batches ms → LieApart ms
 behind_apart sum size device fault place [] stays batches ms is = subst LieApart (sym is) tt
@@ -36,13 +36,6 @@ behind_apart sum size device fault place (s ∷ ss) stays batches ms (own, later
     subst LieApart (sym all) (apart_both (place + size) own later (all_apart sum size s.site device fault s.bytes s.written_len s.sealed s.reserved H here.segment)
     (behind_apart sum size device fault (place + size) ss stays batches later rest) (λ k d lt. let b = below k d lt in omega (arith, b.1, next, inside))
     (behind_above sum size device fault (place + size) ss stays batches later rest))
-
--- and have their items in their records.
-pub behind_inline : (sum : List ℕ → ℕ) (size : ℕ) (device : State) (fault : Option IoError) (place : ℕ) (ss : List SegmentParts) (stays : Message → Type 0) (batches : List Batch) (ms : List Message)
-    → HoldBehind sum size device fault place ss stays batches ms → All HasInline ms
-behind_inline sum size device fault place [] stays batches ms is = λ k d lt. absurd (omega (arith, ap length is, lt))
-behind_inline sum size device fault place (s ∷ ss) stays batches ms (own, later, all, here, rest) =
-    subst (All HasInline) (sym all) (All-append HasInline own later here.inline (behind_inline sum size device fault (place + size) ss stays batches later rest))
 
 module _ (sum : List ℕ → ℕ) (size : ℕ) (site : SegmentPosition) (device : State) (fault : Option IoError) (bytes : List ℕ) (from : ℕ) (bs : List Sealed) (rs : List Reserved) (H : History)
     {behind : List SegmentParts} (holds : HoldsIn sum (log_parts size site device fault bytes from bs rs) behind H) where
@@ -73,13 +66,6 @@ module _ (sum : List ℕ → ℕ) (size : ℕ) (site : SegmentPosition) (device 
 
   pub whole_ascends : length bytes ≤ size → Ascends H.messages
   whole_ascends inside = apart_ascends H.messages (whole_apart inside)
-
-  -- Those above what is written of the first segment have their items in their records.
-  pub whole_inline : InlineFrom H (site.place + from)
-  whole_inline m there above = elim (which_part m there) [
-    | inl first ↦ inline_from sum size site device fault bytes from bs rs of_first holds.own m first above
-    | inr later ↦ All-contains HasInline holds.later m (behind_inline sum size device fault (site.place + size) behind _ H.batches holds.later holds.others) later
-  ]
 
   -- What is all of the first segment's that begins in a part of it is all that does.
   pub whole_only : (ms : List Message) (batches : List Batch) (low high : ℕ) → high ≤ site.place + size → HasOnly of_first ms batches low high → HasOnly H ms batches low high

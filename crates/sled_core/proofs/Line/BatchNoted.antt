@@ -199,7 +199,7 @@ module _ {D C : Type 0} (trace : D → Trace) (sum : List ℕ → ℕ) (old mid 
 
     batch_goes_on : GoesOn trace sum old new
     batch_goes_on = goes_on_quietly trace sum old new (record { config = ap (λ (c : RunningConfig D C). c.config) now_config; checksum = ap (λ (c : RunningConfig D C). c.checksum) now_config })
-        (ap (λ (c : RunningConfig D C). trace c.device) now_config) (let same = now_synced in omega (arith, same))
+        (ap (λ (c : RunningConfig D C). trace c.device) now_config) (let same = now_synced in omega (arith, same)) (λ none. sym batch_same.fault ∙ none)
 
     -- the reservation isn't open any more, and the others are for what they were for,
     batch_opens : (place : ℕ) → pos place ≡ place_of ticket → TakesOut place (open_places old) (open_places new)

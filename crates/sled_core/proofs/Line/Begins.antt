@@ -405,7 +405,7 @@ module _ {D C : Type 0} (trace : D → Trace) (sum : List ℕ → ℕ) (old new 
       let small : old.site.place / its_size < 2 ^ 64 = (let small = g.place_small in omega (arith, small, div-le_self old.site.place its_size)) in
       record {
         goes_on = goes_on_quietly trace sum old new (record { config = ap (λ (x : RunningConfig D C). x.config) rest.config; checksum = ap (λ (x : RunningConfig D C). x.checksum) rest.config })
-            (ap (λ (x : RunningConfig D C). trace x.device) rest.config) (let same = begins_synced in omega (arith, same));
+            (ap (λ (x : RunningConfig D C). trace x.device) rest.config) (let same = begins_synced in omega (arith, same)) (λ none. sym rest.fault ∙ none);
         history = λ H holds. holds_as trace sum old new rest.config rest.fault (noted_in old) begins_noted _ line _ machine H
             (holds_next sum its_size device (fault_of old) (machine_at old) big old.account.slots first behind closes g.short small lies f.place_small (noted_in old) (logged H) holds);
         fits = λ H A f' U fits. fits_as trace sum old new rest.config rest.fault (noted_in old) begins_noted _ line _ machine H A f' U rest.pins

@@ -1,5 +1,5 @@
 -- A message whose item is a blob, and that is in the table of all that is stable, is read: a record may begin at its offset, and its blob is there, has its item, and lies below the stable end.
-use Rattle.std.proofs.Common.{◌≡◌, ◌∙◌, ◌<◌, ◌≤◌, ◌%◌, ◌++◌, ◌∷◌, ℕ, ℤ, List, length, map, Option, None, Some, Result, Ok, Err, sym, ap, subst, arith, inl, inr, ◌<ℤ◌, pos}
+use Rattle.std.proofs.Common.{◌≡◌, ◌∙◌, ◌<◌, ◌≤◌, ◌++◌, ◌∷◌, ℕ, ℤ, List, length, map, Option, None, Some, Result, Ok, Err, sym, ap, subst, arith, inl, inr, ◌<ℤ◌, pos}
 use Rattle.std.specs.Prelude.{IfErr, IfOk}
 use Rattle.std.specs.List.{Contains}
 use Rattle.std.specs.declared.io.Error.{Error as IoError}
@@ -19,8 +19,7 @@ use Rattle.sled_codec.specs.Pointers.{lid_of}
 use Rattle.sled_codec.specs.Spelling.{low_bytes}
 use Rattle.sled_codec.specs.SpellingLaws.{length-low_bytes, same_fronts, same_rests}
 use Rattle.sled_store.specs.Blobs.{HoldsItem, IsBlob, IsDamagedBlob}
-use Rattle.sled_store.specs.Device.{NamesState, State, Trace, content_of, state_of}
-use Rattle.sled_store.specs.Foreign.{NoForeignNames}
+use Rattle.sled_store.specs.Device.{NamesState, State, Trace, state_of}
 use Rattle.sled_store.proofs.Crashes.SettledLemmas.{name_read_left}
 use Rattle.sled_store.proofs.Histories.EarlierEntries.{entry_earlier}
 use Rattle.sled_store.proofs.Segments.TableEntries.{from_table}
@@ -28,23 +27,22 @@ use Rattle.sled_core.specs.declared.logger.Log.{Log}
 use Rattle.sled_core.specs.declared.logger.read_message.LogRead.{LogRead}
 use Rattle.sled_core.specs.declared.logger.read_message.LogRead.TheVariants as read
 use Rattle.sled_core.specs.Begun.{line_end, segment_view}
-use Rattle.sled_core.specs.Reached.{StandsAmong}
+use Rattle.sled_core.specs.Reached.{StandsAmong, StandsTo}
 use Rattle.sled_core.specs.Fits.{begun_segment, parts_in, device_of, fault_of, line_of, machine_at, noted_in, segment_size_of, stable_end, synced_end}
 use Rattle.sled_core.specs.Logged.{in_log, logged}
 use Rattle.sled_core.specs.OpenBatches.{stable_below}
 use Rattle.sled_core.specs.Causes.{IsFault, RecordAnswers}
 use Rattle.sled_core.specs.Reading.{GivesMessage, IsInline}
 use Rattle.sled_core.specs.ReadPointer.{GivesBlob, IsBlobDamage, IsBlobRead, IsDamageOf, IsReadOf, IsStableBlob, place_read}
-use Rattle.sled_core.specs.Recoverable.{BlobIsBelow, HasItem, IsSegmentOf, NoForeign, NoHeaderOfZeros}
-use Rattle.sled_core.specs.Running.{Fits, FitsWith}
+use Rattle.sled_core.specs.Recoverable.{BlobIsBelow, HasItem, IsSegmentOf, NoHeaderOfZeros}
+use Rattle.sled_core.specs.Running.{Fits, FitsWith, KeepsItem}
 use Rattle.sled_core.proofs.Holds.FitsBatches.{stable_noted}
 use Rattle.sled_core.proofs.Holds.WholeHistory.{whole_ascends}
 use Rattle.sled_core.proofs.Line.Reads.{fault_missed}
 use Rattle.sled_core.proofs.Logged.Messages.{logged_ascends, logged_there, logged_twice}
 use Rattle.sled_core.proofs.Logged.Stands.{among_alike}
-use Rattle.sled_core.proofs.Read.ScanLemmas.{aligned_offset}
+use Rattle.sled_core.proofs.Reached.MetWritten.{reached_begins}
 use Rattle.sled_core.proofs.Reached.StableBelow.{stable_is, stable_low, stable_open}
-use Rattle.sled_core.proofs.Torn.WrittenParts.{path_rises}
 
 -- Behind two sums the same follows.
 behind_sums : (a b : ℕ) (xs ys : List ℕ) → low_bytes 4 a ++ xs ≡ low_bytes 4 b ++ ys → xs ≡ ys
@@ -112,6 +110,11 @@ gives_read sum size s m page number (ptr.Blob lid place) kept (Err (error.Io e))
 gives_read sum size s m page number (ptr.Blob lid place) kept (Err error.OutOfMemory) old now before after beside pointer of has none reads damage answers = tt
 gives_read sum size s m page number (ptr.Blob lid place) kept (Err _) old now before after beside pointer of has none reads damage answers = absurd answers
 
+-- What no crash takes is there.
+pub item_read : (sum : List ℕ → ℕ) (blobs : NamesState) (m : Message) (p : DiskPtr) → KeepsItem sum blobs m p → HasItem sum blobs.file m p
+item_read sum blobs m (ptr.Inline lid) is = tt
+item_read sum blobs m (ptr.Blob lid place) is = is (blobs.file place) (name_read_left blobs place)
+
 -- Of a log that fits a history, and keeps no failure.
 module _ {D C : Type 0} (trace : D → Trace) (sum : List ℕ → ℕ) (log : Log D C) (H : History) (A f : ℕ) (U : List Message) where
   abbrev size : ℕ
@@ -119,6 +122,11 @@ module _ {D C : Type 0} (trace : D → Trace) (sum : List ℕ → ℕ) (log : Lo
 
   abbrev state : State
   state = state_of (trace log.config.device)
+
+  -- A reader finds in the log file what is written of the history, as far as he comes.
+  pub among : (fits : FitsWith sum (noted_in log) size state log.fault (line_of log) (machine_at log) log.pins H A f U) → log.fault ≡ None → NoHeaderOfZeros sum
+      → StandsAmong sum size state.log.bytes log.site log.buffer.written_len (map begun_segment (map parts_in (map segment_view log.behind.items))) fits.reach H fits.parts.holds.begun.first
+  among fits none zeros = among_alike (logged H) H (logged_twice H) sum size state.log.bytes log.site log.buffer.written_len (map begun_segment (map parts_in (map segment_view log.behind.items))) fits.reach fits.parts.holds.begun.first (fits.parts.among none zeros)
 
   module _ (fits : FitsWith sum (noted_in log) size state log.fault (line_of log) (machine_at log) log.pins H A f U) (m : Message) (entry : Contains (table H (stable_end log) m.page) m) where
     abbrev cut : ℕ
@@ -161,26 +169,21 @@ module _ {D C : Type 0} (trace : D → Trace) (sum : List ℕ → ℕ) (log : Lo
     early = entry_earlier H (logged_ascends H (whole_ascends sum size log.site state log.fault log.buffer.bytes.items log.buffer.written_len log.buffer.sealed.items log.buffer.reserved.items (logged H) fits.parts.holds log.in_segment)) cut (stable_end log) m.page cut_low m under_cut entry
 
     -- so that its blob is there
-    has_blob : NoForeignNames (λ bytes. (k : MessageKind) × (item : List ℕ) × IsBlob sum bytes k item) state.blobs state.blobs.file → HasItem sum state.blobs.file m m.pointer
-    has_blob own = (fits.parts.blobs state.blobs.file (name_read_left state.blobs) own).needed m.page m early
+    has_blob : HasItem sum state.blobs.file m m.pointer
+    has_blob = item_read sum state.blobs m m.pointer (fits.parts.entries m.page m early)
 
     module _ (none : log.fault ≡ None) (zeros : NoHeaderOfZeros sum) where
-      among : StandsAmong sum size state.log.bytes log.site log.buffer.written_len (map begun_segment (map parts_in (map segment_view log.behind.items))) fits.reach H fits.parts.holds.begun.first
-      among = among_alike (logged H) H (logged_twice H) sum size state.log.bytes log.site log.buffer.written_len (map begun_segment (map parts_in (map segment_view log.behind.items))) fits.reach fits.parts.holds.begun.first (fits.parts.among none zeros)
+      file_stands : StandsTo sum size state.log.bytes H cut fits.parts.holds.begun.first fits.reach
+      file_stands = (among fits none zeros).stands
 
       segment : IsSegmentOf sum size state.log.bytes H cut m
-      segment = (among.stands.needed cut among.stands.not_below among.stands.passes m.page m early).0
+      segment = (file_stands.needed cut file_stands.not_below file_stands.passes m.page m early).0
 
       begins : MayBegin size (lid_of m.pointer)
-      begins =
-          let at = segment.reached in
-          let up = path_rises sum size state.log.bytes segment.segment.slot segment.segment.place 20 at.before at.at at.path in
-          let room = at.room in
-          let offset : lid_of m.pointer % size ≡ at.at = ap (λ n. n % size) at.lid ∙ aligned_offset segment.segment.slot at.at size segment.found.slot (omega (arith, room)) in
-          record { behind_header = omega (arith, offset, up); before_end = omega (arith, offset, room) }
+      begins = reached_begins sum size state.log.bytes segment.segment m segment.found.slot segment.reached
 
       below : BlobIsBelow m m.pointer
-      below = (among.stands.placed m there).blob
+      below = (file_stands.placed m there).blob
 
 -- The same, of a log whose blobs are read as they are.
 pub record IsReadable {D C : Type 0} (sum : List ℕ → ℕ) (log : Log D C) (s : State) (m : Message) (p : DiskPtr) : Type 0 where
@@ -188,13 +191,12 @@ pub record IsReadable {D C : Type 0} (sum : List ℕ → ℕ) (log : Log D C) (s
   pub begins : MayBegin (segment_size_of log) (lid_of p)
 
 pub readable : {D C : Type 0} (trace : D → Trace) (sum : List ℕ → ℕ) (log : Log D C) (H : History) (A f : ℕ) (U : List Message) → Fits trace sum log H A f U → fault_of log ≡ None
-    → (s : State) → s.blobs ≡ (state_of (trace (device_of log))).blobs → NoForeign sum (segment_size_of log) s (content_of s) → (m : Message) → Contains (table H (stable_end log) m.page) m → IsReadable sum log s m m.pointer
+    → (s : State) → s.blobs ≡ (state_of (trace (device_of log))).blobs → NoHeaderOfZeros sum → (m : Message) → Contains (table H (stable_end log) m.page) m → IsReadable sum log s m m.pointer
 unfolding Fits
-readable trace sum log H A f U fits none s same own m entry =
+readable trace sum log H A f U fits none s same zeros m entry =
     record {
-      has = subst (λ (b : NamesState). HasItem sum b.file m m.pointer) (sym same)
-          (has_blob trace sum log H A f U fits m entry (subst (λ (b : NamesState). NoForeignNames (λ bytes. (k : MessageKind) × (item : List ℕ) × IsBlob sum bytes k item) b b.file) same own.blobs));
-      begins = begins trace sum log H A f U fits m entry none own.zeros;
+      has = subst (λ (b : NamesState). HasItem sum b.file m m.pointer) (sym same) (has_blob trace sum log H A f U fits m entry);
+      begins = begins trace sum log H A f U fits m entry none zeros;
     }
 
 -- and the place that is read is stable

@@ -125,7 +125,7 @@ module _ {D C : Type 0} (old new : Log D C) (n : ℕ) (v : SegmentView) (there :
 
   pub goes_on_ended : (trace : D → Trace) (sum : List ℕ → ℕ) → GoesOn trace sum old new
   goes_on_ended trace sum = goes_on_quietly trace sum old new (record { config = ap (λ (c : RunningConfig D C). c.config) rest.config; checksum = ap (λ (c : RunningConfig D C). c.checksum) rest.config })
-      (ap (λ (c : RunningConfig D C). trace c.device) rest.config) (let same = synced_ended in omega (arith, same))
+      (ap (λ (c : RunningConfig D C). trace c.device) rest.config) (let same = synced_ended in omega (arith, same)) (λ none. sym rest.fault ∙ none)
 
   -- The log holds and fits what the changed segments do.
 

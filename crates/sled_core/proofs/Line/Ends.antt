@@ -22,6 +22,7 @@ use Rattle.sled_core.specs.FreeSlots.{HasSlot, HasSlots, HaveOwn}
 use Rattle.sled_core.specs.Running.{FitsIn, FitsLine, FitsWith, KeepsItem}
 use Rattle.sled_core.specs.Slots.{AreBegun}
 use Rattle.sled_core.specs.Turned.{ended_now}
+use Rattle.sled_core.specs.Recoverable.{BlobIsBelow}
 use Rattle.sled_core.proofs.Behind.Calls.{behind-aborted, ended_long, held_here}
 use Rattle.sled_core.proofs.Behind.Completes.{adds_here, behind-complete, completed_history}
 use Rattle.sled_core.proofs.Behind.FitsCalls.{behind-fits-aborted, behind-fits-completed}
@@ -133,11 +134,11 @@ module _ (sum : List ℕ → ℕ) (size : ℕ) (device : State) (fault : Option 
         )
 
     -- and they fit it, where a pin is out.
-    pub complete_fits : (x : Message) → in_log x ≡ m → KeepsItem sum device.blobs x x.pointer → is_manifest r.log_kind r.page ≡ false → (line : List SegmentView) (n place reach pins : ℕ) (H : History) (A f : ℕ) (U : List Message) → 256 ≤ size → fault ≡ None → 0 < pins → slice_get line n ≡ Some v
+    pub complete_fits : (x : Message) → in_log x ≡ m → BlobIsBelow x x.pointer → KeepsItem sum device.blobs x x.pointer → is_manifest r.log_kind r.page ≡ false → (line : List SegmentView) (n place reach pins : ℕ) (H : History) (A f : ℕ) (U : List Message) → 256 ≤ size → fault ≡ None → 0 < pins → slice_get line n ≡ Some v
         → ((k : ℕ) (x : SegmentView) → slice_get line k ≡ Some x → IsSegment size (place + k * size) x)
         → FitsLine sum size device fault line reach pins H A f U → (H' : History) × AddsMessage H x H' × FitsLine sum size device fault (set line n completed) reach pins H' A f (x ∷ U)
-    complete_fits x its_message stored none [] n place reach pins H A f U least ok out there facts fits = cc
-    complete_fits x its_message stored none (w ∷ ws) zero place reach pins H A f U least ok out there facts fits =
+    complete_fits x its_message below stored none [] n place reach pins H A f U least ok out there facts fits = cc
+    complete_fits x its_message below stored none (w ∷ ws) zero place reach pins H A f U least ok out there facts fits =
         let same : w ≡ v = cc in
         let its : FitsLine sum size device fault (v ∷ ws) reach pins H A f U = subst (λ (x : SegmentView). FitsLine sum size device fault (x ∷ ws) reach pins H A f U) same fits in
         let own = facts zero v there in
@@ -153,12 +154,12 @@ module _ (sum : List ℕ → ℕ) (size : ℕ) (device : State) (fault : Option 
           done.0,
           done.1,
           fits-completed sum size v.parts.site device fault v.parts.bytes v.parts.written_len v.parts.sealed v.parts.reserved pins H A f U its _ _ _ _ done.0 x refl least (omega (arith, long, short)) ok done.2 done.1
-              (of_head sum size v.parts.site device fault _ _ _ _ (logged done.0) done.2 (in_log x) (added_there (logged H) (logged done.0) (in_log x) put) (omega (arith, near, short, placed))) (omega (arith, above, placed)) own.fresh own.are stored out,
+              (of_head sum size v.parts.site device fault _ _ _ _ (logged done.0) done.2 (in_log x) (added_there (logged H) (logged done.0) (in_log x) put) (omega (arith, near, short, placed))) (omega (arith, above, placed)) own.fresh own.are below stored out,
         )
-    complete_fits x its_message stored none (w ∷ ws) (suc k) place reach pins H A f U least ok out there facts fits =
+    complete_fits x its_message below stored none (w ∷ ws) (suc k) place reach pins H A f U least ok out there facts fits =
         let its : FitsIn sum (parts_of w) (map parts_in (take k ws) ++ v.parts ∷ map parts_in (drop (suc k) ws)) reach pins H A f U = subst (λ (l : List SegmentParts). FitsIn sum (parts_of w) l reach pins H A f U) (parts_split ws k v there) fits in
         let short : length w.parts.bytes ≤ size = (facts zero w refl).short in
-        let done = behind-fits-completed sum size w.parts.site device fault w.parts.bytes w.parts.written_len w.parts.sealed w.parts.reserved pins H A f U (map parts_in (take k ws)) v.parts (map parts_in (drop (suc k) ws)) its i r at is_open x its_message stored none least short ok (facts (suc k) v there).fresh out in
+        let done = behind-fits-completed sum size w.parts.site device fault w.parts.bytes w.parts.written_len w.parts.sealed w.parts.reserved pins H A f U (map parts_in (take k ws)) v.parts (map parts_in (drop (suc k) ws)) its i r at is_open x its_message below stored none least short ok (facts (suc k) v there).fresh out in
         (done.0, done.1, subst (λ (l : List SegmentParts). FitsIn sum (parts_of w) l reach pins done.0 A f (x ∷ U)) (sym (parts_set ws k v completed there)) done.2)
 
 -- The slots are those that they were.
@@ -235,11 +236,11 @@ module _ (sum : List ℕ → ℕ) (size : ℕ) (device : State) (fault : Option 
       let done = complete_holds sum size device fault v i r at is_open none line n place H there facts holds.holds in
       (done.0, done.1, record { holds = done.2; batches = batches_set (ended_now i r (completing r) Completed v) refl refl done.0 (batches_completed (written_to line) (line_end size line) noted H done.0 (message_in v.parts.site v.parts.bytes r) done.1 (beside H holds.holds) holds.batches); slots = slots_set size line device.log.bytes fault machine n v (ended_now i r (completing r) Completed v) there refl holds.slots })
 
-  pub fits_completed : (x : Message) → in_log x ≡ message_in v.parts.site v.parts.bytes r → KeepsItem sum device.blobs x x.pointer → is_manifest r.log_kind r.page ≡ false → (pins : ℕ) (H : History) (A f : ℕ) (U : List Message) → 256 ≤ size → fault ≡ None → 0 < pins
+  pub fits_completed : (x : Message) → in_log x ≡ message_in v.parts.site v.parts.bytes r → BlobIsBelow x x.pointer → KeepsItem sum device.blobs x x.pointer → is_manifest r.log_kind r.page ≡ false → (pins : ℕ) (H : History) (A f : ℕ) (U : List Message) → 256 ≤ size → fault ≡ None → 0 < pins
       → FitsWith sum noted size device fault line machine pins H A f U
       → (H' : History) × AddsMessage H x H' × FitsWith sum noted size device fault (set line n (ended_now i r (completing r) Completed v)) machine pins H' A f (x ∷ U)
-  fits_completed x its_message stored none pins H A f U least ok out fits =
-      let done = complete_fits sum size device fault v i r at is_open x its_message stored none line n place fits.reach pins H A f U least ok out there facts fits.parts in
+  fits_completed x its_message below stored none pins H A f U least ok out fits =
+      let done = complete_fits sum size device fault v i r at is_open x its_message below stored none line n place fits.reach pins H A f U least ok out there facts fits.parts in
       let held = line_holds sum size device fault line fits.reach pins H A f U fits.parts in
       let put = adds_logged H x done.0 done.1 in
       let apart : (b : Batch) → Contains H.batches b → (b.low ≤ x.place) ⊎ (x.place + x.size ≤ b.low) = λ b among. subst (λ (y : Message). (b.low ≤ y.place) ⊎ (y.place + y.size ≤ b.low)) (sym its_message) (beside (logged H) held b among) in

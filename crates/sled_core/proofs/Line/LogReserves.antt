@@ -1,5 +1,5 @@
 -- A reservation is made in the segment that is being filled: where it is put, and what the log holds and fits then.
-use Rattle.std.proofs.Common.{◌≡◌, ◌∙◌, ◌<◌, ◌≤◌, ◌+◌, ◌-◌, ◌/◌, ◌^◌, nat_lt, ap, sym, refl, arith, subst, ℕ, Bool, true, false, if◌then◌else◌, List, [], ◌∷◌, ◌++◌, length, length-append, map, drop, Some, is_some, None}
+use Rattle.std.proofs.Common.{◌≡◌, ◌∙◌, ◌<◌, ◌≤◌, ◌+◌, ◌-◌, ◌/◌, ◌^◌, nat_lt, ap, sym, refl, arith, subst, ℕ, Bool, true, false, if◌then◌else◌, List, [], ◌∷◌, ◌++◌, length, length-append, map, drop, Some, is_some}
 use Rattle.std.proofs.lemmas.Bool.Decides.{nat_tests}
 use Rattle.sled_core.specs.Logged.{logged, in_log}
 use Rattle.sled_core.specs.Manifests.{kind_for}
@@ -11,7 +11,7 @@ use Rattle.sled_store.specs.Device.{Trace, state_of}
 use Rattle.sled_store.specs.SegmentStates.{Machine}
 use Rattle.sled_store.specs.declared.config.RunningConfig.{RunningConfig}
 use Rattle.sled_core.specs.Begun.{SegmentView, segment_view, view_at}
-use Rattle.sled_core.specs.Buffers.{placeholder_head, record_size, reserved_for}
+use Rattle.sled_core.specs.Buffers.{SpellsBlob, placeholder_head, record_size, reserved_for}
 use Rattle.sled_core.specs.declared.iobuf.Purpose.{Purpose}
 use Rattle.sled_core.specs.declared.iobuf.Reserved.{Reserved}
 use Rattle.sled_core.specs.declared.logger.Log.{Log}
@@ -93,7 +93,7 @@ record_long kind head_len item_len number page n head is =
     omega (arith, head ∙ ap (λ k. 4 + length (short_header_tail kind k number page)) is, is, tail)
 
 -- What is laid out for it has a place in the segment.
-module _ {D C : Type 0} (sum : List ℕ → ℕ) (log : Log D C) (head item : List ℕ) (kept : Purpose) (known : kind_for kept.log_kind kept.page (is_some kept.blob) (length item) ≡ Some kept.kind) (plain : kept.blob ≡ None) (small : kept.page < 2 ^ 64)
+module _ {D C : Type 0} (sum : List ℕ → ℕ) (log : Log D C) (head item : List ℕ) (kept : Purpose) (known : kind_for kept.log_kind kept.page (is_some kept.blob) (length item) ≡ Some kept.kind) (spells : SpellsBlob kept.blob item) (small : kept.page < 2 ^ 64)
     (tail : drop 4 head ≡ short_header_tail kept.kind (length item) ((current_of log).parts.site.place / segment_size_of log) kept.page) (fits : HasPlace log (length head + length item)) where
   abbrev number : ℕ
   number = (current_of log).parts.site.place / segment_size_of log
@@ -109,7 +109,7 @@ module _ {D C : Type 0} (sum : List ℕ → ℕ) (log : Log D C) (head item : Li
       let f = current_facts log in
       let up = ends_up (current_of log).parts.written_len (current_of log).parts.reserved (current_of log).parts.sealed f.are in
       let begins = f.begins in
-      let long = more_long sum number bytes head item kept known plain small tail whole in
+      let long = more_long sum number bytes head item kept known spells small tail whole in
       let inside = fits.record_fits in
       record {
         begun = f.begun;
@@ -123,7 +123,7 @@ module _ {D C : Type 0} (sum : List ℕ → ℕ) (log : Log D C) (head item : Li
         some = omega (arith, long, whole);
         open_yet = refl;
         room = fits.header;
-        text = stands sum number bytes head item kept known plain small tail whole;
+        text = stands sum number bytes head item kept known spells small tail whole;
         inside = omega (arith, inside, long, length-append bytes (placeholder_head head ++ item));
       }
 
@@ -179,7 +179,7 @@ module _ {D C : Type 0} (trace : D → Trace) (sum : List ℕ → ℕ) (old new 
   unfolding Holds Fits
   reserves_keeps = record {
     goes_on = goes_on_quietly trace sum old new (record { config = ap (λ (x : RunningConfig D C). x.config) rest.config; checksum = ap (λ (x : RunningConfig D C). x.checksum) rest.config })
-        (ap (λ (x : RunningConfig D C). trace x.device) rest.config) (let same = reserves_synced in omega (arith, same));
+        (ap (λ (x : RunningConfig D C). trace x.device) rest.config) (let same = reserves_synced in omega (arith, same)) (λ none. sym rest.fault ∙ none);
     history = λ H holds. holds_as trace sum old new rest.config rest.fault (noted_in old) kept_noted (at_last (reserved_now more r) (line_of old)) line (machine_at old) machine H
         (record {
           holds = line_reserved sum its_size more r (state_of (trace (device_of old))) (fault_of old) (logged H) v vs fits holds.holds;

@@ -154,7 +154,8 @@ module _ {D C : Type 0} (log : Log D C) (n k : ℕ) (r : IsReadyIn (line_of log)
         weaker (LeavesRecoverable sum size H (stable_below fits.reach H.batches) f) (LeavesRecoverable sum size H A f) (λ s. leaves_less sum size H A (stable_below fits.reach H.batches) f s (passes_line sum size device log.fault line fits.reach log.pins H A f U fits.parts)) before new
         (left new came fits.reach H A f U fits.parts)
 
-    names : (new : Trace) → Performs (write_in line n k) before new → ((state_of new).blobs ≡ device.blobs) × ((state_of new).snapshots ≡ device.snapshots)
+    -- Made or not, they leave blobs and snapshots as they were.
+    pub names : (new : Trace) → Performs (write_in line n k) before new → ((state_of new).blobs ≡ device.blobs) × ((state_of new).snapshots ≡ device.snapshots)
     names new came =
         names_written (v.parts.site.slot + buffer_begin sum size log.config.config.least device log.fault whole v k r.buffer r.there r.ready) (buffer_bytes sum size log.config.config.least device log.fault whole v k r.buffer r.there r.ready) before new
         (subst (λ (es : List Event). Performs es before new) calls came)

@@ -1,25 +1,26 @@
 -- A log is made ready for a record: that has a place in its current segment, or a further one is begun; and what a reservation makes of it then.
-use Rattle.std.proofs.Common.{◌∷◌, [], ◌≡◌, ◌∙◌, ◌<◌, ◌≤◌, ◌+◌, ◌-◌, ◌*◌, ◌/◌, ◌^◌, ◌-ℤ◌, ap, sym, refl, arith, subst, ℕ, pos, Bool, true, false, if◌then◌else◌, List, ◌++◌, length, map, drop, Some, is_some, None, Option, ℤ}
+use Rattle.std.proofs.Common.{◌∷◌, [], ◌≡◌, ◌∙◌, ◌<◌, ◌≤◌, ◌+◌, ◌-◌, ◌*◌, ◌/◌, ◌^◌, ◌-ℤ◌, ap, sym, refl, arith, subst, ℕ, pos, Bool, true, false, if◌then◌else◌, List, ◌++◌, length, map, drop, Some, is_some}
 use Rattle.std.proofs.lemmas.Bool.Decides.{nat_tests}
 use Rattle.sled_codec.proofs.Segments.{length-short_header}
 use Rattle.sled_core.specs.Manifests.{is_manifest, kind_for}
 use Rattle.sled_core.specs.Tickets.{is_manifest_of}
 use Rattle.sled_codec.specs.Spelling.{short_header_tail}
 use Rattle.sled_codec.specs.History.{Message}
-use Rattle.sled_codec.specs.declared.result.DiskPtr.TheVariants.{Inline}
 use Rattle.sled_store.specs.Device.{Trace}
 use Rattle.sled_store.specs.SegmentStates.{handed_out, next_slot}
+use Rattle.sled_store.specs.declared.config.Config.{Config}
 use Rattle.sled_store.specs.declared.config.RunningConfig.{RunningConfig}
 use Rattle.sled_core.specs.Begun.{SegmentView, last_buffer, segment_view, view_at}
-use Rattle.sled_core.specs.Buffers.{message_in, placeholder_head, record_size, reserved_for, pointer_as, item_as}
+use Rattle.sled_core.specs.Buffers.{message_in, placeholder_head, record_size, reserved_for, pointer_as, item_as, SpellsBlob}
 use Rattle.sled_core.specs.declared.iobuf.Purpose.{Purpose}
 use Rattle.sled_core.specs.declared.iobuf.Reserved.{Reserved}
 use Rattle.sled_core.specs.declared.iobuf.record.Head.{Head}
 use Rattle.sled_core.specs.declared.logger.Log.{Log}
 use Rattle.sled_core.specs.declared.reservation.Reservation.{Reservation}
-use Rattle.sled_core.specs.Fits.{Awaits, AwaitsIn, FitsInline, open_places, IsUnchanged, IsUsedUpFor, KeepsAll, NoFurther, current_of, is_moved, line_of, machine_at, message_for, open_for, open_of, position_behind, position_of, reserved_end, segment_size_of, stable_end, size_for, start_behind, start_of, target_of, waiting_behind, waiting_of}
-use Rattle.sled_core.specs.Keeps.{Preserves}
-use Rattle.sled_core.specs.Positions.{Position, behind_record, next_segment_at}
+use Rattle.sled_core.specs.Fits.{Awaits, AwaitsIn, FitsInline, open_places, IsUnchanged, IsUsedUpFor, KeepsAll, NoFurther, current_of, is_moved, line_of, machine_at, open_for, open_of, position_behind, position_of, reserved_end, segment_size_of, stable_end, size_for, start_behind, start_of, target_of, waiting_behind, waiting_of}
+use Rattle.sled_core.specs.Keeps.{KeepsSeen, Preserves}
+use Rattle.sled_core.specs.Logged.{in_log}
+use Rattle.sled_core.specs.Positions.{Position, behind_record, lid_at, next_segment_at}
 use Rattle.sled_core.specs.Prepared.{IsPrepared, next_here, number_of, text_of}
 use Rattle.sled_core.specs.Turned.{ChangesLine, ChangesSlots, HasPlace, HasRoomForBatch, HasRoomIn, IsTicketFor, begun_view, next_line, reserved_now}
 use Rattle.sled_core.specs.Waiting.{BufferAt, BufferStart, at_last, closed_now, unwritten}
@@ -31,6 +32,14 @@ use Rattle.sled_core.proofs.Line.Reserves.{HasPlaceFor, ticket_reserved}
 use Rattle.sled_core.proofs.Line.Targets.{record_short}
 use Rattle.sled_core.proofs.Line.Unchanged.{left_alone, unchanged_current, unchanged_keeps, unchanged_same, unchanged_size, unchanged_tickets}
 use Rattle.sled_core.proofs.Reserve.ReserveLemmas.{head_whole, message_is, more_long}
+
+-- A caller sees as much of a log behind a call that keeps all of it, and behind two that keep what is seen.
+
+pub seen_all : {D C : Type 0} (old new : Log D C) → KeepsAll old new → KeepsSeen old new
+seen_all old new all = record { synced = all.synced; noted = all.noted; pins = all.pins }
+
+pub seen_further : {D C : Type 0} (old mid new : Log D C) → KeepsSeen old mid → KeepsSeen mid new → KeepsSeen old new
+seen_further old mid new first second = record { synced = second.synced ∙ first.synced; noted = second.noted ∙ first.noted; pins = second.pins ∙ first.pins }
 
 -- The header is one of a record with a body of n bytes, in a segment of this number.
 pub record IsHeadOf (head : Head) (kept : Purpose) (n number : ℕ) : Type 0 where
@@ -90,7 +99,8 @@ module _ {D C : Type 0} (trace : D → Trace) (sum : List ℕ → ℕ) (old mid 
       record {
         keeps = unchanged_keeps old mid same trace sum;
         tickets = unchanged_tickets old mid same;
-        same = unchanged_same old mid same;
+        seen = seen_all old mid (unchanged_same old mid same);
+        reserved = same.reserved ∙ sym (ap (λ (o : Bool). if o then (target_of old kept.page n).place else reserved_end old) stays);
         target = here_target ∙ sym (λ i. record { place = (current i).parts.site.place + length (current i).parts.bytes; begins = (current i).parts.site.place; slot = (current i).parts.site.slot; machine = machine i });
         tail = is.bytes ∙ sym (λ i. short_header_tail kept.kind n ((current i).parts.site.place / sizes i) kept.page);
         long = head_long head kept n (number_of old) is;
@@ -125,8 +135,8 @@ module _ {D C : Type 0} (trace : D → Trace) (sum : List ℕ → ℕ) (old : Lo
   next_used none = (next_moves, none)
 
   pub prepared_next : (mid : Log D C) (head : Head) → IsHeadOf head kept n (number_of mid) → line_of mid ≡ next_line sum size (machine_at old) (stable_end old) (line_of old) → machine_at mid ≡ handed_out (v.parts.site.place + size) (machine_at old) → ChangesSlots old mid
-      → HasRoomIn (last_buffer mid.buffer mid.behind.items) (size - 20) → (is_manifest kept.log_kind kept.page ≡ true → HasRoomForBatch mid) → IsPrepared trace sum old mid kept head n
-  prepared_next mid head is line machine rest room batch =
+      → reserved_end mid ≡ v.parts.site.place + size + 20 → HasRoomIn (last_buffer mid.buffer mid.behind.items) (size - 20) → (is_manifest kept.log_kind kept.page ≡ true → HasRoomForBatch mid) → IsPrepared trace sum old mid kept head n
+  prepared_next mid head is line machine rest reserved room batch =
       let current : current_of mid ≡ begun_view sum size (machine_at old) (stable_end old) v = begins_current trace sum old mid line machine rest in
       let header = length-short_header sum (pos (v.parts.site.place + size)) (pos (stable_end old) -ℤ pos 1) in
       let bytes : length (current_of mid).parts.bytes ≡ 20 = ap (λ (w : SegmentView). length w.parts.bytes) current ∙ header in
@@ -142,7 +152,8 @@ module _ {D C : Type 0} (trace : D → Trace) (sum : List ℕ → ℕ) (old : Lo
       record {
         keeps = begins_keeps trace sum old mid line machine rest;
         tickets = begins_tickets trace sum old mid line machine rest;
-        same = begins_same trace sum old mid line machine rest;
+        seen = seen_all old mid (begins_same trace sum old mid line machine rest);
+        reserved = reserved ∙ sym (ap (λ (o : Bool). if o then (target_of old kept.page n).place else reserved_end old) moves ∙ ap (λ (q : Position). q.place) next_target);
         target = next_target
             ∙ sym ((λ i. record { place = (current i).parts.site.place + length (current i).parts.bytes; begins = (current i).parts.site.place; slot = (current i).parts.site.slot; machine = machine i })
             ∙ ap (λ k. record { place = v.parts.site.place + size + k; begins = v.parts.site.place + size; slot = next_slot (machine_at old) * size; machine = handed_out (v.parts.site.place + size) (machine_at old) }) header);
@@ -156,7 +167,7 @@ module _ {D C : Type 0} (trace : D → Trace) (sum : List ℕ → ℕ) (old : Lo
 
 -- The reservation is made.
 module _ {D C : Type 0} (trace : D → Trace) (sum : List ℕ → ℕ) (old mid new : Log D C) (kept : Purpose) (head : Head) (item : List ℕ) (ready : IsPrepared trace sum old mid kept head (length item))
-    (known : kind_for kept.log_kind kept.page (is_some kept.blob) (length item) ≡ Some kept.kind) (plain : kept.blob ≡ None) (small : kept.page < 2 ^ 64)
+    (known : kind_for kept.log_kind kept.page (is_some kept.blob) (length item) ≡ Some kept.kind) (spells : SpellsBlob kept.blob item) (small : kept.page < 2 ^ 64)
     (line : line_of new ≡ at_last (reserved_now (placeholder_head (text_of head) ++ item) (reserved_for kept (length (current_of mid).parts.bytes) (length (text_of head)) (length item) (sum (item ++ drop 4 (text_of head))))) (line_of mid))
     (rest : ChangesSlots mid new) (accountant : new.accountant ≡ mid.accountant) where
   abbrev text : List ℕ
@@ -175,7 +186,7 @@ module _ {D C : Type 0} (trace : D → Trace) (sum : List ℕ → ℕ) (old mid 
   len = length item
 
   fits : HasPlaceFor sum (segment_size_of mid) more r w
-  fits = placeholder_fits sum mid text item kept known plain small ready.tail (subst (λ n. HasPlace mid n) (ap (λ n. n + len) ready.long) ready.fits)
+  fits = placeholder_fits sum mid text item kept known spells small ready.tail (subst (λ n. HasPlace mid n) (ap (λ n. n + len) ready.long) ready.fits)
 
   whole : length text ≡ 4 + length (short_header_tail kept.kind len (number_of mid) kept.page)
   whole = head_whole text kept.kind len (number_of mid) kept.page ready.tail
@@ -184,7 +195,7 @@ module _ {D C : Type 0} (trace : D → Trace) (sum : List ℕ → ℕ) (old mid 
   all_size = record_long kept.kind (length text) len (number_of mid) kept.page len whole refl
 
   size_same : segment_size_of old ≡ segment_size_of mid
-  size_same = sym (ap (λ (x : RunningConfig D C). x.config.segment_size) ready.same.config)
+  size_same = sym (ap (λ (x : Config). x.segment_size) ready.keeps.goes_on.config.config)
 
   -- how long it is
   abbrev here_size : ℕ
@@ -194,15 +205,18 @@ module _ {D C : Type 0} (trace : D → Trace) (sum : List ℕ → ℕ) (old mid 
   size_is = λ i. record_size ((ready.target i).begins / size_same i) kept.page len
 
   long : length more ≡ here_size
-  long = more_long sum (number_of mid) w.parts.bytes text item kept known plain small ready.tail whole ∙ all_size
+  long = more_long sum (number_of mid) w.parts.bytes text item kept known spells small ready.tail whole ∙ all_size
 
   pub made_keeps : Preserves trace sum old new
   made_keeps = kept_further trace sum old mid new ready.keeps (reserves_keeps trace sum mid new more r line rest accountant fits)
 
-  pub made_same : KeepsAll old new
-  made_same =
+  pub made_seen : KeepsSeen old new
+  made_seen = seen_further old mid new ready.seen (seen_all mid new (reserves_same trace sum mid new more r line rest accountant fits))
+
+  -- where nothing but the log's segments was changed until then
+  pub made_same : KeepsAll old mid → KeepsAll old new
+  made_same first =
       let second = reserves_same trace sum mid new more r line rest accountant fits in
-      let first = ready.same in
       record { config = second.config ∙ first.config; synced = second.synced ∙ first.synced; noted = second.noted ∙ first.noted; fault = second.fault ∙ first.fault; pins = second.pins ∙ first.pins }
 
   pub made_others : (ticket : Reservation) (m : Message) → Awaits old ticket m → Awaits new ticket m
@@ -228,25 +242,22 @@ module _ {D C : Type 0} (trace : D → Trace) (sum : List ℕ → ℕ) (old mid 
       let at = sym (ap (λ (q : Position). q.place) ready.target) in
       reserves_opens trace sum mid new more r line rest accountant fits ∙ (λ i. ready.tickets.opens i ++ at i ∷ [])
 
-  -- The ticket is for its message.
-  module _ (ticket : Reservation) (own : IsTicketFor mid ticket r.len) (manifest : is_manifest_of ticket ≡ is_manifest kept.log_kind kept.page) where
-    message_here : message_for old kept.log_kind kept.page item
-        ≡ record { kind = kept.log_kind; page = kept.page; place = w.parts.site.place + length w.parts.bytes; pointer = Inline (w.parts.site.slot + length w.parts.bytes); size = here_size; bytes = item }
+  -- The ticket is for its message, as the log has it.
+  module _ (ticket : Reservation) (own : IsTicketFor mid ticket kept.blob r.len) (manifest : is_manifest_of ticket ≡ is_manifest kept.log_kind kept.page) where
+    abbrev pub message_there : Message
+    message_there =
+        let q = target_of old kept.page len in
+        record { kind = kept.log_kind; page = kept.page; place = q.place; pointer = pointer_as kept.blob (lid_at q); size = size_for old kept.page len; bytes = item_as kept.blob item }
+
+    message_here : message_there ≡ message_in w.parts.site (w.parts.bytes ++ more) r
     message_here =
         let back : w.parts.site.place + length w.parts.bytes - w.parts.site.place ≡ length w.parts.bytes = omega arith in
-        (λ i. record { kind = kept.log_kind; page = kept.page; place = (ready.target i).place; pointer = Inline ((ready.target i).slot + ((ready.target i).place - (ready.target i).begins)); size = size_is i; bytes = item })
-        ∙ ap (λ k. record { kind = kept.log_kind; page = kept.page; place = w.parts.site.place + length w.parts.bytes; pointer = Inline (w.parts.site.slot + k); size = here_size; bytes = item }) back
+        (λ i. record { kind = kept.log_kind; page = kept.page; place = (ready.target i).place; pointer = pointer_as kept.blob (lid_at (ready.target i)); size = size_is i; bytes = item_as kept.blob item })
+        ∙ ap (λ k. record { kind = kept.log_kind; page = kept.page; place = w.parts.site.place + length w.parts.bytes; pointer = pointer_as kept.blob (w.parts.site.slot + k); size = here_size; bytes = item_as kept.blob item }) back
+        ∙ message_is sum (number_of mid) w.parts.bytes text item kept known spells small ready.tail whole w.parts.site
 
-    -- for a message with its item in its record
-    its_message : record { kind = kept.log_kind; page = kept.page; place = w.parts.site.place + length w.parts.bytes; pointer = Inline (w.parts.site.slot + length w.parts.bytes); size = here_size; bytes = item }
-        ≡ message_in w.parts.site (w.parts.bytes ++ more) r
-    its_message =
-        ap (λ (o : Option ℤ). record { kind = kept.log_kind; page = kept.page; place = w.parts.site.place + length w.parts.bytes; pointer = pointer_as o (w.parts.site.slot + length w.parts.bytes); size = here_size; bytes = item_as o item }) (sym plain)
-        ∙ message_is sum (number_of mid) w.parts.bytes text item kept known plain small ready.tail whole w.parts.site
-
-    pub made_ticket : Awaits new ticket (message_for old kept.log_kind kept.page item)
-    made_ticket =
-        let is = message_here ∙ its_message in
-        subst (λ (m : Message). AwaitsIn (line_of new) ticket m) (sym is)
+    pub made_ticket : (m : Message) → in_log m ≡ message_there → Awaits new ticket m
+    made_ticket m is =
+        subst (λ (x : Message). AwaitsIn (line_of new) ticket x) (sym (is ∙ message_here))
         (subst (λ (l : List SegmentView). AwaitsIn l ticket (message_in w.parts.site (w.parts.bytes ++ more) r)) (sym line)
-        (ticket_reserved sum (segment_size_of mid) more r (view_at mid.site mid.buffer) (map segment_view mid.behind.items) ticket own.index (record { open_yet = refl; place = own.place; pointer = own.pointer ∙ ap (λ (o : Option ℤ). pointer_as o (w.parts.site.slot + length w.parts.bytes)) (sym plain); plain = plain; long = own.long; manifest = manifest })))
+        (ticket_reserved sum (segment_size_of mid) more r (view_at mid.site mid.buffer) (map segment_view mid.behind.items) ticket own.index (record { open_yet = refl; place = own.place; pointer = own.pointer; long = own.long; manifest = manifest })))

@@ -160,8 +160,7 @@ module _ (sum : List ℕ → ℕ) (size : ℕ) (site : SegmentPosition) (device 
     ]
     | inr later ↦ (
         let lies = completed_behind sum size site device None bytes from bs rs H holds short m there later in
-        let same : lies.lid ≡ lid = ap lid_of (let both : Inline lies.lid ≡ Inline lid = sym lies.pointer ∙ pointer in both) in
-        subst (MayBegin size) same lies.begins)
+        subst (MayBegin size) (ap lid_of pointer) lies.begins)
   ]
 
 -- Of segments one behind another.

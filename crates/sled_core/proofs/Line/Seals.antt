@@ -144,7 +144,7 @@ module _ {D C : Type 0} (trace : D → Trace) (sum : List ℕ → ℕ) (old new 
   unfolding Holds Fits
   sealed_keeps = record {
     goes_on = goes_on_quietly trace sum old new (record { config = ap (λ (x : RunningConfig D C). x.config) rest.config; checksum = ap (λ (x : RunningConfig D C). x.checksum) rest.config })
-        (ap (λ (x : RunningConfig D C). trace x.device) rest.config) (let same = sealed_synced in omega (arith, same));
+        (ap (λ (x : RunningConfig D C). trace x.device) rest.config) (let same = sealed_synced in omega (arith, same)) (λ none. sym rest.fault ∙ none);
     history = λ H holds. holds_as trace sum old new rest.config rest.fault (noted_in old) kept_noted (at_last sealed_now (line_of old)) line (machine_at old) machine H
         (record {
           holds = line_sealed sum size (state_of (trace (device_of old))) (fault_of old) (logged H) v vs its holds.holds;

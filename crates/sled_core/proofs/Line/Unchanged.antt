@@ -1,5 +1,5 @@
 -- A log of which a caller sees nothing that is another holds and fits what it did.
-use Rattle.std.proofs.Common.{◌≡◌, ap, sym, arith, subst, ℕ, List}
+use Rattle.std.proofs.Common.{refl, ◌≡◌, ◌∙◌, ap, sym, arith, subst, ℕ, List}
 use Rattle.sled_store.specs.Accounts.{machine_of}
 use Rattle.sled_store.specs.Device.{Trace}
 use Rattle.sled_store.specs.declared.config.RunningConfig.{RunningConfig}
@@ -52,8 +52,12 @@ module _ {D C : Type 0} (old new : Log D C) (same : IsUnchanged old new) where
   unfolding Holds Fits
   unchanged_keeps trace sum = record {
     goes_on = goes_on_quietly trace sum old new (record { config = ap (λ (x : RunningConfig D C). x.config) same.config; checksum = ap (λ (x : RunningConfig D C). x.checksum) same.config })
-        (ap (λ (x : RunningConfig D C). trace x.device) same.config) (let is = unchanged_synced in omega (arith, is));
+        (ap (λ (x : RunningConfig D C). trace x.device) same.config) (let is = unchanged_synced in omega (arith, is)) (λ none. sym same.fault ∙ none);
     history = λ H holds. holds_as trace sum old new same.config same.fault (noted_in old) same.noted (line_of old) same.line (machine_at old) same.machine H holds;
     fits = λ H A f U fits. fits_as trace sum old new same.config same.fault (noted_in old) same.noted (line_of old) same.line (machine_at old) same.machine H A f U same.pins fits;
     noted = noted_quiet old new same.noted unchanged_synced;
   }
+
+-- nothing was done
+pub unchanged_still : {D C : Type 0} (log : Log D C) → IsUnchanged log log
+unchanged_still log = record { line = refl; reserved = refl; fault = refl; pins = refl; machine = refl; noted = refl; config = refl }

@@ -14,6 +14,7 @@ use Rattle.sled_store.proofs.Marks.DeactivationSteps.{from_map}
 use Rattle.sled_store.proofs.Segments.Elements.{all_from_in, in_cases, in_first, in_nothing, in_rest}
 use Rattle.sled_core.specs.Fits.{EndBelow}
 use Rattle.sled_core.specs.Logged.{in_log, item_in_log, logged}
+use Rattle.sled_core.specs.Recoverable.{BlobIsBelow}
 use Rattle.sled_core.specs.Running.{end_below, last_batch, last_message}
 
 -- One message.
@@ -38,6 +39,13 @@ inline_same m lid inline = ap (λ (p : DiskPtr). with_item m (item_in_log p m.by
 -- so what is alike to such a message is the message
 pub inline_alike : (m n : Message) (lid : ℕ) → in_log n ≡ in_log m → m.pointer ≡ Inline lid → n ≡ m
 inline_alike m n lid same inline = sym (inline_same n lid (ap (λ (x : Message). x.pointer) same ∙ inline)) ∙ same ∙ inline_same m lid inline
+
+-- a blob that lies no higher than its message lies no higher than what the log has of it
+pub below_in_log : (m : Message) → BlobIsBelow m m.pointer → BlobIsBelow (in_log m) m.pointer
+below_in_log m below = by m.pointer below where
+  by : (p : DiskPtr) → BlobIsBelow m p → BlobIsBelow (in_log m) p
+  by (Inline lid) low = tt
+  by (Blob lid place) low = low
 
 -- Lists of messages.
 

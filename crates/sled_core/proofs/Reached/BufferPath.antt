@@ -1,6 +1,6 @@
 -- A buffer in which all reservations have ended is a path of records of the history, some of them passed over, and nothing comes behind it; where it begins a segment, the header is there, with a mark that no batch crosses.
 use Rattle.sled_core.proofs.Reserve.Batches.{batch_cases, batch_rest, batches_between}
-use Rattle.std.proofs.Common.{◌≡◌, ◌≢◌, ◌⊎◌, ◌≤◌, ◌<◌, ◌≤ℤ◌, ◌<ℤ◌, ◌+◌, ◌/◌, ◌%◌, ◌^◌, ◌∙◌, ◌-ℤ◌, ℕ, ℤ, zero, suc, pos, negsuc, max, Bool, true, false, nat_lt, if◌then◌else◌, List, [], ◌∷◌, take, get_or, sym, ap, arith, lt→ltb, le→leb, refl, subst, inl, inr, Option}
+use Rattle.std.proofs.Common.{◌≡◌, ◌≢◌, ◌⊎◌, ◌≤◌, ◌<◌, ◌≤ℤ◌, ◌<ℤ◌, ◌+◌, ◌/◌, ◌%◌, ◌^◌, ◌∙◌, ◌-ℤ◌, ℕ, ℤ, zero, suc, pos, negsuc, max, Bool, true, false, nat_lt, if◌then◌else◌, List, [], ◌∷◌, take, get_or, sym, ap, arith, lt→ltb, le→leb, refl, subst, inl, inr, Option, length, is_some}
 use Rattle.std.proofs.Math.IntN.{ -ℤ_one}
 use Rattle.std.specs.List.{All, Contains}
 use Rattle.std.proofs.Math.Nat.{div-le_self}
@@ -30,6 +30,7 @@ use Rattle.sled_core.proofs.Reserve.Entries.{completed_plain, reserved_in, some_
 use Rattle.sled_core.proofs.Reserve.Ranges.{chain_grows, completed_between, own_cases, own_rest}
 use Rattle.sled_core.specs.SealedBuffers.{Agrees}
 use Rattle.sled_core.proofs.Reached.BufferStands.{met_as, met_in, one_inline, one_meets, path_in}
+use Rattle.sled_core.proofs.Reserve.MarksLemmas.{blobless, kind_of_manifest}
 use Rattle.sled_core.specs.declared.iterator.scan.RecordContent.TheVariants.{BatchStart}
 use Rattle.sled_codec.specs.Spelling.{low_first}
 
@@ -161,7 +162,8 @@ module _ (sum : List ℕ → ℕ) (size : ℕ) (site : SegmentPosition) (log byt
       one_truth Manifest is not_open plain =
           let there : Contains (batches_in site bytes (r ∷ rs)) (batch_in site bytes r) = subst (λ (s : ReservationState). Contains (with_batch s (batch_in site bytes r) (batches_in site bytes rs)) (batch_in site bytes r)) (sym is) (in_first (batch_in site bytes r) (batches_in site bytes rs)) in
           let stands = reserved_in sum size (site.place / size) bytes r (manifest_plain r.state is) (stand 0 r (omega arith)) in
-          let whole : item_as r.blob (body_in bytes r) ≡ body_in bytes r = ap (λ (o : Option ℤ). item_as o (body_in bytes r)) stands.text.plain in
+          let its = kind_of_manifest r.log_kind r.page (is_some r.blob) (length (body_in bytes r)) r.kind stands.text.known (stands.text.manifest is) in
+          let whole : item_as r.blob (body_in bytes r) ≡ body_in bytes r = ap (λ (o : Option ℤ). item_as o (body_in bytes r)) (blobless r.blob its.2) in
           inr (inl (
             batch_in site bytes r,
             has.noted (batch_in site bytes r) there,

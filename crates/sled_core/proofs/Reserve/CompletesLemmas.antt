@@ -109,7 +109,6 @@ module _ (sum : List ℕ → ℕ) (number : ℕ) (bytes : List ℕ) (r : Reserve
           long = stands.long;
           known = stands.known;
           names = stands.names;
-          plain = stands.plain;
           whole = whole;
           manifest = λ is. absurd (not_manifest is);
           pegged = λ is. absurd (not_manifest is);

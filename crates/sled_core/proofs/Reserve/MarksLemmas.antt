@@ -160,7 +160,6 @@ module _ (sum : List ℕ → ℕ) (number : ℕ) (bytes : List ℕ) (r : Reserve
           headed = stands.headed;
           long = stands.long;
           known = ap (kind_for r.log_kind r.page (is_some r.blob)) (sym same_long) ∙ stands.known;
-          plain = stands.plain;
           names = subst (λ (o : Option ℤ). SpellsBlob o body) (sym (blobless r.blob (kind_of_manifest r.log_kind r.page (is_some r.blob) (length (body_in bytes r)) r.kind stands.known manifest).2)) tt;
           whole = λ is. cc;
           manifest = λ is. manifest;

@@ -1,5 +1,5 @@
 -- What is laid out for a reservation is the placeholder of its record, and the message that it is for is the one that was asked for.
-use Rattle.std.proofs.Common.{◌≡◌, ◌≢◌, ◌≤◌, ◌<◌, ◌+◌, ◌-◌, ◌^◌, ℕ, zero, suc, List, [], ◌∷◌, ◌++◌, length, take, drop, sym, ◌∙◌, ap, arith, refl, subst, append_assoc, length-append, length-drop, true, false, Bool, if◌then◌else◌, ◌==◌, replicate, None, Some, not, is_some, ◌&&◌, Option, ℤ}
+use Rattle.std.proofs.Common.{◌≡◌, ◌≢◌, ◌≤◌, ◌<◌, ◌+◌, ◌-◌, ◌^◌, ℕ, zero, suc, List, [], ◌∷◌, ◌++◌, length, take, drop, sym, ◌∙◌, ap, arith, refl, subst, append_assoc, length-append, length-drop, true, false, Bool, if◌then◌else◌, ◌==◌, replicate, None, Some, not, is_some, ◌&&◌}
 use Rattle.std.specs.List.{slice_get}
 use Rattle.std.proofs.lemmas.List.{drop_at, take_all, drop-drop}
 use Rattle.sled_codec.specs.declared.serialization.message.LogKind.{LogKind}
@@ -54,7 +54,7 @@ there_append [] ys i x there = cc
 there_append (y ∷ xs) ys zero x there = there
 there_append (y ∷ xs) ys (suc i) x there = there_append xs ys i x there
 
-module _ (sum : List ℕ → ℕ) (number : ℕ) (bytes head item : List ℕ) (kept : Purpose) (known : kind_for kept.log_kind kept.page (is_some kept.blob) (length item) ≡ Some kept.kind) (plain : kept.blob ≡ None) (small : kept.page < 2 ^ 64)
+module _ (sum : List ℕ → ℕ) (number : ℕ) (bytes head item : List ℕ) (kept : Purpose) (known : kind_for kept.log_kind kept.page (is_some kept.blob) (length item) ≡ Some kept.kind) (spells : SpellsBlob kept.blob item) (small : kept.page < 2 ^ 64)
     (tail : drop 4 head ≡ short_header_tail kept.kind (length item) number kept.page) (long : length head ≡ 4 + length (short_header_tail kept.kind (length item) number kept.page)) where
   abbrev more : List ℕ
   more = placeholder_head head ++ item
@@ -94,8 +94,7 @@ module _ (sum : List ℕ → ℕ) (number : ℕ) (bytes head item : List ℕ) (k
         headed = head_long;
         long = omega arith;
         known = known;
-        names = subst (λ (o : Option ℤ). SpellsBlob o item) (sym plain) tt;
-        plain = plain;
+        names = spells;
         whole = λ is. cc;
         manifest = λ is. cc;
         pegged = λ is. cc;

@@ -51,6 +51,8 @@ fresh_ready sum size large small = record {
   alone = nothing_active sum size;
   active = zero_mod size;
   blobs = λ left leaves own. no_blobs sum left;
+  entries = λ page m there. absurd (no_entry 0 page m there);
+  below = λ m there. absurd (in_nothing m there);
   names = λ left leaves own. none_listed sum size left (λ n. none_left n (left n) (leaves n));
   own_names = record { of_blobs = own_at_rest (IsAnyBlob sum) (λ n. None); of_snapshots = own_at_rest (IsAnySnapshot sum) (λ n. None) };
   passes = omega arith;

@@ -20,7 +20,7 @@ use Rattle.sled_core.specs.Logged.{in_log, logged}
 use Rattle.sled_core.specs.OpenBatches.{stable_below}
 use Rattle.sled_core.specs.Ready.{HasFile}
 use Rattle.sled_core.specs.Recoverable.{LeavesRecoverable, NoHeaderOfZeros}
-use Rattle.sled_core.specs.Running.{BlobsFit, NamesFit, FitsIn, IsReadyFor}
+use Rattle.sled_core.specs.Running.{BlobsFit, KeepsEntries, NamesFit, FitsIn, IsReadyFor}
 use Rattle.sled_core.specs.Reached.{StandsActive, StandsAlone}
 use Rattle.sled_core.proofs.Blobs.StaysOwn.{own_same}
 use Rattle.sled_core.proofs.Logged.Messages.{logged_there}
@@ -88,6 +88,8 @@ module _ (sum : List ℕ → ℕ) (size : ℕ) (device now : State) (s : Snapsho
               (begins_alone sum size (padded to new) s holds.begun.first (logged H) site from same end begins own behind (beyond clean to zeros));
           blobs = subst (λ (n : NamesState). BlobsFit sum n H (stable_below (site.place + from) H.batches)) (sym same_blobs) (subst (BlobsFit sum device.blobs H) (sym open_none) ready.blobs);
           stored = λ m there past. absurd (let low = All-contains (λ (x : Message). (x.place < stable) × (x.place + x.size ≤ stable)) (logged H).messages (in_log m) ready.ready.below (logged_there H m there) in omega (arith, low.0, past, open_none));
+          entries = subst (λ (n : NamesState). KeepsEntries sum n H (stable_below (site.place + from) H.batches)) (sym same_blobs) (subst (KeepsEntries sum device.blobs H) (sym open_none) ready.entries);
+          below = ready.below;
           names = subst (λ (n : NamesState). NamesFit sum size n (logged H) f holds.begun.first) (sym same_names) (subst (NamesFit sum size device.snapshots (logged H) f) (sym first) ready.names);
           own_names = λ none. own_same sum device now same_blobs same_names ready.own_names;
           passes = let passes = ready.passes in omega (arith, passes, open_none);

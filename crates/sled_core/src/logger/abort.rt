@@ -1,30 +1,95 @@
 //! Giving a reservation up.
 //!
-//! Its record is written all the same, as one that every reader passes over (`specs/Canceled.antt`).
-ghost use Rattle.std.specs.Prelude.{◌≡◌, IfOk, OnOk, OnErr};
+//! Its record is written all the same, as one that every reader passes over (`specs/Canceled.antt`). Where its item went to a
+//! blob, that goes first (`specs/OwnBlobs.antt`).
+ghost use Rattle.std.specs.Prelude.{◌≡◌, IfOk, IsSome, None, OnErr, OnOk};
 ghost use Rattle.sled_codec.specs.History.{History, Message};
 ghost use Rattle.sled_core.specs.Canceled.{WritesCanceled};
 ghost use Rattle.sled_core.specs.Causes.{FaultAnswers};
-ghost use Rattle.sled_core.specs.Fits.{Awaits, Holds, IsOpen, KeepsAll, KeepsBuffers, fault_of, open_places};
-ghost use Rattle.sled_core.specs.Keeps.{KeepsOthers, Preserves, SamePosition};
+ghost use Rattle.sled_core.specs.Fits.{Awaits, Holds, IsOpen, KeepsAll, KeepsBuffers, KeepsTickets, device_of, fault_of, open_places};
+ghost use Rattle.sled_core.specs.Keeps.{KeepsOthers, KeepsSeen, Preserves, SamePosition};
 ghost use Rattle.sled_core.specs.OpenPlaces.{TakesOutPlaceOf};
+ghost use Rattle.sled_core.specs.OwnBlobs.{PreservesWithout, RemovedAnswers, RemovesBlob, own_blob};
 ghost use Rattle.sled_core.specs.Tickets.{IsPlaceOf};
+ghost use Rattle.sled_core.specs.Turned.{ChangesDevice};
 
 use crate::logger::Log;
+use crate::logger::read_pointer::fault_in;
 use crate::reservation::Reservation;
-use sled_codec::result::{DiskPtr, Error, Lsn, Result};
+use sled_codec::result::{BlobPointer, DiskPtr, Error, Lsn, Result};
 use sled_codec::serialization::Checksum;
 use sled_store::Device;
+use sled_store::blob_io::remove_blob;
 
 impl<D: Device, C: Checksum> Log<D, C> {
     /// Gives a message up: its record is written as one of kind `Canceled`, of the same length, and the log's history
-    /// stays as it is. Returns the place and the pointer that were kept for it. It takes no memory.
+    /// stays as it is. Where its item is in a blob that its own reservation made, that is removed first; the blob of a
+    /// rewritten pointer stays. Returns the place and the pointer that were kept for it. It takes no memory.
+    ///
+    /// A blob that goes must be named by no completed message: the caller owes the log that no pointer is rewritten to the
+    /// blob of a message that isn't completed.
+    ///
+    /// # Errors
+    ///
+    /// `Io` where the log keeps a failure of its device: the log is as it was then. `Io` too where the device failed to remove
+    /// the blob, which the log keeps: the blob may be there or not. The ticket is spent all the same, and its reservation
+    /// stays open.
+    pub fn abort(&mut self, ticket: Reservation) -> Result<(Lsn, DiskPtr)>
+        requires { IsOpen self.old ticket }
+        ensures place { IfOk result (IsPlaceOf ticket) }
+        ensures canceled { (H : History) (m : Message) → Holds D.trace C.sum_of self.old H → Awaits self.old ticket m
+            → OnOk result (WritesCanceled C.sum_of self.new m) }
+        ensures others { KeepsOthers D.trace C.sum_of ticket self.old self.new }
+        ensures opens { TakesOutPlaceOf result ticket (open_places self.old) (open_places self.new) }
+        ensures answers { RemovedAnswers result (own_blob ticket) (fault_of self.old) (fault_of self.new)
+            (D.faults (device_of self.old)) (D.faults (device_of self.new)) }
+        ensures device { RemovesBlob D.trace result (own_blob ticket) self.old self.new }
+        ensures keeps { PreservesWithout D.trace C.sum_of (own_blob ticket) self.old self.new }
+        ensures seen { KeepsSeen self.old self.new }
+        ensures buffers { KeepsBuffers self.old self.new }
+        ensures position { SamePosition self.old self.new }
+        ensures err { OnErr result (KeepsTickets self.old self.new × (IsSome (fault_of self.old) → self.new ≡ self.old)) }
+    {
+        let own = own_blob(&ticket);
+        if let Some(fault) = self.fault {
+            ticket.abandon();
+            return Err(Error::Io(fault));
+        }
+        match self.remove_own(own) {
+            Ok(()) => self.give_up(ticket),
+            Err(e) => {
+                ticket.abandon();
+                Err(e)
+            }
+        }
+    }
+
+    /// Removes a blob, if there is one, and keeps a failure of the device.
+    fn remove_own(&mut self, own: Option<BlobPointer>) -> Result<()>
+        requires { fault_of self.old ≡ None }
+        ensures changes { ChangesDevice self.old self.new }
+        ensures device { RemovesBlob D.trace result own self.old self.new }
+        ensures answers { RemovedAnswers result own (fault_of self.old) (fault_of self.new)
+            (D.faults (device_of self.old)) (D.faults (device_of self.new)) }
+        ensures keeps { PreservesWithout D.trace C.sum_of own self.old self.new }
+    {
+        let Some(place) = own else {
+            return Ok(());
+        };
+        let answer = remove_blob(&mut self.config, place);
+        self.fault = fault_in(&answer);
+        answer
+    }
+
+    /// Gives a message up, and leaves its blob alone, if it has one: its record is written as one of kind `Canceled`, of the
+    /// same length, and the log's history stays as it is. Returns the place and the pointer that were kept for it. It takes
+    /// no memory.
     ///
     /// # Errors
     ///
     /// `Io` exactly where the log keeps a failure of its device. The ticket is spent all the same, and the log is as
     /// it was.
-    pub fn abort(&mut self, ticket: Reservation) -> Result<(Lsn, DiskPtr)>
+    pub(crate) fn give_up(&mut self, ticket: Reservation) -> Result<(Lsn, DiskPtr)>
         requires { IsOpen self.old ticket }
         ensures place { IfOk result (IsPlaceOf ticket) }
         ensures canceled { (H : History) (m : Message) → Holds D.trace C.sum_of self.old H → Awaits self.old ticket m
@@ -49,5 +114,19 @@ impl<D: Device, C: Checksum> Log<D, C> {
         let n = self.segment_of(place.unsigned_abs());
         self.abort_in(n, index, manifest);
         Ok((place, pointer))
+    }
+}
+
+/// The blob that a reservation made for its item, which has the name of its place. That of a rewritten pointer has another.
+fn own_blob(ticket: &Reservation) -> Option<BlobPointer>
+    ensures { result ≡ own_blob ticket.now }
+{
+    let DiskPtr::Blob(_, blob) = ticket.pointer() else {
+        return None;
+    };
+    if blob == ticket.lsn() {
+        Some(blob)
+    } else {
+        None
     }
 }

@@ -134,9 +134,13 @@ fn is_for(site: &SegmentPosition, r: &Reserved, ticket: &Reservation) -> bool
     requires slot { site.now.slot + r.now.from < 2 ^ 64 }
     ensures { IsTrue result ↔ IsFor site.now r.now ticket.now }
 {
+    let offset = site.slot + r.from as u64;
     let same_pointer = match ticket.pointer() {
-        DiskPtr::Inline(lid) => r.blob.is_none() && lid == site.slot + r.from as u64,
-        DiskPtr::Blob(_, _) => false,
+        DiskPtr::Inline(lid) => r.blob.is_none() && lid == offset,
+        DiskPtr::Blob(lid, place) => match r.blob {
+            Some(own) => lid == offset && place == own,
+            None => false,
+        },
     };
     let same_place = ticket.lsn() >= 0 && ticket.lsn() as u64 == site.place + r.from as u64;
     let same_len = ticket.reservation_len() == r.len;

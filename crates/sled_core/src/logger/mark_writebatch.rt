@@ -50,7 +50,7 @@ impl<D: Device, C: Checksum> Log<D, C> {
         ensures err { OnErr result (self.new ≡ self.old) }
     {
         if peg == ticket.lsn() {
-            return self.abort(ticket);
+            return self.give_up(ticket);
         }
         self.end_batch(ticket, peg.unsigned_abs())
     }

@@ -75,7 +75,7 @@ fn read_blob_at<D: Device, C: Checksum>(
 }
 
 /// The failure of the device that an answer tells of. A missing blob is none.
-pub(crate) fn fault_in(answer: &Result<LogRead>) -> Option<io::Error>
+pub(crate) fn fault_in<T>(answer: &Result<T>) -> Option<io::Error>
     ensures { result ≡ fault_in answer.now }
 {
     match answer {

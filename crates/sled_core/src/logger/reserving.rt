@@ -6,7 +6,7 @@ ghost use Rattle.sled_store.specs.SegmentStates.{handed_out};
 ghost use Rattle.sled_core.specs.Begun.{last_buffer};
 ghost use Rattle.sled_core.specs.Buffers.{placeholder_head, reserved_for};
 ghost use Rattle.sled_core.specs.Causes.{MakesRoom};
-ghost use Rattle.sled_core.specs.Fits.{FitsInline, IsLeastOpen, IsUnchanged, IsUsedUpFor, current_of, line_of, machine_at, open_for, open_of, segment_size_of, stable_end};
+ghost use Rattle.sled_core.specs.Fits.{FitsInline, IsLeastOpen, IsUnchanged, IsUsedUpFor, KeepsAll, current_of, line_of, machine_at, open_for, open_of, reserved_end, segment_size_of, stable_end};
 ghost use Rattle.sled_core.specs.Manifests.{is_manifest, kind_for};
 ghost use Rattle.sled_core.specs.Prepared.{IsPrepared, PrepareAnswers};
 ghost use Rattle.sled_core.specs.Tickets.{is_manifest_of};
@@ -30,6 +30,7 @@ impl<D: Device, C: Checksum> Log<D, C> {
     pub(crate) fn prepare(&mut self, purpose: &Purpose, body_len: usize) -> Result<Head>
         requires { FitsInline (segment_size_of self.old) body_len }
         ensures prepared { IfOk result (λ head. IsPrepared D.trace C.sum_of self.old self.new purpose.now head body_len) }
+        ensures same { KeepsAll self.old self.new }
         ensures err { OnErr result (IsUnchanged self.old self.new) }
         ensures answers { let page = purpose.now.page in
             PrepareAnswers result (IsUsedUpFor self.old page body_len) (open_for self.old page body_len) (IsLeastOpen self.old) }
@@ -95,6 +96,7 @@ impl<D: Device, C: Checksum> Log<D, C> {
             ≡ handed_out ((current_of self.old).parts.site.place + segment_size_of self.old) (machine_at self.old)) }
         ensures room { OnOk result (HasRoomIn (last_buffer self.new.buffer self.new.behind.items) (segment_size_of self.old - 20)) }
         ensures batch { OnOk result (manifest ≡ true → HasRoomForBatch self.new) }
+        ensures reserved { OnOk result (reserved_end self.new ≡ (current_of self.old).parts.site.place + segment_size_of self.old + 20) }
         ensures rest { ChangesSlots self.old self.new }
         ensures err { OnErr result (IsUnchanged self.old self.new) }
         ensures answers { NextAnswers result
@@ -122,7 +124,7 @@ impl<D: Device, C: Checksum> Log<D, C> {
         ensures line { line_of self.new ≡ at_last (reserved_now (placeholder_head (take head.now.len head.now.bytes) ++ T.short (T.meaning item.now))
             (reserved_for purpose.now (length (current_of self.old).parts.bytes) head.now.len item_len (C.sum_of (T.short (T.meaning item.now)
             ++ drop 4 (take head.now.len head.now.bytes))))) (line_of self.old) }
-        ensures ticket { IsTicketFor self.old result (head.now.len + item_len) }
+        ensures ticket { IsTicketFor self.old result purpose.now.blob (head.now.len + item_len) }
         ensures manifest { is_manifest_of result ≡ is_manifest purpose.now.log_kind purpose.now.page }
         ensures reserved { self.new.reserved_to ≡ (current_of self.old).parts.site.place + length (current_of self.old).parts.bytes + head.now.len + item_len }
         ensures rest { ChangesSlots self.old self.new }
@@ -135,7 +137,11 @@ impl<D: Device, C: Checksum> Log<D, C> {
         let to = site.place + at + (head.len + item_len) as u64;
         self.lay_out(head, purpose, item, item_len, to);
         let manifest = is_manifest(purpose.log_kind, purpose.page);
-        let pointer = DiskPtr::Inline(site.slot + at);
+        let lid = site.slot + at;
+        let pointer = match purpose.blob {
+            None => DiskPtr::Inline(lid),
+            Some(blob) => DiskPtr::Blob(lid, blob),
+        };
         Reservation::new(place, pointer, index, head.len + item_len, manifest)
     }
 

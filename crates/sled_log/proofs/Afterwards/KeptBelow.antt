@@ -6,6 +6,7 @@ use Rattle.sled_store.specs.Device.{Synced, NamesSynced, LogState, NamesState, C
 use Rattle.sled_store.proofs.LogFile.LogLemmas.{at_rest_left}
 use Rattle.sled_store.proofs.Traces.ScriptLemmas.{ends_in}
 use Rattle.sled_core.specs.Recoverable.{NoForeign, IsRecoverableLog}
+use Rattle.sled_core.proofs.Blobs.ItemsStay.{entries_synced}
 use Rattle.sled_log.proofs.Recovers.Readable.{CanRead}
 use Rattle.sled_log.specs.Recovery.{RecoveryResult, Recovered, Recovers}
 use Rattle.sled_log.specs.WritesBack.{writing_back, FitsIfNew, HasWrittenBack}
@@ -63,7 +64,8 @@ module _ (sum : List ℕ → ℕ) (size : ℕ) (H : History) (A f : ℕ) (some :
       by (ns, are, places, from, came) =
           let is = concluded sum size content H A f some can x well spelled in
           subst (λ (h : Trace). NamesEnd sum size H f cut Allowed (state_of h)) (sym came) (ends_in (NamesEnd sum size H f cut Allowed) (writing_back sum size x ns places) (NamesSynced ∷ Synced ∷ old)
-          (writing_end sum size H f cut Allowed (names_synced (state_of old).blobs) (names_synced (state_of old).snapshots) (stand_synced sum size H A f old readable own can) (synced_twice (state_of old).blobs)
+          (writing_end sum size H f cut Allowed (names_synced (state_of old).blobs) (names_synced (state_of old).snapshots) (stand_synced sum size H A f old readable own can)
+          (entries_synced sum (state_of old).blobs H cut (stand_synced sum size H A f old readable own can)) (synced_twice (state_of old).blobs)
           (settled_names sum size H A f some old readable own) can.first can.snapshots can.log.placed can.log.not_below x is.made made kept
           ns (λ is_new. apart_others sum size H A f some old readable own can x well spelled ns (λ n there. (((are is_new).each n).0 there).1) is_new)
           places (all_above sum size H A f some old readable own can x well places (inr from)) _ _ _))

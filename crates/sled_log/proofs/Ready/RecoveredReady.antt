@@ -11,7 +11,7 @@ use Rattle.sled_store.proofs.Histories.Ascending.{apart_ascends, all_from_in}
 use Rattle.sled_core.specs.Fits.{EndBelow, CloseBelow}
 use Rattle.sled_core.specs.Logged.{logged}
 use Rattle.sled_core.specs.Ready.{HasFile, IsReady}
-use Rattle.sled_core.specs.Running.{BlobsFit, NamesFit, IsReadyFor, Ready}
+use Rattle.sled_core.specs.Running.{BlobsFit, KeepsEntries, NamesFit, IsReadyFor, Ready}
 use Rattle.sled_core.specs.Reached.{StandsActive}
 use Rattle.sled_core.specs.Recoverable.{NoForeign, NoHeaderOfZeros, IsRecoverableLog, AreRecoverableSnapshots}
 use Rattle.sled_log.proofs.Recovers.Readable.{CanRead, LeavesReadable}
@@ -24,7 +24,7 @@ use Rattle.sled_log.proofs.Afterwards.KeptBelow.{begin_below, names_end, below_c
 use Rattle.sled_log.proofs.Afterwards.LastOwn.{own_end}
 use Rattle.sled_log.proofs.Afterwards.LeftGood.{left_log, log_is, stops_left, nothing_above, fits, active}
 use Rattle.sled_log.proofs.Afterwards.OrderlyBelow.{orderly_below}
-use Rattle.sled_log.proofs.Moments.ForgottenAbove.{message_from, batch_from, blobs_forget}
+use Rattle.sled_log.proofs.Moments.ForgottenAbove.{message_from, batch_from, blobs_forget, table_kept}
 use Rattle.sled_log.proofs.Moments.RecoveryAlong.{can_read, concluded}
 use Rattle.sled_log.proofs.PageTable.BelowLemmas.{fits_below}
 use Rattle.sled_log.proofs.PageTable.TableCuts.{table_below}
@@ -135,6 +135,10 @@ module _ (sum : List ℕ → ℕ) (size : ℕ) (H : History) (A f : ℕ) (some :
   blobs : BlobsFit sum now.blobs kept cut
   blobs left leaves own_left = blobs_forget sum left H cut ((names_end sum size H A f some old readable own x recovers spelled new has (λ t. t ≡ first) made stays).stand left leaves own_left)
 
+  -- no crash takes the item of an entry
+  entries : KeepsEntries sum now.blobs kept cut
+  entries page m entry = (names_end sum size H A f some old readable own x recovers spelled new has (λ t. t ≡ first) made stays).items page m (subst (λ (l : List Message). Contains l m) (table_kept H cut page) entry)
+
   -- The log file.
 
   abbrev last : LogState
@@ -169,6 +173,8 @@ module _ (sum : List ℕ → ℕ) (size : ℕ) (H : History) (A f : ℕ) (some :
     alone = active_alike kept (logged kept) of_log sum size now.log.bytes x.model (subst (λ (l : LogState). StandsActive sum size l.bytes x.model kept) (sym log_left) (stands_left sum size content H A f some can x well own.zeros));
     active = active sum size content H A f some can x well;
     blobs = subst (BlobsFit sum now.blobs kept) (sym well.place) blobs;
+    entries = subst (KeepsEntries sum now.blobs kept) (sym well.place) entries;
+    below = λ m there. let from = message_from H cut m there in (can.log.placed m from.0 from.1).blob;
     names = names_alike kept (logged kept) of_log sum size now.snapshots cut first names;
     own_names = own_end sum size x old new has;
     passes = subst (λ n. A ≤ n) (sym well.place) can.log.passes;

@@ -2,7 +2,7 @@
 use Rattle.std.proofs.Common.{⊎_elim, ◌≡◌, ◌∙◌, ◌≢◌, ◌==◌, ◌&&◌, not, ◌<◌, ◌≤◌, ◌+◌, ℕ, ℤ, Bool, true, false, if◌then◌else◌, List, [], ◌∷◌, ◌++◌, length, map, get_or, set, sym, ap, subst, arith, refl, Option, None, Some, Err, Vec, Global}
 use Rattle.std.specs.List.{All, Contains, slice_get}
 use Rattle.std.specs.declared.io.Error.{Error as IoError}
-use Rattle.std.proofs.lemmas.Bool.{ne_eqb}
+use Rattle.std.proofs.lemmas.Bool.{cases_eq, ne_eqb}
 use Rattle.std.proofs.lemmas.List.{length-map, length-set, length_push}
 use Rattle.std.proofs.lemmas.List.Elements.{All-contains}
 use Rattle.sled_codec.specs.declared.result.DiskPtr.{DiskPtr}
@@ -21,10 +21,11 @@ use Rattle.sled_core.specs.Causes.{FaultAnswers}
 use Rattle.sled_core.specs.Fits.{Awaits, KeepsAll, KeepsBuffers, config_of, fault_of, open_places, pins_of, reserved_end, segment_size_of}
 use Rattle.sled_core.specs.Keeps.{SamePosition}
 use Rattle.sled_core.specs.OpenPlaces.{TakesOut}
+use Rattle.sled_core.specs.OwnBlobs.{own_blob}
 use Rattle.sled_core.specs.Manifests.{is_manifest, manifest_page}
 use Rattle.sled_core.specs.Running.{Fits}
 use Rattle.sled_core.specs.Tickets.{is_manifest_of, place_of}
-use Rattle.sled_core.proofs.PublicLaws.{awaited, fits_apart}
+use Rattle.sled_core.proofs.PublicLaws.{awaited, fits_apart, inline_alone}
 use Rattle.sled_core.proofs.Read.FoundLemmas.{pos_injective}
 use Rattle.sled_log.specs.declared.session.opened.Opened.{Opened}
 use Rattle.sled_log.specs.declared.session.opened.Ticket.{Ticket}
@@ -114,6 +115,10 @@ module _ {D C : Type 0} (view : D → DeviceView) (sum : List ℕ → ℕ) (old 
     -- it is no manifest's, where its message changes a page
     pub is_message : m.page ≢ manifest_page → is_manifest_of ticket.reservation ≡ false
     is_message changes = (awaited old.log ticket.reservation m awaits_it).3 ∙ no_manifest m.kind m.page (had.joins changes).changes
+
+    -- it has no blob of its own
+    pub no_blob : own_blob ticket.reservation ≡ None
+    no_blob = inline_alone old.log ticket.reservation m awaits_it (⊎_elim (λ is. (had.begins_batch is).inline) (λ ne. (had.joins ne).inline) (cases_eq m.page manifest_page))
 
     busy : mid.busy.items ≡ set old.busy.items m.page false
     busy = takes.busy ∙ ap (λ page. set old.busy.items page false) of_page
@@ -224,7 +229,7 @@ module _ {D C : Type 0} (view : D → DeviceView) (sum : List ℕ → ℕ) (old 
 
         -- what is noted stays, so a manifest that is open begins its batch behind it
         begun_still : (x : Message) → x.page ≡ manifest_page → (m.page ≡ x.page → ⊥) → BeginsBatch old.log x → BeginsBatch log x
-        begun_still x of ne begun = record { kind = begun.kind; apart = λ b known. begun.apart b (subst (λ (bs : List Batch). Contains bs b) same.noted known) }
+        begun_still x of ne begun = record { kind = begun.kind; inline = begun.inline; apart = λ b known. begun.apart b (subst (λ (bs : List Batch). Contains bs b) same.noted known) }
 
         -- Its message is given up.
         pub aborts : (place : ℤ) (pointer : DiskPtr) → IsAnswerFor m place pointer → map page_of pages.items ≡ map page_of old.pages.items

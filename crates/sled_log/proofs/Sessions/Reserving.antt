@@ -1,5 +1,5 @@
 -- What a reservation makes of a session: the tickets with the one that comes, or all as it was.
-use Rattle.std.proofs.Common.{◌≡◌, ◌≢◌, eq-eqb, ◌∙◌, ◌≤◌, ◌<◌, ◌+◌, ◌==◌, ◌⊎◌, inl, inr, ℕ, ℤ, pos, Bool, true, false, if◌then◌else◌, List, [], ◌∷◌, ◌++◌, length, map, set, get_or, Option, Some, None, Err, refl, sym, ap, subst, arith, length-append}
+use Rattle.std.proofs.Common.{◌≡◌, ◌≢◌, eq-eqb, ◌∙◌, ◌≤◌, ◌<◌, ◌+◌, ◌==◌, ◌⊎◌, inl, inr, ℕ, ℤ, pos, Bool, true, false, if◌then◌else◌, List, [], ◌∷◌, ◌++◌, length, map, set, get_or, Option, Some, None, Ok, Err, refl, sym, ap, subst, arith, length-append}
 use Rattle.std.specs.List.{All, Contains, slice_get}
 use Rattle.std.proofs.lemmas.Bool.{cases_lt, ne_eqb}
 use Rattle.std.proofs.lemmas.List.{length-map, map-append}
@@ -19,16 +19,17 @@ use Rattle.sled_codec.specs.Snapshots.{Free, Page, Present, Uninitialized, page_
 use Rattle.sled_store.specs.Device.{Trace}
 use Rattle.sled_core.specs.Begun.{SegmentView}
 use Rattle.sled_core.specs.Buffers.{most_open}
-use Rattle.sled_core.specs.Causes.{ReserveAnswers}
+use Rattle.sled_core.specs.Causes.{ReserveAnswers, ReserveCauses}
 use Rattle.sled_core.specs.declared.logger.Log.{Log}
 use Rattle.sled_core.specs.declared.reservation.Reservation.{Reservation}
-use Rattle.sled_core.specs.Fits.{Awaits, AwaitsIn, FitsInline, KeepsAll, IsLeastOpen, IsUnchanged, IsUsedUpFor, fault_of, line_of, message_for, next_place, noted_in, open_for, open_places, pins_of, position_behind, position_of, reserved_end, segment_size_of, size_for, start_behind, start_of, target_of, waiting_behind, waiting_of}
+use Rattle.sled_core.specs.Fits.{Awaits, AwaitsIn, FitsInline, KeepsAll, IsLeastOpen, IsUsedUpFor, fault_of, line_of, next_place, noted_in, open_for, open_places, pins_of, position_behind, position_of, reserved_end, segment_size_of, size_for, start_behind, start_of, target_of, waiting_behind, waiting_of}
 use Rattle.sled_core.specs.OpenPlaces.{open_places_along}
 use Rattle.sled_core.specs.Positions.{position_in}
+use Rattle.sled_core.specs.Reserves.{reserve_causes}
 use Rattle.sled_core.specs.Running.{Fits}
 use Rattle.sled_core.specs.Tickets.{place_of, pointer_of}
 use Rattle.sled_core.specs.Waiting.{last_of, spans, start_in, unwritten}
-use Rattle.sled_core.proofs.PublicLaws.{awaited, awaited_inline, awaited_small, fits_reach, noted_pegs, target_above as put_above}
+use Rattle.sled_core.proofs.PublicLaws.{ReservesInline, awaited, awaited_small, fits_reach, inline_keeps, inline_message, noted_pegs, refused_inline, target_above as put_above}
 use Rattle.sled_core.proofs.Reserve.ReserveLemmas.{there_append, there_last}
 use Rattle.sled_store.proofs.Histories.TableParts.{from_page}
 use Rattle.sled_log.specs.declared.session.opened.Opened.{Opened}
@@ -83,7 +84,7 @@ kind_some does.Corrupted page n changes none = elim changes [ inl is ↦ cc | in
 
 -- A log kept a place for a message.
 pub record KeptPlace {D C : Type 0} (trace : D → Trace) (sum : List ℕ → ℕ) (old new : Log D C) (kind : LogKind) (page : ℕ) (bytes : List ℕ) (reservation : Reservation) : Type 0 where
-  pub ticket : Awaits new reservation (message_for old kind page bytes)
+  pub ticket : Awaits new reservation (inline_message old kind page bytes)
   pub position : position_of new ≡ position_behind old page (length bytes)
   pub reserved : reserved_end new ≡ (target_of old page (length bytes)).place + size_for old page (length bytes)
   pub others : (ticket : Reservation) (m : Message) → Awaits old ticket m → Awaits new ticket m
@@ -95,6 +96,24 @@ pub record KeptPlace {D C : Type 0} (trace : D → Trace) (sum : List ℕ → �
   pub few : open_for old page (length bytes) < most_open
   pub fits : (H : History) (A f : ℕ) (U : List Message) → Fits trace sum old H A f U → Fits trace sum new H A f U
   pub same : KeepsAll old new
+
+-- It did where it kept one for an item that fits inline.
+pub kept_place : {D C : Type 0} (trace : D → Trace) (faults : D → ℕ) (sum : List ℕ → ℕ) (old new : Log D C) (kind : LogKind) (page : ℕ) (bytes : List ℕ) (reservation : Reservation)
+    → ReservesInline trace faults sum kind page bytes old new (Ok reservation) → KeptPlace trace sum old new kind page bytes reservation
+kept_place trace faults sum old new kind page bytes reservation came = record {
+  ticket = came.ticket;
+  position = came.position;
+  reserved = came.reserved;
+  others = came.others;
+  opens = came.opens;
+  waiting = came.seals.0;
+  start = came.seals.1;
+  fault = came.answers.0.0;
+  free = came.answers.1.1;
+  few = came.answers.1.2;
+  fits = came.keeps.fits;
+  same = inline_keeps trace faults sum kind page bytes old new (Ok reservation) came;
+}
 
 -- The record of a message that comes is put behind all messages.
 put_behind : {D C : Type 0} (trace : D → Trace) (sum : List ℕ → ℕ) (opened : Opened D C) (k : Unstored) → IsOpenAt trace sum opened k → (page n : ℕ) → FitsInline (segment_size_of opened.log) n
@@ -111,7 +130,7 @@ module _ {D C : Type 0} (view : D → DeviceView) (sum : List ℕ → ℕ) (old 
     (tickets : new.tickets.items ≡ old.tickets.items ++ Some (record { kind = kind; page = page; reservation = reservation }) ∷ [])
     (k : Unstored) (at : IsOpenAt (traces view) sum old k) (inline : FitsInline (segment_size_of old.log) (length bytes)) (idle : has_page page (open_messages k.tickets) ≡ false) where
   abbrev pub its : Message
-  its = message_for old.log kind page bytes
+  its = inline_message old.log kind page bytes
 
   abbrev begun_pages : ℕ
   begun_pages = length old.pages.items
@@ -143,7 +162,7 @@ module _ {D C : Type 0} (view : D → DeviceView) (sum : List ℕ → ℕ) (old 
           page = is.page;
           awaits = kept.others is.ticket.reservation m is.awaits;
           joins = is.joins;
-          begins_batch = λ of. let begun = is.begins_batch of in record { kind = begun.kind; apart = λ b known. begun.apart b (subst (λ (bs : List Batch). Contains bs b) kept.same.noted known) };
+          begins_batch = λ of. let begun = is.begins_batch of in record { kind = begun.kind; inline = begun.inline; apart = λ b known. begun.apart b (subst (λ (bs : List Batch). Contains bs b) kept.same.noted known) };
           begins = omega (arith, up, low);
           ends = omega (arith, up, end);
         }
@@ -270,7 +289,7 @@ module _ {D C : Type 0} (view : D → DeviceView) (sum : List ℕ → ℕ) (old 
     (changes : ChangesPage kind) (kept : KeptPlace (traces view) sum old.log new.log kind page bytes reservation)
     (small : page < length old.busy.items) (k : Unstored) (at : IsOpenAt (traces view) sum old k) (may : MayReserve (segment_size_of old.log) k.history (seen old k.tickets) kind page (length bytes)) where
   abbrev comes : Message
-  comes = message_for old.log kind page bytes
+  comes = inline_message old.log kind page bytes
 
   below : All (λ m. m.place < comes.place) k.history.messages
   below = put_behind (traces view) sum old k at page (length bytes) may.fits
@@ -292,7 +311,7 @@ module _ {D C : Type 0} (view : D → DeviceView) (sum : List ℕ → ℕ) (old 
   may_join = record {
     changes = changes;
     small = let most = old.busy.small in omega (arith, small, most);
-    inline = awaited_inline new.log reservation comes kept.ticket;
+    inline = tt;
     low = awaited_small new.log reservation comes kept.ticket;
     own = elim known [ inl first ↦ inl first | inr less ↦ inr (replaced page less) ];
     lower = λ p less. replaced p (known_below p less);
@@ -302,15 +321,17 @@ module _ {D C : Type 0} (view : D → DeviceView) (sum : List ℕ → ℕ) (old 
 
 -- Where a place was refused.
 
-reserve_failed : (size : ℕ) (a : RunState) (l : LogView) (kind : LogKind) (page : ℕ) (bytes : List ℕ) (T : Type 0) (e : Error) (new : DeviceView) (b : RunState) (used : Type 0) (open_count : ℕ) (least : ℤ → Type 0) → (kind_for kind page false (length bytes) ≡ None → ⊥)
-    → (used → EndsInReach size (target_in size l page (length bytes)) → ⊥) → ((at : ℤ) → l.fault ≡ None → open_count ≡ most_open → least at → IsFullOfOpen l (target_in size l page (length bytes)) at)
-    → ReserveAnswers {T = T} (Err e) l.fault (kind_for kind page false (length bytes)) used open_count least → b ≡ a → ReserveStep size a l kind page bytes (reply.Failed e) new b
-reserve_failed s a l kind page bytes T (error.Io x) new b used n least written out full answers leads = (answers, leads)
-reserve_failed s a l kind page bytes T error.OutOfMemory new b used n least written out full answers leads = (answers.0, leads)
-reserve_failed s a l kind page bytes T error.PlacesUsedUp new b used n least written out full answers leads = (answers.0, out answers.2, leads)
-reserve_failed s a l kind page bytes T (error.Unsupported text) new b used n least written out full answers leads = absurd (written answers.1)
-reserve_failed s a l kind page bytes T (error.Held at) new b used n least written out full answers leads = (full at answers.0 answers.3 answers.4, leads)
-reserve_failed s a l kind page bytes T _ new b used n least written out full answers leads = absurd answers
+reserve_failed : (size : ℕ) (a : RunState) (l : LogView) (kind : LogKind) (page : ℕ) (bytes : List ℕ) (T : Type 0) (e : Error) (new : DeviceView) (b : RunState) (used : Type 0) (least : ℤ → Type 0) (causes : ReserveCauses) → (causes.kind ≡ None → ⊥)
+    → causes.in_blob ≡ false → causes.old ≡ l.fault → (used → EndsInReach size (target_in size l page (length bytes)) → ⊥)
+    → ((at : ℤ) → l.fault ≡ None → causes.open_count ≡ most_open → least at → IsFullOfOpen l (target_in size l page (length bytes)) at)
+    → ReserveAnswers {T = T} (Err e) used least causes → b ≡ a → ReserveStep size a l kind page bytes (reply.Failed e) new b
+reserve_failed s a l kind page bytes T (error.Io x) new b used least causes written inline same out full (inl kept) leads = (sym same ∙ kept.0, leads)
+reserve_failed s a l kind page bytes T (error.Io x) new b used least causes written inline same out full (inr refused) leads = let clash : false ≡ true = sym inline ∙ refused.in_blob in cc
+reserve_failed s a l kind page bytes T error.OutOfMemory new b used least causes written inline same out full answers leads = (sym same ∙ answers.0.0, leads)
+reserve_failed s a l kind page bytes T error.PlacesUsedUp new b used least causes written inline same out full answers leads = (sym same ∙ answers.0.0, out answers.2, leads)
+reserve_failed s a l kind page bytes T (error.Unsupported text) new b used least causes written inline same out full answers leads = absurd (written answers.1)
+reserve_failed s a l kind page bytes T (error.Held at) new b used least causes written inline same out full answers leads = (full at (sym same ∙ answers.0.0) answers.3 answers.4, leads)
+reserve_failed s a l kind page bytes T _ new b used least causes written inline same out full answers leads = absurd answers
 
 -- the session is as it was
 unchanged_at : {D C : Type 0} (trace : D → Trace) (sum : List ℕ → ℕ) (old new : Opened D C) (k : Unstored) → ((H : History) (A f : ℕ) (U : List Message) → Fits trace sum old.log H A f U → Fits trace sum new.log H A f U)
@@ -331,7 +352,7 @@ unchanged_at trace sum old new k fits line end pins fault pages tickets busy bat
       page = is.page;
       awaits = subst (λ (l : List SegmentView). AwaitsIn l is.ticket.reservation (in_log m)) (sym line) is.awaits;
       joins = is.joins;
-      begins_batch = λ of. let begun = is.begins_batch of in record { kind = begun.kind; apart = λ b known. begun.apart b (subst (λ (bs : List Batch). Contains bs b) noted known) };
+      begins_batch = λ of. let begun = is.begins_batch of in record { kind = begun.kind; inline = begun.inline; apart = λ b known. begun.apart b (subst (λ (bs : List Batch). Contains bs b) noted known) };
       begins = subst (λ e. m.place + 1 < e) (sym end) is.begins;
       ends = subst (λ e. m.place + m.size ≤ e) (sym end) is.ends;
     };
@@ -349,11 +370,11 @@ module _ {D C : Type 0} (view : D → DeviceView) (sum : List ℕ → ℕ) (old 
   abbrev with_new : Opened D C
   with_new = record { alloc = old.alloc; log = log; guard = old.guard; pages = old.pages; busy = old.busy; batch = old.batch; tickets = old.tickets }
 
-  pub failed_tried : (T : Type 0) (e : Error) → (kind_for kind page false (length bytes) ≡ None → ⊥) → FitsInline (segment_size_of old.log) (length bytes)
-      → ((H : History) (A f : ℕ) (U : List Message) → Fits (traces view) sum old.log H A f U → Fits (traces view) sum log H A f U) → IsUnchanged old.log log → KeepsAll old.log log
-      → ReserveAnswers {T = T} (Err e) (fault_of old.log) (kind_for kind page false (length bytes)) (IsUsedUpFor old.log page (length bytes)) (open_for old.log page (length bytes)) (IsLeastOpen old.log)
-      → HasTried view sum old kind page bytes with_new (reply.Failed e) k
-  failed_tried T e written inline fits unchanged same answers =
+  pub failed_tried : (faults : D → ℕ) (e : Error) → (kind_for kind page false (length bytes) ≡ None → ⊥) → FitsInline (segment_size_of old.log) (length bytes)
+      → ReservesInline (traces view) faults sum kind page bytes old.log log (Err e) → HasTried view sum old kind page bytes with_new (reply.Failed e) k
+  failed_tried faults e written inline came =
+      let unchanged = refused_inline sum old.log log page (length bytes) false refl e came.left in
+      let same = inline_keeps (traces view) faults sum kind page bytes old.log log (Err e) came in
       let size : ℕ = segment_size_of old.log in
       let begun : ℕ = length old.pages.items in
       let position : position_of log ≡ position_of old.log = λ i. position_in (unchanged.config i).config.segment_size (current_in (unchanged.line i)) (unchanged.machine i) in
@@ -361,9 +382,9 @@ module _ {D C : Type 0} (view : D → DeviceView) (sum : List ℕ → ℕ) (old 
         not_refused = refl;
         device = ap (λ x. view x.device) same.config;
         tickets = k;
-        step = reserve_failed size (stands view (phase.Open old) k) (seen old k.tickets) kind page bytes T e (device_in view (phase.Open with_new)) (stands view (phase.Open with_new) k)
-            (IsUsedUpFor old.log page (length bytes)) (open_for old.log page (length bytes)) (IsLeastOpen old.log) written (out_of_reach old.log begun k.tickets sum page (length bytes) inline)
-            (beside_least old.log begun k.tickets sum page (length bytes) inline) answers (λ i. record {
+        step = reserve_failed size (stands view (phase.Open old) k) (seen old k.tickets) kind page bytes Reservation e (device_in view (phase.Open with_new)) (stands view (phase.Open with_new) k)
+            (IsUsedUpFor old.log page (length bytes)) (IsLeastOpen old.log) (reserve_causes (traces view) faults kind page false (length bytes) old.log log) written refl refl
+            (out_of_reach old.log begun k.tickets sum page (length bytes) inline) (beside_least old.log begun k.tickets sum page (length bytes) inline) came.answers (λ i. record {
               device = view (same.config i).device;
               history = k.history;
               acknowledged = k.acknowledged;
@@ -381,7 +402,7 @@ module _ {D C : Type 0} (view : D → DeviceView) (sum : List ℕ → ℕ) (old 
                 tickets = k.tickets;
               });
             });
-        at = unchanged_at (traces view) sum old with_new k fits unchanged.line unchanged.reserved unchanged.pins same.fault refl refl (λ p. refl) refl same.noted at;
+        at = unchanged_at (traces view) sum old with_new k came.keeps.fits unchanged.line unchanged.reserved unchanged.pins same.fault refl refl (λ p. refl) refl same.noted at;
       }
 
 -- Room.
@@ -449,7 +470,7 @@ module _ {D C : Type 0} (view : D → DeviceView) (sum : List ℕ → ℕ) (old 
       (reserved_tried view sum old new kind page bytes reservation kept_new holds.pages holds.tickets k at may.fits may.idle
       (λ ne. may_join view sum old new kind page bytes reservation changes kept_new small k at may) (λ is. absurd (message is))
       (λ p ne. busy_set old.busy.items new.busy.items page p set_busy small)
-      (subst (HasBatch (k.tickets ++ Some (message_for old.log kind page bytes) ∷ [])) (sym same_batch) (batch_push k.tickets (message_for old.log kind page bytes) old.batch message at.tickets.batch)))
+      (subst (HasBatch (k.tickets ++ Some (inline_message old.log kind page bytes) ∷ [])) (sym same_batch) (batch_push k.tickets (inline_message old.log kind page bytes) old.batch message at.tickets.batch)))
 
   -- or the manifest of a batch
   pub manifest_tried : kind ≡ does.Skip → page ≡ manifest_page → FitsInline (segment_size_of old.log) (length bytes) → has_page page (open_messages k.tickets) ≡ false → HasTried view sum old kind page bytes new result k
@@ -463,8 +484,9 @@ module _ {D C : Type 0} (view : D → DeviceView) (sum : List ℕ → ℕ) (old 
       (λ ne. absurd (ne manifest))
       (λ is. record {
         kind = skip;
+        inline = tt;
         apart = λ b known. let low = noted_pegs old.log b (subst (λ (bs : List Batch). Contains bs b) kept_new.same.noted known) in omega (arith, low, up);
       })
       (λ p ne. ap (λ (l : List Bool). get_or l p false) same_busy
       ∙ sym (ap (λ (b : Bool). if b then true else get_or old.busy.items p false) (ne_eqb page p (λ is. ne (sym is ∙ manifest)))))
-      (subst (HasBatch (k.tickets ++ Some (message_for old.log kind page bytes) ∷ [])) (sym batch) (message_for old.log kind page bytes, there_last k.tickets (Some (message_for old.log kind page bytes)), manifest)))
+      (subst (HasBatch (k.tickets ++ Some (inline_message old.log kind page bytes) ∷ [])) (sym batch) (inline_message old.log kind page bytes, there_last k.tickets (Some (inline_message old.log kind page bytes)), manifest)))

@@ -397,7 +397,7 @@ module _ {D C : Type 0} (trace : D → Trace) (sum : List ℕ → ℕ) (opened :
     awaits = tickets.awaits is.ticket.reservation m is.awaits;
     joins = is.joins;
     begins_batch = λ batch. let begun = is.begins_batch batch in
-        record { kind = begun.kind; apart = λ b known. begun.apart b (whole_not (synced_end log) (noted_in opened.log) b (subst (λ (bs : List Batch). Contains bs b) noted known)).0 };
+        record { kind = begun.kind; inline = begun.inline; apart = λ b known. begun.apart b (whole_not (synced_end log) (noted_in opened.log) b (subst (λ (bs : List Batch). Contains bs b) noted known)).0 };
     begins = (let low = is.begins in let same = position.reserved in omega (arith, low, same));
     ends = (let low = is.ends in let same = position.reserved in omega (arith, low, same));
   }

@@ -1,4 +1,4 @@
-use Rattle.sled_core.proofs.PublicLaws.{fits_reach, fits_apart, fits_inline, awaited_inline, awaited_small, inline_stored, reserved_small, target_above}
+use Rattle.sled_core.proofs.PublicLaws.{fits_reach, fits_apart, awaited_small, inline_stored, reserved_small, target_above}
 use Rattle.sled_core.proofs.laws.messages_lie_in_order.Goals as goal
 
 pub returns-clause-below : goal.returns-clause-below
@@ -6,12 +6,6 @@ returns-clause-below g c = λ log H A f U fits. fits_reach g.D.Device.trace g.C.
 
 pub returns-clause-apart : goal.returns-clause-apart
 returns-clause-apart g c = λ log H A f U fits. fits_apart g.D.Device.trace g.C.Checksum.sum_of log H A f U fits
-
-pub returns-clause-inline : goal.returns-clause-inline
-returns-clause-inline g c = λ log H A f U fits m there above. fits_inline g.D.Device.trace g.C.Checksum.sum_of log H A f U fits m there above
-
-pub returns-clause-awaited : goal.returns-clause-awaited
-returns-clause-awaited g c = λ log ticket m awaits. awaited_inline log ticket m awaits
 
 pub returns-clause-stored : goal.returns-clause-stored
 returns-clause-stored g c = λ log m inline. inline_stored g.D.Device.trace g.C.Checksum.sum_of log m inline

@@ -1,7 +1,13 @@
-use Rattle.std.proofs.Common.{◌∙◌, ◌+◌, ap, arith, refl}
+use Rattle.std.proofs.Common.{◌∙◌, ◌+◌, if◌then◌else◌, Bool, false, length, Ok, Err, ap, arith, refl, subst}
 use Rattle.std.proofs.lemmas.Bool.Decides.{nat_tests}
-use Rattle.sled_core.specs.Fits.{config_of}
-use Rattle.sled_core.proofs.PublicLaws.{awaited, awaited_inline, goes_on_further, inline_stored}
+use Rattle.sled_codec.specs.declared.serialization.message.LogKind.TheVariants.{Replace}
+use Rattle.sled_codec.specs.Spelling.{short_number}
+use Rattle.sled_core.specs.declared.reservation.Reservation.{Reservation}
+use Rattle.sled_core.specs.Causes.{ReserveAnswers}
+use Rattle.sled_core.specs.Fits.{IsLeastOpen, IsUsedUpFor, config_of}
+use Rattle.sled_core.specs.OpenPlaces.{open_places_along}
+use Rattle.sled_core.specs.Reserves.{reserve_causes}
+use Rattle.sled_core.proofs.PublicLaws.{awaited, comes_inline, goes_on_further, not_in_blob, refused_inline}
 use Rattle.ids.proofs.Generating.{generates_has, gives_still, has_asked, has_generates, has_still, has_throughout, none_for, none_behind, ends_well, number_fits, reserve_fails}
 use Rattle.ids.proofs.Moments.{through_less}
 use Rattle.ids.proofs.generator.IdGenerator.ask.Goals as goal
@@ -12,16 +18,31 @@ returns-then-self-clause-gives_on g c = gives_still g.D.Device.trace g.C.Checksu
 pub returns-then-self-2-clause-gives_on : goal.returns-then-self-2-clause-gives_on
 returns-then-self-2-clause-gives_on g c = gives_still g.D.Device.trace g.C.Checksum.sum_of c.args.self.now
 
-pub reserve-requires-clause-inline : goal.reserve-requires-clause-inline
-reserve-requires-clause-inline g c = number_fits _ c.saturating_add-asked.result (config_of c.args.self.now.log).config.least c.saturating_add-asked.type_inv
-
 -- nothing was reserved
+
+pub invariant_of-self : goal.invariant_of-self
+invariant_of-self g c =
+    let old = c.args.self.now in
+    let pins = c.in-Err.ensures.seen.pins in
+    let pinned = old.pinned in
+    let size = number_fits _ c.saturating_add-asked.result (config_of old.log).config.least c.saturating_add-asked.type_inv in
+    let still = refused_inline g.C.Checksum.sum_of old.log c.reserve.new.self 0 _ _ (not_in_blob old.log _ size) c.in-Err.e c.in-Err.ensures.left in
+    record {
+      ordered = old.ordered;
+      ahead = old.ahead;
+      small = old.small;
+      some = old.some;
+      pinned = omega (arith, pins, pinned);
+      ended = ap open_places_along still.line ∙ old.ended;
+    }
+
 pub returns-in-Err-clause-gives_on : goal.returns-in-Err-clause-gives_on
 returns-in-Err-clause-gives_on g c =
     let trace = g.D.Device.trace in
     let sum = g.C.Checksum.sum_of in
     let old = c.args.self.now in
-    let same = c.in-Err.ensures.err.reserved in
+    let size = number_fits _ c.saturating_add-asked.result (config_of old.log).config.least c.saturating_add-asked.type_inv in
+    let same = (refused_inline sum old.log c.reserve.new.self 0 _ _ (not_in_blob old.log _ size) c.in-Err.e c.in-Err.ensures.left).reserved in
     record {
       asked = omega arith;
       block = refl;
@@ -34,7 +55,11 @@ returns-in-Err-clause-gives_on g c =
 pub returns-in-Err-clause-answers : goal.returns-in-Err-clause-answers
 returns-in-Err-clause-answers g c =
     let old = c.args.self.now in
-    reserve_fails c.in-Err.e _ _ _ _ _ _ _ _ c.in-Err.ensures.same.fault (ap (λ x. g.D.Device.faults x.device) c.in-Err.ensures.same.config) (none_for old.log 0 _ old.ended) c.in-Err.ensures.answers
+    let n = length (short_number c.saturating_add-asked.result) in
+    let size = number_fits _ c.saturating_add-asked.result (config_of old.log).config.least c.saturating_add-asked.type_inv in
+    let causes = λ (b : Bool). reserve_causes g.D.Device.trace g.D.Device.faults Replace 0 b (if b then 8 else n) old.log c.reserve.new.self in
+    reserve_fails c.in-Err.e _ _ (causes false) (λ none. cc) refl (none_for old.log 0 _ old.ended)
+    (subst (λ (b : Bool). ReserveAnswers {T = Reservation} (Err c.in-Err.e) (IsUsedUpFor old.log 0 (if b then 8 else n)) (IsLeastOpen old.log) (causes b)) (not_in_blob old.log n size) c.in-Err.ensures.answers)
 
 -- The bound was reserved and completed.
 
@@ -47,7 +72,7 @@ invariant_of-self-in-Ok-complete g c =
     let none = c.if-self.false in
     let asked = c.saturating_add-asked.ensures in
     let small = old.small in
-    let pins = c.in-Ok-complete.ensures.same.pins ∙ c.in-Ok.ensures.same.pins in
+    let pins = c.in-Ok-complete.ensures.same.pins ∙ c.in-Ok.ensures.seen.pins in
     let pinned = old.pinned in
     record {
       ordered = ordered;
@@ -59,27 +84,43 @@ invariant_of-self-in-Ok-complete g c =
     }
 
 pub invariant_of-self-in-Err-complete : goal.invariant_of-self-in-Err-complete
-invariant_of-self-in-Err-complete g c = absurd (ends_well c.in-Err-complete.e _ (c.in-Ok.ensures.same.fault ∙ c.in-Ok.ensures.answers.0) c.in-Err-complete.ensures.answers)
+invariant_of-self-in-Err-complete g c = absurd (ends_well c.in-Err-complete.e _ c.in-Ok.ensures.answers.0.1 c.in-Err-complete.ensures.answers)
 
 pub returns-in-Ok-complete-clause-gives_on : goal.returns-in-Ok-complete-clause-gives_on
 returns-in-Ok-complete-clause-gives_on g c =
     let trace = g.D.Device.trace in
     let sum = g.C.Checksum.sum_of in
     let old = c.args.self.now in
-    let pins = c.in-Ok.ensures.same.pins in
+    let pins = c.in-Ok.ensures.seen.pins in
     let pinned = old.pinned in
     let ahead = old.ahead in
     let none = c.if-self.false in
     let asked = c.saturating_add-asked.ensures in
     let small = old.small in
     let both = goes_on_further trace sum old.log c.reserve.new.self c.complete.new.self c.in-Ok.ensures.keeps c.in-Ok-complete.ensures.goes_on in
+    let size = number_fits _ c.saturating_add-asked.result (config_of old.log).config.least c.saturating_add-asked.type_inv in
+    let came = comes_inline trace g.D.Device.faults sum Replace 0 (short_number c.saturating_add-asked.result) old.log c.reserve.new.self (Ok c.in-Ok.ticket) size
+    (record {
+      ticket = c.in-Ok.ensures.ticket;
+      stored = c.in-Ok.ensures.stored;
+      manifest = c.in-Ok.ensures.manifest;
+      position = c.in-Ok.ensures.position;
+      reserved = c.in-Ok.ensures.reserved;
+      others = c.in-Ok.ensures.others;
+      opens = c.in-Ok.ensures.opens;
+      seals = c.in-Ok.ensures.seals;
+      answers = c.in-Ok.ensures.answers;
+      device = c.in-Ok.ensures.device;
+      keeps = c.in-Ok.ensures.keeps;
+      seen = c.in-Ok.ensures.seen;
+      left = tt;
+    }) in
     record {
       asked = omega (arith, asked, ahead);
       block = refl;
-      generates = λ generates. has_generates trace sum _ (has_asked trace sum old.log c.reserve.new.self c.complete.new.self c.in-Ok.ticket old.bound old.asked c.saturating_add-asked.result (generates_has trace sum old generates)
-          (omega (arith, asked, small, ahead, none)) c.saturating_add-asked.type_inv (number_fits _ c.saturating_add-asked.result (config_of old.log).config.least c.saturating_add-asked.type_inv) c.in-Ok.ensures.keeps c.in-Ok.ensures.ticket c.in-Ok.ensures.reserved c.in-Ok-complete.ensures.position.reserved c.in-Ok-complete.ensures.goes_on
-          (λ H A f U fits. c.in-Ok-complete.ensures.fits H A f U _ fits c.in-Ok.ensures.ticket
-          (inline_stored trace sum c.reserve.new.self _ (awaited_inline c.reserve.new.self c.in-Ok.ticket _ c.in-Ok.ensures.ticket)) (omega (arith, pins, pinned))));
+      generates = λ generates. has_generates trace sum _ (has_asked trace sum old.log c.reserve.new.self c.complete.new.self old.bound old.asked c.saturating_add-asked.result (generates_has trace sum old generates)
+          (omega (arith, asked, small, ahead, none)) c.saturating_add-asked.type_inv size came.keeps came.reserved c.in-Ok-complete.ensures.position.reserved c.in-Ok-complete.ensures.goes_on
+          (λ H A f U fits. c.in-Ok-complete.ensures.fits H A f U _ fits came.ticket came.stored (omega (arith, pins, pinned))));
       keeps = λ generates. through_less sum _ old.bound old.bound old.asked (old.asked + old.block) _ _ (omega arith) (omega arith)
           (has_throughout trace sum old.log c.complete.new.self old.bound old.asked (generates_has trace sum old generates) both);
       config = both.config;

@@ -80,7 +80,7 @@ returns-clause-fits g c = λ H A f U m fits awaits stored out.
     let i : ℕ = c.index-index.result - v.gone in
     let at = among g c m awaits in
     let its = there g c m awaits in
-    let done = fits_completed g.C.Checksum.sum_of old.config.config.segment_size (state_of (g.D.Device.trace old.config.device)) old.fault (line_of old) c.segment_of-n.result v at old.site.place (nth_facts old) i r its awaits.own.open_yet (machine_of old.accountant) (noted_in old) m awaits.message stored.item (sym awaits.own.manifest ∙ c.requires.message) old.pins H A f U old.config.config.least c.in_default.is out fits in (
+    let done = fits_completed g.C.Checksum.sum_of old.config.config.segment_size (state_of (g.D.Device.trace old.config.device)) old.fault (line_of old) c.segment_of-n.result v at old.site.place (nth_facts old) i r its awaits.own.open_yet (machine_of old.accountant) (noted_in old) m awaits.message stored.below stored.item (sym awaits.own.manifest ∙ c.requires.message) old.pins H A f U old.config.config.least c.in_default.is out fits in (
       done.0,
       done.1,
       fits_ended old c.complete_in.new.self c.segment_of-n.result v at i r its awaits.own.open_yet (completing r) (completing_short v i r (nth_facts old c.segment_of-n.result v at) its awaits.own.open_yet) Completed (c.complete_in.ensures.line v r at its) c.complete_in.ensures.rest g.D.Device.trace g.C.Checksum.sum_of done.0 A f _ done.2,

@@ -7,7 +7,7 @@ use Rattle.sled_core.specs.Logged.{logged}
 use Rattle.sled_core.specs.Positions.{position_in}
 use Rattle.sled_core.specs.Running.{Fits}
 use Rattle.sled_core.proofs.Holds.KeptCalls.{goes_on_quietly}
-use Rattle.sled_core.proofs.Iterates.Failures.{first_kept}
+use Rattle.sled_core.proofs.Iterates.Failures.{first_kept, first_none}
 use Rattle.sled_core.proofs.Line.Faulty.{fits_with_kept, holds_with_kept}
 use Rattle.sled_core.proofs.Line.LineEnds.{noted_still}
 use Rattle.sled_core.proofs.logger.Log.next_of.Goals as goal
@@ -22,7 +22,7 @@ returns-clause-log g c =
     record {
       read = record {
         keeps = record {
-          goes_on = goes_on_quietly g.D.Device.trace g.C.Checksum.sum_of old _ (record { config = reads.config; checksum = reads.checksum }) reads.unwritten (omega arith);
+          goes_on = goes_on_quietly g.D.Device.trace g.C.Checksum.sum_of old _ (record { config = reads.config; checksum = reads.checksum }) reads.unwritten (omega arith) (first_none old.fault c.next-item.result _ c.first_failure-self.ensures);
           history = λ H holds. holds_with_kept g.C.Checksum.sum_of _ _ _ _ _ _ _ _ _ _ _ (logged H) size refl refl (ap state_of reads.unwritten) kept holds;
           fits = λ H A f U fits. fits_with_kept g.C.Checksum.sum_of _ _ _ _ _ _ _ _ _ _ _ _ _ H A f U size refl refl refl (ap state_of reads.unwritten) kept fits;
           noted = noted_still old;

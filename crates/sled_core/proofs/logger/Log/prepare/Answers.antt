@@ -9,6 +9,8 @@ use Rattle.sled_core.specs.Causes.{MakesRoom}
 use Rattle.sled_core.specs.Prepared.{PrepareAnswers, number_of}
 use Rattle.sled_core.specs.Turned.{HasPlace}
 use Rattle.sled_core.proofs.Line.Prepares.{IsHeadOf, head_size, here_further, here_open, next_open, next_used, prepared_here, prepared_next}
+use Rattle.sled_core.proofs.Line.Begins.{begins_same}
+use Rattle.sled_core.proofs.Line.Unchanged.{left_alone, unchanged_same}
 use Rattle.sled_core.proofs.logger.Log.prepare.Goals as goal
 
 -- Why it failed.
@@ -88,7 +90,7 @@ returns-clause-prepared g c =
     let did = c.in_ok-begin_segment.ensures in
     let long : head.len + n ≡ record_size (number_of old) kept.page n = head_size head kept n (number_of old) (record { bytes = c.head_for-head.ensures.bytes; len = c.head_for-head.ensures.len }) in
     prepared_next g.D.Device.trace g.C.Checksum.sum_of old kept n c.requires (head.len + n) long (λ has. let bad : false ≡ true = c.if-has_place.ensures.1 has in cc) c.begin_segment.new.self c.head_for.result
-    (record { bytes = c.head_for.ensures.bytes; len = c.head_for.ensures.len }) did.line did.machine did.rest did.room (λ is. did.batch (c.is_manifest-manifest.ensures ∙ is))
+    (record { bytes = c.head_for.ensures.bytes; len = c.head_for.ensures.len }) did.line did.machine did.rest did.reserved did.room (λ is. did.batch (c.is_manifest-manifest.ensures ∙ is))
 
 pub returns-clause-answers : goal.returns-clause-answers
 returns-clause-answers g c =
@@ -100,3 +102,17 @@ returns-clause-answers g c =
     let not : HasPlace old (head.len + n) → ⊥ = λ has. let bad : false ≡ true = c.if-has_place.ensures.1 has in cc in
     let none = next_open g.D.Device.trace g.C.Checksum.sum_of old kept n c.requires (head.len + n) long not in
     (λ used. used.1 c.in_ok-begin_segment.ensures.answers, omega (arith, none))
+
+-- All that is kept besides is kept.
+
+pub returns-in_err-room_for-clause-same : goal.returns-in_err-room_for-clause-same
+returns-in_err-room_for-clause-same g c = let did = c.in_err-room_for.ensures in unchanged_same c.args.self.now c.room_for.new.self (left_alone c.args.self.now c.room_for.new.self did.line did.rest)
+
+pub returns-then-has_place-clause-same : goal.returns-then-has_place-clause-same
+returns-then-has_place-clause-same g c = let did = c.in_ok-room_for.ensures in unchanged_same c.args.self.now c.room_for.new.self (left_alone c.args.self.now c.room_for.new.self did.line did.rest)
+
+pub returns-in_err-begin_segment-clause-same : goal.returns-in_err-begin_segment-clause-same
+returns-in_err-begin_segment-clause-same g c = unchanged_same c.args.self.now c.begin_segment.new.self c.in_err-begin_segment.ensures.err
+
+pub returns-clause-same : goal.returns-clause-same
+returns-clause-same g c = let did = c.in_ok-begin_segment.ensures in begins_same g.D.Device.trace g.C.Checksum.sum_of c.args.self.now c.begin_segment.new.self did.line did.machine did.rest

@@ -9,7 +9,7 @@ use Rattle.sled_codec.specs.declared.result.DiskPtr.{DiskPtr}
 use Rattle.sled_codec.specs.History.{Message, History}
 use Rattle.sled_codec.specs.Places.{MayBegin}
 use Rattle.sled_codec.specs.Pointers.{lid_of}
-use Rattle.sled_store.specs.Device.{State, Trace, content_of, state_of}
+use Rattle.sled_store.specs.Device.{State, Trace, state_of}
 use Rattle.sled_store.specs.Script.{Performs, after_all}
 use Rattle.sled_store.proofs.Traces.ScriptLemmas.{performs_nothing}
 use Rattle.sled_core.specs.Causes.{OnDone}
@@ -20,11 +20,11 @@ use Rattle.sled_core.specs.LogFile.{MessageStands}
 use Rattle.sled_core.specs.ReadBuffer.{IsUsedUpAt, IsWrittenPlace, ReadAnswers, SealsAround, SettleAnswers, WritesAround, held_at, settling}
 use Rattle.sled_core.specs.Reading.{IsInline, IsNoPlace, GivesMessage}
 use Rattle.sled_core.specs.ReadPointer.{IsDamageOf, place_read}
-use Rattle.sled_core.specs.Recoverable.{NoForeign}
 use Rattle.sled_core.proofs.Holds.KeptCalls.{kept_further, kept_still, tickets_further}
 use Rattle.sled_core.proofs.Holds.ReachLemmas.{fits_holds}
 use Rattle.sled_core.proofs.Line.Advanced.{same_current}
 use Rattle.sled_core.proofs.Line.BlobReads.{IsReadable, gives_read, readable, reads_stable}
+use Rattle.sled_core.proofs.Line.KeptReads.{err_waits, gives_at_once, kept_readable}
 use Rattle.sled_core.proofs.Line.LogSpans.{same_buffers}
 use Rattle.sled_core.proofs.Line.Reads.{above_zero, around_err, around_read, err_answers, err_gives, err_refuses, err_settles, fits_begins, is_settled, read_answers, read_held, read_reserved, read_settles, refuses_none, seals_err, seals_read, settled_blobs, settled_names, settled_record}
 use Rattle.sled_core.proofs.Line.Records.{inline_is}
@@ -61,9 +61,15 @@ returns-then-lsn-lt0-clause-undamaged g c = λ H A f U m fits there has at point
     not_there g c m.place at (fits_begins g.D.Device.trace g.C.Checksum.sum_of c.args.self.now H A f U fits c.in_default.is m there has (lid_of c.args.ptr) (pointer ∙ inline_is c.args.ptr inline))
 
 pub returns-then-lsn-lt0-clause-blob : goal.returns-then-lsn-lt0-clause-blob
-returns-then-lsn-lt0-clause-blob g c = λ H A f U m fits own is.
+returns-then-lsn-lt0-clause-blob g c = λ H A f U m fits zeros is.
     let old = c.args.self.now in
-    let reads = readable g.D.Device.trace g.C.Checksum.sum_of old H A f U fits c.in_default.is (state_of (g.D.Device.trace (device_of old))) refl own m is.entry in
+    let reads = readable g.D.Device.trace g.C.Checksum.sum_of old H A f U fits c.in_default.is (state_of (g.D.Device.trace (device_of old))) refl zeros m is.entry in
+    not_there g c m.place is.place (subst (λ (p : DiskPtr). MayBegin (segment_size_of old) (lid_of p)) is.pointer reads.begins)
+
+pub returns-then-lsn-lt0-clause-kept : goal.returns-then-lsn-lt0-clause-kept
+returns-then-lsn-lt0-clause-kept g c = λ H A f U m fits zeros is.
+    let old = c.args.self.now in
+    let reads = kept_readable g.D.Device.trace g.C.Checksum.sum_of old H A f U fits c.in_default.is (state_of (g.D.Device.trace (device_of old))) refl zeros m is.entry in
     not_there g c m.place is.place (subst (λ (p : DiskPtr). MayBegin (segment_size_of old) (lid_of p)) is.pointer reads.begins)
 
 pub returns-then-lsn-lt0-clause-calls : goal.returns-then-lsn-lt0-clause-calls
@@ -108,12 +114,17 @@ err_at g c = subst (λ z. SettleAnswers {T = Unit {0}} (Err c.in_err-settle_at.f
     (g.D.Device.faults c.args.self.now.config.device) (g.D.Device.faults c.settle_at.new.self.config.device)) (at_err g c) c.in_err-settle_at.ensures.answers
 
 pub returns-in_err-settle_at-clause-blob : goal.returns-in_err-settle_at-clause-blob
-returns-in_err-settle_at-clause-blob g c = λ H A f U m fits own is.
+returns-in_err-settle_at-clause-blob g c = λ H A f U m fits zeros is.
     let old = c.args.self.now in
     let at : ℤ = place_read c.args.lsn c.args.ptr in
-    let below : at <ℤ pos (synced_end old) = reads_stable g.D.Device.trace g.C.Checksum.sum_of old H A f U fits c.in_default.is own.zeros m c.args.pid c.args.lsn c.args.ptr is in
+    let below : at <ℤ pos (synced_end old) = reads_stable g.D.Device.trace g.C.Checksum.sum_of old H A f U fits c.in_default.is zeros m c.args.pid c.args.lsn c.args.ptr is in
     let e = err_from_is_err_and c.from_residual.result c.from_residual.ensures.1 in
     rw (e.1, e.2) (err_gives (Unit {0}) c.in_err-settle_at.field-0.0 m _ at _ _ _ _ _ _ _ below (held_stable old g.C.Checksum.sum_of at below) (λ used. stable_up old at used.0) (err_at g c))
+
+pub returns-in_err-settle_at-clause-kept : goal.returns-in_err-settle_at-clause-kept
+returns-in_err-settle_at-clause-kept g c = λ H A f U m fits zeros is.
+    let e = err_from_is_err_and c.from_residual.result c.from_residual.ensures.1 in
+    rw (e.1, e.2) (err_waits (Unit {0}) c.in_err-settle_at.field-0.0 m _ _ _ _ _ _ _ _ _ (err_at g c))
 
 pub returns-in_err-settle_at-clause-calls : goal.returns-in_err-settle_at-clause-calls
 returns-in_err-settle_at-clause-calls g c =
@@ -205,16 +216,27 @@ returns-clause-undamaged g c = λ H A f U m fits there has at pointer inline dam
 
 -- the blob of a message is there
 
-pub returns-clause-blob : goal.returns-clause-blob
-returns-clause-blob g c = λ H A f U m fits own is.
+pub returns-clause-kept : goal.returns-clause-kept
+returns-clause-kept g c = λ H A f U m fits zeros is.
     let old = c.args.self.now in
     let sum = g.C.Checksum.sum_of in
     let trace = g.D.Device.trace in
     let mid = c.settle_at.new.self in
     let s : State = state_of (trace (device_of mid)) in
     let same : s.blobs ≡ (state_of (trace (device_of old))).blobs = ap (λ (t : Trace). (state_of t).blobs) c.in_ok-settle_at.ensures.calls ∙ settled_blobs sum old _ (trace (device_of old)) in
-    let own_here : NoForeign sum (segment_size_of old) s (content_of s) = subst (λ (t : Trace). NoForeign sum (segment_size_of old) (state_of t) (content_of (state_of t))) c.read_settled.ensures.trace own in
-    let reads : IsReadable sum old s m c.args.ptr = subst (λ (p : DiskPtr). IsReadable sum old s m p) is.pointer (readable trace sum old H A f U fits c.in_default.is s same own_here m is.entry) in
+    let reads : IsReadable sum old s m c.args.ptr = subst (λ (p : DiskPtr). IsReadable sum old s m p) is.pointer (kept_readable trace sum old H A f U fits c.in_default.is s same zeros m is.entry) in
+    gives_at_once m _ c.read_settled.result
+    (gives_read sum _ s m c.args.pid _ c.args.ptr _ c.read_settled.result _ _ _ _ is.beside is.pointer is.page reads.has refl c.read_settled.ensures.reading c.read_settled.ensures.damage c.read_settled.ensures.answers)
+
+pub returns-clause-blob : goal.returns-clause-blob
+returns-clause-blob g c = λ H A f U m fits zeros is.
+    let old = c.args.self.now in
+    let sum = g.C.Checksum.sum_of in
+    let trace = g.D.Device.trace in
+    let mid = c.settle_at.new.self in
+    let s : State = state_of (trace (device_of mid)) in
+    let same : s.blobs ≡ (state_of (trace (device_of old))).blobs = ap (λ (t : Trace). (state_of t).blobs) c.in_ok-settle_at.ensures.calls ∙ settled_blobs sum old _ (trace (device_of old)) in
+    let reads : IsReadable sum old s m c.args.ptr = subst (λ (p : DiskPtr). IsReadable sum old s m p) is.pointer (readable trace sum old H A f U fits c.in_default.is s same zeros m is.entry) in
     gives_read sum _ s m c.args.pid _ c.args.ptr _ c.read_settled.result _ _ _ _ is.beside is.pointer is.page reads.has refl c.read_settled.ensures.reading c.read_settled.ensures.damage c.read_settled.ensures.answers
 
 pub returns-clause-corrupt : goal.returns-clause-corrupt

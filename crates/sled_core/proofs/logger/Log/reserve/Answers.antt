@@ -1,97 +1,93 @@
--- The log is made ready for a record; then its placeholder is laid out there.
-use Rattle.std.proofs.Common.{◌≡◌, ◌∙◌, ◌+◌, ◌++◌, ap, sym, subst, refl, arith, ℕ, List, length, drop, Some, None, false}
-use Rattle.std.specs.Option.{IsSome}
-use Rattle.sled_core.specs.Buffers.{placeholder_head, reserved_for}
-use Rattle.sled_core.specs.declared.iobuf.Purpose.{Purpose}
-use Rattle.sled_core.specs.Manifests.{kind_for}
-use Rattle.sled_core.specs.Fits.{current_of, line_of}
-use Rattle.sled_core.specs.Prepared.{IsPrepared, text_of}
-use Rattle.sled_core.specs.Turned.{IsTicketFor, reserved_now}
-use Rattle.sled_core.specs.Waiting.{at_last}
+-- A message is reserved by how long its item is: in its record, or in a blob.
+use Rattle.std.proofs.Common.{◌≡◌, ◌∙◌, sym, ℕ, List, length, true, false}
+use Rattle.sled_codec.specs.declared.result.Error.TheVariants.{Io}
+use Rattle.sled_core.specs.Fits.{body_length, in_blob_of}
+use Rattle.sled_core.specs.Reserves.{ReservesAs}
 use Rattle.sled_core.proofs.Holds.KeptCalls.{kept_still}
-use Rattle.sled_core.proofs.Line.Prepares.{made_end, made_keeps, made_opens, made_others, made_position, made_same, made_seals, made_ticket}
-use Rattle.sled_core.proofs.Line.Unchanged.{unchanged_keeps}
-use Rattle.sled_core.proofs.Reserve.MarksLemmas.{kind_of_manifest}
+use Rattle.sled_core.proofs.Line.Reserved.{device_same, reserved_blob, reserved_inline}
+use Rattle.sled_core.proofs.Line.Unchanged.{unchanged_still}
 use Rattle.sled_core.proofs.logger.Log.reserve.Given as given
 use Rattle.sled_core.proofs.logger.Log.reserve.Goals as goal
+
+-- Where the log keeps a failure.
+
+pub returns-in-Some-clause-device : goal.returns-in-Some-clause-device
+returns-in-Some-clause-device g c =
+    let old = c.args.self.now in
+    let item : List ℕ = g.T.Serialize.short (g.T.Serialize.meaning c.args.item.now) in
+    device_same g.D.Device.trace g.D.Device.faults g.C.Checksum.sum_of old old c.args.kind c.args.pid item (in_blob_of old (length item)) (body_length old (length item)) (unchanged_still old) (Io c.in-Some.e) (in_blob_of old (length item)) _ _
 
 pub returns-in-Some-clause-keeps : goal.returns-in-Some-clause-keeps
 returns-in-Some-clause-keeps g c = kept_still g.D.Device.trace g.C.Checksum.sum_of c.args.self.now
 
-pub returns-in_default-kind_for-clause-keeps : goal.returns-in_default-kind_for-clause-keeps
-returns-in_default-kind_for-clause-keeps g c = kept_still g.D.Device.trace g.C.Checksum.sum_of c.args.self.now
+-- Where the item goes to a blob.
 
-pub returns-in_err-head-clause-keeps : goal.returns-in_err-head-clause-keeps
-returns-in_err-head-clause-keeps g c = unchanged_keeps c.args.self.now c.prepare.new.self c.in_err-head.ensures.err g.D.Device.trace g.C.Checksum.sum_of
+in_a_blob : (g : given.Over) (c : goal.After-reserve_in_blob g)
+    → ReservesAs g.D.Device.trace g.D.Device.faults g.C.Checksum.sum_of c.reserve_in_blob.result c.args.kind c.args.pid (g.T.Serialize.short (g.T.Serialize.meaning c.args.item.now))
+    (in_blob_of c.args.self.now (length (g.T.Serialize.short (g.T.Serialize.meaning c.args.item.now)))) (body_length c.args.self.now (length (g.T.Serialize.short (g.T.Serialize.meaning c.args.item.now)))) c.args.self.now c.reserve_in_blob.new.self
+in_a_blob g c =
+    reserved_blob g.D.Device.trace g.D.Device.faults g.C.Checksum.sum_of c.reserve_in_blob.result c.args.kind c.args.pid (g.T.Serialize.short (g.T.Serialize.meaning c.args.item.now)) c.args.self.now c.reserve_in_blob.new.self
+    (λ fits. let clash : false ≡ true = sym c.if-not-fits_inline.true ∙ c.fits_inline.ensures.1 fits in cc) c.reserve_in_blob.ensures
 
--- The item of a manifest has 8 bytes.
-pub append-requires-clause-body : goal.append-requires-clause-body
-append-requires-clause-body g c = λ is. (kind_of_manifest c.args.kind c.args.pid false c.serialized_size-item_len.result c.in-Some-kind_for.message_kind (sym c.kind_for.ensures ∙ c.in-Some-kind_for.is) is).0
+pub returns-then-not-fits_inline-clause-ticket : goal.returns-then-not-fits_inline-clause-ticket
+returns-then-not-fits_inline-clause-ticket g c = (in_a_blob g c).ticket
 
--- What was laid out.
+pub returns-then-not-fits_inline-clause-stored : goal.returns-then-not-fits_inline-clause-stored
+returns-then-not-fits_inline-clause-stored g c = (in_a_blob g c).stored
 
-abbrev its_item : (g : given.Over) → goal.After-append g → List ℕ
-its_item g c = g.T.Serialize.short (g.T.Serialize.meaning c.args.item.now)
+pub returns-then-not-fits_inline-clause-position : goal.returns-then-not-fits_inline-clause-position
+returns-then-not-fits_inline-clause-position g c = (in_a_blob g c).position
 
-abbrev its_kept : (g : given.Over) → goal.After-append g → Purpose
-its_kept g c = record { log_kind = c.args.kind; kind = c.in-Some-kind_for.message_kind; page = c.args.pid; blob = None }
+pub returns-then-not-fits_inline-clause-reserved : goal.returns-then-not-fits_inline-clause-reserved
+returns-then-not-fits_inline-clause-reserved g c = (in_a_blob g c).reserved
 
-its_ready : (g : given.Over) (c : goal.After-append g) → IsPrepared g.D.Device.trace g.C.Checksum.sum_of c.args.self.now c.prepare.new.self (its_kept g c) c.in_ok-head.head (length (its_item g c))
-its_ready g c = subst (λ n. IsPrepared g.D.Device.trace g.C.Checksum.sum_of c.args.self.now c.prepare.new.self (its_kept g c) c.in_ok-head.head n) c.serialized_size-item_len.ensures c.in_ok-head.ensures.prepared
+pub returns-then-not-fits_inline-clause-opens : goal.returns-then-not-fits_inline-clause-opens
+returns-then-not-fits_inline-clause-opens g c = (in_a_blob g c).opens
 
-its_kind : (g : given.Over) (c : goal.After-append g) → kind_for c.args.kind c.args.pid false (length (its_item g c)) ≡ Some c.in-Some-kind_for.message_kind
-its_kind g c = sym (c.kind_for.ensures ∙ ap (kind_for c.args.kind c.args.pid false) c.serialized_size-item_len.ensures) ∙ c.in-Some-kind_for.is
+pub returns-then-not-fits_inline-clause-seals : goal.returns-then-not-fits_inline-clause-seals
+returns-then-not-fits_inline-clause-seals g c = (in_a_blob g c).seals
 
-its_line : (g : given.Over) (c : goal.After-append g)
-    → line_of c.append.new.self ≡ at_last (reserved_now (placeholder_head (text_of c.in_ok-head.head) ++ its_item g c) (reserved_for (its_kept g c) (length (current_of c.prepare.new.self).parts.bytes) (length (text_of c.in_ok-head.head)) (length (its_item g c))
-    (g.C.Checksum.sum_of (its_item g c ++ drop 4 (text_of c.in_ok-head.head))))) (line_of c.prepare.new.self)
-its_line g c =
-    let head : List ℕ = text_of c.in_ok-head.head in
-    let item : List ℕ = its_item g c in
-    let long = (its_ready g c).long in
-    let counted = c.serialized_size-item_len.ensures in
-    c.append.ensures.line
-    ∙ (λ i. at_last (reserved_now (placeholder_head head ++ item) (reserved_for (its_kept g c) (length (current_of c.prepare.new.self).parts.bytes) (long i) (counted i) (g.C.Checksum.sum_of (item ++ drop 4 head)))) (line_of c.prepare.new.self))
+pub returns-then-not-fits_inline-clause-answers : goal.returns-then-not-fits_inline-clause-answers
+returns-then-not-fits_inline-clause-answers g c = (in_a_blob g c).answers
 
-its_ticket : (g : given.Over) (c : goal.After-append g) → IsTicketFor c.prepare.new.self c.append.result (length (text_of c.in_ok-head.head) + length (its_item g c))
-its_ticket g c =
-    let long = (its_ready g c).long in
-    let counted = c.serialized_size-item_len.ensures in
-    subst (IsTicketFor c.prepare.new.self c.append.result) (λ i. long i + counted i) c.append.ensures.ticket
+pub returns-then-not-fits_inline-clause-device : goal.returns-then-not-fits_inline-clause-device
+returns-then-not-fits_inline-clause-device g c = (in_a_blob g c).device
+
+pub returns-then-not-fits_inline-clause-left : goal.returns-then-not-fits_inline-clause-left
+returns-then-not-fits_inline-clause-left g c = (in_a_blob g c).left
+
+-- Where it goes to its record.
+
+in_record : (g : given.Over) (c : goal.After-reserve_inline g)
+    → ReservesAs g.D.Device.trace g.D.Device.faults g.C.Checksum.sum_of c.reserve_inline.result c.args.kind c.args.pid (g.T.Serialize.short (g.T.Serialize.meaning c.args.item.now))
+    (in_blob_of c.args.self.now (length (g.T.Serialize.short (g.T.Serialize.meaning c.args.item.now)))) (body_length c.args.self.now (length (g.T.Serialize.short (g.T.Serialize.meaning c.args.item.now)))) c.args.self.now c.reserve_inline.new.self
+in_record g c =
+    reserved_inline g.D.Device.trace g.D.Device.faults g.C.Checksum.sum_of c.reserve_inline.result c.args.kind c.args.pid (g.T.Serialize.short (g.T.Serialize.meaning c.args.item.now)) c.args.self.now c.reserve_inline.new.self
+    (c.fits_inline.ensures.0 c.if-not-fits_inline.false) c.reserve_inline.ensures
 
 pub returns-clause-ticket : goal.returns-clause-ticket
-returns-clause-ticket g c = made_ticket g.D.Device.trace g.C.Checksum.sum_of c.args.self.now c.prepare.new.self c.append.new.self (its_kept g c) c.in_ok-head.head (its_item g c) (its_ready g c) (its_kind g c) refl c.ranges.pid.fits (its_line g c) c.append.ensures.rest c.append.ensures.accountant c.append.result (its_ticket g c) c.append.ensures.manifest
+returns-clause-ticket g c = (in_record g c).ticket
 
-pub returns-clause-manifest : goal.returns-clause-manifest
-returns-clause-manifest g c = c.append.ensures.manifest
+pub returns-clause-stored : goal.returns-clause-stored
+returns-clause-stored g c = (in_record g c).stored
 
 pub returns-clause-position : goal.returns-clause-position
-returns-clause-position g c = made_position g.D.Device.trace g.C.Checksum.sum_of c.args.self.now c.prepare.new.self c.append.new.self (its_kept g c) c.in_ok-head.head (its_item g c) (its_ready g c) (its_kind g c) refl c.ranges.pid.fits (its_line g c) c.append.ensures.rest c.append.ensures.accountant
+returns-clause-position g c = (in_record g c).position
 
 pub returns-clause-reserved : goal.returns-clause-reserved
-returns-clause-reserved g c =
-    let end = c.append.ensures.reserved in
-    let long = (its_ready g c).long in
-    let counted = c.serialized_size-item_len.ensures in
-    made_end g.D.Device.trace g.C.Checksum.sum_of c.args.self.now c.prepare.new.self c.append.new.self (its_kept g c) c.in_ok-head.head (its_item g c) (its_ready g c) (its_kind g c) refl c.ranges.pid.fits (its_line g c) c.append.ensures.rest c.append.ensures.accountant (omega (arith, end, long, counted))
-
-pub returns-clause-others : goal.returns-clause-others
-returns-clause-others g c = made_others g.D.Device.trace g.C.Checksum.sum_of c.args.self.now c.prepare.new.self c.append.new.self (its_kept g c) c.in_ok-head.head (its_item g c) (its_ready g c) (its_kind g c) refl c.ranges.pid.fits (its_line g c) c.append.ensures.rest c.append.ensures.accountant
+returns-clause-reserved g c = (in_record g c).reserved
 
 pub returns-clause-opens : goal.returns-clause-opens
-returns-clause-opens g c = made_opens g.D.Device.trace g.C.Checksum.sum_of c.args.self.now c.prepare.new.self c.append.new.self (its_kept g c) c.in_ok-head.head (its_item g c) (its_ready g c) (its_kind g c) refl c.ranges.pid.fits (its_line g c) c.append.ensures.rest c.append.ensures.accountant
+returns-clause-opens g c = (in_record g c).opens
 
 pub returns-clause-seals : goal.returns-clause-seals
-returns-clause-seals g c = made_seals g.D.Device.trace g.C.Checksum.sum_of c.args.self.now c.prepare.new.self c.append.new.self (its_kept g c) c.in_ok-head.head (its_item g c) (its_ready g c) (its_kind g c) refl c.ranges.pid.fits (its_line g c) c.append.ensures.rest c.append.ensures.accountant
-
-pub returns-clause-keeps : goal.returns-clause-keeps
-returns-clause-keeps g c = made_keeps g.D.Device.trace g.C.Checksum.sum_of c.args.self.now c.prepare.new.self c.append.new.self (its_kept g c) c.in_ok-head.head (its_item g c) (its_ready g c) (its_kind g c) refl c.ranges.pid.fits (its_line g c) c.append.ensures.rest c.append.ensures.accountant
-
-pub returns-clause-same : goal.returns-clause-same
-returns-clause-same g c = made_same g.D.Device.trace g.C.Checksum.sum_of c.args.self.now c.prepare.new.self c.append.new.self (its_kept g c) c.in_ok-head.head (its_item g c) (its_ready g c) (its_kind g c) refl c.ranges.pid.fits (its_line g c) c.append.ensures.rest c.append.ensures.accountant
+returns-clause-seals g c = (in_record g c).seals
 
 pub returns-clause-answers : goal.returns-clause-answers
-returns-clause-answers g c =
-    let k = c.serialized_size-item_len.ensures in
-    let did = c.in_ok-head.ensures.answers in
-    (c.in_default.is, subst IsSome (sym (its_kind g c)) refl, rw (sym k) did.0, rw (sym k) did.1)
+returns-clause-answers g c = (in_record g c).answers
+
+pub returns-clause-device : goal.returns-clause-device
+returns-clause-device g c = (in_record g c).device
+
+pub returns-clause-left : goal.returns-clause-left
+returns-clause-left g c = (in_record g c).left

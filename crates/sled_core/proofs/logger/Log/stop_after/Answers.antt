@@ -15,7 +15,7 @@ returns-clause-keeps g c =
     let old = c.args.self.now in
     let same = c.stop_after.ensures.trace in
     record {
-      goes_on = goes_on_quietly g.D.Device.trace g.C.Checksum.sum_of old _ (record { config = refl; checksum = refl }) same (omega arith);
+      goes_on = goes_on_quietly g.D.Device.trace g.C.Checksum.sum_of old _ (record { config = refl; checksum = refl }) same (omega arith) (λ none. none);
       history = λ H holds. holds_with_device g.C.Checksum.sum_of _ _ _ _ _ _ _ _ (logged H) (ap state_of same) refl holds;
       fits = λ H A f U fits. fits_with_device g.C.Checksum.sum_of _ _ _ _ _ _ _ _ _ H A f U (ap state_of same) refl fits;
       noted = noted_still old;

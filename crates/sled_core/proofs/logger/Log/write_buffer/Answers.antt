@@ -17,9 +17,10 @@ use Rattle.sled_core.specs.Positions.{Position, position_in}
 use Rattle.sled_core.specs.Running.{Fits}
 use Rattle.sled_core.specs.Turned.{ChangesDevice, IsReadyIn, promoted, written_now}
 use Rattle.sled_core.specs.Waiting.{last_of}
+use Rattle.sled_core.proofs.Holds.StoredItems.{items_same}
 use Rattle.sled_core.proofs.Line.Faulty.{fits_with_same, holds_with_same}
 use Rattle.sled_core.proofs.Line.LineEnds.{noted_later, noted_same}
-use Rattle.sled_core.proofs.Line.LogWrites.{KeepsInvariants, crash_write, end_grows, fits_done, fits_failed, holds_done, holds_failed, keeps_invariants, line_after, line_left, noted_left, same_line, segments_written}
+use Rattle.sled_core.proofs.Line.LogWrites.{KeepsInvariants, crash_write, end_grows, fits_done, fits_failed, holds_done, holds_failed, keeps_invariants, line_after, line_left, names, noted_left, same_line, segments_written}
 use Rattle.sled_core.proofs.Line.OpenManifests.{manifests_promoted, manifests_written}
 use Rattle.sled_core.proofs.Line.OpenPlaces.{places_promoted, set_places}
 use Rattle.sled_core.proofs.Line.Promotes.{awaits_promoted, last_promoted, last_set}
@@ -57,6 +58,8 @@ returns-in_err-write_bytes-clause-keeps g c =
         later = later_performed _ _ _ did.at_most;
         stable = let same = ap written_to (same_line old mid rest) in omega (arith, same);
         crash = λ H A f U fits. crash_write old c.args.n c.args.k r g.D.Device.trace g.C.Checksum.sum_of c.requires.fault (g.D.Device.trace mid.config.device) did.at_most H A f U fits;
+        sound = λ none. c.requires.fault;
+        items = λ none. items_same g.D.Device.trace g.C.Checksum.sum_of old _ (names old c.args.n c.args.k r g.D.Device.trace g.C.Checksum.sum_of c.requires.fault (g.D.Device.trace mid.config.device) did.at_most).0;
       };
       history = λ H holds. holds_with_same g.C.Checksum.sum_of _ _ _ _ _ _ _ _ _ _ (logged H) kept_noted sizes (same_line old mid rest) slots
           (holds_failed old c.args.n c.args.k r g.D.Device.trace g.C.Checksum.sum_of c.requires.fault (g.D.Device.trace mid.config.device) did.at_most mid.fault did.refused H holds);
@@ -108,6 +111,8 @@ returns-clause-keeps g c =
         later = later_performed _ _ _ did.at_most;
         stable = let same = ap written_to line in let up = end_grows old c.args.n c.args.k r in omega (arith, same, up);
         crash = λ H A f U fits. crash_write old c.args.n c.args.k r g.D.Device.trace g.C.Checksum.sum_of c.requires.fault (g.D.Device.trace mid.config.device) did.at_most H A f U fits;
+        sound = λ none. c.requires.fault;
+        items = λ none. items_same g.D.Device.trace g.C.Checksum.sum_of old _ (names old c.args.n c.args.k r g.D.Device.trace g.C.Checksum.sum_of c.requires.fault (g.D.Device.trace mid.config.device) did.at_most).0;
       };
       history = λ H holds. holds_with_same g.C.Checksum.sum_of _ _ _ _ _ _ _ _ _ _ (logged H) (noted_left_is old c.args.n c.args.k r (noted_items old mid rest) line) sizes line slots
           (holds_done old c.args.n c.args.k r g.D.Device.trace g.C.Checksum.sum_of c.requires.fault (g.D.Device.trace mid.config.device) did.calls mid.fault did.answers.1 H holds);

@@ -7,7 +7,7 @@ use Rattle.sled_core.specs.Keeps.{SamePosition}
 use Rattle.sled_core.specs.OpenPlaces.{TakesOut}
 use Rattle.sled_core.specs.Running.{Fits}
 use Rattle.sled_core.specs.Causes.{FaultAnswers}
-use Rattle.sled_core.proofs.PublicLaws.{awaited, awaited_inline, awaited_small, inline_stored, fits_holds, place_back}
+use Rattle.sled_core.proofs.PublicLaws.{awaited, awaited_small, inline_stored, fits_holds, place_back}
 use Rattle.sled_codec.specs.declared.result.DiskPtr.{DiskPtr}
 use Rattle.sled_log.specs.Endings.{HasRoomFor, HasRoomToApply, TakesTicket, applied_to}
 use Rattle.sled_log.specs.RunPhases.{view_by}
@@ -87,7 +87,7 @@ returns-in-Ok-clause-step g c = λ k at asked.
     let done = c.in-Ok.ensures in
     let small = awaited_small old.log ticket m awaits in
     let pinned : 0 < pins_of mid.log = subst (λ x. 0 < pins_of x) (sym takes.log) roomy.pinned in
-    let gives = done.fits k.history k.acknowledged k.floor roomy.unmarked m fits awaits_mid (inline_stored trace sum mid.log m (awaited_inline mid.log ticket m awaits_mid)) pinned in
+    let gives = done.fits k.history k.acknowledged k.floor roomy.unmarked m fits awaits_mid (inline_stored trace sum mid.log m ((roomy.tickets.each c.args.number m its.1).joins its.2).inline) pinned in
     let place = place_back c.in-Ok.place m.place (done.place.0 ∙ sym says.0) small in
     let pointer : c.in-Ok.pointer ≡ m.pointer = done.place.1 ∙ sym says.1 in
     let size : c.reservation_len-size.result ≡ m.size = c.reservation_len-size.ensures ∙ sym says.2 in

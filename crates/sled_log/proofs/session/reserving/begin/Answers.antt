@@ -1,14 +1,14 @@
 -- A place is kept for the manifest of a batch, or nothing is done but that room is made.
-use Rattle.std.proofs.Common.{◌∙◌, ap, arith, length, refl, sym}
+use Rattle.std.proofs.Common.{◌∙◌, Ok, Err, ap, arith, length, refl, sym}
 use Rattle.sled_codec.specs.declared.serialization.message.LogKind.TheVariants as does
-use Rattle.sled_core.specs.declared.reservation.Reservation.{Reservation}
 use Rattle.sled_core.specs.Fits.{FitsInline, fault_of, segment_size_of}
 use Rattle.sled_core.specs.Manifests.{manifest_page}
+use Rattle.sled_core.proofs.PublicLaws.{comes_inline}
 use Rattle.sled_log.specs.declared.session.opened.Opened.{Opened}
 use Rattle.sled_log.specs.RunPhases.{view_by}
 use Rattle.sled_log.specs.TicketSteps.{blank_manifest}
 use Rattle.sled_log.proofs.Sessions.Carried.{begin_does, begin_idle}
-use Rattle.sled_log.proofs.Sessions.Reserving.{failed_tried, manifest_tried, room_at, room_tried, roomless_tried}
+use Rattle.sled_log.proofs.Sessions.Reserving.{failed_tried, kept_place, manifest_tried, room_at, room_tried, roomless_tried}
 use Rattle.sled_log.proofs.Sessions.RunLemmas.{on_failure, on_success}
 use Rattle.sled_log.proofs.session.reserving.begin.Goals as goal
 
@@ -28,7 +28,7 @@ returns-then-is_err-clause-step g c = λ k at asked.
 
 pub hold_manifest-requires : goal.hold_manifest-requires
 hold_manifest-requires g c =
-    on_success c.room_for_ticket.result _ (sym c.is_err.ensures.value ∙ c.if-is_err.false) c.room_for_ticket.ensures.enough (sym (ap (λ x. fault_of x) c.room_for_ticket.ensures.room.log) ∙ c.in-Ok.ensures.answers.0)
+    on_success c.room_for_ticket.result _ (sym c.is_err.ensures.value ∙ c.if-is_err.false) c.room_for_ticket.ensures.enough (sym (ap (λ x. fault_of x) c.room_for_ticket.ensures.room.log) ∙ c.in-Ok.ensures.answers.0.0)
 
 -- The place that the log kept has a ticket.
 pub returns-in-Ok-clause-step : goal.returns-in-Ok-clause-step
@@ -41,20 +41,23 @@ returns-in-Ok-clause-step g c = λ k at asked.
     begin_does view sum old k c.hold_manifest.new.opened c.hold_manifest.result
     (room_tried view sum old mid c.hold_manifest.new.opened does.Skip manifest_page blank_manifest c.hold_manifest.result k room
     (manifest_tried view sum mid c.hold_manifest.new.opened c.reserve.new.self does.Skip manifest_page blank_manifest c.in-Ok.reservation c.hold_manifest.result k
+    (kept_place g.D.Device.trace g.D.Device.faults sum mid.log c.reserve.new.self does.Skip manifest_page blank_manifest c.in-Ok.reservation
+    (comes_inline g.D.Device.trace g.D.Device.faults sum does.Skip manifest_page blank_manifest mid.log c.reserve.new.self (Ok c.in-Ok.reservation) (fits_inline mid)
     (record {
       ticket = c.in-Ok.ensures.ticket;
+      stored = c.in-Ok.ensures.stored;
+      manifest = c.in-Ok.ensures.manifest;
       position = c.in-Ok.ensures.position;
       reserved = c.in-Ok.ensures.reserved;
       others = c.reserve.ensures.others;
       opens = c.in-Ok.ensures.opens;
-      waiting = c.in-Ok.ensures.seals.0;
-      start = c.in-Ok.ensures.seals.1;
-      fault = c.in-Ok.ensures.answers.0;
-      free = c.in-Ok.ensures.answers.2;
-      few = c.in-Ok.ensures.answers.3;
-      fits = c.reserve.ensures.keeps.fits;
-      same = c.reserve.ensures.same;
-    })
+      seals = c.in-Ok.ensures.seals;
+      answers = c.in-Ok.ensures.answers;
+      device = c.in-Ok.ensures.device;
+      keeps = c.reserve.ensures.keeps;
+      seen = c.reserve.ensures.seen;
+      left = tt;
+    })))
     c.hold_manifest.ensures (room_at _ sum old mid k room at) refl refl (fits_inline mid) (begin_idle view sum old k asked)))
 
 -- A log that kept no place is as it was.
@@ -67,5 +70,20 @@ returns-in-Err-clause-step g c = λ k at asked.
     let room = c.room_for_ticket.ensures.room in
     begin_does view sum old k _ _
     (room_tried view sum old mid _ does.Skip manifest_page blank_manifest _ k room
-    (failed_tried view sum mid c.reserve.new.self does.Skip manifest_page blank_manifest k (room_at _ sum old mid k room at) Reservation c.in-Err.e (λ none. cc) (fits_inline mid)
-    c.reserve.ensures.keeps.fits c.in-Err.ensures.err c.reserve.ensures.same c.in-Err.ensures.answers))
+    (failed_tried view sum mid c.reserve.new.self does.Skip manifest_page blank_manifest k (room_at _ sum old mid k room at) g.D.Device.faults c.in-Err.e (λ none. cc) (fits_inline mid)
+    (comes_inline g.D.Device.trace g.D.Device.faults sum does.Skip manifest_page blank_manifest mid.log c.reserve.new.self (Err c.in-Err.e) (fits_inline mid)
+    (record {
+      ticket = tt;
+      stored = tt;
+      manifest = tt;
+      position = tt;
+      reserved = tt;
+      others = c.reserve.ensures.others;
+      opens = tt;
+      seals = tt;
+      answers = c.in-Err.ensures.answers;
+      device = c.in-Err.ensures.device;
+      keeps = c.reserve.ensures.keeps;
+      seen = c.reserve.ensures.seen;
+      left = c.in-Err.ensures.left;
+    }))))

@@ -1,12 +1,12 @@
 -- A place is kept for a message, or nothing is done but that room is made.
 use Rattle.std.proofs.Common.{◌≡◌, ◌≢◌, ◌<◌, ◌∙◌, ℕ, Bool, Vec, Global, arith, false, None, ap, length, sym}
 use Rattle.sled_core.specs.Manifests.{manifest_page}
-use Rattle.std.specs.Prelude.{Result, OnOk, is_err}
+use Rattle.std.specs.Prelude.{Result, Ok, Err, OnOk, is_err}
 use Rattle.sled_core.specs.Fits.{fault_of}
 use Rattle.sled_log.specs.declared.session.opened.Opened.{Opened}
 use Rattle.sled_log.specs.RunPhases.{view_by}
-use Rattle.sled_core.specs.declared.reservation.Reservation.{Reservation}
-use Rattle.sled_log.proofs.Sessions.Reserving.{failed_tried, held_tried, kind_some, room_at, room_may, room_tried, roomless_tried}
+use Rattle.sled_core.proofs.PublicLaws.{comes_inline}
+use Rattle.sled_log.proofs.Sessions.Reserving.{failed_tried, held_tried, kept_place, kind_some, room_at, room_may, room_tried, roomless_tried}
 use Rattle.sled_log.proofs.Sessions.RunLemmas.{on_failure, on_success}
 use Rattle.sled_log.proofs.session.reserving.reserve.Goals as goal
 
@@ -22,11 +22,11 @@ enough r old new P none room same whole = on_success r _ none room (sym (ap (λ 
 
 pub hold-requires-clause-room : goal.hold-requires-clause-room
 hold-requires-clause-room g c =
-    (enough c.room_for.result c.args.opened.now c.room_for.new.opened _ (sym c.is_err.ensures.value ∙ c.if-is_err.false) c.room_for.ensures.enough c.room_for.ensures.room.log c.in-Ok.ensures.answers.0).0
+    (enough c.room_for.result c.args.opened.now c.room_for.new.opened _ (sym c.is_err.ensures.value ∙ c.if-is_err.false) c.room_for.ensures.enough c.room_for.ensures.room.log c.in-Ok.ensures.answers.0.0).0
 
 pub hold-requires-clause-page : goal.hold-requires-clause-page
 hold-requires-clause-page g c =
-    (enough c.room_for.result c.args.opened.now c.room_for.new.opened _ (sym c.is_err.ensures.value ∙ c.if-is_err.false) c.room_for.ensures.enough c.room_for.ensures.room.log c.in-Ok.ensures.answers.0).1
+    (enough c.room_for.result c.args.opened.now c.room_for.new.opened _ (sym c.is_err.ensures.value ∙ c.if-is_err.false) c.room_for.ensures.enough c.room_for.ensures.room.log c.in-Ok.ensures.answers.0.0).1
 
 -- A page that is noted is never that of manifests.
 noted_page : (busy : Vec Bool Global) (page : ℕ) → page < length busy.items → page ≢ manifest_page
@@ -34,7 +34,7 @@ noted_page busy page low is = let most = busy.small in omega (arith, low, most, 
 
 pub hold-requires-clause-message : goal.hold-requires-clause-message
 hold-requires-clause-message g c = noted_page c.room_for.new.opened.busy c.args.page
-    (enough c.room_for.result c.args.opened.now c.room_for.new.opened _ (sym c.is_err.ensures.value ∙ c.if-is_err.false) c.room_for.ensures.enough c.room_for.ensures.room.log c.in-Ok.ensures.answers.0).1
+    (enough c.room_for.result c.args.opened.now c.room_for.new.opened _ (sym c.is_err.ensures.value ∙ c.if-is_err.false) c.room_for.ensures.enough c.room_for.ensures.room.log c.in-Ok.ensures.answers.0.0).1
 
 -- The place that the log kept has a ticket.
 pub returns-in-Ok-clause-step : goal.returns-in-Ok-clause-step
@@ -48,22 +48,26 @@ returns-in-Ok-clause-step g c = λ k at may.
     let n = length bytes in
     room_tried view sum old mid c.hold.new.opened c.args.kind c.args.page bytes c.hold.result k room
     (held_tried view sum mid c.hold.new.opened c.reserve.new.self c.args.kind c.args.page bytes c.in-Ok.reservation c.hold.result k
+    (kept_place g.D.Device.trace g.D.Device.faults sum mid.log c.reserve.new.self c.args.kind c.args.page bytes c.in-Ok.reservation
+    (comes_inline g.D.Device.trace g.D.Device.faults sum c.args.kind c.args.page bytes mid.log c.reserve.new.self (Ok c.in-Ok.reservation)
+    (room_may old mid k c.args.kind c.args.page n room may).fits
     (record {
       ticket = c.in-Ok.ensures.ticket;
+      stored = c.in-Ok.ensures.stored;
+      manifest = c.in-Ok.ensures.manifest;
       position = c.in-Ok.ensures.position;
       reserved = c.in-Ok.ensures.reserved;
       others = c.reserve.ensures.others;
       opens = c.in-Ok.ensures.opens;
-      waiting = c.in-Ok.ensures.seals.0;
-      start = c.in-Ok.ensures.seals.1;
-      fault = c.in-Ok.ensures.answers.0;
-      free = c.in-Ok.ensures.answers.2;
-      few = c.in-Ok.ensures.answers.3;
-      fits = c.reserve.ensures.keeps.fits;
-      same = c.reserve.ensures.same;
-    })
+      seals = c.in-Ok.ensures.seals;
+      answers = c.in-Ok.ensures.answers;
+      device = c.in-Ok.ensures.device;
+      keeps = c.reserve.ensures.keeps;
+      seen = c.reserve.ensures.seen;
+      left = tt;
+    })))
     c.hold.ensures.held (room_at _ sum old mid k room at) c.requires.kind
-    (enough c.room_for.result old mid _ (sym c.is_err.ensures.value ∙ c.if-is_err.false) c.room_for.ensures.enough room.log c.in-Ok.ensures.answers.0).1
+    (enough c.room_for.result old mid _ (sym c.is_err.ensures.value ∙ c.if-is_err.false) c.room_for.ensures.enough room.log c.in-Ok.ensures.answers.0.0).1
     (hold-requires-clause-message g c.before)
     (room_may old mid k c.args.kind c.args.page n room may))
 
@@ -76,6 +80,22 @@ returns-in-Err-clause-step g c = λ k at may.
     let old = c.args.opened.now in
     let mid = c.room_for.new.opened in
     let room = c.room_for.ensures.room in
+    let fits = (room_may old mid k c.args.kind c.args.page (length bytes) room may).fits in
     room_tried view sum old mid _ c.args.kind c.args.page bytes _ k room
-    (failed_tried view sum mid c.reserve.new.self c.args.kind c.args.page bytes k (room_at _ sum old mid k room at) Reservation c.in-Err.e (kind_some c.args.kind c.args.page (length bytes) c.requires.kind) (room_may old mid k c.args.kind c.args.page (length bytes) room may).fits
-    c.reserve.ensures.keeps.fits c.in-Err.ensures.err c.reserve.ensures.same c.in-Err.ensures.answers)
+    (failed_tried view sum mid c.reserve.new.self c.args.kind c.args.page bytes k (room_at _ sum old mid k room at) g.D.Device.faults c.in-Err.e (kind_some c.args.kind c.args.page (length bytes) c.requires.kind) fits
+    (comes_inline g.D.Device.trace g.D.Device.faults sum c.args.kind c.args.page bytes mid.log c.reserve.new.self (Err c.in-Err.e) fits
+    (record {
+      ticket = tt;
+      stored = tt;
+      manifest = tt;
+      position = tt;
+      reserved = tt;
+      others = c.reserve.ensures.others;
+      opens = tt;
+      seals = tt;
+      answers = c.in-Err.ensures.answers;
+      device = c.in-Err.ensures.device;
+      keeps = c.reserve.ensures.keeps;
+      seen = c.reserve.ensures.seen;
+      left = c.in-Err.ensures.left;
+    })))

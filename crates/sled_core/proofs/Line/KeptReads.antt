@@ -1,0 +1,134 @@
+-- A message whose item is a blob, and that is in the table of all that there is, is read, or the read has to wait: a record may begin at its offset, and its blob is there and has its item, whether its record is stable, is written behind a gap or behind an open batch, or lies in a buffer.
+use Rattle.std.proofs.Common.{◌≡◌, ◌≤◌, ◌<◌, ◌+◌, ℕ, ℤ, List, [], ◌∷◌, map, Option, None, Result, Ok, Err, sym, subst, arith, inl, inr}
+use Rattle.std.specs.List.{Contains}
+use Rattle.std.specs.declared.io.Error.{Error as IoError}
+use Rattle.std.proofs.lemmas.Bool.{cases_lt}
+use Rattle.std.proofs.lemmas.List.Elements.{All-contains, Contains-append_cases}
+use Rattle.sled_codec.specs.declared.result.Error.{Error}
+use Rattle.sled_codec.specs.declared.result.Error.TheVariants as error
+use Rattle.sled_codec.specs.History.{Batch, History, Message, table}
+use Rattle.sled_codec.specs.Places.{MayBegin}
+use Rattle.sled_codec.specs.Pointers.{lid_of}
+use Rattle.sled_codec.specs.Snapshots.{SnapshotModel}
+use Rattle.sled_store.specs.Device.{NamesState, State, Trace, state_of}
+use Rattle.sled_store.proofs.Histories.Ascending.{Ascends}
+use Rattle.sled_store.proofs.Histories.EarlierEntries.{entry_earlier}
+use Rattle.sled_store.proofs.Segments.Elements.{in_first, in_nothing, in_rest}
+use Rattle.sled_store.proofs.Segments.TableEntries.{from_table}
+use Rattle.sled_core.specs.declared.logger.Log.{Log}
+use Rattle.sled_core.specs.declared.logger.read_message.LogRead.{LogRead}
+use Rattle.sled_core.specs.Begun.{SegmentParts, records_to, segment_view}
+use Rattle.sled_core.specs.Fits.{HoldBehind, begun_segment, device_of, fault_of, line_of, machine_at, next_place, noted_in, parts_in, segment_size_of, synced_end}
+use Rattle.sled_core.specs.Logged.{in_log}
+use Rattle.sled_core.specs.OpenBatches.{stable_below}
+use Rattle.sled_core.specs.Reached.{StandsAmong, StandsIn, StandsTo}
+use Rattle.sled_core.specs.ReadBuffer.{SettleAnswers}
+use Rattle.sled_core.specs.ReadPointer.{GivesBlob, GivesBlobOrWaits}
+use Rattle.sled_core.specs.Recoverable.{HasItem, NoHeaderOfZeros}
+use Rattle.sled_core.specs.Running.{Fits, FitsWith}
+use Rattle.sled_core.specs.Tail.{least_place}
+use Rattle.sled_core.proofs.Holds.ReachLemmas.{completed_behind}
+use Rattle.sled_core.proofs.Line.BlobReads.{IsReadable, among, item_read}
+use Rattle.sled_core.proofs.Line.Reads.{fault_missed}
+use Rattle.sled_core.proofs.Line.Rewritten.{kept, ordered, synced_before}
+use Rattle.sled_core.proofs.Logged.Messages.{in_map, logged_ascends, logged_there}
+use Rattle.sled_core.proofs.Reached.MetWritten.{reached_begins, written_begins}
+
+-- Of segments one behind another that stand in the file as far as each is written: a message of them begins in what is written, or in a buffer.
+module _ (sum : List ℕ → ℕ) (size : ℕ) (big : 256 ≤ size) (device : State) (fault : Option IoError) (H : History) (A : ℕ) (first : SnapshotModel) (reach : ℕ) (is : StandsTo sum size device.log.bytes H A first reach) (ordered : Ascends H.messages)
+    (m : Message) (known : Contains H.messages m) where
+  abbrev StandsSoFar : SegmentParts → Type 0
+  StandsSoFar s = StandsIn sum size device.log.bytes (least_place size first) is.scanned s.site s.written_len (records_to s.filled size)
+
+  behind_begins : (place : ℕ) (ss : List SegmentParts) (stays : Message → Type 0) (batches : List Batch) (ms : List Message) → HoldBehind sum size device fault place ss stays batches ms → ((s : SegmentParts) → Contains ss s → StandsSoFar s)
+      → Contains ms (in_log m) → MayBegin size (lid_of m.pointer)
+  behind_begins place [] stays batches ms none stand there = absurd (in_nothing (in_log m) (subst (λ (l : List Message). Contains l (in_log m)) none there))
+  behind_begins place (s ∷ ss) stays batches ms (own, later, all, next, rest) stand there = elim (Contains-append_cases own later (in_log m) (subst (λ (l : List Message). Contains l (in_log m)) all there)) [
+    | inl mine ↦ (
+        let above = All-contains (λ (x : Message). place ≤ x.place) own (in_log m) next.above mine in
+        let at = next.next in
+        let inside = next.inside in
+        let written = next.behind in
+        elim (cases_lt m.place (s.site.place + s.written_len)) [
+          | inl lower ↦ written_begins sum size device.log.bytes big H A first reach is ordered m known s.site s.written_len (records_to s.filled size) (stand s (in_first s ss)) (omega (arith, inside, written)) (omega (arith, above, at)) lower
+          | inr higher ↦ (completed_behind sum size s.site device fault s.bytes s.written_len s.sealed s.reserved (record { messages = own; batches = batches }) next.segment inside (in_log m) mine higher).begins
+        ])
+    | inr others ↦ behind_begins (place + size) ss stays batches later rest (λ x behind. stand x (in_rest s x ss behind)) others
+  ]
+
+-- Of a log that fits a history, and keeps no failure.
+module _ {D C : Type 0} (trace : D → Trace) (sum : List ℕ → ℕ) (log : Log D C) (H : History) (A f : ℕ) (U : List Message) where
+  abbrev size : ℕ
+  size = segment_size_of log
+
+  abbrev state : State
+  state = state_of (trace log.config.device)
+
+  module _ (fits : FitsWith sum (noted_in log) size state log.fault (line_of log) (machine_at log) log.pins H A f U) (m : Message) (entry : Contains (table H (next_place log) m.page) m) where
+    there : Contains H.messages m
+    there = (from_table H (next_place log) m.page m entry).0
+
+    ascends : Ascends H.messages
+    ascends = logged_ascends H (ordered trace sum log H A f U fits)
+
+    has_blob : HasItem sum state.blobs.file m m.pointer
+    has_blob = item_read sum state.blobs m m.pointer (kept trace sum log H A f U fits m.page m entry)
+
+    module _ (none : log.fault ≡ None) (zeros : NoHeaderOfZeros sum) where
+      found : StandsAmong sum size state.log.bytes log.site log.buffer.written_len (map begun_segment (map parts_in (map segment_view log.behind.items))) fits.reach H fits.parts.holds.begun.first
+      found = among trace sum log H A f U fits none zeros
+
+      abbrev stands : StandsTo sum size state.log.bytes H (stable_below fits.reach H.batches) fits.parts.holds.begun.first fits.reach
+      stands = found.stands
+
+      -- a reader comes to it
+      begins_before : m.place < fits.reach → MayBegin size (lid_of m.pointer)
+      begins_before low =
+          let near = fits.parts.near in
+          let up = synced_before trace sum log H A f U fits in
+          let early = entry_earlier H ascends fits.reach (next_place log) m.page (omega (arith, near, up)) m low entry in
+          let not_below = stands.not_below in
+          let passes = stands.passes in
+          let its = (stands.needed fits.reach (omega (arith, not_below, passes)) (omega arith) m.page m early).0 in
+          reached_begins sum size state.log.bytes its.segment m its.found.slot its.reached
+
+      -- it begins behind all that is on the device without a gap
+      begins_behind : fits.reach ≤ m.place → MayBegin size (lid_of m.pointer)
+      begins_behind high =
+          let holds = fits.parts.holds in
+          let past : synced_end log ≤ m.place = elim (cases_lt m.place (synced_end log)) [
+            | inl lower ↦ absurd (let low = (fits.parts.ends (in_log m) (logged_there H m there) lower).0 in omega (arith, low, high))
+            | inr behind ↦ behind
+          ] in
+          elim (Contains-append_cases holds.head holds.later (in_log m) (subst (λ (l : List Message). Contains l (in_log m)) holds.messages (logged_there H m there))) [
+            | inl mine ↦ (completed_behind sum size log.site state log.fault log.buffer.bytes.items log.buffer.written_len log.buffer.sealed.items log.buffer.reserved.items (record { messages = holds.head; batches = H.batches }) holds.own log.in_segment (in_log m) mine past).begins
+            | inr others ↦ behind_begins sum size log.config.config.least state log.fault H (stable_below fits.reach H.batches) holds.begun.first fits.reach stands ascends m there (log.site.place + size) (map parts_in (map segment_view log.behind.items)) _ H.batches holds.later holds.others
+                (λ s behind. found.behind (begun_segment s) (in_map begun_segment (map parts_in (map segment_view log.behind.items)) s behind)) others
+          ]
+
+      begins : MayBegin size (lid_of m.pointer)
+      begins = elim (cases_lt m.place fits.reach) [ inl low ↦ begins_before low | inr high ↦ begins_behind high ]
+
+-- So it is readable.
+pub kept_readable : {D C : Type 0} (trace : D → Trace) (sum : List ℕ → ℕ) (log : Log D C) (H : History) (A f : ℕ) (U : List Message) → Fits trace sum log H A f U → fault_of log ≡ None
+    → (s : State) → s.blobs ≡ (state_of (trace (device_of log))).blobs → NoHeaderOfZeros sum → (m : Message) → Contains (table H (next_place log) m.page) m → IsReadable sum log s m m.pointer
+unfolding Fits
+kept_readable trace sum log H A f U fits none s same zeros m entry =
+    record {
+      has = subst (λ (b : NamesState). HasItem sum b.file m m.pointer) (sym same) (has_blob trace sum log H A f U fits m entry);
+      begins = begins trace sum log H A f U fits m entry none zeros;
+    }
+
+-- What gives it without waiting gives it.
+pub gives_at_once : (m : Message) (fault : Option IoError) (r : Result LogRead Error) → GivesBlob m fault r → GivesBlobOrWaits m fault r
+gives_at_once m fault (Ok x) gives = gives
+gives_at_once m fault (Err (error.Io e)) gives = gives
+gives_at_once m fault (Err (error.Corruption at)) gives = gives
+gives_at_once m fault (Err _) gives = tt
+
+-- Where its place isn't brought to the device, its blob is neither missing nor damaged.
+pub err_waits : (S : Type 0) (e : Error) (m : Message) (fault : Option IoError) (lsn : ℤ) (stable end : ℕ) (held : Option ℕ) (used : Type 0) (now : Option IoError) (before after : ℕ) → SettleAnswers {T = S} (Err e) lsn stable end held used now before after
+    → GivesBlobOrWaits m fault (Err e)
+err_waits S (error.Io e) m fault lsn stable end held used now before after answers = λ _ missed. fault_missed e now before after answers.1 missed
+err_waits S (error.Corruption at) m fault lsn stable end held used now before after answers = absurd answers.1
+err_waits S _ m fault lsn stable end held used now before after answers = tt

@@ -1,0 +1,195 @@
+-- The message of a ticket is given up, in whichever segment it lies: its record there is one that is passed over, and nothing else changes.
+use Rattle.std.proofs.Common.{◌≡◌, ◌∙◌, ◌≤◌, ◌+◌, ◌-◌, ◌/◌, ◌∷◌, ◌++◌, ap, sym, subst, arith, refl, ℕ, List, length, set, Some, Option, ℤ, None}
+use Rattle.std.specs.Prelude.{unsigned_abs}
+use Rattle.std.specs.List.{Contains, slice_get}
+use Rattle.sled_codec.specs.declared.serialization.message.MessageKind.TheVariants as kind
+use Rattle.sled_codec.specs.History.{Message}
+use Rattle.sled_codec.specs.Kinds.{code_of}
+use Rattle.sled_codec.specs.Places.{part}
+use Rattle.sled_store.specs.Accounts.{machine_of}
+use Rattle.sled_store.specs.Device.{state_of}
+use Rattle.sled_store.specs.declared.config.RunningConfig.{RunningConfig}
+use Rattle.sled_core.specs.declared.iobuf.ReservationState.TheVariants.{Canceled}
+use Rattle.sled_core.specs.declared.iobuf.Reserved.{Reserved}
+use Rattle.sled_core.specs.Begun.{SegmentView}
+use Rattle.sled_core.specs.Buffers.{Stands, body_in, canceling, item_as, pointer_as, SpellsBlob}
+use Rattle.sled_core.specs.Canceled.{canceled_record, IsBodyAt, IsBodyOf}
+use Rattle.sled_core.specs.Fits.{AwaitsIn, Holds, line_of, noted_in, open_places}
+use Rattle.sled_core.specs.Logged.{logged, in_log, item_in_log}
+use Rattle.sled_core.specs.Manifests.{is_manifest}
+use Rattle.sled_core.specs.OpenPlaces.{TakesOut, open_places_along}
+use Rattle.sled_core.specs.Running.{Fits}
+use Rattle.sled_core.specs.Tickets.{place_of}
+use Rattle.sled_core.specs.Turned.{ended_now}
+use Rattle.sled_core.specs.Waiting.{BufferAt, buffers_in}
+use Rattle.sled_core.proofs.Holds.CanceledLemmas.{canceled_long, canceled_there}
+use Rattle.sled_core.proofs.Holds.KeptCalls.{kept_still}
+use Rattle.sled_core.proofs.Line.Canceled.{ended_stands}
+use Rattle.sled_core.proofs.Line.EndedKeeps.{fits_ended, goes_on_ended, left_ended, holds_ended, keeps_ended, position_ended}
+use Rattle.sled_core.proofs.Line.EndedTickets.{ended_takes, others_await, says_place, ticket_above, ticket_among, ticket_open, ticket_there}
+use Rattle.sled_core.proofs.Line.Ends.{fits_aborted, holds_aborted, with_segment}
+use Rattle.sled_core.proofs.Line.EndedLine.{canceling_short}
+use Rattle.sled_core.proofs.Line.Facts.{nth_facts}
+use Rattle.sled_core.proofs.Line.LogSpans.{ended_buffers}
+use Rattle.sled_core.proofs.Reserve.Entries.{open_plain, reserved_in}
+use Rattle.sled_core.proofs.Reserve.Ranges.{at_there}
+use Rattle.sled_core.proofs.logger.Log.give_up.Given.{Over}
+use Rattle.sled_core.proofs.logger.Log.give_up.Goals as goal
+use Rattle.sled_codec.specs.Record.{short_record}
+use Rattle.sled_codec.specs.Pointers.{lid_of}
+use Rattle.sled_codec.specs.declared.result.DiskPtr.{DiskPtr}
+use Rattle.sled_core.proofs.Holds.ReachLemmas.{lid_as}
+
+pub returns-in-Some-clause-keeps : goal.returns-in-Some-clause-keeps
+returns-in-Some-clause-keeps g c = kept_still g.D.Device.trace g.C.Checksum.sum_of c.args.self.now
+
+-- The ticket says which reservation it is.
+
+pub segment_of-n-requires : goal.segment_of-n-requires
+segment_of-n-requires g c =
+    let above = ticket_above c.args.self.now c.args.ticket c.requires.0 c.requires.1 in
+    let place : c.unsigned_abs.result ≡ unsigned_abs (place_of c.args.ticket) = c.unsigned_abs.ensures.value ∙ says_place c.lsn-place.result (place_of c.args.ticket) c.lsn-place.type_inv c.lsn-place.ensures in
+    omega (arith, above, place)
+
+pub abort_in-requires-clause-kind : goal.abort_in-requires-clause-kind
+abort_in-requires-clause-kind g c = λ v r at there.
+    let place : c.unsigned_abs.result ≡ unsigned_abs (place_of c.args.ticket) = c.unsigned_abs.ensures.value ∙ says_place c.lsn-place.result (place_of c.args.ticket) c.lsn-place.type_inv c.lsn-place.ensures in
+    let own : AwaitsIn (line_of c.args.self.now) c.args.ticket (in_log c.requires.0) = c.requires.1 in
+    let its_at = ticket_among c.args.self.now c.args.ticket c.requires.0 own c.unsigned_abs.result c.segment_of-n.result c.index-index.result place c.segment_of-n.ensures c.index-index.ensures in
+    let its_there = ticket_there c.args.self.now c.args.ticket c.requires.0 own c.unsigned_abs.result c.segment_of-n.result c.index-index.result place c.segment_of-n.ensures c.index-index.ensures in
+    let both : Some own.segment ≡ Some v = sym its_at ∙ at in
+    let same : own.segment ≡ v = cc in
+    let both_there : Some own.reserved ≡ Some r = sym its_there ∙ ap (λ (x : SegmentView). slice_get x.parts.reserved (c.index-index.result - x.gone)) same ∙ there in
+    let is : own.reserved ≡ r = cc in
+    ap (λ (x : Reserved). is_manifest x.log_kind x.page) (sym is) ∙ sym own.own.manifest ∙ sym c.is_manifest-manifest.ensures
+
+pub abort_in-requires-clause-awaited : goal.abort_in-requires-clause-awaited
+abort_in-requires-clause-awaited g c =
+    let place : c.unsigned_abs.result ≡ unsigned_abs (place_of c.args.ticket) = c.unsigned_abs.ensures.value ∙ says_place c.lsn-place.result (place_of c.args.ticket) c.lsn-place.type_inv c.lsn-place.ensures in
+    ticket_open c.args.self.now c.args.ticket c.requires.0 c.requires.1 c.unsigned_abs.result c.segment_of-n.result c.index-index.result place c.segment_of-n.ensures c.index-index.ensures
+
+among : (g : Over) (c : goal.After-abort_in g) (m : Message) (awaits : AwaitsIn (line_of c.args.self.now) c.args.ticket (in_log m)) → slice_get (line_of c.args.self.now) c.segment_of-n.result ≡ Some awaits.segment
+among g c m awaits =
+    let place : c.unsigned_abs.result ≡ unsigned_abs (place_of c.args.ticket) = c.unsigned_abs.ensures.value ∙ says_place c.lsn-place.result (place_of c.args.ticket) c.lsn-place.type_inv c.lsn-place.ensures in
+    ticket_among c.args.self.now c.args.ticket m awaits c.unsigned_abs.result c.segment_of-n.result c.index-index.result place c.segment_of-n.ensures c.index-index.ensures
+
+there : (g : Over) (c : goal.After-abort_in g) (m : Message) (awaits : AwaitsIn (line_of c.args.self.now) c.args.ticket (in_log m)) → slice_get awaits.segment.parts.reserved (c.index-index.result - awaits.segment.gone) ≡ Some awaits.reserved
+there g c m awaits =
+    let place : c.unsigned_abs.result ≡ unsigned_abs (place_of c.args.ticket) = c.unsigned_abs.ensures.value ∙ says_place c.lsn-place.result (place_of c.args.ticket) c.lsn-place.type_inv c.lsn-place.ensures in
+    ticket_there c.args.self.now c.args.ticket m awaits c.unsigned_abs.result c.segment_of-n.result c.index-index.result place c.segment_of-n.ensures c.index-index.ensures
+
+-- The log holds and fits what it did.
+pub returns-clause-keeps : goal.returns-clause-keeps
+unfolding Fits Holds
+returns-clause-keeps g c =
+    let old = c.args.self.now in
+    let own : AwaitsIn (line_of old) c.args.ticket (in_log c.requires.0) = c.requires.1 in
+    let v : SegmentView = own.segment in
+    let r : Reserved = own.reserved in
+    let i : ℕ = c.index-index.result - v.gone in
+    let at = among g c c.requires.0 own in
+    let its = there g c c.requires.0 own in
+    record {
+      goes_on = goes_on_ended old c.abort_in.new.self c.segment_of-n.result v at i r its own.own.open_yet (canceling g.C.Checksum.sum_of v.parts.bytes r) (canceling_short g.C.Checksum.sum_of v i r (nth_facts old c.segment_of-n.result v at) its own.own.open_yet) Canceled (c.abort_in.ensures.line v r at its) c.abort_in.ensures.rest g.D.Device.trace g.C.Checksum.sum_of;
+      history = λ H holds. holds_ended old c.abort_in.new.self c.segment_of-n.result v at i r its own.own.open_yet (canceling g.C.Checksum.sum_of v.parts.bytes r) (canceling_short g.C.Checksum.sum_of v i r (nth_facts old c.segment_of-n.result v at) its own.own.open_yet) Canceled (c.abort_in.ensures.line v r at its) c.abort_in.ensures.rest g.D.Device.trace g.C.Checksum.sum_of H
+          (holds_aborted g.C.Checksum.sum_of old.config.config.segment_size (state_of (g.D.Device.trace old.config.device)) old.fault (line_of old) c.segment_of-n.result v at old.site.place (nth_facts old) i r its own.own.open_yet (machine_of old.accountant) (noted_in old) (logged H) holds);
+      fits = λ H A f U fits. fits_ended old c.abort_in.new.self c.segment_of-n.result v at i r its own.own.open_yet (canceling g.C.Checksum.sum_of v.parts.bytes r) (canceling_short g.C.Checksum.sum_of v i r (nth_facts old c.segment_of-n.result v at) its own.own.open_yet) Canceled (c.abort_in.ensures.line v r at its) c.abort_in.ensures.rest g.D.Device.trace g.C.Checksum.sum_of H A f U
+          (fits_aborted g.C.Checksum.sum_of old.config.config.segment_size (state_of (g.D.Device.trace old.config.device)) old.fault (line_of old) c.segment_of-n.result v at old.site.place (nth_facts old) i r its own.own.open_yet (machine_of old.accountant) (noted_in old) old.pins H A f U fits);
+      noted = left_ended old c.abort_in.new.self c.segment_of-n.result v at i r its own.own.open_yet (canceling g.C.Checksum.sum_of v.parts.bytes r) (canceling_short g.C.Checksum.sum_of v i r (nth_facts old c.segment_of-n.result v at) its own.own.open_yet) Canceled (c.abort_in.ensures.line v r at its) c.abort_in.ensures.rest;
+    }
+
+-- the body of a record is that of the message, whose pointer says whether it has its item in a blob
+body_is : (m : Message) (o : Option ℤ) (lid : ℕ) (body : List ℕ) → m.pointer ≡ pointer_as o lid → item_in_log m.pointer m.bytes ≡ item_as o body → SpellsBlob o body → IsBodyOf m body
+body_is m None lid body pointer item names = subst (λ (p : DiskPtr). IsBodyAt p m.bytes body) (sym pointer) (sym item ∙ ap (λ (p : DiskPtr). item_in_log p m.bytes) pointer)
+body_is m (Some place) lid body pointer item names = subst (λ (p : DiskPtr). IsBodyAt p m.bytes body) (sym pointer) names
+
+-- The buffer that has the message has its record.
+pub returns-clause-canceled : goal.returns-clause-canceled
+unfolding Holds
+returns-clause-canceled g c = λ H m holds awaits.
+    let old = c.args.self.now in
+    let sum : List ℕ → ℕ = g.C.Checksum.sum_of in
+    let size : ℕ = old.config.config.segment_size in
+    let v : SegmentView = awaits.segment in
+    let r : Reserved = awaits.reserved in
+    let i : ℕ = c.index-index.result - v.gone in
+    let at = among g c m awaits in
+    let its = there g c m awaits in
+    let line = c.abort_in.ensures.line v r at its in
+    let facts = nth_facts old c.segment_of-n.result v at in
+    let inside = at_there (λ (x : Reserved). x.from + x.len ≤ length v.parts.bytes) v.parts.reserved i r its facts.within in
+    let now_size : c.abort_in.new.self.config.config.segment_size ≡ size = ap (λ (x : RunningConfig g.row.D.Denot g.row.C.Denot). x.config.segment_size) c.abort_in.ensures.rest.config in
+    let place_is : m.place ≡ v.parts.site.place + r.from = ap (λ (x : Message). x.place) awaits.message in
+    let size_is : m.size ≡ r.len = ap (λ (x : Message). x.size) awaits.message in
+    with_segment sum size (state_of (g.D.Device.trace old.config.device)) old.fault (line_of old) c.segment_of-n.result v (logged H) holds.holds at (λ stays own segment.
+    let stands = reserved_in sum size (v.parts.site.place / size) v.parts.bytes r (open_plain r.state awaits.own.open_yet) (at_there (Stands sum size (v.parts.site.place / size) v.parts.bytes) v.parts.reserved i r its segment.stand) in
+    let its_text = canceled_there sum size v.parts.site.place v.parts.bytes r segment.place_begins stands.room inside stands.text awaits.own.open_yet in
+    let body : List ℕ = body_in v.parts.bytes r in
+    let canceled : List ℕ = short_record sum kind.Canceled r.page ((v.parts.site.place + r.from) / size) body in
+    let pointer : m.pointer ≡ pointer_as r.blob (v.parts.site.slot + r.from) = ap (λ (x : Message). x.pointer) awaits.message in
+    let lid : lid_of m.pointer ≡ v.parts.site.slot + r.from = ap lid_of pointer ∙ lid_as r.blob (v.parts.site.slot + r.from) in
+    let page_is : m.page ≡ r.page = ap (λ (x : Message). x.page) awaits.message in
+    let record_is : canceled ≡ canceled_record sum c.abort_in.new.self.config.config.segment_size m body = λ j. short_record sum kind.Canceled (sym page_is j) (sym place_is j / sym now_size j) body in
+    let long = canceled_long sum size v.parts.site.place v.parts.bytes r segment.place_begins stands.room inside stands.text in
+    let found = ended_stands sum size old.reserved_to (line_of old) c.segment_of-n.result v facts i r its awaits.own.open_yet (sum (body_in v.parts.bytes r ++ code_of kind.Canceled ∷ part v.parts.bytes (r.from + 5) (r.header_len - 5))) kind.Canceled Canceled canceled at old.filled its_text in
+    let list : buffers_in sum size (set (line_of old) c.segment_of-n.result (ended_now i r (canceling sum v.parts.bytes r) Canceled v)) ≡ buffers_in sum c.abort_in.new.self.config.config.segment_size (line_of c.abort_in.new.self) = λ j. buffers_in sum (sym now_size j) (sym line j) in
+    record {
+      buffer = found.buffer;
+      waits = subst (λ (l : List BufferAt). Contains l found.buffer) list found.there;
+      begins = (let low = found.begins in omega (arith, low, place_is));
+      ends = (let high = found.ends in omega (arith, high, place_is, size_is));
+      behind = (let low = found.behind in omega (arith, low, lid));
+      body = body;
+      is_body = body_is m r.blob (v.parts.site.slot + r.from) body pointer (ap (λ (x : Message). x.bytes) awaits.message) stands.text.names;
+      whole = (λ j. part found.buffer.bytes (lid j - found.buffer.lid) (size_is j)) ∙ found.whole ∙ record_is;
+      long = ap length (sym record_is) ∙ long ∙ sym size_is;
+    })
+
+-- Other tickets stay, and nothing else changes.
+
+pub returns-clause-others : goal.returns-clause-others
+unfolding Holds
+returns-clause-others g c = λ H other m holds awaits apart.
+    let old = c.args.self.now in
+    let own : AwaitsIn (line_of old) c.args.ticket (in_log c.requires.0) = c.requires.1 in
+    let at = among g c c.requires.0 own in
+    let its = there g c c.requires.0 own in
+    subst (λ (l : List SegmentView). AwaitsIn l other (in_log m)) (sym (c.abort_in.ensures.line own.segment own.reserved at its))
+    (others_await old.config.config.segment_size (line_of old) old.site.place c.segment_of-n.result own.segment at (nth_facts old) (c.index-index.result - own.segment.gone) own.reserved its own.own.open_yet (canceling g.C.Checksum.sum_of own.segment.parts.bytes own.reserved)
+    (canceling_short g.C.Checksum.sum_of own.segment (c.index-index.result - own.segment.gone) own.reserved (nth_facts c.args.self.now c.segment_of-n.result own.segment at) its own.own.open_yet) Canceled g.C.Checksum.sum_of (state_of (g.D.Device.trace old.config.device)) old.fault
+    (logged H) holds.holds c.args.ticket other (in_log m) own.own.place awaits apart)
+
+pub returns-clause-opens : goal.returns-clause-opens
+returns-clause-opens g c = λ place is.
+    let old = c.args.self.now in
+    let own : AwaitsIn (line_of old) c.args.ticket (in_log c.requires.0) = c.requires.1 in
+    let at = among g c c.requires.0 own in
+    let its = there g c c.requires.0 own in
+    let here : own.segment.parts.site.place + own.reserved.from ≡ place = sym (ap unsigned_abs (is ∙ own.own.place)) in
+    subst (λ (p : ℕ). TakesOut p (open_places old) (open_places c.abort_in.new.self)) here
+    (subst (λ (l : List SegmentView). TakesOut (own.segment.parts.site.place + own.reserved.from) (open_places old) (open_places_along l)) (sym (c.abort_in.ensures.line own.segment own.reserved at its))
+    (ended_takes old.config.config.segment_size (line_of old) old.site.place c.segment_of-n.result own.segment at (nth_facts old) (c.index-index.result - own.segment.gone) own.reserved its own.own.open_yet (canceling g.C.Checksum.sum_of own.segment.parts.bytes own.reserved) (canceling_short g.C.Checksum.sum_of own.segment (c.index-index.result - own.segment.gone) own.reserved (nth_facts c.args.self.now c.segment_of-n.result own.segment at) its own.own.open_yet) Canceled refl))
+
+pub returns-clause-same : goal.returns-clause-same
+returns-clause-same g c =
+    let own : AwaitsIn (line_of c.args.self.now) c.args.ticket (in_log c.requires.0) = c.requires.1 in
+    let at = among g c c.requires.0 own in
+    let its = there g c c.requires.0 own in
+    keeps_ended c.args.self.now c.abort_in.new.self c.segment_of-n.result own.segment at (c.index-index.result - own.segment.gone) own.reserved its own.own.open_yet (canceling g.C.Checksum.sum_of own.segment.parts.bytes own.reserved) (canceling_short g.C.Checksum.sum_of own.segment (c.index-index.result - own.segment.gone) own.reserved (nth_facts c.args.self.now c.segment_of-n.result own.segment at) its own.own.open_yet) Canceled (c.abort_in.ensures.line own.segment own.reserved at its) c.abort_in.ensures.rest
+
+pub returns-clause-position : goal.returns-clause-position
+returns-clause-position g c =
+    let own : AwaitsIn (line_of c.args.self.now) c.args.ticket (in_log c.requires.0) = c.requires.1 in
+    let at = among g c c.requires.0 own in
+    let its = there g c c.requires.0 own in
+    position_ended c.args.self.now c.abort_in.new.self c.segment_of-n.result own.segment at (c.index-index.result - own.segment.gone) own.reserved its own.own.open_yet (canceling g.C.Checksum.sum_of own.segment.parts.bytes own.reserved) (canceling_short g.C.Checksum.sum_of own.segment (c.index-index.result - own.segment.gone) own.reserved (nth_facts c.args.self.now c.segment_of-n.result own.segment at) its own.own.open_yet) Canceled (c.abort_in.ensures.line own.segment own.reserved at its) c.abort_in.ensures.rest
+
+pub returns-clause-buffers : goal.returns-clause-buffers
+returns-clause-buffers g c =
+    let own : AwaitsIn (line_of c.args.self.now) c.args.ticket (in_log c.requires.0) = c.requires.1 in
+    let at = among g c c.requires.0 own in
+    let its = there g c c.requires.0 own in
+    ended_buffers c.args.self.now c.abort_in.new.self c.segment_of-n.result own.segment (c.index-index.result - own.segment.gone) own.reserved (canceling g.C.Checksum.sum_of own.segment.parts.bytes own.reserved) Canceled at (c.abort_in.ensures.line own.segment own.reserved at its)
+
+pub returns-in-Some-clause-buffers : goal.returns-in-Some-clause-buffers
+returns-in-Some-clause-buffers g c = record { waiting = refl; start = refl }
