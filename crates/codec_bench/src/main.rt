@@ -7,6 +7,7 @@
 
 mod accounts;
 mod batches;
+mod blobs;
 mod figure;
 mod headers;
 mod identifiers;
@@ -45,6 +46,8 @@ fn main(rt: HostRuntime) -> io::Result<()> {
     logs::measure_segments(&rt, "segments of 512 KiB, 200 bytes", 524288, 199)?;
     logs::measure_segments(&rt, "segments of 512 KiB, 4000 bytes", 524288, 3997)?;
     logs::measure_start(&rt)?;
+    blobs::measure(&rt, "blobs of 200 KB", 200000)?;
+    blobs::measure(&rt, "blobs of 2 MB", 2000000)?;
     measure_recoveries(&rt)?;
     measure_accounts(&rt)?;
     batches::measure(&rt, "batches settled one by one", 1)?;

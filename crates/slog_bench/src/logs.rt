@@ -45,6 +45,7 @@ impl Opened {
                 self.item(alloc, Some(kind), words, out);
             }
             "fits_inline" => self.item(alloc, None, words, out),
+            "rewrite" => self.rewrite(words.number(), words.signed(), out),
             "complete" => self.complete(words.number(), out),
             "is_manifest" => self.is_manifest(words.number(), out),
             "abort" => self.abort(words.number(), out),
@@ -155,7 +156,7 @@ impl Opened {
     fn reserve<T: Serialize>(&mut self, kind: LogKind, page: PageId, item: &T, out: &mut Answer)
         requires { T.fits (T.meaning item.now) }
     {
-        if self.tickets.reserve(1).is_err() || !self.log.fits_inline(item) {
+        if self.tickets.reserve(1).is_err() {
             out.refused();
             return;
         }
@@ -163,7 +164,29 @@ impl Opened {
             out.refused();
             return;
         };
-        match self.log.reserve(kind, page, item, guard) {
+        let answer = self.log.reserve(kind, page, item, guard);
+        self.keep_answer(answer, out);
+    }
+
+    // Keeps a place for a message whose item stays in a blob that is there, behind the latest pin.
+    fn rewrite(&mut self, page: PageId, blob: i64, out: &mut Answer) {
+        if self.tickets.reserve(1).is_err() {
+            out.refused();
+            return;
+        }
+        let Some(guard) = self.guards.last() else {
+            out.refused();
+            return;
+        };
+        let answer = self.log.rewrite_blob_pointer(page, blob, guard);
+        self.keep_answer(answer, out);
+    }
+
+    // Keeps the ticket of a reservation, where there is room for it.
+    fn keep_answer(&mut self, answer: Result<Reservation>, out: &mut Answer)
+        requires { vec_len self.old.tickets < vec_capacity self.old.tickets }
+    {
+        match answer {
             Ok(ticket) => {
                 out.text.spot(ticket.lsn(), ticket.pointer());
                 self.keep_ticket(ticket);
