@@ -15,6 +15,7 @@ pub mod Reserving
 pub mod RunHistories
 pub mod RunLemmas
 pub mod RunLogs
+pub mod SafeItems
 pub mod SessionLemmas
 pub mod SpentTickets
 pub mod TicketsSeen

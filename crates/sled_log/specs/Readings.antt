@@ -11,25 +11,31 @@ use Rattle.sled_store.specs.Device.{Trace}
 use Rattle.sled_core.specs.declared.logger.Log.{Log}
 use Rattle.sled_core.specs.Fits.{KeepsTickets, device_of, fault_of, reserved_end, segment_size_of}
 use Rattle.sled_core.specs.Keeps.{Preserves, SamePosition}
-use Rattle.sled_core.specs.Reading.{IsInline}
+use Rattle.sled_core.specs.ReadPointer.{place_read}
+use Rattle.sled_core.specs.Recoverable.{NoHeaderOfZeros}
 use Rattle.sled_core.specs.Running.{Fits}
 use Rattle.sled_log.specs.declared.session.command.Reply.{Reply}
 use Rattle.sled_log.specs.declared.session.command.Reply.TheVariants as reply
+use Rattle.sled_log.specs.Made.{IsMade}
 use Rattle.sled_log.specs.RunPhases.{Unstored, seen_log, traces}
 use Rattle.sled_log.specs.RunStates.{DeviceView, LogView, RunState, is_present, top, with_log}
-use Rattle.sled_log.specs.Runs.{ReadFailsFor, ReadStep, ReadsAt, read_around}
+use Rattle.sled_log.specs.Runs.{ReadFailsFor, ReadStep, ReadsAt, read_around, read_at}
 
--- A log fits what a session keeps in mind.
+-- A log fits what a session keeps in mind, and zeros pass as no header.
 pub record IsRead {D C : Type 0} (trace : D → Trace) (sum : List ℕ → ℕ) (log : Log D C) (k : Unstored) : Type 0 where
+  pub made : IsMade k.history
+  pub zeros : NoHeaderOfZeros sum
   pub unmarked : List Message
   pub fits : Fits trace sum log k.history k.acknowledged k.floor unmarked
 
--- A message of what a page is, with its item in its record, that was reserved.
-pub record IsOfPage (H : History) (end : ℕ) (m : Message) : Type 0 where
+-- A message of what a page is, that was reserved, as the place was that a read of it brings to the device.
+pub record IsOfPage (H : History) (end page : ℕ) (m : Message) : Type 0 where
   pub there : Contains H.messages m
   pub entry : Contains (table H top m.page) m
-  pub inline : IsInline m.pointer
+  pub of : m.page ≡ page
   pub below : m.place < end
+  pub read : place_read (pos m.place) m.pointer ≡ pos (read_at m)
+  pub read_below : read_at m < end
 
 -- A log holds and fits what it did, with the same tickets in the same position.
 pub record KeepsOpen {D C : Type 0} (trace : D → Trace) (sum : List ℕ → ℕ) (old new : Log D C) : Type 0 where
@@ -42,16 +48,16 @@ pub record KeepsOpen {D C : Type 0} (trace : D → Trace) (sum : List ℕ → �
 abbrev pub IsItem : {D C : Type 0} → (D → DeviceView) → Log D C → LogView → Message → Log D C → LogView → Result (Vec ℕ Global) Error
     → Type 0
 IsItem view old l m new l' (Ok item) =
-    (item.items ≡ m.bytes) × (l.fault ≡ None) × ReadsAt l m.place (view (device_of old)) (view (device_of new)) × (l' ≡ read_around l m.place)
+    (item.items ≡ m.bytes) × (l.fault ≡ None) × ReadsAt l (read_at m) (view (device_of old)) (view (device_of new)) × (l' ≡ read_around l (read_at m))
 IsItem view old l m new l' (Err e) =
     (a : RunState)
-    → ReadFailsFor (segment_size_of old) a l m.place e (view (device_of old)) (view (device_of new)) (with_log a (view (device_of new)) (Some l'))
+    → ReadFailsFor (segment_size_of old) a l (read_at m) e (view (device_of old)) (view (device_of new)) (with_log a (view (device_of new)) (Some l'))
 
 -- A message of what a page is was read, where its place and its pointer were given, or that failed.
-pub record ReadsItem {D C : Type 0} (view : D → DeviceView) (sum : List ℕ → ℕ) (old : Log D C) (place : ℤ) (pointer : DiskPtr)
+pub record ReadsItem {D C : Type 0} (view : D → DeviceView) (sum : List ℕ → ℕ) (old : Log D C) (page : ℕ) (place : ℤ) (pointer : DiskPtr)
     (new : Log D C) (result : Result (Vec ℕ Global) Error) : Type 0 where
   pub only : KeepsOpen (traces view) sum old new
-  pub item : (k : Unstored) (m : Message) (begun : ℕ) → IsRead (traces view) sum old k → IsOfPage k.history (reserved_end old) m
+  pub item : (k : Unstored) (m : Message) (begun : ℕ) → IsRead (traces view) sum old k → IsOfPage k.history (reserved_end old) page m
       → pos m.place ≡ place → m.pointer ≡ pointer
       → IsItem view old (seen_log old begun k.tickets) m new (seen_log new begun k.tickets) result
 
@@ -61,11 +67,11 @@ page_told (Ok items) = reply.Page items
 page_told (Err e) = reply.Failed e
 
 -- The messages of what a page is were read, where their entries were given, or that failed.
-pub record ReadsEntries {D C : Type 0} (view : D → DeviceView) (sum : List ℕ → ℕ) (old : Log D C) (entries : List Entry) (new : Log D C)
+pub record ReadsEntries {D C : Type 0} (view : D → DeviceView) (sum : List ℕ → ℕ) (old : Log D C) (page : ℕ) (entries : List Entry) (new : Log D C)
     (result : Result (Vec (Vec ℕ Global) Global) Error) : Type 0 where
   pub only : KeepsOpen (traces view) sum old new
   pub step : (k : Unstored) (ms : List Message) (begun : ℕ) (a : RunState) → IsRead (traces view) sum old k
-      → All (IsOfPage k.history (reserved_end old)) ms → map entry_of ms ≡ entries → is_present ms ≡ true
+      → All (IsOfPage k.history (reserved_end old) page) ms → map entry_of ms ≡ entries → is_present ms ≡ true
       → a.device ≡ view (device_of old) → a.log ≡ Some (seen_log old begun k.tickets)
       → ReadStep (segment_size_of old) a (seen_log old begun k.tickets) ms (page_told result) (view (device_of new))
       (with_log a (view (device_of new)) (Some (seen_log new begun k.tickets)))

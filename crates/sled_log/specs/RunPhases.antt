@@ -14,8 +14,8 @@ use Rattle.sled_core.specs.Manifests.{manifest_page}
 use Rattle.sled_core.specs.Waiting.{spans}
 use Rattle.sled_core.specs.Keeps.{ConfigKept}
 use Rattle.sled_core.specs.Reading.{IsInline}
-use Rattle.sled_core.specs.Recoverable.{LeavesRecoverable}
-use Rattle.sled_core.specs.Running.{Fits, Ready}
+use Rattle.sled_core.specs.Recoverable.{LeavesRecoverable, NoHeaderOfZeros}
+use Rattle.sled_core.specs.Running.{Fits, IsStored, Ready}
 use Rattle.sled_log.specs.declared.session.Session.{Session}
 use Rattle.sled_log.specs.declared.session.Phase.{Phase}
 use Rattle.sled_log.specs.declared.session.Phase.TheVariants.{Closed, Open}
@@ -101,13 +101,20 @@ pub record BeginsBatch {D C : Type 0} (log : Log D C) (m : Message) : Type 0 whe
   pub inline : IsInline m.pointer
   pub apart : (b : Batch) → Contains (noted_in log) b → b.peg < m.place
 
+-- no crash takes the item of a message, as long as the log keeps no failure
+abbrev pub IsSafe : {D C : Type 0} → (D → Trace) → (List ℕ → ℕ) → Log D C → Message → Type 0
+IsSafe trace sum log m = fault_of log ≡ None → IsStored trace sum log m
+
 -- The ticket of a number is for this message, which may come to the history or begins a batch.
-pub record IsTicketFor {D C : Type 0} (opened : Opened D C) (H : History) (n : ℕ) (m : Message) : Type 0 where
+pub record IsTicketFor {D C : Type 0} (trace : D → Trace) (sum : List ℕ → ℕ) (opened : Opened D C) (H : History) (n : ℕ) (m : Message) : Type 0 where
   pub ticket : Ticket
   pub there : slice_get opened.tickets.items n ≡ Some (Some ticket)
   pub kind : ticket.kind ≡ m.kind
   pub page : ticket.page ≡ m.page
   pub awaits : Awaits opened.log ticket.reservation m
+  pub stored : IsSafe trace sum opened.log m
+  -- no command makes a blob
+  pub plain : IsInline m.pointer
   pub joins : m.page ≢ manifest_page → MayJoin H m
   pub begins_batch : m.page ≡ manifest_page → BeginsBatch opened.log m
   pub begins : m.place + 1 < reserved_end opened.log
@@ -124,9 +131,9 @@ HasBatch tickets None = in_batch tickets ≡ false
 HasBatch tickets (Some n) = (m : Message) × (slice_get tickets n ≡ Some (Some m)) × (m.page ≡ manifest_page)
 
 -- The tickets that are open are for these messages, by number and so by place; no two are of one page, so one at most is of a manifest, and as long as the log keeps no failure no other reservation of it is open.
-pub record HasTickets {D C : Type 0} (opened : Opened D C) (H : History) (tickets : List (Option Message)) : Type 0 where
+pub record HasTickets {D C : Type 0} (trace : D → Trace) (sum : List ℕ → ℕ) (opened : Opened D C) (H : History) (tickets : List (Option Message)) : Type 0 where
   pub as_many : length opened.tickets.items ≡ length tickets
-  pub each : (n : ℕ) (m : Message) → slice_get tickets n ≡ Some (Some m) → IsTicketFor opened H n m
+  pub each : (n : ℕ) (m : Message) → slice_get tickets n ≡ Some (Some m) → IsTicketFor trace sum opened H n m
   pub gone : (n : ℕ) → slice_get tickets n ≡ Some None → slice_get opened.tickets.items n ≡ Some None
   pub apart : (i j : ℕ) (m n : Message) → slice_get tickets i ≡ Some (Some m) → slice_get tickets j ≡ Some (Some n) → m.page ≡ n.page → i ≡ j
   pub rising : AreRising (map (λ m. m.place) (open_messages tickets))
@@ -134,14 +141,15 @@ pub record HasTickets {D C : Type 0} (opened : Opened D C) (H : History) (ticket
   pub busy : (page : ℕ) → page ≢ manifest_page → get_or opened.busy.items page false ≡ has_page page (open_messages tickets)
   pub batch : HasBatch tickets opened.batch
 
--- A log is open that fits the history, with a pin out, and with the table of it.
+-- A log is open that fits the history, with a pin out, and with the table of it. Zeros pass as no header, as where its recovery read nothing foreign.
 pub record IsOpenAt {D C : Type 0} (trace : D → Trace) (sum : List ℕ → ℕ) (opened : Opened D C) (k : Unstored) : Type 0 where
   pub made : IsMade k.history
   pub unmarked : List Message
   pub fits : Fits trace sum opened.log k.history k.acknowledged k.floor unmarked
+  pub zeros : NoHeaderOfZeros sum
   pub pinned : 0 < pins_of opened.log
   pub table : IsTable (map page_of opened.pages.items) k.history top
-  pub tickets : HasTickets opened k.history k.tickets
+  pub tickets : HasTickets trace sum opened k.history k.tickets
   pub ends : All (λ m. m.place + m.size ≤ reserved_end opened.log) k.history.messages
 
 -- What holds in a phase.
@@ -177,6 +185,7 @@ pub record RunsOn {D C : Type 0} (trace : D → Trace) (old new : RunningConfig 
 -- A recovery has left this: a table of which each page is begun, with the segment in which a log goes on, and on which a log can be started.
 pub record IsRecoveredAt {D C : Type 0} (trace : D → Trace) (sum : List ℕ → ℕ) (config : RunningConfig D C) (s : SnapshotModel) (k : Unstored) : Type 0 where
   pub closed : IsClosedAt sum config.config.segment_size (trace config.device) k
+  pub zeros : NoHeaderOfZeros sum
   pub active : ShowsActive config.config.segment_size (stable_place s.stable) s.active
   pub ready : Ready sum config.config.segment_size (state_of (trace config.device)) s k.history k.acknowledged k.floor
   pub table : IsTable s.pages k.history top

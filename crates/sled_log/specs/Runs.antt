@@ -1,5 +1,5 @@
 -- What runs of commands come to: what each command does to the device, what it is answered, and where the run stands then.
-use Rattle.std.specs.Prelude.{◌≡◌, ◌⊎◌, ◌↔◌, ◌+◌, ◌≤◌, ◌≤ℤ◌, ◌<ℤ◌, ◌<◌, ◌%◌, ◌^◌, ◌∷◌, ◌++◌, nat_lt, ℕ, ℤ, pos, max, if◌then◌else◌, Bool, true, false, IsTrue, IsSome, List, [], length, map, drop, Option, None, Some, Vec}
+use Rattle.std.specs.Prelude.{unsigned_abs, ◌≡◌, ◌⊎◌, ◌↔◌, ◌+◌, ◌≤◌, ◌≤ℤ◌, ◌<ℤ◌, ◌<◌, ◌%◌, ◌^◌, ◌∷◌, ◌++◌, nat_lt, ℕ, ℤ, pos, max, if◌then◌else◌, Bool, true, false, IsTrue, IsSome, List, [], length, map, drop, Option, None, Some, Vec}
 use Rattle.std.specs.List.{All}
 use Rattle.std.specs.declared.alloc.Global.{Global}
 use Rattle.std.specs.declared.io.Error.{Error as IoError}
@@ -24,6 +24,7 @@ use Rattle.sled_core.specs.Fits.{IsKept}
 use Rattle.sled_core.specs.Logged.{logged}
 use Rattle.sled_core.specs.Manifests.{manifest_page}
 use Rattle.sled_core.specs.OpenBatches.{behind_batch, not_whole, stable_below}
+use Rattle.sled_core.specs.ReadPointer.{place_read}
 use Rattle.sled_core.specs.SealedBuffers.{writing}
 use Rattle.sled_core.specs.Stable.{behind_place}
 use Rattle.sled_core.specs.Waiting.{BufferAt, BufferStart, HasLength, Span, spans, unless_held, write_around, write_pending}
@@ -312,10 +313,14 @@ pub record ReadsAt (l : LogView) (at : ℕ) (old new : DeviceView) : Type 0 wher
   pub free : holding_read l at ≡ None
   pub failures : new.failures ≡ old.failures
 
+-- the place that a read of a message brings to the device: its own, or that of its blob
+abbrev pub read_at : Message → ℕ
+read_at m = unsigned_abs (place_read (pos m.place) m.pointer)
+
 -- These messages were read, one behind another, and lead from one log to another.
 abbrev pub ReadsAll : LogView → List Message → DeviceView → DeviceView → LogView → Type 0
 ReadsAll l [] old new end = (new.trace ≡ old.trace) × (new.failures ≡ old.failures) × (end ≡ l)
-ReadsAll l (m ∷ ms) old new end = (mid : DeviceView) × ReadsAt l m.place old mid × ReadsAll (read_around l m.place) ms mid new end
+ReadsAll l (m ∷ ms) old new end = (mid : DeviceView) × ReadsAt l (read_at m) old mid × ReadsAll (read_around l (read_at m)) ms mid new end
 
 -- A read of a place failed: its buffer was not sealed, or sealed, or written too.
 pub record ReadFails (a : RunState) (l : LogView) (at : ℕ) (fault : Option IoError) (old new : DeviceView) (b : RunState) : Type 0 where
@@ -348,7 +353,7 @@ pub record ReadStops (size : ℕ) (a : RunState) (l : LogView) (ms : List Messag
   pub mid : DeviceView
   pub log : LogView
   pub so_far : ReadsAll l done a.device mid log
-  pub fails : ReadFailsFor size a log message.place e mid new b
+  pub fails : ReadFailsFor size a log (read_at message) e mid new b
 
 -- the bytes of items
 abbrev pub item_bytes : List (Vec ℕ Global) → List (List ℕ)

@@ -28,7 +28,7 @@ use Rattle.sled_log.specs.declared.session.command.Refusal.TheVariants as why
 use Rattle.sled_log.specs.declared.session.command.Reply.TheVariants as reply
 use Rattle.sled_log.specs.Endings.{TakesTicket}
 use Rattle.sled_log.specs.Refusals.{when}
-use Rattle.sled_log.specs.RunPhases.{Does, HasBatch, IsOpenAt, IsTicketFor, Unstored, seen, traces}
+use Rattle.sled_log.specs.RunPhases.{Does, HasBatch, IsOpenAt, IsSafe, IsTicketFor, Unstored, seen, traces}
 use Rattle.sled_log.specs.RunStates.{DeviceView, LogView, in_batch, opens, places_without, top}
 use Rattle.sled_log.specs.TicketSteps.{HasBegun, IsAnswerFor, batch_of, noting, spent}
 use Rattle.sled_log.proofs.Sessions.EndedTickets.{awaits_it, ended_open, failed_leads, failed_open, left, now, outstanding}
@@ -60,7 +60,7 @@ module _ {D C : Type 0} (view : D → DeviceView) (sum : List ℕ → ℕ) (old 
   abbrev peg : ℤ
   peg = pos (reserved_end old.log) -ℤ pos 1
 
-  had : IsTicketFor old k.history n m
+  had : IsTicketFor (traces view) sum old k.history n m
   had = at.tickets.each n m there
 
   awaits : Awaits old.log ticket.reservation m
@@ -116,7 +116,7 @@ module _ {D C : Type 0} (view : D → DeviceView) (sum : List ℕ → ℕ) (old 
 
   -- Where it keeps none, the batch comes to the history, and is noted.
   module _ (log : Log D C) (notes : NotesBatchOf ticket.reservation peg old.log log) (position : SamePosition old.log log) (buffers : KeepsBuffers old.log log) (fault : fault_of old.log ≡ None)
-      (others : (t : Reservation) (x : Message) → Awaits old.log t x → place_of t ≢ place_of ticket.reservation → Awaits log t x) (opens_left : TakesOut m.place (open_places old.log) (open_places log)) where
+      (others : (t : Reservation) (x : Message) → Awaits old.log t x → place_of t ≢ place_of ticket.reservation → Awaits log t x) (safe : (x : Message) → IsSafe (traces view) sum old.log x → IsSafe (traces view) sum log x) (opens_left : TakesOut m.place (open_places old.log) (open_places log)) where
     ended_view : seen (now view sum old k at n m there mid ticket takes log mid.pages) (set k.tickets n None) ≡ noting (batch_of l m) (spent l n (places_without m.place (opens l)) (length old.pages.items))
     ended_view i = record {
       position = position.position i;
@@ -127,7 +127,7 @@ module _ {D C : Type 0} (view : D → DeviceView) (sum : List ℕ → ℕ) (old 
       start = buffers.start i;
       begun = length (takes.pages i).items;
       fault = notes.fault i;
-      outstanding = outstanding view sum old k at n m there mid ticket takes log mid.pages notes.pins position fault others opens_left i;
+      outstanding = outstanding view sum old k at n m there mid ticket takes log mid.pages notes.pins position fault others safe opens_left i;
       tickets = set k.tickets n None;
     }
 
@@ -158,7 +158,7 @@ module _ {D C : Type 0} (view : D → DeviceView) (sum : List ℕ → ℕ) (old 
               step = step;
               leads = λ i. record { device = view (config_of log).device; history = H'; acknowledged = k.acknowledged; floor = k.floor; log = Some (ended_view i) };
             },
-            ended_open view sum old k at n m there mid ticket takes log mid.pages notes.pins position fault others opens_left H' at.unmarked
+            ended_open view sum old k at n m there mid ticket takes log mid.pages notes.pins position fault others safe opens_left H' at.unmarked
                 (made_still k.history H' same at.made) fits
                 (subst (λ p. IsTable (map page_of p.items) H' top) (sym takes.pages) (table_still k.history H' same (map page_of old.pages.items) top at.table))
                 (λ x ne may. joins_still k.history H' same x may)

@@ -2,7 +2,7 @@
 use Rattle.std.proofs.Common.{⊎_elim, ◌≡◌, ◌∙◌, ◌≢◌, ◌==◌, ◌&&◌, not, ◌<◌, ◌≤◌, ◌+◌, ℕ, ℤ, Bool, true, false, if◌then◌else◌, List, [], ◌∷◌, ◌++◌, length, map, get_or, set, sym, ap, subst, arith, refl, Option, None, Some, Err, Vec, Global}
 use Rattle.std.specs.List.{All, Contains, slice_get}
 use Rattle.std.specs.declared.io.Error.{Error as IoError}
-use Rattle.std.proofs.lemmas.Bool.{cases_eq, ne_eqb}
+use Rattle.std.proofs.lemmas.Bool.{ne_eqb}
 use Rattle.std.proofs.lemmas.List.{length-map, length-set, length_push}
 use Rattle.std.proofs.lemmas.List.Elements.{All-contains}
 use Rattle.sled_codec.specs.declared.result.DiskPtr.{DiskPtr}
@@ -38,7 +38,7 @@ use Rattle.sled_log.specs.declared.session.command.Reply.TheVariants as reply
 use Rattle.sled_log.specs.Endings.{KeepsPages, TakesTicket, applied_to, batch_left, put_at}
 use Rattle.sled_log.specs.Made.{IsMade, MayJoin}
 use Rattle.sled_log.specs.Refusals.{when}
-use Rattle.sled_log.specs.RunPhases.{AreRising, BeginsBatch, Does, HasBatch, HasTickets, IsOpenAt, IsTicketFor, Unstored, device_in, seen, seen_log, stands, traces}
+use Rattle.sled_log.specs.RunPhases.{AreRising, BeginsBatch, Does, HasBatch, HasTickets, IsOpenAt, IsSafe, IsTicketFor, Unstored, device_in, seen, seen_log, stands, traces}
 use Rattle.sled_log.specs.RunStates.{DeviceView, RunState, has_message, has_ticket, open_messages, opens, places_without, top, with_log}
 use Rattle.sled_log.specs.Runs.{IsStep, Acts}
 use Rattle.sled_log.specs.TicketSteps.{IsAnswerFor, spent}
@@ -91,7 +91,7 @@ no_manifest does.Corrupted page changes = refl
 no_manifest does.Skip page changes = ⊎_elim (λ is. cc) (λ rest. ⊎_elim (λ is. cc) (λ is. cc) rest) changes
 
 module _ {D C : Type 0} (view : D → DeviceView) (sum : List ℕ → ℕ) (old : Opened D C) (k : Unstored) (at : IsOpenAt (traces view) sum old k) (n : ℕ) (m : Message) (there : slice_get k.tickets n ≡ Some (Some m)) where
-  abbrev had : IsTicketFor old k.history n m
+  abbrev pub had : IsTicketFor (traces view) sum old k.history n m
   had = at.tickets.each n m there
 
   -- it is taken
@@ -118,7 +118,7 @@ module _ {D C : Type 0} (view : D → DeviceView) (sum : List ℕ → ℕ) (old 
 
     -- it has no blob of its own
     pub no_blob : own_blob ticket.reservation ≡ None
-    no_blob = inline_alone old.log ticket.reservation m awaits_it (⊎_elim (λ is. (had.begins_batch is).inline) (λ ne. (had.joins ne).inline) (cases_eq m.page manifest_page))
+    no_blob = inline_alone old.log ticket.reservation m awaits_it had.plain
 
     busy : mid.busy.items ≡ set old.busy.items m.page false
     busy = takes.busy ∙ ap (λ page. set old.busy.items page false) of_page
@@ -145,10 +145,11 @@ module _ {D C : Type 0} (view : D → DeviceView) (sum : List ℕ → ℕ) (old 
           made = at.made;
           unmarked = at.unmarked;
           fits = subst (λ (x : Log D C). Fits (traces view) sum x k.history k.acknowledged k.floor at.unmarked) (sym is) at.fits;
+          zeros = at.zeros;
           pinned = subst (λ (x : Log D C). 0 < pins_of x) (sym is) at.pinned;
           table = subst (λ (ps : List Page). IsTable ps k.history top) (sym pages_are) at.table;
-          tickets = spent_tickets old now k.history k.history k.tickets n m there at.tickets takes.tickets busy batch (ap reserved_end is)
-              (λ t x awaits apart. subst (λ (y : Log D C). Awaits y t.reservation x) (sym is) awaits) (λ x ne may. may)
+          tickets = spent_tickets (traces view) sum old now k.history k.history k.tickets n m there at.tickets takes.tickets busy batch (ap reserved_end is)
+              (λ t x awaits apart. subst (λ (y : Log D C). Awaits y t.reservation x) (sym is) awaits) (λ x. subst (λ (y : Log D C). IsSafe (traces view) sum y x) (sym is)) (λ x ne may. may)
               (λ x of ne begun. subst (λ (y : Log D C). BeginsBatch y x) (sym is) begun)
               (λ none. absurd (let both : None ≡ Some e = sym none ∙ ap fault_of is ∙ fault in cc));
           ends = subst (λ (x : Log D C). All (λ y. y.place + y.size ≤ reserved_end x) k.history.messages) (sym is) at.ends;
@@ -187,6 +188,7 @@ module _ {D C : Type 0} (view : D → DeviceView) (sum : List ℕ → ℕ) (old 
       -- Where it keeps none, the reservation is ended.
       module _ (pins : pins_of log ≡ pins_of old.log) (position : SamePosition old.log log) (fault : fault_of old.log ≡ None)
           (others : (t : Reservation) (x : Message) → Awaits old.log t x → place_of t ≢ place_of ticket.reservation → Awaits log t x)
+          (safe : (x : Message) → IsSafe (traces view) sum old.log x → IsSafe (traces view) sum log x)
           (opens_left : TakesOut m.place (open_places old.log) (open_places log)) where
         pub outstanding : open_places log ≡ places_without m.place (open_places old.log)
         outstanding = taken_out m.place (open_places old.log) (open_places log) (subst AreRising (sym (at.tickets.are_all fault)) at.tickets.rising) opens_left
@@ -198,10 +200,11 @@ module _ {D C : Type 0} (view : D → DeviceView) (sum : List ℕ → ℕ) (old 
           made = made;
           unmarked = U;
           fits = fits;
+          zeros = at.zeros;
           pinned = subst (λ p. 0 < p) (sym pins) at.pinned;
           table = table;
-          tickets = spent_tickets old now k.history H' k.tickets n m there at.tickets takes.tickets busy batch position.reserved
-              (λ t x awaits apart. others t.reservation x awaits (other_place t.reservation x awaits apart)) joins begun
+          tickets = spent_tickets (traces view) sum old now k.history H' k.tickets n m there at.tickets takes.tickets busy batch position.reserved
+              (λ t x awaits apart. others t.reservation x awaits (other_place t.reservation x awaits apart)) safe joins begun
               (λ none. outstanding ∙ ap (places_without m.place) (at.tickets.are_all fault) ∙ sym (spent_places k.tickets n m there at.tickets.rising));
           ends = subst (λ e. All (λ x. x.place + x.size ≤ e) H'.messages) (sym position.reserved) ends;
         }
@@ -209,6 +212,7 @@ module _ {D C : Type 0} (view : D → DeviceView) (sum : List ℕ → ℕ) (old 
       -- A message is, and all else of the log stays.
       module _ (same : KeepsAll old.log log) (position : SamePosition old.log log) (buffers : KeepsBuffers old.log log) (fault : fault_of old.log ≡ None)
           (others : (t : Reservation) (x : Message) → Awaits old.log t x → place_of t ≢ place_of ticket.reservation → Awaits log t x)
+          (safe : (x : Message) → IsSafe (traces view) sum old.log x → IsSafe (traces view) sum log x)
           (opens_left : TakesOut m.place (open_places old.log) (open_places log)) where
         device : view (config_of log).device ≡ view (config_of old.log).device
         device = ap (λ c. view c.device) same.config
@@ -223,7 +227,7 @@ module _ {D C : Type 0} (view : D → DeviceView) (sum : List ℕ → ℕ) (old 
           start = buffers.start i;
           begun = is i;
           fault = same.fault i;
-          outstanding = outstanding same.pins position fault others opens_left i;
+          outstanding = outstanding same.pins position fault others safe opens_left i;
           tickets = set k.tickets n None;
         }
 
@@ -249,7 +253,7 @@ module _ {D C : Type 0} (view : D → DeviceView) (sum : List ℕ → ℕ) (old 
                   answer = answer;
                   leads = λ i. record { device = view (config_of log).device; history = k.history; acknowledged = k.acknowledged; floor = k.floor; log = Some (seen_is i) };
                 },
-                ended_open same.pins position fault others opens_left k.history at.unmarked at.made fits (subst (λ (ps : List Page). IsTable ps k.history top) (sym pages_are) at.table) (λ x ne may. may) begun_still at.ends,
+                ended_open same.pins position fault others safe opens_left k.history at.unmarked at.made fits (subst (λ (ps : List Page). IsTable ps k.history top) (sym pages_are) at.table) (λ x ne may. may) begun_still at.ends,
               );
             }
 
@@ -284,7 +288,7 @@ module _ {D C : Type 0} (view : D → DeviceView) (sum : List ℕ → ℕ) (old 
                   step = step;
                   leads = λ i. record { device = view (config_of log).device; history = H'; acknowledged = k.acknowledged; floor = k.floor; log = Some (seen_is i) };
                 },
-                ended_open same.pins position fault others opens_left H' (m ∷ at.unmarked) made fits table (λ x ne next. join_still k.history H' m x may step ne next) begun_still
+                ended_open same.pins position fault others safe opens_left H' (m ∷ at.unmarked) made fits table (λ x ne next. join_still k.history H' m x may step ne next) begun_still
                     (all_from_in (λ x. x.place + x.size ≤ reserved_end old.log) H'.messages (λ x among. ⊎_elim
                     (λ is. subst (λ (z : Message). z.place + z.size ≤ reserved_end old.log) is had.ends)
                     (λ was. All-contains (λ z. z.place + z.size ≤ reserved_end old.log) k.history.messages x at.ends was) (came k.history H' m step x among))),
@@ -294,7 +298,7 @@ module _ {D C : Type 0} (view : D → DeviceView) (sum : List ℕ → ℕ) (old 
 -- Room for a page.
 
 module _ {D C : Type 0} (view : D → DeviceView) (sum : List ℕ → ℕ) (old new : Opened D C) (kept : KeepsPages old new) (k : Unstored) where
-  kept_tickets : HasTickets old k.history k.tickets → HasTickets new k.history k.tickets
+  kept_tickets : HasTickets (traces view) sum old k.history k.tickets → HasTickets (traces view) sum new k.history k.tickets
   kept_tickets was = record {
     as_many = ap (λ x. length x.items) kept.tickets ∙ was.as_many;
     each = λ n m at. let had = was.each n m at in record {
@@ -303,6 +307,8 @@ module _ {D C : Type 0} (view : D → DeviceView) (sum : List ℕ → ℕ) (old 
       kind = had.kind;
       page = had.page;
       awaits = subst (λ (x : Log D C). Awaits x had.ticket.reservation m) (sym kept.log) had.awaits;
+      stored = subst (λ (x : Log D C). IsSafe (traces view) sum x m) (sym kept.log) had.stored;
+      plain = had.plain;
       joins = had.joins;
       begins_batch = λ is. subst (λ (x : Log D C). BeginsBatch x m) (sym kept.log) (had.begins_batch is);
       begins = subst (λ (x : Log D C). m.place + 1 < reserved_end x) (sym kept.log) had.begins;
@@ -322,6 +328,7 @@ module _ {D C : Type 0} (view : D → DeviceView) (sum : List ℕ → ℕ) (old 
     made = at.made;
     unmarked = at.unmarked;
     fits = subst (λ (x : Log D C). Fits (traces view) sum x k.history k.acknowledged k.floor at.unmarked) (sym kept.log) at.fits;
+    zeros = at.zeros;
     pinned = subst (λ (x : Log D C). 0 < pins_of x) (sym kept.log) at.pinned;
     table = subst (λ (ps : List Page). IsTable ps k.history top) (sym kept.pages) at.table;
     tickets = kept_tickets at.tickets;

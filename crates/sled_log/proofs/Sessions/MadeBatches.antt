@@ -4,6 +4,7 @@ use Rattle.sled_codec.specs.History.{History, Message, table}
 use Rattle.sled_codec.specs.PageTables.{IsTable}
 use Rattle.sled_codec.specs.Snapshots.{Page}
 use Rattle.sled_log.specs.Made.{HasReplaceBelow, IsMade, MayJoin}
+use Rattle.sled_log.proofs.Sessions.MadeHistories.{blob_among, joins_among}
 
 -- what holds of the messages of a history holds of all that have these
 with_messages : (P : History → Type 0) (H H' : History) → H'.messages ≡ H.messages → P (record { messages = H.messages; batches = H'.batches }) → P H'
@@ -20,7 +21,7 @@ module _ (H H' : History) (same : H'.messages ≡ H.messages) where
       formed = record { apart = made.orderly.formed.apart; kinds = made.orderly.formed.kinds; begun = made.orderly.formed.begun; pages = made.orderly.formed.pages };
       few = made.orderly.few;
     };
-    inline = made.inline;
+    blobs = λ m there. blob_among H other m m.pointer (λ x among. among) (made.blobs m there);
     low = made.low;
   })
 
@@ -42,7 +43,7 @@ module _ (H H' : History) (same : H'.messages ≡ H.messages) where
   joins_still m may = with_messages (λ G. MayJoin G m) H H' same (record {
     changes = may.changes;
     small = may.small;
-    inline = may.inline;
+    blob = joins_among H other m m.pointer (λ x among. among) may.blob;
     low = may.low;
     own = elim may.own [ inl replaces ↦ inl replaces | inr has ↦ inr (below_still m.page m.place has) ];
     lower = λ page less. below_still page m.place (may.lower page less);

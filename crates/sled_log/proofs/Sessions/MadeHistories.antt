@@ -3,15 +3,16 @@ use Rattle.std.proofs.Common.{⊎_elim, ◌≡◌, ◌∙◌, ◌≢◌, ◌⊎�
 use Rattle.std.specs.List.{All, Contains, filter}
 use Rattle.std.proofs.lemmas.Bool.{and_left, and_right, and_from, cases_lt, cases_eq}
 use Rattle.std.proofs.lemmas.List.Elements.{All-nil, All-filter, All-contains, Contains-append_left, Contains-append_right, Contains-append_cases, filter-append}
+use Rattle.sled_codec.specs.declared.result.DiskPtr.{DiskPtr}
+use Rattle.sled_codec.specs.declared.result.DiskPtr.TheVariants.{Inline, Blob}
 use Rattle.sled_codec.specs.declared.serialization.message.LogKind.{LogKind}
 use Rattle.sled_codec.specs.declared.serialization.message.LogKind.TheVariants as does
 use Rattle.sled_codec.specs.History.{Message, History, no_history, begins_page, is_replace, is_link, later_or, last_beginning, entries_from, page_state, of_page, table, below, ChangesPage, Completed, AddsMessage, Step}
 use Rattle.sled_codec.specs.WellFormed.{LieApart, HasReplace, IsWellFormed, MayFollow}
-use Rattle.sled_core.specs.Reading.{IsInline}
 use Rattle.sled_store.proofs.Histories.Ascending.{in_first, in_rest, in_cases, in_nothing, in_filter, from_filter, none_kept, all_from_in, Ascends, apart_ascends, later_above}
 use Rattle.sled_store.proofs.Histories.TableParts.{from_page, split_at, earlier_below}
 use Rattle.sled_store.proofs.Segments.TableEntries.{beginning_there}
-use Rattle.sled_log.specs.Made.{HasReplaceBelow, IsMade, MayJoin}
+use Rattle.sled_log.specs.Made.{HasBlobIn, HasReplaceBelow, IsMade, JoinsWithBlob, MayJoin}
 use Rattle.sled_log.specs.RunStates.{page_now, top}
 use Rattle.sled_log.proofs.Afterwards.OrderlyBelow.{orderly_below, table_of_page}
 use Rattle.sled_log.proofs.PageTable.TableCuts.{below_same}
@@ -172,6 +173,24 @@ begun_from H apart ground before m after split = record {
     replaces = has.replaces;
   }
 
+-- The blobs of messages.
+
+-- a blob that is at the place of a message is so among more messages
+pub blob_among : (H H' : History) (m : Message) (p : DiskPtr) → ((x : Message) → Contains H.messages x → Contains H'.messages x) → HasBlobIn H m p → HasBlobIn H' m p
+blob_among H H' m (Inline lid) stay has = tt
+blob_among H H' m (Blob lid place) stay has = (has.0, stay has.0 has.1, has.2, has.3)
+
+pub joins_among : (H H' : History) (m : Message) (p : DiskPtr) → ((x : Message) → Contains H.messages x → Contains H'.messages x) → JoinsWithBlob H m p → JoinsWithBlob H' m p
+joins_among H H' m (Inline lid) stay joins = tt
+joins_among H H' m (Blob lid place) stay joins = ⊎_elim inl (λ has. inr (has.0, stay has.0 has.1, has.2, has.3)) joins
+
+-- and that of a message that comes is, once that is there
+blob_joined : (H H' : History) (m : Message) (p : DiskPtr) → ((x : Message) → Contains H.messages x → Contains H'.messages x) → Contains H'.messages m → JoinsWithBlob H m p → HasBlobIn H' m p
+blob_joined H H' m (Inline lid) stay there joins = tt
+blob_joined H H' m (Blob lid place) stay there joins = ⊎_elim
+    (λ own. (m, there, omega arith, own))
+    (λ has. (has.0, stay has.0 has.1, (let low = has.2 in omega (arith, low)), has.3)) joins
+
 -- A run begins with none.
 
 none_state : (cut page : ℕ) → length (table no_history cut page) ≤ 255
@@ -189,7 +208,7 @@ none_made = record {
     };
     few = none_state;
   };
-  inline = All-nil (λ m. IsInline m.pointer);
+  blobs = λ m there. absurd (in_nothing m there);
   low = All-nil (λ m. m.place < top);
 }
 
@@ -309,7 +328,9 @@ module _ (H H' : History) (m : Message) (adds : AddsMessage H m H') where
         };
         few = few_still made;
       };
-      inline = each (λ x. IsInline x.pointer) may.inline made.inline;
+      blobs = λ x there. ⊎_elim
+          (λ is. subst (λ (z : Message). HasBlobIn H' z z.pointer) is (blob_joined H H' m m.pointer stays_in comes_in may.blob))
+          (λ was. blob_among H H' x x.pointer stays_in (made.blobs x was)) (came_in x there);
       low = each (λ x. x.place < top) may.low made.low;
     }
 
@@ -318,7 +339,7 @@ module _ (H H' : History) (m : Message) (adds : AddsMessage H m H') where
     others_may n ne next = record {
       changes = next.changes;
       small = next.small;
-      inline = next.inline;
+      blob = joins_among H H' n n.pointer stays_in next.blob;
       low = next.low;
       own = on.own;
       lower = on.lower;
@@ -376,11 +397,16 @@ from_below H cut m there = let found = from_filter (λ x. nat_lt x.place cut) H.
 pub below_whole : (H : History) (cut c page : ℕ) → cut ≤ c → of_page (below H cut).messages c page ≡ of_page H.messages cut page
 below_whole H cut c page le = table_of_page H cut c page le ∙ below_same H cut cut page (omega arith)
 
+-- the blob of a message below the cut is at the place of one below the cut
+blob_below : (H : History) (cut : ℕ) (m : Message) (p : DiskPtr) → m.place < cut → HasBlobIn H m p → HasBlobIn (below H cut) m p
+blob_below H cut m (Inline lid) lt has = tt
+blob_below H cut m (Blob lid place) lt has = (has.0, below_in H cut has.0 has.1 (let le = has.2 in omega (arith, le, lt)), has.2, has.3)
+
 -- A recovery leaves one, whatever the cut.
 pub made_below : (H : History) (cut : ℕ) → IsMade H → IsMade (below H cut)
 unfolding below
 made_below H cut made = record {
   orderly = orderly_below H cut made.orderly;
-  inline = All-filter (λ m. nat_lt m.place cut) (λ m. IsInline m.pointer) H.messages made.inline;
+  blobs = λ m there. let found = from_below H cut m there in blob_below H cut m m.pointer found.1 (made.blobs m found.0);
   low = All-filter (λ m. nat_lt m.place cut) (λ m. m.place < top) H.messages made.low;
 }

@@ -1,6 +1,6 @@
 -- What a read leaves of a log, as it is seen.
 use Rattle.std.proofs.Common.{◌≡◌, ◌∙◌, ◌≤◌, ◌<◌, ◌+◌, ◌⊎◌, ◌&&◌, inl, inr, ℕ, ℤ, pos, Bool, true, false, nat_lt, nat_le, if◌then◌else◌, List, [], ◌∷◌, ◌++◌, length, map, Option, Some, None, Result, Ok, Err, refl, sym, ap, subst, arith, append_assoc, get_or, to_z, of_z}
-use Rattle.std.specs.Prelude.{Vec}
+use Rattle.std.specs.Prelude.{Vec, unsigned_abs}
 use Rattle.std.specs.Int.{w64}
 use Rattle.std.specs.List.{All, Contains}
 use Rattle.std.specs.declared.alloc.Global.{Global}
@@ -10,24 +10,28 @@ use Rattle.std.proofs.lemmas.Bool.{cases_lt}
 use Rattle.std.proofs.lemmas.Int.{ints}
 use Rattle.std.proofs.lemmas.List.{append-nil, get_or-map, map-append}
 use Rattle.std.proofs.lemmas.List.Elements.{All-cons, All-contains, All-contains_itself, All-head, All-nil, All-tail, All-weaker}
+use Rattle.sled_codec.specs.declared.result.DiskPtr.{DiskPtr}
 use Rattle.sled_codec.specs.declared.result.DiskPtr.TheVariants as ptr
 use Rattle.sled_codec.specs.declared.result.Error.{Error}
 use Rattle.sled_codec.specs.declared.result.Error.TheVariants as error
 use Rattle.sled_codec.specs.Errors.{IsCorruption}
-use Rattle.sled_codec.specs.History.{History, Message, table}
+use Rattle.sled_codec.specs.History.{History, Message, page_state, table}
 use Rattle.sled_codec.specs.WellFormed.{LieApart}
 use Rattle.sled_codec.specs.declared.serialization.snapshot.PageState.{PageState}
 use Rattle.sled_codec.specs.PageTables.{entry_of}
 use Rattle.sled_codec.specs.Snapshots.{Entry, Page, Present, Uninitialized, page_of}
-use Rattle.sled_store.specs.Device.{Event}
+use Rattle.sled_store.specs.Device.{Event, Trace}
 use Rattle.sled_store.specs.Script.{Performs, after_all}
 use Rattle.sled_store.proofs.Segments.TableEntries.{from_table}
-use Rattle.sled_core.specs.Reading.{IsInline}
+use Rattle.sled_core.specs.Causes.{IsFault, IsFaultAt}
+use Rattle.sled_core.specs.Reading.{GivesMessage, IsInline}
+use Rattle.sled_core.specs.ReadPointer.{GivesBlobOrWaits, IsKeptBlob, place_read}
+use Rattle.sled_core.specs.declared.logger.read_message.LogRead.{LogRead}
 use Rattle.sled_core.specs.declared.logger.Log.{Log}
 use Rattle.sled_core.specs.Begun.{segment_view, view_at}
 use Rattle.sled_core.specs.OpenBatches.{not_whole}
 use Rattle.sled_core.proofs.Line.LineEnds.{noted_still}
-use Rattle.sled_core.specs.Fits.{HasRecordOf, buffers_of, current_begin, current_of, device_of, fault_of, held_len, noted_in, reserved_end, segment_size_of, start_of, synced_end, waiting_of}
+use Rattle.sled_core.specs.Fits.{HasRecordOf, buffers_of, current_begin, current_of, device_of, fault_of, held_len, next_place, noted_in, reserved_end, segment_size_of, start_of, synced_end, waiting_of}
 use Rattle.sled_core.specs.Keeps.{SamePosition, start_sealed}
 use Rattle.sled_core.specs.OpenPlaces.{first_between}
 use Rattle.sled_core.specs.ReadBuffer.{IsUsedUpAt, ReadAnswers, Settles, WritesAround, held_at, sealed_at, settling, start_at}
@@ -38,9 +42,10 @@ use Rattle.sled_core.proofs.Holds.KeptCalls.{kept_further, kept_still, position_
 use Rattle.sled_core.proofs.Line.Entered.{filled_last}
 use Rattle.sled_core.proofs.Line.Facts.{current_facts}
 use Rattle.sled_core.proofs.Line.Shows.{buffers_add}
-use Rattle.sled_core.proofs.PublicLaws.{place_back, reserved_small, shows_current, shows_empty, shows_long}
+use Rattle.sled_core.proofs.PublicLaws.{fits_reach, place_back, reserved_small, shows_current, shows_empty, shows_long}
+use Rattle.sled_log.proofs.Sessions.MadeHistories.{of_page_same}
 use Rattle.sled_log.proofs.Sessions.MadePages.{page_present}
-use Rattle.sled_log.specs.Made.{IsMade}
+use Rattle.sled_log.specs.Made.{HasBlobIn, IsMade}
 use Rattle.sled_log.specs.declared.session.Phase.TheVariants.{Open}
 use Rattle.sled_log.specs.declared.session.opened.Opened.{Opened}
 use Rattle.sled_log.specs.declared.session.command.Reply.TheVariants as reply
@@ -48,7 +53,7 @@ use Rattle.sled_log.proofs.Sessions.Writing.{IsHeldBy, StaysPut, all_held, first
 use Rattle.sled_log.specs.Readings.{IsOfPage, IsRead, KeepsOpen, ReadsEntries, ReadsItem, page_told}
 use Rattle.sled_log.specs.RunPhases.{IsOpenAt, Unstored, seen, seen_log, stands, traces}
 use Rattle.sled_log.specs.RunStates.{DeviceView, LogView, RunState, current_span, first_waiting, held, is_present, next_start, opens, page_now, sealed_around, spans_without, start_around, top, with_log}
-use Rattle.sled_log.specs.Runs.{ReadFails, ReadFailsFor, ReadStep, ReadStops, ReadsAll, ReadsAt, ShowsBuffers, flushed, held_around_place, holding_read, item_bytes, read_around}
+use Rattle.sled_log.specs.Runs.{ReadFails, ReadFailsFor, ReadStep, ReadStops, ReadsAll, ReadsAt, ShowsBuffers, flushed, held_around_place, holding_read, item_bytes, read_around, read_at}
 
 -- Buffers that have a place.
 
@@ -85,8 +90,8 @@ around_front at [] b far = ap (λ (o : Bool). if o then b.held else None) (not_b
 around_front at (x ∷ xs) b far = ap (λ (o : Option ℕ). if has_place at x then x.held else o) (around_front at xs b far)
 
 -- A message of what a page is has its record.
-pub has_record : {D C : Type 0} (log : Log D C) (H : History) (end : ℕ) (m : Message) → IsOfPage H end m → HasRecordOf log H m
-has_record log H end m of =
+pub has_record : {D C : Type 0} (log : Log D C) (H : History) (end page : ℕ) (m : Message) → IsOfPage H end page m → HasRecordOf log H m
+has_record log H end page m of =
     let low = log.place_in_reach in
     let inside = log.in_segment in
     let written = written_behind log.buffer in
@@ -146,8 +151,48 @@ module _ {D C : Type 0} (log : Log D C) (sum : List ℕ → ℕ) (at begun : ℕ
   holding_seen = ap (λ (o : Option ℕ). if nat_lt at l.synced then None else o)
       (of_sealed (held_around at) (around_front at) ∙ around_seen (opens l) at (sealed_at sum at log) shows.held ∙ ap (held_around_place (opens l) at) shows.are)
 
+-- Its item is there: why it wasn't read is neither damage nor a blob that is missing.
+abbrev pub IsWhole : DiskPtr → Message → Option IoError → Error → Type 0
+IsWhole (ptr.Inline lid) m kept e = IsCorruption {T = LogRead} (Err e) → ⊥
+IsWhole (ptr.Blob lid place) m kept e = GivesBlobOrWaits m kept (Err e)
+
+not_damaged : (p : DiskPtr) (m : Message) (kept : Option IoError) (at : Option DiskPtr) → IsWhole p m kept (error.Corruption at) → ⊥
+not_damaged (ptr.Inline lid) m kept at whole = whole tt
+not_damaged (ptr.Blob lid place) m kept at whole = whole
+
+not_missed : (blobs : ℤ → Option (List ℕ)) (p : DiskPtr) (m : Message) (e : IoError) (so : Type 0) (old new : Option IoError) (before after : ℕ) → IsWhole p m old (error.Io e)
+    → IsFaultAt blobs p e so old new before after → IsFault e old new before after
+not_missed blobs (ptr.Inline lid) m e so old new before after whole is = is
+not_missed blobs (ptr.Blob lid place) m e so old new before after whole is = elim is [ inl fault ↦ fault | inr missed ↦ absurd (whole missed.3 missed.0) ]
+
+-- A read of a pointer says so of a message with it: of one that has its item in its record by that, and else by its blob.
+module _ {D C : Type 0} (trace : D → Trace) (sum : List ℕ → ℕ) (log : Log D C) (k : Unstored) (page : ℕ) (m : Message) (place : ℤ) (is : IsRead trace sum log k) (of : IsOfPage k.history (reserved_end log) page m) (here : pos m.place ≡ place) where
+  -- the table of all that there is has its entry
+  entry_now : Contains (table k.history (next_place log) m.page) m
+  unfolding table
+  entry_now =
+      let reach = fits_reach trace sum log k.history k.acknowledged k.floor is.unmarked is.fits in
+      subst (λ (ms : List Message). Contains ms m) (ap page_state (of_page_same k.history.messages top (next_place log) m.page (λ x there same. (
+        All-contains (λ y. y.place < top) k.history.messages x is.made.low there,
+        All-contains (λ y. y.place < next_place log) k.history.messages x reach there,
+      )))) of.entry
+
+  kept_blob : (p : DiskPtr) → m.pointer ≡ p → (IsInline p → ⊥) → IsKeptBlob log k.history m page place p
+  kept_blob p points beside = record { entry = entry_now; page = of.of; place = here; pointer = points; beside = beside }
+
+  pub is_given : (p : DiskPtr) (r : LogRead) → m.pointer ≡ p → (IsInline p → GivesMessage m r) → (IsKeptBlob log k.history m page place p → GivesBlobOrWaits m (fault_of log) (Ok r)) → GivesMessage m r
+  is_given (ptr.Inline lid) r points inline blob = inline tt
+  is_given (ptr.Blob lid at) r points inline blob = blob (kept_blob (ptr.Blob lid at) points (λ no. no))
+
+  pub is_whole : (p : DiskPtr) (e : Error) → m.pointer ≡ p → (IsInline p → IsCorruption {T = LogRead} (Err e) → ⊥) → (IsKeptBlob log k.history m page place p → GivesBlobOrWaits m (fault_of log) (Err e)) → IsWhole p m (fault_of log) e
+  is_whole (ptr.Inline lid) e points inline blob = inline tt
+  is_whole (ptr.Blob lid at) e points inline blob = blob (kept_blob (ptr.Blob lid at) points (λ no. no))
+
 -- One message is read.
-module _ {D C : Type 0} (view : D → DeviceView) (sum : List ℕ → ℕ) (old new : Log D C) (k : Unstored) (m : Message) (begun lid : ℕ) (is : IsRead (traces view) sum old k) (of : IsOfPage k.history (reserved_end old) m) (position : StaysPut old new) where
+module _ {D C : Type 0} (view : D → DeviceView) (sum : List ℕ → ℕ) (old new : Log D C) (k : Unstored) (page : ℕ) (m : Message) (begun : ℕ) (of : IsOfPage k.history (reserved_end old) page m) (position : StaysPut old new) where
+  abbrev at : ℕ
+  at = read_at m
+
   abbrev before : LogView
   before = seen_log old begun k.tickets
 
@@ -175,87 +220,111 @@ module _ {D C : Type 0} (view : D → DeviceView) (sum : List ℕ → ℕ) (old 
     tickets = k.tickets;
   }
 
+  -- the calls that bring its place to the device
+  settling_seen : settling sum old (place_read (pos m.place) m.pointer) ≡ (if nat_lt at before.synced then [] else write_around at (sealed_at sum at old))
+  settling_seen = ap (settling sum old) of.read ∙ calls_seen old sum at begun k of.read_below
+
   -- It failed.
 
-  read_fails : {T : Type 0} (e : Error) (a : RunState) (fault : Option IoError) → Settles {T = T} (traces view) sum (Err e) (pos m.place) (ptr.Inline lid) old new → WritesAround {T = T} sum (Err e) (pos m.place) old new → fault_of new ≡ fault
-      → ReadFails a before m.place fault old_view new_view (with_log a new_view (Some after))
+  read_fails : {T : Type 0} (e : Error) (a : RunState) (fault : Option IoError) → Settles {T = T} (traces view) sum (Err e) (pos m.place) m.pointer old new → WritesAround {T = T} sum (Err e) (pos at) old new → fault_of new ≡ fault
+      → ReadFails a before at fault old_view new_view (with_log a new_view (Some after))
   read_fails e a fault settles writes kept = record {
-    buffers = sealed_at sum m.place old;
-    shown = shows old sum m.place begun k of.below;
-    calls = subst (λ (es : List Event). Performs es old_view.trace new_view.trace) (calls_seen old sum m.place begun k of.below) settles.at_most;
+    buffers = sealed_at sum at old;
+    shown = shows old sum at begun k of.read_below;
+    calls = subst (λ (es : List Event). Performs es old_view.trace new_view.trace) settling_seen settles.at_most;
     waiting = spans (waiting_of new);
     start = start_of new;
     left = elim writes.some [
       | inl same ↦ inl (ap spans same.0, same.1)
-      | inr (inl sealed) ↦ inr (inl (ap spans sealed.0 ∙ (shows old sum m.place begun k of.below).are, sealed.1 ∙ start_seen old sum m.place begun k of.below))
-      | inr (inr written) ↦ inr (inr (ap spans written.0 ∙ without_around_seen old sum m.place begun k of.below, written.1 ∙ start_seen old sum m.place begun k of.below))
+      | inr (inl sealed) ↦ inr (inl (ap spans sealed.0 ∙ (shows old sum at begun k of.read_below).are, sealed.1 ∙ start_seen old sum at begun k of.read_below))
+      | inr (inr written) ↦ inr (inr (ap spans written.0 ∙ without_around_seen old sum at begun k of.read_below, written.1 ∙ start_seen old sum at begun k of.read_below))
     ];
     leads = ap (λ (x : LogView). with_log a new_view (Some x)) (leaves (spans (waiting_of new)) (start_of new) fault refl refl kept);
   }
 
-  pub read_failed : (T : Type 0) (blobs : ℤ → Option (List ℕ)) (e : Error) → Settles {T = T} (traces view) sum (Err e) (pos m.place) (ptr.Inline lid) old new → WritesAround {T = T} sum (Err e) (pos m.place) old new
-      → ReadAnswers {T = T} sum blobs (ptr.Inline lid) (Err e) (pos m.place) (synced_end old) (reserved_end old) (held_at sum old (pos m.place)) (IsUsedUpAt old (pos m.place)) (fault_of old) (fault_of new) old_view.failures new_view.failures
-      → (IsCorruption {T = T} (Err e) → ⊥) → (a : RunState) → ReadFailsFor (segment_size_of old) a before m.place e old_view new_view (with_log a new_view (Some after))
-  read_failed T blobs (error.Io x) settles writes answers whole a = elim answers [
+  failed_at : (blobs : ℤ → Option (List ℕ)) (e : Error) → Settles {T = LogRead} (traces view) sum (Err e) (pos m.place) m.pointer old new → WritesAround {T = LogRead} sum (Err e) (pos at) old new
+      → ReadAnswers {T = LogRead} sum blobs m.pointer (Err e) (pos at) (synced_end old) (reserved_end old) (held_at sum old (pos at)) (IsUsedUpAt old (pos at)) (fault_of old) (fault_of new) old_view.failures new_view.failures
+      → IsWhole m.pointer m (fault_of old) e → (a : RunState) → ReadFailsFor (segment_size_of old) a before at e old_view new_view (with_log a new_view (Some after))
+  failed_at blobs (error.Io x) settles writes answers whole a = elim (not_missed blobs m.pointer m x _ (fault_of old) (fault_of new) old_view.failures new_view.failures whole answers) [
     | inl kept ↦ (inl (kept.0, refl, kept.2), read_fails (error.Io x) a (Some x) settles writes kept.1)
     | inr failed ↦ (inr (failed.0, refl, failed.2, failed.3), read_fails (error.Io x) a (Some x) settles writes failed.1)
   ]
-  read_failed T blobs error.OutOfMemory settles writes answers whole a = (answers.1, answers.3, read_fails error.OutOfMemory a None settles writes answers.2)
-  read_failed T blobs error.PlacesUsedUp settles writes answers whole a =
+  failed_at blobs error.OutOfMemory settles writes answers whole a = (answers.1, answers.3, read_fails error.OutOfMemory a None settles writes answers.2)
+  failed_at blobs error.PlacesUsedUp settles writes answers whole a =
       let used = answers.1 in
       (answers.2, (let low = used.0 in omega (arith, ints, low)), flush_out old sum begun k.tickets used.1, answers.4, read_fails error.PlacesUsedUp a None settles writes answers.3)
-  read_failed T blobs (error.Held place) settles writes answers whole a =
+  failed_at blobs (error.Held place) settles writes answers whole a =
       let up = answers.1 in
-      (answers.3, (up.0, sym (holding_seen old sum m.place begun k of.below) ∙ up.1, up.2), answers.5, read_fails (error.Held place) a None settles writes answers.4)
-  read_failed T blobs (error.NotReserved place) settles writes answers whole a = let high = answers.2 in let low = of.below in absurd (omega (arith, ints, high, low))
-  read_failed T blobs (error.Corruption place) settles writes answers whole a = absurd (whole tt)
-  read_failed T blobs _ settles writes answers whole a = absurd answers
+      (answers.3, (up.0, sym (holding_seen old sum at begun k of.read_below) ∙ up.1, up.2), answers.5, read_fails (error.Held place) a None settles writes answers.4)
+  failed_at blobs (error.NotReserved place) settles writes answers whole a = let high = answers.2 in let low = of.read_below in absurd (omega (arith, ints, high, low))
+  failed_at blobs (error.Corruption place) settles writes answers whole a = absurd (not_damaged m.pointer m (fault_of old) place whole)
+  failed_at blobs _ settles writes answers whole a = absurd answers
+
+  -- what is told of a read of a pointer, and of the place that it brings to the device
+  abbrev AnswersAt : (ℤ → Option (List ℕ)) → Result LogRead Error → DiskPtr → ℤ → Type 0
+  AnswersAt blobs r p z = WritesAround sum r z old new
+      × ReadAnswers sum blobs p r z (synced_end old) (reserved_end old) (held_at sum old z) (IsUsedUpAt old z) (fault_of old) (fault_of new) old_view.failures new_view.failures
+
+  abbrev pub Told : (ℤ → Option (List ℕ)) → Result LogRead Error → ℤ → DiskPtr → Type 0
+  Told blobs r z p = Settles (traces view) sum r z p old new × AnswersAt blobs r p (place_read z p)
+
+  -- it is so of the message's own
+  told_own : (blobs : ℤ → Option (List ℕ)) (r : Result LogRead Error) (z : ℤ) (p : DiskPtr) → pos m.place ≡ z → m.pointer ≡ p → Told blobs r z p → Settles (traces view) sum r (pos m.place) m.pointer old new × AnswersAt blobs r m.pointer (pos at)
+  told_own blobs r z p here points told =
+      let own = subst (λ (x : ℤ × DiskPtr). Told blobs r x.0 x.1) (λ i. (sym here i, sym points i)) told in
+      (own.0, subst (AnswersAt blobs r m.pointer) of.read own.1)
+
+  pub read_failed : (blobs : ℤ → Option (List ℕ)) (e : Error) (z : ℤ) (p : DiskPtr) → pos m.place ≡ z → m.pointer ≡ p → Told blobs (Err e) z p → IsWhole p m (fault_of old) e
+      → (a : RunState) → ReadFailsFor (segment_size_of old) a before at e old_view new_view (with_log a new_view (Some after))
+  read_failed blobs e z p here points told whole a =
+      let own = told_own blobs (Err e) z p here points told in
+      failed_at blobs e own.0 own.1.0 own.1.1 (subst (λ (x : DiskPtr). IsWhole x m (fault_of old) e) (sym points) whole) a
 
   -- It was read.
 
-  around : {T : Type 0} (r : T) → WritesAround sum (Ok r) (pos m.place) old new → fault_of new ≡ fault_of old → after ≡ read_around before m.place
-  around r writes kept = by (nat_lt m.place (synced_end old)) refl where
-    by : (o : Bool) → nat_lt m.place (synced_end old) ≡ o → after ≡ (if o then before else flushed before (spans_without m.place (sealed_around m.place before)) (start_around m.place before) (fault_of old))
+  around : {T : Type 0} (r : T) → WritesAround sum (Ok r) (pos at) old new → fault_of new ≡ fault_of old → after ≡ read_around before at
+  around r writes kept = by (nat_lt at (synced_end old)) refl where
+    by : (o : Bool) → nat_lt at (synced_end old) ≡ o → after ≡ (if o then before else flushed before (spans_without at (sealed_around at before)) (start_around at before) (fault_of old))
     by true below =
         let low = writes.still (grind (arith, ints, nat_tests, below)) in
         leaves (spans (waiting_of old)) (start_of old) (fault_of old) (ap spans low.0) low.1 kept
         ∙ (λ i. record { position = before.position; synced = sym (first_seen old) i; noted = sym (noted_still old ∙ ap (λ n. not_whole n (noted_in old)) (first_seen old)) i; end = before.end; waiting = before.waiting; start = before.start; begun = begun; fault = before.fault; outstanding = before.outstanding; tickets = k.tickets })
     by false beyond =
         let high = writes.written (grind (arith, ints, nat_tests, beyond)) in
-        leaves (spans_without m.place (sealed_around m.place before)) (start_around m.place before) (fault_of old)
-        (ap spans high.0 ∙ without_around_seen old sum m.place begun k of.below) (high.1 ∙ start_seen old sum m.place begun k of.below) kept
+        leaves (spans_without at (sealed_around at before)) (start_around at before) (fault_of old)
+        (ap spans high.0 ∙ without_around_seen old sum at begun k of.read_below) (high.1 ∙ start_seen old sum at begun k of.read_below) kept
 
-  pub was_read : {T : Type 0} (blobs : ℤ → Option (List ℕ)) (r : T) → Settles (traces view) sum (Ok r) (pos m.place) (ptr.Inline lid) old new → WritesAround sum (Ok r) (pos m.place) old new
-      → ReadAnswers sum blobs (ptr.Inline lid) (Ok r) (pos m.place) (synced_end old) (reserved_end old) (held_at sum old (pos m.place)) (IsUsedUpAt old (pos m.place)) (fault_of old) (fault_of new) old_view.failures new_view.failures
-      → (before.fault ≡ None) × ReadsAt before m.place old_view new_view × (after ≡ read_around before m.place)
-  was_read blobs r settles writes answers = (
-    answers.3,
-    record {
-      buffers = sealed_at sum m.place old;
-      shown = shows old sum m.place begun k of.below;
-      made = settles.made ∙ ap (λ (es : List Event). after_all es old_view.trace) (calls_seen old sum m.place begun k of.below);
-      free = sym (holding_seen old sum m.place begun k of.below) ∙ answers.1;
-      failures = answers.5;
-    },
-    around r writes (answers.4 ∙ sym answers.3),
-  )
+  pub was_read : (blobs : ℤ → Option (List ℕ)) (r : LogRead) (z : ℤ) (p : DiskPtr) → pos m.place ≡ z → m.pointer ≡ p → Told blobs (Ok r) z p → (before.fault ≡ None) × ReadsAt before at old_view new_view × (after ≡ read_around before at)
+  was_read blobs r z p here points told =
+      let own = told_own blobs (Ok r) z p here points told in
+      let answers = own.1.1 in (
+        answers.3,
+        record {
+          buffers = sealed_at sum at old;
+          shown = shows old sum at begun k of.read_below;
+          made = own.0.made ∙ ap (λ (es : List Event). after_all es old_view.trace) settling_seen;
+          free = sym (holding_seen old sum at begun k of.read_below) ∙ answers.1;
+          failures = answers.5;
+        },
+        around r own.1.0 (answers.4 ∙ sym answers.3),
+      )
 
 -- Several messages are read, one behind another.
 
 -- one more
-reads_more : (done : List Message) (m : Message) (l end : LogView) (old mid new : DeviceView) → ReadsAll l done old mid end → ReadsAt end m.place mid new → ReadsAll l (done ++ m ∷ []) old new (read_around end m.place)
+reads_more : (done : List Message) (m : Message) (l end : LogView) (old mid new : DeviceView) → ReadsAll l done old mid end → ReadsAt end (read_at m) mid new → ReadsAll l (done ++ m ∷ []) old new (read_around end (read_at m))
 reads_more [] m l end old mid new is more = (
   new,
   record {
     buffers = more.buffers;
-    shown = subst (λ (x : LogView). ShowsBuffers (opens x) (sealed_around m.place x) more.buffers) is.2 more.shown;
-    made = more.made ∙ (λ i. after_all (if nat_lt m.place (is.2 i).synced then [] else write_around m.place more.buffers) (is.0 i));
-    free = subst (λ (x : LogView). holding_read x m.place ≡ None) is.2 more.free;
+    shown = subst (λ (x : LogView). ShowsBuffers (opens x) (sealed_around (read_at m) x) more.buffers) is.2 more.shown;
+    made = more.made ∙ (λ i. after_all (if nat_lt (read_at m) (is.2 i).synced then [] else write_around (read_at m) more.buffers) (is.0 i));
+    free = subst (λ (x : LogView). holding_read x (read_at m) ≡ None) is.2 more.free;
     failures = more.failures ∙ is.1;
   },
-  (refl, refl, ap (λ (x : LogView). read_around x m.place) is.2),
+  (refl, refl, ap (λ (x : LogView). read_around x (read_at m)) is.2),
 )
-reads_more (n ∷ done) m l end old mid new is more = (is.0, is.1, reads_more done m (read_around l n.place) end is.0 mid new is.2 more)
+reads_more (n ∷ done) m l end old mid new is more = (is.0, is.1, reads_more done m (read_around l (read_at n)) end is.0 mid new is.2 more)
 
 -- what all have this one has
 all_at : (P : Message → Type 0) (done : List Message) (m : Message) (rest : List Message) → All P (done ++ m ∷ rest) → P m
@@ -273,9 +342,9 @@ pub record AreRead (l : LogView) (ms : List Message) (rest : List Entry) (old no
   pub fault : (done ≡ []) ⊎ (l.fault ≡ None)
 
 -- So many of a page's entries are read.
-pub record HasReadSome {D C : Type 0} (view : D → DeviceView) (sum : List ℕ → ℕ) (old : Log D C) (entries : List Entry) (now : Log D C) (items : List (Vec ℕ Global)) (rest : List Entry) : Type 0 where
+pub record HasReadSome {D C : Type 0} (view : D → DeviceView) (sum : List ℕ → ℕ) (old : Log D C) (page : ℕ) (entries : List Entry) (now : Log D C) (items : List (Vec ℕ Global)) (rest : List Entry) : Type 0 where
   pub only : KeepsOpen (traces view) sum old now
-  pub so_far : (k : Unstored) (ms : List Message) (begun : ℕ) → IsRead (traces view) sum old k → All (IsOfPage k.history (reserved_end old)) ms → map entry_of ms ≡ entries
+  pub so_far : (k : Unstored) (ms : List Message) (begun : ℕ) → IsRead (traces view) sum old k → All (IsOfPage k.history (reserved_end old) page) ms → map entry_of ms ≡ entries
       → AreRead (seen_log old begun k.tickets) ms rest (view (device_of old)) (view (device_of now)) items (seen_log now begun k.tickets)
 
 -- a read that stopped is a step
@@ -283,18 +352,18 @@ stops_step : (n : ℕ) (a : RunState) (l : LogView) (ms : List Message) (e : Err
 stops_step n a l ms error.OutOfMemory new b stops = inr stops
 stops_step n a l ms _ new b stops = stops
 
-module _ {D C : Type 0} (view : D → DeviceView) (sum : List ℕ → ℕ) (old : Log D C) where
+module _ {D C : Type 0} (view : D → DeviceView) (sum : List ℕ → ℕ) (old : Log D C) (page : ℕ) where
   -- nothing was done
   pub only_same : KeepsOpen (traces view) sum old old
   only_same = record { keeps = kept_still (traces view) sum old; tickets = record { awaits = λ ticket m awaits. awaits; opens = refl }; position = position_still old; free = λ none. none }
 
-  pub none_read : (entries : List Entry) → HasReadSome view sum old entries old [] entries
+  pub none_read : (entries : List Entry) → HasReadSome view sum old page entries old [] entries
   none_read entries = record {
     only = only_same;
     so_far = λ k ms begun is all are. record { done = []; left = ms; split = refl; entries = are; reads = (refl, refl, refl); items_are = refl; fault = inl refl };
   }
 
-  pub unread : (entries : List Entry) → ReadsEntries view sum old entries old (Err error.OutOfMemory)
+  pub unread : (entries : List Entry) → ReadsEntries view sum old page entries old (Err error.OutOfMemory)
   unread entries = record {
     only = only_same;
     step = λ k ms begun a is all are present device log. inl (sym device, λ i. record { device = sym device i; history = a.history; acknowledged = a.acknowledged; floor = a.floor; log = sym log i });
@@ -312,6 +381,8 @@ module _ {D C : Type 0} (view : D → DeviceView) (sum : List ℕ → ℕ) (old 
 
     is_read : (k : Unstored) → KeepsOpen (traces view) sum old mid → IsRead (traces view) sum old k → IsRead (traces view) sum mid k
     is_read k only is = record {
+      made = is.made;
+      zeros = is.zeros;
       unmarked = is.unmarked;
       fits = only.keeps.fits k.history k.acknowledged k.floor is.unmarked is.fits;
     }
@@ -324,13 +395,13 @@ module _ {D C : Type 0} (view : D → DeviceView) (sum : List ℕ → ℕ) (old 
       pub place : pos message.place ≡ to_z w64 (of_z w64 e.0)
       pub pointer : message.pointer ≡ e.1
       pub others : map entry_of later ≡ rest
-      pub of : IsOfPage H (reserved_end mid) message
+      pub of : IsOfPage H (reserved_end mid) page message
 
-    next : (H : History) (ms done left : List Message) (e : Entry) (rest : List Entry) → ms ≡ done ++ left → map entry_of left ≡ e ∷ rest → SamePosition old mid → All (IsOfPage H (reserved_end old)) ms → IsNext H ms done e rest
+    next : (H : History) (ms done left : List Message) (e : Entry) (rest : List Entry) → ms ≡ done ++ left → map entry_of left ≡ e ∷ rest → SamePosition old mid → All (IsOfPage H (reserved_end old) page) ms → IsNext H ms done e rest
     next H ms done [] e rest split are position all = absurd (let bad : [] ≡ e ∷ rest = are in cc)
     next H ms done (m ∷ later) e rest split are position all =
         let own : entry_of m ≡ e = cc in
-        let of : IsOfPage H (reserved_end mid) m = subst (λ n. IsOfPage H n m) (sym position.reserved) (all_at (IsOfPage H (reserved_end old)) done m later (subst (All (IsOfPage H (reserved_end old))) split all)) in
+        let of : IsOfPage H (reserved_end mid) page m = subst (λ n. IsOfPage H n page m) (sym position.reserved) (all_at (IsOfPage H (reserved_end old) page) done m later (subst (All (IsOfPage H (reserved_end old) page)) split all)) in
         let small = reserved_small mid in
         let low = of.below in
         record {
@@ -343,8 +414,8 @@ module _ {D C : Type 0} (view : D → DeviceView) (sum : List ℕ → ℕ) (old 
           of = of;
         }
 
-    pub one_more : (new : Log D C) (e : Entry) (rest : List Entry) (item : Vec ℕ Global) → HasReadSome view sum old entries mid items (e ∷ rest) → ReadsItem view sum mid (to_z w64 (of_z w64 e.0)) e.1 new (Ok item)
-        → HasReadSome view sum old entries new (items ++ item ∷ []) rest
+    pub one_more : (new : Log D C) (e : Entry) (rest : List Entry) (item : Vec ℕ Global) → HasReadSome view sum old page entries mid items (e ∷ rest) → ReadsItem view sum mid page (to_z w64 (of_z w64 e.0)) e.1 new (Ok item)
+        → HasReadSome view sum old page entries new (items ++ item ∷ []) rest
     one_more new e rest item some reads = record {
       only = further new some.only reads.only;
       so_far = λ k ms begun is all are.
@@ -368,8 +439,8 @@ module _ {D C : Type 0} (view : D → DeviceView) (sum : List ℕ → ℕ) (old 
           };
     }
 
-    pub one_failed : (new : Log D C) (e : Entry) (rest : List Entry) (why : Error) → HasReadSome view sum old entries mid items (e ∷ rest) → ReadsItem view sum mid (to_z w64 (of_z w64 e.0)) e.1 new (Err why)
-        → ReadsEntries view sum old entries new (Err why)
+    pub one_failed : (new : Log D C) (e : Entry) (rest : List Entry) (why : Error) → HasReadSome view sum old page entries mid items (e ∷ rest) → ReadsItem view sum mid page (to_z w64 (of_z w64 e.0)) e.1 new (Err why)
+        → ReadsEntries view sum old page entries new (Err why)
     one_failed new e rest why some reads = record {
       only = further new some.only reads.only;
       step = λ k ms begun a is all are present device log.
@@ -385,12 +456,12 @@ module _ {D C : Type 0} (view : D → DeviceView) (sum : List ℕ → ℕ) (old 
             mid = view (device_of mid);
             log = seen_log mid begun k.tickets;
             so_far = subst (λ (x : DeviceView). ReadsAll l came.done x (view (device_of mid)) (seen_log mid begun k.tickets)) (sym device) came.reads;
-            fails = subst (λ n. ReadFailsFor n a (seen_log mid begun k.tickets) one.message.place why (view (device_of mid)) (view (device_of new)) b) some.only.position.size
+            fails = subst (λ n. ReadFailsFor n a (seen_log mid begun k.tickets) (read_at one.message) why (view (device_of mid)) (view (device_of new)) b) some.only.position.size
                 (reads.item k one.message begun (is_read k some.only is) one.of one.place one.pointer a);
           });
     }
 
-    pub all_read : (vs : Vec (Vec ℕ Global) Global) → vs.items ≡ items → HasReadSome view sum old entries mid items [] → ReadsEntries view sum old entries mid (Ok vs)
+    pub all_read : (vs : Vec (Vec ℕ Global) Global) → vs.items ≡ items → HasReadSome view sum old page entries mid items [] → ReadsEntries view sum old page entries mid (Ok vs)
     all_read vs items_is some = record {
       only = some.only;
       step = λ k ms begun a is all are present device log.
@@ -417,18 +488,33 @@ sized : (ms : List Message) → LieApart ms → All (λ m. 0 < m.size) ms
 sized [] apart = All-nil (λ m. 0 < m.size)
 sized (m ∷ ms) apart = All-cons (λ x. 0 < x.size) m ms apart.0 (sized ms apart.2)
 
-all_of_page : (H : History) (end page : ℕ) → IsMade H → All (λ m. m.place + m.size ≤ end) H.messages → All (IsOfPage H end) (page_now H page)
-all_of_page H end page made ends = All-weaker (Contains (page_now H page)) (IsOfPage H end) each (page_now H page) (All-contains_itself (page_now H page)) where
-  each : (m : Message) → Contains (page_now H page) m → IsOfPage H end m
+-- a blob that is at the place of a message was reserved, as that was
+reads_reserved : (H : History) (end : ℕ) (m : Message) (p : DiskPtr) → m.place < end → ((x : Message) → Contains H.messages x → x.place < end) → HasBlobIn H m p
+    → (place_read (pos m.place) p ≡ pos (unsigned_abs (place_read (pos m.place) p))) × (unsigned_abs (place_read (pos m.place) p) < end)
+reads_reserved H end m (ptr.Inline lid) low all has = (refl, low)
+reads_reserved H end m (ptr.Blob lid place) low all has =
+    let at : place ≡ pos has.0.place = has.3 in
+    (at ∙ sym (ap (λ (z : ℤ). pos (unsigned_abs z)) at), subst (λ (z : ℤ). unsigned_abs z < end) (sym at) (all has.0 has.1))
+
+all_of_page : (H : History) (end page : ℕ) → IsMade H → All (λ m. m.place + m.size ≤ end) H.messages → All (IsOfPage H end page) (page_now H page)
+all_of_page H end page made ends = All-weaker (Contains (page_now H page)) (IsOfPage H end page) each (page_now H page) (All-contains_itself (page_now H page)) where
+  low : (x : Message) → Contains H.messages x → x.place < end
+  low x there =
+      let some = All-contains (λ y. 0 < y.size) H.messages x (sized H.messages made.orderly.formed.apart) there in
+      let below = All-contains (λ y. y.place + y.size ≤ end) H.messages x ends there in
+      omega (arith, some, below)
+
+  each : (m : Message) → Contains (page_now H page) m → IsOfPage H end page m
   each m there =
       let found = from_table H top page m there in
-      let some = All-contains (λ x. 0 < x.size) H.messages m (sized H.messages made.orderly.formed.apart) found.0 in
-      let low = All-contains (λ x. x.place + x.size ≤ end) H.messages m ends found.0 in
+      let reads = reads_reserved H end m m.pointer (low m found.0) low (made.blobs m found.0) in
       record {
         there = found.0;
         entry = subst (λ n. Contains (table H top n) m) (sym found.1) there;
-        inline = All-contains (λ x. IsInline x.pointer) H.messages m made.inline found.0;
-        below = omega (arith, some, low);
+        of = found.1;
+        below = low m found.0;
+        read = reads.0;
+        read_below = reads.1;
       }
 
 -- a page that code finds among those that it has
@@ -438,11 +524,11 @@ page_found states seen page s p same lt at is =
 
 -- The messages of a page that is present are read, and the log stays open.
 module _ {D C : Type 0} (view : D → DeviceView) (sum : List ℕ → ℕ) (opened : Opened D C) (page : ℕ) (k : Unstored) (at : IsOpenAt (traces view) sum opened k) (new : Log D C) (base : Entry) (frags : List Entry) (r : Result (Vec (Vec ℕ Global) Global) Error)
-    (has : get_or (map page_of opened.pages.items) page Uninitialized ≡ Present base frags) (reads : ReadsEntries view sum opened.log (base ∷ frags) new r) where
+    (has : get_or (map page_of opened.pages.items) page Uninitialized ≡ Present base frags) (reads : ReadsEntries view sum opened.log page (base ∷ frags) new r) where
   pub page_read : ReadStep (segment_size_of opened.log) (stands view (Open opened) k) (seen opened k.tickets) (page_now k.history page) (page_told r) (view (device_of new)) (stands view (Open (over opened new)) k)
   page_read =
       let present = page_present k.history (map page_of opened.pages.items) page base frags at.table has in
-      reads.step k (page_now k.history page) (length opened.pages.items) (stands view (Open opened) k) (record { unmarked = at.unmarked; fits = at.fits })
+      reads.step k (page_now k.history page) (length opened.pages.items) (stands view (Open opened) k) (record { made = at.made; zeros = at.zeros; unmarked = at.unmarked; fits = at.fits })
       (all_of_page k.history (reserved_end opened.log) page at.made at.ends) (sym present.entries) present.present refl refl
 
   pub open_still : IsOpenAt (traces view) sum (over opened new) k

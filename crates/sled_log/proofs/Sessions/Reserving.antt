@@ -12,6 +12,7 @@ use Rattle.sled_codec.specs.declared.serialization.message.MessageKind.TheVarian
 use Rattle.sled_codec.specs.declared.result.Error.{Error}
 use Rattle.sled_codec.specs.declared.result.Error.TheVariants as error
 use Rattle.sled_codec.specs.History.{Batch, ChangesPage, History, Message}
+use Rattle.sled_core.specs.Keeps.{GoesOn}
 use Rattle.sled_core.specs.Logged.{in_log}
 use Rattle.sled_core.specs.Manifests.{kind_for, manifest_page}
 use Rattle.sled_codec.specs.PageTables.{IsTable, entry_of, page_with}
@@ -26,7 +27,7 @@ use Rattle.sled_core.specs.Fits.{Awaits, AwaitsIn, FitsInline, KeepsAll, IsLeast
 use Rattle.sled_core.specs.OpenPlaces.{open_places_along}
 use Rattle.sled_core.specs.Positions.{position_in}
 use Rattle.sled_core.specs.Reserves.{reserve_causes}
-use Rattle.sled_core.specs.Running.{Fits}
+use Rattle.sled_core.specs.Running.{Fits, IsStored}
 use Rattle.sled_core.specs.Tickets.{place_of, pointer_of}
 use Rattle.sled_core.specs.Waiting.{last_of, spans, start_in, unwritten}
 use Rattle.sled_core.proofs.PublicLaws.{ReservesInline, awaited, awaited_small, fits_reach, inline_keeps, inline_message, noted_pegs, refused_inline, target_above as put_above}
@@ -39,9 +40,10 @@ use Rattle.sled_log.specs.declared.session.command.Reply.TheVariants as reply
 use Rattle.sled_log.specs.declared.session.Phase.TheVariants as phase
 use Rattle.sled_log.specs.Made.{HasReplaceBelow, MayJoin}
 use Rattle.sled_log.specs.Reservations.{HasTried, HoldsTicket, MakesRoom, MayReserve}
-use Rattle.sled_log.specs.RunPhases.{AreRising, BeginsBatch, HasBatch, HasTickets, IsOpenAt, IsTicketFor, Unstored, device_in, seen, seen_log, stands, traces}
+use Rattle.sled_log.specs.RunPhases.{AreRising, BeginsBatch, HasBatch, HasTickets, IsOpenAt, IsSafe, IsTicketFor, Unstored, device_in, seen, seen_log, stands, traces}
 use Rattle.sled_log.specs.RunStates.{DeviceView, EndsInReach, LogView, RunState, has_page, is_present, open_messages, page_now, target_in, top}
 use Rattle.sled_log.specs.TicketSteps.{IsFullOfOpen, ReserveStep}
+use Rattle.sled_log.proofs.Sessions.SafeItems.{safe_on}
 use Rattle.sled_log.proofs.Sessions.TicketsSeen.{page_has}
 use Rattle.sled_log.proofs.Sessions.ReservedPlaces.{beside_count, beside_least, in_reach, out_of_reach, reserved_below, start_with_seen, waiting_seen}
 use Rattle.sled_log.proofs.Sessions.MoreTickets.{batch_push, busy_set, open_all, open_push, page_push, push_cases, rising_push}
@@ -95,6 +97,8 @@ pub record KeptPlace {D C : Type 0} (trace : D → Trace) (sum : List ℕ → �
   pub free : IsUsedUpFor old page (length bytes) → ⊥
   pub few : open_for old page (length bytes) < most_open
   pub fits : (H : History) (A f : ℕ) (U : List Message) → Fits trace sum old H A f U → Fits trace sum new H A f U
+  pub stored : IsStored trace sum new (inline_message old kind page bytes)
+  pub goes_on : GoesOn trace sum old new
   pub same : KeepsAll old new
 
 -- It did where it kept one for an item that fits inline.
@@ -112,6 +116,8 @@ kept_place trace faults sum old new kind page bytes reservation came = record {
   free = came.answers.1.1;
   few = came.answers.1.2;
   fits = came.keeps.fits;
+  stored = came.stored;
+  goes_on = came.keeps.goes_on;
   same = inline_keeps trace faults sum kind page bytes old new (Ok reservation) came;
 }
 
@@ -149,7 +155,7 @@ module _ {D C : Type 0} (view : D → DeviceView) (sum : List ℕ → ℕ) (old 
   -- The tickets, where its message may come to the history, or it begins a batch, and where that is noted.
   module _ (joins : page ≢ manifest_page → MayJoin k.history its) (begins : page ≡ manifest_page → BeginsBatch new.log its)
       (busy : (p : ℕ) → p ≢ manifest_page → get_or new.busy.items p false ≡ (if page == p then true else get_or old.busy.items p false)) (batch : HasBatch more.tickets new.batch) where
-    old_ticket : (i : ℕ) (m : Message) → slice_get k.tickets i ≡ Some (Some m) → IsTicketFor new k.history i m
+    old_ticket : (i : ℕ) (m : Message) → slice_get k.tickets i ≡ Some (Some m) → IsTicketFor (traces view) sum new k.history i m
     old_ticket i m there =
         let is = at.tickets.each i m there in
         let up = grown in
@@ -161,13 +167,15 @@ module _ {D C : Type 0} (view : D → DeviceView) (sum : List ℕ → ℕ) (old 
           kind = is.kind;
           page = is.page;
           awaits = kept.others is.ticket.reservation m is.awaits;
+          stored = safe_on (traces view) sum old.log new.log m kept.goes_on is.stored;
+          plain = is.plain;
           joins = is.joins;
           begins_batch = λ of. let begun = is.begins_batch of in record { kind = begun.kind; inline = begun.inline; apart = λ b known. begun.apart b (subst (λ (bs : List Batch). Contains bs b) kept.same.noted known) };
           begins = omega (arith, up, low);
           ends = omega (arith, up, end);
         }
 
-    new_ticket : IsTicketFor new k.history (length k.tickets) its
+    new_ticket : IsTicketFor (traces view) sum new k.history (length k.tickets) its
     new_ticket =
         let end = kept.reserved in
         record {
@@ -178,16 +186,18 @@ module _ {D C : Type 0} (view : D → DeviceView) (sum : List ℕ → ℕ) (old 
           kind = refl;
           page = refl;
           awaits = kept.ticket;
+          stored = λ none. kept.stored;
+          plain = tt;
           joins = joins;
           begins_batch = begins;
           begins = omega (arith, end);
           ends = omega (arith, end);
         }
 
-    each : (i : ℕ) (m : Message) → slice_get (k.tickets ++ Some its ∷ []) i ≡ Some (Some m) → IsTicketFor new k.history i m
+    each : (i : ℕ) (m : Message) → slice_get (k.tickets ++ Some its ∷ []) i ≡ Some (Some m) → IsTicketFor (traces view) sum new k.history i m
     each i m there = elim (push_cases k.tickets (Some its) (Some m) i there) [
       | inl was ↦ old_ticket i m was
-      | inr last ↦ subst (λ x. IsTicketFor new k.history i x) (same_Some its m last.1) (subst (λ n. IsTicketFor new k.history n its) (sym last.0) new_ticket)
+      | inr last ↦ subst (λ x. IsTicketFor (traces view) sum new k.history i x) (same_Some its m last.1) (subst (λ n. IsTicketFor (traces view) sum new k.history n its) (sym last.0) new_ticket)
     ]
 
     -- none of the old ones is of its page
@@ -222,7 +232,7 @@ module _ {D C : Type 0} (view : D → DeviceView) (sum : List ℕ → ℕ) (old 
     noted p message =
         busy p message ∙ ap (λ (b : Bool). if page == p then true else b) (at.tickets.busy p message) ∙ sym (ap (has_page p) (open_push k.tickets its) ∙ page_push p (open_messages k.tickets) its)
 
-    has_tickets : HasTickets new k.history more.tickets
+    has_tickets : HasTickets (traces view) sum new k.history more.tickets
     has_tickets = record {
       as_many = ap length tickets ∙ length-append old.tickets.items _ ∙ ap (λ n. n + 1) at.tickets.as_many ∙ sym (length-append k.tickets (Some its ∷ []));
       each = each;
@@ -241,6 +251,7 @@ module _ {D C : Type 0} (view : D → DeviceView) (sum : List ℕ → ℕ) (old 
           made = at.made;
           unmarked = at.unmarked;
           fits = kept.fits k.history k.acknowledged k.floor at.unmarked at.fits;
+          zeros = at.zeros;
           pinned = subst (λ p. 0 < p) (sym kept.same.pins) at.pinned;
           table = subst (λ p. IsTable (map page_of p.items) k.history top) (sym pages) at.table;
           tickets = has_tickets;
@@ -311,7 +322,7 @@ module _ {D C : Type 0} (view : D → DeviceView) (sum : List ℕ → ℕ) (old 
   may_join = record {
     changes = changes;
     small = let most = old.busy.small in omega (arith, small, most);
-    inline = tt;
+    blob = tt;
     low = awaited_small new.log reservation comes kept.ticket;
     own = elim known [ inl first ↦ inl first | inr less ↦ inr (replaced page less) ];
     lower = λ p less. replaced p (known_below p less);
@@ -336,11 +347,12 @@ reserve_failed s a l kind page bytes T _ new b used least causes written inline 
 -- the session is as it was
 unchanged_at : {D C : Type 0} (trace : D → Trace) (sum : List ℕ → ℕ) (old new : Opened D C) (k : Unstored) → ((H : History) (A f : ℕ) (U : List Message) → Fits trace sum old.log H A f U → Fits trace sum new.log H A f U)
     → line_of new.log ≡ line_of old.log → reserved_end new.log ≡ reserved_end old.log → pins_of new.log ≡ pins_of old.log → fault_of new.log ≡ fault_of old.log → new.pages ≡ old.pages → new.tickets.items ≡ old.tickets.items
-    → ((page : ℕ) → get_or new.busy.items page false ≡ get_or old.busy.items page false) → new.batch ≡ old.batch → noted_in new.log ≡ noted_in old.log → IsOpenAt trace sum old k → IsOpenAt trace sum new k
-unchanged_at trace sum old new k fits line end pins fault pages tickets busy batch noted at = record {
+    → ((page : ℕ) → get_or new.busy.items page false ≡ get_or old.busy.items page false) → new.batch ≡ old.batch → noted_in new.log ≡ noted_in old.log → ((m : Message) → IsSafe trace sum old.log m → IsSafe trace sum new.log m) → IsOpenAt trace sum old k → IsOpenAt trace sum new k
+unchanged_at trace sum old new k fits line end pins fault pages tickets busy batch noted safe at = record {
   made = at.made;
   unmarked = at.unmarked;
   fits = fits k.history k.acknowledged k.floor at.unmarked at.fits;
+  zeros = at.zeros;
   pinned = subst (λ p. 0 < p) (sym pins) at.pinned;
   table = subst (λ p. IsTable (map page_of p.items) k.history top) (sym pages) at.table;
   tickets = record {
@@ -351,6 +363,8 @@ unchanged_at trace sum old new k fits line end pins fault pages tickets busy bat
       kind = is.kind;
       page = is.page;
       awaits = subst (λ (l : List SegmentView). AwaitsIn l is.ticket.reservation (in_log m)) (sym line) is.awaits;
+      stored = safe m is.stored;
+      plain = is.plain;
       joins = is.joins;
       begins_batch = λ of. let begun = is.begins_batch of in record { kind = begun.kind; inline = begun.inline; apart = λ b known. begun.apart b (subst (λ (bs : List Batch). Contains bs b) noted known) };
       begins = subst (λ e. m.place + 1 < e) (sym end) is.begins;
@@ -402,7 +416,7 @@ module _ {D C : Type 0} (view : D → DeviceView) (sum : List ℕ → ℕ) (old 
                 tickets = k.tickets;
               });
             });
-        at = unchanged_at (traces view) sum old with_new k came.keeps.fits unchanged.line unchanged.reserved unchanged.pins same.fault refl refl (λ p. refl) refl same.noted at;
+        at = unchanged_at (traces view) sum old with_new k came.keeps.fits unchanged.line unchanged.reserved unchanged.pins same.fault refl refl (λ p. refl) refl same.noted (λ m. safe_on (traces view) sum old.log log m came.keeps.goes_on) at;
       }
 
 -- Room.
@@ -410,7 +424,7 @@ module _ {D C : Type 0} (view : D → DeviceView) (sum : List ℕ → ℕ) (old 
 -- where only room was made all holds that did
 pub room_at : {D C : Type 0} (trace : D → Trace) (sum : List ℕ → ℕ) (old new : Opened D C) (k : Unstored) → MakesRoom old new → IsOpenAt trace sum old k → IsOpenAt trace sum new k
 room_at trace sum old new k room at =
-    unchanged_at trace sum old new k (λ H A f U. subst (λ x. Fits trace sum x H A f U) (sym room.log)) (ap line_of room.log) (ap reserved_end room.log) (ap pins_of room.log) (ap fault_of room.log) room.pages room.tickets room.busy room.batch (ap noted_in room.log) at
+    unchanged_at trace sum old new k (λ H A f U. subst (λ x. Fits trace sum x H A f U) (sym room.log)) (ap line_of room.log) (ap reserved_end room.log) (ap pins_of room.log) (ap fault_of room.log) room.pages room.tickets room.busy room.batch (ap noted_in room.log) (λ m. subst (λ x. IsSafe trace sum x m) (sym room.log)) at
 
 -- and a reservation comes to the same
 pub room_may : {D C : Type 0} (old new : Opened D C) (k : Unstored) (kind : LogKind) (page n : ℕ) → MakesRoom old new → MayReserve (segment_size_of old.log) k.history (seen old k.tickets) kind page n

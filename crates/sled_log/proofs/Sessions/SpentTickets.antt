@@ -12,11 +12,12 @@ use Rattle.sled_core.specs.Fits.{Awaits, fault_of, open_places, reserved_end}
 use Rattle.sled_core.specs.Manifests.{manifest_page}
 use Rattle.sled_core.specs.OpenPlaces.{TakesOut}
 use Rattle.sled_core.proofs.Line.Nth.{set_other, set_get}
+use Rattle.sled_store.specs.Device.{Trace}
 use Rattle.sled_log.specs.declared.session.opened.Opened.{Opened}
 use Rattle.sled_log.specs.declared.session.opened.Ticket.{Ticket}
 use Rattle.sled_log.specs.Endings.{batch_left}
 use Rattle.sled_log.specs.Made.{MayJoin}
-use Rattle.sled_log.specs.RunPhases.{AreRising, BeginsBatch, HasBatch, HasTickets, IsTicketFor}
+use Rattle.sled_log.specs.RunPhases.{AreRising, BeginsBatch, HasBatch, HasTickets, IsSafe, IsTicketFor}
 use Rattle.sled_log.specs.RunStates.{has_page, has_ticket, open_messages, places_without}
 
 -- Places that rise.
@@ -128,10 +129,11 @@ ticket_there zero (Some m ∷ ts) has = (m, refl)
 ticket_there (suc n) (t ∷ ts) has = ticket_there n ts has
 
 -- What holds of the tickets once one of them is spent: those that are left are for their messages still.
-module _ {D C : Type 0} (old new : Opened D C) (H H' : History) (ts : List (Option Message)) (n : ℕ) (m : Message) (there : slice_get ts n ≡ Some (Some m)) (was : HasTickets old H ts)
+module _ {D C : Type 0} (trace : D → Trace) (sum : List ℕ → ℕ) (old new : Opened D C) (H H' : History) (ts : List (Option Message)) (n : ℕ) (m : Message) (there : slice_get ts n ≡ Some (Some m)) (was : HasTickets trace sum old H ts)
     (tickets : new.tickets.items ≡ set old.tickets.items n None) (busy : new.busy.items ≡ set old.busy.items m.page false)
     (batch : new.batch ≡ batch_left m.page old.batch) (reserved : reserved_end new.log ≡ reserved_end old.log)
     (still : (t : Ticket) (x : Message) → Awaits old.log t.reservation x → (x.place ≡ m.place → ⊥) → Awaits new.log t.reservation x)
+    (safe : (x : Message) → IsSafe trace sum old.log x → IsSafe trace sum new.log x)
     (joins : (x : Message) → (m.page ≡ x.page → ⊥) → MayJoin H x → MayJoin H' x)
     (begun : (x : Message) → x.page ≡ manifest_page → (m.page ≡ x.page → ⊥) → BeginsBatch old.log x → BeginsBatch new.log x)
     (are_all : fault_of new.log ≡ None → open_places new.log ≡ places (set ts n None)) where
@@ -148,7 +150,7 @@ module _ {D C : Type 0} (old new : Opened D C) (H H' : History) (ts : List (Opti
   page_apart : (j : ℕ) (x : Message) → slice_get us j ≡ Some (Some x) → m.page ≡ x.page → ⊥
   page_apart j x at same = other j x at (sym (was.apart n j m x there (before j x at) same))
 
-  each : (j : ℕ) (x : Message) → slice_get us j ≡ Some (Some x) → IsTicketFor new H' j x
+  each : (j : ℕ) (x : Message) → slice_get us j ≡ Some (Some x) → IsTicketFor trace sum new H' j x
   each j x at =
       let ne = other j x at in
       let had = was.each j x (before j x at) in
@@ -158,6 +160,8 @@ module _ {D C : Type 0} (old new : Opened D C) (H H' : History) (ts : List (Opti
         kind = had.kind;
         page = had.page;
         awaits = still had.ticket x had.awaits (λ same. places_differ ts j n x m was.rising (before j x at) there ne same);
+        stored = safe x had.stored;
+        plain = had.plain;
         joins = λ changes. joins x (page_apart j x at) (had.joins changes);
         begins_batch = λ is. begun x is (page_apart j x at) (had.begins_batch is);
         begins = subst (λ e. x.place + 1 < e) (sym reserved) had.begins;
@@ -204,7 +208,7 @@ module _ {D C : Type 0} (old new : Opened D C) (H H' : History) (ts : List (Opti
     by true is = own_has manifest_page (let same : m.page ≡ manifest_page = grind (arith, nat_tests, is) in sym same)
     by false is = left old.batch was.batch (λ same. grind (arith, nat_tests, is, same))
 
-  pub spent_tickets : HasTickets new H' us
+  pub spent_tickets : HasTickets trace sum new H' us
   spent_tickets = record {
     as_many = ap length tickets ∙ length-set old.tickets.items n None ∙ was.as_many ∙ sym (length-set ts n None);
     each = each;

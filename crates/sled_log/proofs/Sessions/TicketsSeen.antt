@@ -9,6 +9,7 @@ use Rattle.sled_codec.specs.History.{Message, History}
 use Rattle.sled_log.specs.declared.session.opened.Opened.{Opened}
 use Rattle.sled_log.specs.declared.session.opened.Ticket.{Ticket}
 use Rattle.sled_core.specs.Manifests.{manifest_page}
+use Rattle.sled_store.specs.Device.{Trace}
 use Rattle.sled_log.specs.RunPhases.{HasBatch, HasTickets}
 use Rattle.sled_log.specs.RunStates.{has_message, has_page, has_ticket, in_batch, open_messages}
 
@@ -83,7 +84,7 @@ message_there zero (None ∷ ts) has = cc
 message_there zero (Some m ∷ ts) has = (m, refl, λ is. false≢true (sym (ap not (eq-eqb m.page manifest_page is)) ∙ has))
 message_there (suc n) (t ∷ ts) has = message_there n ts has
 
-module _ {D C : Type 0} (opened : Opened D C) (H : History) (tickets : List (Option Message)) (has : HasTickets opened H tickets) where
+module _ {D C : Type 0} {trace : D → Trace} {sum : List ℕ → ℕ} (opened : Opened D C) (H : History) (tickets : List (Option Message)) (has : HasTickets trace sum opened H tickets) where
   -- Whether a batch is begun is seen,
   pub batch_seen : is_some opened.batch ≡ in_batch tickets
   batch_seen = by opened.batch has.batch where
@@ -105,7 +106,7 @@ module _ {D C : Type 0} (opened : Opened D C) (H : History) (tickets : List (Opt
     by None begun at = cc
     by (Some b) begun at = let same : b ≡ n = same_Some b n at in no_message n tickets begun.0 (ap (slice_get tickets) (sym same) ∙ begun.1) begun.2
 
-module _ {D C : Type 0} (opened : Opened D C) (H : History) (tickets : List (Option Message)) (has : HasTickets opened H tickets) (n : ℕ) where
+module _ {D C : Type 0} {trace : D → Trace} {sum : List ℕ → ℕ} (opened : Opened D C) (H : History) (tickets : List (Option Message)) (has : HasTickets trace sum opened H tickets) (n : ℕ) where
   -- A ticket that is there is open,
   pub open_seen : n < length opened.tickets.items → (t : Ticket) → get_or opened.tickets.items n None ≡ Some t → has_ticket n tickets ≡ true
   open_seen within t there = by (slice_get tickets n) refl where

@@ -37,6 +37,7 @@ use Rattle.sled_log.specs.declared.session.command.Refusal.{Refusal}
 use Rattle.sled_log.specs.Refusals.{when}
 use Rattle.sled_log.specs.RunPhases.{IsOpenAt, IsTicketFor, Unstored, seen_log}
 use Rattle.sled_log.specs.Runs.{CallsMade, HasStopped, HasWrittenTo, ShowsBuffers, StopsStep, WriteStep, WritesTo, flushed, holding, left_from, stable_from, synced_from, writes_free}
+use Rattle.sled_log.proofs.Sessions.SafeItems.{safe_on}
 use Rattle.sled_log.specs.RunStates.{DeviceView, EndsInReach, LogView, RunState, count_unheld, current_span, first_waiting, held, held_among, next_start, opens, pending_in_view, sealed_below, spans_below, spans_from, start_below, with_log, without_unheld}
 
 -- The next record of a log begins where it did, what was reserved ends there, and the same reservations are open.
@@ -388,16 +389,18 @@ module _ {D C : Type 0} (trace : D → Trace) (sum : List ℕ → ℕ) (opened :
   abbrev kept : Unstored
   kept = record { history = k.history; acknowledged = A; floor = k.floor; tickets = k.tickets }
 
-  ticket_still : KeepsTickets opened.log log → SamePosition opened.log log → noted_in log ≡ not_whole (synced_end log) (noted_in opened.log) → (n : ℕ) (m : Message) → IsTicketFor opened k.history n m → IsTicketFor (over opened log) k.history n m
-  ticket_still tickets position noted n m is = record {
+  ticket_still : KeepsTickets opened.log log → SamePosition opened.log log → Preserves trace sum opened.log log → (n : ℕ) (m : Message) → IsTicketFor trace sum opened k.history n m → IsTicketFor trace sum (over opened log) k.history n m
+  ticket_still tickets position keeps n m is = record {
     ticket = is.ticket;
     there = is.there;
     kind = is.kind;
     page = is.page;
     awaits = tickets.awaits is.ticket.reservation m is.awaits;
+    stored = safe_on trace sum opened.log log m keeps.goes_on is.stored;
+    plain = is.plain;
     joins = is.joins;
     begins_batch = λ batch. let begun = is.begins_batch batch in
-        record { kind = begun.kind; inline = begun.inline; apart = λ b known. begun.apart b (whole_not (synced_end log) (noted_in opened.log) b (subst (λ (bs : List Batch). Contains bs b) noted known)).0 };
+        record { kind = begun.kind; inline = begun.inline; apart = λ b known. begun.apart b (whole_not (synced_end log) (noted_in opened.log) b (subst (λ (bs : List Batch). Contains bs b) keeps.noted known)).0 };
     begins = (let low = is.begins in let same = position.reserved in omega (arith, low, same));
     ends = (let low = is.ends in let same = position.reserved in omega (arith, low, same));
   }
@@ -408,11 +411,12 @@ module _ {D C : Type 0} (trace : D → Trace) (sum : List ℕ → ℕ) (opened :
     made = at.made;
     unmarked = at.unmarked;
     fits = fits;
+    zeros = at.zeros;
     pinned = subst (λ n. 0 < n) (sym position.pins) at.pinned;
     table = at.table;
     tickets = record {
       as_many = at.tickets.as_many;
-      each = λ n m there. ticket_still tickets position keeps.noted n m (at.tickets.each n m there);
+      each = λ n m there. ticket_still tickets position keeps n m (at.tickets.each n m there);
       gone = at.tickets.gone;
       apart = at.tickets.apart;
       rising = at.tickets.rising;

@@ -45,7 +45,7 @@ fn read_entries<D: CrashDevice, C: Checksum>(
     base: &Entry,
     frags: &[Entry],
 ) -> Result<Vec<Vec<u8>>>
-    ensures reads { ReadsEntries (view_by D.trace D.faults D.is_stopped D.stops_in) C.sum_of log.old (base.now ∷ frags.now) log.new result }
+    ensures reads { ReadsEntries (view_by D.trace D.faults D.is_stopped D.stops_in) C.sum_of log.old page (base.now ∷ frags.now) log.new result }
     ensures on { RunsOn D.trace (config_of log.old) (config_of log.new) }
 {
     let mut items = Vec::with_capacity(alloc, frags.len() + 1)?;
@@ -56,23 +56,19 @@ fn read_entries<D: CrashDevice, C: Checksum>(
     Ok(items)
 }
 
-/// Reads the item of a message.
+/// Reads the item of a message, from its record or from its blob.
 fn read_item<D: CrashDevice, C: Checksum>(
     log: &mut Log<D, C>,
     page: PageId,
     place: Lsn,
     pointer: DiskPtr,
 ) -> Result<Vec<u8>>
-    ensures reads { ReadsItem (view_by D.trace D.faults D.is_stopped D.stops_in) C.sum_of log.old place pointer log.new result }
+    ensures reads { ReadsItem (view_by D.trace D.faults D.is_stopped D.stops_in) C.sum_of log.old page place pointer log.new result }
     ensures on { RunsOn D.trace (config_of log.old) (config_of log.new) }
 {
-    let DiskPtr::Inline(lid) = pointer else {
-        return Err(Error::Corruption { at: None });
-    };
-    match log.read(page, place, DiskPtr::Inline(lid))? {
-        LogRead::Inline(_, item, _) => Ok(item),
-        LogRead::Blob(_, _, _, _)
-        | LogRead::Canceled(_)
+    match log.read(page, place, pointer)? {
+        LogRead::Inline(_, item, _) | LogRead::Blob(_, item, _, _) => Ok(item),
+        LogRead::Canceled(_)
         | LogRead::Cap(_)
         | LogRead::Corrupted
         | LogRead::DanglingBlob(_, _, _)

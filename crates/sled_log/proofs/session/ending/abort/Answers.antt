@@ -9,8 +9,9 @@ use Rattle.sled_core.proofs.PublicLaws.{alone_answers, alone_keeps, alone_same, 
 use Rattle.sled_core.specs.Causes.{FaultAnswers}
 use Rattle.sled_codec.specs.declared.result.DiskPtr.{DiskPtr}
 use Rattle.sled_log.specs.Endings.{TakesTicket}
-use Rattle.sled_log.specs.RunPhases.{view_by}
+use Rattle.sled_log.specs.RunPhases.{IsSafe, view_by}
 use Rattle.sled_log.proofs.Sessions.EndedTickets.{abort_fails, aborts, awaits_it, no_blob, open_there, takes_it}
+use Rattle.sled_log.proofs.Sessions.SafeItems.{safe_on}
 use Rattle.sled_log.proofs.session.ending.abort.Goals as goal
 
 pub returns-in_default-clause-step : goal.returns-in_default-clause-step
@@ -56,6 +57,7 @@ returns-in-Ok-clause-step g c = λ k at asked.
     (subst (λ x. KeepsAll x new) takes.log same) (subst (λ x. SamePosition x new) takes.log c.abort.ensures.position) (subst (λ x. KeepsBuffers x new) takes.log c.abort.ensures.buffers)
     (sym (ap (λ x. fault_of x) takes.log) ∙ done.answers.0)
     (λ t x holds ne. c.abort.ensures.others k.history t x (fits_holds trace sum mid.log k.history k.acknowledged k.floor at.unmarked fits) (subst (λ y. Awaits y t x) (sym takes.log) holds) ne)
+    (λ x had. safe_on trace sum mid.log new x keeps.goes_on (subst (λ y. IsSafe trace sum y x) (sym takes.log) had))
     (subst (λ x. TakesOut m.place (open_places x) (open_places new)) takes.log (done.opens m.place says.0))
     _ c.in-Ok.pointer (sym (place_back c.in-Ok.place m.place (done.place.0 ∙ sym says.0) (awaited_small old.log ticket m awaits)), done.place.1 ∙ sym says.1)
     (ap (λ x. map page_of x.items) takes.pages)

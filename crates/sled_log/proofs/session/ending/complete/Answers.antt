@@ -7,12 +7,13 @@ use Rattle.sled_core.specs.Keeps.{SamePosition}
 use Rattle.sled_core.specs.OpenPlaces.{TakesOut}
 use Rattle.sled_core.specs.Running.{Fits}
 use Rattle.sled_core.specs.Causes.{FaultAnswers}
-use Rattle.sled_core.proofs.PublicLaws.{awaited, awaited_small, inline_stored, fits_holds, place_back}
+use Rattle.sled_core.proofs.PublicLaws.{awaited, awaited_small, fits_holds, place_back}
 use Rattle.sled_codec.specs.declared.result.DiskPtr.{DiskPtr}
 use Rattle.sled_log.specs.Endings.{HasRoomFor, HasRoomToApply, TakesTicket, applied_to}
-use Rattle.sled_log.specs.RunPhases.{view_by}
+use Rattle.sled_log.specs.RunPhases.{IsSafe, view_by}
 use Rattle.sled_log.proofs.Sessions.EndedTickets.{complete_fails, completes, awaits_it, is_message, message_open, room_does, room_fails, room_open, takes_it}
 use Rattle.sled_log.proofs.Sessions.RunLemmas.{on_failure, on_success}
+use Rattle.sled_log.proofs.Sessions.SafeItems.{safe_on}
 use Rattle.sled_log.proofs.session.ending.complete.Goals as goal
 
 pub returns-then-is_err-clause-step : goal.returns-then-is_err-clause-step
@@ -87,7 +88,9 @@ returns-in-Ok-clause-step g c = λ k at asked.
     let done = c.in-Ok.ensures in
     let small = awaited_small old.log ticket m awaits in
     let pinned : 0 < pins_of mid.log = subst (λ x. 0 < pins_of x) (sym takes.log) roomy.pinned in
-    let gives = done.fits k.history k.acknowledged k.floor roomy.unmarked m fits awaits_mid (inline_stored trace sum mid.log m ((roomy.tickets.each c.args.number m its.1).joins its.2).inline) pinned in
+    let safe : IsSafe trace sum mid.log m = subst (λ x. IsSafe trace sum x m) (sym takes.log) (roomy.tickets.each c.args.number m its.1).stored in
+    let stored = safe done.answers in
+    let gives = done.fits k.history k.acknowledged k.floor roomy.unmarked m fits awaits_mid stored pinned in
     let place = place_back c.in-Ok.place m.place (done.place.0 ∙ sym says.0) small in
     let pointer : c.in-Ok.pointer ≡ m.pointer = done.place.1 ∙ sym says.1 in
     let size : c.reservation_len-size.result ≡ m.size = c.reservation_len-size.ensures ∙ sym says.2 in
@@ -97,6 +100,7 @@ returns-in-Ok-clause-step g c = λ k at asked.
     (subst (λ x. KeepsAll x new) takes.log c.complete.ensures.same) (subst (λ x. SamePosition x new) takes.log c.complete.ensures.position) (subst (λ x. KeepsBuffers x new) takes.log c.complete.ensures.buffers)
     (sym (ap (λ x. fault_of x) takes.log) ∙ done.answers)
     (λ t x holds ne. c.complete.ensures.others k.history t x (fits_holds trace sum mid.log k.history k.acknowledged k.floor roomy.unmarked fits) (subst (λ y. Awaits y t x) (sym takes.log) holds) ne)
+    (λ x had. safe_on trace sum mid.log new x c.complete.ensures.goes_on (subst (λ y. IsSafe trace sum y x) (sym takes.log) had))
     (subst (λ x. TakesOut m.place (open_places x) (open_places new)) takes.log (done.opens m.place says.0))
     its.2 _ c.in-Ok.pointer (sym place, pointer) gives.0 gives.1 gives.2 entry (λ i. (sym place i, pointer i, size i))
     (c.apply.ensures ∙ ap (λ x. applied_to (map page_of x.items) c.in-Some.field-0.kind c.in-Some.field-0.page entry) takes.pages))

@@ -16,12 +16,13 @@ use Rattle.sled_core.specs.OpenPlaces.{TakesOut}
 use Rattle.sled_core.specs.Running.{Fits}
 use Rattle.sled_core.proofs.PublicLaws.{awaited, awaited_small, fits_holds, place_back}
 use Rattle.sled_log.specs.Endings.{TakesTicket}
-use Rattle.sled_log.specs.RunPhases.{HasBatch, IsOpenAt, Unstored, traces, view_by}
+use Rattle.sled_log.specs.RunPhases.{HasBatch, IsOpenAt, IsSafe, Unstored, traces, view_by}
 use Rattle.sled_log.specs.RunStates.{DeviceView}
 use Rattle.sled_log.proofs.Sessions.EndedBatches.{batch_there, end_fails, ends_batch, is_batch, may_end}
 use Rattle.sled_log.proofs.Sessions.EndedTickets.{awaits_it, takes_it}
 use Rattle.sled_log.proofs.session.ending.end.Given.{Over}
 use Rattle.sled_log.proofs.session.ending.end.Goals.{After-reserved_offset-peg, then-is_manifest, else-is_manifest}
+use Rattle.sled_log.proofs.Sessions.SafeItems.{safe_on}
 use Rattle.sled_log.proofs.session.ending.end.Goals as goal
 
 -- the peg is read as it was, and is the greatest place that was reserved before
@@ -99,6 +100,7 @@ returns-in-Ok-clause-step g c = λ k at asked.
     (subst (λ x. SamePosition x new) took.log c.mark_writebatch.ensures.position) (subst (λ x. KeepsBuffers x new) took.log c.mark_writebatch.ensures.buffers)
     (sym (ap (λ x. fault_of x) took.log) ∙ done.answers)
     (λ t x holds ne. c.mark_writebatch.ensures.others k.history t x (fits_holds trace sum mid.log k.history k.acknowledged k.floor at.unmarked fits) (subst (λ y. Awaits y t x) (sym took.log) holds) ne)
+    (λ x had. safe_on trace sum mid.log new x c.mark_writebatch.ensures.goes_on (subst (λ y. IsSafe trace sum y x) (sym took.log) had))
     (subst (λ x. TakesOut m.place (open_places x) (open_places new)) took.log (done.opens m.place says.0))
     _ c.in-Ok.pointer (sym (place_back c.in-Ok.low m.place (done.place.0 ∙ sym says.0) (awaited_small old.log ticket.reservation m awaits)), done.place.1 ∙ sym says.1)
     gives.0 (subst (λ z. EndsBatch k.history ticket.reservation z gives.0) (peg_is g read) gives.1) gives.2

@@ -105,6 +105,7 @@ returns-in-Ok-clause-step g c = λ k at free.
           let l : Unstored = unreserved H' k.acknowledged cut in
           let recovered : IsRecoveredAt trace sum config s l = record {
             closed = subst (λ n. IsClosedAt sum n mid.trace l) (sym sizes) (record { made = made_below k.history cut at.made; left = kept });
+            zeros = own.zeros;
             active = subst (λ n. ShowsActive n cut s.active) (sym sizes) active;
             ready = subst (λ n. Ready sum n (state_of mid.trace) s H' k.acknowledged cut) (sym sizes) (c.in-Ok.ensures.ready k.history k.acknowledged k.floor can);
             table = table_below k.history cut s.pages (low_place c.in-Ok.snapshot.stable_lsn (λ z is. search rules)) good.table;

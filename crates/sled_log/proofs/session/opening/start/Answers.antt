@@ -53,6 +53,7 @@ returns-in-Ok-clause-starts g c = λ H A f at.
         made = at.closed.made;
         unmarked = [];
         fits = c.pin-guard.ensures.keeps.fits H A f [] (c.in-Ok.ensures.fits H A f at.ready);
+        zeros = at.zeros;
         pinned = omega (arith, pinned);
         table = at.table;
         tickets = record {

@@ -20,7 +20,7 @@ returns-in-Ok-clause-step g c = λ k at free.
     let frags : List Entry = c.in-Present.frags.items in
     let look = c.in-Some.ensures.lookup in
     let has = page_found opened.pages.items c.deref.result.now c.args.page c.in-Some.state.now (Present base frags) c.deref.ensures.value look.3.0 look.1 (ap page_of c.in-Present.is) in
-    let reads = subst (λ l. ReadsEntries view sum opened.log (base ∷ l) new (Ok c.in-Ok.items)) c.deref-in-Present.ensures.value c.in-Ok.ensures.reads in
+    let reads = subst (λ l. ReadsEntries view sum opened.log c.args.page (base ∷ l) new (Ok c.in-Ok.items)) c.deref-in-Present.ensures.value c.in-Ok.ensures.reads in
     record {
       not_refused = refl;
       acts = tt;
@@ -38,7 +38,7 @@ returns-in-Err-clause-step g c = λ k at free.
     let frags : List Entry = c.in-Present.frags.items in
     let look = c.in-Some.ensures.lookup in
     let has = page_found opened.pages.items c.deref.result.now c.args.page c.in-Some.state.now (Present base frags) c.deref.ensures.value look.3.0 look.1 (ap page_of c.in-Present.is) in
-    let reads = subst (λ l. ReadsEntries view sum opened.log (base ∷ l) new (Err c.in-Err.e)) c.deref-in-Present.ensures.value c.in-Err.ensures.reads in
+    let reads = subst (λ l. ReadsEntries view sum opened.log c.args.page (base ∷ l) new (Err c.in-Err.e)) c.deref-in-Present.ensures.value c.in-Err.ensures.reads in
     record {
       not_refused = refl;
       acts = tt;

@@ -17,7 +17,7 @@ pub returns-in_err-items-clause-reads : goal.returns-in_err-items-clause-reads
 returns-in_err-items-clause-reads g c =
     let view = view_by g.D.Device.trace g.D.Device.faults g.D.CrashDevice.is_stopped g.D.CrashDevice.stops_in in
     let gives = err_from_is_err_and c.from_residual.result c.from_residual.ensures.1 in
-    rw (gives.1, gives.2) (unread view g.C.Checksum.sum_of c.args.log.now (c.args.base.now ∷ c.args.frags.now))
+    rw (gives.1, gives.2) (unread view g.C.Checksum.sum_of c.args.log.now c.args.page (c.args.base.now ∷ c.args.frags.now))
 
 -- src/session/reading.rt:48:25
 pub returns-in_err-read_item-clause-reads : goal.returns-in_err-read_item-clause-reads
@@ -26,7 +26,7 @@ returns-in_err-read_item-clause-reads g c =
     let old = c.args.log.now in
     let entries : List Entry = c.args.base.now ∷ c.args.frags.now in
     let gives = err_from_is_err_and c.from_residual-in_err-read_item.result c.from_residual-in_err-read_item.ensures.1 in
-    rw (gives.1, gives.2) (one_failed view g.C.Checksum.sum_of old entries old [] c.read_item.new.log c.args.base.now c.args.frags.now c.in_err-read_item.field-0.0 (none_read view g.C.Checksum.sum_of old entries) c.in_err-read_item.ensures.reads)
+    rw (gives.1, gives.2) (one_failed view g.C.Checksum.sum_of old c.args.page entries old [] c.read_item.new.log c.args.base.now c.args.frags.now c.in_err-read_item.field-0.0 (none_read view g.C.Checksum.sum_of old c.args.page entries) c.in_err-read_item.ensures.reads)
 
 -- src/session/reading.rt:49:5
 pub loop-frag-init : goal.loop-frag-init
@@ -35,8 +35,8 @@ loop-frag-init g c =
     let old = c.args.log.now in
     let entries : List Entry = c.args.base.now ∷ c.args.frags.now in
     record {
-      some = subst (λ (l : List (Vec ℕ Global)). HasReadSome view g.C.Checksum.sum_of old entries c.read_item.new.log l c.args.frags.now) (sym {A = List (Vec ℕ Global)} (c.push_reserved.ensures.items ∙ ap (λ (l : List (Vec ℕ Global)). l ++ c.in_ok-read_item.field-0 ∷ []) c.in_ok-items.ensures.items))
-          (one_more view g.C.Checksum.sum_of old entries old [] c.read_item.new.log c.args.base.now c.args.frags.now c.in_ok-read_item.field-0 (none_read view g.C.Checksum.sum_of old entries) c.in_ok-read_item.ensures.reads);
+      some = subst (λ (l : List (Vec ℕ Global)). HasReadSome view g.C.Checksum.sum_of old c.args.page entries c.read_item.new.log l c.args.frags.now) (sym {A = List (Vec ℕ Global)} (c.push_reserved.ensures.items ∙ ap (λ (l : List (Vec ℕ Global)). l ++ c.in_ok-read_item.field-0 ∷ []) c.in_ok-items.ensures.items))
+          (one_more view g.C.Checksum.sum_of old c.args.page entries old [] c.read_item.new.log c.args.base.now c.args.frags.now c.in_ok-read_item.field-0 (none_read view g.C.Checksum.sum_of old c.args.page entries) c.in_ok-read_item.ensures.reads);
       len = search rules;
       room = search rules;
     }
@@ -48,7 +48,7 @@ left xs i lt = let next : i + 1 ≡ suc i = omega arith in drop-cons xs i (pos 0
 -- src/session/reading.rt:50:29
 -- what came of the next message, where that was not read
 failed : (g : given.Over) (c : goal.After-drop-items-in_err-read_item-2 g)
-    → ReadsEntries (view_by g.D.Device.trace g.D.Device.faults g.D.CrashDevice.is_stopped g.D.CrashDevice.stops_in) g.C.Checksum.sum_of c.args.log.now (c.args.base.now ∷ c.args.frags.now) c.read_item-in-loop-frag.new.log (Err c.in_err-read_item-2.field-0.0)
+    → ReadsEntries (view_by g.D.Device.trace g.D.Device.faults g.D.CrashDevice.is_stopped g.D.CrashDevice.stops_in) g.C.Checksum.sum_of c.args.log.now c.args.page (c.args.base.now ∷ c.args.frags.now) c.read_item-in-loop-frag.new.log (Err c.in_err-read_item-2.field-0.0)
 failed g c =
     let view = view_by g.D.Device.trace g.D.Device.faults g.D.CrashDevice.is_stopped g.D.CrashDevice.stops_in in
     let old = c.args.log.now in
@@ -56,8 +56,8 @@ failed g c =
     let now = c.loop-frag in
     let i : ℕ = now.frag-index in
     let e : Entry = get_or c.args.frags.now i (pos 0, Inline 0, 0) in
-    let some = subst (λ (l : List Entry). HasReadSome view g.C.Checksum.sum_of old entries now.log now.items.items l) (left c.args.frags.now i c.loop-frag-test.true) now.invariant.some in
-    one_failed view g.C.Checksum.sum_of old entries now.log now.items.items c.read_item-in-loop-frag.new.log e (drop (i + 1) c.args.frags.now) c.in_err-read_item-2.field-0.0 some c.in_err-read_item-2.ensures.reads
+    let some = subst (λ (l : List Entry). HasReadSome view g.C.Checksum.sum_of old c.args.page entries now.log now.items.items l) (left c.args.frags.now i c.loop-frag-test.true) now.invariant.some in
+    one_failed view g.C.Checksum.sum_of old c.args.page entries now.log now.items.items c.read_item-in-loop-frag.new.log e (drop (i + 1) c.args.frags.now) c.in_err-read_item-2.field-0.0 some c.in_err-read_item-2.ensures.reads
 
 pub returns-in_err-read_item-2-clause-reads : goal.returns-in_err-read_item-2-clause-reads
 returns-in_err-read_item-2-clause-reads g c = let gives = err_from_is_err_and c.from_residual-in_err-read_item-2.result c.from_residual-in_err-read_item-2.ensures.1 in rw (gives.1, gives.2) (failed g c)
@@ -81,13 +81,13 @@ loop-frag-preserved g c =
     let e : Entry = get_or c.args.frags.now i (pos 0, Inline 0, 0) in
     let rest : List Entry = drop (i + 1) c.args.frags.now in
     let new = c.read_item-in-loop-frag.new.log in
-    let some = subst (λ (l : List Entry). HasReadSome view g.C.Checksum.sum_of old entries now.log now.items.items l) (left c.args.frags.now i c.loop-frag-test.true) now.invariant.some in
+    let some = subst (λ (l : List Entry). HasReadSome view g.C.Checksum.sum_of old c.args.page entries now.log now.items.items l) (left c.args.frags.now i c.loop-frag-test.true) now.invariant.some in
     let len = now.invariant.len in
     let room = now.invariant.room in
     let pushed = c.push_reserved-in-loop-frag.ensures in
     record {
-      some = subst (λ (l : List (Vec ℕ Global)). HasReadSome view g.C.Checksum.sum_of old entries new l rest) (sym pushed.items)
-          (one_more view g.C.Checksum.sum_of old entries now.log now.items.items new e rest c.in_ok-read_item-2.field-0 some c.in_ok-read_item-2.ensures.reads);
+      some = subst (λ (l : List (Vec ℕ Global)). HasReadSome view g.C.Checksum.sum_of old c.args.page entries new l rest) (sym pushed.items)
+          (one_more view g.C.Checksum.sum_of old c.args.page entries now.log now.items.items new e rest c.in_ok-read_item-2.field-0 some c.in_ok-read_item-2.ensures.reads);
       len = (let more = pushed.len in omega (arith, len, more));
       room = (let same = pushed.capacity in omega (arith, room, same));
     }
@@ -100,8 +100,8 @@ returns-clause-reads g c =
     let now = c.loop-frag in
     let end = c.loop-frag-test.false in
     let none : drop now.frag-index c.args.frags.now ≡ [] = drop_all now.frag-index c.args.frags.now (omega (arith, end)) in
-    all_read view g.C.Checksum.sum_of old (c.args.base.now ∷ c.args.frags.now) now.log now.items.items now.items refl
-    (subst (λ (l : List Entry). HasReadSome view g.C.Checksum.sum_of old (c.args.base.now ∷ c.args.frags.now) now.log now.items.items l) none now.invariant.some)
+    all_read view g.C.Checksum.sum_of old c.args.page (c.args.base.now ∷ c.args.frags.now) now.log now.items.items now.items refl
+    (subst (λ (l : List Entry). HasReadSome view g.C.Checksum.sum_of old c.args.page (c.args.base.now ∷ c.args.frags.now) now.log now.items.items l) none now.invariant.some)
 
 -- src/session/reading.rt:37:1
 pub returns-clause-on : goal.returns-clause-on
