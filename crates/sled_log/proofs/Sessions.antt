@@ -9,6 +9,7 @@ pub mod MadeStable
 pub mod MadeTables
 pub mod MoreTickets
 pub mod NotedSeen
+pub mod OpenApart
 pub mod Reading
 pub mod ReservedPlaces
 pub mod Reserving

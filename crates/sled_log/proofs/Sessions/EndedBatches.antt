@@ -116,7 +116,7 @@ module _ {D C : Type 0} (view : D → DeviceView) (sum : List ℕ → ℕ) (old 
 
   -- Where it keeps none, the batch comes to the history, and is noted.
   module _ (log : Log D C) (notes : NotesBatchOf ticket.reservation peg old.log log) (position : SamePosition old.log log) (buffers : KeepsBuffers old.log log) (fault : fault_of old.log ≡ None)
-      (others : (t : Reservation) (x : Message) → Awaits old.log t x → place_of t ≢ place_of ticket.reservation → Awaits log t x) (safe : (x : Message) → IsSafe (traces view) sum old.log x → IsSafe (traces view) sum log x) (opens_left : TakesOut m.place (open_places old.log) (open_places log)) where
+      (others : (t : Reservation) (x : Message) → Awaits old.log t x → place_of t ≢ place_of ticket.reservation → Awaits log t x) (safe : (j : ℕ) (x : Message) → (x.place ≡ m.place → ⊥) → IsTicketFor (traces view) sum old k.history j x → IsSafe (traces view) sum log x) (opens_left : TakesOut m.place (open_places old.log) (open_places log)) where
     ended_view : seen (now view sum old k at n m there mid ticket takes log mid.pages) (set k.tickets n None) ≡ noting (batch_of l m) (spent l n (places_without m.place (opens l)) (length old.pages.items))
     ended_view i = record {
       position = position.position i;

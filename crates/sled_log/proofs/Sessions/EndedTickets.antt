@@ -1,8 +1,8 @@
 -- What it comes to where a ticket is ended: its message is completed, or given up.
-use Rattle.std.proofs.Common.{⊎_elim, ◌≡◌, ◌∙◌, ◌≢◌, ◌==◌, ◌&&◌, not, ◌<◌, ◌≤◌, ◌+◌, ℕ, ℤ, Bool, true, false, if◌then◌else◌, List, [], ◌∷◌, ◌++◌, length, map, get_or, set, sym, ap, subst, arith, refl, Option, None, Some, Err, Vec, Global}
+use Rattle.std.proofs.Common.{⊎_elim, ◌≡◌, ◌∙◌, ◌≢◌, ◌==◌, ◌&&◌, not, ◌<◌, ◌≤◌, ◌+◌, ℕ, ℤ, pos, Bool, true, false, if◌then◌else◌, List, [], ◌∷◌, ◌++◌, length, map, get_or, set, sym, ap, subst, arith, refl, Option, None, Some, Err, Vec, Global}
 use Rattle.std.specs.List.{All, Contains, slice_get}
 use Rattle.std.specs.declared.io.Error.{Error as IoError}
-use Rattle.std.proofs.lemmas.Bool.{ne_eqb}
+use Rattle.std.proofs.lemmas.Bool.{cases_eq, ne_eqb}
 use Rattle.std.proofs.lemmas.List.{length-map, length-set, length_push}
 use Rattle.std.proofs.lemmas.List.Elements.{All-contains}
 use Rattle.sled_codec.specs.declared.result.DiskPtr.{DiskPtr}
@@ -21,11 +21,11 @@ use Rattle.sled_core.specs.Causes.{FaultAnswers}
 use Rattle.sled_core.specs.Fits.{Awaits, KeepsAll, KeepsBuffers, config_of, fault_of, open_places, pins_of, reserved_end, segment_size_of}
 use Rattle.sled_core.specs.Keeps.{SamePosition}
 use Rattle.sled_core.specs.OpenPlaces.{TakesOut}
-use Rattle.sled_core.specs.OwnBlobs.{own_blob}
+use Rattle.sled_core.specs.OwnBlobs.{AreBeside, IsBeside, own_blob, own_in}
 use Rattle.sled_core.specs.Manifests.{is_manifest, manifest_page}
 use Rattle.sled_core.specs.Running.{Fits}
 use Rattle.sled_core.specs.Tickets.{is_manifest_of, place_of}
-use Rattle.sled_core.proofs.PublicLaws.{awaited, fits_apart, inline_alone}
+use Rattle.sled_core.proofs.PublicLaws.{awaited, fits_apart, fits_holds, inline_alone}
 use Rattle.sled_core.proofs.Read.FoundLemmas.{pos_injective}
 use Rattle.sled_log.specs.declared.session.opened.Opened.{Opened}
 use Rattle.sled_log.specs.declared.session.opened.Ticket.{Ticket}
@@ -45,6 +45,7 @@ use Rattle.sled_log.specs.TicketSteps.{IsAnswerFor, spent}
 use Rattle.sled_log.proofs.Sessions.Endings.{one_there}
 use Rattle.sled_log.proofs.Sessions.MadeHistories.{came, join_still, made_completed}
 use Rattle.sled_log.proofs.Sessions.MadeTables.{page_of_replace, table_completed}
+use Rattle.sled_log.proofs.Sessions.OpenApart.{all_beside, none_there, ticket_beside}
 use Rattle.sled_log.proofs.Sessions.SpentTickets.{spent_places, spent_tickets, taken_out, ticket_there}
 use Rattle.sled_log.proofs.Sessions.TicketsSeen.{message_there}
 
@@ -116,9 +117,26 @@ module _ {D C : Type 0} (view : D → DeviceView) (sum : List ℕ → ℕ) (old 
     pub is_message : m.page ≢ manifest_page → is_manifest_of ticket.reservation ≡ false
     is_message changes = (awaited old.log ticket.reservation m awaits_it).3 ∙ no_manifest m.kind m.page (had.joins changes).changes
 
-    -- it has no blob of its own
+    -- it has no blob of its own, since no command makes one
     pub no_blob : own_blob ticket.reservation ≡ None
     no_blob = inline_alone old.log ticket.reservation m awaits_it had.plain
+
+    -- no completed message lies at its place, so none has a blob of its own, and no other ticket's message has it
+    nothing_there : m.page ≢ manifest_page → (x : Message) → Contains k.history.messages x → x.place ≡ m.place → ⊥
+    nothing_there changes = none_there (traces view) sum old.log k.history (fits_holds (traces view) sum old.log k.history k.acknowledged k.floor at.unmarked at.fits) ticket.reservation m awaits_it (is_message changes)
+
+    own_is : own_in (pos m.place) m.pointer ≡ own_blob ticket.reservation
+    own_is = let says = awaited old.log ticket.reservation m awaits_it in λ i. own_in (says.0 i) (says.1 i)
+
+    pub beside_history : AreBeside (own_blob ticket.reservation) k.history
+    beside_history = ⊎_elim
+        (λ manifest. subst (λ (o : Option ℤ). AreBeside o k.history) (sym (inline_alone old.log ticket.reservation m awaits_it (had.begins_batch manifest).inline)) (λ x among. tt))
+        (λ message. subst (λ (o : Option ℤ). AreBeside o k.history) own_is (all_beside k.history m m.pointer (nothing_there message) at.made)) (cases_eq m.page manifest_page)
+
+    pub beside_ticket : (j : ℕ) (x : Message) → (x.place ≡ m.place → ⊥) → IsTicketFor (traces view) sum old k.history j x → IsBeside (own_blob ticket.reservation) x
+    beside_ticket j x apart is = ⊎_elim
+        (λ manifest. subst (λ (o : Option ℤ). IsBeside o x) (sym (inline_alone old.log ticket.reservation m awaits_it (had.begins_batch manifest).inline)) tt)
+        (λ message. subst (λ (o : Option ℤ). IsBeside o x) own_is (ticket_beside k.history m m.pointer (nothing_there message) (traces view) sum old j x is apart)) (cases_eq m.page manifest_page)
 
     busy : mid.busy.items ≡ set old.busy.items m.page false
     busy = takes.busy ∙ ap (λ page. set old.busy.items page false) of_page
@@ -149,7 +167,7 @@ module _ {D C : Type 0} (view : D → DeviceView) (sum : List ℕ → ℕ) (old 
           pinned = subst (λ (x : Log D C). 0 < pins_of x) (sym is) at.pinned;
           table = subst (λ (ps : List Page). IsTable ps k.history top) (sym pages_are) at.table;
           tickets = spent_tickets (traces view) sum old now k.history k.history k.tickets n m there at.tickets takes.tickets busy batch (ap reserved_end is)
-              (λ t x awaits apart. subst (λ (y : Log D C). Awaits y t.reservation x) (sym is) awaits) (λ x. subst (λ (y : Log D C). IsSafe (traces view) sum y x) (sym is)) (λ x ne may. may)
+              (λ t x awaits apart. subst (λ (y : Log D C). Awaits y t.reservation x) (sym is) awaits) (λ j x apart open_yet. subst (λ (y : Log D C). IsSafe (traces view) sum y x) (sym is) open_yet.stored) (λ x ne may. may)
               (λ x of ne begun. subst (λ (y : Log D C). BeginsBatch y x) (sym is) begun)
               (λ none. absurd (let both : None ≡ Some e = sym none ∙ ap fault_of is ∙ fault in cc));
           ends = subst (λ (x : Log D C). All (λ y. y.place + y.size ≤ reserved_end x) k.history.messages) (sym is) at.ends;
@@ -188,7 +206,7 @@ module _ {D C : Type 0} (view : D → DeviceView) (sum : List ℕ → ℕ) (old 
       -- Where it keeps none, the reservation is ended.
       module _ (pins : pins_of log ≡ pins_of old.log) (position : SamePosition old.log log) (fault : fault_of old.log ≡ None)
           (others : (t : Reservation) (x : Message) → Awaits old.log t x → place_of t ≢ place_of ticket.reservation → Awaits log t x)
-          (safe : (x : Message) → IsSafe (traces view) sum old.log x → IsSafe (traces view) sum log x)
+          (safe : (j : ℕ) (x : Message) → (x.place ≡ m.place → ⊥) → IsTicketFor (traces view) sum old k.history j x → IsSafe (traces view) sum log x)
           (opens_left : TakesOut m.place (open_places old.log) (open_places log)) where
         pub outstanding : open_places log ≡ places_without m.place (open_places old.log)
         outstanding = taken_out m.place (open_places old.log) (open_places log) (subst AreRising (sym (at.tickets.are_all fault)) at.tickets.rising) opens_left
@@ -212,7 +230,7 @@ module _ {D C : Type 0} (view : D → DeviceView) (sum : List ℕ → ℕ) (old 
       -- A message is, and all else of the log stays.
       module _ (same : KeepsAll old.log log) (position : SamePosition old.log log) (buffers : KeepsBuffers old.log log) (fault : fault_of old.log ≡ None)
           (others : (t : Reservation) (x : Message) → Awaits old.log t x → place_of t ≢ place_of ticket.reservation → Awaits log t x)
-          (safe : (x : Message) → IsSafe (traces view) sum old.log x → IsSafe (traces view) sum log x)
+          (safe : (j : ℕ) (x : Message) → (x.place ≡ m.place → ⊥) → IsTicketFor (traces view) sum old k.history j x → IsSafe (traces view) sum log x)
           (opens_left : TakesOut m.place (open_places old.log) (open_places log)) where
         device : view (config_of log).device ≡ view (config_of old.log).device
         device = ap (λ c. view c.device) same.config

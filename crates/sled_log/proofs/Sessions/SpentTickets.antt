@@ -133,7 +133,7 @@ module _ {D C : Type 0} (trace : D → Trace) (sum : List ℕ → ℕ) (old new 
     (tickets : new.tickets.items ≡ set old.tickets.items n None) (busy : new.busy.items ≡ set old.busy.items m.page false)
     (batch : new.batch ≡ batch_left m.page old.batch) (reserved : reserved_end new.log ≡ reserved_end old.log)
     (still : (t : Ticket) (x : Message) → Awaits old.log t.reservation x → (x.place ≡ m.place → ⊥) → Awaits new.log t.reservation x)
-    (safe : (x : Message) → IsSafe trace sum old.log x → IsSafe trace sum new.log x)
+    (safe : (j : ℕ) (x : Message) → (x.place ≡ m.place → ⊥) → IsTicketFor trace sum old H j x → IsSafe trace sum new.log x)
     (joins : (x : Message) → (m.page ≡ x.page → ⊥) → MayJoin H x → MayJoin H' x)
     (begun : (x : Message) → x.page ≡ manifest_page → (m.page ≡ x.page → ⊥) → BeginsBatch old.log x → BeginsBatch new.log x)
     (are_all : fault_of new.log ≡ None → open_places new.log ≡ places (set ts n None)) where
@@ -154,13 +154,14 @@ module _ {D C : Type 0} (trace : D → Trace) (sum : List ℕ → ℕ) (old new 
   each j x at =
       let ne = other j x at in
       let had = was.each j x (before j x at) in
+      let apart : x.place ≡ m.place → ⊥ = places_differ ts j n x m was.rising (before j x at) there ne in
       record {
         ticket = had.ticket;
         there = ap (λ (l : List (Option Ticket)). slice_get l j) tickets ∙ set_other old.tickets.items n j None ne ∙ had.there;
         kind = had.kind;
         page = had.page;
-        awaits = still had.ticket x had.awaits (λ same. places_differ ts j n x m was.rising (before j x at) there ne same);
-        stored = safe x had.stored;
+        awaits = still had.ticket x had.awaits apart;
+        stored = safe j x apart had;
         plain = had.plain;
         joins = λ changes. joins x (page_apart j x at) (had.joins changes);
         begins_batch = λ is. begun x is (page_apart j x at) (had.begins_batch is);
