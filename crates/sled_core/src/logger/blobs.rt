@@ -1,7 +1,7 @@
 //! Messages whose items are in blobs: the blob is made before any room is claimed for the record.
 ghost use Rattle.std.specs.Prelude.{◌≡◌, ◌+◌, ◌++◌, ◌∷◌, [], ℕ, List, pos, true, false, Some, IfOk, OnOk, OnErr};
 ghost use Rattle.sled_codec.specs.Kinds.{code_of};
-ghost use Rattle.sled_store.specs.Blobs.{KeepsBlob, UnlessFault, blob_bytes, making};
+ghost use Rattle.sled_store.specs.Blobs.{UnlessFault, blob_bytes, making};
 ghost use Rattle.sled_store.specs.Device.{state_of};
 ghost use Rattle.sled_store.specs.Script.{Performs, after_all};
 ghost use Rattle.sled_codec.specs.History.{Message};
