@@ -15,7 +15,7 @@ use Rattle.sled_store.specs.Device.{State}
 use Rattle.sled_core.specs.declared.logger.Log.{Log}
 use Rattle.sled_core.specs.declared.logger.read_message.LogRead.{LogRead}
 use Rattle.sled_core.specs.declared.logger.read_message.LogRead.TheVariants.{Blob}
-use Rattle.sled_core.specs.Fits.{next_place, stable_end}
+use Rattle.sled_core.specs.Fits.{fault_of, next_place, stable_end}
 use Rattle.sled_core.specs.Reading.{GivesMessage, IsInline, IsNoPlace, IsReading, IsUnreadable}
 
 -- The place whose buffer a read brings to the device: that of the message, or for one whose item is a blob the place of that.
@@ -96,3 +96,8 @@ GivesBlobOrWaits m kept (Ok read) = GivesMessage m read
 GivesBlobOrWaits m kept (Err (Io e)) = kept ≡ None → error_kind e ≢ NotFound
 GivesBlobOrWaits m kept (Err (Corruption at)) = ⊥
 GivesBlobOrWaits m kept (Err _) = Unit {0}
+
+-- What a read of a message's blob comes to: of the table of what is stable nothing holds it, of the table of all that there is it may have to wait.
+pub record ReadsBlob {D C : Type 0} (log : Log D C) (H : History) (m : Message) (pid : ℕ) (lsn : ℤ) (p : DiskPtr) (result : Result LogRead Error) : Type 0 where
+  pub stable : IsStableBlob log H m pid lsn p → GivesBlob m (fault_of log) result
+  pub kept : IsKeptBlob log H m pid lsn p → GivesBlobOrWaits m (fault_of log) result

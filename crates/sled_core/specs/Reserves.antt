@@ -34,10 +34,10 @@ abbrev pub TouchesBlob : {T D C : Type 0} → (D → Trace) → (List ℕ → �
 TouchesBlob trace sum result false kind place item old new = config_of new ≡ config_of old
 TouchesBlob trace sum result true kind place item old new = MakesBlob trace sum result kind place item old new
 
--- What a refusal leaves of a log: it is as it was; where the item goes to a blob and that was refused, or memory for it, a further segment may have been begun.
+-- What a refusal leaves of a log: it is as it was; where the item goes to a blob and that was refused, or memory for it, a further segment may have been begun. A failure of the device left it so only where the log kept that before.
 abbrev pub RefusalLeaves : {T D C : Type 0} → (List ℕ → ℕ) → Result T Error → Bool → Log D C → Log D C → ℕ → ℕ → Type 0
 RefusalLeaves sum (Ok _) in_blob old new page n = Unit {0}
-RefusalLeaves sum (Err (Io e)) in_blob old new page n = IsUnchanged old new ⊎ ((in_blob ≡ true) × (fault_of old ≡ None) × IsMadeReady sum old new page n)
+RefusalLeaves sum (Err (Io e)) in_blob old new page n = ((fault_of old ≡ Some e) × IsUnchanged old new) ⊎ ((in_blob ≡ true) × (fault_of old ≡ None) × IsMadeReady sum old new page n)
 RefusalLeaves sum (Err OutOfMemory) in_blob old new page n = IsUnchanged old new ⊎ ((in_blob ≡ true) × IsMadeReady sum old new page n)
 RefusalLeaves sum (Err _) in_blob old new page n = IsUnchanged old new
 
@@ -54,16 +54,21 @@ reserve_causes trace faults kind page blob n old new = record {
   after = faults (device_of new);
 }
 
+-- A log has a reservation of a page's record with a body of n bytes, behind all that it had: what is reserved ends with that record, whose place comes last among the open ones. Where it had no room in the current segment, that is sealed, and a further one begins with it.
+pub record StandsBehind {D C : Type 0} (sum : List ℕ → ℕ) (old new : Log D C) (page n : ℕ) : Type 0 where
+  pub position : position_of new ≡ position_behind old page n
+  pub reserved : reserved_end new ≡ (target_of old page n).place + size_for old page n
+  pub opens : open_places new ≡ open_places old ++ (target_of old page n).place ∷ []
+  pub waiting : waiting_of new ≡ waiting_behind sum old page n
+  pub start : start_of new ≡ start_behind old page n
+
 -- What a reservation comes to, by whether the item goes to a blob, and how long the body of its record is.
 pub record ReservesAs {D C : Type 0} (trace : D → Trace) (faults : D → ℕ) (sum : List ℕ → ℕ) (result : Result Reservation Error) (kind : LogKind) (page : ℕ) (item : List ℕ) (blob : Bool) (n : ℕ) (old new : Log D C) : Type 0 where
   pub ticket : IfOk result (λ ticket. Awaits new ticket (message_as old kind page blob n item))
   pub stored : OnOk result (IsStored trace sum new (message_as old kind page blob n item))
   pub manifest : IfOk result (λ ticket. is_manifest_of ticket ≡ is_manifest kind page)
-  pub position : OnOk result (position_of new ≡ position_behind old page n)
-  pub reserved : OnOk result (reserved_end new ≡ (target_of old page n).place + size_for old page n)
+  pub behind : OnOk result (StandsBehind sum old new page n)
   pub others : (ticket : Reservation) (m : Message) → Awaits old ticket m → Awaits new ticket m
-  pub opens : OnOk result (open_places new ≡ open_places old ++ (target_of old page n).place ∷ [])
-  pub seals : OnOk result ((waiting_of new ≡ waiting_behind sum old page n) × (start_of new ≡ start_behind old page n))
   pub answers : ReserveAnswers result (IsUsedUpFor old page n) (IsLeastOpen old) (reserve_causes trace faults kind page blob n old new)
   pub device : TouchesBlob trace sum result blob (kind_for kind page true 8) (pos (target_of old page n).place) item old new
   pub keeps : Preserves trace sum old new

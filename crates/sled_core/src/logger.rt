@@ -95,7 +95,7 @@ impl<D: Device, C: Checksum> Log<D, C> {
     ghost use Rattle.sled_core.specs.OpenPlaces.{TakesOutPlaceOf};
     ghost use Rattle.sled_core.specs.Keeps.{ConfigKept, GoesOn, KeepsOthers, Preserves, SamePosition};
     ghost use Rattle.sled_core.specs.ReadBuffer.{IsUsedUpAt, ReadAnswers, RefusesPlace, SealsAround, Settles, WritesAround, held_at};
-    ghost use Rattle.sled_core.specs.ReadPointer.{GivesBlob, GivesBlobOrWaits, IsDamageAt, IsDamageOf, IsKeptBlob, IsReadOf, IsStableBlob, place_read};
+    ghost use Rattle.sled_core.specs.ReadPointer.{IsDamageAt, IsDamageOf, IsReadOf, ReadsBlob, place_read};
     ghost use Rattle.sled_core.specs.Ready.{IsReady};
     ghost use Rattle.sled_core.specs.Running.{Fits, IsStored, Ready, end_below};
     ghost use Rattle.sled_core.specs.Starts.{BeginsBehind, HasMadeStart, StartCalls, StartsOrRefuses, config_left};
@@ -270,11 +270,7 @@ impl<D: Device, C: Checksum> Log<D, C> {
         ensures undamaged { (H : History) (A f : ℕ) (U : List Message) (m : Message) → Fits D.trace C.sum_of self.old H A f U → Contains H.messages m
             → HasRecordOf self.old H m → pos m.place ≡ lsn → m.pointer ≡ ptr → IsInline ptr → IsCorruption result → ⊥ }
         ensures blob { (H : History) (A f : ℕ) (U : List Message) (m : Message)
-            → Fits D.trace C.sum_of self.old H A f U → NoHeaderOfZeros C.sum_of
-            → IsStableBlob self.old H m pid lsn ptr → GivesBlob m (fault_of self.old) result }
-        ensures kept { (H : History) (A f : ℕ) (U : List Message) (m : Message)
-            → Fits D.trace C.sum_of self.old H A f U → NoHeaderOfZeros C.sum_of
-            → IsKeptBlob self.old H m pid lsn ptr → GivesBlobOrWaits m (fault_of self.old) result }
+            → Fits D.trace C.sum_of self.old H A f U → NoHeaderOfZeros C.sum_of → ReadsBlob self.old H m pid lsn ptr result }
         ensures reading { let size = segment_size_of self.old in
             IfOk result (IsReadOf C.sum_of size (state_of (D.trace (device_of self.new))) pid (unsigned_abs lsn / size) ptr) }
         ensures corrupt { IfErr result (IsDamageAt C.sum_of (segment_size_of self.old) (state_of (D.trace (device_of self.new))) lsn ptr) }

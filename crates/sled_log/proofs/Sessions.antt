@@ -2,6 +2,7 @@ pub mod Carried
 pub mod EndedBatches
 pub mod EndedTickets
 pub mod Endings
+pub mod KeptPlaces
 pub mod MadeBatches
 pub mod MadeHistories
 pub mod MadePages
@@ -13,6 +14,7 @@ pub mod OpenApart
 pub mod Reading
 pub mod ReservedPlaces
 pub mod Reserving
+pub mod Rewriting
 pub mod RunHistories
 pub mod RunLemmas
 pub mod RunLogs

@@ -16,5 +16,6 @@ pub mod Restarts
 pub mod RunPhases
 pub mod RunStates
 pub mod Runs
+pub mod TicketActs
 pub mod TicketSteps
 pub mod WritesBack

@@ -1,10 +1,11 @@
 -- How a session keeps a place for a message.
-use Rattle.std.specs.Prelude.{◌≡◌, ◌⊎◌, ◌≤◌, ◌==◌, if◌then◌else◌, ℕ, true, false, List, [], ◌∷◌, ◌++◌, length, get_or, set, None, Some}
+use Rattle.std.specs.Prelude.{◌≡◌, ◌⊎◌, ◌≤◌, ◌==◌, if◌then◌else◌, ℕ, true, false, List, [], ◌∷◌, ◌++◌, length, get_or, set, ℤ, Option, None, Some}
 use Rattle.sled_codec.specs.declared.serialization.message.LogKind.{LogKind}
 use Rattle.sled_codec.specs.declared.serialization.message.LogKind.TheVariants.{Link, Replace}
 use Rattle.sled_codec.specs.History.{History}
+use Rattle.sled_codec.specs.Snapshots.{Page, Present}
 use Rattle.sled_core.specs.declared.reservation.Reservation.{Reservation}
-use Rattle.sled_core.specs.Fits.{FitsInline, segment_size_of}
+use Rattle.sled_core.specs.Fits.{segment_size_of}
 use Rattle.sled_core.specs.Manifests.{manifest_page}
 use Rattle.sled_core.specs.Tickets.{place_of, pointer_of}
 use Rattle.sled_log.specs.declared.session.Phase.TheVariants.{Open}
@@ -13,15 +14,20 @@ use Rattle.sled_log.specs.declared.session.command.Reply.{Reply}
 use Rattle.sled_log.specs.declared.session.command.Reply.TheVariants as reply
 use Rattle.sled_log.specs.Refusals.{is_busy, reason_of}
 use Rattle.sled_log.specs.RunPhases.{IsOpenAt, Unstored, device_in, seen, stands, traces}
-use Rattle.sled_log.specs.RunStates.{DeviceView, LogView, is_present, page_now}
+use Rattle.sled_log.specs.RunStates.{DeviceView, LogView, blob_in, is_present, page_now}
+use Rattle.sled_log.specs.TicketActs.{ReserveActs}
 use Rattle.sled_log.specs.TicketSteps.{ReserveStep}
 
--- A message of this kind and page with an item of n bytes isn't refused.
-pub record MayReserve (size : ℕ) (H : History) (l : LogView) (kind : LogKind) (page n : ℕ) : Type 0 where
+-- A message of this kind and page isn't refused.
+pub record MayReserve (H : History) (l : LogView) (kind : LogKind) (page : ℕ) : Type 0 where
   pub known : ((kind ≡ Replace) × (page ≤ l.begun)) ⊎ (is_present (page_now H page) ≡ true)
   pub idle : is_busy l page ≡ false
   pub few : kind ≡ Link → length (page_now H page) ≤ 254
-  pub fits : FitsInline size n
+
+-- the blob of a page that is one item in it, by its state
+abbrev pub blob_shown : Page → Option ℤ
+blob_shown (Present base []) = blob_in base.1
+blob_shown _ = None
 
 -- Only room was made.
 pub record MakesRoom {D C : Type 0} (old new : Opened D C) : Type 0 where
@@ -43,12 +49,12 @@ pub record HoldsTicket {D C : Type 0} (old new : Opened D C) (kind : LogKind) (p
 -- What a reservation comes to.
 pub record HasTried {D C : Type 0} (view : D → DeviceView) (sum : List ℕ → ℕ) (old : Opened D C) (kind : LogKind) (page : ℕ) (bytes : List ℕ) (new : Opened D C) (result : Reply) (k : Unstored) : Type 0 where
   pub not_refused : reason_of result ≡ None
-  pub device : device_in view (Open new) ≡ device_in view (Open old)
+  pub acts : ReserveActs sum (segment_size_of old.log) (Some (seen old k.tickets)) kind page bytes (device_in view (Open old)) result (device_in view (Open new))
   pub tickets : Unstored
   pub step : ReserveStep (segment_size_of old.log) (stands view (Open old) k) (seen old k.tickets) kind page bytes result (device_in view (Open new)) (stands view (Open new) tickets)
   pub at : IsOpenAt (traces view) sum new tickets
 
 abbrev pub Reserves : {D C : Type 0} → (D → DeviceView) → (List ℕ → ℕ) → Opened D C → LogKind → ℕ → List ℕ → Opened D C → Reply → Type 0
 Reserves view sum old kind page bytes new result =
-    (k : Unstored) → IsOpenAt (traces view) sum old k → MayReserve (segment_size_of old.log) k.history (seen old k.tickets) kind page (length bytes)
+    (k : Unstored) → IsOpenAt (traces view) sum old k → MayReserve k.history (seen old k.tickets) kind page
     → HasTried view sum old kind page bytes new result k

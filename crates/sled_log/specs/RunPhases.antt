@@ -113,8 +113,6 @@ pub record IsTicketFor {D C : Type 0} (trace : D → Trace) (sum : List ℕ → 
   pub page : ticket.page ≡ m.page
   pub awaits : Awaits opened.log ticket.reservation m
   pub stored : IsSafe trace sum opened.log m
-  -- no command makes a blob
-  pub plain : IsInline m.pointer
   pub joins : m.page ≢ manifest_page → MayJoin H m
   pub begins_batch : m.page ≡ manifest_page → BeginsBatch opened.log m
   pub begins : m.place + 1 < reserved_end opened.log
@@ -167,7 +165,7 @@ pub record Does {D C : Type 0} (view : D → DeviceView) (sum : List ℕ → ℕ
 
 abbrev pub CarriesOut : {D C : Type 0} → (D → DeviceView) → (List ℕ → ℕ) → Phase D C → Command → Phase D C × Reply → Type 0
 CarriesOut view sum phase command result =
-    (k : Unstored) → IsAt (traces view) sum phase k → refusal_for (size_of phase) (stands view phase k) command ≡ None → Does view sum phase command result k
+    (k : Unstored) → IsAt (traces view) sum phase k → refusal_for (stands view phase k) command ≡ None → Does view sum phase command result k
 
 -- Where a run stands in a phase, with what holds there.
 abbrev pub StandsIn : {D C : Type 0} → (D → DeviceView) → (List ℕ → ℕ) → Phase D C → RunState → Type 0

@@ -1,13 +1,18 @@
 -- Where a run of commands stands between two commands.
-use Rattle.std.specs.Prelude.{◌≡◌, ◌≤◌, ◌<◌, ◌+◌, ◌-◌, ◌%◌, ◌^◌, ◌&&◌, ◌==◌, ◌∷◌, ◌++◌, nat_lt, nat_le, not, zero, suc, if◌then◌else◌, ℕ, Bool, true, false, List, [], length, Option, None, Some}
+use Rattle.std.specs.Prelude.{◌≡◌, ◌≤◌, ◌<◌, ◌+◌, ◌-◌, ◌%◌, ◌^◌, ◌&&◌, ◌==◌, ◌∷◌, ◌++◌, nat_lt, nat_le, not, zero, suc, if◌then◌else◌, ℕ, ℤ, Bool, true, false, List, [], length, Option, None, Some}
 use Rattle.std.specs.declared.io.Error.{Error as IoError}
+use Rattle.sled_codec.specs.declared.result.DiskPtr.{DiskPtr}
+use Rattle.sled_codec.specs.declared.result.DiskPtr.TheVariants.{Inline, Blob}
 use Rattle.sled_codec.specs.declared.serialization.message.LogKind.{LogKind}
+use Rattle.sled_codec.specs.declared.serialization.message.LogKind.TheVariants.{Replace}
 use Rattle.sled_codec.specs.Snapshots.{SnapshotModel, stable_place}
 use Rattle.sled_codec.specs.History.{Batch, Message, History, no_history, below, is_replace, table}
 use Rattle.sled_store.specs.Device.{Trace, state_of}
+use Rattle.sled_core.specs.Buffers.{pointer_as}
+use Rattle.sled_core.specs.Fits.{blob_at, in_blob}
 use Rattle.sled_core.specs.Manifests.{manifest_page}
 use Rattle.sled_core.specs.OpenBatches.{stable_below}
-use Rattle.sled_core.specs.Positions.{Position, placed_at, pointer_at, size_at}
+use Rattle.sled_core.specs.Positions.{Position, lid_at, placed_at, size_at}
 use Rattle.sled_core.specs.Starts.{position_from, start_from}
 use Rattle.sled_core.specs.OpenPlaces.{first_between}
 use Rattle.sled_core.specs.Waiting.{BufferStart, Span, first_held, is_unheld}
@@ -92,15 +97,33 @@ started_on size len s = record {
   tickets = [];
 }
 
--- where the record of a page with an item of n bytes is put
+-- how long the body of the record of an item of n bytes is: it is the item, or the place of its blob
+abbrev pub body_in : ℕ → ℕ → ℕ
+body_in size n = if in_blob size n then 8 else n
+
+-- where the record of a page with a body of n bytes is put
 abbrev pub target_in : ℕ → LogView → ℕ → ℕ → Position
 target_in size l page n = placed_at size l.position page n
 
--- the message of a page with these bytes that is reserved next
+-- the message of a page with these bytes that is reserved next, in its record or in a blob under its place
 abbrev pub message_at : ℕ → LogView → LogKind → ℕ → List ℕ → Message
 message_at size l kind page bytes =
-    let q = target_in size l page (length bytes) in
-    record { kind = kind; page = page; place = q.place; pointer = pointer_at q; size = size_at size l.position page (length bytes); bytes = bytes }
+    let n = body_in size (length bytes) in
+    let q = target_in size l page n in
+    record {
+      kind = kind;
+      page = page;
+      place = q.place;
+      pointer = pointer_as (blob_at (in_blob size (length bytes)) q.place) (lid_at q);
+      size = size_at size l.position page n;
+      bytes = bytes;
+    }
+
+-- that of a page with these bytes whose item stays in an old blob, at this place
+abbrev pub rewriting_at : ℕ → LogView → ℕ → ℤ → List ℕ → Message
+rewriting_at size l page blob bytes =
+    let q = target_in size l page 8 in
+    record { kind = Replace; page = page; place = q.place; pointer = Blob (lid_at q) blob; size = size_at size l.position page 8; bytes = bytes }
 
 -- The segment of a position ends in reach, in the log and in the file.
 pub record EndsInReach (size : ℕ) (q : Position) : Type 0 where
@@ -128,6 +151,21 @@ waiting_with l q = if is_behind l q then l.waiting ++ current_span l q ∷ [] el
 
 abbrev pub start_with : LogView → Position → BufferStart
 start_with l q = if is_behind l q then next_start l q else l.start
+
+-- The log ready for a record that begins at a position, which it has none of, with the failure that it keeps: behind what fills the current segment, where the record begins a further one.
+abbrev pub made_ready : LogView → Position → Option IoError → LogView
+made_ready l q fault = record {
+  position = q;
+  synced = l.synced;
+  noted = l.noted;
+  end = if is_behind l q then q.place else l.end;
+  waiting = waiting_with l q;
+  start = start_with l q;
+  begun = l.begun;
+  fault = fault;
+  outstanding = l.outstanding;
+  tickets = l.tickets;
+}
 
 -- The sealed buffers, once those that begin below a place are sealed; and where the current one begins then.
 abbrev pub sealed_below : ℕ → LogView → List Span
@@ -242,6 +280,11 @@ without_unheld places i (s ∷ ss) =
 
 -- Pages.
 
+-- the blob that a pointer names
+abbrev pub blob_in : DiskPtr → Option ℤ
+blob_in (Inline lid) = None
+blob_in (Blob lid place) = Some place
+
 -- above all places
 abbrev pub top : ℕ
 top = 2 ^ 63
@@ -254,3 +297,8 @@ page_now H page = table H top page
 abbrev pub is_present : List Message → Bool
 is_present [] = false
 is_present (m ∷ ms) = is_replace m.kind
+
+-- the blob of a page that is one Replace with its item in it
+abbrev pub one_blob : List Message → Option ℤ
+one_blob (m ∷ []) = if is_replace m.kind then blob_in m.pointer else None
+one_blob _ = None

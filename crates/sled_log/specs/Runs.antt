@@ -38,7 +38,8 @@ use Rattle.sled_log.specs.declared.session.command.Reply.TheVariants as reply
 use Rattle.sled_log.specs.Recovery.{RecoveryResult, Recovered, Recovers}
 use Rattle.sled_log.specs.Refusals.{reason_of, refusal_for}
 use Rattle.sled_log.specs.RunStates.{DeviceView, EndsInReach, LogView, RunState, ShowsActive, first_waiting, held, held_among, is_present, length_of, opens, page_now, recovered, sealed_around, sealed_below, spans_below, spans_from, spans_place, spans_without, stable_of, start_around, start_below, started_on, with_log, without_unheld}
-use Rattle.sled_log.specs.TicketSteps.{AbortStep, CompleteStep, EndStep, ReserveStep, blank_manifest}
+use Rattle.sled_log.specs.TicketActs.{AbortActs, ReserveActs}
+use Rattle.sled_log.specs.TicketSteps.{AbortStep, CompleteStep, EndStep, ReserveStep, RewriteStep, blank_manifest}
 use Rattle.sled_log.specs.WritesBack.{HasWrittenBack}
 use Rattle.sled_log.specs.Restores.{RecoveryCalls}
 
@@ -154,6 +155,9 @@ ActsBy sum size a (command.Write i) r new = WriteActs i a.log a.device r new
 ActsBy sum size a (command.Crash choice) r new = CrashActs choice a.device r new
 ActsBy sum size a (command.Stop n) r new = StopActs n a.device r new
 ActsBy sum size a (command.Read page) r new = Unit {0}
+ActsBy sum size a (command.Replace page item) r new = ReserveActs sum size a.log does.Replace page (short_bytes item.items) a.device r new
+ActsBy sum size a (command.Link page item) r new = ReserveActs sum size a.log does.Link page (short_bytes item.items) a.device r new
+ActsBy sum size a (command.Abort t) r new = AbortActs t a.log a.device r new
 ActsBy sum size a _ r new = new ≡ a.device
 
 abbrev pub Acts : (List ℕ → ℕ) → ℕ → RunState → Command → Reply → DeviceView → Type 0
@@ -405,6 +409,7 @@ StepBy sum size a None command.Open r new b = OpenStep sum size a r new b
 StepBy sum size a (Some l) (command.Replace page item) r new b = ReserveStep size a l does.Replace page (short_bytes item.items) r new b
 StepBy sum size a (Some l) (command.Link page item) r new b = ReserveStep size a l does.Link page (short_bytes item.items) r new b
 StepBy sum size a (Some l) (command.Free page) r new b = ReserveStep size a l does.Free page [] r new b
+StepBy sum size a (Some l) (command.Rewrite page) r new b = RewriteStep size a l page r new b
 StepBy sum size a (Some l) command.BeginBatch r new b = ReserveStep size a l does.Skip manifest_page blank_manifest r new b
 StepBy sum size a (Some l) command.EndBatch r new b = EndStep a l r new b
 StepBy sum size a (Some l) (command.Complete t) r new b = CompleteStep a l t r new b
@@ -430,7 +435,7 @@ told stopped r = r
 
 -- A command was carried out from where a run stands, and told so: it is refused exactly where a reason fits, with the first one. Where it reads or leaves nothing foreign, it comes to a step, and what is claimed of where that leads holds.
 pub record Carries (sum : List ℕ → ℕ) (size : ℕ) (a : RunState) (c : Command) (r : Reply) (Leads : RunState → Type 0) : Type 0 where
-  pub refused : reason_of r ≡ refusal_for size a c
+  pub refused : reason_of r ≡ refusal_for a c
   pub new : DeviceView
   pub came : Reply
   pub is_told : r ≡ told new.is_stopped came

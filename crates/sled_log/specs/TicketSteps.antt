@@ -1,18 +1,24 @@
 -- What the commands come to that keep places for messages, complete these, give them up, and begin and end batches.
-use Rattle.std.specs.Prelude.{◌≡◌, ◌+◌, ◌-◌, ◌<◌, ◌==◌, ◌∷◌, ◌++◌, ℕ, ℤ, pos, set, if◌then◌else◌, List, [], length, slice_get, None, Some}
+use Rattle.std.specs.Prelude.{◌≡◌, ◌⊎◌, ◌+◌, ◌-◌, ◌<◌, ◌==◌, ◌∷◌, ◌++◌, ℕ, ℤ, pos, set, if◌then◌else◌, true, List, [], length, slice_get, Option, None, Some, Err}
+use Rattle.std.specs.declared.io.Error.{Error as IoError}
 use Rattle.sled_codec.specs.declared.result.DiskPtr.{DiskPtr}
+use Rattle.sled_codec.specs.declared.result.Error.{Error}
 use Rattle.sled_codec.specs.declared.result.Error.TheVariants.{Held, Io, OutOfMemory, PlacesUsedUp}
 use Rattle.sled_codec.specs.declared.serialization.message.LogKind.{LogKind}
 use Rattle.sled_codec.specs.Spelling.{short_signed}
 use Rattle.sled_codec.specs.History.{Batch, Batched, Completed, History, Message, Step}
+use Rattle.sled_store.specs.Device.{state_of}
 use Rattle.sled_core.specs.Buffers.{most_open}
+use Rattle.sled_core.specs.Fits.{in_blob}
 use Rattle.sled_core.specs.Manifests.{manifest_page}
 use Rattle.sled_core.specs.OpenBatches.{with_batch}
 use Rattle.sled_core.specs.OpenPlaces.{places_from}
+use Rattle.sled_core.specs.OwnBlobs.{RemovedAnswers, own_in}
 use Rattle.sled_core.specs.Positions.{Position, behind_record}
+use Rattle.sled_core.specs.Reserves.{MadeAnswers}
 use Rattle.sled_log.specs.declared.session.command.Reply.{Reply}
 use Rattle.sled_log.specs.declared.session.command.Reply.TheVariants as reply
-use Rattle.sled_log.specs.RunStates.{DeviceView, EndsInReach, LogView, RunState, is_behind, message_at, opens, places_without, start_with, target_in, waiting_with, with_log}
+use Rattle.sled_log.specs.RunStates.{DeviceView, EndsInReach, LogView, RunState, body_in, is_behind, made_ready, message_at, one_blob, opens, page_now, places_without, rewriting_at, start_with, target_in, waiting_with, with_log}
 
 -- the place and the pointer that are answered are those of a message
 abbrev pub IsAnswerFor : Message → ℤ → DiskPtr → Type 0
@@ -55,19 +61,57 @@ pub record IsFullOfOpen (l : LogView) (q : Position) (at : ℤ) : Type 0 where
   pub first : opens_beside l q ≡ least ∷ others
   pub is : at ≡ pos least
 
+-- Why no place was kept for a record that begins at this position, with nothing done.
+abbrev pub RefusedStep : ℕ → RunState → LogView → Position → Error → RunState → Type 0
+RefusedStep size a l q (Io e) b = (l.fault ≡ Some e) × (b ≡ a)
+RefusedStep size a l q OutOfMemory b = (l.fault ≡ None) × (b ≡ a)
+RefusedStep size a l q PlacesUsedUp b = (l.fault ≡ None) × (EndsInReach size q → ⊥) × (b ≡ a)
+RefusedStep size a l q (Held at) b = IsFullOfOpen l q at × (b ≡ a)
+RefusedStep size a l q _ b = ⊥
+
+-- a record that begins at this position has a place: its segment is in reach, and its buffer has fewer than 127 open reservations
+abbrev pub HasRecordPlace : ℕ → LogView → Position → Error → Type 0
+HasRecordPlace size l q OutOfMemory = Unit {0}
+HasRecordPlace size l q _ = EndsInReach size q × (length (opens_beside l q) < most_open)
+
+-- The blob of an item wasn't made: the device failed, and the log keeps that; or there was one of that name, or memory for it was refused, and it keeps neither. It is ready for the record then, which it has none of.
+pub record BlobRefused (size : ℕ) (a : RunState) (l : LogView) (q : Position) (e : Error) (new : DeviceView) (b : RunState) : Type 0 where
+  pub fault : l.fault ≡ None
+  pub room : HasRecordPlace size l q e
+  pub kept : Option IoError
+  pub cause : MadeAnswers {T = Unit {0}} (Err e) ((state_of a.device.trace).blobs.file (pos q.place)) kept a.device.failures new.failures
+  pub leads : b ≡ with_log a new (Some (made_ready l q kept))
+
 abbrev pub ReserveStep : ℕ → RunState → LogView → LogKind → ℕ → List ℕ → Reply → DeviceView → RunState → Type 0
 ReserveStep size a l kind page bytes (reply.Reserved ticket place pointer) new b =
-    HasReserved size a l (target_in size l page (length bytes)) (message_at size l kind page bytes) ticket place pointer new b
-ReserveStep size a l kind page bytes (reply.Failed (Io e)) new b = (l.fault ≡ Some e) × (b ≡ a)
-ReserveStep size a l kind page bytes (reply.Failed OutOfMemory) new b = (l.fault ≡ None) × (b ≡ a)
-ReserveStep size a l kind page bytes (reply.Failed PlacesUsedUp) new b = (l.fault ≡ None) × (EndsInReach size (target_in size l page (length bytes)) → ⊥) × (b ≡ a)
-ReserveStep size a l kind page bytes (reply.Failed (Held at)) new b = IsFullOfOpen l (target_in size l page (length bytes)) at × (b ≡ a)
+    HasReserved size a l (target_in size l page (body_in size (length bytes))) (message_at size l kind page bytes) ticket place pointer new b
+ReserveStep size a l kind page bytes (reply.Failed e) new b =
+    RefusedStep size a l (target_in size l page (body_in size (length bytes))) e b
+    ⊎ ((in_blob size (length bytes) ≡ true) × BlobRefused size a l (target_in size l page (body_in size (length bytes))) e new b)
 ReserveStep size a l kind page bytes _ new b = ⊥
+
+-- A place was kept for a Replace of a page that is one Replace with its item in a blob: the item stays there.
+pub record HasRewritten (size : ℕ) (a : RunState) (l : LogView) (page ticket : ℕ) (place : ℤ) (pointer : DiskPtr) (new : DeviceView) (b : RunState) : Type 0 where
+  pub message : Message
+  pub is : page_now a.history page ≡ message ∷ []
+  pub blob : ℤ
+  pub there : one_blob (message ∷ []) ≡ Some blob
+  pub reserved : HasReserved size a l (target_in size l page 8) (rewriting_at size l page blob message.bytes) ticket place pointer new b
+
+abbrev pub RewriteStep : ℕ → RunState → LogView → ℕ → Reply → DeviceView → RunState → Type 0
+RewriteStep size a l page (reply.Reserved ticket place pointer) new b = HasRewritten size a l page ticket place pointer new b
+RewriteStep size a l page (reply.Failed e) new b = RefusedStep size a l (target_in size l page 8) e b
+RewriteStep size a l page _ new b = ⊥
 
 -- the log with a ticket spent, with reservations open at these places, and this many pages begun
 abbrev pub spent : LogView → ℕ → List ℕ → ℕ → LogView
 spent l t places begun =
     record { position = l.position; synced = l.synced; noted = l.noted; end = l.end; waiting = l.waiting; start = l.start; begun = begun; fault = l.fault; outstanding = places; tickets = set l.tickets t None }
+
+-- the log with this failure kept
+abbrev pub keeping : IoError → LogView → LogView
+keeping e l =
+    record { position = l.position; synced = l.synced; noted = l.noted; end = l.end; waiting = l.waiting; start = l.start; begun = l.begun; fault = Some e; outstanding = l.outstanding; tickets = l.tickets }
 
 -- The message of an open reservation comes to the history. Where it is the first of its page, that is begun.
 pub record HasCompleted (a : RunState) (l : LogView) (t : ℕ) (place : ℤ) (pointer : DiskPtr) (new : DeviceView) (b : RunState) : Type 0 where
@@ -100,9 +144,20 @@ pub record HasAborted (a : RunState) (l : LogView) (t : ℕ) (place : ℤ) (poin
   pub answer : IsAnswerFor message place pointer
   pub leads : b ≡ with_log a new (Some (spent l t (places_without message.place (opens l)) l.begun))
 
+-- the blob that a reservation made for a message
+abbrev pub own_of : Message → Option ℤ
+own_of m = own_in (pos m.place) m.pointer
+
+-- Its ticket is spent, and the reservation stays open: the log kept a failure, or the device failed to remove the message's own blob, and the log keeps that.
+pub record AbortFails (a : RunState) (l : LogView) (t : ℕ) (e : IoError) (new : DeviceView) (b : RunState) : Type 0 where
+  pub message : Message
+  pub reserved : slice_get l.tickets t ≡ Some (Some message)
+  pub cause : RemovedAnswers {T = Unit {0}} (Err (Io e)) (own_of message) l.fault (Some e) a.device.failures new.failures
+  pub leads : b ≡ with_log a new (Some (keeping e (spent l t (opens l) l.begun)))
+
 abbrev pub AbortStep : RunState → LogView → ℕ → Reply → DeviceView → RunState → Type 0
 AbortStep a l t (reply.Done place pointer) new b = HasAborted a l t place pointer new b
-AbortStep a l t (reply.Failed (Io e)) new b = (l.fault ≡ Some e) × (b ≡ with_log a new (Some (spent l t (opens l) l.begun)))
+AbortStep a l t (reply.Failed (Io e)) new b = AbortFails a l t e new b
 AbortStep a l t _ new b = ⊥
 
 -- the item of a manifest that is reserved, whose peg isn't known yet

@@ -41,6 +41,7 @@ fn command_of(alloc: Global, words: &mut Words<'_>) -> Command {
         "replace" => Command::Replace(words.number(), words.bytes(alloc)),
         "link" => Command::Link(words.number(), words.bytes(alloc)),
         "free" => Command::Free(words.number()),
+        "rewrite" => Command::Rewrite(words.number()),
         "complete" => Command::Complete(words.number() as usize),
         "abort" => Command::Abort(words.number() as usize),
         "write" => Command::Write(words.number() as usize),
@@ -177,6 +178,5 @@ fn word_of(why: Refusal) -> &'static str {
         Refusal::Batch => "batch",
         Refusal::Ticket => "ticket",
         Refusal::Index => "index",
-        Refusal::Item => "item",
     }
 }

@@ -12,7 +12,7 @@ mod text;
 use line::Asked;
 use sled_log::config::Config;
 use sled_log::device::{MemDevice, PlaceSum};
-use sled_log::session::{Command, Refusal, Reply, Session};
+use sled_log::session::{Command, Reply, Session};
 use std::alloc::{AllocError, AllocFailed, Global};
 use std::io::{self, BufRead, Write};
 
@@ -22,7 +22,7 @@ type Running = Option<Session<MemDevice, PlaceSum>>;
 // Why the program ends before its input does.
 #[derive(Debug, Clone, Copy, PartialEq, Eq)]
 enum Stop {
-    // The line is not one that can be carried out: it is none, or its item is too long for a record.
+    // The line is none, or stands where it can't.
     BadLine,
     // The reader or the writer failed, or memory for the program itself was refused.
     Failed,
@@ -136,11 +136,7 @@ fn run_command(running: &mut Running, command: Command) -> Result<Reply, Stop> {
     };
     let commands = [command];
     let mut replies = session.run(&commands)?;
-    match replies.pop() {
-        Some(Reply::Refused(Refusal::Item)) => Err(Stop::BadLine),
-        Some(reply) => Ok(reply),
-        None => Err(Stop::Failed),
-    }
+    replies.pop().ok_or(Stop::Failed)
 }
 
 // Prints the number of a bad line.

@@ -65,6 +65,7 @@ fn with_number(word: &str, operand: &str) -> Option<Command> {
     let n = number(operand)?;
     match word {
         "free" => Some(Command::Free(n)),
+        "rewrite" => Some(Command::Rewrite(n)),
         "complete" => Some(Command::Complete(n as usize)),
         "abort" => Some(Command::Abort(n as usize)),
         "write" => Some(Command::Write(n as usize)),

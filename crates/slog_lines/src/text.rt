@@ -276,7 +276,7 @@ impl Line {
     }
 }
 
-// The word that says why a command was refused. An item that is too long for a record makes a bad line.
+// The word that says why a command was refused.
 fn word_of(refusal: Refusal) -> &'static str {
     match refusal {
         Refusal::Stopped => "stopped",
@@ -288,7 +288,6 @@ fn word_of(refusal: Refusal) -> &'static str {
         Refusal::Batch => "batch",
         Refusal::Ticket => "ticket",
         Refusal::Index => "index",
-        Refusal::Item => "item",
     }
 }
 

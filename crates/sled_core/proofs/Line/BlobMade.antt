@@ -1,7 +1,6 @@
 -- A blob is made under the next place of a log, or its calls come as far as a failure: the log goes on, and holds and fits what it did.
-use Rattle.std.proofs.Common.{◌≡◌, ◌⊎◌, ◌≤◌, ◌<◌, ◌≤ℤ◌, ap, refl, sym, subst, arith, inl, inr, ℕ, ℤ, pos, Bool, true, List, Option, None, Some}
+use Rattle.std.proofs.Common.{◌≡◌, ◌⊎◌, ◌<◌, ◌≤ℤ◌, ap, refl, sym, subst, arith, inl, inr, ℕ, ℤ, pos, Bool, true, List, Option, None, Some}
 use Rattle.std.proofs.lemmas.Int.{ints}
-use Rattle.std.specs.List.{All}
 use Rattle.std.specs.declared.io.Error.{Error as IoError}
 use Rattle.std.proofs.lemmas.List.Elements.{All-contains}
 use Rattle.sled_codec.specs.History.{Batch, Message, History}

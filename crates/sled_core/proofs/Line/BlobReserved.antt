@@ -1,5 +1,5 @@
 -- A log was made ready for a record and then the blob of its message was made, or refused: it is ready still, and what a reservation comes to.
-use Rattle.std.proofs.Common.{◌≡◌, ◌∙◌, ◌&&◌, ◌==◌, not, ◌+◌, ◌/◌, ◌≤◌, ◌≤ℤ◌, [], ap, sym, subst, refl, arith, inr, ℕ, ℤ, pos, Bool, true, false, if◌then◌else◌, List, length, map, Option, None, Some, Ok, Err, vec_capacity}
+use Rattle.std.proofs.Common.{◌≡◌, ◌∙◌, ◌&&◌, ◌==◌, not, ◌+◌, ◌/◌, ◌≤ℤ◌, [], ap, sym, subst, refl, arith, inr, ℕ, ℤ, pos, Bool, true, false, if◌then◌else◌, List, length, map, Option, None, Some, Ok, Err, vec_capacity}
 use Rattle.std.proofs.lemmas.Bool.Decides.{nat_tests}
 use Rattle.std.proofs.lemmas.Int.{ints}
 use Rattle.sled_codec.specs.declared.result.DiskPtr.TheVariants.{Blob}
@@ -121,10 +121,18 @@ blob_kind kind page n k = by (is_manifest kind page) where
   by true is = cc
   by false is = is
 
--- The blob of a message is made once the log is ready for its record.
-module _ {D C : Type 0} (trace : D → Trace) (faults : D → ℕ) (sum : List ℕ → ℕ) (old mid made : Log D C) (kind : LogKind) (page : ℕ) (k : MessageKind) (head : Head) (item : List ℕ)
-    (ready : IsPrepared trace sum old mid (record { log_kind = kind; kind = k; page = page; blob = None }) head 8) (all : KeepsAll old mid) (known : kind_for kind page true 8 ≡ Some k) (none : fault_of old ≡ None)
-    (rest : ChangesDevice mid made) (keeps : Preserves trace sum mid made) (place : ℤ) (at : place ≡ pos (next_here mid).place) where
+-- The blob of a message is made under its place, or refused, once the log is ready for its record.
+pub record TriesBlob {D C : Type 0} (trace : D → Trace) (sum : List ℕ → ℕ) (old mid made : Log D C) (kind : LogKind) (page : ℕ) (k : MessageKind) (head : Head) (place : ℤ) : Type 0 where
+  pub ready : IsPrepared trace sum old mid (record { log_kind = kind; kind = k; page = page; blob = None }) head 8
+  pub same : KeepsAll old mid
+  pub known : kind_for kind page true 8 ≡ Some k
+  pub none : fault_of old ≡ None
+  pub changes : ChangesDevice mid made
+  pub keeps : Preserves trace sum mid made
+  pub at : place ≡ pos (next_here mid).place
+
+-- What comes of it.
+module _ {D C : Type 0} {trace : D → Trace} {sum : List ℕ → ℕ} {old mid made : Log D C} {kind : LogKind} {page : ℕ} {k : MessageKind} {head : Head} {place : ℤ} (tries : TriesBlob trace sum old mid made kind page k head place) (faults : D → ℕ) (item : List ℕ) where
   abbrev text : List ℕ
   text = blob_bytes sum (code_of k) item
 
@@ -132,19 +140,19 @@ module _ {D C : Type 0} (trace : D → Trace) (faults : D → ℕ) (sum : List �
   target = pos (target_of old page 8).place
 
   pub place_is : place ≡ target
-  place_is = at ∙ ap (λ (q : Position). pos q.place) (sym ready.target)
+  place_is = tries.at ∙ ap (λ (q : Position). pos q.place) (sym tries.ready.target)
 
   trace_old : trace (device_of mid) ≡ trace (device_of old)
-  trace_old = ap (λ (x : RunningConfig D C). trace x.device) all.config
+  trace_old = ap (λ (x : RunningConfig D C). trace x.device) tries.same.config
 
   count_old : faults (device_of mid) ≡ faults (device_of old)
-  count_old = ap (λ (x : RunningConfig D C). faults x.device) all.config
+  count_old = ap (λ (x : RunningConfig D C). faults x.device) tries.same.config
 
   pub ready_behind : (blob : Option ℤ) → IsPrepared trace sum old made (record { log_kind = kind; kind = k; page = page; blob = blob }) head 8
-  ready_behind = ready_made trace sum old mid (record { log_kind = kind; kind = k; page = page; blob = None }) head 8 ready made rest keeps
+  ready_behind = ready_made trace sum old mid (record { log_kind = kind; kind = k; page = page; blob = None }) head 8 tries.ready made tries.changes tries.keeps
 
   one_kind : (m : MessageKind) → kind_for kind page true 8 ≡ Some m → k ≡ m
-  one_kind m is = let both : Some k ≡ Some m = sym known ∙ is in cc
+  one_kind m is = let both : Some k ≡ Some m = sym tries.known ∙ is in cc
 
   -- what the blob's calls came to, by the log before it was made ready
   calls_old : Performs (making place text) (trace (device_of mid)) (trace (device_of made)) → (m : MessageKind) → kind_for kind page true 8 ≡ Some m → Performs (making target (blob_bytes sum (code_of m) item)) (trace (device_of old)) (trace (device_of made))
@@ -162,12 +170,9 @@ module _ {D C : Type 0} (trace : D → Trace) (faults : D → ℕ) (sum : List �
     ticket = tt;
     stored = tt;
     manifest = tt;
-    position = tt;
-    reserved = tt;
+    behind = tt;
     others = (ready_behind None).tickets.awaits;
-    opens = tt;
-    seals = tt;
-    answers = blob_refused (reserve_causes trace faults kind page true 8 old made) (IsUsedUpFor old page 8) (IsLeastOpen old) e refl room none answers_old;
+    answers = blob_refused (reserve_causes trace faults kind page true 8 old made) (IsUsedUpFor old page 8) (IsLeastOpen old) e refl room tries.none answers_old;
     device = record { calls = calls_old came; done = λ m is. tt; refused = spares (Unit {0}) Reservation e _ _ (subst (λ (t : Trace). UnlessFault {T = Unit {0}} (Err e) t (trace (device_of made))) trace_old refused) };
     keeps = (ready_behind None).keeps;
     seen = (ready_behind None).seen;
@@ -181,7 +186,7 @@ module _ {D C : Type 0} (trace : D → Trace) (faults : D → ℕ) (sum : List �
     seen = ready_seen trace sum old made (record { log_kind = kind; kind = k; page = page; blob = None }) head 8 (ready_behind None)
 
     left_ready : (x : Error) → MadeAnswers {T = Unit {0}} (Err x) ((state_of (trace (device_of mid))).blobs.file place) (fault_of made) (faults (device_of mid)) (faults (device_of made)) → RefusalLeaves {T = Reservation} sum (Err x) true old made page 8
-    left_ready (error.Io io) is = inr (refl, none, seen)
+    left_ready (error.Io io) is = inr (refl, tries.none, seen)
     left_ready error.OutOfMemory is = inr (refl, seen)
     left_ready error.PlacesUsedUp is = absurd is
     left_ready (error.Held p) is = absurd is
@@ -205,7 +210,7 @@ module _ {D C : Type 0} (trace : D → Trace) (faults : D → ℕ) (sum : List �
       below = (let here : target ≤ℤ target = omega (arith, ints) in here);
       item = subst (λ (t : Trace). KeepsItem sum (state_of t).blobs m m.pointer) (sym (trace_new ∙ did))
           (subst (λ (p : ℤ). KeepsItem sum (blobs_made (state_of (trace (device_of mid))).blobs place text) m (Blob (lid_at (target_of old page 8)) p)) place_is
-          (item_made sum (state_of (trace (device_of mid))).blobs place text m (lid_at (target_of old page 8)) k (blob_kind kind page 8 k known) refl));
+          (item_made sum (state_of (trace (device_of mid))).blobs place text m (lid_at (target_of old page 8)) k (blob_kind kind page 8 k tries.known) refl));
     }
 
     pub its_message : in_log (message_as old kind page true 8 item)
@@ -223,4 +228,4 @@ module _ {D C : Type 0} (trace : D → Trace) (faults : D → ℕ) (sum : List �
         → ReserveAnswers (Ok ticket) (IsUsedUpFor old page 8) (IsLeastOpen old) (reserve_causes trace faults kind page true 8 old new)
     its_answers made_it kept room ticket =
         let counts = ap (λ (x : RunningConfig D C). faults x.device) same ∙ made_it.2 ∙ count_old in
-        ((none, kept ∙ made_it.0, counts), room, λ goes. sym (λ i. (state_of (trace_old i)).blobs.file (place_is i)) ∙ made_it.1)
+        ((tries.none, kept ∙ made_it.0, counts), room, λ goes. sym (λ i. (state_of (trace_old i)).blobs.file (place_is i)) ∙ made_it.1)

@@ -22,6 +22,7 @@ use Rattle.sled_core.specs.Keeps.{KeepsSeen, Preserves}
 use Rattle.sled_core.specs.Logged.{in_log}
 use Rattle.sled_core.specs.Positions.{Position, behind_record, lid_at, next_segment_at}
 use Rattle.sled_core.specs.Prepared.{IsPrepared, next_here, number_of, text_of}
+use Rattle.sled_core.specs.Reserves.{StandsBehind}
 use Rattle.sled_core.specs.Turned.{ChangesLine, ChangesSlots, HasPlace, HasRoomForBatch, HasRoomIn, IsTicketFor, begun_view, next_line, reserved_now}
 use Rattle.sled_core.specs.Waiting.{BufferAt, BufferStart, at_last, closed_now, unwritten}
 use Rattle.sled_core.proofs.Holds.KeptCalls.{kept_further}
@@ -165,11 +166,24 @@ module _ {D C : Type 0} (trace : D → Trace) (sum : List ℕ → ℕ) (old : Lo
         seals = (buffers.0 ∙ sym (ap (λ (o : Bool). if o then closed else waiting_of old) moves), buffers.1 ∙ sym (ap (λ (o : Bool). if o then next else start_of old) moves));
       }
 
+-- A record with this body was laid out in a log that was made ready for it, and this is its ticket.
+pub record IsLaid {D C : Type 0} (trace : D → Trace) (sum : List ℕ → ℕ) (old mid new : Log D C) (kept : Purpose) (head : Head) (body : List ℕ) (ticket : Reservation) : Type 0 where
+  pub ready : IsPrepared trace sum old mid kept head (length body)
+  pub known : kind_for kept.log_kind kept.page (is_some kept.blob) (length body) ≡ Some kept.kind
+  pub spells : SpellsBlob kept.blob body
+  pub small : kept.page < 2 ^ 64
+  pub line : line_of new ≡ at_last (reserved_now (placeholder_head (text_of head) ++ body) (reserved_for kept (length (current_of mid).parts.bytes) head.len (length body) (sum (body ++ drop 4 (text_of head))))) (line_of mid)
+  pub rest : ChangesSlots mid new
+  pub accountant : new.accountant ≡ mid.accountant
+  pub ends : reserved_end new ≡ (current_of mid).parts.site.place + length (current_of mid).parts.bytes + head.len + length body
+  pub own : IsTicketFor mid ticket kept.blob (head.len + length body)
+  pub manifest : is_manifest_of ticket ≡ is_manifest kept.log_kind kept.page
+
 -- The reservation is made.
-module _ {D C : Type 0} (trace : D → Trace) (sum : List ℕ → ℕ) (old mid new : Log D C) (kept : Purpose) (head : Head) (item : List ℕ) (ready : IsPrepared trace sum old mid kept head (length item))
-    (known : kind_for kept.log_kind kept.page (is_some kept.blob) (length item) ≡ Some kept.kind) (spells : SpellsBlob kept.blob item) (small : kept.page < 2 ^ 64)
-    (line : line_of new ≡ at_last (reserved_now (placeholder_head (text_of head) ++ item) (reserved_for kept (length (current_of mid).parts.bytes) (length (text_of head)) (length item) (sum (item ++ drop 4 (text_of head))))) (line_of mid))
-    (rest : ChangesSlots mid new) (accountant : new.accountant ≡ mid.accountant) where
+module _ {D C : Type 0} {trace : D → Trace} {sum : List ℕ → ℕ} {old mid new : Log D C} {kept : Purpose} {head : Head} {item : List ℕ} {ticket : Reservation} (laid : IsLaid trace sum old mid new kept head item ticket) where
+  abbrev ready : IsPrepared trace sum old mid kept head (length item)
+  ready = laid.ready
+
   abbrev text : List ℕ
   text = text_of head
 
@@ -185,8 +199,15 @@ module _ {D C : Type 0} (trace : D → Trace) (sum : List ℕ → ℕ) (old mid 
   abbrev len : ℕ
   len = length item
 
+  -- as its buffer has it
+  line : line_of new ≡ at_last (reserved_now more r) (line_of mid)
+  line = laid.line ∙ ap (λ n. at_last (reserved_now more (reserved_for kept (length w.parts.bytes) n len (sum (item ++ drop 4 text)))) (line_of mid)) ready.long
+
+  own : IsTicketFor mid ticket kept.blob r.len
+  own = subst (IsTicketFor mid ticket kept.blob) (ap (λ n. n + len) ready.long) laid.own
+
   fits : HasPlaceFor sum (segment_size_of mid) more r w
-  fits = placeholder_fits sum mid text item kept known spells small ready.tail (subst (λ n. HasPlace mid n) (ap (λ n. n + len) ready.long) ready.fits)
+  fits = placeholder_fits sum mid text item kept laid.known laid.spells laid.small ready.tail (subst (λ n. HasPlace mid n) (ap (λ n. n + len) ready.long) ready.fits)
 
   whole : length text ≡ 4 + length (short_header_tail kept.kind len (number_of mid) kept.page)
   whole = head_whole text kept.kind len (number_of mid) kept.page ready.tail
@@ -205,59 +226,64 @@ module _ {D C : Type 0} (trace : D → Trace) (sum : List ℕ → ℕ) (old mid 
   size_is = λ i. record_size ((ready.target i).begins / size_same i) kept.page len
 
   long : length more ≡ here_size
-  long = more_long sum (number_of mid) w.parts.bytes text item kept known spells small ready.tail whole ∙ all_size
+  long = more_long sum (number_of mid) w.parts.bytes text item kept laid.known laid.spells laid.small ready.tail whole ∙ all_size
 
   pub made_keeps : Preserves trace sum old new
-  made_keeps = kept_further trace sum old mid new ready.keeps (reserves_keeps trace sum mid new more r line rest accountant fits)
+  made_keeps = kept_further trace sum old mid new ready.keeps (reserves_keeps trace sum mid new more r line laid.rest laid.accountant fits)
 
   pub made_seen : KeepsSeen old new
-  made_seen = seen_further old mid new ready.seen (seen_all mid new (reserves_same trace sum mid new more r line rest accountant fits))
+  made_seen = seen_further old mid new ready.seen (seen_all mid new (reserves_same trace sum mid new more r line laid.rest laid.accountant fits))
 
   -- where nothing but the log's segments was changed until then
   pub made_same : KeepsAll old mid → KeepsAll old new
   made_same first =
-      let second = reserves_same trace sum mid new more r line rest accountant fits in
+      let second = reserves_same trace sum mid new more r line laid.rest laid.accountant fits in
       record { config = second.config ∙ first.config; synced = second.synced ∙ first.synced; noted = second.noted ∙ first.noted; fault = second.fault ∙ first.fault; pins = second.pins ∙ first.pins }
 
-  pub made_others : (ticket : Reservation) (m : Message) → Awaits old ticket m → Awaits new ticket m
-  made_others ticket m awaits = reserves_others trace sum mid new more r line rest accountant fits ticket m (ready.tickets.awaits ticket m awaits)
+  pub made_others : (t : Reservation) (m : Message) → Awaits old t m → Awaits new t m
+  made_others t m awaits = reserves_others trace sum mid new more r line laid.rest laid.accountant fits t m (ready.tickets.awaits t m awaits)
 
-  pub made_position : position_of new ≡ position_behind old kept.page len
+  made_position : position_of new ≡ position_behind old kept.page len
   made_position =
-      reserves_position trace sum mid new more r line rest accountant fits here_size long
+      reserves_position trace sum mid new more r line laid.rest laid.accountant fits here_size long
       ∙ sym (λ i. behind_record (size_same i) (ready.target i) (size_is i))
 
-  pub made_end : reserved_end new ≡ w.parts.site.place + length w.parts.bytes + length text + len → reserved_end new ≡ (target_of old kept.page len).place + size_for old kept.page len
-  made_end end =
+  made_end : reserved_end new ≡ (target_of old kept.page len).place + size_for old kept.page len
+  made_end =
+      let end = laid.ends in
+      let head_len = ready.long in
       let at = ap (λ (q : Position). q.place) ready.target in
       let is = size_is in
       let all = all_size in
-      omega (arith, end, at, is, all)
+      omega (arith, end, head_len, at, is, all)
 
-  pub made_seals : (waiting_of new ≡ waiting_behind sum old kept.page len) × (start_of new ≡ start_behind old kept.page len)
+  made_seals : (waiting_of new ≡ waiting_behind sum old kept.page len) × (start_of new ≡ start_behind old kept.page len)
   made_seals = let same = reserved_buffers mid new more r line in (same.0 ∙ ready.seals.0, same.1 ∙ ready.seals.1)
 
-  pub made_opens : open_places new ≡ open_places old ++ (target_of old kept.page len).place ∷ []
+  made_opens : open_places new ≡ open_places old ++ (target_of old kept.page len).place ∷ []
   made_opens =
       let at = sym (ap (λ (q : Position). q.place) ready.target) in
-      reserves_opens trace sum mid new more r line rest accountant fits ∙ (λ i. ready.tickets.opens i ++ at i ∷ [])
+      reserves_opens trace sum mid new more r line laid.rest laid.accountant fits ∙ (λ i. ready.tickets.opens i ++ at i ∷ [])
+
+  -- It stands behind all that the log had.
+  pub made_behind : StandsBehind sum old new kept.page len
+  made_behind = record { position = made_position; reserved = made_end; opens = made_opens; waiting = made_seals.0; start = made_seals.1 }
 
   -- The ticket is for its message, as the log has it.
-  module _ (ticket : Reservation) (own : IsTicketFor mid ticket kept.blob r.len) (manifest : is_manifest_of ticket ≡ is_manifest kept.log_kind kept.page) where
-    abbrev pub message_there : Message
-    message_there =
-        let q = target_of old kept.page len in
-        record { kind = kept.log_kind; page = kept.page; place = q.place; pointer = pointer_as kept.blob (lid_at q); size = size_for old kept.page len; bytes = item_as kept.blob item }
+  abbrev pub laid_message : Message
+  laid_message =
+      let q = target_of old kept.page len in
+      record { kind = kept.log_kind; page = kept.page; place = q.place; pointer = pointer_as kept.blob (lid_at q); size = size_for old kept.page len; bytes = item_as kept.blob item }
 
-    message_here : message_there ≡ message_in w.parts.site (w.parts.bytes ++ more) r
-    message_here =
-        let back : w.parts.site.place + length w.parts.bytes - w.parts.site.place ≡ length w.parts.bytes = omega arith in
-        (λ i. record { kind = kept.log_kind; page = kept.page; place = (ready.target i).place; pointer = pointer_as kept.blob (lid_at (ready.target i)); size = size_is i; bytes = item_as kept.blob item })
-        ∙ ap (λ k. record { kind = kept.log_kind; page = kept.page; place = w.parts.site.place + length w.parts.bytes; pointer = pointer_as kept.blob (w.parts.site.slot + k); size = here_size; bytes = item_as kept.blob item }) back
-        ∙ message_is sum (number_of mid) w.parts.bytes text item kept known spells small ready.tail whole w.parts.site
+  message_here : laid_message ≡ message_in w.parts.site (w.parts.bytes ++ more) r
+  message_here =
+      let back : w.parts.site.place + length w.parts.bytes - w.parts.site.place ≡ length w.parts.bytes = omega arith in
+      (λ i. record { kind = kept.log_kind; page = kept.page; place = (ready.target i).place; pointer = pointer_as kept.blob (lid_at (ready.target i)); size = size_is i; bytes = item_as kept.blob item })
+      ∙ ap (λ k. record { kind = kept.log_kind; page = kept.page; place = w.parts.site.place + length w.parts.bytes; pointer = pointer_as kept.blob (w.parts.site.slot + k); size = here_size; bytes = item_as kept.blob item }) back
+      ∙ message_is sum (number_of mid) w.parts.bytes text item kept laid.known laid.spells laid.small ready.tail whole w.parts.site
 
-    pub made_ticket : (m : Message) → in_log m ≡ message_there → Awaits new ticket m
-    made_ticket m is =
-        subst (λ (x : Message). AwaitsIn (line_of new) ticket x) (sym (is ∙ message_here))
-        (subst (λ (l : List SegmentView). AwaitsIn l ticket (message_in w.parts.site (w.parts.bytes ++ more) r)) (sym line)
-        (ticket_reserved sum (segment_size_of mid) more r (view_at mid.site mid.buffer) (map segment_view mid.behind.items) ticket own.index (record { open_yet = refl; place = own.place; pointer = own.pointer; long = own.long; manifest = manifest })))
+  pub made_ticket : (m : Message) → in_log m ≡ laid_message → Awaits new ticket m
+  made_ticket m is =
+      subst (λ (x : Message). AwaitsIn (line_of new) ticket x) (sym (is ∙ message_here))
+      (subst (λ (l : List SegmentView). AwaitsIn l ticket (message_in w.parts.site (w.parts.bytes ++ more) r)) (sym line)
+      (ticket_reserved sum (segment_size_of mid) more r (view_at mid.site mid.buffer) (map segment_view mid.behind.items) ticket own.index (record { open_yet = refl; place = own.place; pointer = own.pointer; long = own.long; manifest = laid.manifest })))

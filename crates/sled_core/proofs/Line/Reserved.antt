@@ -1,6 +1,7 @@
 -- What a reservation comes to: it was refused and left the log as it was; or the record of an item that goes to no blob was laid out.
-use Rattle.std.proofs.Common.{◌≡◌, ◌∙◌, ◌++◌, ◌+◌, ◌-◌, ◌/◌, ◌<◌, ◌^◌, nat_lt, if◌then◌else◌, [], ap, sym, subst, refl, arith, inl, inr, ℕ, ℤ, pos, Bool, true, false, List, length, drop, Option, None, Some, is_some, Result, Ok, Err}
+use Rattle.std.proofs.Common.{◌≡◌, ◌∙◌, ◌+◌, ◌-◌, ◌/◌, nat_lt, if◌then◌else◌, ap, sym, subst, refl, arith, inl, inr, ℕ, ℤ, pos, Bool, true, false, List, length, Option, None, Some, Result, Ok, Err}
 use Rattle.std.specs.Option.{IsSome}
+use Rattle.std.specs.declared.io.Error.{Error as IoError}
 use Rattle.std.proofs.lemmas.Bool.Decides.{nat_tests}
 use Rattle.sled_codec.specs.declared.result.Error.{Error}
 use Rattle.sled_codec.specs.declared.result.Error.TheVariants as error
@@ -15,20 +16,14 @@ use Rattle.sled_core.specs.declared.iobuf.record.Head.{Head}
 use Rattle.sled_core.specs.declared.logger.Log.{Log}
 use Rattle.sled_core.specs.declared.reservation.Reservation.{Reservation}
 use Rattle.sled_core.specs.Causes.{HasRecordPlace, NoFault, ReserveAnswers, ReserveCauses}
-use Rattle.sled_core.specs.Begun.{SegmentView}
-use Rattle.sled_core.specs.Buffers.{SpellsBlob, item_as, placeholder_head, pointer_as, reserved_for}
-use Rattle.sled_core.specs.Fits.{FitsInline, body_length, in_blob_of, segment_size_of, IsLeastOpen, IsUnchanged, IsUsedUpFor, KeepsAll, current_of, device_of, fault_of, line_of, message_as, reserved_end, size_for, target_of}
-use Rattle.sled_core.specs.Manifests.{is_manifest, kind_for}
+use Rattle.sled_core.specs.Fits.{FitsInline, body_length, in_blob_of, segment_size_of, IsLeastOpen, IsUnchanged, IsUsedUpFor, KeepsAll, device_of, fault_of, message_as, target_of}
+use Rattle.sled_core.specs.Manifests.{kind_for}
 use Rattle.sled_core.specs.Logged.{in_log}
-use Rattle.sled_core.specs.Positions.{lid_at}
-use Rattle.sled_core.specs.Prepared.{IsPrepared, PrepareAnswers, text_of}
+use Rattle.sled_core.specs.Prepared.{PrepareAnswers}
 use Rattle.sled_core.specs.Reserves.{MadeAnswers, RefusalLeaves, ReservesAs, TouchesBlob, reserve_causes}
 use Rattle.sled_core.specs.Running.{IsStored}
-use Rattle.sled_core.specs.Tickets.{is_manifest_of}
-use Rattle.sled_core.specs.Turned.{ChangesSlots, IsTicketFor, reserved_now}
-use Rattle.sled_core.specs.Waiting.{at_last}
 use Rattle.sled_core.specs.declared.iobuf.Purpose.{Purpose}
-use Rattle.sled_core.proofs.Line.Prepares.{made_end, made_keeps, made_opens, made_others, made_position, made_seals, made_seen, made_ticket, seen_all}
+use Rattle.sled_core.proofs.Line.Prepares.{IsLaid, laid_message, made_behind, made_keeps, made_others, made_seen, made_ticket, seen_all}
 use Rattle.sled_core.proofs.Line.Unchanged.{unchanged_keeps, unchanged_same, unchanged_tickets}
 
 -- Why it was refused.
@@ -45,6 +40,10 @@ module _ (at : ReserveCauses) (used : Type 0) (least : ℤ → Type 0) where
   prepare_refused (error.NotReserved place) well some is = absurd is
   prepare_refused (error.CollectionNotFound name) well some is = absurd is
   prepare_refused (error.ReportableBug text) well some is = absurd is
+
+  -- which is no failure of the device,
+  pub never_io : (kept : Option IoError) (e : Error) → PrepareAnswers {T = Head} (Err e) used at.open_count least → (x : IoError) → e ≡ error.Io x → kept ≡ Some x
+  never_io kept e is x io = absurd (subst (λ (y : Error). PrepareAnswers {T = Head} (Err y) used at.open_count least) io is)
 
   -- where its blob couldn't be made
   pub blob_refused : (e : Error) → at.in_blob ≡ true → HasRecordPlace used at → at.old ≡ None → MadeAnswers {T = Unit {0}} (Err e) at.file at.new at.before at.after → ReserveAnswers {T = Reservation} (Err e) used least at
@@ -90,32 +89,29 @@ module _ {D C : Type 0} (trace : D → Trace) (faults : D → ℕ) (sum : List �
   device_same e false k place = same.config
   device_same e true k place = record { calls = λ m is. performs_nothing (making place (blob_bytes sum (code_of m) item)) _ _ trace_same; done = λ m is. tt; refused = spares_same e _ _ trace_same }
 
-  left_same : (e : Error) → RefusalLeaves {T = Reservation} sum (Err e) blob old new page n
-  left_same (error.Io e) = inl same
-  left_same error.OutOfMemory = inl same
-  left_same error.PlacesUsedUp = same
-  left_same (error.Held place) = same
-  left_same (error.Unsupported text) = same
-  left_same (error.Corruption place) = same
-  left_same (error.NotReserved place) = same
-  left_same (error.CollectionNotFound name) = same
-  left_same (error.ReportableBug text) = same
+  left_same : (e : Error) → ((x : IoError) → e ≡ error.Io x → fault_of old ≡ Some x) → RefusalLeaves {T = Reservation} sum (Err e) blob old new page n
+  left_same (error.Io e) kept = inl (kept e refl, same)
+  left_same error.OutOfMemory kept = inl same
+  left_same error.PlacesUsedUp kept = same
+  left_same (error.Held place) kept = same
+  left_same (error.Unsupported text) kept = same
+  left_same (error.Corruption place) kept = same
+  left_same (error.NotReserved place) kept = same
+  left_same (error.CollectionNotFound name) kept = same
+  left_same (error.ReportableBug text) kept = same
 
-  pub refused_same : (e : Error) → ReserveAnswers {T = Reservation} (Err e) (IsUsedUpFor old page n) (IsLeastOpen old) (reserve_causes trace faults kind page blob n old new) → ReservesAs trace faults sum (Err e) kind page item blob n old new
-  refused_same e answers = record {
+  pub refused_same : (e : Error) → ((x : IoError) → e ≡ error.Io x → fault_of old ≡ Some x) → ReserveAnswers {T = Reservation} (Err e) (IsUsedUpFor old page n) (IsLeastOpen old) (reserve_causes trace faults kind page blob n old new) → ReservesAs trace faults sum (Err e) kind page item blob n old new
+  refused_same e kept answers = record {
     ticket = tt;
     stored = tt;
     manifest = tt;
-    position = tt;
-    reserved = tt;
+    behind = tt;
     others = (unchanged_tickets old new same).awaits;
-    opens = tt;
-    seals = tt;
     answers = answers;
     device = device_same e blob _ _;
     keeps = unchanged_keeps old new same trace sum;
     seen = seen_all old new (unchanged_same old new same);
-    left = left_same e;
+    left = left_same e kept;
   }
 
 -- No failure is kept, where none was, and all that is kept besides is kept.
@@ -123,48 +119,22 @@ pub well_kept : {D C : Type 0} (trace : D → Trace) (faults : D → ℕ) (kind 
 well_kept {D = D} {C = C} trace faults kind page blob n old new none all = (none, all.fault ∙ none, ap (λ (x : RunningConfig D C). faults x.device) all.config)
 
 -- The record was laid out in a log that was made ready for it.
-module _ {D C : Type 0} (trace : D → Trace) (faults : D → ℕ) (sum : List ℕ → ℕ) (old mid new : Log D C) (kept : Purpose) (head : Head) (body : List ℕ) (ready : IsPrepared trace sum old mid kept head (length body))
-    (known : kind_for kept.log_kind kept.page (is_some kept.blob) (length body) ≡ Some kept.kind) (spells : SpellsBlob kept.blob body) (small : kept.page < 2 ^ 64)
-    (line : line_of new ≡ at_last (reserved_now (placeholder_head (text_of head) ++ body) (reserved_for kept (length (current_of mid).parts.bytes) head.len (length body) (sum (body ++ drop 4 (text_of head))))) (line_of mid))
-    (rest : ChangesSlots mid new) (accountant : new.accountant ≡ mid.accountant) (ends : reserved_end new ≡ (current_of mid).parts.site.place + length (current_of mid).parts.bytes + head.len + length body)
-    (ticket : Reservation) (own : IsTicketFor mid ticket kept.blob (head.len + length body)) (manifest : is_manifest_of ticket ≡ is_manifest kept.log_kind kept.page) where
-  abbrev len : ℕ
-  len = length body
-
-  abbrev w : SegmentView
-  w = current_of mid
-
-  abbrev text : List ℕ
-  text = text_of head
-
-  its_line : line_of new ≡ at_last (reserved_now (placeholder_head text ++ body) (reserved_for kept (length w.parts.bytes) (length text) len (sum (body ++ drop 4 text)))) (line_of mid)
-  its_line = line ∙ ap (λ n. at_last (reserved_now (placeholder_head text ++ body) (reserved_for kept (length w.parts.bytes) n len (sum (body ++ drop 4 text)))) (line_of mid)) ready.long
-
-  its_ticket : IsTicketFor mid ticket kept.blob (length text + len)
-  its_ticket = subst (IsTicketFor mid ticket kept.blob) (ap (λ n. n + len) ready.long) own
-
-  its_end : reserved_end new ≡ w.parts.site.place + length w.parts.bytes + length text + len
-  its_end = let long = ready.long in omega (arith, ends, long)
-
-  pub reserved_ok : (item : List ℕ) (blob : Bool) → in_log (message_as old kept.log_kind kept.page blob len item)
-      ≡ record { kind = kept.log_kind; page = kept.page; place = (target_of old kept.page len).place; pointer = pointer_as kept.blob (lid_at (target_of old kept.page len)); size = size_for old kept.page len; bytes = item_as kept.blob body }
-      → IsStored trace sum new (message_as old kept.log_kind kept.page blob len item) → ReserveAnswers (Ok ticket) (IsUsedUpFor old kept.page len) (IsLeastOpen old) (reserve_causes trace faults kept.log_kind kept.page blob len old new)
-      → TouchesBlob trace sum (Ok ticket) blob (kind_for kept.log_kind kept.page true 8) (pos (target_of old kept.page len).place) item old new → ReservesAs trace faults sum (Ok ticket) kept.log_kind kept.page item blob len old new
-  reserved_ok item blob is stored answers device = record {
-    ticket = made_ticket trace sum old mid new kept head body ready known spells small its_line rest accountant ticket its_ticket manifest (message_as old kept.log_kind kept.page blob len item) is;
-    stored = stored;
-    manifest = manifest;
-    position = made_position trace sum old mid new kept head body ready known spells small its_line rest accountant;
-    reserved = made_end trace sum old mid new kept head body ready known spells small its_line rest accountant its_end;
-    others = made_others trace sum old mid new kept head body ready known spells small its_line rest accountant;
-    opens = made_opens trace sum old mid new kept head body ready known spells small its_line rest accountant;
-    seals = made_seals trace sum old mid new kept head body ready known spells small its_line rest accountant;
-    answers = answers;
-    device = device;
-    keeps = made_keeps trace sum old mid new kept head body ready known spells small its_line rest accountant;
-    seen = made_seen trace sum old mid new kept head body ready known spells small its_line rest accountant;
-    left = tt;
-  }
+pub reserved_ok : {D C : Type 0} {trace : D → Trace} (faults : D → ℕ) {sum : List ℕ → ℕ} {old mid new : Log D C} {kept : Purpose} {head : Head} {body : List ℕ} {ticket : Reservation} (laid : IsLaid trace sum old mid new kept head body ticket) (item : List ℕ) (blob : Bool)
+    → in_log (message_as old kept.log_kind kept.page blob (length body) item) ≡ laid_message laid
+    → IsStored trace sum new (message_as old kept.log_kind kept.page blob (length body) item) → ReserveAnswers (Ok ticket) (IsUsedUpFor old kept.page (length body)) (IsLeastOpen old) (reserve_causes trace faults kept.log_kind kept.page blob (length body) old new)
+    → TouchesBlob trace sum (Ok ticket) blob (kind_for kept.log_kind kept.page true 8) (pos (target_of old kept.page (length body)).place) item old new → ReservesAs trace faults sum (Ok ticket) kept.log_kind kept.page item blob (length body) old new
+reserved_ok faults laid item blob is stored answers device = record {
+  ticket = made_ticket laid _ is;
+  stored = stored;
+  manifest = laid.manifest;
+  behind = made_behind laid;
+  others = made_others laid;
+  answers = answers;
+  device = device;
+  keeps = made_keeps laid;
+  seen = made_seen laid;
+  left = tt;
+}
 
 -- A reservation goes by how long the item is.
 

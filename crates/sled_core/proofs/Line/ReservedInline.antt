@@ -21,7 +21,7 @@ not_in_blob log n fits = let is : nat_lt (segment_size_of log / 4 - 20) (32 + n)
 
 -- Where it was refused, the log is as it was.
 pub refused_inline : {D C : Type 0} (sum : List ℕ → ℕ) (old new : Log D C) (page n : ℕ) (blob : Bool) → blob ≡ false → (e : Error) → RefusalLeaves {T = Reservation} sum (Err e) blob old new page n → IsUnchanged old new
-refused_inline sum old new page n blob is (error.Io x) left = elim left [ inl same ↦ same | inr made ↦ (let clash : false ≡ true = sym is ∙ made.0 in cc) ]
+refused_inline sum old new page n blob is (error.Io x) left = elim left [ inl same ↦ same.1 | inr made ↦ (let clash : false ≡ true = sym is ∙ made.0 in cc) ]
 refused_inline sum old new page n blob is error.OutOfMemory left = elim left [ inl same ↦ same | inr made ↦ (let clash : false ≡ true = sym is ∙ made.0 in cc) ]
 refused_inline sum old new page n blob is error.PlacesUsedUp left = left
 refused_inline sum old new page n blob is (error.Held at) left = left

@@ -1,5 +1,5 @@
 //! Messages whose items are in blobs: the blob is made before any room is claimed for the record.
-ghost use Rattle.std.specs.Prelude.{◌≡◌, ◌+◌, ◌++◌, ◌∷◌, [], ℕ, List, pos, true, false, Some, IfOk, OnOk, OnErr};
+ghost use Rattle.std.specs.Prelude.{◌≡◌, ℕ, List, pos, true, false, Some, IfOk, OnOk, OnErr};
 ghost use Rattle.sled_codec.specs.Kinds.{code_of};
 ghost use Rattle.sled_store.specs.Blobs.{UnlessFault, blob_bytes, making};
 ghost use Rattle.sled_store.specs.Device.{state_of};
@@ -7,12 +7,12 @@ ghost use Rattle.sled_store.specs.Script.{Performs, after_all};
 ghost use Rattle.sled_codec.specs.History.{Message};
 ghost use Rattle.sled_codec.specs.declared.serialization.message.LogKind.TheVariants.{Replace};
 ghost use Rattle.sled_core.specs.Causes.{RewriteAnswers};
-ghost use Rattle.sled_core.specs.Fits.{Awaits, IsLeastOpen, IsUnchanged, IsUsedUpFor, KeepsAll, device_of, fault_of, message_rewriting, next_place, open_for, open_places, position_behind, position_of, reserved_end, size_for, start_behind, start_of, target_of, waiting_behind, waiting_of};
+ghost use Rattle.sled_core.specs.Fits.{Awaits, IsLeastOpen, IsUnchanged, IsUsedUpFor, KeepsAll, device_of, fault_of, message_rewriting, next_place, open_for};
 ghost use Rattle.sled_core.specs.Keeps.{Preserves};
 ghost use Rattle.sled_core.specs.Manifests.{kind_for};
 ghost use Rattle.sled_core.specs.Tickets.{is_manifest_of};
 ghost use Rattle.sled_core.specs.Prepared.{next_here};
-ghost use Rattle.sled_core.specs.Reserves.{MadeAnswers, ReservesAs};
+ghost use Rattle.sled_core.specs.Reserves.{MadeAnswers, ReservesAs, StandsBehind};
 ghost use Rattle.sled_core.specs.Turned.{ChangesDevice};
 
 use crate::iobuf::Purpose;
@@ -47,11 +47,8 @@ impl<D: Device, C: Checksum> Log<D, C> {
     ) -> Result<Reservation>
         ensures ticket { IfOk result (λ ticket. (item : List ℕ) → Awaits self.new ticket (message_rewriting self.old pid blob item)) }
         ensures manifest { IfOk result (λ ticket. is_manifest_of ticket ≡ false) }
-        ensures position { OnOk result (position_of self.new ≡ position_behind self.old pid 8) }
-        ensures reserved { OnOk result (reserved_end self.new ≡ (target_of self.old pid 8).place + size_for self.old pid 8) }
+        ensures behind { OnOk result (StandsBehind C.sum_of self.old self.new pid 8) }
         ensures others { (ticket : Reservation) (m : Message) → Awaits self.old ticket m → Awaits self.new ticket m }
-        ensures opens { OnOk result (open_places self.new ≡ open_places self.old ++ (target_of self.old pid 8).place ∷ []) }
-        ensures seals { OnOk result ((waiting_of self.new ≡ waiting_behind C.sum_of self.old pid 8) × (start_of self.new ≡ start_behind self.old pid 8)) }
         ensures answers { RewriteAnswers result (fault_of self.old) (IsUsedUpFor self.old pid 8) (open_for self.old pid 8) (IsLeastOpen self.old) }
         ensures keeps { Preserves D.trace C.sum_of self.old self.new }
         ensures same { KeepsAll self.old self.new }

@@ -1,11 +1,11 @@
 //! Keeping a place for a message: with its item in its record, or in a blob that is made first.
-ghost use Rattle.std.specs.Prelude.{◌≡◌, ◌+◌, ◌++◌, ◌∷◌, [], length, pos, true, false, None, IfOk, OnOk};
+ghost use Rattle.std.specs.Prelude.{◌≡◌, length, pos, true, false, None, IfOk, OnOk};
 ghost use Rattle.sled_codec.specs.History.{Message};
 ghost use Rattle.sled_core.specs.Causes.{ReserveAnswers};
-ghost use Rattle.sled_core.specs.Fits.{Awaits, FitsInline, IsLeastOpen, IsUsedUpFor, body_length, fault_of, in_blob_of, message_for, open_places, position_behind, position_of, reserved_end, segment_size_of, size_for, start_behind, start_of, target_of, waiting_behind, waiting_of};
+ghost use Rattle.sled_core.specs.Fits.{Awaits, FitsInline, IsLeastOpen, IsUsedUpFor, body_length, fault_of, in_blob_of, message_for, segment_size_of, target_of};
 ghost use Rattle.sled_core.specs.Keeps.{KeepsSeen, Preserves};
 ghost use Rattle.sled_core.specs.Manifests.{is_manifest, kind_for};
-ghost use Rattle.sled_core.specs.Reserves.{RefusalLeaves, ReservesAs, TouchesBlob, reserve_causes};
+ghost use Rattle.sled_core.specs.Reserves.{RefusalLeaves, ReservesAs, StandsBehind, TouchesBlob, reserve_causes};
 ghost use Rattle.sled_core.specs.Running.{IsStored};
 ghost use Rattle.sled_core.specs.Tickets.{is_manifest_of};
 
@@ -48,15 +48,9 @@ impl<D: Device, C: Checksum> Log<D, C> {
         ensures ticket { IfOk result (λ ticket. Awaits self.new ticket (message_for self.old kind pid (T.short (T.meaning item.now)))) }
         ensures stored { let m = message_for self.old kind pid (T.short (T.meaning item.now)) in OnOk result (IsStored D.trace C.sum_of self.new m) }
         ensures manifest { IfOk result (λ ticket. is_manifest_of ticket ≡ is_manifest kind pid) }
-        ensures position { let n = body_length self.old (length (T.short (T.meaning item.now))) in
-            OnOk result (position_of self.new ≡ position_behind self.old pid n) }
-        ensures reserved { let n = body_length self.old (length (T.short (T.meaning item.now))) in
-            OnOk result (reserved_end self.new ≡ (target_of self.old pid n).place + size_for self.old pid n) }
+        ensures behind { let n = body_length self.old (length (T.short (T.meaning item.now))) in
+            OnOk result (StandsBehind C.sum_of self.old self.new pid n) }
         ensures others { (ticket : Reservation) (m : Message) → Awaits self.old ticket m → Awaits self.new ticket m }
-        ensures opens { let n = body_length self.old (length (T.short (T.meaning item.now))) in
-            OnOk result (open_places self.new ≡ open_places self.old ++ (target_of self.old pid n).place ∷ []) }
-        ensures seals { let n = body_length self.old (length (T.short (T.meaning item.now))) in
-            OnOk result ((waiting_of self.new ≡ waiting_behind C.sum_of self.old pid n) × (start_of self.new ≡ start_behind self.old pid n)) }
         ensures answers { let n = length (T.short (T.meaning item.now)) in
             ReserveAnswers result (IsUsedUpFor self.old pid (body_length self.old n)) (IsLeastOpen self.old)
             (reserve_causes D.trace D.faults kind pid (in_blob_of self.old n) (body_length self.old n) self.old self.new) }

@@ -1,5 +1,6 @@
 -- What it comes to where a ticket is ended: its message is completed, or given up.
-use Rattle.std.proofs.Common.{⊎_elim, ◌≡◌, ◌∙◌, ◌≢◌, ◌==◌, ◌&&◌, not, ◌<◌, ◌≤◌, ◌+◌, ℕ, ℤ, pos, Bool, true, false, if◌then◌else◌, List, [], ◌∷◌, ◌++◌, length, map, get_or, set, sym, ap, subst, arith, refl, Option, None, Some, Err, Vec, Global}
+use Rattle.std.proofs.Common.{⊎_elim, ◌≡◌, ◌∙◌, ◌≢◌, ◌==◌, ◌&&◌, not, ◌<◌, ◌≤◌, ◌+◌, ℕ, ℤ, pos, Bool, true, false, if◌then◌else◌, is_some, List, [], ◌∷◌, ◌++◌, length, map, get_or, set, sym, ap, subst, arith, refl, inl, inr, Option, None, Some, Result, Ok, Err, Vec, Global}
+use Rattle.std.specs.Prelude.{IsSome, OnErr}
 use Rattle.std.specs.List.{All, Contains, slice_get}
 use Rattle.std.specs.declared.io.Error.{Error as IoError}
 use Rattle.std.proofs.lemmas.Bool.{cases_eq, ne_eqb}
@@ -14,14 +15,15 @@ use Rattle.sled_codec.specs.declared.serialization.snapshot.PageState.{PageState
 use Rattle.sled_codec.specs.History.{Batch, Message, History, Completed, Step, ChangesPage}
 use Rattle.sled_codec.specs.PageTables.{IsTable, entry_of}
 use Rattle.sled_codec.specs.Snapshots.{Entry, Page, page_of}
+use Rattle.sled_store.specs.Script.{Performs, after_all}
 use Rattle.sled_store.proofs.Segments.Elements.{all_from_in}
 use Rattle.sled_core.specs.declared.logger.Log.{Log}
 use Rattle.sled_core.specs.declared.reservation.Reservation.{Reservation}
 use Rattle.sled_core.specs.Causes.{FaultAnswers}
-use Rattle.sled_core.specs.Fits.{Awaits, KeepsAll, KeepsBuffers, config_of, fault_of, open_places, pins_of, reserved_end, segment_size_of}
-use Rattle.sled_core.specs.Keeps.{SamePosition}
+use Rattle.sled_core.specs.Fits.{Awaits, KeepsBuffers, KeepsTickets, config_of, device_of, fault_of, noted_in, open_places, pins_of, position_of, reserved_end, segment_size_of}
+use Rattle.sled_core.specs.Keeps.{KeepsSeen, SamePosition}
 use Rattle.sled_core.specs.OpenPlaces.{TakesOut}
-use Rattle.sled_core.specs.OwnBlobs.{AreBeside, IsBeside, own_blob, own_in}
+use Rattle.sled_core.specs.OwnBlobs.{AreBeside, IsBeside, PreservesWithout, RemovedAnswers, RemovesBlob, own_blob, own_in, removing}
 use Rattle.sled_core.specs.Manifests.{is_manifest, manifest_page}
 use Rattle.sled_core.specs.Running.{Fits}
 use Rattle.sled_core.specs.Tickets.{is_manifest_of, place_of}
@@ -41,6 +43,7 @@ use Rattle.sled_log.specs.Refusals.{when}
 use Rattle.sled_log.specs.RunPhases.{AreRising, BeginsBatch, Does, HasBatch, HasTickets, IsOpenAt, IsSafe, IsTicketFor, Unstored, device_in, seen, seen_log, stands, traces}
 use Rattle.sled_log.specs.RunStates.{DeviceView, RunState, has_message, has_ticket, open_messages, opens, places_without, top, with_log}
 use Rattle.sled_log.specs.Runs.{IsStep, Acts}
+use Rattle.sled_log.specs.TicketActs.{RemoveActs, own_by}
 use Rattle.sled_log.specs.TicketSteps.{IsAnswerFor, spent}
 use Rattle.sled_log.proofs.Sessions.Endings.{one_there}
 use Rattle.sled_log.proofs.Sessions.MadeHistories.{came, join_still, made_completed}
@@ -91,6 +94,34 @@ no_manifest does.Link page changes = refl
 no_manifest does.Corrupted page changes = refl
 no_manifest does.Skip page changes = ⊎_elim (λ is. cc) (λ rest. ⊎_elim (λ is. cc) (λ is. cc) rest) changes
 
+-- What a call of a log says that gives a message up, and first removes the blob that the message has of its own.
+pub record GivesUp {T D C : Type 0} (view : D → DeviceView) (sum : List ℕ → ℕ) (result : Result T Error) (blob : Option ℤ) (old new : Log D C) : Type 0 where
+  pub answers : RemovedAnswers result blob (fault_of old) (fault_of new) (view (device_of old)).failures (view (device_of new)).failures
+  pub removes : RemovesBlob (traces view) result blob old new
+  pub keeps : PreservesWithout (traces view) sum blob old new
+  pub seen : KeepsSeen old new
+  pub buffers : KeepsBuffers old new
+  pub position : SamePosition old new
+  pub err : OnErr result (KeepsTickets old new × (IsSome (fault_of old) → new ≡ old))
+
+-- Where it fails the log keeps that failure.
+failure_kept : (e : IoError) (blob : Option ℤ) (old new : Option IoError) (before after : ℕ) → RemovedAnswers {T = Unit {0}} (Err (error.Io e)) blob old new before after → new ≡ Some e
+failure_kept e blob old new before after (inl kept) = kept.1
+failure_kept e blob old new before after (inr failed) = failed.2
+
+-- What it did to the device, where it removed the blob, if there was one,
+removal_done : (blob : Option ℤ) (fault : Option IoError) (old new : DeviceView) (place : ℤ) (pointer : DiskPtr) → (blob ≡ None → new ≡ old) → new.trace ≡ after_all (removing blob) old.trace → new.failures ≡ old.failures
+    → RemoveActs blob fault old (reply.Done place pointer) new
+removal_done None fault old new place pointer none done failures = none refl
+removal_done (Some p) fault old new place pointer none done failures = (done, failures)
+
+-- and where it failed.
+removal_failed : (blob : Option ℤ) (fault : Option IoError) (old new : DeviceView) (e : IoError) → (blob ≡ None → new ≡ old) → Performs (removing blob) old.trace new.trace
+    → RemovedAnswers {T = Unit {0}} (Err (error.Io e)) blob fault (Some e) old.failures new.failures → (IsSome fault → new ≡ old) → RemoveActs blob fault old (reply.Failed (error.Io e)) new
+removal_failed None fault old new e none calls cause same = none refl
+removal_failed (Some p) fault old new e none calls (inl kept) same = (calls, inr (ap (λ (d : DeviceView). d.trace) (same (ap is_some kept.0))), same)
+removal_failed (Some p) fault old new e none calls (inr failed) same = (calls, inl failed.3, same)
+
 module _ {D C : Type 0} (view : D → DeviceView) (sum : List ℕ → ℕ) (old : Opened D C) (k : Unstored) (at : IsOpenAt (traces view) sum old k) (n : ℕ) (m : Message) (there : slice_get k.tickets n ≡ Some (Some m)) where
   abbrev pub had : IsTicketFor (traces view) sum old k.history n m
   had = at.tickets.each n m there
@@ -116,10 +147,6 @@ module _ {D C : Type 0} (view : D → DeviceView) (sum : List ℕ → ℕ) (old 
     -- it is no manifest's, where its message changes a page
     pub is_message : m.page ≢ manifest_page → is_manifest_of ticket.reservation ≡ false
     is_message changes = (awaited old.log ticket.reservation m awaits_it).3 ∙ no_manifest m.kind m.page (had.joins changes).changes
-
-    -- it has no blob of its own, since no command makes one
-    pub no_blob : own_blob ticket.reservation ≡ None
-    no_blob = inline_alone old.log ticket.reservation m awaits_it had.plain
 
     -- no completed message lies at its place, so none has a blob of its own, and no other ticket's message has it
     nothing_there : m.page ≢ manifest_page → (x : Message) → Contains k.history.messages x → x.place ≡ m.place → ⊥
@@ -156,25 +183,39 @@ module _ {D C : Type 0} (view : D → DeviceView) (sum : List ℕ → ℕ) (old 
       abbrev pub now : Opened D C
       now = record { alloc = mid.alloc; log = log; guard = mid.guard; pages = pages; busy = mid.busy; batch = mid.batch; tickets = mid.tickets }
 
-      -- Where the log keeps a failure nothing but the ticket is another.
+      -- what is noted stays, so a manifest that is open begins its batch behind it
+      begun_still : noted_in log ≡ noted_in old.log → (x : Message) → BeginsBatch old.log x → BeginsBatch log x
+      begun_still noted x begun = record { kind = begun.kind; inline = begun.inline; apart = λ b known. begun.apart b (subst (λ (bs : List Batch). Contains bs b) noted known) }
+
+      -- as many pages are begun
+      as_many : map page_of pages.items ≡ map page_of old.pages.items → length pages.items ≡ length old.pages.items
+      as_many pages_are = sym (length-map pages.items page_of) ∙ ap length pages_are ∙ length-map old.pages.items page_of
+
+      -- Where the log keeps a failure its reservations stay open, and no item has to be safe from a crash.
+      kept_open : (e : IoError) → fault_of log ≡ Some e → KeepsTickets old.log log → noted_in log ≡ noted_in old.log → SamePosition old.log log → map page_of pages.items ≡ map page_of old.pages.items
+          → Fits (traces view) sum log k.history k.acknowledged k.floor at.unmarked → IsOpenAt (traces view) sum now (left k.history)
+      kept_open e fault kept noted position pages_are fits =
+          let failed : fault_of log ≡ None → ⊥ = λ none. let both : None ≡ Some e = sym none ∙ fault in cc in
+          record {
+            made = at.made;
+            unmarked = at.unmarked;
+            fits = fits;
+            zeros = at.zeros;
+            pinned = subst (λ p. 0 < p) (sym position.pins) at.pinned;
+            table = subst (λ (ps : List Page). IsTable ps k.history top) (sym pages_are) at.table;
+            tickets = spent_tickets (traces view) sum old now k.history k.history k.tickets n m there at.tickets takes.tickets busy batch position.reserved
+                (λ t x awaits apart. kept.awaits t.reservation x awaits) (λ j x apart open_yet none. absurd (failed none)) (λ x ne may. may)
+                (λ x of ne begun. begun_still noted x begun) (λ none. absurd (failed none));
+            ends = subst (λ e. All (λ x. x.place + x.size ≤ e) k.history.messages) (sym position.reserved) at.ends;
+          }
+
+      -- Where it kept one before nothing but the ticket is another.
       module _ (is : log ≡ old.log) (pages_are : map page_of pages.items ≡ map page_of old.pages.items) (e : IoError) (fault : fault_of old.log ≡ Some e) where
         pub failed_open : IsOpenAt (traces view) sum now (left k.history)
-        failed_open = record {
-          made = at.made;
-          unmarked = at.unmarked;
-          fits = subst (λ (x : Log D C). Fits (traces view) sum x k.history k.acknowledged k.floor at.unmarked) (sym is) at.fits;
-          zeros = at.zeros;
-          pinned = subst (λ (x : Log D C). 0 < pins_of x) (sym is) at.pinned;
-          table = subst (λ (ps : List Page). IsTable ps k.history top) (sym pages_are) at.table;
-          tickets = spent_tickets (traces view) sum old now k.history k.history k.tickets n m there at.tickets takes.tickets busy batch (ap reserved_end is)
-              (λ t x awaits apart. subst (λ (y : Log D C). Awaits y t.reservation x) (sym is) awaits) (λ j x apart open_yet. subst (λ (y : Log D C). IsSafe (traces view) sum y x) (sym is) open_yet.stored) (λ x ne may. may)
-              (λ x of ne begun. subst (λ (y : Log D C). BeginsBatch y x) (sym is) begun)
-              (λ none. absurd (let both : None ≡ Some e = sym none ∙ ap fault_of is ∙ fault in cc));
-          ends = subst (λ (x : Log D C). All (λ y. y.place + y.size ≤ reserved_end x) k.history.messages) (sym is) at.ends;
-        }
-
-        begun : length pages.items ≡ length old.pages.items
-        begun = sym (length-map pages.items page_of) ∙ ap length pages_are ∙ length-map old.pages.items page_of
+        failed_open = kept_open e (ap fault_of is ∙ fault)
+            (record { awaits = λ t x awaits. subst (λ (y : Log D C). Awaits y t x) (sym is) awaits; opens = ap open_places is }) (ap noted_in is)
+            (record { position = ap position_of is; reserved = ap reserved_end is; pins = ap pins_of is; size = ap segment_size_of is }) pages_are
+            (subst (λ (x : Log D C). Fits (traces view) sum x k.history k.acknowledged k.floor at.unmarked) (sym is) at.fits)
 
         pub failed_leads : stands view (Open now) (left k.history) ≡ with_log (stands view (Open old) k) (view (config_of log).device) (Some (spent (seen old k.tickets) n (opens (seen old k.tickets)) (length old.pages.items)))
         failed_leads i = record {
@@ -182,17 +223,55 @@ module _ {D C : Type 0} (view : D → DeviceView) (sum : List ℕ → ℕ) (old 
           history = k.history;
           acknowledged = k.acknowledged;
           floor = k.floor;
-          log = Some (seen_log (is i) (begun i) (set k.tickets n None));
+          log = Some (seen_log (is i) (as_many pages_are i) (set k.tickets n None));
         }
 
-      pub abort_fails : (T : Type 0) (e : Error) → FaultAnswers {T = T} (Err e) (fault_of old.log) → log ≡ old.log → map page_of pages.items ≡ map page_of old.pages.items
+      -- The blob that its reservation made is that of its message.
+      removes_own : (r : Reply) (fault : Option IoError) (before after : DeviceView) → RemoveActs (own_blob ticket.reservation) fault before r after → RemoveActs (own_by (slice_get k.tickets n)) fault before r after
+      removes_own r fault before after acts = subst (λ (o : Option ℤ). RemoveActs o fault before r after) (sym (ap own_by there ∙ own_is)) acts
+
+      -- Its message isn't given up where the log kept a failure, or the device fails to remove its blob, which the log keeps now: the reservation stays open.
+      pub abort_fails : (T : Type 0) (e : Error) → GivesUp {T = T} view sum (Err e) (own_blob ticket.reservation) old.log log → map page_of pages.items ≡ map page_of old.pages.items
           → Does view sum (Open old) (command.Abort n) (Open now, reply.Failed e) k
-      abort_fails T (error.Io x) answers is pages_are = record {
-        not_refused = refl;
-        acts = ap (λ (y : Log D C). view (config_of y).device) is;
-        step = λ own. (left k.history, (answers, failed_leads is pages_are x answers), failed_open is pages_are x answers);
-      }
-      abort_fails T _ answers is pages_are = absurd answers
+      abort_fails T (error.Io x) did pages_are =
+          let before : DeviceView = view (config_of old.log).device in
+          let after : DeviceView = view (config_of log).device in
+          let fault : fault_of log ≡ Some x = failure_kept x (own_blob ticket.reservation) (fault_of old.log) (fault_of log) before.failures after.failures did.answers in
+          let cause : RemovedAnswers {T = Unit {0}} (Err (error.Io x)) (own_blob ticket.reservation) (fault_of old.log) (Some x) before.failures after.failures =
+          subst (λ (o : Option IoError). RemovedAnswers {T = Unit {0}} (Err (error.Io x)) (own_blob ticket.reservation) (fault_of old.log) o before.failures after.failures) fault did.answers in
+          record {
+            not_refused = refl;
+            acts = removes_own (reply.Failed (error.Io x)) (fault_of old.log) before after (removal_failed (own_blob ticket.reservation) (fault_of old.log) before after x
+                (λ none. ap (λ c. view c.device) (did.removes.none none)) did.removes.calls cause (λ some. ap (λ (y : Log D C). view (config_of y).device) (did.err.1 some)));
+            step = λ own. (
+              left k.history,
+              record {
+                message = m;
+                reserved = there;
+                cause = subst (λ (o : Option ℤ). RemovedAnswers {T = Unit {0}} (Err (error.Io x)) o (fault_of old.log) (Some x) before.failures after.failures) (sym own_is) cause;
+                leads = λ i. record {
+                  device = after;
+                  history = k.history;
+                  acknowledged = k.acknowledged;
+                  floor = k.floor;
+                  log = Some (record {
+                    position = did.position.position i;
+                    synced = did.seen.synced i;
+                    noted = did.seen.noted i;
+                    end = did.position.reserved i;
+                    waiting = did.buffers.waiting i;
+                    start = did.buffers.start i;
+                    begun = as_many pages_are i;
+                    fault = fault i;
+                    outstanding = did.err.0.opens i;
+                    tickets = set k.tickets n None;
+                  });
+                };
+              },
+              kept_open x fault did.err.0 did.seen.noted did.position pages_are (did.keeps.fits k.history k.acknowledged k.floor at.unmarked at.fits beside_history),
+            );
+          }
+      abort_fails T _ did pages_are = absurd did.answers
 
       pub complete_fails : (T : Type 0) (e : Error) → FaultAnswers {T = T} (Err e) (fault_of old.log) → log ≡ old.log → map page_of pages.items ≡ map page_of old.pages.items
           → Does view sum (Open old) (command.Complete n) (Open now, reply.Failed e) k
@@ -227,14 +306,11 @@ module _ {D C : Type 0} (view : D → DeviceView) (sum : List ℕ → ℕ) (old 
           ends = subst (λ e. All (λ x. x.place + x.size ≤ e) H'.messages) (sym position.reserved) ends;
         }
 
-      -- A message is, and all else of the log stays.
-      module _ (same : KeepsAll old.log log) (position : SamePosition old.log log) (buffers : KeepsBuffers old.log log) (fault : fault_of old.log ≡ None)
+      -- A message is, and all else of the log stays as it is seen.
+      module _ (same : KeepsSeen old.log log) (kept : fault_of log ≡ fault_of old.log) (position : SamePosition old.log log) (buffers : KeepsBuffers old.log log) (fault : fault_of old.log ≡ None)
           (others : (t : Reservation) (x : Message) → Awaits old.log t x → place_of t ≢ place_of ticket.reservation → Awaits log t x)
           (safe : (j : ℕ) (x : Message) → (x.place ≡ m.place → ⊥) → IsTicketFor (traces view) sum old k.history j x → IsSafe (traces view) sum log x)
           (opens_left : TakesOut m.place (open_places old.log) (open_places log)) where
-        device : view (config_of log).device ≡ view (config_of old.log).device
-        device = ap (λ c. view c.device) same.config
-
         ended_view : (count : ℕ) → length pages.items ≡ count → seen now (set k.tickets n None) ≡ spent (seen old k.tickets) n (places_without m.place (opens (seen old k.tickets))) count
         ended_view count is i = record {
           position = position.position i;
@@ -244,24 +320,21 @@ module _ {D C : Type 0} (view : D → DeviceView) (sum : List ℕ → ℕ) (old 
           waiting = buffers.waiting i;
           start = buffers.start i;
           begun = is i;
-          fault = same.fault i;
+          fault = kept i;
           outstanding = outstanding same.pins position fault others safe opens_left i;
           tickets = set k.tickets n None;
         }
 
-        -- what is noted stays, so a manifest that is open begins its batch behind it
-        begun_still : (x : Message) → x.page ≡ manifest_page → (m.page ≡ x.page → ⊥) → BeginsBatch old.log x → BeginsBatch log x
-        begun_still x of ne begun = record { kind = begun.kind; inline = begun.inline; apart = λ b known. begun.apart b (subst (λ (bs : List Batch). Contains bs b) same.noted known) }
-
         -- Its message is given up.
         pub aborts : (place : ℤ) (pointer : DiskPtr) → IsAnswerFor m place pointer → map page_of pages.items ≡ map page_of old.pages.items
-            → Fits (traces view) sum log k.history k.acknowledged k.floor at.unmarked → Does view sum (Open old) (command.Abort n) (Open now, reply.Done place pointer) k
-        aborts place pointer answer pages_are fits =
-            let begun : length pages.items ≡ length old.pages.items = sym (length-map pages.items page_of) ∙ ap length pages_are ∙ length-map old.pages.items page_of in
-            let seen_is = ended_view (length old.pages.items) begun in
+            → GivesUp {T = ℤ × DiskPtr} view sum (Ok (place, pointer)) (own_blob ticket.reservation) old.log log → Does view sum (Open old) (command.Abort n) (Open now, reply.Done place pointer) k
+        aborts place pointer answer pages_are did =
+            let seen_is = ended_view (length old.pages.items) (as_many pages_are) in
             record {
               not_refused = refl;
-              acts = device;
+              acts = removes_own (reply.Done place pointer) (fault_of old.log) (view (config_of old.log).device) (view (config_of log).device)
+                  (removal_done (own_blob ticket.reservation) (fault_of old.log) (view (config_of old.log).device) (view (config_of log).device) place pointer
+                  (λ none. ap (λ c. view c.device) (did.removes.none none)) did.removes.done did.answers.2);
               step = λ own. (
                 left k.history,
                 record {
@@ -271,15 +344,16 @@ module _ {D C : Type 0} (view : D → DeviceView) (sum : List ℕ → ℕ) (old 
                   answer = answer;
                   leads = λ i. record { device = view (config_of log).device; history = k.history; acknowledged = k.acknowledged; floor = k.floor; log = Some (seen_is i) };
                 },
-                ended_open same.pins position fault others safe opens_left k.history at.unmarked at.made fits (subst (λ (ps : List Page). IsTable ps k.history top) (sym pages_are) at.table) (λ x ne may. may) begun_still at.ends,
+                ended_open same.pins position fault others safe opens_left k.history at.unmarked at.made (did.keeps.fits k.history k.acknowledged k.floor at.unmarked at.fits beside_history)
+                    (subst (λ (ps : List Page). IsTable ps k.history top) (sym pages_are) at.table) (λ x ne may. may) (λ x of ne begun. begun_still same.noted x begun) at.ends,
               );
             }
 
         -- It comes to the history.
-        pub completes : m.page ≢ manifest_page → (place : ℤ) (pointer : DiskPtr) → IsAnswerFor m place pointer → (H' : History) → Step k.history (Completed m) H'
+        pub completes : config_of log ≡ config_of old.log → m.page ≢ manifest_page → (place : ℤ) (pointer : DiskPtr) → IsAnswerFor m place pointer → (H' : History) → Step k.history (Completed m) H'
             → Fits (traces view) sum log H' k.acknowledged k.floor (m ∷ at.unmarked) → (e : Entry) → e ≡ entry_of m
             → map page_of pages.items ≡ applied_to (map page_of old.pages.items) ticket.kind ticket.page e → Does view sum (Open old) (command.Complete n) (Open now, reply.Done place pointer) k
-        completes changes place pointer answer H' step fits e e_is applied =
+        completes config changes place pointer answer H' step fits e e_is applied =
             let known : List Page = map page_of old.pages.items in
             let entry : map page_of pages.items ≡ applied_to known m.kind m.page (entry_of m) = applied ∙ (λ i. applied_to known (of_kind i) (of_page i) (e_is i)) in
             let may : MayJoin k.history m = had.joins changes in
@@ -294,7 +368,7 @@ module _ {D C : Type 0} (view : D → DeviceView) (sum : List ℕ → ℕ) (old 
             let seen_is = ended_view (if m.page == length old.pages.items then length old.pages.items + 1 else length old.pages.items) begun in
             record {
               not_refused = refl;
-              acts = device;
+              acts = ap (λ c. view c.device) config;
               step = λ own. (
                 left H',
                 record {
@@ -306,7 +380,7 @@ module _ {D C : Type 0} (view : D → DeviceView) (sum : List ℕ → ℕ) (old 
                   step = step;
                   leads = λ i. record { device = view (config_of log).device; history = H'; acknowledged = k.acknowledged; floor = k.floor; log = Some (seen_is i) };
                 },
-                ended_open same.pins position fault others safe opens_left H' (m ∷ at.unmarked) made fits table (λ x ne next. join_still k.history H' m x may step ne next) begun_still
+                ended_open same.pins position fault others safe opens_left H' (m ∷ at.unmarked) made fits table (λ x ne next. join_still k.history H' m x may step ne next) (λ x of ne begun. begun_still same.noted x begun)
                     (all_from_in (λ x. x.place + x.size ≤ reserved_end old.log) H'.messages (λ x among. ⊎_elim
                     (λ is. subst (λ (z : Message). z.place + z.size ≤ reserved_end old.log) is had.ends)
                     (λ was. All-contains (λ z. z.place + z.size ≤ reserved_end old.log) k.history.messages x at.ends was) (came k.history H' m step x among))),
@@ -326,7 +400,6 @@ module _ {D C : Type 0} (view : D → DeviceView) (sum : List ℕ → ℕ) (old 
       page = had.page;
       awaits = subst (λ (x : Log D C). Awaits x had.ticket.reservation m) (sym kept.log) had.awaits;
       stored = subst (λ (x : Log D C). IsSafe (traces view) sum x m) (sym kept.log) had.stored;
-      plain = had.plain;
       joins = had.joins;
       begins_batch = λ is. subst (λ (x : Log D C). BeginsBatch x m) (sym kept.log) (had.begins_batch is);
       begins = subst (λ (x : Log D C). m.place + 1 < reserved_end x) (sym kept.log) had.begins;

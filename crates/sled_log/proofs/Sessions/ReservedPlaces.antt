@@ -8,16 +8,17 @@ use Rattle.sled_store.specs.SegmentStates.{Machine, next_slot}
 use Rattle.sled_core.specs.Begun.{SegmentView, begin_of, segment_view, view_at}
 use Rattle.sled_core.specs.Buffers.{most_open}
 use Rattle.sled_core.specs.declared.logger.Log.{Log}
-use Rattle.sled_core.specs.Fits.{FitsInline, IsLeastOpen, IsUsedUpFor, current_begin, current_of, fault_of, is_moved, line_of, next_place, open_for, open_of, open_places, position_of, reserved_end, segment_size_of, start_behind, start_of, waiting_behind, waiting_of}
+use Rattle.sled_core.specs.Fits.{FitsInline, IsLeastOpen, IsUsedUpFor, current_begin, current_of, fault_of, in_blob, is_moved, line_of, next_place, open_for, open_of, open_places, position_of, reserved_end, segment_size_of, start_behind, start_of, waiting_behind, waiting_of}
 use Rattle.sled_core.specs.OpenPlaces.{places_from}
 use Rattle.sled_core.specs.Positions.{Position, is_short, next_segment_at, position_in}
+use Rattle.sled_core.specs.Prepared.{reserved_ready}
 use Rattle.sled_core.specs.Waiting.{at_last, closed_now, spans, unwritten}
 use Rattle.sled_core.proofs.Line.Entered.{filled_last}
 use Rattle.sled_core.proofs.Line.Facts.{current_facts}
 use Rattle.sled_core.proofs.Line.Targets.{LiesHere, LiesNext, lies}
 use Rattle.sled_core.proofs.PublicLaws.{current_count, current_least, shows_behind, target_above as put_above}
 use Rattle.sled_log.specs.RunPhases.{seen_log}
-use Rattle.sled_log.specs.RunStates.{EndsInReach, LogView, current_span, is_behind, next_start, start_with, target_in, waiting_with}
+use Rattle.sled_log.specs.RunStates.{EndsInReach, LogView, body_in, current_span, is_behind, next_start, start_with, target_in, waiting_with}
 use Rattle.sled_log.specs.TicketSteps.{IsFullOfOpen, opens_beside}
 
 -- a test that isn't one answer is the other
@@ -28,6 +29,13 @@ only_true false other = absurd (other refl)
 only_false : (b : Bool) → (b ≡ true → ⊥) → b ≡ false
 only_false true other = absurd (other refl)
 only_false false other = refl
+
+-- the body of a record is the item or the place of its blob: it fits inline in either case
+pub body_fits : {D C : Type 0} (log : Log D C) (n : ℕ) → FitsInline (segment_size_of log) (body_in (segment_size_of log) n)
+body_fits log n = by (in_blob (segment_size_of log) n) refl where
+  by : (b : Bool) → in_blob (segment_size_of log) n ≡ b → FitsInline (segment_size_of log) (if b then 8 else n)
+  by true is = let least = log.config.config.least in omega (arith, least)
+  by false is = grind (arith, nat_tests, is)
 
 -- the next place lies behind all bytes
 position_past : (size : ℕ) (v : SegmentView) (m : Machine) → length v.parts.bytes ≤ size → v.parts.site.place + length v.parts.bytes ≤ (position_in size v m).place
@@ -126,6 +134,17 @@ module _ {D C : Type 0} (log : Log D C) (begun : ℕ) (tickets : List (Option Me
     by false is =
         ap (λ (b : Bool). spans (if b then unwritten (at_last (closed_now sum size) (line_of log)) else waiting_of log)) is
         ∙ sym (ap (λ (b : Bool). if b then spans (waiting_of log) ++ current_span l q ∷ [] else spans (waiting_of log)) is)
+
+  -- and where what was reserved ends, once the log is ready for the record
+  pub end_seen : reserved_ready log page n ≡ (if is_behind l q then q.place else reserved_end log)
+  end_seen = ap (λ (b : Bool). if b then q.place else reserved_end log) moved_seen
+
+  -- which is never further in front
+  pub end_grows : reserved_end log ≤ reserved_ready log page n
+  end_grows = by (is_moved log page n) where
+    by : (o : Bool) → reserved_end log ≤ (if o then q.place else reserved_end log)
+    by true = reserved_below
+    by false = omega arith
 
   -- It needs no further segment, or that ends in reach, exactly where the segment of the record does.
   pub in_reach : (IsUsedUpFor log page n → ⊥) → EndsInReach size q

@@ -207,7 +207,7 @@ module _ {D C : Type 0} (view : D → DeviceView) (sum : List ℕ → ℕ) (from
 
 -- A command that is carried out is told, or it was refused.
 module _ {D C : Type 0} (view : D → DeviceView) (sum : List ℕ → ℕ) (from : Phase D C) (c : Command) where
-  pub answered : (to : Phase D C) (came : Reply) → CarriesOut view sum from c (to, came) → ((k : Unstored) → IsAt (traces view) sum from k → None ≡ refusal_for (size_of from) (stands view from k) c)
+  pub answered : (to : Phase D C) (came : Reply) → CarriesOut view sum from c (to, came) → ((k : Unstored) → IsAt (traces view) sum from k → None ≡ refusal_for (stands view from k) c)
       → AnswersIn view sum from c (to, told (device_in view to).is_stopped came)
   answered to came carries free a stands_in =
       let k : Unstored = stands_in.0 in
@@ -227,7 +227,7 @@ module _ {D C : Type 0} (view : D → DeviceView) (sum : List ℕ → ℕ) (from
       told_reason true r = refl
       told_reason false r = refl
 
-  pub refused : (w : Refusal) → ((k : Unstored) → IsAt (traces view) sum from k → Some w ≡ refusal_for (size_of from) (stands view from k) c) → AnswersIn view sum from c (from, reply.Refused w)
+  pub refused : (w : Refusal) → ((k : Unstored) → IsAt (traces view) sum from k → Some w ≡ refusal_for (stands view from k) c) → AnswersIn view sum from c (from, reply.Refused w)
   refused w because a stands_in =
       let k : Unstored = stands_in.0 in
       subst (λ (x : RunState). Carries sum (size_of from) x c (reply.Refused w) (StandsIn view sum from)) (sym stands_in.1) (record {

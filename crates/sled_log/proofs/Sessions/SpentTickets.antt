@@ -162,7 +162,6 @@ module _ {D C : Type 0} (trace : D → Trace) (sum : List ℕ → ℕ) (old new 
         page = had.page;
         awaits = still had.ticket x had.awaits apart;
         stored = safe j x apart had;
-        plain = had.plain;
         joins = λ changes. joins x (page_apart j x at) (had.joins changes);
         begins_batch = λ is. begun x is (page_apart j x at) (had.begins_batch is);
         begins = subst (λ e. x.place + 1 < e) (sym reserved) had.begins;

@@ -397,7 +397,6 @@ module _ {D C : Type 0} (trace : D → Trace) (sum : List ℕ → ℕ) (opened :
     page = is.page;
     awaits = tickets.awaits is.ticket.reservation m is.awaits;
     stored = safe_on trace sum opened.log log m keeps.goes_on is.stored;
-    plain = is.plain;
     joins = is.joins;
     begins_batch = λ batch. let begun = is.begins_batch batch in
         record { kind = begun.kind; inline = begun.inline; apart = λ b known. begun.apart b (whole_not (synced_end log) (noted_in opened.log) b (subst (λ (bs : List Batch). Contains bs b) keeps.noted known)).0 };

@@ -15,6 +15,8 @@ pub enum Command {
     Link(PageId, Vec<u8>),
     /// Keeps a place for a message that gives a page back that is present.
     Free(PageId),
+    /// Keeps a place for a message that replaces a page by what it is, where it is one item in a blob: the item stays there.
+    Rewrite(PageId),
     /// Begins a batch: keeps a place for its manifest. What is reserved from then on, up to its end, is of the batch.
     BeginBatch,
     /// Ends the batch with the greatest place that was reserved.
@@ -88,8 +90,8 @@ pub enum Refusal {
     Open,
     /// No log is open.
     Closed,
-    /// A `Replace` of a page above the next one, a `Read` of a page that isn't begun, or a `Link` or `Free` of one that isn't
-    /// present.
+    /// A `Replace` of a page above the next one, a `Read` of a page that isn't begun, a `Link` or `Free` of one that isn't
+    /// present, or a `Rewrite` of one that isn't a single item in a blob.
     Page,
     /// The page has an open ticket, and the command is no `Read`.
     Busy,
@@ -101,6 +103,4 @@ pub enum Refusal {
     Ticket,
     /// There are no more buffers that can be written.
     Index,
-    /// The item is too long for a record.
-    Item,
 }

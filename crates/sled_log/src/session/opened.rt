@@ -1,15 +1,16 @@
 //! A log that is open, with the tickets of its reservations and the table of its pages.
-ghost use Rattle.std.specs.Prelude.{None, ◌≡◌, if◌then◌else◌, length};
-ghost use Rattle.sled_codec.specs.Spelling.{short_bytes};
-ghost use Rattle.sled_core.specs.Fits.{config_of, segment_size_of};
+ghost use Rattle.std.specs.Prelude.{ℕ, None, Vec, ◌≡◌, if◌then◌else◌, length};
+ghost use Rattle.std.specs.declared.alloc.Global.{Global};
+ghost use Rattle.sled_codec.specs.Snapshots.{page_of};
+ghost use Rattle.sled_core.specs.Fits.{config_of};
+ghost use Rattle.sled_log.specs.Reservations.{blob_shown};
 ghost use Rattle.sled_log.specs.declared.session.command.Command.TheVariants as told;
-ghost use Rattle.sled_log.specs.declared.session.command.Refusal.TheVariants as why;
-ghost use Rattle.sled_log.specs.Refusals.{is_busy, is_too_long, refused_open, when};
-ghost use Rattle.sled_log.specs.RunStates.{is_present, page_now};
+ghost use Rattle.sled_log.specs.Refusals.{is_busy, refused_open};
+ghost use Rattle.sled_log.specs.RunStates.{is_present, one_blob, page_now};
 ghost use Rattle.sled_log.specs.RunPhases.{IsOpenAt, Unstored, seen};
 
 use crate::session::command::{Command, Refusal};
-use sled_codec::result::PageId;
+use sled_codec::result::{BlobPointer, DiskPtr, PageId};
 use sled_codec::serialization::message::BATCH_MANIFEST_PID;
 use sled_codec::serialization::snapshot::PageState;
 use sled_codec::serialization::{Checksum, LogKind};
@@ -47,13 +48,14 @@ impl<D: CrashDevice, C: Checksum> Opened<D, C> {
     /// Why a command is refused while the log is open, if it is.
     pub(crate) fn refusal(&self, command: &Command) -> Option<Refusal>
         ensures why { (k : Unstored) → IsOpenAt D.trace C.sum_of self.now k
-            → result ≡ refused_open (segment_size_of self.now.log) k.history (seen self.now k.tickets) command.now }
+            → result ≡ refused_open k.history (seen self.now k.tickets) command.now }
     {
         match command {
             Command::Open => Some(Refusal::Open),
-            Command::Replace(page, item) => self.refuse_replace(*page, item),
-            Command::Link(page, item) => self.refuse_link(*page, item),
+            Command::Replace(page, _) => self.refuse_replace(*page),
+            Command::Link(page, _) => self.refuse_link(*page),
             Command::Free(page) => self.refuse_free(*page),
+            Command::Rewrite(page) => self.refuse_rewrite(*page),
             Command::BeginBatch => self.refuse_begin(),
             Command::EndBatch => self.refuse_end(),
             Command::Complete(t) => self.refuse_message(*t),
@@ -68,9 +70,9 @@ impl<D: CrashDevice, C: Checksum> Opened<D, C> {
         }
     }
 
-    fn refuse_replace(&self, page: PageId, item: &Vec<u8>) -> Option<Refusal>
-        ensures why { (k : Unstored) → IsOpenAt D.trace C.sum_of self.now k
-            → result ≡ refused_open (segment_size_of self.now.log) k.history (seen self.now k.tickets) (told.Replace page item.now) }
+    fn refuse_replace(&self, page: PageId) -> Option<Refusal>
+        ensures why { (k : Unstored) (item : Vec ℕ Global) → IsOpenAt D.trace C.sum_of self.now k
+            → result ≡ refused_open k.history (seen self.now k.tickets) (told.Replace page item) }
     {
         if page > self.pages.len() as u64 {
             return Some(Refusal::Page);
@@ -78,12 +80,12 @@ impl<D: CrashDevice, C: Checksum> Opened<D, C> {
         if self.is_busy(page) {
             return Some(Refusal::Busy);
         }
-        self.refuse_item(item)
+        None
     }
 
-    fn refuse_link(&self, page: PageId, item: &Vec<u8>) -> Option<Refusal>
-        ensures why { (k : Unstored) → IsOpenAt D.trace C.sum_of self.now k
-            → result ≡ refused_open (segment_size_of self.now.log) k.history (seen self.now k.tickets) (told.Link page item.now) }
+    fn refuse_link(&self, page: PageId) -> Option<Refusal>
+        ensures why { (k : Unstored) (item : Vec ℕ Global) → IsOpenAt D.trace C.sum_of self.now k
+            → result ≡ refused_open k.history (seen self.now k.tickets) (told.Link page item) }
     {
         let entries = self.entries_of(page);
         if entries == 0 {
@@ -95,12 +97,12 @@ impl<D: CrashDevice, C: Checksum> Opened<D, C> {
         if entries >= MOST_ENTRIES {
             return Some(Refusal::Fragments);
         }
-        self.refuse_item(item)
+        None
     }
 
     fn refuse_free(&self, page: PageId) -> Option<Refusal>
         ensures why { (k : Unstored) → IsOpenAt D.trace C.sum_of self.now k
-            → result ≡ refused_open (segment_size_of self.now.log) k.history (seen self.now k.tickets) (told.Free page) }
+            → result ≡ refused_open k.history (seen self.now k.tickets) (told.Free page) }
     {
         if self.entries_of(page) == 0 {
             return Some(Refusal::Page);
@@ -111,19 +113,22 @@ impl<D: CrashDevice, C: Checksum> Opened<D, C> {
         None
     }
 
-    fn refuse_item(&self, item: &Vec<u8>) -> Option<Refusal>
-        ensures { result ≡ when (is_too_long (segment_size_of self.now.log) (length (short_bytes item.now.items))) why.Item None }
+    fn refuse_rewrite(&self, page: PageId) -> Option<Refusal>
+        ensures why { (k : Unstored) → IsOpenAt D.trace C.sum_of self.now k
+            → result ≡ refused_open k.history (seen self.now k.tickets) (told.Rewrite page) }
     {
-        if self.log.fits_inline(item) {
-            None
-        } else {
-            Some(Refusal::Item)
+        if self.blob_of(page).is_none() {
+            return Some(Refusal::Page);
         }
+        if self.is_busy(page) {
+            return Some(Refusal::Busy);
+        }
+        None
     }
 
     fn refuse_begin(&self) -> Option<Refusal>
         ensures why { (k : Unstored) → IsOpenAt D.trace C.sum_of self.now k
-            → result ≡ refused_open (segment_size_of self.now.log) k.history (seen self.now k.tickets) told.BeginBatch }
+            → result ≡ refused_open k.history (seen self.now k.tickets) told.BeginBatch }
     {
         if self.batch.is_some() {
             Some(Refusal::Batch)
@@ -134,7 +139,7 @@ impl<D: CrashDevice, C: Checksum> Opened<D, C> {
 
     fn refuse_end(&self) -> Option<Refusal>
         ensures why { (k : Unstored) → IsOpenAt D.trace C.sum_of self.now k
-            → result ≡ refused_open (segment_size_of self.now.log) k.history (seen self.now k.tickets) told.EndBatch }
+            → result ≡ refused_open k.history (seen self.now k.tickets) told.EndBatch }
     {
         if self.batch.is_some() {
             None
@@ -146,7 +151,7 @@ impl<D: CrashDevice, C: Checksum> Opened<D, C> {
     /// Refuses a ticket that isn't open, and that of a manifest.
     fn refuse_message(&self, number: usize) -> Option<Refusal>
         ensures why { (k : Unstored) → IsOpenAt D.trace C.sum_of self.now k
-            → result ≡ refused_open (segment_size_of self.now.log) k.history (seen self.now k.tickets) (told.Complete number) }
+            → result ≡ refused_open k.history (seen self.now k.tickets) (told.Complete number) }
     {
         if self.batch == Some(number) {
             return Some(Refusal::Ticket);
@@ -156,7 +161,7 @@ impl<D: CrashDevice, C: Checksum> Opened<D, C> {
 
     fn refuse_ticket(&self, number: usize) -> Option<Refusal>
         ensures why { (k : Unstored) → IsOpenAt D.trace C.sum_of self.now k
-            → result ≡ refused_open (segment_size_of self.now.log) k.history (seen self.now k.tickets) (told.Abort number) }
+            → result ≡ refused_open k.history (seen self.now k.tickets) (told.Abort number) }
     {
         if number >= self.tickets.len() || self.tickets[number].is_none() {
             return Some(Refusal::Ticket);
@@ -166,7 +171,7 @@ impl<D: CrashDevice, C: Checksum> Opened<D, C> {
 
     fn refuse_index(&self, i: usize) -> Option<Refusal>
         ensures why { (k : Unstored) → IsOpenAt D.trace C.sum_of self.now k
-            → result ≡ refused_open (segment_size_of self.now.log) k.history (seen self.now k.tickets) (told.Write i) }
+            → result ≡ refused_open k.history (seen self.now k.tickets) (told.Write i) }
     {
         if i < self.log.pending() {
             None
@@ -177,7 +182,7 @@ impl<D: CrashDevice, C: Checksum> Opened<D, C> {
 
     fn refuse_read(&self, page: PageId) -> Option<Refusal>
         ensures why { (k : Unstored) → IsOpenAt D.trace C.sum_of self.now k
-            → result ≡ refused_open (segment_size_of self.now.log) k.history (seen self.now k.tickets) (told.Read page) }
+            → result ≡ refused_open k.history (seen self.now k.tickets) (told.Read page) }
     {
         if page < self.pages.len() as u64 {
             None
@@ -207,6 +212,16 @@ impl<D: CrashDevice, C: Checksum> Opened<D, C> {
         match self.pages.get(page as usize) {
             Some(PageState::Present { base: _, frags }) => frags.len() + 1,
             Some(PageState::Free(_, _)) | Some(PageState::Uninitialized) | None => 0,
+        }
+    }
+
+    /// The blob of a page that is one item in it.
+    pub(crate) fn blob_of(&self, page: PageId) -> Option<BlobPointer>
+        ensures { (k : Unstored) → IsOpenAt D.trace C.sum_of self.now k → result ≡ one_blob (page_now k.history page) }
+    {
+        match self.pages.get(page as usize) {
+            Some(state) => blob_in(state),
+            None => None,
         }
     }
 
@@ -243,5 +258,18 @@ impl Ticket {
             reservation,
         } = self;
         reservation.abandon();
+    }
+}
+
+/// The blob of a page that is one item in it, by what the table has of it.
+fn blob_in(state: &PageState) -> Option<BlobPointer>
+    ensures { result ≡ blob_shown (page_of state.now) }
+{
+    let PageState::Present { base, frags } = state else {
+        return None;
+    };
+    match base.1 {
+        DiskPtr::Blob(_, blob) if frags.is_empty() => Some(blob),
+        _ => None,
     }
 }

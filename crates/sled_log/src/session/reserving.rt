@@ -1,7 +1,7 @@
 //! Keeping places for messages, and beginning batches.
-ghost use Rattle.std.specs.Prelude.{◌≡◌, ◌≢◌, ◌<◌, ◌≤◌, false, get_or, length, vec_capacity, vec_len, None, OnErr, OnOk};
+ghost use Rattle.std.specs.Prelude.{[], ◌≡◌, ◌≢◌, ◌<◌, ◌≤◌, false, get_or, length, vec_capacity, vec_len, None, OnErr, OnOk};
 ghost use Rattle.sled_codec.specs.History.{ChangesPage};
-ghost use Rattle.sled_codec.specs.declared.serialization.message.LogKind.TheVariants.{Skip};
+ghost use Rattle.sled_codec.specs.declared.serialization.message.LogKind.TheVariants.{Free, Skip};
 ghost use Rattle.sled_core.specs.Manifests.{manifest_page};
 ghost use Rattle.sled_core.specs.Tickets.{place_of, pointer_of};
 ghost use Rattle.sled_log.specs.declared.session.command.Command.TheVariants as told;
@@ -27,17 +27,35 @@ pub(crate) fn reserve<D: CrashDevice, C: Checksum, T: Serialize>(
 ) -> Reply
     requires fits { T.fits (T.meaning item.now) }
     requires kind { ChangesPage kind }
+    requires plain { kind ≡ Free → T.short (T.meaning item.now) ≡ [] }
     ensures step { Reserves (view_by D.trace D.faults D.is_stopped D.stops_in) C.sum_of opened.old kind page (T.short (T.meaning item.now)) opened.new result }
     ensures on { RunsOn D.trace (config_of opened.old.log) (config_of opened.new.log) }
 {
-    if !opened.log.fits_inline(item) {
-        return Reply::Refused(Refusal::Item);
-    }
     if room_for(opened, page).is_err() {
         return Reply::Failed(Error::OutOfMemory);
     }
     match opened.log.reserve(kind, page, item, &opened.guard) {
         Ok(reservation) => hold(opened, kind, page, reservation),
+        Err(e) => Reply::Failed(e),
+    }
+}
+
+/// Keeps a place for a Replace of a page that is one item in a blob, which stays there, and numbers its ticket. The room for it
+/// is made first.
+pub(crate) fn rewrite<D: CrashDevice, C: Checksum>(opened: &mut Opened<D, C>, page: PageId) -> Reply
+    ensures step { CarriesOut (view_by D.trace D.faults D.is_stopped D.stops_in) C.sum_of
+        (Phase.Open opened.old) (told.Rewrite page) (Phase.Open opened.new, result) }
+    ensures on { RunsOn D.trace (config_of opened.old.log) (config_of opened.new.log) }
+{
+    let Some(blob) = opened.blob_of(page) else {
+        return Reply::Refused(Refusal::Page);
+    };
+    if room_for(opened, page).is_err() {
+        return Reply::Failed(Error::OutOfMemory);
+    }
+    let log = &mut opened.log;
+    match log.rewrite_blob_pointer(page, blob, &opened.guard) {
+        Ok(reservation) => hold(opened, LogKind::Replace, page, reservation),
         Err(e) => Reply::Failed(e),
     }
 }

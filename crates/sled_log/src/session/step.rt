@@ -4,7 +4,7 @@ ghost use Rattle.sled_core.specs.Fits.{config_of};
 ghost use Rattle.sled_log.specs.declared.session.command.Command.TheVariants as command;
 ghost use Rattle.sled_log.specs.Refusals.{is_crash, refusal_for, refused_closed};
 ghost use Rattle.sled_log.specs.Runs.{told};
-ghost use Rattle.sled_log.specs.RunPhases.{AnswersIn, CarriesOut, IsAt, RunsOn, Unstored, device_in, running, size_of, stands, view_by};
+ghost use Rattle.sled_log.specs.RunPhases.{AnswersIn, CarriesOut, IsAt, RunsOn, Unstored, device_in, running, stands, view_by};
 
 use crate::session::Phase;
 use crate::session::command::{Command, Refusal, Reply};
@@ -12,7 +12,7 @@ use crate::session::ending::{abort, complete, end};
 use crate::session::opened::Opened;
 use crate::session::opening::open;
 use crate::session::reading::read;
-use crate::session::reserving::{begin, reserve};
+use crate::session::reserving::{begin, reserve, rewrite};
 use crate::session::writing::{flush, stabilize, write};
 use sled_codec::result::Error;
 use sled_codec::serialization::{Checksum, LogKind};
@@ -37,7 +37,7 @@ pub(crate) fn step<D: CrashDevice, C: Checksum>(
 /// Why a command is refused, if it is.
 fn refusal<D: CrashDevice, C: Checksum>(phase: &Phase<D, C>, command: &Command) -> Option<Refusal>
     ensures why { let view = view_by D.trace D.faults D.is_stopped D.stops_in in (k : Unstored) → IsAt D.trace C.sum_of phase.now k
-        → result ≡ refusal_for (size_of phase.now) (stands view phase.now k) command.now }
+        → result ≡ refusal_for (stands view phase.now k) command.now }
 {
     if is_stopped(phase) && !is_crash(command) {
         return Some(Refusal::Stopped);
@@ -57,6 +57,7 @@ fn refuse_closed(command: &Command) -> Option<Refusal>
         Command::Replace(_, _)
         | Command::Link(_, _)
         | Command::Free(_)
+        | Command::Rewrite(_)
         | Command::BeginBatch
         | Command::EndBatch
         | Command::Complete(_)
@@ -149,6 +150,7 @@ fn carry_out_open<D: CrashDevice, C: Checksum>(
         Command::Replace(page, item) => reserve(&mut opened, LogKind::Replace, *page, item),
         Command::Link(page, item) => reserve(&mut opened, LogKind::Link, *page, item),
         Command::Free(page) => reserve(&mut opened, LogKind::Free, *page, &()),
+        Command::Rewrite(page) => rewrite(&mut opened, *page),
         Command::BeginBatch => begin(&mut opened),
         Command::EndBatch => end(&mut opened),
         Command::Complete(number) => complete(&mut opened, *number),

@@ -15,11 +15,11 @@ use Rattle.sled_store.proofs.Traces.ScriptLemmas.{performs_nothing}
 use Rattle.sled_core.specs.Causes.{OnDone}
 use Rattle.sled_core.specs.declared.logger.Log.{Log}
 use Rattle.sled_core.specs.declared.logger.read_message.LogRead.{LogRead}
-use Rattle.sled_core.specs.Fits.{HasRecordOf, Holds, device_of, reserved_end, segment_size_of, synced_end}
+use Rattle.sled_core.specs.Fits.{HasRecordOf, Holds, device_of, fault_of, reserved_end, segment_size_of, synced_end}
 use Rattle.sled_core.specs.LogFile.{MessageStands}
 use Rattle.sled_core.specs.ReadBuffer.{IsUsedUpAt, IsWrittenPlace, ReadAnswers, SealsAround, SettleAnswers, WritesAround, held_at, settling}
 use Rattle.sled_core.specs.Reading.{IsInline, IsNoPlace, GivesMessage}
-use Rattle.sled_core.specs.ReadPointer.{IsDamageOf, place_read}
+use Rattle.sled_core.specs.ReadPointer.{GivesBlob, IsDamageOf, IsStableBlob, place_read}
 use Rattle.sled_core.proofs.Holds.KeptCalls.{kept_further, kept_still, tickets_further}
 use Rattle.sled_core.proofs.Holds.ReachLemmas.{fits_holds}
 use Rattle.sled_core.proofs.Line.Advanced.{same_current}
@@ -38,6 +38,11 @@ use Rattle.sled_core.proofs.logger.Log.read.Goals.{Joined-then-lsn-lt0, then-lsn
 use Rattle.sled_core.proofs.logger.Log.read.Goals as goal
 
 -- Where the log keeps a failure nothing is done.
+
+pub returns-in-Some-clause-blob : goal.returns-in-Some-clause-blob
+returns-in-Some-clause-blob g c = λ H A f U m fits zeros.
+    let some : c.args.self.now.fault ≡ None → ⊥ = λ none. let both : None ≡ c.args.self.now.fault = sym none in let is = c.in-Some.is in cc in
+    record { stable = λ _ none. absurd (some none); kept = λ _ none. absurd (some none) }
 
 pub returns-in-Some-clause-calls : goal.returns-in-Some-clause-calls
 returns-in-Some-clause-calls g c = record { made = tt; damaged = λ is. absurd is; missed = λ none _. absurd (let both : None ≡ c.args.self.now.fault = sym none in let is = c.in-Some.is in cc); at_most = performs_nothing _ _ _ refl; settled = tt; unwritten = λ _. refl }
@@ -61,16 +66,15 @@ returns-then-lsn-lt0-clause-undamaged g c = λ H A f U m fits there has at point
     not_there g c m.place at (fits_begins g.D.Device.trace g.C.Checksum.sum_of c.args.self.now H A f U fits c.in_default.is m there has (lid_of c.args.ptr) (pointer ∙ inline_is c.args.ptr inline))
 
 pub returns-then-lsn-lt0-clause-blob : goal.returns-then-lsn-lt0-clause-blob
-returns-then-lsn-lt0-clause-blob g c = λ H A f U m fits zeros is.
+returns-then-lsn-lt0-clause-blob g c = λ H A f U m fits zeros.
     let old = c.args.self.now in
-    let reads = readable g.D.Device.trace g.C.Checksum.sum_of old H A f U fits c.in_default.is (state_of (g.D.Device.trace (device_of old))) refl zeros m is.entry in
-    not_there g c m.place is.place (subst (λ (p : DiskPtr). MayBegin (segment_size_of old) (lid_of p)) is.pointer reads.begins)
-
-pub returns-then-lsn-lt0-clause-kept : goal.returns-then-lsn-lt0-clause-kept
-returns-then-lsn-lt0-clause-kept g c = λ H A f U m fits zeros is.
-    let old = c.args.self.now in
-    let reads = kept_readable g.D.Device.trace g.C.Checksum.sum_of old H A f U fits c.in_default.is (state_of (g.D.Device.trace (device_of old))) refl zeros m is.entry in
-    not_there g c m.place is.place (subst (λ (p : DiskPtr). MayBegin (segment_size_of old) (lid_of p)) is.pointer reads.begins)
+    let s : State = state_of (g.D.Device.trace (device_of old)) in
+    let never : pos m.place ≡ c.args.lsn → m.pointer ≡ c.args.ptr → MayBegin (segment_size_of old) (lid_of m.pointer) → ⊥ = λ place pointer begins.
+    not_there g c m.place place (subst (λ (p : DiskPtr). MayBegin (segment_size_of old) (lid_of p)) pointer begins) in
+    record {
+      stable = λ is. absurd (never is.place is.pointer (readable g.D.Device.trace g.C.Checksum.sum_of old H A f U fits c.in_default.is s refl zeros m is.entry).begins);
+      kept = λ is. absurd (never is.place is.pointer (kept_readable g.D.Device.trace g.C.Checksum.sum_of old H A f U fits c.in_default.is s refl zeros m is.entry).begins);
+    }
 
 pub returns-then-lsn-lt0-clause-calls : goal.returns-then-lsn-lt0-clause-calls
 returns-then-lsn-lt0-clause-calls g c = record {
@@ -114,17 +118,16 @@ err_at g c = subst (λ z. SettleAnswers {T = Unit {0}} (Err c.in_err-settle_at.f
     (g.D.Device.faults c.args.self.now.config.device) (g.D.Device.faults c.settle_at.new.self.config.device)) (at_err g c) c.in_err-settle_at.ensures.answers
 
 pub returns-in_err-settle_at-clause-blob : goal.returns-in_err-settle_at-clause-blob
-returns-in_err-settle_at-clause-blob g c = λ H A f U m fits zeros is.
+returns-in_err-settle_at-clause-blob g c = λ H A f U m fits zeros.
     let old = c.args.self.now in
+    let sum = g.C.Checksum.sum_of in
     let at : ℤ = place_read c.args.lsn c.args.ptr in
-    let below : at <ℤ pos (synced_end old) = reads_stable g.D.Device.trace g.C.Checksum.sum_of old H A f U fits c.in_default.is zeros m c.args.pid c.args.lsn c.args.ptr is in
+    let below : IsStableBlob old H m c.args.pid c.args.lsn c.args.ptr → at <ℤ pos (synced_end old) = reads_stable g.D.Device.trace sum old H A f U fits c.in_default.is zeros m c.args.pid c.args.lsn c.args.ptr in
     let e = err_from_is_err_and c.from_residual.result c.from_residual.ensures.1 in
-    rw (e.1, e.2) (err_gives (Unit {0}) c.in_err-settle_at.field-0.0 m _ at _ _ _ _ _ _ _ below (held_stable old g.C.Checksum.sum_of at below) (λ used. stable_up old at used.0) (err_at g c))
-
-pub returns-in_err-settle_at-clause-kept : goal.returns-in_err-settle_at-clause-kept
-returns-in_err-settle_at-clause-kept g c = λ H A f U m fits zeros is.
-    let e = err_from_is_err_and c.from_residual.result c.from_residual.ensures.1 in
-    rw (e.1, e.2) (err_waits (Unit {0}) c.in_err-settle_at.field-0.0 m _ _ _ _ _ _ _ _ _ (err_at g c))
+    rw (e.1, e.2) (record {
+      stable = λ is. err_gives (Unit {0}) c.in_err-settle_at.field-0.0 m _ at _ _ _ _ _ _ _ (below is) (held_stable old sum at (below is)) (λ used. stable_up old at used.0) (err_at g c);
+      kept = λ is. err_waits (Unit {0}) c.in_err-settle_at.field-0.0 m _ _ _ _ _ _ _ _ _ (err_at g c);
+    })
 
 pub returns-in_err-settle_at-clause-calls : goal.returns-in_err-settle_at-clause-calls
 returns-in_err-settle_at-clause-calls g c =
@@ -216,28 +219,21 @@ returns-clause-undamaged g c = λ H A f U m fits there has at pointer inline dam
 
 -- the blob of a message is there
 
-pub returns-clause-kept : goal.returns-clause-kept
-returns-clause-kept g c = λ H A f U m fits zeros is.
-    let old = c.args.self.now in
-    let sum = g.C.Checksum.sum_of in
-    let trace = g.D.Device.trace in
-    let mid = c.settle_at.new.self in
-    let s : State = state_of (trace (device_of mid)) in
-    let same : s.blobs ≡ (state_of (trace (device_of old))).blobs = ap (λ (t : Trace). (state_of t).blobs) c.in_ok-settle_at.ensures.calls ∙ settled_blobs sum old _ (trace (device_of old)) in
-    let reads : IsReadable sum old s m c.args.ptr = subst (λ (p : DiskPtr). IsReadable sum old s m p) is.pointer (kept_readable trace sum old H A f U fits c.in_default.is s same zeros m is.entry) in
-    gives_at_once m _ c.read_settled.result
-    (gives_read sum _ s m c.args.pid _ c.args.ptr _ c.read_settled.result _ _ _ _ is.beside is.pointer is.page reads.has refl c.read_settled.ensures.reading c.read_settled.ensures.damage c.read_settled.ensures.answers)
-
 pub returns-clause-blob : goal.returns-clause-blob
-returns-clause-blob g c = λ H A f U m fits zeros is.
+returns-clause-blob g c = λ H A f U m fits zeros.
     let old = c.args.self.now in
     let sum = g.C.Checksum.sum_of in
     let trace = g.D.Device.trace in
     let mid = c.settle_at.new.self in
     let s : State = state_of (trace (device_of mid)) in
     let same : s.blobs ≡ (state_of (trace (device_of old))).blobs = ap (λ (t : Trace). (state_of t).blobs) c.in_ok-settle_at.ensures.calls ∙ settled_blobs sum old _ (trace (device_of old)) in
-    let reads : IsReadable sum old s m c.args.ptr = subst (λ (p : DiskPtr). IsReadable sum old s m p) is.pointer (readable trace sum old H A f U fits c.in_default.is s same zeros m is.entry) in
-    gives_read sum _ s m c.args.pid _ c.args.ptr _ c.read_settled.result _ _ _ _ is.beside is.pointer is.page reads.has refl c.read_settled.ensures.reading c.read_settled.ensures.damage c.read_settled.ensures.answers
+    let gives : (IsInline c.args.ptr → ⊥) → m.pointer ≡ c.args.ptr → m.page ≡ c.args.pid → IsReadable sum old s m m.pointer → GivesBlob m (fault_of old) c.read_settled.result = λ beside pointer page reads.
+    gives_read sum _ s m c.args.pid _ c.args.ptr _ c.read_settled.result _ _ _ _ beside pointer page (subst (λ (p : DiskPtr). IsReadable sum old s m p) pointer reads).has refl
+    c.read_settled.ensures.reading c.read_settled.ensures.damage c.read_settled.ensures.answers in
+    record {
+      stable = λ is. gives is.beside is.pointer is.page (readable trace sum old H A f U fits c.in_default.is s same zeros m is.entry);
+      kept = λ is. gives_at_once m _ c.read_settled.result (gives is.beside is.pointer is.page (kept_readable trace sum old H A f U fits c.in_default.is s same zeros m is.entry));
+    }
 
 pub returns-clause-corrupt : goal.returns-clause-corrupt
 returns-clause-corrupt g c =

@@ -1,5 +1,5 @@
 -- A message is reserved by how long its item is: in its record, or in a blob.
-use Rattle.std.proofs.Common.{◌≡◌, ◌∙◌, sym, ℕ, List, length, true, false}
+use Rattle.std.proofs.Common.{◌≡◌, ◌∙◌, inl, sym, ℕ, List, length, true, false}
 use Rattle.sled_codec.specs.declared.result.Error.TheVariants.{Io}
 use Rattle.sled_core.specs.Fits.{body_length, in_blob_of}
 use Rattle.sled_core.specs.Reserves.{ReservesAs}
@@ -20,6 +20,9 @@ returns-in-Some-clause-device g c =
 pub returns-in-Some-clause-keeps : goal.returns-in-Some-clause-keeps
 returns-in-Some-clause-keeps g c = kept_still g.D.Device.trace g.C.Checksum.sum_of c.args.self.now
 
+pub returns-in-Some-clause-left : goal.returns-in-Some-clause-left
+returns-in-Some-clause-left g c = inl (c.in-Some.is, unchanged_still c.args.self.now)
+
 -- Where the item goes to a blob.
 
 in_a_blob : (g : given.Over) (c : goal.After-reserve_in_blob g)
@@ -35,17 +38,8 @@ returns-then-not-fits_inline-clause-ticket g c = (in_a_blob g c).ticket
 pub returns-then-not-fits_inline-clause-stored : goal.returns-then-not-fits_inline-clause-stored
 returns-then-not-fits_inline-clause-stored g c = (in_a_blob g c).stored
 
-pub returns-then-not-fits_inline-clause-position : goal.returns-then-not-fits_inline-clause-position
-returns-then-not-fits_inline-clause-position g c = (in_a_blob g c).position
-
-pub returns-then-not-fits_inline-clause-reserved : goal.returns-then-not-fits_inline-clause-reserved
-returns-then-not-fits_inline-clause-reserved g c = (in_a_blob g c).reserved
-
-pub returns-then-not-fits_inline-clause-opens : goal.returns-then-not-fits_inline-clause-opens
-returns-then-not-fits_inline-clause-opens g c = (in_a_blob g c).opens
-
-pub returns-then-not-fits_inline-clause-seals : goal.returns-then-not-fits_inline-clause-seals
-returns-then-not-fits_inline-clause-seals g c = (in_a_blob g c).seals
+pub returns-then-not-fits_inline-clause-behind : goal.returns-then-not-fits_inline-clause-behind
+returns-then-not-fits_inline-clause-behind g c = (in_a_blob g c).behind
 
 pub returns-then-not-fits_inline-clause-answers : goal.returns-then-not-fits_inline-clause-answers
 returns-then-not-fits_inline-clause-answers g c = (in_a_blob g c).answers
@@ -71,17 +65,8 @@ returns-clause-ticket g c = (in_record g c).ticket
 pub returns-clause-stored : goal.returns-clause-stored
 returns-clause-stored g c = (in_record g c).stored
 
-pub returns-clause-position : goal.returns-clause-position
-returns-clause-position g c = (in_record g c).position
-
-pub returns-clause-reserved : goal.returns-clause-reserved
-returns-clause-reserved g c = (in_record g c).reserved
-
-pub returns-clause-opens : goal.returns-clause-opens
-returns-clause-opens g c = (in_record g c).opens
-
-pub returns-clause-seals : goal.returns-clause-seals
-returns-clause-seals g c = (in_record g c).seals
+pub returns-clause-behind : goal.returns-clause-behind
+returns-clause-behind g c = (in_record g c).behind
 
 pub returns-clause-answers : goal.returns-clause-answers
 returns-clause-answers g c = (in_record g c).answers

@@ -14,7 +14,8 @@ use Rattle.sled_core.specs.Reserves.{reserve_causes}
 use Rattle.sled_core.specs.Turned.{IsTicketFor, reserved_now}
 use Rattle.sled_core.specs.Waiting.{at_last}
 use Rattle.sled_core.proofs.Holds.ReachLemmas.{inline_stored}
-use Rattle.sled_core.proofs.Line.Reserved.{prepare_refused, refused_same, reserved_ok, well_kept}
+use Rattle.sled_core.proofs.Line.Prepares.{IsLaid}
+use Rattle.sled_core.proofs.Line.Reserved.{never_io, prepare_refused, refused_same, reserved_ok, well_kept}
 use Rattle.sled_core.proofs.Line.Unchanged.{unchanged_still}
 use Rattle.sled_core.proofs.Reserve.MarksLemmas.{kind_of_manifest}
 use Rattle.sled_core.proofs.logger.Log.reserve_inline.Goals as goal
@@ -24,7 +25,7 @@ returns-in_default g c =
     let old = c.args.self.now in
     let item : List ℕ = g.T.Serialize.short (g.T.Serialize.meaning c.args.item.now) in
     let none : kind_for c.args.kind c.args.pid false (length item) ≡ None = ap (kind_for c.args.kind c.args.pid false) (sym c.serialized_size-item_len.ensures) ∙ sym c.kind_for.ensures ∙ c.in_default.is in
-    refused_same g.D.Device.trace g.D.Device.faults g.C.Checksum.sum_of old old c.args.kind c.args.pid item false (length item) (unchanged_still old) (Unsupported c.new.result) ((c.requires.fault, c.requires.fault, refl), none, c.new.ensures.bytes)
+    refused_same g.D.Device.trace g.D.Device.faults g.C.Checksum.sum_of old old c.args.kind c.args.pid item false (length item) (unchanged_still old) (Unsupported c.new.result) (λ x is. cc) ((c.requires.fault, c.requires.fault, refl), none, c.new.ensures.bytes)
 
 -- The item of a manifest has 8 bytes.
 pub append-requires-clause-body : goal.append-requires-clause-body
@@ -39,10 +40,10 @@ returns-in-Err g c =
     let counted : c.serialized_size-item_len.result ≡ length item = c.serialized_size-item_len.ensures in
     let is : kind_for c.args.kind c.args.pid false (length item) ≡ Some c.in-Some.message_kind = ap (kind_for c.args.kind c.args.pid false) (sym counted) ∙ sym c.kind_for.ensures ∙ c.in-Some.is in
     let causes : ℕ → ReserveCauses = λ n. reserve_causes g.D.Device.trace g.D.Device.faults c.args.kind c.args.pid false n old new in
-    refused_same g.D.Device.trace g.D.Device.faults g.C.Checksum.sum_of old new c.args.kind c.args.pid item false (length item) did.err c.in-Err.e
+    let answers = subst (λ n. PrepareAnswers {T = Head} (Err c.in-Err.e) (IsUsedUpFor old c.args.pid n) (open_for old c.args.pid n) (IsLeastOpen old)) counted did.answers in
+    refused_same g.D.Device.trace g.D.Device.faults g.C.Checksum.sum_of old new c.args.kind c.args.pid item false (length item) did.err c.in-Err.e (never_io (causes (length item)) (IsUsedUpFor old c.args.pid (length item)) (IsLeastOpen old) _ c.in-Err.e answers)
     (prepare_refused (causes (length item)) (IsUsedUpFor old c.args.pid (length item)) (IsLeastOpen old) c.in-Err.e
-    (well_kept g.D.Device.trace g.D.Device.faults c.args.kind c.args.pid false (length item) old new c.requires.fault did.same) (subst IsSome (sym is) refl)
-    (subst (λ n. PrepareAnswers {T = Head} (Err c.in-Err.e) (IsUsedUpFor old c.args.pid n) (open_for old c.args.pid n) (IsLeastOpen old)) counted did.answers))
+    (well_kept g.D.Device.trace g.D.Device.faults c.args.kind c.args.pid false (length item) old new c.requires.fault did.same) (subst IsSome (sym is) refl) answers)
 
 pub returns-in-Ok : goal.returns-in-Ok
 returns-in-Ok g c =
@@ -56,14 +57,23 @@ returns-in-Ok g c =
     let laid = c.append.ensures in
     let counted : c.serialized_size-item_len.result ≡ length item = c.serialized_size-item_len.ensures in
     let is : kind_for c.args.kind c.args.pid false (length item) ≡ Some c.in-Some.message_kind = ap (kind_for c.args.kind c.args.pid false) (sym counted) ∙ sym c.kind_for.ensures ∙ c.in-Some.is in
-    let ready = subst (λ n. IsPrepared g.D.Device.trace g.C.Checksum.sum_of old mid kept head n) counted did.prepared in
     let all = did.same in
     let same = laid.rest.config ∙ all.config in
     let ends = laid.reserved in
     let room = subst (λ n. (IsUsedUpFor old c.args.pid n → ⊥) × (open_for old c.args.pid n < most_open)) counted did.answers in
-    reserved_ok g.D.Device.trace g.D.Device.faults g.C.Checksum.sum_of old mid new kept head item ready is tt c.ranges.pid.fits
-    (laid.line ∙ ap (λ n. at_last (reserved_now (placeholder_head (text_of head) ++ item) (reserved_for kept (length (current_of mid).parts.bytes) head.len n (g.C.Checksum.sum_of (item ++ drop 4 (text_of head))))) (line_of mid)) counted)
-    laid.rest laid.accountant (omega (arith, ends, counted)) c.append.result (subst (λ n. IsTicketFor mid c.append.result None (head.len + n)) counted laid.ticket) laid.manifest item false refl
+    let is_laid : IsLaid g.D.Device.trace g.C.Checksum.sum_of old mid new kept head item c.append.result = record {
+      ready = subst (λ n. IsPrepared g.D.Device.trace g.C.Checksum.sum_of old mid kept head n) counted did.prepared;
+      known = is;
+      spells = tt;
+      small = c.ranges.pid.fits;
+      line = laid.line ∙ ap (λ n. at_last (reserved_now (placeholder_head (text_of head) ++ item) (reserved_for kept (length (current_of mid).parts.bytes) head.len n (g.C.Checksum.sum_of (item ++ drop 4 (text_of head))))) (line_of mid)) counted;
+      rest = laid.rest;
+      accountant = laid.accountant;
+      ends = omega (arith, ends, counted);
+      own = subst (λ n. IsTicketFor mid c.append.result None (head.len + n)) counted laid.ticket;
+      manifest = laid.manifest;
+    } in
+    reserved_ok g.D.Device.faults is_laid item false refl
     (inline_stored g.D.Device.trace g.C.Checksum.sum_of new (message_as old c.args.kind c.args.pid false (length item) item) tt)
     ((c.requires.fault, laid.rest.fault ∙ all.fault ∙ c.requires.fault, ap (λ (x : RunningConfig g.row.D.Denot g.row.C.Denot). g.D.Device.faults x.device) same), (subst IsSome (sym is) refl, room.0, room.1), λ goes. let clash : false ≡ true = goes in cc)
     same

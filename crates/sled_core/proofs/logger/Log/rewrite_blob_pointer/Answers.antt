@@ -1,27 +1,23 @@
 -- The log is made ready for a record with the place of an old blob in it; then its placeholder is laid out there.
 use Rattle.std.specs.declared.io.Error.{Error as IoError}
-use Rattle.std.proofs.Common.{[], Option, ◌≡◌, ◌∙◌, ◌+◌, ◌++◌, ap, sym, subst, refl, arith, ℕ, ℤ, List, length, drop, Some, None, Err, true, w64, to_z, of_z}
+use Rattle.std.proofs.Common.{[], Option, sym, subst, refl, arith, ℕ, ℤ, Some, None, Err, w64, to_z, of_z}
 use Rattle.std.specs.Prelude.{FitsSigned}
 use Rattle.std.proofs.lemmas.Int.{to_z-of_z}
 use Rattle.sled_codec.specs.declared.result.Error.{Error}
 use Rattle.sled_codec.specs.declared.result.Error.TheVariants as error
 use Rattle.sled_codec.specs.declared.result.DiskPtr.TheVariants.{Blob}
 use Rattle.sled_codec.specs.declared.serialization.message.LogKind.TheVariants.{Replace}
-use Rattle.sled_codec.specs.Spelling.{SpellsSigned, short_signed}
+use Rattle.sled_codec.specs.Spelling.{short_signed}
 use Rattle.sled_codec.specs.SpellingLaws.{short_spells-signed}
 use Rattle.sled_core.specs.declared.iobuf.Purpose.{Purpose}
 use Rattle.sled_core.specs.declared.iobuf.record.Head.{Head}
 use Rattle.sled_core.specs.declared.reservation.Reservation.{Reservation}
-use Rattle.sled_core.specs.Buffers.{placeholder_head, reserved_for}
 use Rattle.sled_core.specs.Causes.{RewriteAnswers}
-use Rattle.sled_core.specs.Fits.{IsLeastOpen, IsUsedUpFor, current_of, line_of, message_rewriting, open_for, size_for, target_of}
-use Rattle.sled_core.specs.Manifests.{kind_for}
+use Rattle.sled_core.specs.Fits.{IsLeastOpen, IsUsedUpFor, message_rewriting, open_for, size_for, target_of}
 use Rattle.sled_core.specs.Positions.{lid_at}
-use Rattle.sled_core.specs.Prepared.{PrepareAnswers, text_of}
-use Rattle.sled_core.specs.Turned.{IsTicketFor, reserved_now}
-use Rattle.sled_core.specs.Waiting.{at_last}
+use Rattle.sled_core.specs.Prepared.{PrepareAnswers}
 use Rattle.sled_core.proofs.Holds.KeptCalls.{kept_still}
-use Rattle.sled_core.proofs.Line.Prepares.{made_end, made_keeps, made_opens, made_others, made_position, made_same, made_seals, made_ticket}
+use Rattle.sled_core.proofs.Line.Prepares.{IsLaid, made_behind, made_keeps, made_others, made_same, made_ticket}
 use Rattle.sled_core.proofs.Line.Unchanged.{unchanged_keeps, unchanged_tickets}
 use Rattle.sled_core.proofs.logger.Log.rewrite_blob_pointer.Given as given
 use Rattle.sled_core.proofs.logger.Log.rewrite_blob_pointer.Goals as goal
@@ -59,55 +55,40 @@ its_place g c = to_z w64 (of_z w64 c.args.blob)
 abbrev its_kept : (g : given.Over) → goal.After-append g → Purpose
 its_kept g c = record { log_kind = Replace; kind = c.rewritten_kind.result; page = c.args.pid; blob = Some (its_place g c) }
 
-its_kind : (g : given.Over) (c : goal.After-append g) → kind_for Replace c.args.pid true (length (short_signed (its_place g c))) ≡ Some c.rewritten_kind.result
-its_kind g c = c.rewritten_kind.ensures
-
-its_spelling : (g : given.Over) (c : goal.After-append g) → SpellsSigned (short_signed (its_place g c)) (its_place g c)
-its_spelling g c = short_spells-signed (its_place g c) (subst (FitsSigned w64) (sym (to_z-of_z w64 c.args.blob c.ranges.blob)) c.ranges.blob)
-
-its_line : (g : given.Over) (c : goal.After-append g)
-    → line_of c.append.new.self ≡ at_last (reserved_now (placeholder_head (text_of c.in-Ok.head) ++ short_signed (its_place g c)) (reserved_for (its_kept g c) (length (current_of c.prepare.new.self).parts.bytes) (length (text_of c.in-Ok.head)) 8
-    (g.C.Checksum.sum_of (short_signed (its_place g c) ++ drop 4 (text_of c.in-Ok.head))))) (line_of c.prepare.new.self)
-its_line g c =
-    let head : List ℕ = text_of c.in-Ok.head in
-    let body : List ℕ = short_signed (its_place g c) in
-    c.append.ensures.line
-    ∙ ap (λ n. at_last (reserved_now (placeholder_head head ++ body) (reserved_for (its_kept g c) (length (current_of c.prepare.new.self).parts.bytes) n 8 (g.C.Checksum.sum_of (body ++ drop 4 head)))) (line_of c.prepare.new.self)) c.in-Ok.ensures.prepared.long
-
-its_ticket : (g : given.Over) (c : goal.After-append g) → IsTicketFor c.prepare.new.self c.append.result (Some (its_place g c)) (length (text_of c.in-Ok.head) + 8)
-its_ticket g c = subst (IsTicketFor c.prepare.new.self c.append.result (Some (its_place g c))) (ap (λ n. n + 8) c.in-Ok.ensures.prepared.long) c.append.ensures.ticket
+its_laid : (g : given.Over) (c : goal.After-append g) → IsLaid g.D.Device.trace g.C.Checksum.sum_of c.args.self.now c.prepare.new.self c.append.new.self (its_kept g c) c.in-Ok.head (short_signed (its_place g c)) c.append.result
+its_laid g c =
+    let end = c.append.ensures.reserved in
+    record {
+      ready = c.in-Ok.ensures.prepared;
+      known = c.rewritten_kind.ensures;
+      spells = short_spells-signed (its_place g c) (subst (FitsSigned w64) (sym (to_z-of_z w64 c.args.blob c.ranges.blob)) c.ranges.blob);
+      small = c.ranges.pid.fits;
+      line = c.append.ensures.line;
+      rest = c.append.ensures.rest;
+      accountant = c.append.ensures.accountant;
+      ends = omega (arith, end);
+      own = c.append.ensures.ticket;
+      manifest = c.append.ensures.manifest;
+    }
 
 pub returns-in-Ok-clause-ticket : goal.returns-in-Ok-clause-ticket
-returns-in-Ok-clause-ticket g c = λ item.
-    made_ticket g.D.Device.trace g.C.Checksum.sum_of c.args.self.now c.prepare.new.self c.append.new.self (its_kept g c) c.in-Ok.head (short_signed (its_place g c)) c.in-Ok.ensures.prepared (its_kind g c) (its_spelling g c) c.ranges.pid.fits (its_line g c) c.append.ensures.rest c.append.ensures.accountant c.append.result (its_ticket g c) c.append.ensures.manifest (message_rewriting c.args.self.now c.args.pid c.args.blob item)
+returns-in-Ok-clause-ticket g c = λ item. made_ticket (its_laid g c) (message_rewriting c.args.self.now c.args.pid c.args.blob item)
     (λ i. record { kind = Replace; page = c.args.pid; place = (target_of c.args.self.now c.args.pid 8).place; pointer = Blob (lid_at (target_of c.args.self.now c.args.pid 8)) (sym (to_z-of_z w64 c.args.blob c.ranges.blob) i); size = size_for c.args.self.now c.args.pid 8; bytes = [] })
 
-pub returns-in-Ok-clause-reserved : goal.returns-in-Ok-clause-reserved
-returns-in-Ok-clause-reserved g c =
-    let end = c.append.ensures.reserved in
-    let long = c.in-Ok.ensures.prepared.long in
-    made_end g.D.Device.trace g.C.Checksum.sum_of c.args.self.now c.prepare.new.self c.append.new.self (its_kept g c) c.in-Ok.head (short_signed (its_place g c)) c.in-Ok.ensures.prepared (its_kind g c) (its_spelling g c) c.ranges.pid.fits (its_line g c) c.append.ensures.rest c.append.ensures.accountant (omega (arith, end, long))
+pub returns-in-Ok-clause-behind : goal.returns-in-Ok-clause-behind
+returns-in-Ok-clause-behind g c = made_behind (its_laid g c)
 
 pub returns-in-Ok-clause-manifest : goal.returns-in-Ok-clause-manifest
 returns-in-Ok-clause-manifest g c = c.append.ensures.manifest
 
-pub returns-in-Ok-clause-position : goal.returns-in-Ok-clause-position
-returns-in-Ok-clause-position g c = made_position g.D.Device.trace g.C.Checksum.sum_of c.args.self.now c.prepare.new.self c.append.new.self (its_kept g c) c.in-Ok.head (short_signed (its_place g c)) c.in-Ok.ensures.prepared (its_kind g c) (its_spelling g c) c.ranges.pid.fits (its_line g c) c.append.ensures.rest c.append.ensures.accountant
-
 pub returns-in-Ok-clause-others : goal.returns-in-Ok-clause-others
-returns-in-Ok-clause-others g c = made_others g.D.Device.trace g.C.Checksum.sum_of c.args.self.now c.prepare.new.self c.append.new.self (its_kept g c) c.in-Ok.head (short_signed (its_place g c)) c.in-Ok.ensures.prepared (its_kind g c) (its_spelling g c) c.ranges.pid.fits (its_line g c) c.append.ensures.rest c.append.ensures.accountant
-
-pub returns-in-Ok-clause-opens : goal.returns-in-Ok-clause-opens
-returns-in-Ok-clause-opens g c = made_opens g.D.Device.trace g.C.Checksum.sum_of c.args.self.now c.prepare.new.self c.append.new.self (its_kept g c) c.in-Ok.head (short_signed (its_place g c)) c.in-Ok.ensures.prepared (its_kind g c) (its_spelling g c) c.ranges.pid.fits (its_line g c) c.append.ensures.rest c.append.ensures.accountant
-
-pub returns-in-Ok-clause-seals : goal.returns-in-Ok-clause-seals
-returns-in-Ok-clause-seals g c = made_seals g.D.Device.trace g.C.Checksum.sum_of c.args.self.now c.prepare.new.self c.append.new.self (its_kept g c) c.in-Ok.head (short_signed (its_place g c)) c.in-Ok.ensures.prepared (its_kind g c) (its_spelling g c) c.ranges.pid.fits (its_line g c) c.append.ensures.rest c.append.ensures.accountant
+returns-in-Ok-clause-others g c = made_others (its_laid g c)
 
 pub returns-in-Ok-clause-keeps : goal.returns-in-Ok-clause-keeps
-returns-in-Ok-clause-keeps g c = made_keeps g.D.Device.trace g.C.Checksum.sum_of c.args.self.now c.prepare.new.self c.append.new.self (its_kept g c) c.in-Ok.head (short_signed (its_place g c)) c.in-Ok.ensures.prepared (its_kind g c) (its_spelling g c) c.ranges.pid.fits (its_line g c) c.append.ensures.rest c.append.ensures.accountant
+returns-in-Ok-clause-keeps g c = made_keeps (its_laid g c)
 
 pub returns-in-Ok-clause-same : goal.returns-in-Ok-clause-same
-returns-in-Ok-clause-same g c = made_same g.D.Device.trace g.C.Checksum.sum_of c.args.self.now c.prepare.new.self c.append.new.self (its_kept g c) c.in-Ok.head (short_signed (its_place g c)) c.in-Ok.ensures.prepared (its_kind g c) (its_spelling g c) c.ranges.pid.fits (its_line g c) c.append.ensures.rest c.append.ensures.accountant c.in-Ok.ensures.same
+returns-in-Ok-clause-same g c = made_same (its_laid g c) c.in-Ok.ensures.same
 
 pub returns-in-Ok-clause-answers : goal.returns-in-Ok-clause-answers
 returns-in-Ok-clause-answers g c = (c.in_default.is, c.in-Ok.ensures.answers.0, c.in-Ok.ensures.answers.1)

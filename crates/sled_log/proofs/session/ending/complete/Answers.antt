@@ -95,12 +95,13 @@ returns-in-Ok-clause-step g c = λ k at asked.
     let pointer : c.in-Ok.pointer ≡ m.pointer = done.place.1 ∙ sym says.1 in
     let size : c.reservation_len-size.result ≡ m.size = c.reservation_len-size.ensures ∙ sym says.2 in
     let entry : Entry = (cast_signed w64 (cast_unsigned w64 c.in-Ok.place), c.in-Ok.pointer, c.reservation_len-size.result) in
+    let same : KeepsAll old.log new = subst (λ x. KeepsAll x new) takes.log c.complete.ensures.same in
     room_does view sum given old c.room_for.ensures.kept k c.args.number _
     (completes view sum old k roomy c.args.number m its.1 mid c.in-Some.field-0 takes new c.apply.new.pages
-    (subst (λ x. KeepsAll x new) takes.log c.complete.ensures.same) (subst (λ x. SamePosition x new) takes.log c.complete.ensures.position) (subst (λ x. KeepsBuffers x new) takes.log c.complete.ensures.buffers)
+    (record { synced = same.synced; noted = same.noted; pins = same.pins }) same.fault (subst (λ x. SamePosition x new) takes.log c.complete.ensures.position) (subst (λ x. KeepsBuffers x new) takes.log c.complete.ensures.buffers)
     (sym (ap (λ x. fault_of x) takes.log) ∙ done.answers)
     (λ t x holds ne. c.complete.ensures.others k.history t x (fits_holds trace sum mid.log k.history k.acknowledged k.floor roomy.unmarked fits) (subst (λ y. Awaits y t x) (sym takes.log) holds) ne)
     (λ j x apart had. safe_on trace sum mid.log new x c.complete.ensures.goes_on (subst (λ y. IsSafe trace sum y x) (sym takes.log) had.stored))
     (subst (λ x. TakesOut m.place (open_places x) (open_places new)) takes.log (done.opens m.place says.0))
-    its.2 _ c.in-Ok.pointer (sym place, pointer) gives.0 gives.1 gives.2 entry (λ i. (sym place i, pointer i, size i))
+    same.config its.2 _ c.in-Ok.pointer (sym place, pointer) gives.0 gives.1 gives.2 entry (λ i. (sym place i, pointer i, size i))
     (c.apply.ensures ∙ ap (λ x. applied_to (map page_of x.items) c.in-Some.field-0.kind c.in-Some.field-0.page entry) takes.pages))

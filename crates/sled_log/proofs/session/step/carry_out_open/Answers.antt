@@ -15,7 +15,7 @@ use Rattle.sled_log.specs.Refusals.{when}
 use Rattle.sled_log.specs.RunPhases.{CarriesOut, RunsOn, view_by}
 use Rattle.sled_log.proofs.Sessions.Carried.{free_does, free_may, link_does, link_may, passes, replace_does, replace_may}
 use Rattle.sled_log.proofs.Sessions.RunLemmas.{carried, halted, runs_on_same}
-use Rattle.sled_log.proofs.session.step.carry_out_open.Goals.{in-Replace, in-Link, in-Free, in-BeginBatch, in-EndBatch, in-Complete, in-Abort, in-Write, in-Flush, in-Stable, in-Read, in-Stop, in-Open}
+use Rattle.sled_log.proofs.session.step.carry_out_open.Goals.{in-Replace, in-Link, in-Free, in-Rewrite, in-BeginBatch, in-EndBatch, in-Complete, in-Abort, in-Write, in-Flush, in-Stable, in-Read, in-Stop, in-Open}
 use Rattle.sled_log.proofs.session.step.carry_out_open.Goals as goal
 
 -- an opening is refused while a log is open
@@ -56,10 +56,11 @@ returns-clause-step g c =
       | in-Stop w ↦ put w.stop_open-reply.new.opened w.stop_open-reply.result w.opened-is w.reply-is (carried view sum (phase.Open old) (command.Stop w.in-Stop.n) cmd (phase.Open w.stop_open-reply.new.opened, w.stop_open-reply.result) w.in-Stop.is w.stop_open-reply.ensures.step)
       | in-Replace w ↦ put w.reserve-reply.new.opened w.reserve-reply.result w.opened-is w.reply-is (carried view sum (phase.Open old) (command.Replace w.in-Replace.page w.in-Replace.item) cmd (phase.Open w.reserve-reply.new.opened, w.reserve-reply.result) w.in-Replace.is
           (λ k at free. replace_does view sum old k w.in-Replace.page w.reserve-reply.new.opened w.reserve-reply.result w.in-Replace.item (w.reserve-reply.ensures.step k at (replace_may view sum old k w.in-Replace.page w.in-Replace.item free))))
+      | in-Rewrite w ↦ put w.rewrite-reply.new.opened w.rewrite-reply.result w.opened-is w.reply-is (carried view sum (phase.Open old) (command.Rewrite w.in-Rewrite.page) cmd (phase.Open w.rewrite-reply.new.opened, w.rewrite-reply.result) w.in-Rewrite.is w.rewrite-reply.ensures.step)
       | in-Link w ↦ put w.reserve-reply-in-Link.new.opened w.reserve-reply-in-Link.result w.opened-is w.reply-is (carried view sum (phase.Open old) (command.Link w.in-Link.page w.in-Link.item) cmd (phase.Open w.reserve-reply-in-Link.new.opened, w.reserve-reply-in-Link.result) w.in-Link.is
           (λ k at free. link_does view sum old k w.in-Link.page w.reserve-reply-in-Link.new.opened w.reserve-reply-in-Link.result w.in-Link.item (w.reserve-reply-in-Link.ensures.step k at (link_may view sum old k w.in-Link.page w.in-Link.item free))))
       | in-Free w ↦ put w.reserve-reply-in-Free.new.opened w.reserve-reply-in-Free.result w.opened-is w.reply-is (carried view sum (phase.Open old) (command.Free w.in-Free.page) cmd (phase.Open w.reserve-reply-in-Free.new.opened, w.reserve-reply-in-Free.result) w.in-Free.is
-          (λ k at free. free_does view sum old k w.in-Free.page w.reserve-reply-in-Free.new.opened w.reserve-reply-in-Free.result (w.reserve-reply-in-Free.ensures.step k at (free_may view sum old k w.in-Free.page old.log.config.config.least free))))
+          (λ k at free. free_does view sum old k w.in-Free.page w.reserve-reply-in-Free.new.opened w.reserve-reply-in-Free.result (w.reserve-reply-in-Free.ensures.step k at (free_may view sum old k w.in-Free.page free))))
       | in-Open w ↦ put old (reply.Refused why.Open) w.opened-is w.reply-is (carried view sum (phase.Open old) command.Open cmd (phase.Open old, reply.Refused why.Open) w.in-Open.is (λ k at free. absurd (never_open _ _ _ free)))
     ]
 
@@ -78,6 +79,7 @@ returns-clause-on g c =
       | in-Read w ↦ subst Goes (sym w.opened-is) w.read-reply.ensures.on
       | in-Stop w ↦ subst Goes (sym w.opened-is) w.stop_open-reply.ensures.on
       | in-Replace w ↦ subst Goes (sym w.opened-is) w.reserve-reply.ensures.on
+      | in-Rewrite w ↦ subst Goes (sym w.opened-is) w.rewrite-reply.ensures.on
       | in-Link w ↦ subst Goes (sym w.opened-is) w.reserve-reply-in-Link.ensures.on
       | in-Free w ↦ subst Goes (sym w.opened-is) w.reserve-reply-in-Free.ensures.on
       | in-Open w ↦ subst Goes (sym w.opened-is) (runs_on_same g.D.Device.trace (config_of old.log) (config_of old.log) refl)

@@ -1,0 +1,228 @@
+-- A page that is one item in a blob: its message may come again behind all that was reserved, with the item of that blob, which no crash takes.
+use Rattle.std.proofs.Common.{◌≡◌, ◌≢◌, ◌∙◌, ◌<◌, ℕ, ℤ, Bool, true, false, if◌then◌else◌, List, [], ◌∷◌, Err, None, Ok, Some, ap, arith, inl, inr, length, refl, subst, sym}
+use Rattle.std.specs.List.{Contains}
+use Rattle.std.proofs.lemmas.List.Elements.{All-contains}
+use Rattle.std.proofs.lemmas.Option.{same_Some}
+use Rattle.sled_codec.specs.declared.result.DiskPtr.{DiskPtr}
+use Rattle.sled_codec.specs.declared.result.DiskPtr.TheVariants.{Inline, Blob}
+use Rattle.sled_codec.specs.declared.result.Error.{Error}
+use Rattle.sled_codec.specs.declared.result.Error.TheVariants as error
+use Rattle.sled_codec.specs.declared.serialization.message.LogKind.{LogKind}
+use Rattle.sled_codec.specs.declared.serialization.message.LogKind.TheVariants as does
+use Rattle.sled_codec.specs.History.{History, Message, is_replace, page_state, table}
+use Rattle.sled_store.specs.Device.{Trace}
+use Rattle.sled_store.proofs.Segments.TableEntries.{from_table}
+use Rattle.sled_core.specs.declared.logger.Log.{Log}
+use Rattle.sled_core.specs.declared.reservation.Reservation.{Reservation}
+use Rattle.sled_core.specs.Causes.{RewriteAnswers}
+use Rattle.sled_core.specs.Fits.{Awaits, FitsInline, IsLeastOpen, IsUnchanged, IsUsedUpFor, KeepsAll, fault_of, message_rewriting, next_place, open_for, segment_size_of}
+use Rattle.sled_core.specs.Keeps.{KeepsSeen, Preserves}
+use Rattle.sled_core.specs.Manifests.{manifest_page}
+use Rattle.sled_core.specs.Reserves.{StandsBehind}
+use Rattle.sled_core.specs.Running.{Fits, IsStored}
+use Rattle.sled_core.proofs.PublicLaws.{can_rewrite, fits_reach, target_above}
+use Rattle.sled_log.specs.declared.session.Phase.TheVariants.{Open}
+use Rattle.sled_log.specs.declared.session.command.Command.TheVariants as command
+use Rattle.sled_log.specs.declared.session.command.Reply.{Reply}
+use Rattle.sled_log.specs.declared.session.command.Reply.TheVariants as reply
+use Rattle.sled_log.specs.declared.session.opened.Opened.{Opened}
+use Rattle.sled_log.specs.Made.{HasBlobIn, IsMade, JoinsWithBlob}
+use Rattle.sled_log.specs.Refusals.{has_no_blob, is_busy, reason_of, refusal_for}
+use Rattle.sled_log.specs.Reservations.{HoldsTicket, MakesRoom}
+use Rattle.sled_log.specs.RunPhases.{Does, IsOpenAt, Unstored, device_in, seen, seen_log, stands, traces}
+use Rattle.sled_log.specs.RunStates.{DeviceView, RunState, blob_in, is_present, one_blob, page_now, target_in, top}
+use Rattle.sled_log.specs.TicketSteps.{RefusedStep, RewriteStep}
+use Rattle.sled_log.proofs.Sessions.Carried.{acting, passes, stepping}
+use Rattle.sled_log.proofs.Sessions.KeptPlaces.{KeptPlace, held_message, over_log, with_ticket}
+use Rattle.sled_log.proofs.Sessions.MadeHistories.{of_page_same}
+use Rattle.sled_log.proofs.Sessions.ReservedPlaces.{beside_least, out_of_reach}
+use Rattle.sled_log.proofs.Sessions.Reserving.{by_room, room_at, room_stands, still_at, unchanged_holds, unchanged_stands}
+
+-- only a Replace begins a page with something on it
+replace_kind : (k : LogKind) → is_replace k ≡ true → k ≡ does.Replace
+replace_kind does.Replace is = refl
+replace_kind does.Link is = cc
+replace_kind does.Free is = cc
+replace_kind does.Skip is = cc
+replace_kind does.Corrupted is = cc
+
+-- What a page is that is one item in a blob: a Replace that names it.
+pub record IsOneBlob (ms : List Message) (blob : ℤ) : Type 0 where
+  pub message : Message
+  pub is : ms ≡ message ∷ []
+  pub replaces : message.kind ≡ does.Replace
+  pub lid : ℕ
+  pub points : message.pointer ≡ Blob lid blob
+
+pub one_blob_is : (ms : List Message) (blob : ℤ) → one_blob ms ≡ Some blob → IsOneBlob ms blob
+one_blob_is [] blob is = cc
+one_blob_is (m ∷ n ∷ ms) blob is = cc
+one_blob_is (m ∷ []) blob is = by (is_replace m.kind) refl m.pointer refl is where
+  by : (t : Bool) → is_replace m.kind ≡ t → (p : DiskPtr) → m.pointer ≡ p → (if t then blob_in p else None) ≡ Some blob → IsOneBlob (m ∷ []) blob
+  by true replaces (Blob lid place) points same =
+      record { message = m; is = refl; replaces = replace_kind m.kind replaces; lid = lid; points = points ∙ ap (λ (z : ℤ). Blob lid z) (same_Some place blob same) }
+  by true replaces (Inline lid) points same = cc
+  by false replaces p points same = cc
+
+-- it is present
+pub one_present : (ms : List Message) (blob : ℤ) → IsOneBlob ms blob → is_present ms ≡ true
+one_present ms blob one = ap is_present one.is ∙ ap is_replace one.replaces
+
+-- The table of all that there is up to the next record has what the page is.
+pub table_now : {D C : Type 0} (trace : D → Trace) (sum : List ℕ → ℕ) (log : Log D C) (H : History) (A f : ℕ) (U : List Message) → Fits trace sum log H A f U → IsMade H → (page : ℕ) → table H (next_place log) page ≡ page_now H page
+unfolding table
+table_now trace sum log H A f U fits made page =
+    let reach = fits_reach trace sum log H A f U fits in
+    ap page_state (of_page_same H.messages (next_place log) top page (λ x there same. (
+      All-contains (λ y. y.place < next_place log) H.messages x reach there,
+      All-contains (λ y. y.place < top) H.messages x made.low there,
+    )))
+
+module _ {D C : Type 0} (trace : D → Trace) (sum : List ℕ → ℕ) (opened : Opened D C) (k : Unstored) (at : IsOpenAt trace sum opened k) (page : ℕ) (blob : ℤ) (one : IsOneBlob (page_now k.history page) blob) where
+  -- its message is of the history, and of the page
+  there : Contains (table k.history top page) one.message
+  there = subst (λ ms. Contains ms one.message) (sym one.is) (0, omega (arith), refl)
+
+  found : Contains k.history.messages one.message × (one.message.page ≡ page) × (one.message.place < top)
+  found = from_table k.history top page one.message there
+
+  -- The message that comes for it is stored,
+  pub rewriting_stored : IsStored trace sum opened.log (message_rewriting opened.log page blob one.message.bytes)
+  rewriting_stored =
+      subst (λ p. IsStored trace sum opened.log (message_rewriting opened.log p blob one.message.bytes)) found.1
+      (can_rewrite trace sum opened.log k.history k.acknowledged k.floor at.unmarked one.message one.lid blob at.fits
+      (subst (λ p. Contains (table k.history (next_place opened.log) p) one.message) (sym found.1)
+      (subst (λ ms. Contains ms one.message) (sym (table_now trace sum opened.log k.history k.acknowledged k.floor at.unmarked at.fits at.made page)) there))
+      one.replaces one.points)
+
+  -- and its blob is at the place of a message of the history below it.
+  pub rewriting_joins : JoinsWithBlob k.history (message_rewriting opened.log page blob one.message.bytes) (message_rewriting opened.log page blob one.message.bytes).pointer
+  rewriting_joins =
+      let has = subst (HasBlobIn k.history one.message) one.points (at.made.blobs one.message found.0) in
+      let reach = All-contains (λ y. y.place < next_place opened.log) k.history.messages has.0 (fits_reach trace sum opened.log k.history k.acknowledged k.floor at.unmarked at.fits) has.1 in
+      let up = target_above opened.log page 8 (let least = opened.log.config.config.least in omega (arith, least)) in
+      inr (has.0, has.1, omega (arith, reach, up), has.3)
+
+-- What a Rewrite comes to: the device is left alone.
+pub record HasTriedAgain {D C : Type 0} (view : D → DeviceView) (sum : List ℕ → ℕ) (old : Opened D C) (page : ℕ) (new : Opened D C) (result : Reply) (k : Unstored) : Type 0 where
+  pub not_refused : reason_of result ≡ None
+  pub device : device_in view (Open new) ≡ device_in view (Open old)
+  pub tickets : Unstored
+  pub step : RewriteStep (segment_size_of old.log) (stands view (Open old) k) (seen old k.tickets) page result (device_in view (Open new)) (stands view (Open new) tickets)
+  pub at : IsOpenAt (traces view) sum new tickets
+
+-- It is what the command comes to.
+pub rewrite_does : {D C : Type 0} (view : D → DeviceView) (sum : List ℕ → ℕ) (old : Opened D C) (page : ℕ) (new : Opened D C) (result : Reply) (k : Unstored) → HasTriedAgain view sum old page new result k → Does view sum (Open old) (command.Rewrite page) (Open new, result) k
+rewrite_does view sum old page new result k tried =
+    let size : ℕ = segment_size_of old.log in
+    let a : RunState = stands view (Open old) k in
+    let now : DeviceView = device_in view (Open new) in
+    record {
+      not_refused = tried.not_refused;
+      acts = acting sum size a (command.Rewrite page) result now tried.not_refused tried.device;
+      step = λ own. (tried.tickets, stepping sum size a (command.Rewrite page) result now (stands view (Open new) tried.tickets) tried.not_refused tried.step, tried.at);
+    }
+
+-- Where it isn't refused, the page is one item in a blob and has no open ticket.
+pub rewrite_may : {D C : Type 0} (view : D → DeviceView) (old : Opened D C) (k : Unstored) (page : ℕ) → refusal_for (stands view (Open old) k) (command.Rewrite page) ≡ None
+    → (has_no_blob k.history page ≡ false) × (is_busy (seen old k.tickets) page ≡ false)
+rewrite_may view old k page free =
+    let first = passes _ _ _ free in
+    let blob = passes (has_no_blob k.history page) _ _ first.1 in
+    (blob.0, (passes (is_busy (seen old k.tickets) page) _ _ blob.1).0)
+
+-- Room for its ticket is made first.
+module _ {D C : Type 0} (view : D → DeviceView) (sum : List ℕ → ℕ) (old mid : Opened D C) (k : Unstored) (page : ℕ) (room : MakesRoom old mid) (at : IsOpenAt (traces view) sum old k) where
+  -- What it comes to once room was made it comes to before.
+  over_room : (new : Opened D C) (result : Reply) → HasTriedAgain view sum mid page new result k → HasTriedAgain view sum old page new result k
+  over_room new result tried =
+      let now : DeviceView = device_in view (Open new) in
+      let run : Log D C → ℕ → RunState = λ x begun. record { device = view x.config.device; history = k.history; acknowledged = k.acknowledged; floor = k.floor; log = Some (seen_log x begun k.tickets) } in
+      record {
+        not_refused = tried.not_refused;
+        device = tried.device ∙ ap (λ x. view x.config.device) room.log;
+        tickets = tried.tickets;
+        step = by_room old mid (λ x begun. RewriteStep (segment_size_of x) (run x begun) (seen_log x begun k.tickets) page result now (stands view (Open new) tried.tickets)) room tried.step;
+        at = tried.at;
+      }
+
+  -- Without room nothing is done.
+  pub roomless_again : fault_of old.log ≡ None → HasTriedAgain view sum old page mid (reply.Failed error.OutOfMemory) k
+  roomless_again whole = record {
+    not_refused = refl;
+    device = ap (λ x. view x.config.device) room.log;
+    tickets = k;
+    step = (whole, room_stands view old mid k room);
+    at = room_at (traces view) sum old mid k room at;
+  }
+
+  module _ (log : Log D C) (same : KeepsAll mid.log log) (keeps : Preserves (traces view) sum mid.log log) where
+    at_mid : IsOpenAt (traces view) sum mid k
+    at_mid = room_at (traces view) sum old mid k room at
+
+    eight : FitsInline (segment_size_of mid.log) 8
+    eight = let least = mid.log.config.config.least in omega (arith, least)
+
+    kept_seen : KeepsSeen mid.log log
+    kept_seen = record { synced = same.synced; noted = same.noted; pins = same.pins }
+
+    -- A log that kept no place is as it was.
+    refused_step : (a b : RunState) (e : Error) → b ≡ a → RewriteAnswers {T = Reservation} (Err e) (fault_of mid.log) (IsUsedUpFor mid.log page 8) (open_for mid.log page 8) (IsLeastOpen mid.log)
+        → RefusedStep (segment_size_of mid.log) a (seen mid k.tickets) (target_in (segment_size_of mid.log) (seen mid k.tickets) page 8) e b
+    refused_step a b (error.Io x) is answers = (answers, is)
+    refused_step a b error.OutOfMemory is answers = (answers.0, is)
+    refused_step a b error.PlacesUsedUp is answers = (answers.0, out_of_reach mid.log (length mid.pages.items) k.tickets sum page 8 eight answers.1, is)
+    refused_step a b (error.Held p) is answers = (beside_least mid.log (length mid.pages.items) k.tickets sum page 8 eight p answers.0 answers.2 answers.3, is)
+    refused_step a b _ is answers = absurd answers
+
+    pub failed_again : (e : Error) → RewriteAnswers {T = Reservation} (Err e) (fault_of mid.log) (IsUsedUpFor mid.log page 8) (open_for mid.log page 8) (IsLeastOpen mid.log) → IsUnchanged mid.log log
+        → HasTriedAgain view sum old page (over_log mid log) (reply.Failed e) k
+    failed_again e answers unchanged = over_room (over_log mid log) (reply.Failed e) (record {
+      not_refused = refl;
+      device = ap (λ x. view x.device) same.config;
+      tickets = k;
+      step = refused_step (stands view (Open mid) k) (stands view (Open (over_log mid log)) k) e (unchanged_stands view mid log k unchanged kept_seen) answers;
+      at = still_at (traces view) sum mid (over_log mid log) k (unchanged_holds (traces view) sum mid.log log unchanged keeps) refl refl (λ p. refl) refl at_mid;
+    })
+
+    -- The place that it kept has a ticket.
+    module _ (blob : ℤ) (one : one_blob (page_now k.history page) ≡ Some blob) (reservation : Reservation) (awaits : (item : List ℕ) → Awaits log reservation (message_rewriting mid.log page blob item))
+        (answers : RewriteAnswers (Ok reservation) (fault_of mid.log) (IsUsedUpFor mid.log page 8) (open_for mid.log page 8) (IsLeastOpen mid.log)) (behind : StandsBehind sum mid.log log page 8)
+        (others : (ticket : Reservation) (m : Message) → Awaits mid.log ticket m → Awaits log ticket m) where
+      its_one : IsOneBlob (page_now k.history page) blob
+      its_one = one_blob_is (page_now k.history page) blob one
+
+      abbrev its : Message
+      its = message_rewriting mid.log page blob its_one.message.bytes
+
+      none : fault_of log ≡ None
+      none = same.fault ∙ answers.0
+
+      kept : KeptPlace (traces view) sum mid.log log 8 its reservation
+      kept = record {
+        place = refl;
+        size = refl;
+        ticket = awaits its_one.message.bytes;
+        stored = keeps.goes_on.items none its (rewriting_stored (traces view) sum mid k at_mid page blob its_one);
+        behind = behind;
+        others = others;
+        fault = answers.0;
+        sound = none;
+        free = answers.1;
+        few = answers.2;
+        keeps = keeps;
+        seen = kept_seen;
+      }
+
+      pub held_again : (new : Opened D C) (result : Reply) → HoldsTicket (over_log mid log) new does.Replace page reservation result → page < length mid.busy.items → page ≢ manifest_page
+          → is_busy (seen old k.tickets) page ≡ false → HasTriedAgain view sum old page new result k
+      held_again new result holds small message idle =
+          let held = held_message view sum mid new log 8 its reservation result k kept holds at_mid eight (inl refl) (rewriting_joins (traces view) sum mid k at_mid page blob its_one) small message
+          (record { known = inr (one_present (page_now k.history page) blob its_one); idle = idle; few = λ is. cc }) in
+          over_room new result (subst (λ r. HasTriedAgain view sum mid page new r k) (sym holds.told) (record {
+            not_refused = refl;
+            device = ap (λ x. view x.config.device) holds.log ∙ ap (λ x. view x.device) same.config;
+            tickets = with_ticket k its;
+            step = record { message = its_one.message; is = its_one.is; blob = blob; there = ap one_blob (sym its_one.is) ∙ one; reserved = held.reserved };
+            at = held.at;
+          }))
