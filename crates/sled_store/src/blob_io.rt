@@ -221,6 +221,7 @@ pub fn gc_blobs<D: Device, C: Checksum>(config: &mut RunningConfig<D, C>, least:
     ensures calls { let file = (state_of (D.trace config.old.device)).blobs.file in
         (places : List ℤ) × MayGo file least places × Performs (removing_blobs places) (D.trace config.old.device) (D.trace config.new.device) }
     ensures answers { RemoveAnswers result (D.faults config.old.device) (D.faults config.new.device) }
+    ensures refused { UnlessFault result (D.trace config.old.device) (D.trace config.new.device) }
     ensures config { config.new.config ≡ config.old.config }
     ensures checksum { config.new.checksum ≡ config.old.checksum }
 {
@@ -233,6 +234,7 @@ fn remove_listed<D: Device>(device: &mut D, places: &[i64], least: Lsn) -> Resul
     ensures done { OnOk result (D.trace device.new ≡ after_all (removing_blobs (from_place least places.now)) (D.trace device.old)) }
     ensures calls { Performs (removing_blobs (from_place least places.now)) (D.trace device.old) (D.trace device.new) }
     ensures answers { RemoveAnswers result (D.faults device.old) (D.faults device.new) }
+    ensures memory { IfErr result (λ e. e ≢ Error.OutOfMemory) }
 {
     for place in places {
         remove_from(device, place, least)?;
@@ -245,6 +247,7 @@ fn remove_from<D: Device>(device: &mut D, place: &i64, least: Lsn) -> Result<()>
     ensures done { OnOk result (D.trace device.new ≡ after_all (removing_blobs (from_place least (place.now ∷ []))) (D.trace device.old)) }
     ensures calls { Performs (removing_blobs (from_place least (place.now ∷ []))) (D.trace device.old) (D.trace device.new) }
     ensures answers { RemoveAnswers result (D.faults device.old) (D.faults device.new) }
+    ensures memory { IfErr result (λ e. e ≢ Error.OutOfMemory) }
 {
     let place = *place;
     if place < least {
