@@ -1,8 +1,8 @@
 //! The segment log, under the names that its users write.
 //!
 //! The crates below are layers: formats, device, log. Here each module has what belongs together for a
-//! user, whichever layer it is from; beside that stand recovery (`snapshot`, `restart`, and the slow
-//! `plain` for tests) and runs of commands (`run`).
+//! user, whichever layer it is from; beside that stand recovery (`snapshot`, with the slow
+//! `snapshot::reference` for tests, and `restart`) and runs of commands (`session`).
 #![tactic(auto)]
 
 pub use sled_codec::{result as result, serialization as serialization};
