@@ -2,6 +2,7 @@
 use Rattle.std.specs.Prelude.{◌≡◌, ◌⊎◌, ◌+◌, ◌%◌, ◌^◌, ℕ, List, Option, None, Some, IsSome, IsTrue, Result, Ok, Err}
 use Rattle.std.specs.declared.io.Error.{Error as IoError}
 use Rattle.sled_codec.specs.declared.result.Error.{Error}
+use Rattle.sled_codec.specs.declared.serialization.snapshot.Snapshot.{Snapshot}
 use Rattle.sled_codec.specs.declared.result.Error.TheVariants.{Io, OutOfMemory, PlacesUsedUp}
 use Rattle.sled_codec.specs.History.{Message, History}
 use Rattle.sled_store.specs.Answers.{is_fault}
@@ -13,7 +14,7 @@ use Rattle.sled_core.specs.Fits.{device_of, flushing, segment_size_of}
 use Rattle.sled_core.specs.Recoverable.{NoForeign}
 use Rattle.sled_core.specs.Running.{Fits}
 use Rattle.sled_log.specs.Orderly.{IsOrderly}
-use Rattle.sled_log.specs.Restores.{RecoveryCalls}
+use Rattle.sled_log.specs.Restores.{ComesOf}
 
 -- the device, once what was reserved is written
 abbrev pub flushed_state : {D C : Type 0} → (D → Trace) → (List ℕ → ℕ) → Log D C → State
@@ -34,9 +35,13 @@ FlushFails (Err PlacesUsedUp) used fault before after = used × (fault ≡ None)
 FlushFails (Err _) used fault before after = ⊥
 FlushFails (Ok _) used fault before after = ⊥
 
+-- All was written, and what is answered came of a recovery of that.
+pub record HasRestarted (sum : List ℕ → ℕ) (size : ℕ) (flushed new : Trace) (result : Result Snapshot Error) (before after : ℕ) : Type 0 where
+  pub comes : ComesOf sum size flushed new result
+  pub answers : ItemAnswers sum (state_of flushed).blobs.file result before after
+
 -- The flush failed, and nothing was done but its calls, up to one that failed, or none where the log kept a failure. Or all was written, and recovered.
-abbrev pub Restarts : {T : Type 0} → (List ℕ → ℕ) → ℕ → List Event → Type 0 → Option IoError → Result T Error → (old new : Trace) (before after : ℕ)
-    → Type 0
+abbrev pub Restarts : (List ℕ → ℕ) → ℕ → List Event → Type 0 → Option IoError → Result Snapshot Error → (old new : Trace) (before after : ℕ) → Type 0
 Restarts sum size flushes used fault result old new before after =
     (Performs flushes old new × (IsSome fault → new ≡ old) × FlushFails result used fault before after)
-    ⊎ ((fault ≡ None) × (used → ⊥) × RecoveryCalls sum size (after_all flushes old) new × ItemAnswers sum (state_of (after_all flushes old)).blobs.file result before after)
+    ⊎ ((fault ≡ None) × (used → ⊥) × HasRestarted sum size (after_all flushes old) new result before after)

@@ -4,6 +4,7 @@
 //! it holds that history again (`specs/Recovery.antt`; `Log::start`).
 ghost use Rattle.std.specs.Prelude.{◌+◌, ◌≤◌, ℕ, List, IfOk, max};
 ghost use Rattle.std.specs.List.{All};
+ghost use Rattle.sled_codec.specs.Errors.{IsCorruption};
 ghost use Rattle.sled_codec.specs.History.{History, Message};
 ghost use Rattle.sled_codec.specs.PageTables.{IsTable};
 ghost use Rattle.sled_codec.specs.Snapshots.{model_of, stable_place};
@@ -28,8 +29,8 @@ use sled_store::{Device, RunningConfig};
 ///
 /// # Errors
 ///
-/// Those of `Log::flush`, and then nothing else was done; else those of `read_snapshot_or_default`. The configuration
-/// comes back with each of them.
+/// Those of `Log::flush`, and then nothing else was done; else those of `read_snapshot_or_default`, which finds no damage
+/// (`Corruption`) where the log fits an orderly history. The configuration comes back with each of them.
 pub fn restart<D: Device, C: Checksum>(log: Log<D, C>) -> (RunningConfig<D, C>, Result<Snapshot>)
     requires ended { NoneOpen log }
     ensures table { (H : History) (A f : ℕ) (U : List Message) → CanRestart D.trace C.sum_of log H A f U
@@ -39,6 +40,7 @@ pub fn restart<D: Device, C: Checksum>(log: Log<D, C>) -> (RunningConfig<D, C>, 
     ensures ready { (H : History) (A f : ℕ) (U : List Message) → CanRestart D.trace C.sum_of log H A f U
         → IfOk result.1 (λ s. Ready C.sum_of (segment_size_of log) (state_of (D.trace result.0.device)) (model_of s) H
         (max A (end_below (reserved_end log) H)) (stable_place s.stable_lsn)) }
+    ensures undamaged { (H : History) (A f : ℕ) (U : List Message) → CanRestart D.trace C.sum_of log H A f U → IsCorruption result.1 → ⊥ }
     ensures did { let old = device_of log in let new = result.0.device in
         Restarts C.sum_of (segment_size_of log) (flushing C.sum_of log) (IsUsedUpBelow log (reserved_end log)) (fault_of log) result.1
         (D.trace old) (D.trace new) (D.faults old) (D.faults new) }

@@ -6,28 +6,28 @@ use Rattle.sled_codec.specs.History.{Message}
 use Rattle.sled_codec.specs.PageTables.{IsTable}
 use Rattle.sled_codec.specs.Snapshots.{model_of, stable_place}
 use Rattle.sled_store.specs.declared.config.RunningConfig.{RunningConfig}
-use Rattle.sled_store.specs.Blobs.{ItemAnswers}
 use Rattle.sled_store.specs.Device.{Trace, state_of, content_of}
 use Rattle.sled_store.specs.Moments.{LeavesOnly}
 use Rattle.sled_store.specs.Script.{Performs, after_all}
+use Rattle.sled_store.proofs.Crashes.SettledLemmas.{read_left}
 use Rattle.sled_store.proofs.Traces.MomentLemmas.{joined}
 use Rattle.sled_core.specs.Fits.{IsKept, IsUsedUpBelow, device_of, fault_of, flushing, holding_below, reserved_end, segment_size_of, synced_end}
 use Rattle.sled_core.proofs.Logged.Alike.{table_alike}
 use Rattle.sled_core.proofs.Logged.Messages.{logged_below, logged_twice}
 use Rattle.sled_core.proofs.PublicLaws.{ready_with_less}
 use Rattle.sled_core.specs.Logged.{logged}
-use Rattle.sled_core.specs.Recoverable.{LeavesRecoverable, NoForeign, RecoverableIfOwn}
+use Rattle.sled_core.specs.Recoverable.{LeavesRecoverable, NoForeign, Recoverable, RecoverableIfOwn}
 use Rattle.sled_core.specs.Running.{Ready, end_below}
 use Rattle.sled_core.proofs.Holds.ReachLemmas.{fits_holds}
 use Rattle.sled_core.proofs.Holds.RunningLemmas.{fits_leaves}
 use Rattle.sled_core.proofs.Read.ReadingLemmas.{if_ok}
 use Rattle.sled_log.specs.Orderly.{CanRecover}
-use Rattle.sled_log.specs.Restarts.{FlushFails}
-use Rattle.sled_log.specs.Restores.{RecoveryCalls, Restores}
+use Rattle.sled_log.specs.Restarts.{FlushFails, HasRestarted}
+use Rattle.sled_log.specs.Restores.{Restores}
 use Rattle.sled_log.proofs.Ready.ComesBack.{ready_kept}
 use Rattle.sled_core.proofs.PublicLaws.{none_holding}
 use Rattle.sled_log.proofs.Sessions.RunLogs.{end_rises}
-use Rattle.sled_log.proofs.WriteBack.RestartCauses.{flush_fails, some_of}
+use Rattle.sled_log.proofs.WriteBack.RestartCauses.{can_recover, flush_fails, some_of}
 use Rattle.sled_log.proofs.restart.restart.Goals as goal
 
 pub returns-in-Ok-clause-ready : goal.returns-in-Ok-clause-ready
@@ -45,10 +45,7 @@ returns-in-Ok-clause-ready g c = λ H A f U can.
     let sizes : config.config.segment_size ≡ size = ap (λ (x : RunningConfig _ _). x.config.segment_size) is ∙ now_size in
     let same : old ≡ trace (device_of log) = ap (λ (x : RunningConfig _ _). trace x.device) is in
     let came : old ≡ after_all (flushing sum c.args.log) (trace (device_of c.args.log)) = same ∙ c.in-Ok.ensures.calls in
-    let left : LeavesRecoverable sum size H end f (state_of old) =
-    subst (λ (t : Trace). LeavesRecoverable sum size H end f (state_of t)) (sym same) (subst (λ n. LeavesRecoverable sum n H end f (state_of (trace (device_of log)))) now_size (fits_leaves trace sum log H end f U (c.in-Ok.ensures.acknowledges H A f U can.fits))) in
-    let there : CanRecover sum size (state_of old) H end f =
-    record { orderly = can.orderly; left = left; own = subst (λ (t : Trace). NoForeign sum size (state_of t) (content_of (state_of t))) (sym came) can.own } in
+    let there : CanRecover sum size (state_of old) H end f = can_recover trace sum c.args.log log config.device H A end f U now_size same came can (c.in-Ok.ensures.acknowledges H A f U can.fits) in
     let kept : IsKept sum size log.site log.buffer.written_len (state_of old) (logged H) =
     subst (λ (t : Trace). IsKept sum size log.site log.buffer.written_len (state_of t) (logged H)) (sym same)
     (subst (λ n. IsKept sum n log.site log.buffer.written_len (state_of (trace (device_of log))) (logged H)) now_size (c.in-Ok.ensures.records H (fits_holds trace sum c.args.log H A f U can.fits))) in
@@ -70,6 +67,24 @@ returns-in-Ok-clause-past g c = λ H A f U can.
     if_ok c.read_snapshot_or_default-snapshot.result _ (λ s. All (λ (m : Message). m.place + m.size ≤ stable_place s.stable_lsn) H.messages)
     (λ s ready k d lt. (logged_below (stable_place s.stable_lsn) H ready.ready.below k d lt).1) (returns-in-Ok-clause-ready g c H A f U can)
 
+-- A recovery of what was flushed meets no damage.
+pub returns-in-Ok-clause-undamaged : goal.returns-in-Ok-clause-undamaged
+returns-in-Ok-clause-undamaged g c = λ H A f U can.
+    let trace = g.D.Device.trace in
+    let sum = g.C.Checksum.sum_of in
+    let log = c.flush-flushed.new.self in
+    let config = c.halt-config.result in
+    let old : Trace = trace config.device in
+    let is = c.halt-config.ensures.config in
+    let size : ℕ = segment_size_of c.args.log in
+    let end : ℕ = max A (end_below (synced_end log) H) in
+    let now_size : segment_size_of log ≡ size = c.flush-flushed.ensures.position.size in
+    let sizes : config.config.segment_size ≡ size = ap (λ (x : RunningConfig _ _). x.config.segment_size) is ∙ now_size in
+    let same : old ≡ trace (device_of log) = ap (λ (x : RunningConfig _ _). trace x.device) is in
+    let there : CanRecover sum size (state_of old) H end f = can_recover trace sum c.args.log log config.device H A end f U now_size same (same ∙ c.in-Ok.ensures.calls) can (c.in-Ok.ensures.acknowledges H A f U can.fits) in
+    let reads = there.left (content_of (state_of old)) (read_left old) there.own in
+    (c.read_snapshot_or_default-snapshot.ensures.read H end f can.orderly (subst (λ n. Recoverable sum n (content_of (state_of old)) H end f) (sym sizes) reads)).0
+
 -- the size is the same behind flush and halt
 pub returns-in-Ok-clause-did : goal.returns-in-Ok-clause-did
 returns-in-Ok-clause-did g c =
@@ -82,13 +97,17 @@ returns-in-Ok-clause-did g c =
     let came : trace config.device ≡ after_all (flushing sum c.args.log) (trace (device_of c.args.log)) = ap (λ (x : RunningConfig _ _). trace x.device) is ∙ c.in-Ok.ensures.calls in
     let answers = c.in-Ok.ensures.answers in
     let counted : g.D.Device.faults config.device ≡ g.D.Device.faults (device_of c.args.log) = ap (λ (x : RunningConfig _ _). g.D.Device.faults x.device) is ∙ answers.4 in
+    let recovery = c.read_snapshot_or_default-snapshot in
+    let restarted : HasRestarted sum config.config.segment_size (trace config.device) (trace new.device) recovery.result (g.D.Device.faults config.device) (g.D.Device.faults new.device) = record {
+      comes = record { calls = recovery.ensures.calls; ok = recovery.ensures.ok; corrupt = recovery.ensures.corrupt };
+      answers = recovery.ensures.answers;
+    } in
     inr (
       answers.2,
       answers.1,
-      subst (λ n. RecoveryCalls sum n (after_all (flushing sum c.args.log) (trace (device_of c.args.log))) (trace new.device)) sizes
-          (subst (λ (t : Trace). RecoveryCalls sum config.config.segment_size t (trace new.device)) came c.read_snapshot_or_default-snapshot.ensures.calls),
-      subst (λ n. ItemAnswers sum (state_of (after_all (flushing sum c.args.log) (trace (device_of c.args.log)))).blobs.file c.read_snapshot_or_default-snapshot.result n (g.D.Device.faults new.device)) counted
-          (subst (λ (t : Trace). ItemAnswers sum (state_of t).blobs.file c.read_snapshot_or_default-snapshot.result (g.D.Device.faults config.device) (g.D.Device.faults new.device)) came c.read_snapshot_or_default-snapshot.ensures.answers),
+      subst (λ n. HasRestarted sum (segment_size_of c.args.log) (after_all (flushing sum c.args.log) (trace (device_of c.args.log))) (trace new.device) recovery.result n (g.D.Device.faults new.device)) counted
+          (subst (λ (t : Trace). HasRestarted sum (segment_size_of c.args.log) t (trace new.device) recovery.result (g.D.Device.faults config.device) (g.D.Device.faults new.device)) came
+          (subst (λ n. HasRestarted sum n (trace config.device) (trace new.device) recovery.result (g.D.Device.faults config.device) (g.D.Device.faults new.device)) sizes restarted)),
     )
 
 pub returns-in-Ok-clause-crash : goal.returns-in-Ok-clause-crash
