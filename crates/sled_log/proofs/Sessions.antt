@@ -2,6 +2,7 @@ pub mod Carried
 pub mod EndedBatches
 pub mod EndedTickets
 pub mod Endings
+pub mod Headline
 pub mod KeptPlaces
 pub mod MadeBatches
 pub mod MadeHistories

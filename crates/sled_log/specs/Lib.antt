@@ -1,4 +1,5 @@
 pub mod Endings
+pub mod Headline
 pub mod IteratorBegins
 pub mod Made
 pub mod Openings

@@ -13,6 +13,7 @@ use Rattle.sled_store.specs.declared.device.choice.Choice.{Choice}
 use Rattle.sled_store.specs.Device.{Event, Left, Trace, State, Synced, NamesSynced, Crashed, Settled, state_of, content_of, content_left}
 use Rattle.sled_store.specs.Answers.{is_fault}
 use Rattle.sled_store.specs.Chosen.{MayBeChosen}
+use Rattle.sled_store.specs.Moments.{IsLater}
 use Rattle.sled_store.specs.Noted.{left_of}
 use Rattle.sled_store.specs.Script.{Performs, after_all}
 use Rattle.sled_store.specs.Begin.{IsStartable, IsInReach}
@@ -53,7 +54,7 @@ left_after choice _ = Settled []
 -- Only what the log itself wrote passes as its own, in what a recovery reads and in what a crash leaves.
 abbrev pub IsOwn : (List ℕ → ℕ) → ℕ → State → Command → Reply → Type 0
 IsOwn sum size s command.Open r = NoForeign sum size s (content_of s)
-IsOwn sum size s (command.Crash choice) r = NoForeign sum size s (content_left (left_after choice r) s)
+IsOwn sum size s (command.Crash choice) (reply.Crashed taken) = NoForeign sum size s (content_left (left_after choice (reply.Crashed taken)) s)
 IsOwn sum size s _ r = Unit {0}
 
 -- What a command does to the device, whatever that has.
@@ -82,9 +83,16 @@ pub record StartFailed (size : ℕ) (e : Error) (old new : DeviceView) (s : Snap
   pub cause : StartRefuses e (IsStartable size (length_of old) s) (IsInReach size (length_of old) s) (new.trace ≡ old.trace) old.failures new.failures
   pub calls : Performs (starting size old.trace s) old.trace new.trace
 
+-- what an opening shows of a snapshot
+pub record IsShown (stable : Option ℤ) (active : Option ℕ) (pages : ℕ) (s : SnapshotModel) : Type 0 where
+  pub stable_is : stable ≡ s.stable
+  pub active_is : active ≡ s.active
+  pub pages_are : pages ≡ length s.pages
+
 -- A recovery was made and a log started on what it shows, or its calls were made up to one that failed.
 abbrev pub OpenActs : (List ℕ → ℕ) → ℕ → DeviceView → Reply → DeviceView → Type 0
-OpenActs sum size old (reply.Opened stable active pages) new = (s : SnapshotModel) × (mid : DeviceView) × HasRecovered sum size old mid s × HasStarted size mid new s
+OpenActs sum size old (reply.Opened stable active pages) new =
+    (s : SnapshotModel) × (mid : DeviceView) × IsShown stable active pages s × HasRecovered sum size old mid s × HasStarted size mid new s
 OpenActs sum size old (reply.Failed e) new =
     RecoveryCalls sum size old.trace new.trace ⊎ ((s : SnapshotModel) × (mid : DeviceView) × HasRecovered sum size old mid s × StartFailed size e mid new s)
 OpenActs sum size old _ new = ⊥
@@ -182,23 +190,35 @@ pub record IsGoodFor (sum : List ℕ → ℕ) (size : ℕ) (a : RunState) (new :
   pub good : IsGood sum size (content_of (state_of new.trace)) a.history a.acknowledged a.floor s
   pub active : ShowsActive size (stable_place s.stable) s.active
 
--- A log goes on where the snapshot says, over as many pages as it has.
+-- A log goes on where the snapshot says that was recovered, over as many pages as it has.
 pub record HasOpened (sum : List ℕ → ℕ) (size : ℕ) (a : RunState) (stable : Option ℤ) (active : Option ℕ) (pages : ℕ) (new : DeviceView) (b : RunState) : Type 0 where
   pub snapshot : SnapshotModel
-  pub stable_is : stable ≡ snapshot.stable
-  pub active_is : active ≡ snapshot.active
-  pub pages_are : pages ≡ length snapshot.pages
-  pub good : IsGoodFor sum size a new snapshot
+  pub shown : IsShown stable active pages snapshot
   pub mid : DeviceView
+  pub recovers : HasRecovered sum size a.device mid snapshot
+  pub good : IsGoodFor sum size a new snapshot
   pub started : HasStarted size mid new snapshot
   pub leads : b ≡ recovered a new snapshot (Some (started_on size (length_of mid) snapshot))
 
--- A recovery failed; or it succeeded, and no log could be started on it.
+-- A snapshot was recovered, and no log could be started on it. The run goes on from what was recovered.
+pub record HasOnlyRecovered (sum : List ℕ → ℕ) (size : ℕ) (a : RunState) (e : Error) (new : DeviceView) (b : RunState) : Type 0 where
+  pub snapshot : SnapshotModel
+  pub mid : DeviceView
+  pub recovers : HasRecovered sum size a.device mid snapshot
+  pub good : IsGoodFor sum size a new snapshot
+  pub fails : StartFailed size e mid new snapshot
+  pub cause : IsStartCause e a.device.failures new.failures
+  pub leads : b ≡ recovered a new snapshot None
+
+-- The recovery failed.
+pub record HasNotRecovered (sum : List ℕ → ℕ) (size : ℕ) (a : RunState) (e : Error) (new : DeviceView) (b : RunState) : Type 0 where
+  pub calls : RecoveryCalls sum size a.device.trace new.trace
+  pub cause : IsCause e a.device.failures new.failures
+  pub leads : b ≡ with_log a new None
+
 abbrev pub OpenStep : (List ℕ → ℕ) → ℕ → RunState → Reply → DeviceView → RunState → Type 0
 OpenStep sum size a (reply.Opened stable active pages) new b = HasOpened sum size a stable active pages new b
-OpenStep sum size a (reply.Failed e) new b =
-    (IsCause e a.device.failures new.failures × (b ≡ with_log a new None))
-    ⊎ ((s : SnapshotModel) × IsGoodFor sum size a new s × IsStartCause e a.device.failures new.failures × (b ≡ recovered a new s None))
+OpenStep sum size a (reply.Failed e) new b = HasNotRecovered sum size a e new b ⊎ HasOnlyRecovered sum size a e new b
 OpenStep sum size a _ new b = ⊥
 
 -- the log with these buffers left, the current one from there on, and this failure kept: all before the first of them is on the device
@@ -439,13 +459,14 @@ pub record Carries (sum : List ℕ → ℕ) (size : ℕ) (a : RunState) (c : Com
   pub new : DeviceView
   pub came : Reply
   pub is_told : r ≡ told new.is_stopped came
+  pub later : IsLater a.device.trace new.trace
   pub acts : Acts sum size a c came new
   pub step : IsOwn sum size (state_of a.device.trace) c came → (b : RunState) × IsStep sum size a c came new b × Leads b
 
--- These commands are answered by these replies, from where a run stands on, and what is claimed of where they lead holds.
--- Where a command reads or leaves what is foreign, nothing more is claimed from there on.
-unfoldable pub Runs : (List ℕ → ℕ) → ℕ → RunState → List Command → List Reply → (RunState → Type 0) → Type 0
-Runs sum size a [] [] Leads = Leads a
-Runs sum size a (c ∷ cs) (r ∷ rs) Leads = Carries sum size a c r (λ b. Runs sum size b cs rs Leads)
-Runs sum size a [] (r ∷ rs) Leads = ⊥
-Runs sum size a (c ∷ cs) [] Leads = ⊥
+-- These commands are answered by these replies, from where a run stands on. What is claimed of each place between two commands holds behind each of them,
+-- and what is claimed of the end holds there. Where a command reads or leaves what is foreign, nothing more is claimed from there on.
+unfoldable pub Runs : (List ℕ → ℕ) → ℕ → (RunState → Type 0) → RunState → List Command → List Reply → (RunState → Type 0) → Type 0
+Runs sum size Between a [] [] Leads = Leads a
+Runs sum size Between a (c ∷ cs) (r ∷ rs) Leads = Carries sum size a c r (λ b. Between b × Runs sum size Between b cs rs Leads)
+Runs sum size Between a [] (r ∷ rs) Leads = ⊥
+Runs sum size Between a (c ∷ cs) [] Leads = ⊥

@@ -42,8 +42,9 @@ impl<D: CrashDevice, C: Checksum> Session<D, C> {
     ghost use Rattle.sled_codec.specs.Snapshots.{page_of};
     ghost use Rattle.sled_store.specs.Device.{state_of, fresh};
     ghost use Rattle.sled_log.specs.RunStates.{RunState, begins_on, top};
+    ghost use Rattle.sled_log.specs.Headline.{EndsWith, Recovers, past_of};
     ghost use Rattle.sled_log.specs.Runs.{Carries, Runs};
-    ghost use Rattle.sled_log.specs.RunPhases.{StandsAt, segment_size_in, view_by};
+    ghost use Rattle.sled_log.specs.RunPhases.{SomeStands, StandsAt, segment_size_in, view_by};
 
     /// Returns a session over a device that no log was written to, with no log open.
     pub fn new(alloc: Global, config: Config, device: D, checksum: C) -> Session<D, C>
@@ -71,7 +72,10 @@ impl<D: CrashDevice, C: Checksum> Session<D, C> {
     pub fn run(&mut self, commands: &[Command]) -> Result<Vec<Reply>, AllocError>
         ensures headline { let view = view_by D.trace D.faults D.is_stopped D.stops_in in
             (a : RunState) → StandsAt view C.sum_of self.old a → IfOk result (λ replies.
-            Runs C.sum_of (segment_size_in self.old) a commands.now replies.items (StandsAt view C.sum_of self.new)) }
+            Runs C.sum_of (segment_size_in self.old) (SomeStands D C view C.sum_of) a commands.now replies.items (StandsAt view C.sum_of self.new)) }
+        ensures recovers { let view = view_by D.trace D.faults D.is_stopped D.stops_in in
+            (a : RunState) → StandsAt view C.sum_of self.old a → IfOk result (λ replies.
+            Recovers C.sum_of (segment_size_in self.old) (past_of a) commands.now replies.items (EndsWith view C.sum_of self.new)) }
         ensures size { segment_size_in self.new ≡ segment_size_in self.old }
         ensures refused { OnErr result (self.new ≡ self.old) }
     {

@@ -484,7 +484,7 @@ module _ {D C : Type 0} (view : D → DeviceView) (sum : List ℕ → ℕ) (old 
 -- The messages of a page.
 
 -- each message has a size where they lie apart
-sized : (ms : List Message) → LieApart ms → All (λ m. 0 < m.size) ms
+pub sized : (ms : List Message) → LieApart ms → All (λ m. 0 < m.size) ms
 sized [] apart = All-nil (λ m. 0 < m.size)
 sized (m ∷ ms) apart = All-cons (λ x. 0 < x.size) m ms apart.0 (sized ms apart.2)
 

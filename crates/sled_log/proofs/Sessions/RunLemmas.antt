@@ -128,6 +128,12 @@ cause_of T sum blobs error.OutOfMemory before after answers whole = answers
 cause_of T sum blobs (error.Corruption at) before after answers whole = absurd (whole tt)
 cause_of T sum blobs _ before after answers whole = absurd answers
 
+-- a cause of a recovery is one of a start
+pub start_cause_of : (e : Error) (before after : ℕ) → IsCause e before after → IsStartCause e before after
+start_cause_of (error.Io e) before after cause = cause
+start_cause_of error.OutOfMemory before after cause = cause
+start_cause_of _ before after cause = absurd cause
+
 -- so has that of a start that is not refused for damage
 pub start_cause : (e : Error) (startable in_reach unwritten : Type 0) (before after : ℕ) → StartRefuses e startable in_reach unwritten before after → (IsCorrupt e → ⊥) → IsStartCause e before after
 start_cause (error.Io e) startable in_reach unwritten before after refuses whole = refuses
@@ -207,9 +213,9 @@ module _ {D C : Type 0} (view : D → DeviceView) (sum : List ℕ → ℕ) (from
 
 -- A command that is carried out is told, or it was refused.
 module _ {D C : Type 0} (view : D → DeviceView) (sum : List ℕ → ℕ) (from : Phase D C) (c : Command) where
-  pub answered : (to : Phase D C) (came : Reply) → CarriesOut view sum from c (to, came) → ((k : Unstored) → IsAt (traces view) sum from k → None ≡ refusal_for (stands view from k) c)
-      → AnswersIn view sum from c (to, told (device_in view to).is_stopped came)
-  answered to came carries free a stands_in =
+  pub answered : (to : Phase D C) (came : Reply) → CarriesOut view sum from c (to, came) → IsLater (device_in view from).trace (device_in view to).trace
+      → ((k : Unstored) → IsAt (traces view) sum from k → None ≡ refusal_for (stands view from k) c) → AnswersIn view sum from c (to, told (device_in view to).is_stopped came)
+  answered to came carries later free a stands_in =
       let k : Unstored = stands_in.0 in
       let none = free k stands_in.2 in
       let does = carries k stands_in.2 (sym none) in
@@ -218,6 +224,7 @@ module _ {D C : Type 0} (view : D → DeviceView) (sum : List ℕ → ℕ) (from
         new = device_in view to;
         came = came;
         is_told = refl;
+        later = later;
         acts = does.acts;
         step = λ own. let done = does.step own in (stands view to done.0, done.1, (done.0, refl, done.2));
       })
@@ -235,6 +242,7 @@ module _ {D C : Type 0} (view : D → DeviceView) (sum : List ℕ → ℕ) (from
         new = device_in view from;
         came = reply.Refused w;
         is_told = as_told (device_in view from).is_stopped;
+        later = later_same (device_in view from).trace;
         acts = refl;
         step = λ own. (stands view from k, refl, (k, refl, stands_in.2));
       })

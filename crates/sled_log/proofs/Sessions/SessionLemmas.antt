@@ -50,6 +50,7 @@ carries_over sum size a c r over carries = record {
   new = carries.new;
   came = carries.came;
   is_told = carries.is_told;
+  later = carries.later;
   acts = carries.acts;
   step = λ own. let done = carries.step own in (done.0, done.1, over done.0 done.2);
 }
@@ -63,16 +64,17 @@ carried_at view sum old new phase c result was is answers a at =
 
 -- Runs.
 
--- Nothing was carried out yet.
-pub runs_none : (sum : List ℕ → ℕ) (size : ℕ) (a : RunState) (Leads : RunState → Type 0) → Leads a → Runs sum size a [] [] Leads
-unfolding Runs
-runs_none sum size a Leads at = at
+module _ (sum : List ℕ → ℕ) (size : ℕ) (Between Leads : RunState → Type 0) where
+  -- Nothing was carried out yet.
+  pub runs_none : (a : RunState) → Leads a → Runs sum size Between a [] [] Leads
+  unfolding Runs
+  runs_none a at = at
 
--- One command more is carried out.
-pub runs_more : (sum : List ℕ → ℕ) (size : ℕ) (Leads Next : RunState → Type 0) (c : Command) (r : Reply) → ((b : RunState) → Leads b → Carries sum size b c r Next)
-    → (a : RunState) (cs : List Command) (rs : List Reply) → Runs sum size a cs rs Leads → Runs sum size a (cs ++ c ∷ []) (rs ++ r ∷ []) Next
-unfolding Runs
-runs_more sum size Leads Next c r more a [] [] so_far = more a so_far
-runs_more sum size Leads Next c r more a (d ∷ ds) (q ∷ qs) so_far = carries_over sum size a d q (λ b. runs_more sum size Leads Next c r more b ds qs) so_far
-runs_more sum size Leads Next c r more a [] (q ∷ qs) so_far = absurd so_far
-runs_more sum size Leads Next c r more a (d ∷ ds) [] so_far = absurd so_far
+  -- One command more is carried out.
+  pub runs_more : (Next : RunState → Type 0) (c : Command) (r : Reply) → ((b : RunState) → Next b → Between b) → ((b : RunState) → Leads b → Carries sum size b c r Next)
+      → (a : RunState) (cs : List Command) (rs : List Reply) → Runs sum size Between a cs rs Leads → Runs sum size Between a (cs ++ c ∷ []) (rs ++ r ∷ []) Next
+  unfolding Runs
+  runs_more Next c r stands more a [] [] so_far = carries_over sum size a c r (λ b at. (stands b at, at)) (more a so_far)
+  runs_more Next c r stands more a (d ∷ ds) (q ∷ qs) so_far = carries_over sum size a d q (λ b s. (s.0, runs_more Next c r stands more b ds qs s.1)) so_far
+  runs_more Next c r stands more a [] (q ∷ qs) so_far = absurd so_far
+  runs_more Next c r stands more a (d ∷ ds) [] so_far = absurd so_far

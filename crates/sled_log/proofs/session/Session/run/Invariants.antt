@@ -3,7 +3,7 @@ use Rattle.std.proofs.Common.{◌≡◌, ◌≤◌, length, take}
 use Rattle.std.specs.Prelude.{vec_len, vec_capacity}
 use Rattle.sled_log.specs.RunStates.{RunState}
 use Rattle.sled_log.specs.Runs.{Runs}
-use Rattle.sled_log.specs.RunPhases.{StandsAt, segment_size_in, view_by}
+use Rattle.sled_log.specs.RunPhases.{SomeStands, StandsAt, segment_size_in, view_by}
 use Rattle.sled_log.proofs.session.Session.run.Given as goal
 
 abbrev pub invariant-loop-command : goal.invariant-loop-command
@@ -11,7 +11,7 @@ invariant-loop-command g l =
     let view = view_by g.D.Device.trace g.D.Device.faults g.D.CrashDevice.is_stopped g.D.CrashDevice.stops_in in
     let sum = g.C.Checksum.sum_of in
     record {
-      runs : (a : RunState) → StandsAt view sum l.fn.self a → Runs sum (segment_size_in l.fn.self) a (take l.command-index l.commands) l.replies.items (StandsAt view sum l.self);
+      runs : (a : RunState) → StandsAt view sum l.fn.self a → Runs sum (segment_size_in l.fn.self) (SomeStands g.row.D.Denot g.row.C.Denot view sum) a (take l.command-index l.commands) l.replies.items (StandsAt view sum l.self);
       size : segment_size_in l.self ≡ segment_size_in l.fn.self;
       len : vec_len l.replies ≡ l.command-index;
       room : length l.commands ≤ vec_capacity l.replies;

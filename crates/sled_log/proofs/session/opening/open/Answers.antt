@@ -46,26 +46,34 @@ not_refusing size old s _ new acts = absurd acts
 
 -- its calls and those of the recovery are those of an opening,
 open_acts : (sum : List ℕ → ℕ) (size : ℕ) (a : RunState) (mid new : DeviceView) (s : SnapshotModel) (r : Reply) → HasRecovered sum size a.device mid s → StartActs size mid s r new → Acts sum size a command.Open r new
-open_acts sum size a mid new s (reply.Opened stable active pages) has acts = (s, mid, has, acts.0)
+open_acts sum size a mid new s (reply.Opened stable active pages) has acts = (s, mid, record { stable_is = acts.1; active_is = acts.2; pages_are = acts.3 }, has, acts.0)
 open_acts sum size a mid new s (reply.Failed e) has acts = inr (s, mid, has, acts)
 open_acts sum size a mid new s _ has acts = absurd acts
 
 -- and what is shown is what the run goes on from.
-open_step : (sum : List ℕ → ℕ) (size : ℕ) (device mid new : DeviceView) (H : History) (A f : ℕ) (s : SnapshotModel) (r : Reply) (b : RunState) → StartActs size mid s r new
+open_step : (sum : List ℕ → ℕ) (size : ℕ) (device mid new : DeviceView) (H : History) (A f : ℕ) (s : SnapshotModel) (r : Reply) (b : RunState)
+    → HasRecovered sum size device mid s → StartActs size mid s r new
     → let a : RunState = record { device = device; history = H; acknowledged = A; floor = f; log = None } in
     IsGoodFor sum size a new s → SaysWhy r device.failures new.failures → b ≡ recovered a new s (log_shown size (length_of mid) s r) → IsStep sum size a command.Open r new b
-open_step sum size device mid new H A f s (reply.Opened stable active pages) b acts good why is = record {
+open_step sum size device mid new H A f s (reply.Opened stable active pages) b has acts good why is = record {
   snapshot = s;
-  stable_is = acts.1;
-  active_is = acts.2;
-  pages_are = acts.3;
-  good = good;
+  shown = record { stable_is = acts.1; active_is = acts.2; pages_are = acts.3 };
   mid = mid;
+  recovers = has;
+  good = good;
   started = acts.0;
   leads = is;
 }
-open_step sum size device mid new H A f s (reply.Failed e) b acts good why is = inr (s, good, why, is)
-open_step sum size device mid new H A f s _ b acts good why is = absurd acts
+open_step sum size device mid new H A f s (reply.Failed e) b has acts good why is = inr (record {
+  snapshot = s;
+  mid = mid;
+  recovers = has;
+  good = good;
+  fails = acts;
+  cause = why;
+  leads = is;
+})
+open_step sum size device mid new H A f s _ b has acts good why is = absurd acts
 
 -- Whatever a start did, the table that it began on is as good as before.
 still_good : (sum : List ℕ → ℕ) (size : ℕ) → 0 < size → (old new : DeviceView) (s : SnapshotModel) (r : Reply) → StartActs size old s r new → (H : History) (A f : ℕ)
@@ -115,7 +123,7 @@ returns-in-Ok-clause-step g c = λ k at free.
           let log = subst (λ n. log_in c.start.result.0 [] ≡ log_shown n (length_of mid) s c.start.result.1) sizes started.log in
           let why = subst (λ n. SaysWhy c.start.result.1 n new.failures) c.in-Ok.ensures.answers started.why in (
             l,
-            open_step sum size old mid new k.history k.acknowledged k.floor s c.start.result.1 _ acts
+            open_step sum size old mid new k.history k.acknowledged k.floor s c.start.result.1 _ has acts
                 (record { good = still_good sum size (let least = given.least in omega (arith, least)) mid new s c.start.result.1 acts k.history k.acknowledged k.floor good; active = active }) why
                 (λ i. record { device = new; history = H'; acknowledged = k.acknowledged; floor = cut; log = log i }),
             started.at,
@@ -147,7 +155,11 @@ returns-in-Err-clause-step g c = λ k at free.
           let whole = (c.in-Err.ensures.read k.history k.acknowledged k.floor can.orderly (can.left (content_of (state_of old)) (read_left old) own)).0 in
           let sizes : c.read_snapshot_or_default.new.config.config.segment_size ≡ size = ap (λ (x : Config). x.segment_size) c.read_snapshot_or_default.ensures.config.config in (
             k,
-            inl (cause_of Snapshot sum (state_of old).blobs.file c.in-Err.e _ _ c.in-Err.ensures.answers whole, refl),
+            inl (record {
+              calls = c.read_snapshot_or_default.ensures.calls;
+              cause = cause_of Snapshot sum (state_of old).blobs.file c.in-Err.e _ _ c.in-Err.ensures.answers whole;
+              leads = refl;
+            }),
             record {
               made = at.made;
               left = subst (λ n. LeavesRecoverable sum n k.history k.acknowledged k.floor (state_of new)) (sym sizes)

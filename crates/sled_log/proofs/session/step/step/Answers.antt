@@ -15,4 +15,4 @@ returns-clause-step g c =
     let view = view_by g.D.Device.trace g.D.Device.faults g.D.CrashDevice.is_stopped g.D.CrashDevice.stops_in in
     let next = c.carry_out-next.result in
     subst (λ (r : Reply). AnswersIn view g.C.Checksum.sum_of c.args.phase c.args.command.now (next.0, r)) (sym c.tell-told.ensures)
-    (answered view g.C.Checksum.sum_of c.args.phase c.args.command.now next.0 next.1 c.carry_out-next.ensures.step c.in_default.ensures.why)
+    (answered view g.C.Checksum.sum_of c.args.phase c.args.command.now next.0 next.1 c.carry_out-next.ensures.step c.carry_out-next.ensures.on.later c.in_default.ensures.why)
