@@ -33,10 +33,10 @@ pub record Past : Type 0 where
 abbrev pub Stays : Past → Past → Type 0
 Stays p q = ((q.tickets ≡ p.tickets) ⊎ (q.tickets ≡ []) ⊎ ((t : ℕ) × (q.tickets ≡ set p.tickets t None))) × (q ≡ record p { device = q.device; tickets = q.tickets })
 
--- A ticket is given, under the next number, for a message of this kind, page and item at the place that is told; or none is.
+-- A ticket is given, under the next number, for a message of this kind, page and item, at the place and with the pointer that are told; or none is.
 abbrev pub Reserves : Past → LogKind → ℕ → List ℕ → Reply → Past → Type 0
 Reserves p kind page bytes (reply.Reserved number place pointer) q =
-    (m : Message) × (m.kind ≡ kind) × (m.page ≡ page) × (m.bytes ≡ bytes) × (pos m.place ≡ place) × (number ≡ length p.tickets)
+    (m : Message) × (m.kind ≡ kind) × (m.page ≡ page) × (m.bytes ≡ bytes) × (pos m.place ≡ place) × (m.pointer ≡ pointer) × (number ≡ length p.tickets)
     × (q ≡ record p { device = q.device; tickets = p.tickets ++ Some m ∷ [] })
 Reserves p kind page bytes _ q = Stays p q
 

@@ -132,7 +132,7 @@ module _ (sum : List ℕ → ℕ) (size : ℕ) (device : DeviceView) (H : Histor
     reserves : (q : Position) (m : Message) (n : ℕ) (place : ℤ) (pointer : DiskPtr) (new : DeviceView) (b : RunState) → HasReserved size a l q m n place pointer new b
         → Reserves p m.kind m.page m.bytes (reply.Reserved n place pointer) (past_of b) × Led a new b
     reserves q m n place pointer new b has = (
-      (m, refl, refl, refl, sym has.answer.0, has.number, subst (λ (x : RunState). past_of x ≡ record p { device = x.device; tickets = l.tickets ++ Some m ∷ [] }) (sym has.leads) refl),
+      (m, refl, refl, refl, sym has.answer.0, sym has.answer.1, has.number, subst (λ (x : RunState). past_of x ≡ record p { device = x.device; tickets = l.tickets ++ Some m ∷ [] }) (sym has.leads) refl),
       inr (ap (λ (x : RunState). x.device) has.leads),
     )
 
