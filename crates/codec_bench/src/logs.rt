@@ -151,10 +151,10 @@ fn iterate(log: &mut MemoryLog) -> io::Result<u32> {
 /// Reads the bytes of the segment and all records in it, and answers how many these are.
 fn scan_segment(config: &mut Running) -> io::Result<usize> {
     let read = read_slot(config, 0);
-    let Ok(buf) = read else {
+    let Ok(mut buf) = read else {
         return Err(io::Error::other("the segment isn't read"));
     };
-    match scan(config, &buf, 0) {
+    match scan(config, &mut buf, 0) {
         Ok(scan) => Ok(scan.met.len()),
         Err(_) => Err(io::Error::other("the segment isn't read")),
     }

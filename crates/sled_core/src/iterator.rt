@@ -14,6 +14,8 @@ pub mod log_iter;
 pub mod records;
 pub mod rest;
 pub mod scan;
+pub(crate) mod step;
+pub(crate) mod sums;
 
 pub use crate::iterator::log_iter::LogIter;
 use crate::logger::read_at::{BasedBuf, ReadAt};

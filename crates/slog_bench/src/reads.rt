@@ -132,7 +132,7 @@ fn message(
 }
 
 // Adds all records of the segment of this place that is in the buffer.
-fn records(config: &mut Running, buffer: &BasedBuf, place: u64, out: &mut Answer) {
+fn records(config: &mut Running, buffer: &mut BasedBuf, place: u64, out: &mut Answer) {
     let size = config.config.segment_size;
     if place > 1 << 62 || buffer.offset > 1 << 62 || buffer.offset % size != 0 {
         out.refused();

@@ -186,16 +186,18 @@ stands_of sum size log lid number header h body laid summed = record {
   small = laid.small;
 }
 
+-- what is laid is the front of the file from there on
+pub laid_front : (size : ℕ) (log : List ℕ) (lid number : ℕ) (header : List ℕ) (h : MessageHeader) (body : List ℕ) → IsLaid size log lid number header h body
+    → drop lid log ≡ header ++ (body ++ drop (length header + length body) (drop lid log))
+laid_front size log lid number header h body a =
+    let n : ℕ = length header + length body in
+    sym (take-append-drop n (drop lid log)) ∙ ap (λ (l : List ℕ). l ++ drop n (drop lid log)) a.is ∙ append_assoc header body (drop n (drop lid log))
+
 -- At one offset one thing is laid.
 module _ (size : ℕ) (log : List ℕ) (lid number : ℕ) (header header' : List ℕ) (h h' : MessageHeader) (body body' : List ℕ)
     (a : IsLaid size log lid number header h body) (b : IsLaid size log lid number header' h' body') where
-  front_of : (header : List ℕ) (h : MessageHeader) (body : List ℕ) (a : IsLaid size log lid number header h body) → drop lid log ≡ header ++ (body ++ drop (length header + length body) (drop lid log))
-  front_of header h body a =
-      let n : ℕ = length header + length body in
-      sym (take-append-drop n (drop lid log)) ∙ ap (λ (l : List ℕ). l ++ drop n (drop lid log)) a.is ∙ append_assoc header body (drop n (drop lid log))
-
   fronts : header ++ (body ++ drop (length header + length body) (drop lid log)) ≡ header' ++ (body' ++ drop (length header' + length body') (drop lid log))
-  fronts = sym (front_of header h body a) ∙ front_of header' h' body' b
+  fronts = sym (laid_front size log lid number header h body a) ∙ laid_front size log lid number header' h' body' b
 
   pub one_head : header ≡ header'
   one_head = no_front-header header header' _ _ h h' a.spelled b.spelled fronts

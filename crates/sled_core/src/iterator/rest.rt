@@ -175,12 +175,12 @@ impl Rest {
         let segment = self.segments[self.read];
         self.read += 1;
         match read_slot(config, segment.slot) {
-            Ok(buf) => {
+            Ok(mut buf) => {
                 if !self.finds(&config.checksum, &buf, segment.place) {
                     self.finish();
                     return Ok(());
                 }
-                match scan_slot(config, &buf, &segment, self.end) {
+                match scan_slot(config, &mut buf, &segment, self.end) {
                     Ok(scan) => {
                         self.keep(scan);
                         Ok(())

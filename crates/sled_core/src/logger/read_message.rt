@@ -313,7 +313,12 @@ fn decode_head(alloc: Global, head: &[u8]) -> Result<Option<(MessageHeader, usiz
 }
 
 /// Whether a record of this header may stand where there are so many bytes, for a segment.
-fn may_be(header: &MessageHeader, header_len: usize, number: SegmentNumber, room: u64) -> bool
+pub(crate) fn may_be(
+    header: &MessageHeader,
+    header_len: usize,
+    number: SegmentNumber,
+    room: u64,
+) -> bool
     ensures { IsTrue result ↔ ((header.now.kind ≢ kind.Corrupted) × (header.now.segment_number ≡ number) × (header_len + header.now.len ≤ room)) }
 {
     let header_len = header_len as u64;
@@ -369,6 +374,13 @@ fn passes<C: Checksum>(
     ensures body { body.new.items ≡ body.old.items }
 {
     let sum = sum_behind(checksum, body, 0, tail);
+    has_sum(header, sum)
+}
+
+/// Whether a header carries this sum.
+pub(crate) fn has_sum(header: &MessageHeader, sum: u32) -> bool
+    ensures { IsTrue result ↔ (header.now.crc32 ≡ flipped sum) }
+{
     header.crc32 == u32::MAX - sum
 }
 
@@ -391,7 +403,7 @@ fn reading_of(header: MessageHeader, body: Vec<u8>, len: u32) -> Result<LogRead>
 }
 
 /// The place that these bytes are, where there are eight.
-fn place_of(body: &[u8]) -> Result<Lsn>
+pub(crate) fn place_of(body: &[u8]) -> Result<Lsn>
     ensures place { IfOk result (SpellsSigned body.now) }
     ensures malformed { IsCorruption result → length body.now ≢ 8 }
     ensures errors { IfErr result IsDecodeError }

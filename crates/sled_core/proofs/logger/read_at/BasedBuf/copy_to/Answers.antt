@@ -1,15 +1,8 @@
 use Rattle.std.proofs.Common.{◌≡◌, ◌≤◌, ◌+◌, ◌-◌, ◌∙◌, ◌++◌, ℕ, List, length, take, drop, replicate, min, ap, sym, arith, rules}
 use Rattle.std.proofs.lemmas.List.{drop_at, drop-drop, drop_min, length-replicate}
 use Rattle.sled_core.specs.Reading.{file_of}
+use Rattle.sled_core.proofs.Read.InSlot.{file_behind}
 use Rattle.sled_core.proofs.logger.read_at.BasedBuf.copy_to.Goals as goal
-
--- behind the beginning of a buffer its bytes are the file
-file_behind : (start at : ℕ) (bytes : List ℕ) → start ≤ at → drop at (replicate start 0 ++ bytes) ≡ drop (at - start) bytes
-file_behind start at bytes le =
-    let k : ℕ = at - start in
-    let e : start + k ≡ at = omega arith in
-    sym (ap (λ n. drop n (replicate start 0 ++ bytes)) e) ∙ sym (drop-drop k start (replicate start 0 ++ bytes))
-    ∙ ap (drop k) (drop_at (replicate start 0) bytes start (length-replicate start 0))
 
 pub returns-clause-bytes : goal.returns-clause-bytes
 returns-clause-bytes c =
