@@ -9,7 +9,7 @@ ghost use Rattle.sled_codec.specs.Record.{IsHeader};
 ghost use Rattle.sled_core.specs.Iterates.{Item, items_of, NextGives, NextAnswers, BehindLast, stops};
 ghost use Rattle.sled_core.specs.Ahead.{CanGoOn, IsLeft, IsSpent, Finds, IsEnd, ReadsOn, most_left, read_behind, those_of};
 
-use crate::iterator::blobs::with_blob;
+use crate::iterator::blobs::find_blob;
 use crate::iterator::records::{opens, scan_slot};
 use crate::iterator::scan::{RecordContent, ScanEnd, ScannedRecord, SegmentScan};
 use crate::iterator::{Segment, read_slot, segment_in};
@@ -135,15 +135,15 @@ impl Rest {
         ensures reads { OnlyReads D.trace config.old config.new }
     {
         while self.given < self.met.len() {
-            let met = self.met[self.given];
+            let mut met = self.met[self.given];
             if stops(&met, self.end) {
                 self.finish();
                 return Ok(None);
             }
             self.given += 1;
-            match with_blob(config, met) {
-                Ok(found) => {
-                    if let Some(message) = message_of(&found) {
+            match find_blob(config, &mut met) {
+                Ok(()) => {
+                    if let Some(message) = message_of(&met) {
                         return Ok(Some(message));
                     }
                 }

@@ -22,6 +22,7 @@ use std::alloc::Global;
 
 /// What is met at an offset of a segment, where a record may begin. The buffer has the bytes of its slot, and has them behind
 /// the call too. `Corruption` comes where a record has to hold a place and does not.
+#[inline(always)]
 pub(crate) fn meet<D, C: Checksum>(
     config: &RunningConfig<D, C>,
     buf: &mut BasedBuf,
@@ -58,6 +59,7 @@ pub(crate) fn meet<D, C: Checksum>(
 }
 
 /// The header of the record of a segment that stands at an offset of its slot, and how long its spelling is.
+#[inline(always)]
 fn stands_at<D, C: Checksum>(
     config: &RunningConfig<D, C>,
     buf: &mut BasedBuf,
@@ -92,6 +94,7 @@ fn stands_at<D, C: Checksum>(
 
 /// The header that is laid at an offset of a slot with the body that it announces, and how long its spelling is. Its sum may
 /// be wrong.
+#[inline(always)]
 fn laid_at(
     alloc: Global,
     buf: &BasedBuf,
@@ -122,6 +125,7 @@ fn laid_at(
 }
 
 /// The bytes of a buffer from an index on. Behind its end there are none.
+#[inline(always)]
 fn bytes_from(buf: &BasedBuf, at: u64) -> &[u8]
     ensures { result.now ≡ drop at buf.now.buf.items }
 {
@@ -129,6 +133,7 @@ fn bytes_from(buf: &BasedBuf, at: u64) -> &[u8]
 }
 
 /// The header that bytes begin with, and how long its spelling is.
+#[inline(always)]
 fn header_of(alloc: Global, bytes: &[u8]) -> Option<(MessageHeader, usize)>
     ensures found { IfSome result (λ x. SpellsMessageHeader (take x.1 bytes.now) x.0) }
     ensures none { IfNone result ((front rest : List ℕ) (h : MessageHeader) → bytes.now ≡ front ++ rest → SpellsMessageHeader front h → ⊥) }
@@ -143,6 +148,7 @@ fn header_of(alloc: Global, bytes: &[u8]) -> Option<(MessageHeader, usize)>
 }
 
 /// What a record of this header and this body is, which begins at an offset of the file, unless it is a Cap.
+#[inline(always)]
 fn content_of(header: &MessageHeader, lid: LogOffset, body: &[u8]) -> Result<Option<RecordContent>>
     requires { header.now.kind ≢ kind.Corrupted }
     ensures says { IfOk result (λ o. MatchOption o (header.now.kind ≡ kind.Cap) (Says header.now body.now lid)) }

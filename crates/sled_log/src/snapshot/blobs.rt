@@ -9,7 +9,7 @@ ghost use Rattle.sled_log.specs.Recovery.{NamesKind, MeetsBadBlob, resolved_befo
 
 use sled_codec::result::Result;
 use sled_codec::serialization::Checksum;
-use sled_core::iterator::blobs::with_blob;
+use sled_core::iterator::blobs::find_blob;
 use sled_core::iterator::records::opens;
 use sled_core::iterator::scan::ScannedRecord;
 use sled_store::{Device, RunningConfig};
@@ -35,8 +35,8 @@ pub(crate) fn resolve<D: Device, C: Checksum>(
         if opens(&met[i].what, end) {
             return Ok(());
         }
-        match with_blob(config, met[i]) {
-            Ok(found) => met[i] = found,
+        match find_blob(config, &mut met[i]) {
+            Ok(()) => {}
             Err(e) => return Err(e),
         }
     }
@@ -55,8 +55,9 @@ pub(crate) fn check<D: Device, C: Checksum>(
     ensures reads { OnlyReads D.trace config.old config.new }
 {
     for m in met {
-        match with_blob(config, *m) {
-            Ok(_) => {}
+        let mut found = *m;
+        match find_blob(config, &mut found) {
+            Ok(()) => {}
             Err(e) => return Err(e),
         }
     }

@@ -7,8 +7,8 @@ use Rattle.sled_core.proofs.Iterates.TurnLemmas.{fine_still}
 use Rattle.sled_log.proofs.Replay.LookLemmas.{no_record, all_here, all_on, bad_before_here, bad_on, resolved_on}
 use Rattle.sled_log.proofs.snapshot.blobs.resolve.Goals as goal
 
-pub with_blob-requires : goal.with_blob-requires
-with_blob-requires g c =
+pub find_blob-requires : goal.find_blob-requires
+find_blob-requires g c =
     let lt : c.loop-i.i < length c.loop-i.met = omega (arith, c.loop-i.invariant.long, c.loop-i-test.true) in
     all_here (λ m. NamesKind m.what) c.loop-i.met c.loop-i.i no_record lt c.loop-i.invariant.kinds
 
@@ -32,10 +32,10 @@ loop-i-preserved g c =
     let fine = fine_still sum (g.D.Device.trace c.loop-i.config.device) (g.D.Device.trace c.args.config.now.device) (get_or ms i no_record).what c.loop-i.invariant.trace c.in-Ok.ensures.good in
     let is = c.in-Ok.ensures.met ∙ ap (λ (t : Trace). resolved (state_of t).blobs.file (get_or ms i no_record)) c.loop-i.invariant.trace in
     record {
-      met = resolved_on sum blobs c.args.end ms i no_record lt shut c.in-Ok.found is ∙ c.loop-i.invariant.met;
-      bad = bad_on sum blobs c.args.end ms i no_record lt shut c.in-Ok.found (before_open c.args.end c.args.met.now) fine c.loop-i.invariant.bad;
-      kinds = all_on (λ m. NamesKind m.what) ms i no_record c.in-Ok.found lt c.loop-i.invariant.kinds;
-      long = length-set ms i c.in-Ok.found ∙ c.loop-i.invariant.long;
+      met = resolved_on sum blobs c.args.end ms i no_record lt shut c.find_blob.new.met is ∙ c.loop-i.invariant.met;
+      bad = bad_on sum blobs c.args.end ms i no_record lt shut c.find_blob.new.met (before_open c.args.end c.args.met.now) fine c.loop-i.invariant.bad;
+      kinds = all_on (λ m. NamesKind m.what) ms i no_record c.find_blob.new.met lt c.loop-i.invariant.kinds;
+      long = length-set ms i c.find_blob.new.met ∙ c.loop-i.invariant.long;
       end = c.requires.end;
       trace = c.in-Ok.ensures.reads.unwritten ∙ c.loop-i.invariant.trace;
       faults = c.in-Ok.ensures.answers ∙ c.loop-i.invariant.faults;

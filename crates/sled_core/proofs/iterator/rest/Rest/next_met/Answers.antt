@@ -29,7 +29,7 @@ returns-in-Some-clause-finds g c = λ items damaged left.
     let lt : r.given < length r.met.items = omega (arith, c.loop-self-test.true, c.len.ensures) in
     let fine = fine_still g.C.Checksum.sum_of now old m.what c.loop-self.invariant.trace c.in-Ok.ensures.good in
     let is = c.in-Ok.ensures.met ∙ ap (λ (t : Trace). resolved (state_of t).blobs.file m) c.loop-self.invariant.trace in
-    let gives = found_gives blobs m c.in-Ok.found is c.message_of.result c.message_of.ensures in
+    let gives = found_gives blobs m c.find_blob.new.met is c.message_of.result c.message_of.ensures in
     let turn = turn_given g.D.Device.trace g.C.Checksum.sum_of c.args.config.now r m lt c.index.ensures items damaged here (sym c.stops.ensures ∙ c.if-stops.false) fine in
     (turn.0, turn.1 ∙ ap (λ (l : List Item). l ++ turn.0) (gives ∙ ap those_of c.in-Some.is), turn.2)
 
@@ -44,7 +44,7 @@ loop-self-preserved g c =
     let lt : r.given < length r.met.items = omega (arith, c.loop-self-test.true, c.len.ensures) in
     let fine = fine_still g.C.Checksum.sum_of now old m.what c.loop-self.invariant.trace c.in-Ok.ensures.good in
     let is = c.in-Ok.ensures.met ∙ ap (λ (t : Trace). resolved (state_of t).blobs.file m) c.loop-self.invariant.trace in
-    let gives = found_gives blobs m c.in-Ok.found is c.message_of.result c.message_of.ensures in
+    let gives = found_gives blobs m c.find_blob.new.met is c.message_of.result c.message_of.ensures in
     let none = c.in_default.is in
     record {
       left = λ items damaged left.

@@ -4,7 +4,7 @@ use Rattle.sled_core.specs.declared.iterator.scan.RecordContent.{RecordContent}
 use Rattle.sled_store.specs.Blobs.{IsDamagedFor}
 use Rattle.sled_store.specs.Device.{state_of}
 use Rattle.sled_core.specs.Replayed.{HasBadBlob}
-use Rattle.sled_core.proofs.iterator.blobs.with_blob.Goals as goal
+use Rattle.sled_core.proofs.iterator.blobs.find_blob.Goals as goal
 
 pub returns-in-Err-clause-bad : goal.returns-in-Err-clause-bad
 returns-in-Err-clause-bad g c = λ corrupt.
