@@ -57,6 +57,7 @@ pub mod Seals
 pub mod SealsFor
 pub mod Segments
 pub mod Settles
+pub mod Shifts
 pub mod Shows
 pub mod Slots
 pub mod Spans

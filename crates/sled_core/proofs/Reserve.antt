@@ -6,6 +6,7 @@ pub mod Heads
 pub mod MarksLemmas
 pub mod OpenCounts
 pub mod Parts
+pub mod Placeholders
 pub mod Ranges
 pub mod RecordEnds
 pub mod ReserveLemmas

@@ -16,7 +16,7 @@ pub(crate) mod record;
 pub(crate) mod sealing;
 pub(crate) mod start;
 
-use crate::iobuf::record::{Head, push_item, push_placeholder, sum_around, sum_behind};
+use crate::iobuf::record::{Head, push_placeholder, sum_around};
 use crate::iobuf::sealing::{all_ended, end_sealed};
 use sled_codec::result::{Error, LogOffset, Lsn, PageId, Result};
 use sled_codec::serialization::{Checksum, LogKind, MessageKind, Serialize};
@@ -269,9 +269,7 @@ impl IoBuf {
         ensures sealed { self.new.sealed.items ≡ self.old.sealed.items }
     {
         let from = self.bytes.len();
-        push_placeholder(&mut self.bytes, head);
-        push_item(&mut self.bytes, item, item_len);
-        let sum = sum_behind(checksum, &mut self.bytes, from + head.len, head.tail());
+        let sum = push_placeholder(checksum, &mut self.bytes, head, item, item_len);
         self.reserved.push_back_reserved(Reserved {
             from,
             header_len: head.len,

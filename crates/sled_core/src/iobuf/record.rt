@@ -7,6 +7,7 @@ ghost use Rattle.sled_core.specs.Buffers.{placeholder_head};
 ghost use Rattle.sled_core.specs.Caps.{capped_rest, segment_rest};
 
 use sled_codec::result::PageId;
+use sled_codec::serialization::bytes::copy_in;
 use sled_codec::serialization::{Checksum, MessageHeader, MessageKind, SegmentNumber, Serialize};
 use sled_store::segment::MAX_MSG_HEADER_LEN;
 
@@ -23,6 +24,29 @@ pub(crate) struct Head {
 }
 
 impl Head {
+    /// Zeros, as many as the longest header has.
+    pub(crate) fn new() -> Head {
+        Head {
+            bytes: [0; MAX_MSG_HEADER_LEN],
+            len: MAX_MSG_HEADER_LEN,
+        }
+    }
+
+    /// Becomes the header of a message of a segment whose body is this long.
+    pub(crate) fn fill(&mut self, kind: MessageKind, number: SegmentNumber, pid: PageId, len: u64)
+        ensures bytes { drop 4 (take self.new.len self.new.bytes) ≡ short_header_tail kind len number.0 pid }
+        ensures len { self.new.len ≡ 4 + length (short_header_tail kind len number.0 pid) }
+    {
+        let header = MessageHeader {
+            crc32: 0,
+            kind,
+            segment_number: number,
+            pid,
+            len,
+        };
+        self.len = header.serialize_into(&mut self.bytes, 0);
+    }
+
     /// What stands behind the sum.
     pub(crate) fn tail(&self) -> &[u8]
         ensures tail { result.now ≡ drop 4 (take self.now.len self.now.bytes) }
@@ -30,23 +54,6 @@ impl Head {
     {
         &self.bytes[4..self.len]
     }
-}
-
-/// The header of a message of a segment whose body is this long.
-pub(crate) fn head_of(kind: MessageKind, number: SegmentNumber, pid: PageId, len: u64) -> Head
-    ensures bytes { drop 4 (take result.len result.bytes) ≡ short_header_tail kind len number.0 pid }
-    ensures len { result.len ≡ 4 + length (short_header_tail kind len number.0 pid) }
-{
-    let header = MessageHeader {
-        crc32: 0,
-        kind,
-        segment_number: number,
-        pid,
-        len,
-    };
-    let mut bytes = [0; MAX_MSG_HEADER_LEN];
-    let len = header.serialize_into(&mut bytes, 0);
-    Head { bytes, len }
 }
 
 /// Puts bytes behind what is there, where there is room for them.
@@ -59,29 +66,65 @@ pub(crate) fn push_bytes(bytes: &mut Vec<u8>, more: &[u8])
     let _ = bytes.extend_from_slice(more);
 }
 
-/// Puts a header behind what is there, with zeros in place of its sum and its kind.
-pub(crate) fn push_placeholder(bytes: &mut Vec<u8>, head: &Head)
-    requires { length bytes.old.items + head.now.len ≤ vec_capacity bytes.old }
-    ensures bytes { bytes.new.items ≡ bytes.old.items ++ placeholder_head (take head.now.len head.now.bytes) }
-    ensures len { length bytes.new.items ≡ length bytes.old.items + head.now.len }
-    ensures capacity { vec_capacity bytes.old ≤ vec_capacity bytes.new }
+/// Puts the placeholder of a record behind what is there: its header with zeros in place of its sum and its kind, and its item.
+/// Returns its sum.
+pub(crate) fn push_placeholder<T: Serialize, C: Checksum>(
+    checksum: &C,
+    bytes: &mut Vec<u8>,
+    head: &Head,
+    item: &T,
+    item_len: usize,
+) -> u32
+    requires fits { T.fits (T.meaning item.now) }
+    requires len { item_len ≡ length (T.short (T.meaning item.now)) }
+    requires room { length bytes.old.items + head.now.len + item_len + 32 ≤ vec_capacity bytes.old }
+    ensures sum { result ≡ C.sum_of (T.short (T.meaning item.now) ++ drop 4 (take head.now.len head.now.bytes)) }
+    ensures bytes { bytes.new.items ≡ bytes.old.items ++ placeholder_head (take head.now.len head.now.bytes) ++ T.short (T.meaning item.now) }
+    ensures len { length bytes.new.items ≡ length bytes.old.items + head.now.len + item_len }
 {
-    push_bytes(bytes, &[0; COMPLETING_LEN]);
-    push_bytes(bytes, &head.bytes[COMPLETING_LEN..head.len]);
+    let from = bytes.len();
+    let end = from + head.len + item_len;
+    let _ = bytes.resize(end + MAX_MSG_HEADER_LEN, 0);
+    let sum = put_placeholder(checksum, bytes, from, head, item, item_len);
+    bytes.truncate(end);
+    sum
 }
 
-/// Puts an item behind what is there.
-pub(crate) fn push_item<T: Serialize>(bytes: &mut Vec<u8>, item: &T, len: usize)
+/// Writes the placeholder of a record over what is there. Its sum goes over the item and then over the header behind its sum,
+/// which is put behind the item for it. What stood within 32 bytes behind the placeholder is lost: a header is copied with what
+/// stands behind it, since that takes no call.
+fn put_placeholder<T: Serialize, C: Checksum>(
+    checksum: &C,
+    buf: &mut [u8],
+    at: usize,
+    head: &Head,
+    item: &T,
+    item_len: usize,
+) -> u32
     requires fits { T.fits (T.meaning item.now) }
-    requires len { len ≡ length (T.short (T.meaning item.now)) }
-    requires room { length bytes.old.items + len ≤ vec_capacity bytes.old }
-    ensures bytes { bytes.new.items ≡ bytes.old.items ++ T.short (T.meaning item.now) }
-    ensures len { length bytes.new.items ≡ length bytes.old.items + len }
-    ensures capacity { vec_capacity bytes.old ≤ vec_capacity bytes.new }
+    requires len { item_len ≡ length (T.short (T.meaning item.now)) }
+    requires room { at + head.now.len + item_len + 32 ≤ length buf.old }
+    ensures sum { result ≡ C.sum_of (T.short (T.meaning item.now) ++ drop 4 (take head.now.len head.now.bytes)) }
+    ensures bytes { take (at + head.now.len + item_len) buf.new
+        ≡ take at buf.old ++ placeholder_head (take head.now.len head.now.bytes) ++ T.short (T.meaning item.now) }
+    ensures len { length buf.new ≡ length buf.old }
 {
-    let at = bytes.len();
-    let _ = bytes.resize(at + len, 0);
-    item.serialize_into(bytes, at);
+    let body = at + head.len;
+    let end = body + item_len;
+    put_head(buf, at, head);
+    item.serialize_into(buf, body);
+    copy_in(&head.bytes[4..], buf, end);
+    checksum.sum(&buf[body..end + head.len - 4])
+}
+
+/// Writes a header over what is there, with zeros in place of its sum and its kind. What stood within 32 bytes is lost.
+fn put_head(buf: &mut [u8], at: usize, head: &Head)
+    requires { at + 32 ≤ length buf.old }
+    ensures front { take (at + head.now.len) buf.new ≡ take at buf.old ++ placeholder_head (take head.now.len head.now.bytes) }
+    ensures len { length buf.new ≡ length buf.old }
+{
+    copy_in(&head.bytes, buf, at);
+    copy_in(&[0; COMPLETING_LEN], buf, at);
 }
 
 /// The sum of the bytes from an offset on and of a header behind its sum. That is put behind the bytes
@@ -161,7 +204,8 @@ fn push_cap<C: Checksum>(checksum: &C, bytes: &mut Vec<u8>, number: SegmentNumbe
     let at = bytes.len();
     let body_len = size - at - MAX_MSG_HEADER_LEN;
     push_zeros(bytes, at + body_len);
-    let head = head_of(MessageKind::Cap, number, CAP_PAGE, body_len as u64);
+    let mut head = Head::new();
+    head.fill(MessageKind::Cap, number, CAP_PAGE, body_len as u64);
     let sum = sum_behind(checksum, bytes, at, head.tail());
     push_zeros(bytes, size);
     let header = MessageHeader {

@@ -16,6 +16,7 @@ ghost use Rattle.sled_core.specs.Reserves.{MadeAnswers, ReservesAs, StandsBehind
 ghost use Rattle.sled_core.specs.Turned.{ChangesDevice};
 
 use crate::iobuf::Purpose;
+use crate::iobuf::record::Head;
 use crate::logger::Log;
 use crate::logger::read_pointer::fault_in;
 use crate::logger::reserving::kind_for;
@@ -63,8 +64,9 @@ impl<D: Device, C: Checksum> Log<D, C> {
             page: pid,
             blob: Some(blob),
         };
-        match self.prepare(&purpose, PLACE_LEN) {
-            Ok(head) => Ok(self.append(&head, &purpose, &blob, PLACE_LEN)),
+        let mut head = Head::new();
+        match self.prepare(&purpose, PLACE_LEN, &mut head) {
+            Ok(()) => Ok(self.append(&head, &purpose, &blob, PLACE_LEN)),
             Err(e) => Err(e),
         }
     }
@@ -89,8 +91,9 @@ impl<D: Device, C: Checksum> Log<D, C> {
             page: pid,
             blob: None,
         };
-        match self.prepare(&plain, PLACE_LEN) {
-            Ok(head) => {
+        let mut head = Head::new();
+        match self.prepare(&plain, PLACE_LEN, &mut head) {
+            Ok(()) => {
                 let place = self.next_here();
                 match self.make_blob(message_kind, place, item) {
                     Ok(()) => {

@@ -10,6 +10,7 @@ ghost use Rattle.sled_core.specs.Running.{IsStored};
 ghost use Rattle.sled_core.specs.Tickets.{is_manifest_of};
 
 use crate::iobuf::Purpose;
+use crate::iobuf::record::Head;
 use crate::logger::Log;
 use crate::logger::reserving::kind_for;
 use crate::reservation::{Guard, Reservation};
@@ -94,8 +95,9 @@ impl<D: Device, C: Checksum> Log<D, C> {
             page: pid,
             blob: None,
         };
-        match self.prepare(&purpose, item_len) {
-            Ok(head) => Ok(self.append(&head, &purpose, item, item_len)),
+        let mut head = Head::new();
+        match self.prepare(&purpose, item_len, &mut head) {
+            Ok(()) => Ok(self.append(&head, &purpose, item, item_len)),
             Err(e) => Err(e),
         }
     }

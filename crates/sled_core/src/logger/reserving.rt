@@ -14,9 +14,10 @@ ghost use Rattle.sled_core.specs.Turned.{ChangesLine, ChangesSlots, HasRoomForBa
 ghost use Rattle.sled_core.specs.Waiting.{at_last};
 
 use crate::iobuf::Purpose;
-use crate::iobuf::record::{Head, head_of};
+use crate::iobuf::record::Head;
 use crate::logger::Log;
 use crate::logger::batches::{room_for_batch, with_manifest};
+use crate::logger::segments::segments_in;
 use crate::reservation::Reservation;
 use sled_codec::result::{DiskPtr, Error, PageId, Result};
 use sled_codec::serialization::message::{BATCH_MANIFEST_PID, message_kind};
@@ -26,35 +27,41 @@ use sled_store::segment::{MAX_MSG_HEADER_LEN, SEG_HEADER_LEN};
 
 impl<D: Device, C: Checksum> Log<D, C> {
     /// Makes the log ready for a record with a body of this length, in the current segment or, where it has no room there,
-    /// in a further one, which is begun. Returns the header of the record.
-    pub(crate) fn prepare(&mut self, purpose: &Purpose, body_len: usize) -> Result<Head>
+    /// in a further one, which is begun. The header becomes that of the record.
+    pub(crate) fn prepare(
+        &mut self,
+        purpose: &Purpose,
+        body_len: usize,
+        head: &mut Head,
+    ) -> Result<()>
         requires { FitsInline (segment_size_of self.old) body_len }
-        ensures prepared { IfOk result (λ head. IsPrepared D.trace C.sum_of self.old self.new purpose.now head body_len) }
+        ensures prepared { OnOk result (IsPrepared D.trace C.sum_of self.old self.new purpose.now head.new body_len) }
         ensures same { KeepsAll self.old self.new }
         ensures err { OnErr result (IsUnchanged self.old self.new) }
         ensures answers { let page = purpose.now.page in
             PrepareAnswers result (IsUsedUpFor self.old page body_len) (open_for self.old page body_len) (IsLeastOpen self.old) }
     {
         let manifest = is_manifest(purpose.log_kind, purpose.page);
-        let head = self.head_for(purpose, body_len);
+        self.fill_head(purpose, body_len, head);
         if self.has_place(head.len + body_len) {
             self.room_for(head.len + body_len, manifest)?;
-            return Ok(head);
+            return Ok(());
         }
         self.begin_segment(manifest)?;
-        Ok(self.head_for(purpose, body_len))
+        self.fill_head(purpose, body_len, head);
+        Ok(())
     }
 
-    /// The header of a message of the current segment whose body is this long.
-    pub(crate) fn head_for(&self, purpose: &Purpose, item_len: usize) -> Head
-        ensures bytes { drop 4 (take result.len result.bytes)
+    /// It becomes the header of a message of the current segment whose body is this long.
+    fn fill_head(&self, purpose: &Purpose, item_len: usize, head: &mut Head)
+        ensures bytes { drop 4 (take head.new.len head.new.bytes)
             ≡ short_header_tail purpose.now.kind item_len ((current_of self.now).parts.site.place / segment_size_of self.now) purpose.now.page }
-        ensures len { result.len
+        ensures len { head.new.len
             ≡ 4 + length (short_header_tail purpose.now.kind item_len ((current_of self.now).parts.site.place / segment_size_of self.now) purpose.now.page) }
     {
         let (site, _) = self.current();
-        let number = SegmentNumber(site.place / self.config.config.segment_size);
-        head_of(purpose.kind, number, purpose.page, item_len as u64)
+        let number = SegmentNumber(segments_in(site.place, &self.config.config));
+        head.fill(purpose.kind, number, purpose.page, item_len as u64);
     }
 
     /// A record of this length has a place in the current segment.

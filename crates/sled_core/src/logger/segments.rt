@@ -17,8 +17,8 @@ use crate::logger::Log;
 use crate::logger::batches::room_for_batch;
 use sled_codec::result::{Error, Lsn, Result};
 use sled_codec::serialization::{Checksum, SegmentHeader};
-use sled_store::Device;
 use sled_store::segment::MAX_MSG_HEADER_LEN;
+use sled_store::{Config, Device};
 use std::alloc::Global;
 use std::collections::VecDeque;
 
@@ -213,8 +213,15 @@ impl<D: Device, C: Checksum> Log<D, C> {
         requires { self.now.site.place ≤ place }
         ensures { result ≡ (place - self.now.site.place) / segment_size_of self.now }
     {
-        ((place - self.site.place) / self.config.config.segment_size) as usize
+        segments_in(place - self.site.place, &self.config.config) as usize
     }
+}
+
+/// How many whole segments so many bytes are. Their size is a power of two, so this takes no division.
+pub(crate) fn segments_in(len: u64, config: &Config) -> u64
+    ensures { result ≡ len / config.now.segment_size }
+{
+    len >> config.segment_size.trailing_zeros()
 }
 
 /// No segment is begun behind the first one.

@@ -13,20 +13,18 @@ use Rattle.sled_core.proofs.iobuf.IoBuf.append.Given as given
 use Rattle.sled_core.proofs.iobuf.IoBuf.append.Goals as goal
 
 -- how long the bytes are then
-long : (g : given.Over) (c : goal.After-incr_writers-self g) → length c.sum_behind-sum.new.bytes.items ≡ c.len-from.result + c.args.head.now.len + c.args.item_len
+long : (g : given.Over) (c : goal.After-incr_writers-self g) → length c.push_placeholder-sum.new.bytes.items ≡ c.len-from.result + c.args.head.now.len + c.args.item_len
 long g c =
     let from = c.len-from.ensures in
     let bytes : length c.args.self.now.bytes.items ≡ vec_len c.args.self.now.bytes = search rules in
-    let head = c.push_placeholder.ensures.len in
-    let item = c.push_item.ensures.len in
-    let kept = ap length c.sum_behind-sum.ensures.bytes in
-    omega (arith, from, bytes, head, item, kept)
+    let all = c.push_placeholder-sum.ensures.len in
+    omega (arith, from, bytes, all)
 
 pub invariant_of-self : goal.invariant_of-self
 invariant_of-self g c =
     let old : List Reserved = c.args.self.now.reserved.items in
     let first : ℕ = c.args.self.now.first in
-    let bytes : List ℕ = c.sum_behind-sum.new.bytes.items in
+    let bytes : List ℕ = c.push_placeholder-sum.new.bytes.items in
     let from = c.len-from.ensures in
     let before : length c.args.self.now.bytes.items ≡ vec_len c.args.self.now.bytes = search rules in
     let len = long g c in

@@ -100,4 +100,4 @@ returns-clause-bytes g c =
     ∙ ap (λ (l : List ℕ). written l c.len-at.result (short_message_header (header_with c.sum_behind-sum.result c.args.number (c.args.size - c.len-at.result - 32)))) c.deref_mut.ensures.value
     ∙ cap_over c.args.bytes.now.items c.push_zeros.new.bytes.items c.sum_behind-sum.new.bytes.items c.push_zeros-2.new.bytes.items c.len-at.result c.args.size
     (omega (arith, c.len-at.ensures)) (omega (arith, c.len-at.ensures, c.requires.header)) c.push_zeros.ensures.bytes c.sum_behind-sum.ensures.bytes c.push_zeros-2.ensures.bytes
-    g.C.Checksum.sum_of c.sum_behind-sum.result c.args.number c.tail.result.now (omega arith) (c.tail.ensures.tail ∙ c.head_of-head.ensures.bytes) c.sum_behind-sum.ensures.sum
+    g.C.Checksum.sum_of c.sum_behind-sum.result c.args.number c.tail.result.now (omega arith) (c.tail.ensures.tail ∙ c.fill.ensures.bytes) c.sum_behind-sum.ensures.sum

@@ -43,8 +43,8 @@ pub returns-in_err-room_for-clause-answers : goal.returns-in_err-room_for-clause
 returns-in_err-room_for-clause-answers g c =
     let old = c.args.self.now in
     let kept = c.args.purpose.now in
-    let head = c.head_for-head.result in
-    let is : IsHeadOf head kept c.args.body_len (number_of old) = record { bytes = c.head_for-head.ensures.bytes; len = c.head_for-head.ensures.len } in
+    let head = c.fill_head.new.head in
+    let is : IsHeadOf head kept c.args.body_len (number_of old) = record { bytes = c.fill_head.ensures.bytes; len = c.fill_head.ensures.len } in
     let has : HasPlace old (head.len + c.args.body_len) = c.if-has_place.ensures.0 refl in
     let e = err_from_is_err_and c.from_residual.result c.from_residual.ensures.1 in
     rw (e.1, e.2) (room_refused c.in_err-room_for.field-0.0 _ _ _ _ c.in_err-room_for.ensures.answers
@@ -53,15 +53,15 @@ returns-in_err-room_for-clause-answers g c =
 pub returns-then-has_place-clause-prepared : goal.returns-then-has_place-clause-prepared
 returns-then-has_place-clause-prepared g c =
     let did = c.in_ok-room_for.ensures in
-    prepared_here g.D.Device.trace g.C.Checksum.sum_of c.args.self.now c.room_for.new.self c.args.purpose.now c.head_for-head.result c.args.body_len
-    (record { bytes = c.head_for-head.ensures.bytes; len = c.head_for-head.ensures.len }) (c.if-has_place.ensures.0 refl) did.line did.rest did.room (λ is. did.batch (c.is_manifest-manifest.ensures ∙ is))
+    prepared_here g.D.Device.trace g.C.Checksum.sum_of c.args.self.now c.room_for.new.self c.args.purpose.now c.fill_head.new.head c.args.body_len
+    (record { bytes = c.fill_head.ensures.bytes; len = c.fill_head.ensures.len }) (c.if-has_place.ensures.0 refl) did.line did.rest did.room (λ is. did.batch (c.is_manifest-manifest.ensures ∙ is))
 
 pub returns-then-has_place-clause-answers : goal.returns-then-has_place-clause-answers
 returns-then-has_place-clause-answers g c =
     let old = c.args.self.now in
     let kept = c.args.purpose.now in
-    let head = c.head_for-head.result in
-    let is : IsHeadOf head kept c.args.body_len (number_of old) = record { bytes = c.head_for-head.ensures.bytes; len = c.head_for-head.ensures.len } in
+    let head = c.fill_head.new.head in
+    let is : IsHeadOf head kept c.args.body_len (number_of old) = record { bytes = c.fill_head.ensures.bytes; len = c.fill_head.ensures.len } in
     let has : HasPlace old (head.len + c.args.body_len) = c.if-has_place.ensures.0 refl in
     let few = c.in_ok-room_for.ensures.answers in
     let open_same = here_open g.D.Device.trace g.C.Checksum.sum_of old c.room_for.new.self kept head c.args.body_len is has in
@@ -74,8 +74,8 @@ returns-in_err-begin_segment-clause-answers g c =
     let old = c.args.self.now in
     let kept = c.args.purpose.now in
     let n : ℕ = c.args.body_len in
-    let head = c.head_for-head.result in
-    let long : head.len + n ≡ record_size (number_of old) kept.page n = head_size head kept n (number_of old) (record { bytes = c.head_for-head.ensures.bytes; len = c.head_for-head.ensures.len }) in
+    let head = c.fill_head.new.head in
+    let long : head.len + n ≡ record_size (number_of old) kept.page n = head_size head kept n (number_of old) (record { bytes = c.fill_head.ensures.bytes; len = c.fill_head.ensures.len }) in
     let not : HasPlace old (head.len + n) → ⊥ = λ has. let bad : false ≡ true = c.if-has_place.ensures.1 has in cc in
     let e = err_from_is_err_and c.from_residual-in_err-begin_segment.result c.from_residual-in_err-begin_segment.ensures.1 in
     rw (e.1, e.2) (next_refused c.in_err-begin_segment.field-0.0 _ _ _ _ c.in_err-begin_segment.ensures.answers
@@ -86,19 +86,19 @@ returns-clause-prepared g c =
     let old = c.args.self.now in
     let kept = c.args.purpose.now in
     let n : ℕ = c.args.body_len in
-    let head = c.head_for-head.result in
+    let head = c.fill_head.new.head in
     let did = c.in_ok-begin_segment.ensures in
-    let long : head.len + n ≡ record_size (number_of old) kept.page n = head_size head kept n (number_of old) (record { bytes = c.head_for-head.ensures.bytes; len = c.head_for-head.ensures.len }) in
-    prepared_next g.D.Device.trace g.C.Checksum.sum_of old kept n c.requires (head.len + n) long (λ has. let bad : false ≡ true = c.if-has_place.ensures.1 has in cc) c.begin_segment.new.self c.head_for.result
-    (record { bytes = c.head_for.ensures.bytes; len = c.head_for.ensures.len }) did.line did.machine did.rest did.reserved did.room (λ is. did.batch (c.is_manifest-manifest.ensures ∙ is))
+    let long : head.len + n ≡ record_size (number_of old) kept.page n = head_size head kept n (number_of old) (record { bytes = c.fill_head.ensures.bytes; len = c.fill_head.ensures.len }) in
+    prepared_next g.D.Device.trace g.C.Checksum.sum_of old kept n c.requires (head.len + n) long (λ has. let bad : false ≡ true = c.if-has_place.ensures.1 has in cc) c.begin_segment.new.self c.fill_head-2.new.head
+    (record { bytes = c.fill_head-2.ensures.bytes; len = c.fill_head-2.ensures.len }) did.line did.machine did.rest did.reserved did.room (λ is. did.batch (c.is_manifest-manifest.ensures ∙ is))
 
 pub returns-clause-answers : goal.returns-clause-answers
 returns-clause-answers g c =
     let old = c.args.self.now in
     let kept = c.args.purpose.now in
     let n : ℕ = c.args.body_len in
-    let head = c.head_for-head.result in
-    let long : head.len + n ≡ record_size (number_of old) kept.page n = head_size head kept n (number_of old) (record { bytes = c.head_for-head.ensures.bytes; len = c.head_for-head.ensures.len }) in
+    let head = c.fill_head.new.head in
+    let long : head.len + n ≡ record_size (number_of old) kept.page n = head_size head kept n (number_of old) (record { bytes = c.fill_head.ensures.bytes; len = c.fill_head.ensures.len }) in
     let not : HasPlace old (head.len + n) → ⊥ = λ has. let bad : false ≡ true = c.if-has_place.ensures.1 has in cc in
     let none = next_open g.D.Device.trace g.C.Checksum.sum_of old kept n c.requires (head.len + n) long not in
     (λ used. used.1 c.in_ok-begin_segment.ensures.answers, omega (arith, none))

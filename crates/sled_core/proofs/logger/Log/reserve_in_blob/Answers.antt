@@ -44,7 +44,7 @@ place_read g c = to_z-of_z w64 c.next_here-place.result (record { sfits = c.next
 pub make_blob-requires-clause-place : goal.make_blob-requires-clause-place
 make_blob-requires-clause-place g c =
     let kept : Purpose = record { log_kind = c.args.kind; kind = c.in-Some.message_kind; page = c.args.pid; blob = None } in
-    place_read g c ∙ ap pos (sym (ready_place g.D.Device.trace g.C.Checksum.sum_of c.args.self.now c.prepare.new.self kept c.in-Ok.head 8 c.in-Ok.ensures.prepared))
+    place_read g c ∙ ap pos (sym (ready_place g.D.Device.trace g.C.Checksum.sum_of c.args.self.now c.prepare.new.self kept c.prepare.new.head 8 c.in-Ok.ensures.prepared))
 
 pub returns-in-Err-make_blob : goal.returns-in-Err-make_blob
 returns-in-Err-make_blob g c =
@@ -53,7 +53,7 @@ returns-in-Err-make_blob g c =
     let is : kind_for c.args.kind c.args.pid true 8 ≡ Some c.in-Some.message_kind = sym c.kind_for.ensures ∙ c.in-Some.is in
     let prepared = c.in-Ok.ensures in
     let did = c.in-Err-make_blob.ensures in
-    let tries : TriesBlob g.D.Device.trace g.C.Checksum.sum_of c.args.self.now c.prepare.new.self c.make_blob.new.self c.args.kind c.args.pid c.in-Some.message_kind c.in-Ok.head place = record {
+    let tries : TriesBlob g.D.Device.trace g.C.Checksum.sum_of c.args.self.now c.prepare.new.self c.make_blob.new.self c.args.kind c.args.pid c.in-Some.message_kind c.prepare.new.head place = record {
       ready = prepared.prepared;
       same = prepared.same;
       known = is;
@@ -77,7 +77,7 @@ returns-in-Ok-make_blob g c =
     let did = c.in-Ok-make_blob.ensures in
     let laid = c.append.ensures in
     let kept : Purpose = record { log_kind = c.args.kind; kind = c.in-Some.message_kind; page = c.args.pid; blob = Some place } in
-    let tries : TriesBlob g.D.Device.trace g.C.Checksum.sum_of c.args.self.now c.prepare.new.self made c.args.kind c.args.pid c.in-Some.message_kind c.in-Ok.head place = record {
+    let tries : TriesBlob g.D.Device.trace g.C.Checksum.sum_of c.args.self.now c.prepare.new.self made c.args.kind c.args.pid c.in-Some.message_kind c.prepare.new.head place = record {
       ready = prepared.prepared;
       same = prepared.same;
       known = is;
@@ -87,7 +87,7 @@ returns-in-Ok-make_blob g c =
       at = read ∙ c.next_here-place.ensures;
     } in
     let ends = laid.reserved in
-    let is_laid : IsLaid g.D.Device.trace g.C.Checksum.sum_of c.args.self.now made new kept c.in-Ok.head (short_signed place) c.append.result = record {
+    let is_laid : IsLaid g.D.Device.trace g.C.Checksum.sum_of c.args.self.now made new kept c.prepare.new.head (short_signed place) c.append.result = record {
       ready = ready_behind tries faults item (Some place);
       known = is;
       spells = short_spells-signed place (subst (FitsSigned w64) (sym read) (record { sfits = c.next_here-place.type_inv }));

@@ -4,7 +4,6 @@ use Rattle.std.specs.Option.{IsSome}
 use Rattle.sled_codec.specs.declared.result.Error.TheVariants.{Unsupported}
 use Rattle.sled_store.specs.declared.config.RunningConfig.{RunningConfig}
 use Rattle.sled_core.specs.declared.iobuf.Purpose.{Purpose}
-use Rattle.sled_core.specs.declared.iobuf.record.Head.{Head}
 use Rattle.sled_core.specs.Buffers.{most_open, placeholder_head, reserved_for}
 use Rattle.sled_core.specs.Causes.{ReserveCauses}
 use Rattle.sled_core.specs.Fits.{IsLeastOpen, IsUsedUpFor, current_of, line_of, message_as, open_for}
@@ -40,7 +39,7 @@ returns-in-Err g c =
     let counted : c.serialized_size-item_len.result ≡ length item = c.serialized_size-item_len.ensures in
     let is : kind_for c.args.kind c.args.pid false (length item) ≡ Some c.in-Some.message_kind = ap (kind_for c.args.kind c.args.pid false) (sym counted) ∙ sym c.kind_for.ensures ∙ c.in-Some.is in
     let causes : ℕ → ReserveCauses = λ n. reserve_causes g.D.Device.trace g.D.Device.faults c.args.kind c.args.pid false n old new in
-    let answers = subst (λ n. PrepareAnswers {T = Head} (Err c.in-Err.e) (IsUsedUpFor old c.args.pid n) (open_for old c.args.pid n) (IsLeastOpen old)) counted did.answers in
+    let answers = subst (λ n. PrepareAnswers {T = Unit {0}} (Err c.in-Err.e) (IsUsedUpFor old c.args.pid n) (open_for old c.args.pid n) (IsLeastOpen old)) counted did.answers in
     refused_same g.D.Device.trace g.D.Device.faults g.C.Checksum.sum_of old new c.args.kind c.args.pid item false (length item) did.err c.in-Err.e (never_io (causes (length item)) (IsUsedUpFor old c.args.pid (length item)) (IsLeastOpen old) _ c.in-Err.e answers)
     (prepare_refused (causes (length item)) (IsUsedUpFor old c.args.pid (length item)) (IsLeastOpen old) c.in-Err.e
     (well_kept g.D.Device.trace g.D.Device.faults c.args.kind c.args.pid false (length item) old new c.requires.fault did.same) (subst IsSome (sym is) refl) answers)
@@ -50,7 +49,7 @@ returns-in-Ok g c =
     let old = c.args.self.now in
     let mid = c.prepare.new.self in
     let new = c.append.new.self in
-    let head = c.in-Ok.head in
+    let head = c.prepare.new.head in
     let item : List ℕ = g.T.Serialize.short (g.T.Serialize.meaning c.args.item.now) in
     let kept : Purpose = record { log_kind = c.args.kind; kind = c.in-Some.message_kind; page = c.args.pid; blob = None } in
     let did = c.in-Ok.ensures in

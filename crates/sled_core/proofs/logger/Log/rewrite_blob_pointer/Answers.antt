@@ -10,7 +10,6 @@ use Rattle.sled_codec.specs.declared.serialization.message.LogKind.TheVariants.{
 use Rattle.sled_codec.specs.Spelling.{short_signed}
 use Rattle.sled_codec.specs.SpellingLaws.{short_spells-signed}
 use Rattle.sled_core.specs.declared.iobuf.Purpose.{Purpose}
-use Rattle.sled_core.specs.declared.iobuf.record.Head.{Head}
 use Rattle.sled_core.specs.declared.reservation.Reservation.{Reservation}
 use Rattle.sled_core.specs.Causes.{RewriteAnswers}
 use Rattle.sled_core.specs.Fits.{IsLeastOpen, IsUsedUpFor, message_rewriting, open_for, size_for, target_of}
@@ -27,7 +26,7 @@ returns-in-Some-clause-keeps g c = kept_still g.D.Device.trace g.C.Checksum.sum_
 
 -- Where it couldn't be made ready.
 
-rewrite_refused : (e : Error) (used : Type 0) (count : ℕ) (least : ℤ → Type 0) → PrepareAnswers {T = Head} (Err e) used count least → RewriteAnswers {T = Reservation} (Err e) None used count least
+rewrite_refused : (e : Error) (used : Type 0) (count : ℕ) (least : ℤ → Type 0) → PrepareAnswers {T = Unit {0}} (Err e) used count least → RewriteAnswers {T = Reservation} (Err e) None used count least
 rewrite_refused error.PlacesUsedUp used count least is = (refl, is)
 rewrite_refused (error.Held place) used count least is = (refl, is.0, is.1, is.2)
 rewrite_refused error.OutOfMemory used count least is = (refl, is)
@@ -55,7 +54,7 @@ its_place g c = to_z w64 (of_z w64 c.args.blob)
 abbrev its_kept : (g : given.Over) → goal.After-append g → Purpose
 its_kept g c = record { log_kind = Replace; kind = c.rewritten_kind.result; page = c.args.pid; blob = Some (its_place g c) }
 
-its_laid : (g : given.Over) (c : goal.After-append g) → IsLaid g.D.Device.trace g.C.Checksum.sum_of c.args.self.now c.prepare.new.self c.append.new.self (its_kept g c) c.in-Ok.head (short_signed (its_place g c)) c.append.result
+its_laid : (g : given.Over) (c : goal.After-append g) → IsLaid g.D.Device.trace g.C.Checksum.sum_of c.args.self.now c.prepare.new.self c.append.new.self (its_kept g c) c.prepare.new.head (short_signed (its_place g c)) c.append.result
 its_laid g c =
     let end = c.append.ensures.reserved in
     record {
