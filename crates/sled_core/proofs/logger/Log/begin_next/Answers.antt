@@ -1,5 +1,5 @@
 -- The segment that is being filled is filled up, in the first buffer or in the last one behind it, and one more is begun behind it.
-use Rattle.std.proofs.Common.{◌≡◌, ◌⊎◌, ◌∙◌, ◌+◌, ◌-◌, ◌*◌, ◌<◌, ◌≤◌, ◌^◌, ◌-ℤ◌, sym, ap, refl, subst, arith, rules, ℕ, suc, pos, List, [], ◌∷◌, ◌++◌, length, map, set, deque_len, Some}
+use Rattle.std.proofs.Common.{Result, Ok, Err, IsErrAnd, OnOk, ◌≡◌, ◌⊎◌, ◌∙◌, ◌+◌, ◌-◌, ◌*◌, ◌<◌, ◌≤◌, ◌^◌, ◌-ℤ◌, sym, ap, refl, subst, arith, rules, ℕ, suc, pos, List, [], ◌∷◌, ◌++◌, length, map, set, deque_len, Some}
 use Rattle.std.specs.List.{All, slice_get}
 use Rattle.std.proofs.lemmas.List.Elements.{All-weaker}
 use Rattle.sled_core.specs.Begun.{AreFilled, FollowOn, SegmentView, begin_of, last_buffer, line_at, segment_view, view_at}
@@ -24,7 +24,9 @@ use Rattle.sled_store.specs.Accounts.{IsAccountant, MayHandOut, machine_of}
 use Rattle.sled_store.specs.SegmentStates.{next_slot}
 use Rattle.sled_store.specs.declared.config.RunningConfig.{RunningConfig}
 use Rattle.sled_core.proofs.Line.Entered.{filled_last}
+use Rattle.sled_core.proofs.Line.Outcomes.{all_err}
 use Rattle.sled_core.proofs.Line.Segments.{line_segments}
+use Rattle.sled_core.proofs.Line.Unchanged.{left_alone, unchanged_still}
 use Rattle.sled_core.proofs.Line.Filling.{follow_in, follow_with, last_none, line_first, line_last, read_last}
 use Rattle.sled_core.proofs.Line.Nth.{last_behind, last_buffer_behind}
 use Rattle.sled_core.proofs.logger.Log.begin_next.Given.{Over}
@@ -204,6 +206,69 @@ module _ {D C : Type 0} (sum : List ℕ → ℕ) (old mid : Log D C) (line : lin
         filled = subst (AreFilled its_size to) (sym next_is)
             (filled_next sum its_size old.reserved_to to (machine_at old) (stable_end old) old.site.place (view_at old.site old.buffer) (map segment_view old.behind.items) (line_segments old) facts (omega (arith, big)) grows low within moved old.filled);
       }
+
+-- Where it was refused, what is so where it was done isn't asked, and the log is as it was.
+
+refused : {T E : Type 0} (Q : E → Type 0) (r : Result T E) (A : Type 0) → IsErrAnd r Q → OnOk r A
+refused Q (Ok x) A is = absurd is
+refused Q (Err e) A is = tt
+
+pub returns-in_err-buffer-clause-line : goal.returns-in_err-buffer-clause-line
+returns-in_err-buffer-clause-line g c = refused _ c.from_residual.result _ c.from_residual.ensures.1
+
+pub returns-in_err-buffer-clause-machine : goal.returns-in_err-buffer-clause-machine
+returns-in_err-buffer-clause-machine g c = refused _ c.from_residual.result _ c.from_residual.ensures.1
+
+pub returns-in_err-buffer-clause-reserved : goal.returns-in_err-buffer-clause-reserved
+returns-in_err-buffer-clause-reserved g c = refused _ c.from_residual.result _ c.from_residual.ensures.1
+
+pub returns-in_err-buffer-clause-room : goal.returns-in_err-buffer-clause-room
+returns-in_err-buffer-clause-room g c = refused _ c.from_residual.result _ c.from_residual.ensures.1
+
+pub returns-in_err-buffer-clause-batch : goal.returns-in_err-buffer-clause-batch
+returns-in_err-buffer-clause-batch g c = refused _ c.from_residual.result _ c.from_residual.ensures.1
+
+pub returns-in_err-room_to_close-clause-line : goal.returns-in_err-room_to_close-clause-line
+returns-in_err-room_to_close-clause-line g c = refused _ c.from_residual-in_err-room_to_close.result _ c.from_residual-in_err-room_to_close.ensures.1
+
+pub returns-in_err-room_to_close-clause-machine : goal.returns-in_err-room_to_close-clause-machine
+returns-in_err-room_to_close-clause-machine g c = refused _ c.from_residual-in_err-room_to_close.result _ c.from_residual-in_err-room_to_close.ensures.1
+
+pub returns-in_err-room_to_close-clause-reserved : goal.returns-in_err-room_to_close-clause-reserved
+returns-in_err-room_to_close-clause-reserved g c = refused _ c.from_residual-in_err-room_to_close.result _ c.from_residual-in_err-room_to_close.ensures.1
+
+pub returns-in_err-room_to_close-clause-room : goal.returns-in_err-room_to_close-clause-room
+returns-in_err-room_to_close-clause-room g c = refused _ c.from_residual-in_err-room_to_close.result _ c.from_residual-in_err-room_to_close.ensures.1
+
+pub returns-in_err-room_to_close-clause-batch : goal.returns-in_err-room_to_close-clause-batch
+returns-in_err-room_to_close-clause-batch g c = refused _ c.from_residual-in_err-room_to_close.result _ c.from_residual-in_err-room_to_close.ensures.1
+
+pub returns-in_err-slot-clause-line : goal.returns-in_err-slot-clause-line
+returns-in_err-slot-clause-line g c = refused _ c.from_residual-in_err-slot.result _ c.from_residual-in_err-slot.ensures.1
+
+pub returns-in_err-slot-clause-machine : goal.returns-in_err-slot-clause-machine
+returns-in_err-slot-clause-machine g c = refused _ c.from_residual-in_err-slot.result _ c.from_residual-in_err-slot.ensures.1
+
+pub returns-in_err-slot-clause-reserved : goal.returns-in_err-slot-clause-reserved
+returns-in_err-slot-clause-reserved g c = refused _ c.from_residual-in_err-slot.result _ c.from_residual-in_err-slot.ensures.1
+
+pub returns-in_err-slot-clause-room : goal.returns-in_err-slot-clause-room
+returns-in_err-slot-clause-room g c = refused _ c.from_residual-in_err-slot.result _ c.from_residual-in_err-slot.ensures.1
+
+pub returns-in_err-slot-clause-batch : goal.returns-in_err-slot-clause-batch
+returns-in_err-slot-clause-batch g c = refused _ c.from_residual-in_err-slot.result _ c.from_residual-in_err-slot.ensures.1
+
+pub returns-in_err-buffer-clause-rest : goal.returns-in_err-buffer-clause-rest
+returns-in_err-buffer-clause-rest g c = record { config = refl; fault = refl; pins = refl; noted = refl }
+
+pub returns-in_err-buffer-clause-err : goal.returns-in_err-buffer-clause-err
+returns-in_err-buffer-clause-err g c = all_err c.from_residual.result _ (unchanged_still c.args.self.now)
+
+pub returns-in_err-room_to_close-clause-rest : goal.returns-in_err-room_to_close-clause-rest
+returns-in_err-room_to_close-clause-rest g c = let rest = c.in_err-room_to_close.ensures.rest in record { config = rest.config; fault = rest.fault; pins = rest.pins; noted = rest.noted }
+
+pub returns-in_err-room_to_close-clause-err : goal.returns-in_err-room_to_close-clause-err
+returns-in_err-room_to_close-clause-err g c = all_err c.from_residual-in_err-room_to_close.result _ (left_alone c.args.self.now c.room_to_close.new.self c.in_err-room_to_close.ensures.line c.in_err-room_to_close.ensures.rest)
 
 -- Where the accountant failed, nothing is another.
 pub invariant_of-self : goal.invariant_of-self

@@ -5,12 +5,12 @@ use Rattle.std.proofs.lemmas.List.Elements.{All-nil}
 use Rattle.sled_core.specs.declared.logger.Log.{Log}
 use Rattle.sled_core.specs.Fits.{AddsBuffers, buffers_of, current_of, reserved_end, segment_size_of}
 use Rattle.sled_core.specs.Waiting.{BufferAt}
-use Rattle.sled_core.proofs.Line.Begins.{begins_keeps, begins_tickets}
+use Rattle.sled_core.proofs.Line.Begins.{begins_keeps, begins_same, begins_tickets}
 use Rattle.sled_core.proofs.Line.LogSpans.{seal_starts, turn_starts}
-use Rattle.sled_core.proofs.Line.Outcomes.{either, on_both, on_ok}
-use Rattle.sled_core.proofs.Line.Seals.{sealed_begins, sealed_buffers, sealed_keeps, sealed_position, sealed_tickets, sealed_waiting}
+use Rattle.sled_core.proofs.Line.Outcomes.{either, on_both, on_err, on_ok}
+use Rattle.sled_core.proofs.Line.Seals.{sealed_begins, sealed_buffers, sealed_keeps, sealed_position, sealed_same, sealed_tickets, sealed_waiting}
 use Rattle.sled_core.proofs.Line.Turns.{turns_begins, turns_buffers, turns_low, turns_position, turns_waiting, turns_within}
-use Rattle.sled_core.proofs.Line.Unchanged.{left_alone, unchanged_keeps, unchanged_position, unchanged_tickets}
+use Rattle.sled_core.proofs.Line.Unchanged.{left_alone, unchanged_keeps, unchanged_position, unchanged_same, unchanged_tickets}
 use Rattle.sled_core.proofs.logger.Log.seal.Goals as goal
 
 -- Where no further record has room.
@@ -72,6 +72,17 @@ returns-then-is_short-clause-position g c =
     either c.begin_next.result _ _ _ (λ keeps. keeps) (λ same. unchanged_position old new same)
     (on_both c.begin_next.result _ _ _ (λ position reserved. position reserved) turned did.reserved) did.err
 
+pub returns-then-is_short-clause-same : goal.returns-then-is_short-clause-same
+returns-then-is_short-clause-same g c =
+    let did = c.begin_next.ensures in
+    let old = c.args.self.now in
+    let new = c.begin_next.new.self in
+    either c.begin_next.result _ _ _ (λ same. same) (λ same. unchanged_same old new same)
+    (on_both c.begin_next.result _ _ _ (λ line machine. begins_same g.D.Device.trace g.C.Checksum.sum_of old new line machine did.rest) did.line did.machine) did.err
+
+pub returns-then-is_short-clause-err : goal.returns-then-is_short-clause-err
+returns-then-is_short-clause-err g c = c.begin_next.ensures.err
+
 -- Where one has room.
 
 no_more : {D C : Type 0} (sum : List ℕ → ℕ) (old new : Log D C) → buffers_of sum new ≡ buffers_of sum old → AddsBuffers sum old new
@@ -124,3 +135,13 @@ returns-clause-position g c =
     let old = c.args.self.now in
     let new = c.seal_unfilled.new.self in
     either c.seal_unfilled.result _ _ _ (λ line. sealed_position g.D.Device.trace g.C.Checksum.sum_of old new did.rest line c.requires.some) (λ same. unchanged_position old new (left_alone old new same did.rest)) did.line did.unsealed
+
+pub returns-clause-same : goal.returns-clause-same
+returns-clause-same g c =
+    let did = c.seal_unfilled.ensures in
+    let old = c.args.self.now in
+    let new = c.seal_unfilled.new.self in
+    either c.seal_unfilled.result _ _ _ (λ line. sealed_same g.D.Device.trace g.C.Checksum.sum_of old new did.rest line c.requires.some) (λ same. unchanged_same old new (left_alone old new same did.rest)) did.line did.unsealed
+
+pub returns-clause-err : goal.returns-clause-err
+returns-clause-err g c = on_err c.seal_unfilled.result _ _ (λ same. left_alone c.args.self.now c.seal_unfilled.new.self same c.seal_unfilled.ensures.rest) c.seal_unfilled.ensures.unsealed
