@@ -89,6 +89,12 @@ invariant_of-self g c =
           refl c.is_manifest-manifest.ensures c.with_manifest-manifests.ensures;
     }
 
+pub returns-then-n-eq0-clause-rest : goal.returns-then-n-eq0-clause-rest
+returns-then-n-eq0-clause-rest g c = record { config = refl; fault = refl; pins = refl; noted = refl }
+
+pub returns-else-n-eq0-clause-rest : goal.returns-else-n-eq0-clause-rest
+returns-else-n-eq0-clause-rest g c = record { config = refl; fault = refl; pins = refl; noted = refl }
+
 -- The last one behind the first is the one that is being filled.
 
 abbrev last : (g : Over) (c : goal.After-append-arg-else-n-eq0-1 g) → SegmentBuffer

@@ -1,5 +1,6 @@
 -- Where nothing is written, the log is as it was; else the buffers up to the place are.
-use Rattle.std.proofs.Common.{◌∙◌, ◌<ℤ◌, pos, ◌≤ℤ◌, ◌<◌, ap, sym, subst, refl, arith, ◌≡◌, ◌≤◌, negsuc, ℤ, rules, SFits, inl, inr, List, None, ℕ, Option, Ok, Err}
+use Rattle.std.proofs.Common.{◌∙◌, ◌<ℤ◌, pos, ◌≤ℤ◌, ◌<◌, ap, sym, subst, refl, arith, ◌≡◌, ◌≤◌, negsuc, ℤ, rules, SFits, inl, inr, List, None, ℕ, Option, Ok, Err, Some}
+use Rattle.std.specs.declared.io.Error.{Error as IoError}
 use Rattle.std.specs.Int.{w64}
 use Rattle.std.proofs.lemmas.Int.{ints, to_z-of_z, to_z_pos}
 use Rattle.std.proofs.lemmas.Result.{err_from_is_err_and}
@@ -13,7 +14,7 @@ use Rattle.sled_core.specs.Running.{Fits}
 use Rattle.sled_core.specs.OpenBatches.{behind_batch}
 use Rattle.sled_core.specs.Stable.{behind_place, held_for, target_for}
 use Rattle.sled_core.specs.declared.logger.Log.{Log}
-use Rattle.sled_core.proofs.Holds.KeptCalls.{kept_still}
+use Rattle.sled_core.proofs.Holds.KeptCalls.{kept_still, position_still, tickets_still}
 use Rattle.sled_core.proofs.Holds.RunningLemmas.{fits-acknowledged}
 use Rattle.sled_core.proofs.Line.LineEnds.{stable_kept, stable_reached}
 use Rattle.sled_core.proofs.Line.SealFirst.{unused_already, writes_already, writes_err, writes_ok}
@@ -184,3 +185,56 @@ returns-clause-target g c =
     let to = to_is old c.args.lsn _ _ c.behind_batch-to.ensures.is (behind_read c.args.lsn _ _ (to_z-of_z w64 c.args.lsn c.ranges.lsn) (above_done g c)) in
     let written = c.in_ok-write_below.ensures.written in
     below_behind c.args.lsn (stable_end old) (stable_end new) (above_done g c) (stable_reached old new (behind_place c.args.lsn) c.write_below.ensures.keeps.noted (omega (arith, to, written)))
+
+no_fault : (kept : Option IoError) (e : IoError) (A : Type 0) → kept ≡ None → kept ≡ Some e → A
+no_fault kept e A none some = absurd (let bad : None ≡ Some e = sym none ∙ some in cc)
+
+-- Where nothing was written its tickets and its position are as they were, and else as the writing leaves them.
+
+pub returns-in-Some-clause-tickets : goal.returns-in-Some-clause-tickets
+returns-in-Some-clause-tickets g c = tickets_still c.args.self.now
+
+pub returns-in-Some-clause-position : goal.returns-in-Some-clause-position
+returns-in-Some-clause-position g c = position_still c.args.self.now
+
+pub returns-then-lsn-stable_offset-clause-tickets : goal.returns-then-lsn-stable_offset-clause-tickets
+returns-then-lsn-stable_offset-clause-tickets g c = tickets_still c.args.self.now
+
+pub returns-then-lsn-stable_offset-clause-position : goal.returns-then-lsn-stable_offset-clause-position
+returns-then-lsn-stable_offset-clause-position g c = position_still c.args.self.now
+
+pub returns-then-lsn-self-clause-tickets : goal.returns-then-lsn-self-clause-tickets
+returns-then-lsn-self-clause-tickets g c = tickets_still c.args.self.now
+
+pub returns-then-lsn-self-clause-position : goal.returns-then-lsn-self-clause-position
+returns-then-lsn-self-clause-position g c = position_still c.args.self.now
+
+pub returns-in_err-write_below-clause-tickets : goal.returns-in_err-write_below-clause-tickets
+returns-in_err-write_below-clause-tickets g c = c.in_err-write_below.ensures.tickets
+
+pub returns-in_err-write_below-clause-position : goal.returns-in_err-write_below-clause-position
+returns-in_err-write_below-clause-position g c = c.in_err-write_below.ensures.position
+
+pub returns-in_err-write_below-clause-keeps : goal.returns-in_err-write_below-clause-keeps
+returns-in_err-write_below-clause-keeps g c = c.in_err-write_below.ensures.keeps
+
+pub returns-in_err-write_below-clause-faulty : goal.returns-in_err-write_below-clause-faulty
+returns-in_err-write_below-clause-faulty g c = λ e is. no_fault (fault_of c.args.self.now) e _ c.in_default.is is
+
+pub returns-clause-tickets : goal.returns-clause-tickets
+returns-clause-tickets g c = c.in_ok-write_below.ensures.tickets
+
+pub returns-clause-position : goal.returns-clause-position
+returns-clause-position g c = c.in_ok-write_below.ensures.position
+
+pub returns-clause-keeps : goal.returns-clause-keeps
+returns-clause-keeps g c = c.in_ok-write_below.ensures.keeps
+
+pub returns-clause-faulty : goal.returns-clause-faulty
+returns-clause-faulty g c = λ e is. no_fault (fault_of c.args.self.now) e _ c.in_default.is is
+
+pub returns-then-lsn-stable_offset-clause-faulty : goal.returns-then-lsn-stable_offset-clause-faulty
+returns-then-lsn-stable_offset-clause-faulty g c = λ e is. refl
+
+pub returns-then-lsn-self-clause-faulty : goal.returns-then-lsn-self-clause-faulty
+returns-then-lsn-self-clause-faulty g c = λ e is. refl

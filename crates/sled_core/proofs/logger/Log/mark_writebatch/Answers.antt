@@ -36,3 +36,29 @@ returns-clause-fits g c H A f U fits =
     let same = peg_is c.args.peg (place_of c.args.ticket) _ c.unsigned_abs.result _ (to_z-of_z w64 c.args.peg c.ranges.peg) c.unsigned_abs.ensures.value c.requires.awaited.1.own.place c.requires.pegged.above in
     let later = strictly (place_of c.args.ticket) c.args.peg c.requires.pegged.above (λ is. c.if-peg-lsn.false (ap (of_z w64) (is ∙ sym c.lsn.ensures))) in
     on_ok c.end_batch.result _ _ (λ done. (done.0, inr (later, subst (λ z. Step H (Batched (batch_for c.args.ticket z)) done.0) (sym same) done.1), done.2)) (c.end_batch.ensures.fits H A f U fits)
+
+-- The rest is as the ending leaves it.
+
+pub returns-clause-place : goal.returns-clause-place
+returns-clause-place g c = c.end_batch.ensures.place
+
+pub returns-clause-others : goal.returns-clause-others
+returns-clause-others g c = c.end_batch.ensures.others
+
+pub returns-clause-opens : goal.returns-clause-opens
+returns-clause-opens g c = c.end_batch.ensures.opens
+
+pub returns-clause-answers : goal.returns-clause-answers
+returns-clause-answers g c = c.end_batch.ensures.answers
+
+pub returns-clause-goes_on : goal.returns-clause-goes_on
+returns-clause-goes_on g c = c.end_batch.ensures.goes_on
+
+pub returns-clause-position : goal.returns-clause-position
+returns-clause-position g c = c.end_batch.ensures.position
+
+pub returns-clause-buffers : goal.returns-clause-buffers
+returns-clause-buffers g c = c.end_batch.ensures.buffers
+
+pub returns-clause-err : goal.returns-clause-err
+returns-clause-err g c = c.end_batch.ensures.err

@@ -1,5 +1,5 @@
 -- The buffer that is being filled has room afterwards, and holds what it did.
-use Rattle.std.proofs.Common.{◌≡◌, ◌≢◌, ◌∙◌, ◌+◌, ◌-◌, ◌<◌, ◌≤◌, ap, sym, refl, arith, rules, subst, SFits, w64, pos, ℕ, suc, List, ◌∷◌, length, map, drop, set, true, false, Some, OnOk, deque_len}
+use Rattle.std.proofs.Common.{Result, Ok, Err, IsErrAnd, ◌≡◌, ◌≢◌, ◌∙◌, ◌+◌, ◌-◌, ◌<◌, ◌≤◌, ap, sym, refl, arith, rules, subst, SFits, w64, pos, ℕ, suc, List, ◌∷◌, length, map, drop, set, true, false, Some, OnOk, deque_len}
 use Rattle.std.specs.List.{All, slice_get}
 use Rattle.std.proofs.lemmas.Int.{to_z-of_z}
 use Rattle.sled_core.specs.Begun.{AreFilled, SegmentView, last_buffer, line_at, segment_view, view_at}
@@ -56,13 +56,47 @@ invariant_of-self g c =
       counted = log.counted;
     }
 
+-- What is so where it was done isn't asked where it was refused.
+refused : {T E : Type 0} (Q : E → Type 0) (r : Result T E) (A : Type 0) → IsErrAnd r Q → OnOk r A
+refused Q (Ok x) A is = absurd is
+refused Q (Err e) A is = tt
+
+pub returns-then-is_full_of_open-clause-line : goal.returns-then-is_full_of_open-clause-line
+returns-then-is_full_of_open-clause-line g c = refl
+
+pub returns-then-is_full_of_open-clause-rest : goal.returns-then-is_full_of_open-clause-rest
+returns-then-is_full_of_open-clause-rest g c = record { config = refl; reserved = refl; fault = refl; pins = refl; accountant = refl; noted = refl }
+
+pub returns-in_err-room_for_batch-clause-line : goal.returns-in_err-room_for_batch-clause-line
+returns-in_err-room_for_batch-clause-line g c = refl
+
+pub returns-in_err-room_for_batch-clause-room : goal.returns-in_err-room_for_batch-clause-room
+returns-in_err-room_for_batch-clause-room g c = refused _ c.from_residual.result _ c.from_residual.ensures.1
+
+pub returns-in_err-room_for_batch-clause-batch : goal.returns-in_err-room_for_batch-clause-batch
+returns-in_err-room_for_batch-clause-batch g c = refused _ c.from_residual.result _ c.from_residual.ensures.1
+
+pub returns-in_err-room_for_batch-clause-rest : goal.returns-in_err-room_for_batch-clause-rest
+returns-in_err-room_for_batch-clause-rest g c = record { config = refl; reserved = refl; fault = refl; pins = refl; accountant = refl; noted = c.room_for_batch.ensures.items }
+
+pub returns-then-n-eq0-clause-rest : goal.returns-then-n-eq0-clause-rest
+returns-then-n-eq0-clause-rest g c = record { config = refl; reserved = refl; fault = refl; pins = refl; accountant = refl; noted = c.room_for_batch.ensures.items }
+
+pub returns-clause-rest : goal.returns-clause-rest
+returns-clause-rest g c = record { config = refl; reserved = refl; fault = refl; pins = refl; accountant = refl; noted = c.room_for_batch.ensures.items }
+
 -- The first segment is as it was, but for its room.
+roomier : {D C : Type 0} (log : Log D C) (new : IoBuf) → new.bytes.items ≡ log.buffer.bytes.items → new.written_len ≡ log.buffer.written_len → new.filled ≡ log.buffer.filled → new.sealed.items ≡ log.buffer.sealed.items → new.reserved.items ≡ log.buffer.reserved.items
+    → new.gone ≡ log.buffer.gone → line_at log.site new log.behind.items ≡ line_of log
+roomier log new bytes from filling sealed reserved gone =
+    λ j. record { parts = record { site = log.site; bytes = bytes j; written_len = from j; filled = filling j; sealed = sealed j; reserved = reserved j }; gone = gone j } ∷ map segment_view log.behind.items
+
 pub invariant_of-self-then-n-eq0 : goal.invariant_of-self-then-n-eq0
 invariant_of-self-then-n-eq0 g c =
     let log = c.args.self.now in
     let made = c.make_room.ensures in
     let new : IoBuf = c.make_room.new.self in
-    let line : line_at log.site new log.behind.items ≡ line_of log = λ j. record { parts = record { site = log.site; bytes = made.bytes j; written_len = made.from j; filled = made.filled j; sealed = made.sealed j; reserved = made.reserved j }; gone = made.gone j } ∷ map segment_view log.behind.items in
+    let line : line_at log.site new log.behind.items ≡ line_of log = roomier log new made.bytes made.from made.filled made.sealed made.reserved made.gone in
     let from = made.from in
     let short = log.in_segment in
     record {
@@ -78,6 +112,9 @@ invariant_of-self-then-n-eq0 g c =
       room = (let many = ap length c.room_for_batch.ensures.items in let grows = c.room_for_batch.ensures.grows in let old = log.room in omega (arith, many, grows, old));
       counted = (let same = ap open_manifests line in let old = log.counted in omega (arith, same, old));
     }
+
+pub returns-then-n-eq0-clause-line : goal.returns-then-n-eq0-clause-line
+returns-then-n-eq0-clause-line g c = let made = c.make_room.ensures in roomier c.args.self.now c.make_room.new.self made.bytes made.from made.filled made.sealed made.reserved made.gone
 
 -- The last one behind the first is as it was, but for its room.
 module _ {D C : Type 0} (log : Log D C) (n : ℕ) (s : SegmentBuffer) (at : suc n ≡ length log.behind.items) (there : slice_get log.behind.items n ≡ Some s) (new : IoBuf)

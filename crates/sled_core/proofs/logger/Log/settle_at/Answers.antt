@@ -7,7 +7,7 @@ use Rattle.sled_store.proofs.Traces.ScriptLemmas.{performs_nothing}
 use Rattle.sled_core.specs.Causes.{HeldAnswers, OnDone}
 use Rattle.sled_core.specs.Fits.{device_of, fault_of, reserved_end, synced_end}
 use Rattle.sled_core.specs.ReadBuffer.{IsUsedUpAt, SealsAround, WritesAround, held_at, settling}
-use Rattle.sled_core.proofs.Holds.KeptCalls.{kept_still}
+use Rattle.sled_core.proofs.Holds.KeptCalls.{kept_still, position_still, tickets_still}
 use Rattle.sled_core.proofs.Line.Reads.{above_zero, at_place, settle_answers}
 use Rattle.sled_core.proofs.logger.Log.settle_at.Given as given
 use Rattle.sled_core.proofs.logger.Log.settle_at.Goals.{else-at-synced_end-via-then-at-synced_end+else-at-self, else-at-synced_end-via-else-at-synced_end}
@@ -52,3 +52,26 @@ returns-clause-seals g c = subst (λ z. SealsAround c.settle.result z c.args.sel
 
 pub returns-clause-buffers : goal.returns-clause-buffers
 returns-clause-buffers g c = subst (λ z. WritesAround g.C.Checksum.sum_of c.settle.result z c.args.self.now c.settle.new.self) (is_at g c) c.settle.ensures.buffers
+
+-- Where nothing was written its tickets and its position are as they were, and else as the writing leaves them.
+
+pub returns-then-place-lt0-clause-tickets : goal.returns-then-place-lt0-clause-tickets
+returns-then-place-lt0-clause-tickets g c = tickets_still c.args.self.now
+
+pub returns-then-place-lt0-clause-position : goal.returns-then-place-lt0-clause-position
+returns-then-place-lt0-clause-position g c = position_still c.args.self.now
+
+pub returns-then-at-self-clause-tickets : goal.returns-then-at-self-clause-tickets
+returns-then-at-self-clause-tickets g c = tickets_still c.args.self.now
+
+pub returns-then-at-self-clause-position : goal.returns-then-at-self-clause-position
+returns-then-at-self-clause-position g c = position_still c.args.self.now
+
+pub returns-clause-tickets : goal.returns-clause-tickets
+returns-clause-tickets g c = c.settle.ensures.tickets
+
+pub returns-clause-position : goal.returns-clause-position
+returns-clause-position g c = c.settle.ensures.position
+
+pub returns-clause-keeps : goal.returns-clause-keeps
+returns-clause-keeps g c = c.settle.ensures.keeps
