@@ -1,14 +1,39 @@
 -- The record has the sum that a record of its kind has.
-use Rattle.std.proofs.Common.{◌≡◌, ◌∙◌, ◌+◌, ◌-◌, ◌≤◌, ℕ, List, [], ◌∷◌, ◌++◌, length, ap, arith}
+use Rattle.std.proofs.Common.{◌≡◌, ◌∙◌, ◌+◌, ◌-◌, ◌≤◌, ℕ, List, [], ◌∷◌, ◌++◌, length, ap, arith, sym, subst, max, drop}
 use Rattle.sled_codec.specs.Kinds.{code_of}
 use Rattle.sled_codec.specs.Places.{part}
 use Rattle.sled_codec.specs.Written.{written}
 use Rattle.sled_core.specs.declared.iobuf.Reserved.{Reserved}
-use Rattle.sled_core.specs.Buffers.{IsHeaded, body_in, ending, ending_as}
+use Rattle.std.specs.List.{All}
+use Rattle.sled_core.specs.Buffers.{IsChain, IsHeaded, body_in, ending, ending_as}
 use Rattle.sled_core.proofs.Reserve.CompletesLemmas.{summed_around}
 use Rattle.sled_core.proofs.Reserve.Parts.{get_there}
 use Rattle.sled_core.proofs.Reserve.Ranges.{at_there, written-over}
 use Rattle.sled_core.proofs.iobuf.IoBuf.end_as.Goals as goal
+
+-- The buffer has as many bytes.
+pub invariant_of-self : goal.invariant_of-self
+invariant_of-self g c =
+    let old = c.args.self.now in
+    let len : length c.sum_around-sum.new.bytes.items ≡ length old.bytes.items = ap length c.sum_around-sum.ensures.bytes ∙ c.put.ensures.len in
+    let begun = old.begun in
+    let behind = old.behind in
+    let numbered = old.numbered in
+    record {
+      begun = omega (arith, begun, len);
+      behind = omega (arith, behind, len);
+      within = subst (λ n. All (λ (r : Reserved). r.from + r.len ≤ n) old.reserved.items) (sym len) old.within;
+      headed = old.headed;
+      numbered = omega (arith, numbered, len);
+      head = old.head;
+      are = old.are;
+      begins = old.begins;
+      before = old.before;
+      parted = old.parted;
+      chain = subst (IsChain (max 20 old.begin) (drop old.first old.reserved.items)) (sym len) old.chain;
+      counted = old.counted;
+      few = old.few;
+    }
 
 pub returns-clause-bytes : goal.returns-clause-bytes
 returns-clause-bytes g c = λ r there.

@@ -1,13 +1,38 @@
 -- The record has the peg as its body, and the sum of both.
-use Rattle.std.proofs.Common.{◌≡◌, ◌∙◌, ◌+◌, ◌≤◌, ℕ, List, length}
+use Rattle.std.proofs.Common.{◌≡◌, ◌∙◌, ◌+◌, ◌≤◌, ℕ, List, length, sym, subst, max, drop, arith, ap}
 use Rattle.sled_codec.specs.Written.{written}
 use Rattle.sled_codec.specs.Spelling.{low_bytes}
 use Rattle.sled_core.specs.declared.iobuf.Reserved.{Reserved}
-use Rattle.sled_core.specs.Buffers.{IsHeaded, ending_as}
+use Rattle.std.specs.List.{All}
+use Rattle.sled_core.specs.Buffers.{IsChain, IsHeaded, ending_as}
 use Rattle.sled_core.proofs.Reserve.MarksLemmas.{marks}
 use Rattle.sled_core.proofs.Reserve.Parts.{get_there}
 use Rattle.sled_core.proofs.Reserve.Ranges.{at_there}
 use Rattle.sled_core.proofs.iobuf.IoBuf.mark_batch.Goals as goal
+
+-- The buffer has as many bytes.
+pub invariant_of-self : goal.invariant_of-self
+invariant_of-self g c =
+    let old = c.args.self.now in
+    let len : length c.put.new.buf.items ≡ length old.bytes.items = c.put.ensures.len in
+    let begun = old.begun in
+    let behind = old.behind in
+    let numbered = old.numbered in
+    record {
+      begun = omega (arith, begun, len);
+      behind = omega (arith, behind, len);
+      within = subst (λ n. All (λ (r : Reserved). r.from + r.len ≤ n) old.reserved.items) (sym len) old.within;
+      headed = old.headed;
+      numbered = omega (arith, numbered, len);
+      head = old.head;
+      are = old.are;
+      begins = old.begins;
+      before = old.before;
+      parted = old.parted;
+      chain = subst (IsChain (max 20 old.begin) (drop old.first old.reserved.items)) (sym len) old.chain;
+      counted = old.counted;
+      few = old.few;
+    }
 
 pub returns-clause-bytes : goal.returns-clause-bytes
 returns-clause-bytes g c = λ r there.

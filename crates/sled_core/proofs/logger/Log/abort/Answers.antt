@@ -1,9 +1,10 @@
 -- The blob of the reservation's own goes, which leaves the segments of the log as they were, and then its message is given up there.
-use Rattle.std.proofs.Common.{◌≡◌, sym, subst, ℤ, List, Option}
+use Rattle.std.proofs.Common.{◌≡◌, refl, sym, subst, ℤ, List, Option}
 use Rattle.sled_core.specs.Begun.{SegmentView}
 use Rattle.sled_core.specs.Fits.{AwaitsIn, line_of}
 use Rattle.sled_core.specs.Logged.{in_log}
 use Rattle.sled_core.specs.OwnBlobs.{PreservesWithout, own_blob}
+use Rattle.sled_core.proofs.Holds.KeptCalls.{position_still}
 use Rattle.sled_core.proofs.Holds.WithoutBlob.{without_further, without_still}
 use Rattle.sled_core.proofs.Line.BlobRemoved.{removes_further, removes_nothing}
 use Rattle.sled_core.proofs.Line.LogWrites.{same_line}
@@ -16,6 +17,12 @@ returns-in-Some-clause-device g c = removes_nothing g.D.Device.trace (own_blob c
 
 pub returns-in-Some-clause-keeps : goal.returns-in-Some-clause-keeps
 returns-in-Some-clause-keeps g c = without_still g.D.Device.trace g.C.Checksum.sum_of (own_blob c.args.ticket) c.args.self.now
+
+pub returns-in-Some-clause-position : goal.returns-in-Some-clause-position
+returns-in-Some-clause-position g c = position_still c.args.self.now
+
+pub returns-in-Some-clause-buffers : goal.returns-in-Some-clause-buffers
+returns-in-Some-clause-buffers g c = record { waiting = refl; start = refl }
 
 -- Without the blob the log has the same segments, so its tickets await what they did.
 
@@ -36,3 +43,6 @@ pub returns-in-Ok-clause-keeps : goal.returns-in-Ok-clause-keeps
 returns-in-Ok-clause-keeps g c =
     let first = subst (λ (own : Option ℤ). PreservesWithout g.D.Device.trace g.C.Checksum.sum_of own c.args.self.now c.remove_own.new.self) c.own_blob-own.ensures c.remove_own.ensures.keeps in
     without_further g.D.Device.trace g.C.Checksum.sum_of (own_blob c.args.ticket) c.args.self.now c.remove_own.new.self c.give_up.new.self first c.give_up.ensures.keeps
+
+pub returns-in-Ok-clause-place : goal.returns-in-Ok-clause-place
+returns-in-Ok-clause-place g c = c.give_up.ensures.place
