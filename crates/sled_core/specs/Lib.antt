@@ -31,6 +31,7 @@ pub mod ReadBuffer
 pub mod ReadPointer
 pub mod Reading
 pub mod Ready
+pub mod ReadyBuffers
 pub mod Recoverable
 pub mod Replayed
 pub mod Reserves

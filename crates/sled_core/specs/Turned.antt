@@ -141,12 +141,6 @@ pub record IsOpenIn (site : SegmentPosition) (b : IoBuf) (ticket : Reservation) 
   pub there : slice_get b.reserved.items (index_of ticket - b.gone) ≡ Some reserved
   pub own : IsFor site reserved ticket
 
--- The n-th segment has this buffer, and its slot begins there in the file.
-pub record HasBufferAt (line : List SegmentView) (n slot : ℕ) (b : IoBuf) : Type 0 where
-  pub site : SegmentPosition
-  pub begins : site.slot ≡ slot
-  pub among : slice_get line n ≡ Some (view_at site b)
-
 -- A sealed buffer of a segment can be written, by their numbers.
 pub record IsReadyIn (line : List SegmentView) (n k : ℕ) : Type 0 where
   pub segment : SegmentView

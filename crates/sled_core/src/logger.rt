@@ -23,6 +23,7 @@ ghost use Rattle.sled_core.specs.AccountProps.{IsAccountant-prop};
 ghost use Rattle.sled_core.specs.Begun.{FollowOn, FollowOn-prop, IsFilledLine, IsFilledLine-prop, line_at};
 ghost use Rattle.sled_core.specs.OpenBatches.{AreByPlace, AreByPlace-prop, batch_of};
 ghost use Rattle.sled_core.specs.OpenPlaces.{open_manifests};
+ghost use Rattle.sled_core.specs.ReadyBuffers.{AreReady, AreReady-prop};
 ghost use Rattle.sled_core.specs.Causes.{FaultAnswers, RecordAnswers};
 
 mod abort;
@@ -35,6 +36,7 @@ mod mark_writebatch;
 pub mod read_at;
 pub mod read_message;
 mod read_pointer;
+pub(crate) mod ready;
 mod reserve;
 mod reserving;
 mod segments;
@@ -48,6 +50,7 @@ use crate::iobuf::{IoBuf, SegmentPosition};
 use crate::logger::batches::NotedBatch;
 use crate::logger::read_message::LogRead;
 use crate::logger::read_pointer::{fault_in, place_read, read_pointer};
+use crate::logger::ready::ReadyBuffers;
 use crate::logger::segments::{SegmentBuffer, no_segments};
 use crate::reservation::{Guard, Reservation};
 use sled_codec::result::{DiskPtr, Error, LogOffset, Lsn, PageId, Result};
@@ -66,6 +69,8 @@ pub struct Log<D, C> {
     buffer: IoBuf,
     /// The segments that were begun behind it, by place. The last one is being filled.
     behind: VecDeque<SegmentBuffer>,
+    /// Which of their sealed buffers can be written.
+    ready: ReadyBuffers,
     /// Which slot each segment has. The free slots have zeros in the log file (`specs/FreeSlots.antt`).
     accountant: SegmentAccountant,
     /// The place behind the greatest record that was reserved.
@@ -88,6 +93,7 @@ pub struct Log<D, C> {
     ghost by_place: { AreByPlace 0 (map batch_of noted.items) } by { AreByPlace-prop 0 (map batch_of noted.items) },
     ghost room: { length noted.items + manifests ≤ vec_capacity noted },
     ghost counted: { open_manifests (line_at site buffer behind.items) ≤ manifests },
+    ghost indexed: { AreReady (line_at site buffer behind.items) ready } by { AreReady-prop (line_at site buffer behind.items) ready },
 }
 
 impl<D: Device, C: Checksum> Log<D, C> {
@@ -138,6 +144,7 @@ impl<D: Device, C: Checksum> Log<D, C> {
         match begin(&mut config, snapshot) {
             Ok((beginning, buffer, accountant)) => Ok(Log {
                 behind: no_segments(alloc),
+                ready: ReadyBuffers::new(alloc),
                 config,
                 site: SegmentPosition {
                     place: beginning.place,
@@ -334,6 +341,7 @@ impl<D: Device, C: Checksum> Log<D, C> {
             site: _,
             buffer: _,
             behind: _,
+            ready: _,
             accountant: _,
             reserved_to: _,
             fault: _,

@@ -1,23 +1,20 @@
 -- The buffers of a line that aren't on the device: how many of them can be written, which one is the i-th of these, and which are left once it is written.
-use Rattle.std.proofs.Common.{◌≡◌, ◌∙◌, ◌<◌, ◌≤◌, ◌+◌, ◌-◌, ◌==◌, ◌*◌, ◌^◌, slice_index_or, ap, sym, refl, arith, subst, ℕ, zero, suc, Bool, true, false, if◌then◌else◌, List, [], ◌∷◌, ◌++◌, length, take, drop, map, set, Some}
+use Rattle.std.proofs.Common.{◌≡◌, ◌∙◌, ◌<◌, ◌≤◌, ◌+◌, ◌-◌, ◌==◌, ap, sym, refl, arith, subst, ℕ, zero, suc, Bool, true, false, if◌then◌else◌, List, [], ◌∷◌, ◌++◌, length, take, drop, map, set, Some}
 use Rattle.std.specs.List.{slice_get}
 use Rattle.std.proofs.lemmas.Bool.Decides.{nat_tests}
-use Rattle.std.proofs.lemmas.List.{drop-drop, drop_more, length-map}
+use Rattle.std.proofs.lemmas.List.{drop-drop, length-map}
 use Rattle.sled_core.specs.Begun.{AreFilled, SegmentView, begin_of, segment_view, view_at}
 use Rattle.sled_core.specs.Buffers.{first_open_in, open_in, open_state}
 use Rattle.sled_core.specs.declared.iobuf.Reserved.{Reserved}
 use Rattle.sled_core.specs.declared.iobuf.Sealed.{Sealed}
 use Rattle.sled_core.specs.declared.iobuf.SegmentPosition.{SegmentPosition}
 use Rattle.sled_core.specs.declared.logger.Log.{Log}
-use Rattle.sled_core.specs.declared.logger.segments.SegmentBuffer.{SegmentBuffer}
-use Rattle.sled_core.specs.Fits.{FirstWaits, current_begin, line_of, synced_end, waiting_of}
+use Rattle.sled_core.specs.Fits.{FirstWaits, current_begin, synced_end, waiting_of}
 use Rattle.sled_core.specs.SealedBuffers.{AreSealed, FirstUnwritten, behind_run, bytes_between, is_ready, now_written, ready_count, ready_marked, ready_write, run_count, run_end, sealed_end, writing, written_at}
 use Rattle.sled_core.specs.Turned.{IsReadyIn, promoted, write_in, written_now}
 use Rattle.sled_core.specs.Waiting.{BufferAt, buffer_at, is_unheld, last_of, pending_in, placed, unwritten, unwritten_in, unwritten_of, without_pending, write_pending}
-use Rattle.sled_core.proofs.Line.Facts.{IsSegment, nth_facts}
-use Rattle.sled_core.proofs.Line.Nth.{behind_get}
-use Rattle.sled_core.proofs.Line.Segments.{AreSegments, by_front, full_unsealed, line_segments}
-use Rattle.sled_core.proofs.Reserve.Parts.{there_is}
+use Rattle.sled_core.proofs.Line.Facts.{IsSegment}
+use Rattle.sled_core.proofs.Line.Segments.{AreSegments, by_front, full_unsealed}
 use Rattle.sled_core.proofs.Sealed.Progress.{pending_marked, pending_write}
 
 -- Lists of buffers in two parts.
@@ -150,51 +147,6 @@ pending_segment size place v is = pending_sealed v.parts.site v.parts.bytes v.pa
 pub pending_first : (size place : ℕ) (v : SegmentView) (vs : List SegmentView) → IsSegment size place v → pending_in (unwritten (v ∷ vs)) ≡ ready_count v.parts.sealed + pending_in (unwritten vs)
 pending_first size place v vs is = pending_on (unwritten_of v.parts) (unwritten vs) ∙ ap (λ n. n + pending_in (unwritten vs)) (pending_segment size place v is)
 
--- each has a byte
-ready_low : (from : ℕ) (bs : List Sealed) (rs : List Reserved) → AreSealed from rs bs → from + ready_count bs ≤ sealed_end from bs
-ready_low from [] rs are = omega arith
-ready_low from (b ∷ bs) rs are = by_test (is_ready b) (ready_low b.end bs (drop b.count rs) are.1) are.0.rises where
-  by_test : (o : Bool) → b.end + ready_count bs ≤ sealed_end b.end bs → from < b.end → from + (if o then suc (ready_count bs) else ready_count bs) ≤ sealed_end b.end bs
-  by_test true rest rises = omega (arith, rest, rises)
-  by_test false rest rises = omega (arith, rest, rises)
-
--- so they are few
-pub pending_small : (size place : ℕ) (vs : List SegmentView) → place < 2 ^ 63 → AreSegments size place vs → place + pending_in (unwritten vs) < 2 ^ 63
-pending_small size place [] small are = omega (arith, small)
-pending_small size place (v ∷ vs) small are =
-    let is = are.0 in
-    let at = is.at in
-    let far = is.place_small in
-    let begins = is.begins in
-    let short = is.short in
-    let low = ready_low v.parts.written_len v.parts.sealed v.parts.reserved is.are in
-    let rest = pending_small size (place + size) vs (omega (arith, at, far)) are.1 in
-    let all = pending_first size place v vs is in
-    omega (arith, begins, short, low, rest, all)
-
--- So it is in a log, of the segments behind the first one that are left at an index.
-module _ {D C : Type 0} (log : Log D C) where
-  pub pending_line : pending_in (waiting_of log) ≡ ready_count log.buffer.sealed.items + pending_in (unwritten (map segment_view log.behind.items))
-  pending_line = pending_first log.config.config.segment_size log.site.place (view_at log.site log.buffer) (map segment_view log.behind.items) (line_segments log).0
-
-  pub pending_few : pending_in (waiting_of log) < 2 ^ 63
-  pending_few =
-      let size : ℕ = log.config.config.segment_size in
-      let few = pending_small size log.site.place (line_of log) (let near = log.place_in_reach in omega (arith, near)) (line_segments log) in
-      omega (arith, few)
-
-  module _ (n : ℕ) (s : SegmentBuffer) (lt : n < length log.behind.items) (is : s ≡ slice_index_or log.behind.items n s) where
-    pub behind_there : slice_get (line_of log) (suc n) ≡ Some (segment_view s)
-    behind_there = behind_get log.behind.items n s (there_is log.behind.items n s lt is)
-
-    pub behind_left : map segment_view (drop n log.behind.items) ≡ segment_view s ∷ map segment_view (drop (n + 1) log.behind.items)
-    behind_left = ap (map segment_view) (drop_more log.behind.items n s lt ∙ ap (λ (x : SegmentBuffer). x ∷ drop (n + 1) log.behind.items) (sym is))
-
-    pub pending_left : pending_in (unwritten (map segment_view (drop n log.behind.items))) ≡ ready_count s.buffer.sealed.items + pending_in (unwritten (map segment_view (drop (n + 1) log.behind.items)))
-    pending_left =
-        let size : ℕ = log.config.config.segment_size in
-        ap (λ (vs : List SegmentView). pending_in (unwritten vs)) behind_left ∙ pending_first size (log.site.place + suc n * size) (segment_view s) (map segment_view (drop (n + 1) log.behind.items)) (nth_facts log (suc n) (segment_view s) behind_there)
-
 -- The i-th buffer of a line that can be written is this one of this segment.
 pub record Finds (line : List SegmentView) (i n k : ℕ) : Type 0 where
   pub ready : IsReadyIn line n k
@@ -238,33 +190,6 @@ finds_behind size place v vs i n k is high found =
       writes = found.writes ∙ ap (λ m. write_pending (i - m) (unwritten vs)) (sym count) ∙ sym (write_behind i xs (unwritten vs) past);
       left = λ u among. ap (λ (l : List BufferAt). xs ++ l) (found.left u among ∙ ap (λ m. without_pending (i - m) (unwritten vs)) (sym count)) ∙ sym (left_behind i xs (unwritten vs) past);
     }
-
--- So it is in a log,
-module _ {D C : Type 0} (log : Log D C) where
-  pub log_first : (i k : ℕ) → i < ready_count log.buffer.sealed.items → k < length log.buffer.sealed.items → ((b : Sealed) → slice_get log.buffer.sealed.items k ≡ Some b → is_ready b ≡ true) → ready_count (take k log.buffer.sealed.items) ≡ i → Finds (line_of log) i 0 k
-  log_first i k low within ready at = finds_first log.config.config.segment_size log.site.place (view_at log.site log.buffer) (map segment_view log.behind.items) i k (line_segments log).0 low within ready at
-
-  pub log_behind : (i n k : ℕ) → ready_count log.buffer.sealed.items ≤ i → Finds (map segment_view log.behind.items) (i - ready_count log.buffer.sealed.items) n k → Finds (line_of log) i (suc n) k
-  log_behind i n k high found = finds_behind log.config.config.segment_size log.site.place (view_at log.site log.buffer) (map segment_view log.behind.items) i n k (line_segments log).0 high found
-
-  -- and in those of its segments that are left at an index.
-  module _ (n : ℕ) (s : SegmentBuffer) (lt : n < length log.behind.items) (is : s ≡ slice_index_or log.behind.items n s) where
-    abbrev at_index : ℕ
-    at_index = log.site.place + suc n * log.config.config.segment_size
-
-    abbrev rest : List SegmentView
-    rest = map segment_view (drop (n + 1) log.behind.items)
-
-    pub left_first : (i k : ℕ) → i < ready_count s.buffer.sealed.items → k < length s.buffer.sealed.items → ((b : Sealed) → slice_get s.buffer.sealed.items k ≡ Some b → is_ready b ≡ true) → ready_count (take k s.buffer.sealed.items) ≡ i
-        → Finds (map segment_view (drop n log.behind.items)) i 0 k
-    left_first i k low within ready at =
-        subst (λ (l : List SegmentView). Finds l i 0 k) (sym (behind_left log n s lt is))
-        (finds_first log.config.config.segment_size at_index (segment_view s) rest i k (nth_facts log (suc n) (segment_view s) (behind_there log n s lt is)) low within ready at)
-
-    pub left_further : (i m k : ℕ) → ready_count s.buffer.sealed.items ≤ i → Finds rest (i - ready_count s.buffer.sealed.items) m k → Finds (map segment_view (drop n log.behind.items)) i (suc m) k
-    left_further i m k high found =
-        subst (λ (l : List SegmentView). Finds l i (suc m) k) (sym (behind_left log n s lt is))
-        (finds_behind log.config.config.segment_size at_index (segment_view s) rest i m k (nth_facts log (suc n) (segment_view s) (behind_there log n s lt is)) high found)
 
 -- The segments that go have none.
 pub unwritten_promoted : (size place : ℕ) (vs : List SegmentView) → AreSegments size place vs → unwritten (promoted size vs) ≡ unwritten vs

@@ -4,7 +4,7 @@ ghost use Rattle.std.specs.Prelude.{◌≡◌, ◌+◌, ◌<◌, ◌≤◌, ◌^
 ghost use Rattle.std.specs.List.Sorted.{IsNonDecreasingBy, IsPartitionPoint};
 ghost use Rattle.std.specs.VecDeque.{deque_len, deque_capacity};
 ghost use Rattle.sled_core.specs.declared.iobuf.Reserved.{Reserved};
-ghost use Rattle.sled_core.specs.SealedBuffers.{HasOpenAt, behind_run, is_ready, one_ended, ready_count, run_count, run_end, seal_at, sealed_count, sealed_end, written_at};
+ghost use Rattle.sled_core.specs.SealedBuffers.{HasOpenAt, behind_run, is_ready, one_ended, run_count, run_end, seal_at, sealed_count, sealed_end, written_at};
 
 use crate::iobuf::{IoBuf, Reserved, Sealed};
 use sled_codec::result::{Error, Result};
@@ -85,42 +85,6 @@ impl IoBuf {
             return (self.written_len, to);
         }
         (self.sealed[k - 1].end, to)
-    }
-
-    /// How many sealed buffers can be written: they have no open reservation, and aren't on the device.
-    pub(crate) fn pending(&self) -> usize
-        ensures { result ≡ ready_count self.now.sealed.items }
-    {
-        let mut count = 0;
-        let mut k = 0;
-        while k < self.sealed.len() {
-            if self.sealed[k].is_ready() {
-                count += 1;
-            }
-            k += 1;
-        }
-        count
-    }
-
-    /// The index of the i-th of these.
-    pub(crate) fn ready_at(&self, i: usize) -> usize
-        requires { i < ready_count self.now.sealed.items }
-        ensures within { result < deque_len self.now.sealed }
-        ensures ready { (b : Sealed) → slice_get self.now.sealed.items result ≡ Some b → is_ready b ≡ true }
-        ensures place { ready_count (take result self.now.sealed.items) ≡ i }
-    {
-        let mut left = i;
-        let mut k = 0;
-        while k < self.sealed.len() {
-            if self.sealed[k].is_ready() {
-                if left == 0 {
-                    return k;
-                }
-                left -= 1;
-            }
-            k += 1;
-        }
-        k
     }
 
     /// The sealed buffer that has an offset, with its index: it is the first that ends behind it.

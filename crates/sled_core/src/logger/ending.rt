@@ -28,11 +28,14 @@ impl<D: Device, C: Checksum> Log<D, C> {
         ensures rest { ChangesLine self.old self.new }
     {
         if n == 0 {
-            let gone = self.buffer.gone;
-            self.buffer.complete(index - gone);
+            let i = index - self.buffer.gone;
+            self.buffer.complete(i);
+            self.ready.note_ended(&self.site, &self.buffer, i);
         } else {
-            let gone = self.behind[n - 1].buffer.gone;
-            self.behind[n - 1].buffer.complete(index - gone);
+            let s = &mut self.behind[n - 1];
+            let i = index - s.buffer.gone;
+            s.buffer.complete(i);
+            self.ready.note_ended(&s.site, &s.buffer, i);
         }
     }
 
@@ -48,12 +51,15 @@ impl<D: Device, C: Checksum> Log<D, C> {
         let checksum = &self.config.checksum;
         let manifests = without_manifest(self.manifests, manifest);
         if n == 0 {
-            let gone = self.buffer.gone;
-            self.buffer.abort(checksum, index - gone);
+            let i = index - self.buffer.gone;
+            self.buffer.abort(checksum, i);
+            self.ready.note_ended(&self.site, &self.buffer, i);
             self.manifests = manifests;
         } else {
-            let gone = self.behind[n - 1].buffer.gone;
-            self.behind[n - 1].buffer.abort(checksum, index - gone);
+            let s = &mut self.behind[n - 1];
+            let i = index - s.buffer.gone;
+            s.buffer.abort(checksum, i);
+            self.ready.note_ended(&s.site, &s.buffer, i);
             self.manifests = manifests;
         }
     }
@@ -70,13 +76,14 @@ impl<D: Device, C: Checksum> Log<D, C> {
     {
         let checksum = &self.config.checksum;
         if n == 0 {
-            let gone = self.buffer.gone;
-            self.buffer.mark_batch(checksum, index - gone, peg);
+            let i = index - self.buffer.gone;
+            self.buffer.mark_batch(checksum, i, peg);
+            self.ready.note_ended(&self.site, &self.buffer, i);
         } else {
-            let gone = self.behind[n - 1].buffer.gone;
-            self.behind[n - 1]
-                .buffer
-                .mark_batch(checksum, index - gone, peg);
+            let s = &mut self.behind[n - 1];
+            let i = index - s.buffer.gone;
+            s.buffer.mark_batch(checksum, i, peg);
+            self.ready.note_ended(&s.site, &s.buffer, i);
         }
     }
 

@@ -107,11 +107,17 @@ impl<D: Device, C: Checksum> Log<D, C> {
         ensures rest { ChangesLine self.old self.new }
         ensures memory { IsOkUnless result Error.OutOfMemory }
     {
+        self.ready.make_room()?;
         let n = self.behind.len();
         if n == 0 {
-            return self.buffer.seal();
+            self.buffer.seal()?;
+            self.ready.note_sealed(&self.site, &self.buffer);
+            return Ok(());
         }
-        self.behind[n - 1].buffer.seal()
+        let s = &mut self.behind[n - 1];
+        s.buffer.seal()?;
+        self.ready.note_sealed(&s.site, &s.buffer);
+        Ok(())
     }
 
     /// Fills the current segment to its end, seals its buffer, and begins the next segment, in the slot that the accountant
@@ -147,10 +153,11 @@ impl<D: Device, C: Checksum> Log<D, C> {
         if n == 0 {
             self.buffer
                 .close(&self.config.checksum, &site, size as usize);
+            self.ready.note_sealed(&site, &self.buffer);
         } else {
-            self.behind[n - 1]
-                .buffer
-                .close(&self.config.checksum, &site, size as usize);
+            let s = &mut self.behind[n - 1];
+            s.buffer.close(&self.config.checksum, &site, size as usize);
+            self.ready.note_sealed(&site, &s.buffer);
         }
         self.behind.push_back_reserved(SegmentBuffer {
             site: SegmentPosition { place: next, slot },
@@ -189,17 +196,19 @@ impl<D: Device, C: Checksum> Log<D, C> {
         )
     }
 
-    /// Makes room for what fills the current segment, for one more segment, and for the batch of a manifest.
+    /// Makes room for what fills the current segment, for the buffer that is sealed then, for one more segment, and for the batch of a manifest.
     fn room_to_close(&mut self, manifest: bool) -> Result<()>
         ensures line { line_of self.new ≡ line_of self.old }
         ensures rest { ChangesLine self.old self.new }
         ensures room { OnOk result (CanClose (last_buffer self.new.buffer self.new.behind.items) (segment_size_of self.old)) }
         ensures place { OnOk result (deque_len self.new.behind < deque_capacity self.new.behind) }
+        ensures ready { OnOk result (deque_len self.new.ready.places + self.new.ready.held < deque_capacity self.new.ready.places) }
         ensures batch { OnOk result (manifest ≡ true → HasRoomForBatch self.new) }
         ensures memory { IsOkUnless result Error.OutOfMemory }
     {
         let size = self.config.config.segment_size as usize;
         room_for_batch(&mut self.noted, self.manifests, manifest)?;
+        self.ready.make_room()?;
         self.behind.reserve(1)?;
         let n = self.behind.len();
         if n == 0 {

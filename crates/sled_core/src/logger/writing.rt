@@ -11,14 +11,14 @@ ghost use Rattle.sled_codec.specs.History.{History, Message};
 ghost use Rattle.sled_store.specs.Answers.{Counts, FailsOr};
 ghost use Rattle.sled_store.specs.Device.{state_of, Wrote, Synced};
 ghost use Rattle.sled_store.specs.Script.{after_all, Performs};
-ghost use Rattle.sled_core.specs.Begun.{SegmentView, line_at};
+ghost use Rattle.sled_core.specs.Begun.{SegmentView, line_at, view_at};
 ghost use Rattle.sled_core.specs.Buffers.{first_open_in, open_in};
 ghost use Rattle.sled_core.specs.Causes.{Answers, FaultOrMemory, HeldAnswers, OnDone};
 ghost use Rattle.sled_core.specs.Fits.{Holds, IsUnchanged, IsUsedUp, IsUsedUpBelow, IsWritten, KeepsAll, KeepsTickets, NoneSealed, buffers_of, current_begin, current_of, device_of, fault_of, flushing, held_len, holding_below, line_of, pending_of, reserved_end, sealing_end, segment_size_of, stable_end, start_of, synced_end, waiting_of, writing_below, writing_pending};
 ghost use Rattle.sled_core.specs.Keeps.{LeavesAbove, LeavesSome, Preserves, SamePosition, SealsBelow, WritesBelow};
 ghost use Rattle.sled_core.specs.Running.{Fits, end_below};
 ghost use Rattle.sled_core.specs.Stable.{SyncsAll};
-ghost use Rattle.sled_core.specs.Turned.{ChangesDevice, HasBufferAt, IsReadyIn, promoted, ready_below, write_in, written_now};
+ghost use Rattle.sled_core.specs.Turned.{ChangesDevice, IsReadyIn, promoted, ready_below, write_in, written_now};
 ghost use Rattle.sled_core.specs.Waiting.{BufferAt, holds_any, unwritten, without_pending};
 
 use crate::iobuf::{IoBuf, SegmentPosition};
@@ -35,13 +35,7 @@ impl<D: Device, C: Checksum> Log<D, C> {
     pub fn pending(&self) -> usize
         ensures { result ≡ pending_of self.now }
     {
-        let mut count = self.buffer.pending();
-        let mut n = 0;
-        while n < self.behind.len() {
-            count += self.behind[n].buffer.pending();
-            n += 1;
-        }
-        count
+        self.ready.places.len()
     }
 
     /// Writes the i-th of the buffers that can be written, by place, and syncs it.
@@ -78,21 +72,11 @@ impl<D: Device, C: Checksum> Log<D, C> {
         ensures left { (v : SegmentView) → slice_get (line_of self.now) result.0 ≡ Some v
             → unwritten (set (line_of self.now) result.0 (written_now result.1 v)) ≡ without_pending i (waiting_of self.now) }
     {
-        let first = self.buffer.pending();
-        if i < first {
-            return (0, self.buffer.ready_at(i));
-        }
-        let mut left = i - first;
-        let mut n = 0;
-        while n < self.behind.len() {
-            let count = self.behind[n].buffer.pending();
-            if left < count {
-                return (n + 1, self.behind[n].buffer.ready_at(left));
-            }
-            left -= count;
-            n += 1;
-        }
-        (0, 0)
+        let place = self.ready.places[i];
+        let n = self.segment_of(place);
+        let (site, buffer) = self.segment(n);
+        let (k, _) = buffer.around((place - site.place) as usize);
+        (n, k)
     }
 
     /// Seals the current buffer, where it holds anything, so that a further reservation begins another one: to the end of
@@ -253,6 +237,8 @@ impl<D: Device, C: Checksum> Log<D, C> {
         ensures answers { Answers result None (fault_of self.new) (D.faults (device_of self.old)) (D.faults (device_of self.new)) }
     {
         self.write_bytes(n, k)?;
+        let (site, buffer) = nth(&self.site, &self.buffer, &self.behind, n);
+        self.ready.note_written(&site, buffer, k);
         mark_nth(&mut self.buffer, &mut self.behind, n, k);
         let size = self.config.config.segment_size;
         promote(&mut self.site, &mut self.buffer, &mut self.behind, size);
@@ -270,9 +256,9 @@ impl<D: Device, C: Checksum> Log<D, C> {
         ensures snapshots { (state_of (D.trace (device_of self.new))).snapshots ≡ (state_of (D.trace (device_of self.old))).snapshots }
         ensures refused { OnErr result (fault_of self.new ≡ None → D.trace (device_of self.new) ≡ D.trace (device_of self.old)) }
     {
-        let (slot, buffer) = nth(&self.site, &self.buffer, &self.behind, n);
+        let (site, buffer) = nth(&self.site, &self.buffer, &self.behind, n);
         let (from, to) = buffer.span(k);
-        let at = slot + from as u64;
+        let at = site.slot + from as u64;
         let written = write_out(&mut self.config.device, at, &buffer.bytes[from..to]);
         if let Err(e) = written {
             return Err(keep_fault(&mut self.fault, e));
@@ -281,21 +267,21 @@ impl<D: Device, C: Checksum> Log<D, C> {
     }
 }
 
-/// The n-th of the segments of a log: where its slot begins in the file, and its buffer.
+/// The n-th of the segments of a log: where it lies, and its buffer.
 fn nth<'a>(
     site: &SegmentPosition,
     buffer: &'a IoBuf,
     behind: &'a VecDeque<SegmentBuffer>,
     n: usize,
-) -> (LogOffset, &'a IoBuf)
+) -> (SegmentPosition, &'a IoBuf)
     requires { n ≤ length behind.now.items }
-    ensures { HasBufferAt (line_at site.now buffer.now behind.now.items) n result.0 result.1.now }
+    ensures { slice_get (line_at site.now buffer.now behind.now.items) n ≡ Some (view_at result.0 result.1.now) }
 {
     if n == 0 {
-        return (site.slot, buffer);
+        return (*site, buffer);
     }
     let s = &behind[n - 1];
-    (s.site.slot, &s.buffer)
+    (s.site, &s.buffer)
 }
 
 /// One of the sealed buffers of the n-th one is on the device now.

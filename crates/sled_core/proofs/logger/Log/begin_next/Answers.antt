@@ -1,15 +1,18 @@
 -- The segment that is being filled is filled up, in the first buffer or in the last one behind it, and one more is begun behind it.
-use Rattle.std.proofs.Common.{Result, Ok, Err, IsErrAnd, OnOk, ◌≡◌, ◌⊎◌, ◌∙◌, ◌+◌, ◌-◌, ◌*◌, ◌<◌, ◌≤◌, ◌^◌, ◌-ℤ◌, sym, ap, refl, subst, arith, rules, ℕ, suc, pos, List, [], ◌∷◌, ◌++◌, length, map, set, deque_len, Some}
+use Rattle.std.proofs.Common.{Result, Ok, Err, IsErrAnd, OnOk, ◌≡◌, ◌⊎◌, ◌∙◌, ◌+◌, ◌-◌, ◌*◌, ◌<◌, ◌≤◌, ◌^◌, ◌-ℤ◌, sym, ap, refl, subst, arith, rules, ℕ, suc, false, pos, List, [], ◌∷◌, ◌++◌, length, length-append, map, set, deque_len, Some}
 use Rattle.std.specs.List.{All, slice_get}
 use Rattle.std.proofs.lemmas.List.Elements.{All-weaker}
 use Rattle.sled_core.specs.Begun.{AreFilled, FollowOn, SegmentView, begin_of, last_buffer, line_at, segment_view, view_at}
 use Rattle.sled_core.specs.declared.iobuf.IoBuf.{IoBuf}
 use Rattle.sled_core.specs.declared.iobuf.SegmentPosition.{SegmentPosition}
+use Rattle.sled_core.specs.declared.iobuf.Sealed.{Sealed}
+use Rattle.sled_core.specs.declared.logger.ready.ReadyBuffers.{ReadyBuffers}
 use Rattle.sled_core.specs.declared.logger.Log.{Log}
 use Rattle.sled_core.specs.declared.logger.batches.NotedBatch.{NotedBatch}
 use Rattle.sled_core.specs.declared.logger.segments.SegmentBuffer.{SegmentBuffer}
 use Rattle.sled_core.specs.Fits.{current_begin, current_of, line_of, machine_at, reserved_end, segment_size_of, stable_end}
 use Rattle.sled_core.specs.OpenPlaces.{open_manifests}
+use Rattle.sled_core.specs.ReadyBuffers.{AreReady, HasOwn}
 use Rattle.sled_core.specs.Turned.{CanClose, ChangesLine, HasRoomIn, IsBegunView, begun_view, next_line}
 use Rattle.sled_core.specs.Waiting.{at_last, closed_now, last_of}
 use Rattle.sled_core.proofs.Line.Begins.{closable}
@@ -18,6 +21,8 @@ use Rattle.sled_core.proofs.Line.Facts.{current_facts, nth_facts}
 use Rattle.sled_codec.proofs.Segments.{length-short_header}
 use Rattle.sled_core.proofs.Line.OpenManifests.{manifests_next}
 use Rattle.sled_core.proofs.Line.Nexts.{begun_is, filled_next, follow_one, last_one, line_more}
+use Rattle.sled_core.proofs.Pending.Logs.{seals_closed, seals_ready}
+use Rattle.sled_core.proofs.Pending.Segments.{further_ready, still_ready}
 use Rattle.sled_core.proofs.Sealed.Ended.{ends_up}
 use Rattle.std.proofs.lemmas.List.{length-set}
 use Rattle.sled_store.specs.Accounts.{IsAccountant, MayHandOut, machine_of}
@@ -53,10 +58,10 @@ module _ {D C : Type 0} (mid : Log D C) (size : ℕ) (sizes : mid.config.config.
   its_room room = subst (λ (b : IoBuf). CanClose b size) (last_buffer_behind mid.buffer mid.behind.items s n at there) room
 
 -- It is the one that was read.
-is_last : (g : Over) (c : goal.After-site-else-n-eq0-1 g) → (suc (c.len-n.result - 1) ≡ length c.room_to_close.new.self.behind.items) × (slice_get c.room_to_close.new.self.behind.items (c.len-n.result - 1) ≡ Some c.index_mut.result.now)
+is_last : (g : Over) (c : goal.After-site-else-n-eq0-1 g) → (suc (c.len-n.result - 1) ≡ length c.room_to_close.new.self.behind.items) × (slice_get c.room_to_close.new.self.behind.items (c.len-n.result - 1) ≡ Some c.index_mut-s.result.now)
 is_last g c =
     let counted : deque_len c.room_to_close.new.self.behind ≡ length c.room_to_close.new.self.behind.items = search rules in
-    read_last c.room_to_close.new.self.behind.items c.len-n.result c.index_mut.result.now (c.len-n.ensures ∙ counted) c.if-n-eq0.false c.index_mut.ensures.value
+    read_last c.room_to_close.new.self.behind.items c.len-n.result c.index_mut-s.result.now (c.len-n.ensures ∙ counted) c.if-n-eq0.false c.index_mut-s.ensures.value
 
 -- Its size is as it was before room was made.
 its_sizes : (g : Over) (c : goal.After-site-else-n-eq0-1 g) → segment_size_of c.room_to_close.new.self ≡ segment_size_of c.args.self.now
@@ -65,17 +70,17 @@ its_sizes g c = ap (λ x. x.config.segment_size) c.in_ok-room_to_close.ensures.r
 pub close-requires-else-n-eq0-clause-some : goal.close-requires-else-n-eq0-clause-some
 close-requires-else-n-eq0-clause-some g c =
     let there = is_last g c in
-    its_begin c.room_to_close.new.self (segment_size_of c.args.self.now) (its_sizes g c) (c.len-n.result - 1) c.index_mut.result.now there.0 there.1
+    its_begin c.room_to_close.new.self (segment_size_of c.args.self.now) (its_sizes g c) (c.len-n.result - 1) c.index_mut-s.result.now there.0 there.1
 
 pub close-requires-else-n-eq0-clause-short : goal.close-requires-else-n-eq0-clause-short
 close-requires-else-n-eq0-clause-short g c =
     let there = is_last g c in
-    its_short c.room_to_close.new.self (segment_size_of c.args.self.now) (its_sizes g c) (c.len-n.result - 1) c.index_mut.result.now there.0 there.1
+    its_short c.room_to_close.new.self (segment_size_of c.args.self.now) (its_sizes g c) (c.len-n.result - 1) c.index_mut-s.result.now there.0 there.1
 
 pub close-requires-else-n-eq0-clause-room : goal.close-requires-else-n-eq0-clause-room
 close-requires-else-n-eq0-clause-room g c =
     let there = is_last g c in
-    its_room c.room_to_close.new.self (segment_size_of c.args.self.now) (its_sizes g c) (c.len-n.result - 1) c.index_mut.result.now there.0 there.1 c.in_ok-room_to_close.ensures.room
+    its_room c.room_to_close.new.self (segment_size_of c.args.self.now) (its_sizes g c) (c.len-n.result - 1) c.index_mut-s.result.now there.0 there.1 c.in_ok-room_to_close.ensures.room
 
 -- The segment that was being filled is filled up and sealed.
 record IsClosed {D C : Type 0} (sum : List ℕ → ℕ) (size : ℕ) (mid : Log D C) (b : IoBuf) (ss : List SegmentBuffer) : Type 0 where
@@ -140,6 +145,39 @@ module _ {D C : Type 0} (sum : List ℕ → ℕ) (mid : Log D C) (site : Segment
         count = length-set mid.behind.items n (record { site = s.site; buffer = new });
         follow = follow_with size (mid.site.place + size) mid.behind.items n s (record { site = s.site; buffer = new }) there refl (omega (arith, long)) mid.follow;
       }
+
+  -- Either way it is the one that was being filled.
+  view_first : length mid.behind.items ≡ 0 → view_at site new ≡ closed_now sum size (view_at site mid.buffer) → view_at site new ≡ closed_now sum size (current_of mid)
+  view_first none is =
+      let current : current_of mid ≡ first = last_none first mid.behind.items none in
+      let lies : site ≡ mid.site = its_site ∙ ap (λ (v : SegmentView). v.parts.site) current in
+      is ∙ ap (closed_now sum size) ((λ j. view_at (lies j) mid.buffer) ∙ sym current)
+
+  view_last : (n : ℕ) (s : SegmentBuffer) → suc n ≡ length mid.behind.items → slice_get mid.behind.items n ≡ Some s → view_at site new ≡ closed_now sum size (view_at site s.buffer) → view_at site new ≡ closed_now sum size (current_of mid)
+  view_last n s at there is =
+      let current : current_of mid ≡ segment_view s = is_current mid size refl n s at there in
+      let lies : site ≡ s.site = its_site ∙ ap (λ (v : SegmentView). v.parts.site) current in
+      is ∙ ap (closed_now sum size) ((λ j. view_at (lies j) s.buffer) ∙ sym current)
+
+  -- It has a sealed buffer, and lies in reach,
+  module _ (view : view_at site new ≡ closed_now sum size (current_of mid)) where
+    sealed_some : 0 < length new.sealed.items
+    sealed_some =
+        let seals = seals_closed sum size (current_of mid) in
+        omega (arith, ap length (ap (λ (v : SegmentView). v.parts.sealed) view ∙ seals.sealed), length-append (current_of mid).parts.sealed (seals.buffer ∷ []))
+
+    sealed_reach : site.place + length new.bytes.items < 2 ^ 64
+    sealed_reach =
+        let long : length new.bytes.items ≡ size = ap (λ (v : SegmentView). length v.parts.bytes) view ∙ filled_length sum size (current_of mid) closes.short closes.small in
+        let small = (current_facts mid).place_small in
+        let lies = ap (λ (p : SegmentPosition). p.place) its_site in
+        omega (arith, long, small, lies)
+
+    -- and so its buffers are known then.
+    sealed_ready : (now : ReadyBuffers)
+        → ((bs : List Sealed) (x : Sealed) (before : List ℕ) (others : ℕ) → new.sealed.items ≡ bs ++ x ∷ [] → x.is_written ≡ false → HasOwn mid.ready site.place new.written_len bs before [] others → HasOwn now site.place new.written_len new.sealed.items before [] others)
+        → AreReady (at_last (closed_now sum size) (line_of mid)) now
+    sealed_ready now noted = seals_ready mid (closed_now sum size) (seals_closed sum size (current_of mid)) site new view mid.ready now refl refl noted
 
 -- One more is begun behind it.
 module _ {D C : Type 0} (sum : List ℕ → ℕ) (old mid : Log D C) (line : line_of mid ≡ line_of old) (rest : ChangesLine old mid) (b : IoBuf) (ss : List SegmentBuffer) (is : IsClosed sum (segment_size_of mid) mid b ss)
@@ -290,6 +328,7 @@ invariant_of-self g c =
       by_place = mid.by_place;
       room = mid.room;
       counted = mid.counted;
+      indexed = mid.indexed;
     }
 
 -- What is left behind the closing: the first segment, those behind it, and the one that is begun.
@@ -299,6 +338,9 @@ first_then g c = c.if-n-eq0.self.1.1.1.0
 
 abbrev behind_then : (g : Over) (c : After-push_back_reserved g) → List SegmentBuffer
 behind_then g c = c.if-n-eq0.self.1.1.1.1.0.items
+
+abbrev ready_then : (g : Over) (c : After-push_back_reserved g) → ReadyBuffers
+ready_then g c = c.if-n-eq0.self.1.1.1.1.1.0
 
 abbrev next : (g : Over) (c : After-push_back_reserved g) → SegmentBuffer
 next g c = record { site = record { place = c.current.result.0.place + segment_size_of c.args.self.now; slot = c.in_ok-slot.slot }; buffer = c.in_ok-buffer.buffer }
@@ -330,12 +372,73 @@ closed g c =
           subst (λ (x : IoBuf). IsClosed sum size mid x ss) (sym (λ i. (w.self-is i).1.1.1.0))
           (subst (λ (l : List SegmentBuffer). IsClosed sum size mid new l) (sym (λ i. (w.self-is i).1.1.1.1.0.items)) (closed_first sum mid c.current.result.0 its_site new none made)))
       | else-n-eq0 w ↦ (
-          let s : SegmentBuffer = w.index_mut.result.now in
+          let s : SegmentBuffer = w.index_mut-s.result.now in
           let new : IoBuf = w.close-else-n-eq0.new.self in
           let made = w.close-else-n-eq0.ensures.closed ∙ ap (λ n. closed_now sum n (view_at c.current.result.0 s.buffer)) (sym sizes) in
-          let is = read_last mid.behind.items c.len-n.result s (c.len-n.ensures ∙ counted) w.if-n-eq0.false w.index_mut.ensures.value in
+          let is = read_last mid.behind.items c.len-n.result s (c.len-n.ensures ∙ counted) w.if-n-eq0.false w.index_mut-s.ensures.value in
           subst (λ (x : IoBuf). IsClosed sum size mid x ss) (sym (λ i. (w.self-is i).1.1.1.0))
           (subst (λ (l : List SegmentBuffer). IsClosed sum size mid mid.buffer l) (sym (λ i. (w.self-is i).1.1.1.1.0.items)) (closed_last sum mid c.current.result.0 its_site new (c.len-n.result - 1) s is.0 is.1 made)))
+    ]
+
+-- Its buffer can be written, or is counted.
+
+pub note_sealed-requires : goal.note_sealed-requires
+note_sealed-requires g c =
+    let mid = c.room_to_close.new.self in
+    let sum : List ℕ → ℕ = g.C.Checksum.sum_of in
+    let new : IoBuf = c.close.new.self in
+    let same : current_of mid ≡ current_of c.args.self.now = ap (last_of (view_at mid.site mid.buffer)) c.in_ok-room_to_close.ensures.line in
+    let site = c.current.result.0 in
+    let its_site : site ≡ (current_of mid).parts.site = ap (λ (v : SegmentView). v.parts.site) (c.current.ensures.view ∙ sym same) in
+    let sizes : segment_size_of mid ≡ segment_size_of c.args.self.now = ap (λ x. x.config.segment_size) c.in_ok-room_to_close.ensures.rest.config in
+    let counted : deque_len mid.behind ≡ length mid.behind.items = search rules in
+    let view = view_first sum mid site its_site new (omega (arith, counted, c.len-n.ensures, c.if-n-eq0.true)) (c.close.ensures.closed ∙ ap (λ n. closed_now sum n (view_at site mid.buffer)) (sym sizes)) in
+    let long : deque_len new.sealed ≡ length new.sealed.items = search rules in
+    let some = sealed_some sum mid site its_site new view in
+    record { room = c.in_ok-room_to_close.ensures.ready; some = omega (arith, long, some); place = sealed_reach sum mid site its_site new view }
+
+pub note_sealed-requires-else-n-eq0 : goal.note_sealed-requires-else-n-eq0
+note_sealed-requires-else-n-eq0 g c =
+    let mid = c.room_to_close.new.self in
+    let sum : List ℕ → ℕ = g.C.Checksum.sum_of in
+    let s : SegmentBuffer = c.index_mut-s.result.now in
+    let new : IoBuf = c.close-else-n-eq0.new.self in
+    let same : current_of mid ≡ current_of c.args.self.now = ap (last_of (view_at mid.site mid.buffer)) c.in_ok-room_to_close.ensures.line in
+    let site = c.current.result.0 in
+    let its_site : site ≡ (current_of mid).parts.site = ap (λ (v : SegmentView). v.parts.site) (c.current.ensures.view ∙ sym same) in
+    let sizes : segment_size_of mid ≡ segment_size_of c.args.self.now = ap (λ x. x.config.segment_size) c.in_ok-room_to_close.ensures.rest.config in
+    let counted : deque_len mid.behind ≡ length mid.behind.items = search rules in
+    let is = read_last mid.behind.items c.len-n.result s (c.len-n.ensures ∙ counted) c.if-n-eq0.false c.index_mut-s.ensures.value in
+    let view = view_last sum mid site its_site new (c.len-n.result - 1) s is.0 is.1 (c.close-else-n-eq0.ensures.closed ∙ ap (λ n. closed_now sum n (view_at site s.buffer)) (sym sizes)) in
+    let long : deque_len new.sealed ≡ length new.sealed.items = search rules in
+    let some = sealed_some sum mid site its_site new view in
+    record { room = c.in_ok-room_to_close.ensures.ready; some = omega (arith, long, some); place = sealed_reach sum mid site its_site new view }
+
+closed_ready : (g : Over) (c : After-push_back_reserved g) → AreReady (at_last (closed_now g.C.Checksum.sum_of (segment_size_of c.room_to_close.new.self)) (line_of c.room_to_close.new.self)) (ready_then g c)
+closed_ready g c =
+    let mid = c.room_to_close.new.self in
+    let sum : List ℕ → ℕ = g.C.Checksum.sum_of in
+    let size : ℕ = segment_size_of mid in
+    let line : List SegmentView = at_last (closed_now sum size) (line_of mid) in
+    let same : current_of mid ≡ current_of c.args.self.now = ap (last_of (view_at mid.site mid.buffer)) c.in_ok-room_to_close.ensures.line in
+    let site = c.current.result.0 in
+    let its_site : site ≡ (current_of mid).parts.site = ap (λ (v : SegmentView). v.parts.site) (c.current.ensures.view ∙ sym same) in
+    let sizes : size ≡ segment_size_of c.args.self.now = ap (λ x. x.config.segment_size) c.in_ok-room_to_close.ensures.rest.config in
+    let counted : deque_len mid.behind ≡ length mid.behind.items = search rules in
+    elim c.if-n-eq0.branch [
+      | then-n-eq0 w ↦ (
+          let new : IoBuf = w.close.new.self in
+          let made = w.close.ensures.closed ∙ ap (λ n. closed_now sum n (view_at site mid.buffer)) (sym sizes) in
+          let none : length mid.behind.items ≡ 0 = omega (arith, counted, c.len-n.ensures, w.if-n-eq0.true) in
+          subst (AreReady line) (sym (λ i. (w.self-is i).1.1.1.1.1.0))
+          (sealed_ready sum mid site its_site new (view_first sum mid site its_site new none made) w.note_sealed.new.self w.note_sealed.ensures))
+      | else-n-eq0 w ↦ (
+          let s : SegmentBuffer = w.index_mut-s.result.now in
+          let new : IoBuf = w.close-else-n-eq0.new.self in
+          let made = w.close-else-n-eq0.ensures.closed ∙ ap (λ n. closed_now sum n (view_at site s.buffer)) (sym sizes) in
+          let is = read_last mid.behind.items c.len-n.result s (c.len-n.ensures ∙ counted) w.if-n-eq0.false w.index_mut-s.ensures.value in
+          subst (AreReady line) (sym (λ i. (w.self-is i).1.1.1.1.1.0))
+          (sealed_ready sum mid site its_site new (view_last sum mid site its_site new (c.len-n.result - 1) s is.0 is.1 made) w.note_sealed-else-n-eq0.new.self w.note_sealed-else-n-eq0.ensures))
     ]
 
 pub invariant_of-self-2 : goal.invariant_of-self-2
@@ -369,6 +472,10 @@ invariant_of-self-2 g c =
       by_place = mid.by_place;
       room = mid.room;
       counted = subst (λ (l : List SegmentBuffer). open_manifests (line_at mid.site b l) ≤ mid.manifests) (sym c.push_back_reserved.ensures.items) (begun_counted sum old mid line rest b ss (closed g c) (next g c) (next_at g c) slot begun);
+      indexed = subst (λ (l : List SegmentBuffer). AreReady (line_at mid.site b l) (ready_then g c)) (sym c.push_back_reserved.ensures.items)
+          (still_ready (line_more mid.site b ss (next g c)) (ready_then g c) (ready_then g c) refl refl
+          (further_ready (line_at mid.site b ss) (segment_view (next g c)) (ready_then g c) (ap (λ (v : SegmentView). v.parts.sealed) begun.view)
+          (still_ready (closed g c).line (ready_then g c) (ready_then g c) refl refl (closed_ready g c))));
     }
 
 pub push_back_reserved-requires : goal.push_back_reserved-requires

@@ -14,6 +14,7 @@ use Rattle.sled_core.specs.declared.logger.segments.SegmentBuffer.{SegmentBuffer
 use Rattle.sled_core.specs.Fits.{current_of, line_of}
 use Rattle.sled_core.specs.Manifests.{is_manifest}
 use Rattle.sled_core.specs.OpenPlaces.{open_manifests}
+use Rattle.sled_core.specs.ReadyBuffers.{AreReady}
 use Rattle.sled_core.specs.Turned.{HasRoomIn, reserved_now}
 use Rattle.sled_core.specs.Waiting.{at_last}
 use Rattle.sled_core.proofs.Line.Entered.{filled_last}
@@ -22,6 +23,7 @@ use Rattle.sled_core.proofs.Line.Filling.{follow_with, last_none, line_first, li
 use Rattle.sled_core.proofs.Line.Nth.{last_behind, last_buffer_behind}
 use Rattle.sled_core.proofs.Line.OpenManifests.{manifests_reserved, more_counted, room_more}
 use Rattle.sled_core.proofs.Line.Reserves.{filled_reserved}
+use Rattle.sled_core.proofs.Pending.Segments.{at_last_same}
 use Rattle.sled_core.proofs.logger.Log.lay_out.Given.{Over}
 use Rattle.sled_core.proofs.logger.Log.lay_out.Goals as goal
 
@@ -59,6 +61,10 @@ laid_counted log more r manifest now line is opened kind more_is =
     (ap open_manifests is ∙ manifests_reserved more r manifest (view_at log.site log.buffer) (map segment_view log.behind.items) opened (sym kind))
     more_is log.counted
 
+-- The same buffers can be written.
+laid_indexed : {D C : Type 0} (log : Log D C) (more : List ℕ) (r : Reserved) (line : List SegmentView) → line ≡ at_last (reserved_now more r) (line_of log) → AreReady line log.ready
+laid_indexed log more r line is = subst (λ (l : List SegmentView). AreReady l log.ready) (sym is) (at_last_same (reserved_now more r) (λ w. refl) (λ w. refl) (line_of log) log.ready log.indexed)
+
 pub invariant_of-self : goal.invariant_of-self
 invariant_of-self g c =
     let log = c.args.self.now in
@@ -87,6 +93,9 @@ invariant_of-self g c =
           (line_first (reserved_now (head ++ item) _) log.site log.buffer c.append.new.self log.behind.items none
           (reserved_view log.site log.buffer c.append.new.self head item _ c.append.ensures.bytes c.append.ensures.reserved c.append.ensures.from c.append.ensures.gone c.append.ensures.filled c.append.ensures.sealed))
           refl c.is_manifest-manifest.ensures c.with_manifest-manifests.ensures;
+      indexed = laid_indexed log (head ++ item) _ (line_at log.site c.append.new.self log.behind.items)
+          (line_first (reserved_now (head ++ item) _) log.site log.buffer c.append.new.self log.behind.items none
+          (reserved_view log.site log.buffer c.append.new.self head item _ c.append.ensures.bytes c.append.ensures.reserved c.append.ensures.from c.append.ensures.gone c.append.ensures.filled c.append.ensures.sealed));
     }
 
 pub returns-then-n-eq0-clause-rest : goal.returns-then-n-eq0-clause-rest
@@ -163,6 +172,8 @@ invariant_of-self-else-n-eq0 g c =
       counted = laid_counted log (head ++ item) _ c.is_manifest-manifest.result c.with_manifest-manifests.result (line_at log.site log.buffer (set log.behind.items n (record { site = s.site; buffer = new })))
           (laid_line log n s is.0 is.1 new head item _ made.bytes made.reserved made.from made.gone made.filled made.sealed)
           refl c.is_manifest-manifest.ensures c.with_manifest-manifests.ensures;
+      indexed = laid_indexed log (head ++ item) _ (line_at log.site log.buffer (set log.behind.items n (record { site = s.site; buffer = new })))
+          (laid_line log n s is.0 is.1 new head item _ made.bytes made.reserved made.from made.gone made.filled made.sealed);
     }
 
 pub returns-else-n-eq0-clause-line : goal.returns-else-n-eq0-clause-line

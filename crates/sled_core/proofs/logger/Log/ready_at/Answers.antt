@@ -1,74 +1,47 @@
--- The one that is asked for is of the first segment, or of one of those that are left behind it.
-use Rattle.std.proofs.Common.{rules, arith, subst, ◌≡◌, ◌<◌, ◌+◌, ◌-◌, suc, length, drop, map, deque_len}
-use Rattle.sled_core.specs.Begun.{segment_view}
+-- The place that is read is that of the buffer that is asked for: the segment that has it is looked at, and in it the first sealed buffer that ends behind it.
+use Rattle.std.proofs.Common.{rules, arith, ◌≡◌, ap, length, deque_len}
 use Rattle.sled_core.specs.Fits.{line_of}
-use Rattle.sled_core.specs.SealedBuffers.{ready_count}
-use Rattle.sled_core.proofs.Line.Buffers.{Finds, left_first, left_further, log_behind, log_first, pending_left, pending_line}
+use Rattle.sled_core.proofs.Line.Buffers.{Finds}
+use Rattle.sled_core.proofs.Line.Segments.{line_segments}
+use Rattle.sled_core.proofs.Pending.Found.{above_written, below_end, finds_it, lies_behind, number_within, pending_length, place_behind}
 use Rattle.sled_core.proofs.logger.Log.ready_at.Given.{Over}
 use Rattle.sled_core.proofs.logger.Log.ready_at.Goals as goal
 
-first : (g : Over) (c : goal.After-ready_at g) → Finds (line_of c.args.self.now) c.args.i 0 c.ready_at.result
-first g c =
+pub index-place-requires : goal.index-place-requires
+index-place-requires g c =
     let log = c.args.self.now in
-    let did = c.ready_at.ensures in
-    let long : deque_len log.buffer.sealed ≡ length log.buffer.sealed.items = search rules in
-    log_first log c.args.i c.ready_at.result (omega (arith, c.if-i-first.true, c.pending-first.ensures)) (omega (arith, did.within, long)) did.ready did.place
+    let long : deque_len log.ready.places ≡ length log.ready.places.items = search rules in
+    let many = pending_length log.config.config.segment_size log.site.place (line_of log) (line_segments log) in
+    omega (arith, long, many, c.requires, ap length log.indexed.places)
 
-pub returns-then-i-first-clause-ready : goal.returns-then-i-first-clause-ready
-returns-then-i-first-clause-ready g c = (first g c).ready
+pub segment_of-n-requires : goal.segment_of-n-requires
+segment_of-n-requires g c = place_behind c.args.self.now c.args.i c.index-place.result.now c.requires c.index-place.ensures
 
-pub returns-then-i-first-clause-writes : goal.returns-then-i-first-clause-writes
-returns-then-i-first-clause-writes g c = (first g c).writes
+pub segment-requires : goal.segment-requires
+segment-requires g c = number_within c.args.self.now c.args.i c.index-place.result.now c.requires c.index-place.ensures c.segment_of-n.result c.segment_of-n.ensures
 
-pub returns-then-i-first-clause-left : goal.returns-then-i-first-clause-left
-returns-then-i-first-clause-left g c = (first g c).left
+pub overflow_sub-place : goal.overflow_sub-place
+overflow_sub-place g c =
+    lies_behind c.args.self.now c.args.i c.index-place.result.now c.requires c.index-place.ensures c.segment_of-n.result c.segment_of-n.ensures c.segment.result.0 c.segment.result.1.now c.segment.ensures.view
 
--- It isn't of the first one.
+pub around-k-requires-clause-sealed : goal.around-k-requires-clause-sealed
+around-k-requires-clause-sealed g c =
+    below_end c.args.self.now c.args.i c.index-place.result.now c.requires c.index-place.ensures c.segment_of-n.result c.segment_of-n.ensures c.segment.result.0 c.segment.result.1.now c.segment.ensures.view
 
-pub loop-n-init : goal.loop-n-init
-loop-n-init g c =
-    let log = c.args.self.now in
-    let count = c.pending-first.ensures in (
-      omega (arith, c.requires, c.if-i-first.false, count, pending_line log),
-      λ m k found. subst (λ n. Finds (line_of log) c.args.i n k) (let same : suc m ≡ 0 + m + 1 = omega arith in same)
-          (log_behind log c.args.i m k (omega (arith, c.if-i-first.false, count)) (subst (λ n. Finds (map segment_view log.behind.items) (c.args.i - n) m k) count found)),
-    )
+pub around-k-requires-clause-behind : goal.around-k-requires-clause-behind
+around-k-requires-clause-behind g c =
+    above_written c.args.self.now c.args.i c.index-place.result.now c.requires c.index-place.ensures c.segment_of-n.result c.segment_of-n.ensures c.segment.result.0 c.segment.result.1.now c.segment.ensures.view
 
--- It is of the segment at the index.
+its : (g : Over) (c : goal.After-around-k g) → Finds (line_of c.args.self.now) c.args.i c.segment_of-n.result c.around-k.result.0
+its g c =
+    finds_it c.args.self.now c.args.i c.index-place.result.now c.requires c.index-place.ensures c.segment_of-n.result c.segment_of-n.ensures c.segment.result.0 c.segment.result.1.now c.segment.ensures.view
+    c.around-k.result.0 c.around-k.ensures.within c.around-k.ensures.point
 
-found : (g : Over) (c : goal.After-ready_at-then-left-count g) → Finds (line_of c.args.self.now) c.args.i (c.loop-n.n + 1) c.ready_at-then-left-count.result
-found g c =
-    let log = c.args.self.now in
-    let n = c.loop-n.n in
-    let s = c.index-then-left-count.result.now in
-    let did = c.ready_at-then-left-count.ensures in
-    let lt : n < length log.behind.items = (let long : deque_len log.behind ≡ length log.behind.items = search rules in omega (arith, long, c.len.ensures, c.loop-n-test.true)) in
-    let long : deque_len s.buffer.sealed ≡ length s.buffer.sealed.items = search rules in
-    let low : c.loop-n.left < ready_count s.buffer.sealed.items =
-    omega (arith, c.if-left-count.true, c.pending-count.ensures, pending_left log n s lt c.index-then-left-count.ensures, pending_left log n c.index.result.now lt c.index.ensures) in
-    subst (λ m. Finds (line_of log) c.args.i m c.ready_at-then-left-count.result) (let same : n + 0 + 1 ≡ n + 1 = omega arith in same)
-    (c.loop-n.invariant.1 0 c.ready_at-then-left-count.result (left_first log n s lt c.index-then-left-count.ensures c.loop-n.left c.ready_at-then-left-count.result low (omega (arith, did.within, long)) did.ready did.place))
+pub returns-clause-ready : goal.returns-clause-ready
+returns-clause-ready g c = (its g c).ready
 
-pub returns-then-left-count-clause-ready : goal.returns-then-left-count-clause-ready
-returns-then-left-count-clause-ready g c = (found g c).ready
+pub returns-clause-writes : goal.returns-clause-writes
+returns-clause-writes g c = (its g c).writes
 
-pub returns-then-left-count-clause-writes : goal.returns-then-left-count-clause-writes
-returns-then-left-count-clause-writes g c = (found g c).writes
-
-pub returns-then-left-count-clause-left : goal.returns-then-left-count-clause-left
-returns-then-left-count-clause-left g c = (found g c).left
-
--- It is of a further one.
-pub loop-n-preserved : goal.loop-n-preserved
-loop-n-preserved g c =
-    let log = c.args.self.now in
-    let n = c.loop-n.n in
-    let s = c.index.result.now in
-    let lt : n < length log.behind.items = (let long : deque_len log.behind ≡ length log.behind.items = search rules in omega (arith, long, c.len.ensures, c.loop-n-test.true)) in
-    let count = c.pending-count.ensures in
-    let left = c.loop-n.invariant.0 in (
-      omega (arith, left, c.if-left-count.false, count, pending_left log n s lt c.index.ensures),
-      λ m k is. subst (λ j. Finds (line_of log) c.args.i j k) (let same : n + suc m + 1 ≡ n + 1 + m + 1 = omega arith in same)
-          (c.loop-n.invariant.1 (suc m) k (left_further log n s lt c.index.ensures c.loop-n.left m k (omega (arith, c.if-left-count.false, count))
-          (subst (λ j. Finds (map segment_view (drop (n + 1) log.behind.items)) (c.loop-n.left - j) m k) count is))),
-    )
+pub returns-clause-left : goal.returns-clause-left
+returns-clause-left g c = (its g c).left

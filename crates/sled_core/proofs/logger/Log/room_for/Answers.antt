@@ -18,6 +18,7 @@ use Rattle.sled_core.proofs.Line.Filling.{follow_in, follow_with, line_kept, rea
 use Rattle.sled_core.proofs.Line.Nth.{last_buffer_behind, last_buffer_set}
 use Rattle.sled_core.proofs.Line.Outcomes.{on_both}
 use Rattle.sled_core.proofs.Reserve.OpenCounts.{first_there}
+use Rattle.sled_core.proofs.Pending.Segments.{still_ready}
 use Rattle.sled_core.proofs.logger.Log.room_for.Goals as goal
 
 -- As many are open as may be, of which there is a first one.
@@ -54,6 +55,7 @@ invariant_of-self g c =
       by_place = subst (λ (l : List NotedBatch). AreByPlace 0 (map batch_of l)) (sym c.room_for_batch.ensures.items) log.by_place;
       room = (let many = ap length c.room_for_batch.ensures.items in let grows = c.room_for_batch.ensures.grows in let old = log.room in omega (arith, many, grows, old));
       counted = log.counted;
+      indexed = log.indexed;
     }
 
 -- What is so where it was done isn't asked where it was refused.
@@ -111,6 +113,7 @@ invariant_of-self-then-n-eq0 g c =
       by_place = subst (λ (l : List NotedBatch). AreByPlace 0 (map batch_of l)) (sym c.room_for_batch.ensures.items) log.by_place;
       room = (let many = ap length c.room_for_batch.ensures.items in let grows = c.room_for_batch.ensures.grows in let old = log.room in omega (arith, many, grows, old));
       counted = (let same = ap open_manifests line in let old = log.counted in omega (arith, same, old));
+      indexed = still_ready line log.ready log.ready refl refl log.indexed;
     }
 
 pub returns-then-n-eq0-clause-line : goal.returns-then-n-eq0-clause-line
@@ -154,6 +157,7 @@ invariant_of-self-2 g c =
       by_place = subst (λ (l : List NotedBatch). AreByPlace 0 (map batch_of l)) (sym c.room_for_batch.ensures.items) log.by_place;
       room = (let many = ap length c.room_for_batch.ensures.items in let grows = c.room_for_batch.ensures.grows in let old = log.room in omega (arith, many, grows, old));
       counted = (let same = ap open_manifests (same_line log n s is.0 is.1 new made.bytes made.from made.reserved made.gone made.filled made.sealed) in let old = log.counted in omega (arith, same, old));
+      indexed = still_ready (same_line log n s is.0 is.1 new made.bytes made.from made.reserved made.gone made.filled made.sealed) log.ready log.ready refl refl log.indexed;
     }
 
 pub returns-clause-line : goal.returns-clause-line

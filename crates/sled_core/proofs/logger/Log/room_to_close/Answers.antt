@@ -13,6 +13,7 @@ use Rattle.sled_core.specs.OpenPlaces.{open_manifests}
 use Rattle.sled_core.specs.Turned.{CanClose}
 use Rattle.sled_core.proofs.Line.Filling.{follow_in, follow_with, line_kept, read_last}
 use Rattle.sled_core.proofs.Line.Nth.{last_buffer_set}
+use Rattle.sled_core.proofs.Pending.Segments.{still_ready}
 use Rattle.sled_core.proofs.logger.Log.room_to_close.Goals as goal
 
 -- The noted batches are as they were, but for their room.
@@ -112,6 +113,7 @@ invariant_of-self-then-n-eq0 g c =
       by_place = subst (λ (l : List NotedBatch). AreByPlace 0 (map batch_of l)) (sym c.room_for_batch.ensures.items) log.by_place;
       room = (let many = ap length c.room_for_batch.ensures.items in let grows = c.room_for_batch.ensures.grows in let old = log.room in omega (arith, many, grows, old));
       counted = (let all = ap open_manifests (first_line log c.reserve.new.self.items same c.room_to_close.new.self c.room_to_close.ensures.same) in let old = log.counted in omega (arith, all, old));
+      indexed = still_ready (first_line log c.reserve.new.self.items same c.room_to_close.new.self c.room_to_close.ensures.same) log.ready c.make_room.new.self c.in_ok-make_room.ensures.places c.in_ok-make_room.ensures.held log.indexed;
     }
 
 pub returns-then-n-eq0-clause-line : goal.returns-then-n-eq0-clause-line
@@ -174,6 +176,7 @@ invariant_of-self-2 g c =
       by_place = subst (λ (l : List NotedBatch). AreByPlace 0 (map batch_of l)) (sym c.room_for_batch.ensures.items) log.by_place;
       room = (let many = ap length c.room_for_batch.ensures.items in let grows = c.room_for_batch.ensures.grows in let old = log.room in omega (arith, many, grows, old));
       counted = (let all = ap open_manifests (same_line log ss same n s is.0 is.1 c.room_to_close-2.new.self c.room_to_close-2.ensures.same) in let old = log.counted in omega (arith, all, old));
+      indexed = still_ready (same_line log ss same n s is.0 is.1 c.room_to_close-2.new.self c.room_to_close-2.ensures.same) log.ready c.make_room.new.self c.in_ok-make_room.ensures.places c.in_ok-make_room.ensures.held log.indexed;
     }
 
 pub returns-clause-line : goal.returns-clause-line

@@ -25,6 +25,7 @@ use Rattle.sled_core.specs.Fits.{CloseBelow, FitsBatches, Holds, HoldsIn, HoldsL
 use Rattle.sled_core.specs.FreeSlots.{HasSlots, begun_machine}
 use Rattle.sled_core.specs.Logged.{logged}
 use Rattle.sled_core.specs.OpenBatches.{AreByPlace, batch_of, not_whole}
+use Rattle.sled_core.specs.ReadyBuffers.{held_buffers, held_in, ready_in, ready_places}
 use Rattle.sled_core.specs.OpenPlaces.{open_manifests, open_manifests_in}
 use Rattle.sled_core.specs.Positions.{Position, is_short, next_segment_at, position_in}
 use Rattle.sled_core.specs.Ready.{IsReady}
@@ -108,13 +109,20 @@ invariant_of-result g c =
           subst (λ (ss : List SegmentBuffer). AreFilled c.begin.new.config.config.segment_size (c.in-Ok.beginning.place + c.in-Ok.beginning.offset) (line_at (record { place = c.in-Ok.beginning.place; slot = c.in-Ok.beginning.slot }) c.in-Ok.buffer ss)) (sym c.no_segments.ensures)
           (omega (arith, at, low, same), omega (arith, at, behind, begins), entered_none (c.in-Ok.beginning.place + c.in-Ok.beginning.offset) c.in-Ok.beginning.place c.in-Ok.buffer.written_len c.in-Ok.buffer.sealed.items c.in-Ok.buffer.reserved.items first.sealed first.reserved, subst IsUnfilled (sym first.filled) tt, omega (arith, ap (λ (rs : List Reserved). records_end rs (length c.in-Ok.buffer.bytes.items)) first.reserved)));
       account = subst (λ n. IsAccountant n c.in-Ok.accountant) (sym same) c.in-Ok.ensures.account;
-      pegs = subst (All (λ (b : NotedBatch). b.peg < c.in-Ok.beginning.place + c.in-Ok.beginning.offset)) (sym c.new.ensures.items) (All-nil (λ (b : NotedBatch). b.peg < c.in-Ok.beginning.place + c.in-Ok.beginning.offset));
-      by_place = subst (λ (l : List NotedBatch). AreByPlace 0 (map batch_of l)) (sym c.new.ensures.items) _;
-      room = (let none = ap length c.new.ensures.items in omega (arith, none));
+      pegs = subst (All (λ (b : NotedBatch). b.peg < c.in-Ok.beginning.place + c.in-Ok.beginning.offset)) (sym c.new-in-Ok.ensures.items) (All-nil (λ (b : NotedBatch). b.peg < c.in-Ok.beginning.place + c.in-Ok.beginning.offset));
+      by_place = subst (λ (l : List NotedBatch). AreByPlace 0 (map batch_of l)) (sym c.new-in-Ok.ensures.items) _;
+      room = (let none = ap length c.new-in-Ok.ensures.items in omega (arith, none));
       counted = (
           let here : SegmentPosition = record { place = c.in-Ok.beginning.place; slot = c.in-Ok.beginning.slot } in
           let none : open_manifests (line_at here c.in-Ok.buffer c.no_segments.result.items) ≡ 0 = ap (λ (ss : List SegmentBuffer). open_manifests (line_at here c.in-Ok.buffer ss)) c.no_segments.ensures ∙ ap (λ (rs : List Reserved). open_manifests_in rs + 0) c.in-Ok.ensures.buffer.reserved in
           omega (arith, none));
+      indexed = (
+          let here : SegmentPosition = record { place = c.in-Ok.beginning.place; slot = c.in-Ok.beginning.slot } in
+          let nothing : ready_places (line_at here c.in-Ok.buffer c.no_segments.result.items) ≡ [] =
+          ap (λ (ss : List SegmentBuffer). ready_places (line_at here c.in-Ok.buffer ss)) c.no_segments.ensures ∙ ap (λ (bs : List Sealed). ready_in here.place c.in-Ok.buffer.written_len bs ++ []) c.in-Ok.ensures.buffer.sealed in
+          let none : held_buffers (line_at here c.in-Ok.buffer c.no_segments.result.items) ≡ 0 =
+          ap (λ (ss : List SegmentBuffer). held_buffers (line_at here c.in-Ok.buffer ss)) c.no_segments.ensures ∙ ap (λ (bs : List Sealed). held_in bs + 0) c.in-Ok.ensures.buffer.sealed in
+          record { places = c.new.ensures.places ∙ sym nothing; held = c.new.ensures.held ∙ sym none });
     }
 
 -- the log file, once the log is started
@@ -144,7 +152,7 @@ returns-in-Ok-clause-history g c = λ H ready.
           (subst (λ (n : ℕ). HoldsIn g.C.Checksum.sum_of (log_parts size (record { place = c.in-Ok.beginning.place; slot = c.in-Ok.beginning.slot }) now None c.in-Ok.buffer.bytes.items n c.in-Ok.buffer.sealed.items c.in-Ok.buffer.reserved.items) [] R) (sym first.from)
           (subst (λ (l : List Sealed). HoldsIn g.C.Checksum.sum_of (log_parts size (record { place = c.in-Ok.beginning.place; slot = c.in-Ok.beginning.slot }) now None c.in-Ok.buffer.bytes.items c.in-Ok.beginning.offset l c.in-Ok.buffer.reserved.items) [] R) (sym first.sealed)
           (subst (λ (r : List Reserved). HoldsIn g.C.Checksum.sum_of (log_parts size (record { place = c.in-Ok.beginning.place; slot = c.in-Ok.beginning.slot }) now None c.in-Ok.buffer.bytes.items c.in-Ok.beginning.offset [] r) [] R) (sym first.reserved) holds))));
-      batches = started_batches c.begin.new.config.config.segment_size (view_at (record { place = c.in-Ok.beginning.place; slot = c.in-Ok.beginning.slot }) c.in-Ok.buffer) (map segment_view c.no_segments.result.items) R c.new.ensures.items
+      batches = started_batches c.begin.new.config.config.segment_size (view_at (record { place = c.in-Ok.beginning.place; slot = c.in-Ok.beginning.slot }) c.in-Ok.buffer) (map segment_view c.no_segments.result.items) R c.new-in-Ok.ensures.items
           (let low = offset_low c.args.config.config.segment_size (length (state_of (g.D.Device.trace c.args.config.device)).log.bytes) s c.in-Ok.beginning c.in-Ok.ensures.beginning some in let from = first.from in let same = ap (λ (x : Config). x.segment_size) c.begin.ensures.config in omega (arith, low, from, same))
           (subst (λ n. CloseBelow (c.in-Ok.beginning.place + n) R.batches) (sym first.from)
           (begins_closed g.C.Checksum.sum_of size old now s R c.in-Ok.buffer.bytes.items c.args.config.config.least of_log c.in-Ok.ensures.answers.0 log_now names_now c.in-Ok.beginning c.in-Ok.ensures.beginning first.header first.resumed));
@@ -179,7 +187,7 @@ returns-in-Ok-clause-fits g c = λ H A f ready.
           (start_fits g.C.Checksum.sum_of size (state_of old) now s H A f c.args.config.config.least ready c.in-Ok.ensures.answers.0
           log_now (ap (λ (t : Trace). (state_of t).blobs) c.in-Ok.ensures.made ∙ started-blobs size some (state_of old).log.bytes s old) (ap (λ (t : Trace). (state_of t).snapshots) c.in-Ok.ensures.made ∙ started-snapshots size some (state_of old).log.bytes s old)
           c.in-Ok.beginning c.in-Ok.ensures.beginning c.in-Ok.buffer.bytes.items c.in-Ok.buffer.written_len c.in-Ok.buffer.sealed.items c.in-Ok.buffer.reserved.items first.header first.resumed first.from first.sealed first.reserved));
-      batches = started_batches c.begin.new.config.config.segment_size (view_at (record { place = c.in-Ok.beginning.place; slot = c.in-Ok.beginning.slot }) c.in-Ok.buffer) (map segment_view c.no_segments.result.items) (logged H) c.new.ensures.items
+      batches = started_batches c.begin.new.config.config.segment_size (view_at (record { place = c.in-Ok.beginning.place; slot = c.in-Ok.beginning.slot }) c.in-Ok.buffer) (map segment_view c.no_segments.result.items) (logged H) c.new-in-Ok.ensures.items
           (let low = offset_low c.args.config.config.segment_size (length (state_of (g.D.Device.trace c.args.config.device)).log.bytes) s c.in-Ok.beginning c.in-Ok.ensures.beginning some in let from = first.from in let same = ap (λ (x : Config). x.segment_size) c.begin.ensures.config in omega (arith, low, from, same))
           (subst (λ n. CloseBelow (c.in-Ok.beginning.place + n) (logged H).batches) (sym first.from)
           (begins_closed g.C.Checksum.sum_of size (state_of old) now s (logged H) c.in-Ok.buffer.bytes.items c.args.config.config.least ready.ready c.in-Ok.ensures.answers.0 log_now
@@ -226,7 +234,7 @@ returns-in-Ok-clause-begins g c =
       ended = subst (λ (ss : List SegmentBuffer). NoneOpenIn (line_at here c.in-Ok.buffer ss)) (sym c.no_segments.ensures) (none_open_one (view_at here c.in-Ok.buffer) (ap none_open first.reserved));
       unsealed = subst (λ (ss : List SegmentBuffer). unwritten (line_at here c.in-Ok.buffer ss) ≡ []) (sym c.no_segments.ensures)
           (ap (λ (bs : List Sealed). unwritten_in here c.in-Ok.buffer.bytes.items c.in-Ok.buffer.written_len bs c.in-Ok.buffer.reserved.items ++ []) first.sealed);
-      noted = ap (λ (bs : List NotedBatch). not_whole (c.in-Ok.beginning.place + c.in-Ok.buffer.written_len) (map batch_of bs)) c.new.ensures.items;
+      noted = ap (λ (bs : List NotedBatch). not_whole (c.in-Ok.beginning.place + c.in-Ok.buffer.written_len) (map batch_of bs)) c.new-in-Ok.ensures.items;
       pins = refl;
       fault = refl;
       sized = ap (λ (x : Config). x.segment_size) c.begin.ensures.config;

@@ -1,23 +1,29 @@
-use Rattle.std.proofs.Common.{◌≡◌, ◌∙◌, ◌≤◌, List, ℕ, ap, sym, subst, refl, arith, map, set, Some}
+use Rattle.std.proofs.Common.{◌≡◌, ◌∙◌, ◌≤◌, List, ℕ, ap, sym, subst, refl, arith, map, set, true, Some}
 use Rattle.std.specs.List.{slice_get}
 use Rattle.sled_store.specs.Accounts.{machine_of}
 use Rattle.sled_store.proofs.Traces.ScriptLemmas.{later_performed}
 use Rattle.sled_store.specs.declared.config.Config.{Config}
-use Rattle.sled_core.specs.Begun.{SegmentView, line_at}
+use Rattle.std.proofs.lemmas.Option.{slice_get_within}
+use Rattle.sled_core.specs.Begun.{SegmentView, line_at, view_at}
 use Rattle.sled_core.specs.declared.iobuf.IoBuf.{IoBuf}
 use Rattle.sled_core.specs.declared.iobuf.SegmentPosition.{SegmentPosition}
 use Rattle.sled_core.specs.declared.logger.segments.SegmentBuffer.{SegmentBuffer}
 use Rattle.sled_core.specs.declared.logger.batches.NotedBatch.{NotedBatch}
+use Rattle.sled_core.specs.declared.iobuf.Sealed.{Sealed}
+use Rattle.sled_core.specs.declared.logger.ready.ReadyBuffers.{ReadyBuffers}
 use Rattle.sled_core.specs.declared.logger.Log.{Log}
 use Rattle.sled_core.specs.Fits.{written_to, AwaitsIn, Holds, line_of, noted_in, segment_size_of}
 use Rattle.sled_core.specs.Logged.{logged, in_log}
 use Rattle.sled_core.specs.OpenBatches.{batch_of, not_whole}
 use Rattle.sled_core.specs.OpenPlaces.{open_manifests, open_places_along}
 use Rattle.sled_core.specs.Positions.{Position, position_in}
+use Rattle.sled_core.specs.ReadyBuffers.{AreReady, HasOwn}
 use Rattle.sled_core.specs.Running.{Fits}
+use Rattle.sled_core.specs.SealedBuffers.{is_ready, written_at}
 use Rattle.sled_core.specs.Turned.{ChangesDevice, IsReadyIn, promoted, written_now}
 use Rattle.sled_core.specs.Waiting.{last_of}
 use Rattle.sled_core.proofs.Holds.StoredItems.{items_same}
+use Rattle.sled_core.proofs.Line.Facts.{nth_facts}
 use Rattle.sled_core.proofs.Line.Faulty.{fits_with_same, holds_with_same}
 use Rattle.sled_core.proofs.Line.LineEnds.{noted_later, noted_same}
 use Rattle.sled_core.proofs.Line.LogWrites.{KeepsInvariants, crash_write, end_grows, fits_done, fits_failed, holds_done, holds_failed, keeps_invariants, line_after, line_left, names, noted_left, same_line, segments_written}
@@ -27,6 +33,7 @@ use Rattle.sled_core.proofs.Line.Promotes.{awaits_promoted, last_promoted, last_
 use Rattle.sled_core.proofs.Line.Segments.{line_segments, nth_segment}
 use Rattle.sled_core.proofs.Reached.OpenBatch.{not_whole_further}
 use Rattle.sled_core.proofs.Line.WrittenTickets.{awaits_written, places_written}
+use Rattle.sled_core.proofs.Pending.Logs.{written_ready}
 use Rattle.sled_core.proofs.logger.Log.write_buffer.Goals as goal
 
 -- The same batches are noted,
@@ -71,23 +78,49 @@ returns-in_err-write_bytes-clause-keeps g c =
 -- The segments that are left keep what the type of a log asks.
 kept : {D C : Type 0} (old mid : Log D C) (n k : ℕ) (r : IsReadyIn (line_of old) n k) → ChangesDevice old mid → (b : IoBuf) (ss : List SegmentBuffer)
     → ((site : SegmentPosition) (u : SegmentView) → slice_get (line_at site mid.buffer mid.behind.items) n ≡ Some u → line_at site b ss ≡ set (line_at site mid.buffer mid.behind.items) n (written_now k u))
-    → (site' : SegmentPosition) (b' : IoBuf) (ss' : List SegmentBuffer) → line_at site' b' ss' ≡ promoted mid.config.config.segment_size (line_at mid.site b ss) → (now : IsReadyIn (line_of mid) n k) × KeepsInvariants mid n k now site' b' ss' × (open_manifests (line_at site' b' ss') ≤ mid.manifests)
-kept old mid n k r rest b ss marked site' b' ss' is =
+    → (site' : SegmentPosition) (b' : IoBuf) (ss' : List SegmentBuffer) → line_at site' b' ss' ≡ promoted mid.config.config.segment_size (line_at mid.site b ss)
+    → (site : SegmentPosition) (its : IoBuf) → slice_get (line_of mid) n ≡ Some (view_at site its) → (ready : ReadyBuffers)
+    → ((x : Sealed) (before behind : List ℕ) (others : ℕ) → slice_get its.sealed.items k ≡ Some x → is_ready x ≡ true → HasOwn mid.ready site.place its.written_len its.sealed.items before behind others
+    → HasOwn ready site.place its.written_len (written_at k its.sealed.items) before behind others)
+    → (now : IsReadyIn (line_of mid) n k) × KeepsInvariants mid n k now site' b' ss' × (open_manifests (line_at site' b' ss') ≤ mid.manifests) × AreReady (line_at site' b' ss') ready
+kept old mid n k r rest b ss marked site' b' ss' is site its there ready noted =
     let now : IsReadyIn (line_of mid) n k = subst (λ (l : List SegmentView). IsReadyIn l n k) (sym (same_line old mid rest)) r in
     let still : ChangesDevice mid mid = record { config = refl; checksum = refl; site = refl; buffer = refl; behind = refl; reserved = refl; pins = refl; accountant = refl; noted = refl; manifests = refl } in
     let line = line_after mid mid n k now.segment still now.among b ss marked (line_at site' b' ss') is in
     let same = ap open_manifests line in
     let left = manifests_promoted mid.config.config.segment_size (set (line_of mid) n (written_now k now.segment)) in
     let fewer = manifests_written (line_of mid) n k now.segment now.among in
-    let old = mid.counted in
-    (now, keeps_invariants mid n k now site' b' ss' line, omega (arith, same, left, fewer, old))
+    let old = mid.counted in (
+      now,
+      keeps_invariants mid n k now site' b' ss' line,
+      omega (arith, same, left, fewer, old),
+      subst (λ (l : List SegmentView). AreReady l ready) (sym line) (written_ready mid n k now site its there ready noted),
+    )
+
+-- The buffer is one of a segment, which lies in reach.
+pub note_written-requires : goal.note_written-requires
+note_written-requires g c =
+    let mid = c.write_bytes.new.self in
+    let site = c.nth.result.0 in
+    let b = c.nth.result.1.now in
+    let is = nth_facts mid c.args.n (view_at site b) c.nth.ensures in
+    let short = is.short in
+    let small = is.place_small in
+    let now : IsReadyIn (line_of mid) c.args.n c.args.k = subst (λ (l : List SegmentView). IsReadyIn l c.args.n c.args.k) (sym (same_line c.args.self.now mid c.in_ok-write_bytes.ensures.rest)) c.requires.ready in
+    let both : Some now.segment ≡ Some (view_at site b) = sym now.among ∙ c.nth.ensures in
+    let same : now.segment ≡ view_at site b = cc in
+    record {
+      place = omega (arith, short, small);
+      within = slice_get_within b.sealed.items c.args.k now.buffer (ap (λ (x : SegmentView). slice_get x.parts.sealed c.args.k) (sym same) ∙ now.there);
+    }
 
 pub invariant_of-self : goal.invariant_of-self
 invariant_of-self g c =
     let mid = c.write_bytes.new.self in
-    let found = kept c.args.self.now mid c.args.n c.args.k c.requires.ready c.in_ok-write_bytes.ensures.rest c.mark_nth.new.buffer c.mark_nth.new.behind.items c.mark_nth.ensures c.promote.new.site c.promote.new.buffer c.promote.new.behind.items c.promote.ensures in
+    let found = kept c.args.self.now mid c.args.n c.args.k c.requires.ready c.in_ok-write_bytes.ensures.rest c.mark_nth.new.buffer c.mark_nth.new.behind.items c.mark_nth.ensures c.promote.new.site c.promote.new.buffer c.promote.new.behind.items c.promote.ensures
+    c.nth.result.0 c.nth.result.1.now c.nth.ensures c.note_written.new.self c.note_written.ensures in
     let is = found.1 in
-    record { in_segment = is.short; place_in_reach = is.place_small; slot_in_reach = is.slot_small; waits = is.waits; follow = is.follow; filled = is.filled; account = mid.account; pegs = mid.pegs; by_place = mid.by_place; room = mid.room; counted = found.2 }
+    record { in_segment = is.short; place_in_reach = is.place_small; slot_in_reach = is.slot_small; waits = is.waits; follow = is.follow; filled = is.filled; account = mid.account; pegs = mid.pegs; by_place = mid.by_place; room = mid.room; counted = found.2; indexed = found.3 }
 
 pub returns-clause-line : goal.returns-clause-line
 returns-clause-line g c = λ v among.

@@ -14,49 +14,80 @@ use Rattle.sled_core.proofs.logger.Log.write_bytes.Goals as goal
 
 pub overflow_add-at : goal.overflow_add-at
 overflow_add-at g c =
-    let at = c.nth-slot.ensures in
-    let is = nth_facts c.args.self.now c.args.n (view_at at.site c.nth-slot.result.1.now) at.among in
+    let is = nth_facts c.args.self.now c.args.n (view_at c.nth.result.0 c.nth.result.1.now) c.nth.ensures in
     let short = is.short in
     let small = is.slot_small in
-    let begins = at.begins in
-    omega (arith, short, small, begins, c.span-from.ensures.rises, c.span-from.ensures.inside)
+    omega (arith, short, small, c.span-from.ensures.rises, c.span-from.ensures.inside)
 
 pub write_out-written-requires : goal.write_out-written-requires
 write_out-written-requires g c =
-    let at = c.nth-slot.ensures in
-    let is = nth_facts c.args.self.now c.args.n (view_at at.site c.nth-slot.result.1.now) at.among in
+    let is = nth_facts c.args.self.now c.args.n (view_at c.nth.result.0 c.nth.result.1.now) c.nth.ensures in
     let short = is.short in
     let small = is.slot_small in
-    let begins = at.begins in
-    omega (arith, short, small, begins, c.span-from.ensures.rises, c.span-from.ensures.inside, length-take (c.span-from.result.1 - c.span-from.result.0) (drop c.span-from.result.0 c.deref.result.now))
+    omega (arith, short, small, c.span-from.ensures.rises, c.span-from.ensures.inside, length-take (c.span-from.result.1 - c.span-from.result.0) (drop c.span-from.result.0 c.deref.result.now))
+
+-- All but the device and the failure is as it was.
+
+pub invariant_of-self : goal.invariant_of-self
+invariant_of-self g c =
+    let log = c.args.self.now in
+    record {
+      in_segment = log.in_segment;
+      place_in_reach = log.place_in_reach;
+      slot_in_reach = log.slot_in_reach;
+      waits = log.waits;
+      follow = log.follow;
+      filled = log.filled;
+      account = log.account;
+      pegs = log.pegs;
+      by_place = log.by_place;
+      room = log.room;
+      counted = log.counted;
+      indexed = log.indexed;
+    }
+
+pub invariant_of-self-in_default : goal.invariant_of-self-in_default
+invariant_of-self-in_default g c =
+    let log = c.args.self.now in
+    record {
+      in_segment = log.in_segment;
+      place_in_reach = log.place_in_reach;
+      slot_in_reach = log.slot_in_reach;
+      waits = log.waits;
+      follow = log.follow;
+      filled = log.filled;
+      account = log.account;
+      pegs = log.pegs;
+      by_place = log.by_place;
+      room = log.room;
+      counted = log.counted;
+      indexed = log.indexed;
+    }
 
 -- The calls are those that write the buffer.
-calls_at : (line : List SegmentView) (n k : ℕ) (site : SegmentPosition) (b : IoBuf) (slot from to : ℕ) (whole : List ℕ) → slice_get line n ≡ Some (view_at site b) → site.slot ≡ slot → from ≡ sealed_end b.written_len (take k b.sealed.items) → to ≡ sealed_end b.written_len (take (k + 1) b.sealed.items)
-    → from ≤ to → whole ≡ b.bytes.items → let asked = take (to - from) (drop from whole) in Wrote (slot + from) asked asked ∷ Synced ∷ [] ≡ write_in line n k
-calls_at line n k site b slot from to whole among begins at end rises same =
-    ap (λ (xs : List ℕ). Wrote (slot + from) xs xs ∷ Synced ∷ []) (slice_between whole b.bytes.items from to rises same)
-    ∙ (λ i. writing (sym begins i + at i) (bytes_between b.bytes.items (at i) (end i)) [])
+calls_at : (line : List SegmentView) (n k : ℕ) (site : SegmentPosition) (b : IoBuf) (from to : ℕ) (whole : List ℕ) → slice_get line n ≡ Some (view_at site b) → from ≡ sealed_end b.written_len (take k b.sealed.items) → to ≡ sealed_end b.written_len (take (k + 1) b.sealed.items)
+    → from ≤ to → whole ≡ b.bytes.items → let asked = take (to - from) (drop from whole) in Wrote (site.slot + from) asked asked ∷ Synced ∷ [] ≡ write_in line n k
+calls_at line n k site b from to whole among at end rises same =
+    ap (λ (xs : List ℕ). Wrote (site.slot + from) xs xs ∷ Synced ∷ []) (slice_between whole b.bytes.items from to rises same)
+    ∙ (λ i. writing (site.slot + at i) (bytes_between b.bytes.items (at i) (end i)) [])
     ∙ ap (write_of k) (sym among)
 
 pub returns-in-Err-clause-at_most : goal.returns-in-Err-clause-at_most
 returns-in-Err-clause-at_most g c =
-    let at = c.nth-slot.ensures in
     subst (λ (es : List Event). Performs es (g.D.Device.trace c.args.self.now.config.device) (g.D.Device.trace c.write_out-written.new.device))
-    (calls_at (line_of c.args.self.now) c.args.n c.args.k at.site c.nth-slot.result.1.now c.nth-slot.result.0 c.span-from.result.0 c.span-from.result.1 c.deref.result.now at.among at.begins c.span-from.ensures.from c.span-from.ensures.to c.span-from.ensures.rises c.deref.ensures.value)
+    (calls_at (line_of c.args.self.now) c.args.n c.args.k c.nth.result.0 c.nth.result.1.now c.span-from.result.0 c.span-from.result.1 c.deref.result.now c.nth.ensures c.span-from.ensures.from c.span-from.ensures.to c.span-from.ensures.rises c.deref.ensures.value)
     c.write_out-written.ensures.calls
 
 pub returns-clause-calls : goal.returns-clause-calls
 returns-clause-calls g c =
-    let at = c.nth-slot.ensures in
     c.in_default.ensures.done
     ∙ ap (λ (es : List Event). after_all es (g.D.Device.trace c.args.self.now.config.device))
-    (calls_at (line_of c.args.self.now) c.args.n c.args.k at.site c.nth-slot.result.1.now c.nth-slot.result.0 c.span-from.result.0 c.span-from.result.1 c.deref.result.now at.among at.begins c.span-from.ensures.from c.span-from.ensures.to c.span-from.ensures.rises c.deref.ensures.value)
+    (calls_at (line_of c.args.self.now) c.args.n c.args.k c.nth.result.0 c.nth.result.1.now c.span-from.result.0 c.span-from.result.1 c.deref.result.now c.nth.ensures c.span-from.ensures.from c.span-from.ensures.to c.span-from.ensures.rises c.deref.ensures.value)
 
 pub returns-clause-at_most : goal.returns-clause-at_most
 returns-clause-at_most g c =
-    let at = c.nth-slot.ensures in
     subst (λ (es : List Event). Performs es (g.D.Device.trace c.args.self.now.config.device) (g.D.Device.trace c.write_out-written.new.device))
-    (calls_at (line_of c.args.self.now) c.args.n c.args.k at.site c.nth-slot.result.1.now c.nth-slot.result.0 c.span-from.result.0 c.span-from.result.1 c.deref.result.now at.among at.begins c.span-from.ensures.from c.span-from.ensures.to c.span-from.ensures.rises c.deref.ensures.value)
+    (calls_at (line_of c.args.self.now) c.args.n c.args.k c.nth.result.0 c.nth.result.1.now c.span-from.result.0 c.span-from.result.1 c.deref.result.now c.nth.ensures c.span-from.ensures.from c.span-from.ensures.to c.span-from.ensures.rises c.deref.ensures.value)
     c.write_out-written.ensures.calls
 
 -- All but the device and the failure is as it was.
