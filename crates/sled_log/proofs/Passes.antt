@@ -6,7 +6,9 @@ pub mod Found
 pub mod Joined
 pub mod LookedUp
 pub mod Outcomes
+pub mod Replays
 pub mod Same
+pub mod SoFar
 pub mod TailRead
 pub mod Tails
 pub mod Whole

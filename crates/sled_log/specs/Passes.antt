@@ -1,14 +1,18 @@
 -- What the code of recovery speaks of, beside what recovery makes of a log file.
-use Rattle.std.specs.Prelude.{◌≡◌, ◌⊎◌, ℤ, ◌+◌, ◌^◌, ◌≤◌, ◌<◌, ℕ, List, [], ◌∷◌, map, is_some, if◌then◌else◌, Option, Some, Contains}
+use Rattle.std.specs.Prelude.{◌≡◌, ◌⊎◌, ℤ, ◌+◌, ◌^◌, ◌≤◌, ◌<◌, ℕ, Bool, true, false, List, [], ◌∷◌, ◌++◌, length, map, is_some, if◌then◌else◌, Option, Some, None, IfSome, IfNone, Contains}
 use Rattle.std.specs.List.{All}
 use Rattle.sled_codec.specs.declared.serialization.snapshot.Snapshot.{Snapshot}
-use Rattle.sled_codec.specs.Snapshots.{SnapshotModel, model_of}
+use Rattle.sled_codec.specs.declared.result.Error.{Error}
+use Rattle.sled_codec.specs.declared.result.Error.TheVariants.{Corruption}
+use Rattle.sled_codec.specs.Snapshots.{SnapshotModel, model_of, page_of, stable_place}
+use Rattle.sled_store.specs.Blobs.{NamesDamage}
 use Rattle.sled_store.specs.declared.config.RunningConfig.{RunningConfig}
 use Rattle.sled_store.specs.Device.{Trace, state_of}
 use Rattle.sled_core.specs.declared.iterator.Segment.{Segment}
 pub use Rattle.sled_core.specs.Replayed.{CanBeRead, IsDamagedBefore}
 use Rattle.sled_log.specs.declared.snapshot.pass.Pass.{Pass}
-use Rattle.sled_log.specs.Recovery.{Scanned, Outcome, AreScanned, AreReplayed, ContinuesFrom, IsDamagedPass, NamesKind, Passes, open_at, stops_in, scanned_of, StopsOrGoesOn, before_open, MeetsBadBlob, HaveGoodBlobs, resolved_scan}
+use Rattle.sled_log.specs.declared.snapshot.pass.Replay.{Replay}
+use Rattle.sled_log.specs.Recovery.{AreClosed, Scanned, Outcome, AreScanned, AreReplayed, ContinuesFrom, IsDamagedPass, NamesKind, Passes, given, has_no_table, open_at, passed_all, stops_in, scanned_of, StopsOrGoesOn, before_open, MeetsBadBlob, HaveGoodBlobs, resolved_scan, table_of}
 
 -- each of these can be read
 abbrev pub CanAllBeRead : ℕ → List ℕ → List Segment → Type 0
@@ -64,6 +68,42 @@ pub record AreResolved (sum : List ℕ → ℕ) (size : ℕ) (log : List ℕ) (b
 abbrev pub IsBadPass : (List ℕ → ℕ) → ℕ → List ℕ → (ℤ → Option (List ℕ)) → ℕ → List Segment → Type 0
 IsBadPass sum size log blobs end segments =
     IsDamagedPass sum size log end segments ⊎ ((scanned : List Scanned) × AreReplayed sum size log end segments scanned × MeetsBadPass sum blobs end scanned)
+
+-- What a pass has made of a snapshot, which met these, with their blobs: its table, up to a message of the page that no table has, and where the pass stopped.
+pub record HasMade (end : ℕ) (first : SnapshotModel) (passes : List Scanned) (r : Replay) : Type 0 where
+  pub no_table : r.has_no_table ≡ has_no_table (given (stable_place first.stable) (passed_all end passes))
+  pub pages : r.has_no_table ≡ false → map page_of r.snapshot.pt.items ≡ table_of first.pages (given (stable_place first.stable) (passed_all end passes))
+  pub stop : r.has_no_table ≡ false → r.stop ≡ stop_of end None passes
+  pub count : r.count ≡ length passes
+  pub stable : r.snapshot.stable_lsn ≡ first.stable
+  pub active : r.snapshot.active_segment ≡ first.active
+
+-- an error of a blob that doesn't pass for its record
+abbrev pub IsOfBlob : (List ℕ → ℕ) → (ℤ → Option (List ℕ)) → Error → Type 0
+IsOfBlob sum blobs (Corruption at) = NamesDamage sum blobs at
+IsOfBlob sum blobs _ = ⊥
+
+-- What a pass that met these has come to: a blob that doesn't pass for its record, or else what it made of a snapshot.
+pub record IsSoFar (sum : List ℕ → ℕ) (blobs : ℤ → Option (List ℕ)) (end : ℕ) (first : SnapshotModel) (passes : List Scanned) (bad : Option Error) (r : Replay) : Type 0 where
+  pub meets : IfSome bad (λ e. IsOfBlob sum blobs e × MeetsBadPass sum blobs end passes)
+  pub fine : IfNone bad ((MeetsBadPass sum blobs end passes → ⊥) × HasMade end first (map (resolved_scan blobs end) passes) r)
+
+-- The pass goes on behind these, where no batch is open in them, or ends with them.
+abbrev pub GoesOnBehind : ℕ → Bool → List Scanned → Type 0
+GoesOnBehind end true passes = (more : List Scanned) → up_to_open end (passes ++ more) ≡ passes
+GoesOnBehind end false passes = AreClosed end passes
+
+-- What a pass over segments has come to.
+pub record IsReplay (sum : List ℕ → ℕ) (size : ℕ) (log : List ℕ) (blobs : ℤ → Option (List ℕ)) (end : ℕ) (first : SnapshotModel) (segments : List Segment) (bad : Option Error) (r : Replay) : Type 0 where
+  pub passes : List Scanned
+  pub replayed : AreReplayed sum size log end segments passes
+  pub so_far : IsSoFar sum blobs end first passes bad r
+  pub goes_on : GoesOnBehind end r.is_open (map (resolved_scan blobs end) passes)
+
+-- a segment that ends below 2^63, and a place in it or at its end
+abbrev pub FitsStop : ℕ → Option (Segment × ℕ) → Type 0
+FitsStop size None = Unit {0}
+FitsStop size (Some at) = (at.0.place + size < 2 ^ 63) × (at.0.slot + size < 2 ^ 63) × (at.1 ≤ at.0.place + size)
 
 -- These are all that is met in segments, with the blobs of what is met before a batch that is open. All blobs were looked at.
 pub record AreLookedUp (sum : List ℕ → ℕ) (size : ℕ) (log : List ℕ) (blobs : ℤ → Option (List ℕ)) (end : ℕ) (segments : List Segment) (passes : List Scanned) : Type 0 where

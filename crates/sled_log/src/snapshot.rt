@@ -32,7 +32,7 @@ pub(crate) mod write_back;
 
 use crate::snapshot::file::read_newest;
 use crate::snapshot::ordering::find_segments;
-use crate::snapshot::pass::{Pass, join, outcome_of, read_below, slots_of};
+use crate::snapshot::pass::{Pass, apply_tail, outcome_of, replay_below, slots_of};
 use crate::snapshot::recovery::Recovery;
 use crate::snapshot::replay::unchanged;
 use crate::snapshot::tail::{count_below, look_up, read_tail, tail_begins};
@@ -228,11 +228,12 @@ fn pass_over<D: Device, C: Checksum>(
     ensures answers { ItemAnswersOver D.trace D.faults C.sum_of result config.old config.new }
     ensures reads { OnlyReads D.trace config.old config.new }
 {
-    match read_below(config, &segments[..from], end) {
-        Ok(before) => {
-            let passes = join(before, tail, end)?;
+    match replay_below(config, &segments[..from], first, end) {
+        Ok(replay) => {
+            let mut replay = replay;
+            apply_tail(config.alloc(), &mut replay, &tail, end)?;
             let size = config.config.segment_size;
-            outcome_of(config.alloc(), size, first, end, &passes, segments)
+            outcome_of(config.alloc(), size, replay, segments)
         }
         Err(e) => Err(e),
     }

@@ -12,10 +12,9 @@ use Rattle.sled_log.specs.Recovery.{Scanned, StopsOrGoesOn, AreReplayed, before_
 use Rattle.sled_log.specs.Passes.{HasKinds, IsPass, pass_of, OpensLast, MeetsBadPass}
 use Rattle.sled_core.proofs.Tail.Rows.{all_before_open}
 use Rattle.sled_log.proofs.Replay.BlobLemmas.{bad_behind, bad_first, bad_cases}
-use Rattle.sled_core.proofs.Iterates.Kinds.{path_kinds}
 use Rattle.sled_log.proofs.Replay.LookLemmas.{all_with_blobs, bad_still, written}
 
--- What was read in a pass: kinds are known, and only in the last one a batch is open.
+-- What was read in a pass: only in the last one a batch is open.
 module _ (sum : List ℕ → ℕ) (size : ℕ) (log : List ℕ) (end : ℕ) where
   pub opens_last : (ss : List Segment) (xs : List Scanned) → AreReplayed sum size log end ss xs → OpensLast end xs
   opens_last ss [] are = tt
@@ -24,19 +23,6 @@ module _ (sum : List ℕ → ℕ) (size : ℕ) (log : List ℕ) (end : ℕ) wher
     by : (o : Option ℕ) → StopsOrGoesOn o xs (AreReplayed sum size log end ss xs) → (AreReplayed sum size log end ss xs → OpensLast end xs) → StopsOrGoesOn o xs (OpensLast end xs)
     by (Some p) on others = on
     by None on others = others on
-
-  pub pass_kinds : (ss : List Segment) (ps : List Pass) → AreReplayed sum size log end ss (map pass_of ps) → All HasKinds ps
-  pass_kinds ss [] are = All-nil HasKinds
-  pass_kinds [] (p ∷ ps) are = absurd are
-  pass_kinds (s ∷ ss) (p ∷ ps) are =
-      All-cons HasKinds p ps (path_kinds sum size log p.segment.slot p.segment.place 20 p.scan.met.items p.scan.stop are.1.0) (by (open_at end p.scan.met.items) are.2 (pass_kinds ss ps)) where
-        none : (qs : List Pass) → map pass_of qs ≡ [] → All HasKinds qs
-        none [] is = All-nil HasKinds
-        none (q ∷ qs) is = absurd (cc)
-
-        by : (o : Option ℕ) → StopsOrGoesOn o (map pass_of ps) (AreReplayed sum size log end ss (map pass_of ps)) → (AreReplayed sum size log end ss (map pass_of ps) → All HasKinds ps) → All HasKinds ps
-        by (Some place) on others = none ps on
-        by None on others = others on
 
 -- What is bad in these segments is bad in all that the pass meets.
 module _ (sum : List ℕ → ℕ) (blobs : ℤ → Option (List ℕ)) where
@@ -171,8 +157,3 @@ resolved_vec end n ps now mid rest t u long is same read =
     ∙ is
     ∙ ap (λ (l : List Pass). map (resolved_scan (state_of t).blobs.file end) (map pass_of l)) same
     ∙ ap (λ (x : Trace). map (resolved_scan (state_of x).blobs.file end) (map pass_of ps)) read
-
--- what is bad in segments at one moment is bad at another one between which the device was only read
-pub bad_pass_still : (sum : List ℕ → ℕ) (end : ℕ) (now ps : List Pass) (t u : Trace) → now ≡ ps → t ≡ u → MeetsBadPass sum (state_of t).blobs.file end (map pass_of now) → MeetsBadPass sum (state_of u).blobs.file end (map pass_of ps)
-bad_pass_still sum end now ps t u same read bad =
-    subst (λ (x : Trace). MeetsBadPass sum (state_of x).blobs.file end (map pass_of ps)) read (subst (λ (l : List Pass). MeetsBadPass sum (state_of t).blobs.file end (map pass_of l)) same bad)

@@ -1,16 +1,12 @@
 -- The pass over several segments: what it meets, where it stops, and what comes of it.
-use Rattle.std.proofs.Common.{◌≡◌, ◌∙◌, ◌+◌, ◌<◌, ◌≤◌, ℕ, Bool, true, false, ◌||◌, ◌==◌, ◌^◌, ◌-◌, nat_lt, List, [], ◌∷◌, ◌++◌, Option, Some, None, if◌then◌else◌, refl, sym, ap, subst, map, IfSome, arith, append_assoc}
+use Rattle.std.proofs.Common.{◌≡◌, ◌∙◌, ◌+◌, ◌<◌, ℕ, Bool, true, false, ◌||◌, ◌==◌, ◌^◌, ◌-◌, nat_lt, List, [], ◌∷◌, ◌++◌, Option, Some, None, if◌then◌else◌, refl, sym, ap, IfSome, arith, append_assoc}
 use Rattle.std.proofs.lemmas.List.{append-nil}
-use Rattle.std.specs.Option.{unwrap_or}
-use Rattle.std.specs.List.{All, AllByRecursion}
-use Rattle.std.proofs.lemmas.List.Elements.{recursion_from_All}
 use Rattle.sled_codec.specs.Snapshots.{Page, SnapshotModel, stable_place}
-use Rattle.sled_log.specs.declared.snapshot.pass.Pass.{Pass}
 use Rattle.sled_core.specs.declared.iterator.scan.ScannedRecord.{ScannedRecord}
 use Rattle.sled_core.specs.declared.iterator.Segment.{Segment}
 use Rattle.sled_log.specs.Recovery.{passed_all, Scanned, Applied, Recovered, Damaged, unchanged, outcome_of, concluded, cut_of, applied_of, before_open, open_at, passed_in, stops_in, given, has_no_table, table_of, table_with}
-use Rattle.sled_log.specs.Passes.{IsPass, pass_of, stop_of}
-use Rattle.sled_log.proofs.Replay.RecoveryLemmas.{before_none, open_below, no_table_damaged}
+use Rattle.sled_log.specs.Passes.{stop_of}
+use Rattle.sled_log.proofs.Replay.RecoveryLemmas.{before_none, no_table_damaged}
 
 -- One segment, and those behind it.
 module _ (end : ℕ) (s : Scanned) where
@@ -59,50 +55,6 @@ no_table-append [] ys = refl
 no_table-append (x ∷ xs) ys =
     let last : Bool = x.page == 2 ^ 64 - 1 in
     ap (λ b. last || b) (no_table-append xs ys) ∙ sym (either_assoc last (has_no_table xs) (has_no_table ys))
-
--- What a pass over one more segment makes of a table.
-module _ (end least : ℕ) (s : Scanned) (ss : List Scanned) where
-  abbrev own : List Applied
-  own = given least (before_open end s.met)
-
-  abbrev others : List Applied
-  others = given least (passed_all end ss)
-
-  pub given_on : open_at end s.met ≡ None → given least (passed_all end (s ∷ ss)) ≡ given least (before_open end s.met) ++ given least (passed_all end ss)
-  given_on is = ap (given least) (passed_none end s ss is) ∙ given-append least (before_open end s.met) (passed_all end ss)
-
-  pub table_on : (now new : List Page) → open_at end s.met ≡ None → new ≡ table_of now (given least (before_open end s.met)) → table_of new (given least (passed_all end ss)) ≡ table_of now (given least (passed_all end (s ∷ ss)))
-  table_on now new is made = ap (λ (ps : List Page). table_of ps others) made ∙ sym (ap (table_of now) (given_on is) ∙ table-append own others now)
-
-  pub fine_on : open_at end s.met ≡ None → has_no_table (given least (before_open end s.met)) ≡ false → has_no_table (given least (passed_all end ss)) ≡ has_no_table (given least (passed_all end (s ∷ ss)))
-  fine_on is fine = sym (ap has_no_table (given_on is) ∙ no_table-append own others ∙ ap (λ b. b || has_no_table others) fine)
-
-  pub bad_on : has_no_table (given least (before_open end s.met)) ≡ true → has_no_table (given least (passed_all end (s ∷ ss))) ≡ true
-  bad_on bad = by_case (open_at end s.met) refl where
-    by_case : (o : Option ℕ) → open_at end s.met ≡ o → has_no_table (given least (passed_all end (s ∷ ss))) ≡ true
-    by_case None is = ap has_no_table (given_on is) ∙ no_table-append own others ∙ ap (λ b. b || has_no_table others) bad
-    by_case (Some place) is = ap (λ ms. has_no_table (given least ms)) (passed_some end s ss place is) ∙ bad
-
--- Where a pass stops.
-
--- a segment that ends below 2^63, and a place in it or at its end
-abbrev pub FitsStop : ℕ → Option (Segment × ℕ) → Type 0
-FitsStop size None = Unit {0}
-FitsStop size (Some at) = (at.0.place + size < 2 ^ 63) × (at.0.slot + size < 2 ^ 63) × (at.1 ≤ at.0.place + size)
-
-stops_fit : (size end : ℕ) (last : Option (Segment × ℕ)) (ps : List Pass) → AllByRecursion (IsPass size) ps → FitsStop size last → FitsStop size (stop_of end last (map pass_of ps))
-stops_fit size end last [] all fits = fits
-stops_fit size end last (p ∷ ps) all fits =
-    by_case (open_at end p.scan.met.items) refl (stops_fit size end (Some (p.segment, p.segment.place + p.scan.stop)) ps all.1 (all.0.place, all.0.slot, let stop = all.0.stop in omega (arith, stop))) where
-      by_case : (o : Option ℕ) → open_at end p.scan.met.items ≡ o → FitsStop size (stop_of end (Some (p.segment, p.segment.place + p.scan.stop)) (map pass_of ps)) → FitsStop size (stop_of end last (map pass_of (p ∷ ps)))
-      by_case None is rest = subst (FitsStop size) (sym (stop_none end (pass_of p) last (map pass_of ps) is)) rest
-      by_case (Some place) is rest =
-          let below : unwrap_or (open_at end p.scan.met.items) 0 ≤ p.segment.place + size = open_below end (p.segment.place + size) p.scan.met.items 0 all.0.places (omega arith) in
-          let within : place ≤ p.segment.place + size = subst (λ o. unwrap_or o 0 ≤ p.segment.place + size) is below in
-          subst (FitsStop size) (sym (stop_some end (pass_of p) last (map pass_of ps) place is)) (all.0.place, all.0.slot, within)
-
-pub stop_fits : (size end : ℕ) (ps : List Pass) (at : Segment × ℕ) → All (IsPass size) ps → stop_of end None (map pass_of ps) ≡ Some at → (at.0.place + size < 2 ^ 63) × (at.0.slot + size < 2 ^ 63) × (at.1 ≤ at.0.place + size)
-stop_fits size end ps at all is = subst (FitsStop size) is (stops_fit size end None ps (recursion_from_All (IsPass size) ps all) tt)
 
 -- The outcome.
 module _ (size : ℕ) (first : SnapshotModel) (end : ℕ) (unread : List ℕ) where

@@ -1,15 +1,12 @@
 -- The tail and the pass, segment by segment.
-use Rattle.std.proofs.Common.{◌≡◌, ◌≢◌, ◌∙◌, ◌+◌, ◌<◌, ℕ, Bool, true, nat_lt, List, [], ◌∷◌, ◌++◌, length, map, drop, get_or, Option, Some, None, is_some, if◌then◌else◌, refl, sym, ap, subst, arith, append_assoc}
-use Rattle.std.specs.List.{All, AllByRecursion, Contains}
+use Rattle.std.proofs.Common.{◌≡◌, ◌≢◌, ◌∙◌, ◌+◌, ◌<◌, ℕ, Bool, true, nat_lt, List, [], ◌∷◌, ◌++◌, length, drop, get_or, Option, Some, None, is_some, if◌then◌else◌, refl, sym, ap, subst, arith}
+use Rattle.std.specs.List.{Contains}
 use Rattle.std.proofs.lemmas.Bool.Decides.{nat_tests}
-use Rattle.std.proofs.lemmas.List.{map-append}
-use Rattle.std.proofs.lemmas.List.Elements.{recursion_from_All}
 use Rattle.sled_core.specs.declared.iterator.Segment.{Segment}
 use Rattle.sled_core.specs.declared.iterator.scan.ScanEnd.{ScanEnd}
 use Rattle.sled_core.specs.declared.iterator.scan.ScanEnd.TheVariants.{Full, Capped, Broken}
-use Rattle.sled_log.specs.declared.snapshot.pass.Pass.{Pass}
 use Rattle.sled_log.specs.Recovery.{Scanned, IsScanned, GoesOn, IsTail, IsTailPart, tail_end, begun_below, AreScanned, AreClosed, IsReplayed, StopsOrGoesOn, AreReplayed, IsDamagedPass, open_at}
-use Rattle.sled_log.specs.Passes.{pass_of, IsDamagedBefore}
+use Rattle.sled_log.specs.Passes.{IsDamagedBefore}
 use Rattle.sled_log.proofs.Replay.PassedLemmas.{whole_passed}
 use Rattle.sled_log.proofs.Passes.Behind.{behind}
 
@@ -55,26 +52,6 @@ begun_here end ss i d lt below =
     let s : Segment = get_or ss i d in
     let is : nat_lt s.place end ≡ true = grind (arith, nat_tests, below) in
     ap (begun_below end) (behind ss i d lt) ∙ ap (λ (b : Bool). if b then s ∷ begun_below end (drop (i + 1) ss) else begun_below end (drop (i + 1) ss)) is
-
--- one more was read
-pub split_more : (end : ℕ) (ss : List Segment) (i : ℕ) (d : Segment) (ps new : List Pass) (p : Pass) → i < length ss → (get_or ss i d).place < end → p.segment ≡ get_or ss i d → new ≡ ps ++ p ∷ []
-    → begun_below end ss ≡ map (λ x. x.segment) ps ++ begun_below end (drop i ss) → begun_below end ss ≡ map (λ x. x.segment) new ++ begun_below end (drop (i + 1) ss)
-split_more end ss i d ps new p lt below own is split =
-    let rest : List Segment = begun_below end (drop (i + 1) ss) in
-    let segments : List Pass → List Segment = map (λ x. x.segment) in
-    split
-    ∙ ap (λ (l : List Segment). segments ps ++ l) (begun_here end ss i d lt below ∙ ap (λ (s : Segment). s ∷ rest) (sym own))
-    ∙ sym (append_assoc (segments ps) (p.segment ∷ []) rest)
-    ∙ ap (λ (l : List Segment). l ++ rest) (sym (map-append (λ x. x.segment) ps (p ∷ [])))
-    ∙ ap (λ l. segments l ++ rest) (sym is)
-
--- segments that were read one by one
-scanned_each : (sum : List ℕ → ℕ) (size : ℕ) (log : List ℕ) (ps : List Pass) → AllByRecursion (λ p. IsScanned sum size log (pass_of p)) ps → AreScanned sum size log (map (λ p. p.segment) ps) (map pass_of ps)
-scanned_each sum size log [] all = tt
-scanned_each sum size log (p ∷ ps) all = (refl, all.0, scanned_each sum size log ps all.1)
-
-pub are_scanned : (sum : List ℕ → ℕ) (size : ℕ) (log : List ℕ) (ps : List Pass) → All (λ p. IsScanned sum size log (pass_of p)) ps → AreScanned sum size log (map (λ p. p.segment) ps) (map pass_of ps)
-are_scanned sum size log ps all = scanned_each sum size log ps (recursion_from_All (λ p. IsScanned sum size log (pass_of p)) ps all)
 
 -- no batch is open in those, and none in one more
 pub closed_more : (end : ℕ) (before : List Scanned) (x : Scanned) → AreClosed end before → open_at end x.met ≡ None → AreClosed end (before ++ x ∷ [])

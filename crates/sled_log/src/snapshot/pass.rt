@@ -1,16 +1,15 @@
 //! The pass over the segments of a log file: what is met in each, its blobs, and what comes of all of it
-//! (`specs/Recovery.antt`).
-ghost use Rattle.std.specs.Prelude.{◌≡◌, ◌⊎◌, ◌++◌, ◌+◌, ◌^◌, ◌≤◌, ◌<◌, ℕ, map, take, drop, length, true, false, None, IfOk, IfErr, OnOk, Option, IsOkUnless};
+//! (`specs/Recovery.antt`). One segment is read, its blobs are looked for and it is applied, before the next one is read.
+ghost use Rattle.std.specs.Prelude.{List, ◌≡◌, ◌++◌, ◌∷◌, [], ◌+◌, ◌^◌, ◌≤◌, ◌<◌, ℕ, map, drop, length, true, false, None, IfOk, IfErr, OnOk, Option, IsOkUnless};
 ghost use Rattle.std.specs.List.{All};
 ghost use Rattle.sled_codec.specs.Errors.{IsCorruption, IsDecodeError};
-ghost use Rattle.sled_codec.specs.Snapshots.{model_of, page_of};
+ghost use Rattle.sled_codec.specs.Snapshots.{SnapshotModel, model_of};
 ghost use Rattle.sled_store.specs.Device.{state_of};
-ghost use Rattle.sled_store.specs.Causes.{DeviceAnswers};
 ghost use Rattle.sled_core.specs.Causes.{ItemAnswersOver};
 ghost use Rattle.sled_core.specs.Keeps.{OnlyReads};
-ghost use Rattle.sled_log.specs.Recovery.{passed_all, AreReplayed, begun_below, IsDamagedPass, Recovered, Damaged, outcome_of, given, has_no_table, table_of, NamesKind, MeetsBadBlob, resolved_scan, before_open, slots_of};
+ghost use Rattle.sled_log.specs.Recovery.{AreClosed, Scanned, begun_below, IsDamagedPass, Recovered, Damaged, outcome_of, NamesKind, MeetsBadBlob, resolved_scan, before_open, slots_of};
 ghost use Rattle.sled_log.specs.WritesBack.{result_of};
-ghost use Rattle.sled_log.specs.Passes.{CanAllBeRead, GetBlobs, HasKinds, IsPass, pass_of, stop_of, MeetsBadPass, AreResolved, IsBadPass, up_to_open};
+ghost use Rattle.sled_log.specs.Passes.{CanAllBeRead, FitsStop, GetBlobs, GoesOnBehind, HasKinds, HasMade, IsBadPass, IsPass, IsReplay, IsSoFar, MeetsBadPass, pass_of, up_to_open};
 
 pub(crate) mod records;
 
@@ -21,7 +20,7 @@ use crate::snapshot::recovery::Recovery;
 use crate::snapshot::replay::{conclude, cut_of, unchanged};
 use sled_codec::result::{Error, LogOffset, Result};
 use sled_codec::serialization::Checksum;
-use sled_codec::serialization::snapshot::{PageState, Snapshot};
+use sled_codec::serialization::snapshot::Snapshot;
 use sled_core::iterator::Segment;
 use sled_core::iterator::scan::SegmentScan;
 use sled_core::logger::read_at::BasedBuf;
@@ -35,55 +34,76 @@ pub(crate) struct Pass {
     pub(crate) scan: SegmentScan,
 }
 
-/// What is met in each segment that begins below `end`, with its blobs, up to the first batch that does not end below
+/// What a pass has come to.
+#[derive(Drop)]
+pub(crate) struct Replay {
+    /// The snapshot that it began from, with what the segments so far made of its table.
+    pub(crate) snapshot: Snapshot,
+    /// A message of the page that no table has was met. Nothing is applied from then on.
+    pub(crate) has_no_table: bool,
+    /// The last segment that was applied, and the place where the pass stopped in it.
+    pub(crate) stop: Option<(Segment, u64)>,
+    /// How many segments there were.
+    pub(crate) count: usize,
+    /// A batch is open in the last one, so that the pass goes no further.
+    pub(crate) is_open: bool,
+}
+
+/// What comes of each segment that begins below `end`, with its blobs, up to the first batch that does not end below
 /// it. `Corruption` comes where a damaged record is met before that, or one whose blob doesn't pass for it.
-pub(crate) fn read_below<D: Device, C: Checksum>(
+pub(crate) fn replay_below<D: Device, C: Checksum>(
     config: &mut RunningConfig<D, C>,
     segments: &[Segment],
+    first: Snapshot,
     end: u64,
-) -> Result<Vec<Pass>>
+) -> Result<Replay>
     requires ready { CanAllBeRead config.old.config.segment_size (state_of (D.trace config.old.device)).log.bytes segments.now }
     requires end { end < 2 ^ 63 }
-    ensures passes { let s = state_of (D.trace config.old.device) in
-        IfOk result (λ v. AreResolved C.sum_of config.old.config.segment_size s.log.bytes s.blobs.file end
-        (begun_below end segments.now) (map pass_of v.items)) }
-    ensures fits { IfOk result (λ v. All (IsPass config.old.config.segment_size) v.items) }
+    ensures made { let s = state_of (D.trace config.old.device) in
+        IfOk result (λ r. IsReplay C.sum_of config.old.config.segment_size s.log.bytes s.blobs.file end (model_of first) (begun_below end segments.now) None r) }
+    ensures stop { IfOk result (λ r. FitsStop config.old.config.segment_size r.stop) }
     ensures corrupt { let s = state_of (D.trace config.old.device) in
         IsCorruption result → IsBadPass C.sum_of config.old.config.segment_size s.log.bytes s.blobs.file end (begun_below end segments.now) }
     ensures answers { ItemAnswersOver D.trace D.faults C.sum_of result config.old config.new }
     ensures reads { OnlyReads D.trace config.old config.new }
 {
-    match passes_below(config, segments, end) {
-        Ok(passes) => {
-            let mut passes = passes;
-            match resolve_passes(config, &mut passes, end) {
-                Ok(()) => Ok(passes),
-                Err(e) => Err(e),
-            }
-        }
+    let mut replay = Replay {
+        snapshot: first,
+        has_no_table: false,
+        stop: None,
+        count: 0,
+        is_open: false,
+    };
+    match replay_each(config, segments, &mut replay, end) {
+        Ok(None) => Ok(replay),
+        Ok(Some(e)) => Err(e),
         Err(e) => Err(e),
     }
 }
 
-/// What is met in each segment that begins below `end`, up to the first batch that does not end below it.
-/// `Corruption` comes where a damaged record is met before that.
-fn passes_below<D: Device, C: Checksum>(
+/// The same, segment by segment. A blob that doesn't pass for its record is answered once all of them were read, since a
+/// device that fails and a damaged record come first.
+fn replay_each<D: Device, C: Checksum>(
     config: &mut RunningConfig<D, C>,
     segments: &[Segment],
+    replay: &mut Replay,
     end: u64,
-) -> Result<Vec<Pass>>
+) -> Result<Option<Error>>
     requires ready { CanAllBeRead config.old.config.segment_size (state_of (D.trace config.old.device)).log.bytes segments.now }
     requires end { end < 2 ^ 63 }
-    ensures passed { IfOk result (λ v. AreReplayed C.sum_of config.old.config.segment_size (state_of (D.trace config.old.device)).log.bytes end
-        (begun_below end segments.now) (map pass_of v.items)) }
-    ensures fits { IfOk result (λ v. All (IsPass config.old.config.segment_size) v.items) }
+    requires closed { replay.old.is_open ≡ false }
+    requires count { replay.old.count ≡ 0 }
+    ensures made { let s = state_of (D.trace config.old.device) in
+        (first : SnapshotModel) → HasMade end first [] replay.old
+        → IfOk result (λ bad. IsReplay C.sum_of config.old.config.segment_size s.log.bytes s.blobs.file end first (begun_below end segments.now) bad replay.new) }
+    ensures stop { FitsStop config.old.config.segment_size replay.old.stop → IfOk result (λ bad. FitsStop config.old.config.segment_size replay.new.stop) }
     ensures damaged { IsCorruption result → IsDamagedPass C.sum_of config.old.config.segment_size
         (state_of (D.trace config.old.device)).log.bytes end (begun_below end segments.now) }
-    ensures answers { DeviceAnswers result (D.faults config.old.device) (D.faults config.new.device) }
+    ensures answers { ItemAnswersOver D.trace D.faults C.sum_of result config.old config.new }
     ensures reads { OnlyReads D.trace config.old config.new }
 {
-    let mut passes = Vec::new(config.alloc());
     let mut buf = BasedBuf::new(config.alloc());
+    let mut bad_blob = None;
     for segment in segments {
         if segment.place >= end {
             continue;
@@ -92,15 +112,56 @@ fn passes_below<D: Device, C: Checksum>(
             Ok(scan) => {
                 let stops = is_open(&scan.met, end);
                 let segment = *segment;
-                passes.push(Pass { segment, scan })?;
+                match replay_one(config, replay, bad_blob, Pass { segment, scan }, end) {
+                    Ok(bad) => bad_blob = bad,
+                    Err(e) => return Err(e),
+                }
                 if stops {
-                    return Ok(passes);
+                    replay.is_open = true;
+                    return Ok(bad_blob);
                 }
             }
             Err(e) => return Err(e),
         }
     }
-    Ok(passes)
+    Ok(bad_blob)
+}
+
+/// Looks for the blobs of one more segment, and applies what is met in it. Where a blob doesn't pass for its record, that is
+/// what the pass has come to, and nothing is done from then on.
+fn replay_one<D: Device, C: Checksum>(
+    config: &mut RunningConfig<D, C>,
+    replay: &mut Replay,
+    bad_blob: Option<Error>,
+    pass: Pass,
+    end: u64,
+) -> Result<Option<Error>>
+    requires end { end < 2 ^ 63 }
+    requires count { replay.old.count + 1 < 2 ^ 64 }
+    requires kinds { HasKinds pass }
+    requires fits { IsPass config.old.config.segment_size pass }
+    ensures made { let blobs = (state_of (D.trace config.old.device)).blobs.file in
+        (first : SnapshotModel) (passes : List Scanned) → AreClosed end passes → IsSoFar C.sum_of blobs end first passes bad_blob replay.old
+        → IfOk result (λ bad. IsSoFar C.sum_of blobs end first (passes ++ pass_of pass ∷ []) bad replay.new) }
+    ensures stop { FitsStop config.old.config.segment_size replay.old.stop → IfOk result (λ bad. FitsStop config.old.config.segment_size replay.new.stop) }
+    ensures count { replay.new.count ≤ replay.old.count + 1 }
+    ensures goes_on { replay.new.is_open ≡ replay.old.is_open }
+    ensures readable { IsCorruption result → ⊥ }
+    ensures answers { ItemAnswersOver D.trace D.faults C.sum_of result config.old config.new }
+    ensures reads { OnlyReads D.trace config.old config.new }
+{
+    if bad_blob.is_some() {
+        return Ok(bad_blob);
+    }
+    let mut pass = pass;
+    match resolve_pass(config, &mut pass, end) {
+        Ok(()) => {
+            apply_pass(config.alloc(), replay, &pass, end)?;
+            Ok(None)
+        }
+        Err(Error::Corruption { at }) => Ok(Some(Error::Corruption { at })),
+        Err(e) => Err(e),
+    }
 }
 
 /// Looks for the blobs of all that was met in these segments, in each up to a batch that does not end below `end`.
@@ -149,80 +210,92 @@ fn resolve_pass<D: Device, C: Checksum>(
     resolve(config, &mut pass.scan.met, end)
 }
 
-/// These, and behind them the segments of the tail, up to the first one with a batch that does not end below `end`.
-pub(crate) fn join(passes: Vec<Pass>, tail: Vec<Pass>, end: u64) -> Result<Vec<Pass>>
+/// Applies what is met in the segments of the tail, which have their blobs, up to the first batch that does not end below
+/// `end`, where the pass goes on to them.
+pub(crate) fn apply_tail(alloc: Global, replay: &mut Replay, tail: &[Pass], end: u64) -> Result<()>
     requires end { end < 2 ^ 63 }
-    ensures passes { IfOk result (λ v. map pass_of v.items ≡ up_to_open end (map pass_of passes.items ++ map pass_of tail.items)) }
-    ensures fits { (size : ℕ) → All (IsPass size) passes.items → All (IsPass size) tail.items → IfOk result (λ v. All (IsPass size) v.items) }
+    requires count { replay.old.count + length tail.now < 2 ^ 64 }
+    requires fits { (size : ℕ) × All (IsPass size) tail.now }
+    ensures made { (first : SnapshotModel) (passes : List Scanned) → GoesOnBehind end replay.old.is_open passes → HasMade end first passes replay.old
+        → OnOk result (HasMade end first (up_to_open end (passes ++ map pass_of tail.now)) replay.new) }
+    ensures stop { (size : ℕ) → All (IsPass size) tail.now → FitsStop size replay.old.stop → OnOk result (FitsStop size replay.new.stop) }
     ensures err { IsOkUnless result Error.OutOfMemory }
 {
-    let mut passes = passes;
-    let mut tail = tail;
-    passes.append(&mut tail)?;
-    let count = count_up_to_open(&passes, end);
-    passes.truncate(count);
-    Ok(passes)
-}
-
-/// How many segments there are up to the first one with such a batch, and with that one.
-fn count_up_to_open(passes: &[Pass], end: u64) -> usize
-    requires end { end < 2 ^ 63 }
-    ensures { map pass_of (take result passes.now) ≡ up_to_open end (map pass_of passes.now) }
-{
-    let mut count = 0;
-    for pass in passes {
-        count += 1;
+    if replay.is_open {
+        return Ok(());
+    }
+    for pass in tail {
+        apply_pass(alloc, replay, pass, end)?;
         if is_open(&pass.scan.met, end) {
-            return count;
+            return Ok(());
         }
     }
-    count
+    Ok(())
 }
 
-/// What comes of these segments, the first ones of all that were found. `Corruption` comes where the table can't be one.
+/// Applies what is met in one more segment, up to a batch that does not end below `end`.
+fn apply_pass(alloc: Global, replay: &mut Replay, pass: &Pass, end: u64) -> Result<()>
+    requires end { end < 2 ^ 63 }
+    requires count { replay.old.count + 1 < 2 ^ 64 }
+    requires fits { (size : ℕ) × IsPass size pass.now }
+    ensures made { (first : SnapshotModel) (passes : List Scanned) → AreClosed end passes → HasMade end first passes replay.old
+        → OnOk result (HasMade end first (passes ++ pass_of pass.now ∷ []) replay.new) }
+    ensures stop { (size : ℕ) → IsPass size pass.now → FitsStop size replay.old.stop → OnOk result (FitsStop size replay.new.stop) }
+    ensures count { replay.new.count ≡ replay.old.count + 1 }
+    ensures goes_on { replay.new.is_open ≡ replay.old.is_open }
+    ensures err { IsOkUnless result Error.OutOfMemory }
+{
+    replay.count += 1;
+    if replay.has_no_table {
+        return Ok(());
+    }
+    let least = replay.snapshot.stable_place();
+    match apply_all(alloc, &mut replay.snapshot.pt, &pass.scan.met, least, end) {
+        Ok(open) => {
+            let ends = pass.segment.place + pass.scan.stop;
+            replay.stop = Some((pass.segment, open.unwrap_or(ends)));
+            Ok(())
+        }
+        Err(Error::Corruption { at: _ }) => {
+            replay.has_no_table = true;
+            Ok(())
+        }
+        Err(e) => Err(e),
+    }
+}
+
+/// What comes of the pass, over the first ones of all segments that were found. `Corruption` comes where the table can't be
+/// one.
 pub(crate) fn outcome_of(
     alloc: Global,
     size: u64,
-    first: Snapshot,
-    end: u64,
-    passes: &[Pass],
+    replay: Replay,
     segments: &[Segment],
 ) -> Result<Recovery>
     requires some { 0 < size }
-    requires end { end < 2 ^ 63 }
-    requires fits { All (IsPass size) passes.now }
-    requires long { length passes.now ≤ length segments.now }
-    ensures ok { IfOk result (λ x. outcome_of size (model_of first) end (map pass_of passes.now) (slots_of (drop (length passes.now) segments.now))
-        ≡ Recovered (result_of x)) }
-    ensures corrupt { IsCorruption result
-        → outcome_of size (model_of first) end (map pass_of passes.now) (slots_of (drop (length passes.now) segments.now)) ≡ Damaged }
+    requires stop { FitsStop size replay.stop }
+    requires long { replay.count ≤ length segments.now }
+    ensures ok { (end : ℕ) (first : SnapshotModel) (passes : List Scanned) → HasMade end first passes replay
+        → IfOk result (λ x. outcome_of size first end passes (slots_of (drop (length passes) segments.now)) ≡ Recovered (result_of x)) }
+    ensures corrupt { (end : ℕ) (first : SnapshotModel) (passes : List Scanned) → HasMade end first passes replay
+        → IsCorruption result → outcome_of size first end passes (slots_of (drop (length passes) segments.now)) ≡ Damaged }
     ensures errors { IfErr result IsDecodeError }
 {
-    let unread = slots_of(alloc, &segments[passes.len()..])?;
-    let least = first.stable_place();
-    let Snapshot {
-        stable_lsn: was,
-        active_segment: active,
-        pt: mut pages,
-    } = first;
-    match apply_passes(alloc, &mut pages, passes, least, end) {
-        Ok(Some((segment, at))) => conclude(
+    let unread = slots_of(alloc, &segments[replay.count..])?;
+    if replay.has_no_table {
+        return Err(Error::Corruption { at: None });
+    }
+    let least = replay.snapshot.stable_place();
+    match replay.stop {
+        Some((segment, at)) => conclude(
             size,
-            pages,
-            was,
+            replay.snapshot.pt,
+            replay.snapshot.stable_lsn,
             least,
             cut_of(size, &segment, at),
             unread,
         ),
-        Ok(None) => Ok(unchanged(
-            Snapshot {
-                stable_lsn: was,
-                active_segment: active,
-                pt: pages,
-            },
-            unread,
-        )),
-        Err(e) => Err(e),
+        None => Ok(unchanged(replay.snapshot, unread)),
     }
 }
 
@@ -236,32 +309,4 @@ pub(crate) fn slots_of(alloc: Global, segments: &[Segment]) -> Result<Vec<LogOff
         slots.push(segment.slot)?;
     }
     Ok(slots)
-}
-
-/// Applies what is met in these segments, up to the first batch that does not end below `end`. Answers in
-/// which segment and at which place that stopped. `Corruption` comes for a page that no table has.
-fn apply_passes(
-    alloc: Global,
-    pages: &mut Vec<PageState>,
-    passes: &[Pass],
-    least: u64,
-    end: u64,
-) -> Result<Option<(Segment, u64)>>
-    requires end { end < 2 ^ 63 }
-    requires fits { (size : ℕ) × All (IsPass size) passes.now }
-    ensures pages { OnOk result (map page_of pages.new.items ≡ table_of (map page_of pages.old.items) (given least (passed_all end (map pass_of passes.now)))) }
-    ensures fine { OnOk result (has_no_table (given least (passed_all end (map pass_of passes.now))) ≡ false) }
-    ensures stop { IfOk result (λ stop. stop ≡ stop_of end None (map pass_of passes.now)) }
-    ensures corrupt { IsCorruption result → has_no_table (given least (passed_all end (map pass_of passes.now))) ≡ true }
-    ensures errors { IfErr result IsDecodeError }
-{
-    let mut stop = None;
-    for pass in passes {
-        match apply_all(alloc, pages, &pass.scan.met, least, end) {
-            Ok(Some(place)) => return Ok(Some((pass.segment, place))),
-            Ok(None) => stop = Some((pass.segment, pass.segment.place + pass.scan.stop)),
-            Err(e) => return Err(e),
-        }
-    }
-    Ok(stop)
 }

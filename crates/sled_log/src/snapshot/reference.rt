@@ -16,7 +16,7 @@ ghost use Rattle.sled_log.specs.Passes.{CanAllBeRead, CanBeRead, ContinuesOn, Pa
 use crate::snapshot::blobs::check;
 use crate::snapshot::file::read_newest;
 use crate::snapshot::ordering::find_segments;
-use crate::snapshot::pass::{outcome_of, read_below, slots_of};
+use crate::snapshot::pass::{outcome_of, replay_below, slots_of};
 use crate::snapshot::recovery::Recovery;
 use crate::snapshot::replay::unchanged;
 use crate::snapshot::tail::{is_broken, scan_of, tail_begins};
@@ -125,10 +125,10 @@ fn pass_over<D: Device, C: Checksum>(
     ensures answers { ItemAnswersOver D.trace D.faults C.sum_of result config.old config.new }
     ensures reads { OnlyReads D.trace config.old config.new }
 {
-    match read_below(config, segments, end) {
-        Ok(passes) => {
+    match replay_below(config, segments, first, end) {
+        Ok(replay) => {
             let size = config.config.segment_size;
-            outcome_of(config.alloc(), size, first, end, &passes, segments)
+            outcome_of(config.alloc(), size, replay, segments)
         }
         Err(e) => Err(e),
     }

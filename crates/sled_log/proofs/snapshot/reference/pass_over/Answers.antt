@@ -1,49 +1,57 @@
-use Rattle.std.proofs.Common.{ℕ, List, Some, map, sym, subst}
-use Rattle.sled_codec.specs.Snapshots.{model_of}
+use Rattle.std.proofs.Common.{ℕ, List, Some, map, sym, subst, arith}
+use Rattle.sled_codec.specs.Snapshots.{SnapshotModel, model_of}
 use Rattle.sled_core.proofs.Read.ReadingLemmas.{if_ok}
 use Rattle.sled_store.specs.declared.config.Config.{Config}
 use Rattle.sled_store.specs.Device.{State, state_of}
-use Rattle.sled_log.specs.declared.snapshot.pass.Pass.{Pass}
-use Rattle.sled_log.specs.Recovery.{Passes, Recovered, Damaged, begun_below}
-use Rattle.sled_log.specs.Passes.{AreResolved, pass_of}
+use Rattle.sled_log.specs.Recovery.{Passes, Recovered, Damaged, Scanned, begun_below, resolved_scan}
+use Rattle.sled_log.specs.Passes.{FitsStop}
 use Rattle.sled_log.specs.WritesBack.{result_of}
-use Rattle.sled_log.proofs.Passes.Joined.{passes_damaged}
-use Rattle.sled_log.proofs.Passes.Whole.{fits_by, no_more, passes_by}
+use Rattle.sled_log.proofs.Passes.Joined.{passes_damaged, resolved_length}
+use Rattle.sled_log.proofs.Passes.Whole.{passes_by, resolved_of}
 use Rattle.sled_log.proofs.snapshot.reference.pass_over.Goals as goal
 
-pub outcome_of-requires-clause-fits : goal.outcome_of-requires-clause-fits
-outcome_of-requires-clause-fits g c =
-    fits_by c.args.config.now.config c.read_below.new.config.config c.in-Ok.passes.items c.deref.result.now c.in-Ok.ensures.reads.config c.deref.ensures.value c.in-Ok.ensures.fits
+pub outcome_of-requires-clause-stop : goal.outcome_of-requires-clause-stop
+outcome_of-requires-clause-stop g c = subst (λ (x : Config). FitsStop x.segment_size c.in-Ok.replay.stop) (sym c.in-Ok.ensures.reads.config) c.in-Ok.ensures.stop
 
 pub outcome_of-requires-clause-long : goal.outcome_of-requires-clause-long
 outcome_of-requires-clause-long g c =
     let sum : List ℕ → ℕ = g.C.Checksum.sum_of in
-    let cfg : Config = c.args.config.now.config in
+    let size : ℕ = c.args.config.now.config.segment_size in
     let s : State = state_of (g.D.Device.trace c.args.config.now.device) in
-    let are = subst (λ (l : List Pass). AreResolved sum cfg.segment_size s.log.bytes s.blobs.file c.args.end (begun_below c.args.end c.args.segments.now) (map pass_of l)) (sym c.deref.ensures.value) c.in-Ok.ensures.passes in
-    no_more sum cfg.segment_size s.log.bytes s.blobs.file c.args.end c.args.segments.now c.deref.result.now are
+    let end : ℕ = c.args.end in
+    let all = c.in-Ok.ensures.made in
+    let are = resolved_of sum size s.log.bytes s.blobs.file end c.args.segments.now (model_of c.args.first) (begun_below end c.args.segments.now) c.in-Ok.replay all in
+    let long = resolved_length sum size s.log.bytes s.blobs.file end c.args.segments.now (map (resolved_scan s.blobs.file end) all.passes) are in
+    let made = all.so_far.fine.1 in
+    omega (arith, long, made.count)
 
 pub returns-in-Ok-clause-ok : goal.returns-in-Ok-clause-ok
 returns-in-Ok-clause-ok g c =
     let sum : List ℕ → ℕ = g.C.Checksum.sum_of in
     let cfg : Config = c.args.config.now.config in
     let s : State = state_of (g.D.Device.trace c.args.config.now.device) in
-    let are = subst (λ (l : List Pass). AreResolved sum cfg.segment_size s.log.bytes s.blobs.file c.args.end (begun_below c.args.end c.args.segments.now) (map pass_of l)) (sym c.deref.ensures.value) c.in-Ok.ensures.passes in
-    if_ok c.outcome_of.result _ (λ x. Passes sum cfg.segment_size s.log.bytes s.blobs.file (model_of c.args.first) c.args.segments.now (Some c.args.end) (Recovered (result_of x)))
-    (λ x comes. passes_by sum cfg c.read_below.new.config.config s.log.bytes s.blobs.file c.args.end (model_of c.args.first) c.args.segments.now c.deref.result.now (Recovered (result_of x)) c.in-Ok.ensures.reads.config are comes)
-    c.outcome_of.ensures.ok
+    let end : ℕ = c.args.end in
+    let first : SnapshotModel = model_of c.args.first in
+    let all = c.in-Ok.ensures.made in
+    let passes : List Scanned = map (resolved_scan s.blobs.file end) all.passes in
+    let are = resolved_of sum cfg.segment_size s.log.bytes s.blobs.file end c.args.segments.now first (begun_below end c.args.segments.now) c.in-Ok.replay all in
+    if_ok c.outcome_of.result _ (λ x. Passes sum cfg.segment_size s.log.bytes s.blobs.file first c.args.segments.now (Some end) (Recovered (result_of x)))
+    (λ x comes. passes_by sum cfg c.replay_below.new.config.config s.log.bytes s.blobs.file end first c.args.segments.now passes (Recovered (result_of x)) c.in-Ok.ensures.reads.config are comes)
+    (c.outcome_of.ensures.ok end first passes all.so_far.fine.1)
 
 pub returns-in-Ok-clause-corrupt : goal.returns-in-Ok-clause-corrupt
 returns-in-Ok-clause-corrupt g c = λ corrupt.
     let sum : List ℕ → ℕ = g.C.Checksum.sum_of in
     let cfg : Config = c.args.config.now.config in
     let s : State = state_of (g.D.Device.trace c.args.config.now.device) in
-    let are = subst (λ (l : List Pass). AreResolved sum cfg.segment_size s.log.bytes s.blobs.file c.args.end (begun_below c.args.end c.args.segments.now) (map pass_of l)) (sym c.deref.ensures.value) c.in-Ok.ensures.passes in
-    passes_by sum cfg c.read_below.new.config.config s.log.bytes s.blobs.file c.args.end (model_of c.args.first) c.args.segments.now c.deref.result.now Damaged c.in-Ok.ensures.reads.config are (c.outcome_of.ensures.corrupt corrupt)
+    let end : ℕ = c.args.end in
+    let first : SnapshotModel = model_of c.args.first in
+    let all = c.in-Ok.ensures.made in
+    let passes : List Scanned = map (resolved_scan s.blobs.file end) all.passes in
+    let are = resolved_of sum cfg.segment_size s.log.bytes s.blobs.file end c.args.segments.now first (begun_below end c.args.segments.now) c.in-Ok.replay all in
+    passes_by sum cfg c.replay_below.new.config.config s.log.bytes s.blobs.file end first c.args.segments.now passes Damaged c.in-Ok.ensures.reads.config are (c.outcome_of.ensures.corrupt end first passes all.so_far.fine.1 corrupt)
 
 pub returns-in-Err-clause-corrupt : goal.returns-in-Err-clause-corrupt
 returns-in-Err-clause-corrupt g c = λ corrupt.
-    let sum : List ℕ → ℕ = g.C.Checksum.sum_of in
-    let cfg : Config = c.args.config.now.config in
     let s : State = state_of (g.D.Device.trace c.args.config.now.device) in
-    passes_damaged sum cfg.segment_size s.log.bytes s.blobs.file c.args.end (model_of c.args.first) c.args.segments.now (c.in-Err.ensures.corrupt corrupt)
+    passes_damaged g.C.Checksum.sum_of c.args.config.now.config.segment_size s.log.bytes s.blobs.file c.args.end (model_of c.args.first) c.args.segments.now (c.in-Err.ensures.corrupt corrupt)

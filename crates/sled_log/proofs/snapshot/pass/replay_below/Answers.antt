@@ -1,0 +1,20 @@
+use Rattle.std.proofs.Common.{refl}
+use Rattle.sled_codec.specs.Snapshots.{model_of}
+use Rattle.sled_store.specs.Device.{State, state_of}
+use Rattle.sled_log.specs.declared.snapshot.pass.Replay.{Replay}
+use Rattle.sled_log.specs.Recovery.{begun_below}
+use Rattle.sled_log.proofs.Passes.SoFar.{answers_of, replay_bad}
+use Rattle.sled_log.proofs.snapshot.pass.replay_below.Goals as goal
+
+pub returns-in-Ok-Some-clause-corrupt : goal.returns-in-Ok-Some-clause-corrupt
+returns-in-Ok-Some-clause-corrupt g c = λ corrupt.
+    let st : State = state_of (g.D.Device.trace c.args.config.now.device) in
+    let all = c.in-Ok-Some.ensures.made (model_of c.args.first) (record { no_table = refl; pages = λ not. refl; stop = λ not. refl; count = refl; stable = refl; active = refl }) in
+    (replay_bad g.C.Checksum.sum_of st.blobs.file c.args.config.now.config.segment_size st.log.bytes c.args.end (model_of c.args.first) (begun_below c.args.end c.args.segments.now) c.in-Ok-Some.field-0 c.in-Ok-Some.e c.replay_each.new.replay c.in-Ok-Some.field-0-is all).1
+
+pub returns-in-Ok-Some-clause-answers : goal.returns-in-Ok-Some-clause-answers
+returns-in-Ok-Some-clause-answers g c =
+    let st : State = state_of (g.D.Device.trace c.args.config.now.device) in
+    let all = c.in-Ok-Some.ensures.made (model_of c.args.first) (record { no_table = refl; pages = λ not. refl; stop = λ not. refl; count = refl; stable = refl; active = refl }) in
+    let names = (replay_bad g.C.Checksum.sum_of st.blobs.file c.args.config.now.config.segment_size st.log.bytes c.args.end (model_of c.args.first) (begun_below c.args.end c.args.segments.now) c.in-Ok-Some.field-0 c.in-Ok-Some.e c.replay_each.new.replay c.in-Ok-Some.field-0-is all).0 in
+    answers_of g.C.Checksum.sum_of st.blobs.file Replay c.in-Ok-Some.e _ _ names c.in-Ok-Some.ensures.answers
