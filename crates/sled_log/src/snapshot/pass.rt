@@ -81,8 +81,8 @@ pub(crate) fn replay_below<D: Device, C: Checksum>(
     }
 }
 
-/// The same, segment by segment. A blob that doesn't pass for its record is answered once all of them were read, since a
-/// device that fails and a damaged record come first.
+/// The same, segment by segment. What comes of a pass is defined over all that it meets, so behind a blob that doesn't pass
+/// for its record the rest is read still: a damaged record there, or a failure of the device, is answered first.
 fn replay_each<D: Device, C: Checksum>(
     config: &mut RunningConfig<D, C>,
     segments: &[Segment],
