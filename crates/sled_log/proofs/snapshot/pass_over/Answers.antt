@@ -1,4 +1,4 @@
-use Rattle.std.proofs.Common.{◌+◌, ◌++◌, ℕ, List, Some, map, length, take, refl, sym, ap, subst, arith}
+use Rattle.std.proofs.Common.{◌++◌, ℕ, List, Some, map, length, take, refl, sym, ap, subst, arith}
 use Rattle.sled_codec.specs.Snapshots.{SnapshotModel, model_of}
 use Rattle.sled_core.proofs.Read.ReadingLemmas.{if_ok}
 use Rattle.sled_core.specs.declared.iterator.Segment.{Segment}
