@@ -4,5 +4,6 @@ pub mod KeptLemmas
 pub mod NamesLemmas
 pub mod OfferLemmas
 pub mod OneBegin
+pub mod SettlingLemmas
 pub mod TakenLemmas
 pub mod Trailers

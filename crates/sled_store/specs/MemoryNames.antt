@@ -1,5 +1,5 @@
 -- What files under names in memory stand for.
-use Rattle.std.specs.Prelude.{◌≡◌, ◌||◌, ℕ, ℤ, Bool, false, true, if◌then◌else◌, List, [], ◌∷◌, None, Some, Option, is_some, Vec}
+use Rattle.std.specs.Prelude.{◌≡◌, ◌||◌, ◌⊎◌, Contains, ℕ, ℤ, Bool, false, true, if◌then◌else◌, List, [], ◌∷◌, None, Some, Option, is_some, Vec}
 use Rattle.std.specs.Ordering.{int_cmp}
 use Rattle.std.specs.BTreeMap.{BTreeMap, get}
 use Rattle.std.specs.Str.{bytes_eq}
@@ -71,7 +71,12 @@ abbrev pub leaves_any : List NameState → Option (List ℕ) → Bool
 leaves_any [] left = false
 leaves_any (s ∷ others) left = leaves_file s.file s.is_unsynced left || leaves_any others left
 
--- What is kept of files under names is this state of them.
+-- a name that settling is known to reach, by a list of names or as all are
+abbrev pub IsNoted : MemNames → ℤ → Type 0
+IsNoted names n = (names.has_unlisted ≡ true) ⊎ Contains names.changed.items n
+
+-- What is kept of files under names is this state of them. A name that is not as it was settled is noted.
 pub record Keeps (names : MemNames) (s : NamesState) : Type 0 where
   pub states : (n : ℤ) → states_of (files_under names.kept n) ≡ record { file = s.file n; is_unsynced = s.is_unsynced n } ∷ s.earlier n
   pub whole : (n : ℤ) → s.half_done n ≡ []
+  pub noted : (n : ℤ) → ¬ IsNoted names n → s.earlier n ≡ []

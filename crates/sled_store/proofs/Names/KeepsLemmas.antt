@@ -1,5 +1,5 @@
 -- What is kept of files under names stands for a state of them: what that says of one name, and what keeps it so.
-use Rattle.std.proofs.Common.{◌≡◌, ◌↔◌, ◌<◌, arith, length, Contains, Less, ℕ, ℤ, Bool, true, false, if◌then◌else◌, cond, is_some, IsSome, List, [], ◌∷◌, ◌++◌, Option, Some, None, Vec, refl, sym, ◌∙◌, ap, subst}
+use Rattle.std.proofs.Common.{◌≡◌, ◌↔◌, ◌&&◌, ◌<◌, arith, length, Contains, Less, ℕ, ℤ, Bool, true, false, not, if◌then◌else◌, cond, is_some, IsSome, List, [], ◌∷◌, ◌++◌, Option, Some, None, Vec, refl, sym, ◌∙◌, ap, subst}
 use Rattle.std.specs.Ordering.{int_eq, int_cmp, eq_by_cmp}
 use Rattle.std.specs.Map.{lookup, keys_of}
 use Rattle.std.specs.Map.Calls.{RetainsPairs}
@@ -16,8 +16,8 @@ use Rattle.std.proofs.lemmas.Map.Views.{tells_apart, Contains-keys_from_lookup, 
 use Rattle.std.specs.List.{filter, AllByRecursion}
 use Rattle.sled_store.specs.declared.device.memory.named_files.version.FileVersion.{FileVersion}
 use Rattle.sled_store.specs.declared.device.memory.named_files.MemNames.{MemNames}
-use Rattle.sled_store.specs.Device.{NameState, NamesState, renamed, names_synced, names_at_rest, settled_files}
-use Rattle.sled_store.specs.MemoryNames.{absent, state_kept, states_of, latest, firm, file_settled, files_found, files_under, Keeps}
+use Rattle.sled_store.specs.Device.{NameState, NamesState, renamed, unnamed, file_synced, names_synced, names_at_rest, settled_files}
+use Rattle.sled_store.specs.MemoryNames.{absent, state_kept, states_of, latest, without_file, firm, firm_file, file_settled, files_found, files_under, IsNoted, Keeps}
 use Rattle.sled_store.proofs.Names.KeptLemmas.{states-push}
 
 abbrev pub KeptMap : Type 0
@@ -67,43 +67,99 @@ written old new m name v w is found through =
     let some : IsSome (get int_cmp old m) = sym (ap is_some found) in
     subst (λ (k : ℤ). PutAt old new k w) is (through.3 some).0
 
+-- what was inserted under a name that the map didn't have
+pub inserted : (old was new : KeptMap) (m name : ℤ) (v : Vec FileVersion Global) → m ≡ name → was ≡ old → PutAt was new m v → PutAt old new name v
+inserted old was new m name v is same put = subst (λ (k : ℤ). PutAt old new k v) is (subst (λ (o : KeptMap). PutAt o new m v) same put)
+
 pub found_under : (old : KeptMap) (m name : ℤ) (v : Vec FileVersion Global) → m ≡ name → Some v ≡ get int_cmp old m → v.items ≡ files_under old name
 found_under old m name v is found = ap files_found found ∙ ap (files_under old) is
 
 -- a name that the map doesn't have has no files
+pub found_none : (kept : KeptMap) (m name : ℤ) → m ≡ name → None ≡ get int_cmp kept m → files_under kept name ≡ []
+found_none kept m name is none = sym (ap files_found none ∙ ap (files_under kept) is)
+
 pub none_under : (kept : KeptMap) (name : ℤ) → None ≡ get int_cmp kept name → 0 < length (files_under kept name) → ⊥
 none_under kept name none some =
     let empty : 0 < length (files_found None) = subst (λ (o : Option (Vec FileVersion Global)). 0 < length (files_found o)) (sym none) some in
     omega arith
 
--- A name has a new state, over all that it had.
+-- The files of one name change, and those of others stay.
 
-abbrev Renamed : KeptMap → NamesState → NameState → ℤ → Bool → Type 0
-Renamed new s top n b = states_at new n
-    ≡ record { file = if b then top.file else s.file n; is_unsynced = if b then top.is_unsynced else s.is_unsynced n } ∷ (if b then record { file = s.file n; is_unsynced = s.is_unsynced n } ∷ s.earlier n else s.earlier n)
+-- the same names with other files
+abbrev pub with_kept : MemNames → KeptMap → MemNames
+with_kept names kept = record names { kept = kept }
 
-pub keeps_renamed : (names new : MemNames) (s : NamesState) (name : ℤ) (top : NameState) (asked : List (List ℕ)) → Keeps names s
-    → states_at new.kept name ≡ top ∷ states_at names.kept name
-    → ((n : ℤ) → int_eq name n ≡ false → files_under new.kept n ≡ files_under names.kept n)
-    → Keeps new (renamed s name true top asked)
-keeps_renamed names new s name top asked keeps here others = record { states = λ n. at n (int_eq name n) refl; whole = keeps.whole }
+-- none changed
+pub keeps_same : (names : MemNames) (kept : KeptMap) (s : NamesState) (name : ℤ) → Keeps names s
+    → files_under kept name ≡ files_under names.kept name
+    → ((n : ℤ) → int_eq name n ≡ false → files_under kept n ≡ files_under names.kept n)
+    → Keeps (with_kept names kept) s
+keeps_same names kept s name keeps here others = record { states = λ n. at n (int_eq name n) refl; whole = keeps.whole; noted = keeps.noted }
   where
-    at : (n : ℤ) (b : Bool) → int_eq name n ≡ b → Renamed new.kept s top n b
-    at n true is = subst (λ (m : ℤ). Renamed new.kept s top m true) ((Decides-int_eq name n).0 is) (here ∙ ap (λ (h : List NameState). top ∷ h) (keeps.states name))
+    at : (n : ℤ) (b : Bool) → int_eq name n ≡ b → states_at kept n ≡ record { file = s.file n; is_unsynced = s.is_unsynced n } ∷ s.earlier n
+    at n true is = subst (λ (m : ℤ). states_at kept m ≡ record { file = s.file m; is_unsynced = s.is_unsynced m } ∷ s.earlier m) ((Decides-int_eq name n).0 is) (ap states_of here ∙ keeps.states name)
     at n false is = ap states_of (others n is) ∙ keeps.states n
 
+-- A noted name has a new state, over all that it had.
+
+abbrev Renamed : KeptMap → NamesState → NameState → ℤ → Bool → Type 0
+Renamed kept s top n b = states_at kept n
+    ≡ record { file = if b then top.file else s.file n; is_unsynced = if b then top.is_unsynced else s.is_unsynced n } ∷ (if b then record { file = s.file n; is_unsynced = s.is_unsynced n } ∷ s.earlier n else s.earlier n)
+
+pub keeps_renamed : (names : MemNames) (kept : KeptMap) (s : NamesState) (name : ℤ) (top : NameState) (asked : List (List ℕ)) → Keeps names s → IsNoted names name
+    → states_at kept name ≡ top ∷ states_at names.kept name
+    → ((n : ℤ) → int_eq name n ≡ false → files_under kept n ≡ files_under names.kept n)
+    → Keeps (with_kept names kept) (renamed s name true top asked)
+keeps_renamed names kept s name top asked keeps is_noted here others = record { states = λ n. at n (int_eq name n) refl; whole = keeps.whole; noted = λ n. noted n (int_eq name n) refl }
+  where
+    at : (n : ℤ) (b : Bool) → int_eq name n ≡ b → Renamed kept s top n b
+    at n true is = subst (λ (m : ℤ). Renamed kept s top m true) ((Decides-int_eq name n).0 is) (here ∙ ap (λ (h : List NameState). top ∷ h) (keeps.states name))
+    at n false is = ap states_of (others n is) ∙ keeps.states n
+
+    noted : (n : ℤ) (b : Bool) → int_eq name n ≡ b → ¬ IsNoted names n → (if b then record { file = s.file n; is_unsynced = s.is_unsynced n } ∷ s.earlier n else s.earlier n) ≡ []
+    noted n true is not_noted = absurd (not_noted (subst (IsNoted names) ((Decides-int_eq name n).0 is) is_noted))
+    noted n false is not_noted = keeps.noted n not_noted
+
 -- a file was made
-pub keeps_made : (names new : MemNames) (s : NamesState) (name : ℤ) (one : FileVersion) (asked : List (List ℕ)) → one.is_gone ≡ false → one.is_settled ≡ false
-    → files_under new.kept name ≡ files_under names.kept name ++ one ∷ []
-    → ((n : ℤ) → int_eq name n ≡ false → files_under new.kept n ≡ files_under names.kept n)
-    → Keeps names s → Keeps new (renamed s name true (state_kept one) asked)
-keeps_made names new s name one asked stays unsettled here others keeps =
+pub keeps_made : (names : MemNames) (kept : KeptMap) (s : NamesState) (name : ℤ) (one : FileVersion) (asked : List (List ℕ)) → one.is_gone ≡ false → one.is_settled ≡ false
+    → files_under kept name ≡ files_under names.kept name ++ one ∷ []
+    → ((n : ℤ) → int_eq name n ≡ false → files_under kept n ≡ files_under names.kept n)
+    → Keeps names s → IsNoted names name → Keeps (with_kept names kept) (renamed s name true (state_kept one) asked)
+keeps_made names kept s name one asked stays unsettled here others keeps is_noted =
     let was = states_at names.kept name in
-    keeps_renamed names new s name (state_kept one) asked keeps
+    keeps_renamed names kept s name (state_kept one) asked keeps is_noted
     (ap states_of here ∙ states-push (files_under names.kept name) one
     ∙ ap (λ (b : Bool). if b then absent ∷ state_kept one ∷ (if one.is_settled then [] else was) else state_kept one ∷ (if one.is_settled then [] else was)) stays
     ∙ ap (λ (b : Bool). state_kept one ∷ (if b then [] else was)) unsettled)
     others
+
+-- the file that is there was removed
+pub keeps_removed : (names : MemNames) (kept : KeptMap) (s : NamesState) (name : ℤ) → IsSome (s.file name)
+    → states_at kept name ≡ without_file (states_at names.kept name)
+    → ((n : ℤ) → int_eq name n ≡ false → files_under kept n ≡ files_under names.kept n)
+    → Keeps names s → IsNoted names name → Keeps (with_kept names kept) (unnamed s name true)
+keeps_removed names kept s name some here others keeps is_noted =
+    let was : NameState = record { file = s.file name; is_unsynced = s.is_unsynced name } in
+    subst (λ (b : Bool). Keeps (with_kept names kept) (if b then renamed s name true absent [] else s)) (sym some)
+    (keeps_renamed names kept s name absent [] keeps is_noted
+    (here ∙ ap without_file (keeps.states name)
+    ∙ ap (λ (b : Bool). if b then absent ∷ was ∷ s.earlier name else was ∷ s.earlier name) some
+    ∙ ap (λ (h : List NameState). absent ∷ h) (sym (keeps.states name)))
+    others)
+
+-- The bytes of the file that is there were settled.
+abbrev Firmed : KeptMap → NamesState → ℤ → Bool → Type 0
+Firmed kept s n b = states_at kept n ≡ record { file = s.file n; is_unsynced = not b && s.is_unsynced n } ∷ s.earlier n
+
+pub keeps_firmed : (names : MemNames) (kept : KeptMap) (s : NamesState) (name : ℤ)
+    → states_at kept name ≡ firm_file (states_at names.kept name)
+    → ((n : ℤ) → int_eq name n ≡ false → files_under kept n ≡ files_under names.kept n)
+    → Keeps names s → Keeps (with_kept names kept) (file_synced s name)
+keeps_firmed names kept s name here others keeps = record { states = λ n. at n (int_eq name n) refl; whole = keeps.whole; noted = keeps.noted }
+  where
+    at : (n : ℤ) (b : Bool) → int_eq name n ≡ b → Firmed kept s n b
+    at n true is = subst (λ (m : ℤ). Firmed kept s m true) ((Decides-int_eq name n).0 is) (here ∙ ap firm_file (keeps.states name))
+    at n false is = ap states_of (others n is) ∙ keeps.states n
 
 -- All names change at once, each by itself.
 
@@ -137,13 +193,13 @@ module _ {F : Type 0} (T : F → ℤ → Vec FileVersion Global → Bool → Vec
   states-retained old new sorted kept n = retained n old.entries new.entries sorted kept
 
 pub keeps_settled : (names new : MemNames) (s : NamesState) → ((n : ℤ) → states_at new.kept n ≡ latest (states_at names.kept n) ∷ []) → Keeps names s → Keeps new (names_synced s)
-keeps_settled names new s settled keeps = record { states = λ n. settled n ∙ ap (λ (x : NameState). x ∷ []) (latest-is names s n keeps); whole = λ n. refl }
+keeps_settled names new s settled keeps = record { states = λ n. settled n ∙ ap (λ (x : NameState). x ∷ []) (latest-is names s n keeps); whole = λ n. refl; noted = λ n _. refl }
 
 pub keeps_lost : (names new : MemNames) (s : NamesState) → ((n : ℤ) → states_at new.kept n ≡ firm (file_settled (states_at names.kept n)) ∷ []) → Keeps names s → Keeps new (names_at_rest (settled_files s))
-keeps_lost names new s lost keeps = record { states = λ n. lost n ∙ ap (λ (h : List NameState). firm (file_settled h) ∷ []) (keeps.states n); whole = λ n. refl }
+keeps_lost names new s lost keeps = record { states = λ n. lost n ∙ ap (λ (h : List NameState). firm (file_settled h) ∷ []) (keeps.states n); whole = λ n. refl; noted = λ n _. refl }
 
 pub keeps_held : (names new : MemNames) (s : NamesState) → ((n : ℤ) → states_at new.kept n ≡ firm (latest (states_at names.kept n)).file ∷ []) → Keeps names s → Keeps new (names_at_rest s.file)
-keeps_held names new s held keeps = record { states = λ n. held n ∙ ap (λ (o : Option (List ℕ)). firm o ∷ []) (file-is names s n keeps); whole = λ n. refl }
+keeps_held names new s held keeps = record { states = λ n. held n ∙ ap (λ (o : Option (List ℕ)). firm o ∷ []) (file-is names s n keeps); whole = λ n. refl; noted = λ n _. refl }
 
 -- The names of the files that are there.
 

@@ -3,13 +3,13 @@
 //! Under each name are the files that were made since names were last settled, so that a call is a look-up.
 //! Its clauses say that where it stands for a state, it stands for the next one after each call
 //! (`specs/MemoryNames.antt`).
-ghost use Rattle.std.specs.Prelude.{◌≡◌, ◌↔◌, ℤ, ℕ, List, ◌∷◌, None, Some, IsSome, IfOk, OnOk, OnErr, MatchOption, Contains, true, false, is_some, IfErr};
-ghost use Rattle.std.specs.Ordering.{int_cmp};
+ghost use Rattle.std.specs.Prelude.{◌≡◌, ◌↔◌, ℤ, ℕ, List, [], ◌∷◌, None, Some, IsSome, IfOk, OnOk, OnErr, MatchOption, Contains, true, false, is_some, IfErr};
+ghost use Rattle.std.specs.Ordering.{int_cmp, int_eq};
 ghost use Rattle.std.specs.List.Sorted.{IsStrictlySortedBy};
 ghost use Rattle.std.specs.declared.io.ErrorKind.TheVariants.{NotFound};
 ghost use Rattle.sled_store.specs.Answers.{is_fault, FailsWantsOrSays};
 ghost use Rattle.sled_store.specs.Device.{NamesState, names_at_rest, renamed, unnamed, file_synced, names_synced};
-ghost use Rattle.sled_store.specs.MemoryNames.{Keeps, files_under};
+ghost use Rattle.sled_store.specs.MemoryNames.{Keeps, IsNoted, files_under, states_of, latest};
 
 pub(crate) mod version;
 
@@ -24,6 +24,11 @@ use std::io;
 #[derive(Drop)]
 pub(crate) struct MemNames {
     pub(crate) kept: BTreeMap<i64, Vec<FileVersion>>,
+    // The names under which something was made or removed since names were last settled, in any order, some of
+    // them several times.
+    pub(crate) changed: Vec<i64>,
+    // One of them isn't listed, since there was no memory for it.
+    pub(crate) has_unlisted: bool,
 }
 
 impl MemNames {
@@ -33,6 +38,8 @@ impl MemNames {
     {
         MemNames {
             kept: BTreeMap::new(alloc),
+            changed: Vec::new(alloc),
+            has_unlisted: false,
         }
     }
 
@@ -72,6 +79,7 @@ impl MemNames {
             → OnOk result (Keeps self.new (renamed s name true (record { file = Some bytes.items; is_unsynced = is_unsynced }) asked)) }
         ensures err { (s : NamesState) → Keeps self.old s → OnErr result (Keeps self.new s) }
     {
+        self.note(name);
         let one = FileVersion {
             bytes,
             is_unsynced,
@@ -92,8 +100,23 @@ impl MemNames {
     pub(crate) fn remove(&mut self, name: i64)
         ensures { (s : NamesState) → Keeps self.old s → Keeps self.new (unnamed s name true) }
     {
+        if !self.has(name) {
+            return;
+        }
+        self.note(name);
         if let Some(kept) = self.kept.get_mut(&name) {
             remove_file(kept);
+        }
+    }
+
+    // Notes that the files under a name change. It takes no memory where none can be had.
+    fn note(&mut self, name: i64)
+        ensures kept { self.new.kept ≡ self.old.kept }
+        ensures keeps { (s : NamesState) → Keeps self.old s → Keeps self.new s }
+        ensures noted { IsNoted self.new name }
+    {
+        if self.changed.push(name).is_err() {
+            self.has_unlisted = true;
         }
     }
 
@@ -106,11 +129,49 @@ impl MemNames {
         }
     }
 
-    // Settles all names.
+    // Settles all names. It takes as long as names changed since they were last settled, however many there are.
     pub(crate) fn settle(&mut self)
         ensures { (s : NamesState) → Keeps self.old s → Keeps self.new (names_synced s) }
     {
+        if self.has_unlisted {
+            self.settle_all();
+        } else {
+            self.settle_changed();
+        }
+    }
+
+    // Settles each name.
+    fn settle_all(&mut self)
+        ensures { (s : NamesState) → Keeps self.old s → Keeps self.new (names_synced s) }
+    {
         self.kept.retain(|_, kept| settle_name(kept));
+        self.changed.clear();
+        self.has_unlisted = false;
+    }
+
+    // Settles the names that are listed, where these are all that changed.
+    fn settle_changed(&mut self)
+        requires { self.old.has_unlisted ≡ false }
+        ensures { (s : NamesState) → Keeps self.old s → Keeps self.new (names_synced s) }
+    {
+        while let Some(name) = self.changed.pop() {
+            self.settle_one(name);
+        }
+    }
+
+    // Settles one name.
+    fn settle_one(&mut self, name: i64)
+        ensures here { states_of (files_under self.new.kept name) ≡ latest (states_of (files_under self.old.kept name)) ∷ [] }
+        ensures others { (n : ℤ) → int_eq name n ≡ false → files_under self.new.kept n ≡ files_under self.old.kept n }
+        ensures changed { self.new.changed ≡ self.old.changed }
+        ensures listed { self.new.has_unlisted ≡ self.old.has_unlisted }
+    {
+        let Some(kept) = self.kept.get_mut(&name) else {
+            return;
+        };
+        if !settle_name(kept) {
+            self.kept.remove(&name);
+        }
     }
 
     // The bytes of the file under a name.
