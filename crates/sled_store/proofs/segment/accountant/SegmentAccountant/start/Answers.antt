@@ -1,14 +1,19 @@
 -- What an accountant starts with: the calls that fill slots are made, and then those that cut the file back.
-use Rattle.std.proofs.Common.{◌≡◌, ◌∙◌, ℕ, Bool, List, length, is_some, ap, sym, subst}
+use Rattle.std.proofs.Common.{◌≡◌, ◌∙◌, ◌+◌, ◌*◌, ◌%◌, ◌^◌, ◌<◌, ◌≤◌, arith, ℕ, Bool, List, length, is_some, ap, sym, subst, Err}
 use Rattle.std.specs.BTreeMap.{get}
 use Rattle.std.specs.Ordering.{nat_cmp}
+use Rattle.sled_codec.specs.Errors.{IsCorruption}
+use Rattle.sled_codec.specs.declared.result.Error.{Error}
+use Rattle.sled_codec.specs.declared.result.Error.TheVariants.{Corruption, Unsupported, Io, OutOfMemory, Held, NotReserved, PlacesUsedUp, CollectionNotFound, ReportableBug}
 use Rattle.sled_codec.specs.Snapshots.{SnapshotModel, model_of}
 use Rattle.sled_store.specs.Device.{Trace, Event, state_of}
 use Rattle.sled_store.specs.Script.{Performs, after_all}
-use Rattle.sled_store.specs.Begin.{slots_of, is_used, not_below, unused, filling}
+use Rattle.sled_store.specs.Blobs.{RemoveAnswers}
+use Rattle.sled_store.specs.Causes.{CheckAnswers, DeviceAnswers, StartRefuses}
+use Rattle.sled_store.specs.Begin.{IsStartable, IsInReach, slots_of, is_used, not_below, unused, filling}
 use Rattle.sled_store.specs.SegmentStates.{Machine}
 use Rattle.sled_store.specs.Stabilizing.{cut_back}
-use Rattle.sled_store.specs.Accounts.{machine_of}
+use Rattle.sled_store.specs.Accounts.{IsAccountant, machine_of}
 use Rattle.sled_store.specs.Started.{found, started}
 use Rattle.sled_store.specs.Starting.{FillsSlots}
 use Rattle.sled_store.proofs.Traces.ScriptLemmas.{after_joined, performs_nothing, performs_more, performs_behind, performs_whole}
@@ -24,6 +29,76 @@ returns-in-Err-clause-calls g c = performs_nothing _ (g.D.Device.trace c.args.co
 
 pub returns-in-Err-find-clause-calls : goal.returns-in-Err-find-clause-calls
 returns-in-Err-find-clause-calls g c = performs_nothing _ (g.D.Device.trace c.args.config.now.device) (g.D.Device.trace c.len.new.self) c.len.ensures.trace
+
+-- Why it was not started, by what a part of it answers.
+module _ (startable in_reach unwritten : Type 0) (before : ℕ) where
+  refused_memory : (e : Error) (after : ℕ) → e ≡ OutOfMemory → after ≡ before → StartRefuses e startable in_reach unwritten before after
+  refused_memory e after is same = subst (λ (x : Error). StartRefuses x startable in_reach unwritten before after) (sym is) same
+
+  refused_removing : (e : Error) (mid after : ℕ) → RemoveAnswers {T = Unit {0}} (Err e) mid after → mid ≡ before → StartRefuses e startable in_reach unwritten before after
+  refused_removing (Io e) mid after came same = (came.0, came.1 ∙ ap (λ n. (n + 1) % 2 ^ 64) same)
+  refused_removing OutOfMemory mid after came same = came ∙ same
+  refused_removing (Corruption at) mid after came same = absurd came
+  refused_removing (Unsupported text) mid after came same = absurd came
+  refused_removing (Held place) mid after came same = absurd came
+  refused_removing (NotReserved place) mid after came same = absurd came
+  refused_removing PlacesUsedUp mid after came same = absurd came
+  refused_removing (CollectionNotFound name) mid after came same = absurd came
+  refused_removing (ReportableBug text) mid after came same = absurd came
+
+  refused_reading : (e : Error) (mid after : ℕ) → DeviceAnswers {T = Unit {0}} (Err e) mid after → (IsCorruption {T = Unit {0}} (Err e) → ⊥) → mid ≡ before → StartRefuses e startable in_reach unwritten before after
+  refused_reading (Io e) mid after came readable same = (came.0, came.1 ∙ ap (λ n. (n + 1) % 2 ^ 64) same)
+  refused_reading OutOfMemory mid after came readable same = came ∙ same
+  refused_reading (Corruption at) mid after came readable same = absurd (readable tt)
+  refused_reading (Unsupported text) mid after came readable same = absurd came
+  refused_reading (Held place) mid after came readable same = absurd came
+  refused_reading (NotReserved place) mid after came readable same = absurd came
+  refused_reading PlacesUsedUp mid after came readable same = absurd came
+  refused_reading (CollectionNotFound name) mid after came readable same = absurd came
+  refused_reading (ReportableBug text) mid after came readable same = absurd came
+
+  refused_check : (e : Error) (after : ℕ) → CheckAnswers {T = Unit {0}} (Err e) in_reach → (IsCorruption {T = Unit {0}} (Err e) → startable → ⊥) → unwritten → after ≡ before → StartRefuses e startable in_reach unwritten before after
+  refused_check OutOfMemory after came corrupt none same = same
+  refused_check (Corruption at) after came corrupt none same = (came, corrupt tt, none, same)
+  refused_check PlacesUsedUp after came corrupt none same = (came, none, same)
+  refused_check (Io e) after came corrupt none same = absurd came
+  refused_check (Unsupported text) after came corrupt none same = absurd came
+  refused_check (Held place) after came corrupt none same = absurd came
+  refused_check (NotReserved place) after came corrupt none same = absurd came
+  refused_check (CollectionNotFound name) after came corrupt none same = absurd came
+  refused_check (ReportableBug text) after came corrupt none same = absurd came
+
+pub returns-in-Err-clause-answers : goal.returns-in-Err-clause-answers
+returns-in-Err-clause-answers g c =
+    let size : ℕ = c.args.config.now.config.segment_size in
+    let len : ℕ = length (state_of (g.D.Device.trace c.args.config.now.device)).log.bytes in
+    let s : SnapshotModel = model_of c.args.snapshot.now in
+    refused_check (IsStartable size len s) (IsInReach size len s) (g.D.Device.trace c.len.new.self ≡ g.D.Device.trace c.args.config.now.device) (g.D.Device.faults c.args.config.now.device) c.in-Err.e (g.D.Device.faults c.len.new.self)
+    (subst (λ n. CheckAnswers {T = Unit {0}} (Err c.in-Err.e) (IsInReach size n s)) c.in_ok-len.ensures.len c.in-Err.ensures.answers)
+    (subst (λ n. IsCorruption {T = Unit {0}} (Err c.in-Err.e) → IsStartable size n s → ⊥) c.in_ok-len.ensures.len c.in-Err.ensures.corrupt)
+    c.len.ensures.trace c.in_ok-len.ensures.faults
+
+pub returns-in-Err-find-clause-answers : goal.returns-in-Err-find-clause-answers
+returns-in-Err-find-clause-answers g c = refused_memory _ _ _ (g.D.Device.faults c.args.config.now.device) c.in-Err-find.e (g.D.Device.faults c.len.new.self) c.in-Err-find.ensures.memory c.in_ok-len.ensures.faults
+
+pub returns-in-Err-fill_unused-clause-answers : goal.returns-in-Err-fill_unused-clause-answers
+returns-in-Err-fill_unused-clause-answers g c =
+    refused_reading _ _ _ (g.D.Device.faults c.args.config.now.device) c.in-Err-fill_unused.e (g.D.Device.faults c.len.new.self) (g.D.Device.faults c.fill_unused.new.config.device)
+    c.in-Err-fill_unused.ensures.answers c.in-Err-fill_unused.ensures.readable c.in_ok-len.ensures.faults
+
+pub returns-clause-answers : goal.returns-clause-answers
+returns-clause-answers g c =
+    refused_removing _ _ _ (g.D.Device.faults c.args.config.now.device) c.in-Err-cut_off.e (g.D.Device.faults c.fill_unused.new.config.device) (g.D.Device.faults c.cut_off.new.device)
+    c.in-Err-cut_off.ensures.step.answers (c.in-Ok-fill_unused.ensures.answers ∙ c.in_ok-len.ensures.faults)
+
+pub returns-in-Ok-cut_off-clause-answers : goal.returns-in-Ok-cut_off-clause-answers
+returns-in-Ok-cut_off-clause-answers g c =
+    let size : ℕ = c.args.config.now.config.segment_size in
+    let s : SnapshotModel = model_of c.args.snapshot.now in (
+      subst (λ n. IsStartable size n s) c.in_ok-len.ensures.len c.in-Ok.ensures.startable,
+      subst (λ n. IsInReach size n s) c.in_ok-len.ensures.len c.in-Ok.ensures.answers,
+      c.in-Ok-cut_off.ensures.step.answers ∙ c.in-Ok-fill_unused.ensures.answers ∙ c.in_ok-len.ensures.faults,
+    )
 
 pub find-requires-clause-fills : goal.find-requires-clause-fills
 find-requires-clause-fills g c =
@@ -52,6 +127,11 @@ module _ (size len told slots : ℕ) (s : SnapshotModel) (test : ℕ → Bool) (
   cut_is near other m sizes same is =
       ap (λ n. (cut_back n m).calls) (sizes ∙ same)
       ∙ ap (λ (x : Machine). (cut_back size x).calls) (is ∙ ap (λ n. found n slots s) same ∙ ap (λ k. found size k s) count_is)
+
+  cut_machine : (near other : ℕ) (m : Machine) → near ≡ other → other ≡ size → m ≡ found other slots s → (cut_back near m).machine ≡ (started size len s).machine
+  cut_machine near other m sizes same is =
+      ap (λ n. (cut_back n m).machine) (sizes ∙ same)
+      ∙ ap (λ (x : Machine). (cut_back size x).machine) (is ∙ ap (λ n. found n slots s) same ∙ ap (λ k. found size k s) count_is)
 
   cut_trace : (near other : ℕ) (m : Machine) (old mid new : Trace) → near ≡ other → other ≡ size → m ≡ found other slots s → mid ≡ after_all (filling size (unused size (slots_of size len) s)) old
       → new ≡ after_all (cut_back near m).calls mid → new ≡ after_all (started size len s).calls old
@@ -98,3 +178,36 @@ returns-clause-calls g c =
     let filled = filled_trace size len c.in_ok-len.len c.in-Ok.check_snapshot.1 s test c.in-Ok.ensures.slots c.in_ok-len.ensures.len c.in-Ok.ensures.used (g.D.Device.trace c.len.new.self) old mid c.len.ensures.trace c.in-Ok-fill_unused.ensures.done in
     cut_calls size len c.in_ok-len.len c.in-Ok.check_snapshot.1 s test c.in-Ok.ensures.slots c.in_ok-len.ensures.len c.in-Ok.ensures.used c.find.new.self.size c.fresh-accountant.result.size (machine_of c.find.new.self) old mid (g.D.Device.trace c.cut_off.new.device)
     c.in-Ok-find.ensures.account.size_is c.fresh-accountant.ensures.account.size_is c.in-Ok-find.ensures.machine filled c.cut_off.ensures.step.calls
+
+pub returns-in-Ok-cut_off-clause-machine : goal.returns-in-Ok-cut_off-clause-machine
+returns-in-Ok-cut_off-clause-machine g c =
+    let size : ℕ = c.args.config.now.config.segment_size in
+    let len : ℕ = length (state_of (g.D.Device.trace c.args.config.now.device)).log.bytes in
+    let test : ℕ → Bool = λ k. is_some (get nat_cmp c.in-Ok.check_snapshot.0.held k) in
+    c.in-Ok-cut_off.ensures.step.done
+    ∙ cut_machine size len c.in_ok-len.len c.in-Ok.check_snapshot.1 (model_of c.args.snapshot.now) test c.in-Ok.ensures.slots c.in_ok-len.ensures.len c.in-Ok.ensures.used
+    c.find.new.self.size c.fresh-accountant.result.size (machine_of c.find.new.self) c.in-Ok-find.ensures.account.size_is c.fresh-accountant.ensures.account.size_is c.in-Ok-find.ensures.machine
+
+pub returns-in-Ok-cut_off-clause-account : goal.returns-in-Ok-cut_off-clause-account
+returns-in-Ok-cut_off-clause-account g c =
+    subst (λ n. IsAccountant n c.cut_off.new.self) (c.in-Ok-find.ensures.account.size_is ∙ c.fresh-accountant.ensures.account.size_is) c.in-Ok-cut_off.ensures.step.account
+
+some_size : (size : ℕ) → 256 ≤ size → 0 < size
+some_size size least = omega arith
+
+small_size : (size : ℕ) → size ≤ 8388608 → size < 2 ^ 32
+small_size size most = omega arith
+
+pub check_snapshot-requires-clause-some : goal.check_snapshot-requires-clause-some
+check_snapshot-requires-clause-some g c = some_size c.args.config.now.config.segment_size c.args.config.now.config.least
+
+pub check_snapshot-requires-clause-small : goal.check_snapshot-requires-clause-small
+check_snapshot-requires-clause-small g c = small_size c.args.config.now.config.segment_size c.args.config.now.config.most
+
+pub fill_unused-requires : goal.fill_unused-requires
+fill_unused-requires g c =
+    let size : ℕ = c.args.config.now.config.segment_size in
+    subst (λ n. n * size + size < 2 ^ 63) (sym c.in-Ok.ensures.slots) c.in-Ok.ensures.answers.slots
+
+pub cut_off-requires : goal.cut_off-requires
+cut_off-requires g c = subst (λ n. IsAccountant n c.find.new.self) (sym c.in-Ok-find.ensures.account.size_is) c.in-Ok-find.ensures.account
