@@ -1,5 +1,5 @@
 -- The segment that is being filled has room for its end afterwards, and there is room for one more; all hold what they did.
-use Rattle.std.proofs.Common.{Result, Ok, Err, IsErrAnd, ◌≡◌, ◌∙◌, ◌+◌, ◌-◌, ◌<◌, ◌≤◌, ap, sym, refl, arith, rules, subst, ℕ, suc, List, ◌∷◌, length, map, set, Some, OnOk, deque_len}
+use Rattle.std.proofs.Common.{◌≡◌, ◌∙◌, ◌+◌, ◌-◌, ◌<◌, ◌≤◌, ap, sym, refl, arith, rules, subst, ℕ, suc, List, ◌∷◌, length, map, set, Some, OnOk, deque_len}
 use Rattle.std.specs.List.{All, slice_get}
 use Rattle.sled_core.specs.Begun.{AreFilled, FollowOn, SegmentView, last_buffer, line_at, segment_view, view_at}
 use Rattle.sled_core.specs.declared.iobuf.IoBuf.{IoBuf}
@@ -15,72 +15,6 @@ use Rattle.sled_core.proofs.Line.Filling.{follow_in, follow_with, line_kept, rea
 use Rattle.sled_core.proofs.Line.Nth.{last_buffer_set}
 use Rattle.sled_core.proofs.Pending.Segments.{still_ready}
 use Rattle.sled_core.proofs.logger.Log.room_to_close.Goals as goal
-
--- The noted batches are as they were, but for their room.
-
-pub invariant_of-self : goal.invariant_of-self
-invariant_of-self g c =
-    let log = c.args.self.now in
-    record {
-      in_segment = log.in_segment;
-      place_in_reach = log.place_in_reach;
-      slot_in_reach = log.slot_in_reach;
-      waits = log.waits;
-      follow = log.follow;
-      filled = log.filled;
-      account = log.account;
-      pegs = subst (All (λ (b : NotedBatch). b.peg < log.reserved_to)) (sym c.room_for_batch.ensures.items) log.pegs;
-      by_place = subst (λ (l : List NotedBatch). AreByPlace 0 (map batch_of l)) (sym c.room_for_batch.ensures.items) log.by_place;
-      room = (let many = ap length c.room_for_batch.ensures.items in let grows = c.room_for_batch.ensures.grows in let old = log.room in omega (arith, many, grows, old));
-      counted = log.counted;
-    }
-
--- What is so where it was done isn't asked where it was refused.
-refused : {T E : Type 0} (Q : E → Type 0) (r : Result T E) (A : Type 0) → IsErrAnd r Q → OnOk r A
-refused Q (Ok x) A is = absurd is
-refused Q (Err e) A is = tt
-
-pub returns-in_err-room_for_batch-clause-line : goal.returns-in_err-room_for_batch-clause-line
-returns-in_err-room_for_batch-clause-line g c = refl
-
-pub returns-in_err-room_for_batch-clause-rest : goal.returns-in_err-room_for_batch-clause-rest
-returns-in_err-room_for_batch-clause-rest g c = record { config = refl; reserved = refl; fault = refl; pins = refl; accountant = refl; noted = c.room_for_batch.ensures.items }
-
-pub returns-in_err-room_for_batch-clause-room : goal.returns-in_err-room_for_batch-clause-room
-returns-in_err-room_for_batch-clause-room g c = refused _ c.from_residual.result _ c.from_residual.ensures.1
-
-pub returns-in_err-room_for_batch-clause-place : goal.returns-in_err-room_for_batch-clause-place
-returns-in_err-room_for_batch-clause-place g c = refused _ c.from_residual.result _ c.from_residual.ensures.1
-
-pub returns-in_err-room_for_batch-clause-batch : goal.returns-in_err-room_for_batch-clause-batch
-returns-in_err-room_for_batch-clause-batch g c = refused _ c.from_residual.result _ c.from_residual.ensures.1
-
-pub returns-in_err-reserve-clause-line : goal.returns-in_err-reserve-clause-line
-returns-in_err-reserve-clause-line g c = ap (line_at c.args.self.now.site c.args.self.now.buffer) c.in_err-reserve.ensures.items
-
-pub returns-in_err-reserve-clause-rest : goal.returns-in_err-reserve-clause-rest
-returns-in_err-reserve-clause-rest g c = record { config = refl; reserved = refl; fault = refl; pins = refl; accountant = refl; noted = c.room_for_batch.ensures.items }
-
-pub returns-in_err-reserve-clause-room : goal.returns-in_err-reserve-clause-room
-returns-in_err-reserve-clause-room g c = refused _ c.from_residual-in_err-reserve.result _ c.from_residual-in_err-reserve.ensures.1
-
-pub returns-in_err-reserve-clause-place : goal.returns-in_err-reserve-clause-place
-returns-in_err-reserve-clause-place g c = refused _ c.from_residual-in_err-reserve.result _ c.from_residual-in_err-reserve.ensures.1
-
-pub returns-in_err-reserve-clause-batch : goal.returns-in_err-reserve-clause-batch
-returns-in_err-reserve-clause-batch g c = refused _ c.from_residual-in_err-reserve.result _ c.from_residual-in_err-reserve.ensures.1
-
-pub returns-then-n-eq0-clause-rest : goal.returns-then-n-eq0-clause-rest
-returns-then-n-eq0-clause-rest g c = record { config = refl; reserved = refl; fault = refl; pins = refl; accountant = refl; noted = c.room_for_batch.ensures.items }
-
-pub returns-then-n-eq0-clause-memory : goal.returns-then-n-eq0-clause-memory
-returns-then-n-eq0-clause-memory g c = c.room_to_close.ensures.err
-
-pub returns-clause-rest : goal.returns-clause-rest
-returns-clause-rest g c = record { config = refl; reserved = refl; fault = refl; pins = refl; accountant = refl; noted = c.room_for_batch.ensures.items }
-
-pub returns-clause-memory : goal.returns-clause-memory
-returns-clause-memory g c = c.room_to_close-2.ensures.err
 
 -- The first one is as it was, but for its room.
 module _ {D C : Type 0} (log : Log D C) (ss : List SegmentBuffer) (same : ss ≡ log.behind.items) (new : IoBuf) (view : (site : SegmentPosition) → view_at site new ≡ view_at site log.buffer) where

@@ -97,31 +97,6 @@ invariant_of-self-then-n-eq0 g c =
           c.make_room.ensures.places c.make_room.ensures.held c.note_sealed.ensures);
     }
 
-pub returns-then-n-eq0-clause-rest : goal.returns-then-n-eq0-clause-rest
-returns-then-n-eq0-clause-rest g c = record { config = refl; reserved = refl; fault = refl; pins = refl; accountant = refl; noted = refl }
-
-pub returns-clause-rest : goal.returns-clause-rest
-returns-clause-rest g c = record { config = refl; reserved = refl; fault = refl; pins = refl; accountant = refl; noted = refl }
-
-pub returns-then-n-eq0-clause-memory : goal.returns-then-n-eq0-clause-memory
-returns-then-n-eq0-clause-memory g c = c.seal.ensures.err
-
-pub returns-clause-memory : goal.returns-clause-memory
-returns-clause-memory g c = c.seal-2.ensures.err
-
-pub returns-then-n-eq0-clause-line : goal.returns-then-n-eq0-clause-line
-returns-then-n-eq0-clause-line g c =
-    let log = c.args.self.now in
-    let none : length log.behind.items ≡ 0 = (let long : deque_len log.behind ≡ length log.behind.items = search rules in omega (arith, long, c.len-n.ensures, c.if-n-eq0.true)) in
-    let made = c.seal.ensures in
-    on_ok c.seal.result _ _ (λ sealed. line_first sealed_now log.site log.buffer c.seal.new.self log.behind.items none (sealed_view log.site log.buffer c.seal.new.self sealed made.bytes made.from made.reserved made.gone made.filled)) made.sealed
-
-pub returns-then-n-eq0-clause-unsealed : goal.returns-then-n-eq0-clause-unsealed
-returns-then-n-eq0-clause-unsealed g c =
-    let log = c.args.self.now in
-    let made = c.seal.ensures in
-    on_err c.seal.result _ _ (λ unsealed. ap (λ (v : SegmentView). v ∷ map segment_view log.behind.items) (same_view log.site log.buffer c.seal.new.self unsealed made.bytes made.from made.reserved made.gone made.filled)) made.unsealed
-
 -- The last one behind the first is the one that is being filled.
 is_current : {D C : Type 0} (log : Log D C) (n : ℕ) (s : SegmentBuffer) → suc n ≡ length log.behind.items → slice_get log.behind.items n ≡ Some s → current_of log ≡ segment_view s
 is_current log n s at there = last_behind (view_at log.site log.buffer) log.behind.items s n at there

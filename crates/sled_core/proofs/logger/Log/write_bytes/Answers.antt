@@ -1,4 +1,4 @@
-use Rattle.std.proofs.Common.{◌≡◌, ◌∙◌, ◌≤◌, ◌+◌, ◌-◌, ◌∷◌, [], List, ℕ, ap, sym, subst, arith, take, drop, Some, length-take, refl}
+use Rattle.std.proofs.Common.{◌≡◌, ◌∙◌, ◌≤◌, ◌+◌, ◌-◌, ◌∷◌, [], List, ℕ, ap, sym, subst, arith, take, drop, Some, length-take}
 use Rattle.std.specs.List.{slice_get}
 use Rattle.sled_store.specs.Device.{Event, Wrote, Synced}
 use Rattle.sled_store.specs.Script.{Performs, after_all}
@@ -89,28 +89,3 @@ returns-clause-at_most g c =
     subst (λ (es : List Event). Performs es (g.D.Device.trace c.args.self.now.config.device) (g.D.Device.trace c.write_out-written.new.device))
     (calls_at (line_of c.args.self.now) c.args.n c.args.k c.nth.result.0 c.nth.result.1.now c.span-from.result.0 c.span-from.result.1 c.deref.result.now c.nth.ensures c.span-from.ensures.from c.span-from.ensures.to c.span-from.ensures.rises c.deref.ensures.value)
     c.write_out-written.ensures.calls
-
--- All but the device and the failure is as it was.
-
-pub invariant_of-self : goal.invariant_of-self
-invariant_of-self g c =
-    let log = c.args.self.now in
-    record {
-      in_segment = log.in_segment;
-      place_in_reach = log.place_in_reach;
-      slot_in_reach = log.slot_in_reach;
-      waits = log.waits;
-      follow = log.follow;
-      filled = log.filled;
-      account = log.account;
-      pegs = log.pegs;
-      by_place = log.by_place;
-      room = log.room;
-      counted = log.counted;
-    }
-
-pub returns-in-Err-clause-rest : goal.returns-in-Err-clause-rest
-returns-in-Err-clause-rest g c = record { config = refl; checksum = refl; site = refl; buffer = refl; behind = refl; reserved = refl; pins = refl; accountant = refl; noted = refl; manifests = refl }
-
-pub returns-clause-rest : goal.returns-clause-rest
-returns-clause-rest g c = record { config = refl; checksum = refl; site = refl; buffer = refl; behind = refl; reserved = refl; pins = refl; accountant = refl; noted = refl; manifests = refl }
