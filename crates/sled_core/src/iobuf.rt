@@ -226,6 +226,7 @@ impl IoBuf {
     }
 
     /// Makes room for a record of this length, for what is summed behind it, and for its reservation.
+    #[inline(always)]
     pub(crate) fn make_room(&mut self, len: usize) -> Result<()>
         requires { len < 2 ^ 32 }
         ensures bytes { self.new.bytes.items ≡ self.old.bytes.items }
@@ -244,6 +245,7 @@ impl IoBuf {
     }
 
     /// Lays out the placeholder of a record behind what is there, and keeps its reservation.
+    #[inline(always)]
     pub(crate) fn append<T: Serialize, C: Checksum>(
         &mut self,
         checksum: &C,
@@ -285,6 +287,7 @@ impl IoBuf {
     }
 
     /// Completes a reservation: stores the flipped sum and the kind in its header.
+    #[inline(always)]
     pub(crate) fn complete(&mut self, index: usize)
         requires within { index < deque_len self.old.reserved }
         requires awaited { (r : Reserved) → slice_get self.old.reserved.items index ≡ Some r → r.state ≡ ReservationState.Open }
@@ -372,6 +375,7 @@ impl IoBuf {
     }
 
     /// Ends an open reservation: stores a sum, flipped, and a kind in its header.
+    #[inline(always)]
     fn end(&mut self, index: usize, sum: u32, kind: MessageKind, state: ReservationState)
         requires within { index < deque_len self.old.reserved }
         requires awaited { (r : Reserved) → slice_get self.old.reserved.items index ≡ Some r → r.state ≡ ReservationState.Open }
@@ -398,6 +402,7 @@ impl IoBuf {
 }
 
 /// Writes over what is there.
+#[inline(always)]
 fn put(buf: &mut Vec<u8>, at: usize, bytes: &[u8])
     requires { at + length bytes.now ≤ length buf.old.items }
     ensures bytes { buf.new.items ≡ written buf.old.items at bytes.now }
@@ -407,6 +412,7 @@ fn put(buf: &mut Vec<u8>, at: usize, bytes: &[u8])
 }
 
 /// Writes a sum, flipped, and a kind over the beginning of a record's header.
+#[inline(always)]
 fn put_ending(buf: &mut Vec<u8>, at: usize, sum: u32, kind: MessageKind)
     requires { at + 5 ≤ length buf.old.items }
     ensures bytes { buf.new.items ≡ written buf.old.items at (ending sum kind) }
@@ -417,6 +423,7 @@ fn put_ending(buf: &mut Vec<u8>, at: usize, sum: u32, kind: MessageKind)
 }
 
 /// The reservation at an index has ended so.
+#[inline(always)]
 fn close(reserved: &mut VecDeque<Reserved>, index: usize, state: ReservationState)
     requires { index < deque_len reserved.old }
     ensures { (r : Reserved) → slice_get reserved.old.items index ≡ Some r → reserved.new.items ≡ set reserved.old.items index (ended state r) }

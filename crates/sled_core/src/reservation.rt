@@ -20,6 +20,7 @@ impl Reservation {
     ghost use Rattle.std.specs.Prelude.{◌≡◌, pos};
     ghost use Rattle.sled_core.specs.Tickets.{place_of, pointer_of, index_of, len_of, is_manifest_of};
 
+    #[inline(always)]
     pub(crate) fn new(
         lsn: Lsn,
         pointer: DiskPtr,

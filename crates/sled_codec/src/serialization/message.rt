@@ -207,6 +207,7 @@ impl Serialize for MessageHeader {
         5 + len.serialized_size() + number.serialized_size() + pid.serialized_size()
     }
 
+    #[inline(always)]
     #[tactic(auto, using(crate::specs::HeaderLaws::header_lengths))]
     fn serialize_into(&self, buf: &mut [u8], at: usize) -> usize {
         let crc32 = self.crc32;
@@ -214,6 +215,7 @@ impl Serialize for MessageHeader {
         self.serialize_tail(buf, next)
     }
 
+    #[inline(always)]
     fn deserialize(alloc: Global, buf: &mut &[u8]) -> Result<MessageHeader> {
         let mut rest: &[u8] = *buf;
         let crc32 = u32::deserialize(alloc, &mut rest)?;
@@ -247,6 +249,7 @@ impl Delimited for MessageHeader {
 impl MessageHeader {
     /// Writes what stands behind the checksum over the bytes of `buf` from the index `at` on. Returns the
     /// index behind it.
+    #[inline(always)]
     #[tactic(auto, using(crate::specs::HeaderLaws::header_lengths))]
     pub fn serialize_tail(&self, buf: &mut [u8], at: usize) -> usize
         requires { at + length (short_header_tail self.now.kind self.now.len self.now.segment_number.0 self.now.pid) ≤ length buf.old }

@@ -25,6 +25,7 @@ pub(crate) struct Head {
 
 impl Head {
     /// Zeros, as many as the longest header has.
+    #[inline(always)]
     pub(crate) fn new() -> Head {
         Head {
             bytes: [0; MAX_MSG_HEADER_LEN],
@@ -33,6 +34,7 @@ impl Head {
     }
 
     /// Becomes the header of a message of a segment whose body is this long.
+    #[inline(always)]
     pub(crate) fn fill(&mut self, kind: MessageKind, number: SegmentNumber, pid: PageId, len: u64)
         ensures bytes { drop 4 (take self.new.len self.new.bytes) ≡ short_header_tail kind len number.0 pid }
         ensures len { self.new.len ≡ 4 + length (short_header_tail kind len number.0 pid) }
@@ -68,6 +70,7 @@ pub(crate) fn push_bytes(bytes: &mut Vec<u8>, more: &[u8])
 
 /// Puts the placeholder of a record behind what is there: its header with zeros in place of its sum and its kind, and its item.
 /// Returns its sum.
+#[inline(always)]
 pub(crate) fn push_placeholder<T: Serialize, C: Checksum>(
     checksum: &C,
     bytes: &mut Vec<u8>,
@@ -93,6 +96,7 @@ pub(crate) fn push_placeholder<T: Serialize, C: Checksum>(
 /// Writes the placeholder of a record over what is there. Its sum goes over the item and then over the header behind its sum,
 /// which is put behind the item for it. What stood within 32 bytes behind the placeholder is lost: a header is copied with what
 /// stands behind it, since that takes no call.
+#[inline(always)]
 fn put_placeholder<T: Serialize, C: Checksum>(
     checksum: &C,
     buf: &mut [u8],
@@ -118,6 +122,7 @@ fn put_placeholder<T: Serialize, C: Checksum>(
 }
 
 /// Writes a header over what is there, with zeros in place of its sum and its kind. What stood within 32 bytes is lost.
+#[inline(always)]
 fn put_head(buf: &mut [u8], at: usize, head: &Head)
     requires { at + 32 ≤ length buf.old }
     ensures front { take (at + head.now.len) buf.new ≡ take at buf.old ++ placeholder_head (take head.now.len head.now.bytes) }

@@ -21,6 +21,7 @@ use std::collections::VecDeque;
 
 impl<D: Device, C: Checksum> Log<D, C> {
     /// Completes a reservation of a segment, by their numbers.
+    #[inline(always)]
     pub(crate) fn complete_in(&mut self, n: usize, index: usize)
         requires { HasOpenIn (line_of self.old) n index }
         ensures line { (v : SegmentView) (r : Reserved) → slice_get (line_of self.old) n ≡ Some v → slice_get v.parts.reserved (index - v.gone) ≡ Some r

@@ -73,6 +73,7 @@ impl<D: Device, C: Checksum> Log<D, C> {
     }
 
     /// Keeps a place for a message that has its item in its record.
+    #[inline(always)]
     fn reserve_inline<T: Serialize>(
         &mut self,
         kind: LogKind,

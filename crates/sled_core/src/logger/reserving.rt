@@ -28,6 +28,7 @@ use sled_store::segment::{MAX_MSG_HEADER_LEN, SEG_HEADER_LEN};
 impl<D: Device, C: Checksum> Log<D, C> {
     /// Makes the log ready for a record with a body of this length, in the current segment or, where it has no room there,
     /// in a further one, which is begun. The header becomes that of the record.
+    #[inline(always)]
     pub(crate) fn prepare(
         &mut self,
         purpose: &Purpose,
@@ -53,6 +54,7 @@ impl<D: Device, C: Checksum> Log<D, C> {
     }
 
     /// It becomes the header of a message of the current segment whose body is this long.
+    #[inline(always)]
     fn fill_head(&self, purpose: &Purpose, item_len: usize, head: &mut Head)
         ensures bytes { drop 4 (take head.new.len head.new.bytes)
             ≡ short_header_tail purpose.now.kind item_len ((current_of self.now).parts.site.place / segment_size_of self.now) purpose.now.page }
@@ -65,6 +67,7 @@ impl<D: Device, C: Checksum> Log<D, C> {
     }
 
     /// A record of this length has a place in the current segment.
+    #[inline(always)]
     pub(crate) fn has_place(&self, len: usize) -> bool
         ensures { IsTrue result ↔ HasPlace self.now len }
     {
@@ -75,6 +78,7 @@ impl<D: Device, C: Checksum> Log<D, C> {
     }
 
     /// Makes room for a record of this length in the current buffer, for its reservation, and for the batch of a manifest.
+    #[inline(always)]
     pub(crate) fn room_for(&mut self, len: usize, manifest: bool) -> Result<()>
         requires { len < 2 ^ 32 }
         ensures line { line_of self.new ≡ line_of self.old }
@@ -115,6 +119,7 @@ impl<D: Device, C: Checksum> Log<D, C> {
     }
 
     /// Lays out the placeholder of a record behind what is there in the current segment, and returns its ticket.
+    #[inline(always)]
     pub(crate) fn append<T: Serialize>(
         &mut self,
         head: &Head,
@@ -153,6 +158,7 @@ impl<D: Device, C: Checksum> Log<D, C> {
     }
 
     /// Lays out the placeholder. What is reserved ends there then, and a manifest counts.
+    #[inline(always)]
     fn lay_out<T: Serialize>(
         &mut self,
         head: &Head,
@@ -197,6 +203,7 @@ impl<D: Device, C: Checksum> Log<D, C> {
 const MANIFEST_LEN: usize = 8;
 
 /// Whether a message of this kind and page is the manifest of a batch.
+#[inline(always)]
 pub(crate) fn is_manifest(kind: LogKind, pid: PageId) -> bool
     ensures { result ≡ is_manifest kind pid }
 {
@@ -208,6 +215,7 @@ pub(crate) fn is_manifest(kind: LogKind, pid: PageId) -> bool
 
 /// The kind of the record of a message of a page with a body of this length, which has its item in a blob or not; `None`
 /// where the page has no such message. A manifest has no blob.
+#[inline(always)]
 pub(crate) fn kind_for(
     kind: LogKind,
     pid: PageId,

@@ -31,6 +31,7 @@ pub(crate) struct SegmentBuffer {
 
 impl<D: Device, C: Checksum> Log<D, C> {
     /// The segment that is being filled.
+    #[inline(always)]
     pub(crate) fn current(&self) -> (SegmentPosition, &IoBuf)
         ensures view { view_at result.0 result.1.now ≡ current_of self.now }
         ensures buffer { result.1.now ≡ last_buffer self.now.buffer self.now.behind.items }
@@ -218,6 +219,7 @@ impl<D: Device, C: Checksum> Log<D, C> {
     }
 
     /// The number of the segment that has a place, counted from the first one.
+    #[inline(always)]
     pub(crate) fn segment_of(&self, place: u64) -> usize
         requires { self.now.site.place ≤ place }
         ensures { result ≡ (place - self.now.site.place) / segment_size_of self.now }
@@ -227,6 +229,7 @@ impl<D: Device, C: Checksum> Log<D, C> {
 }
 
 /// How many whole segments so many bytes are. Their size is a power of two, so this takes no division.
+#[inline(always)]
 pub(crate) fn segments_in(len: u64, config: &Config) -> u64
     ensures { result ≡ len / config.now.segment_size }
 {
