@@ -156,7 +156,7 @@ fn take(generator: &mut IdGenerator<MemDevice, PlaceSum>, from: u64) -> Result<O
     Ok(Some(next))
 }
 
-/// Whether identifiers are used up: a block of all of them is taken, and behind it none is left.
+/// Whether identifiers are used up: a block of all of them is taken, and behind it none is left. So it is in a run.
 pub fn are_used_up(alloc: Global) -> Result<bool> {
     let Some(size) = Config::new(256) else {
         return Ok(false);
@@ -164,7 +164,46 @@ pub fn are_used_up(alloc: Global) -> Result<bool> {
     let config = RunningConfig::new(alloc, size, MemDevice::new(alloc), PlaceSum);
     let (first, config) = one_of_all(config)?;
     let (second, _) = one_of_all(config)?;
-    Ok(matches!(first, Ok(0)) && matches!(second, Err(Error::PlacesUsedUp)))
+    let in_run = are_used_up_in_run(alloc)?;
+    Ok(in_run && matches!(first, Ok(0)) && matches!(second, Err(Error::PlacesUsedUp)))
+}
+
+// So they are in a run, in which a block of one comes before that of all.
+fn are_used_up_in_run(alloc: Global) -> Result<bool> {
+    let Some(size) = Config::new(256) else {
+        return Ok(false);
+    };
+    let config = RunningConfig::new(alloc, size, MemDevice::new(alloc), PlaceSum);
+    let commands = [
+        Command::SetBlock(NonZeroU64::MAX),
+        Command::Open,
+        Command::SetBlock(NonZeroU64::MIN),
+        Command::Next,
+        Command::SetBlock(NonZeroU64::MAX),
+        Command::Next,
+        Command::Close,
+        Command::Open,
+        Command::Next,
+    ];
+    let (_, came) = run(config, &commands);
+    Ok(takes_all(&came?))
+}
+
+fn takes_all(replies: &[Reply]) -> bool {
+    matches!(
+        replies,
+        [
+            Reply::Refused,
+            Reply::Opened,
+            Reply::Set,
+            Reply::Given(0),
+            Reply::Set,
+            Reply::Given(1),
+            Reply::Closed,
+            Reply::Opened,
+            Reply::Failed(Error::PlacesUsedUp),
+        ]
+    )
 }
 
 // What the first call gives of a generator with a block of all identifiers.

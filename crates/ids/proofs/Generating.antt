@@ -1,7 +1,10 @@
 -- A generator's log: what a further bound makes of it, and what a flush does.
-use Rattle.std.proofs.Common.{◌≡◌, ◌∙◌, inl, inr, ◌≤◌, ◌<◌, ◌+◌, ◌^◌, ℕ, ℤ, Bool, true, false, if◌then◌else◌, max, List, [], ◌∷◌, ◌++◌, length, length-append, Option, None, Some, Err, refl, sym, ap, subst, arith}
+use Rattle.std.proofs.Common.{◌≡◌, ◌∙◌, inl, inr, ◌≤◌, ◌<◌, ◌+◌, ◌-◌, ◌^◌, ℕ, ℤ, Bool, true, false, nat_lt, if◌then◌else◌, max, List, [], ◌∷◌, ◌++◌, length, length-append, Option, None, Some, Result, Ok, Err, refl, sym, ap, subst, arith}
 use Rattle.std.specs.declared.io.Error.{Error as IoError}
+use Rattle.std.specs.Prelude.{IsSome, OnOk}
 use Rattle.std.specs.List.{All}
+use Rattle.std.proofs.lemmas.Bool.{cases_lt}
+use Rattle.std.proofs.lemmas.Bool.Decides.{nat_tests}
 use Rattle.std.proofs.lemmas.List.Elements.{All-weaker}
 use Rattle.sled_codec.specs.declared.result.DiskPtr.{DiskPtr}
 use Rattle.sled_codec.specs.declared.result.Error.{Error}
@@ -14,18 +17,21 @@ use Rattle.sled_codec.specs.WellFormed.{LieApart}
 use Rattle.sled_store.specs.declared.config.RunningConfig.{RunningConfig}
 use Rattle.sled_store.specs.Device.{Trace, state_of}
 use Rattle.sled_store.specs.Moments.{Throughout}
+use Rattle.sled_store.specs.Script.{Performs, after_all}
 use Rattle.sled_store.proofs.PublicLaws.{joined, started}
 use Rattle.sled_core.specs.declared.logger.Log.{Log}
 use Rattle.sled_core.specs.declared.reservation.Reservation.{Reservation}
 use Rattle.sled_core.specs.Causes.{FaultAnswers, HeldAnswers, ReserveAnswers, ReserveCauses}
-use Rattle.sled_core.specs.Fits.{FitsInline, current_begin, device_of, is_moved, next_place, open_for, open_of, open_places, reserved_end, segment_size_of, synced_end}
+use Rattle.sled_core.specs.Fits.{FitsInline, IsUsedUp as NeedsFurther, IsUsedUpBelow, buffers_of, config_of, current_begin, current_of, device_of, fault_of, flushing, machine_at, position_behind, position_of, is_moved, next_place, open_for, open_of, open_places, reserved_end, segment_size_of, synced_end}
+use Rattle.sled_core.specs.Positions.{Position, is_short, next_segment_at}
 use Rattle.sled_core.specs.Keeps.{ConfigKept, GoesOn, Preserves}
 use Rattle.sled_core.specs.OpenPlaces.{TakesOut, places_from}
 use Rattle.sled_core.specs.Running.{Fits, end_below}
 use Rattle.sled_core.proofs.PublicLaws.{current_count, fits_apart, fits_leaves, fits_reach, inline_message, message_acknowledged, target_above}
 use Rattle.ids.specs.Bounds.{GivesFrom, HasBound}
 use Rattle.ids.specs.declared.generator.IdGenerator.{IdGenerator}
-use Rattle.ids.specs.Generators.{Generates, GivesOn, HasBounds, NextFails, asked_of, block_of, bound_of, running, size_of}
+use Rattle.sled_log.specs.RunStates.{EndsInReach}
+use Rattle.ids.specs.Generators.{Generates, GivesOn, HasAsked, HasBounds, HasRoom, IsUsedUp, NextFails, WritesBuffers, further_length, next_position, asked_of, block_of, bound_of, kept_fault, running, size_of}
 use Rattle.ids.proofs.BoundLemmas.{bound_there, bounds_added, has_size, most_added, reserves_less, reserves_still}
 use Rattle.ids.proofs.Moments.{gives_less, gives_now, gives_throughout, through_less}
 
@@ -169,9 +175,90 @@ module _ {D C : Type 0} (trace : D → Trace) (sum : List ℕ → ℕ) where
 pub config_then : {D C : Type 0} {old mid new : RunningConfig D C} → ConfigKept old mid → ConfigKept mid new → ConfigKept old new
 config_then first second = record { config = second.config ∙ first.config; checksum = second.checksum ∙ first.checksum }
 
+-- A flush needs a further segment only where the one that the next record would begin isn't in reach.
+out_of_reach : {D C : Type 0} (log : Log D C) → NeedsFurther log → EndsInReach (segment_size_of log) (position_of log) → ⊥
+out_of_reach log used reach = by used.0 reach where
+  by : is_short (segment_size_of log) (length (current_of log).parts.bytes) ≡ true → EndsInReach (segment_size_of log) (position_of log) → ⊥
+  by short ends =
+      let at : position_of log ≡ next_segment_at (segment_size_of log) (current_of log).parts.site.place (machine_at log) =
+      ap (λ (b : Bool). if b then next_segment_at (segment_size_of log) (current_of log).parts.site.place (machine_at log)
+      else record { place = (current_of log).parts.site.place + length (current_of log).parts.bytes; begins = (current_of log).parts.site.place; slot = (current_of log).parts.site.slot; machine = machine_at log }) short in
+      let begins = ap (λ x. x.begins) at in
+      let slot = ap (λ x. x.slot) at in
+      let low = ends.place in
+      let high = ends.slot in
+      used.1 (record { place = omega (arith, low, begins); offset = omega (arith, high, slot) })
+
 -- A number has always room in a record.
 pub number_fits : (size n : ℕ) → 256 ≤ size → n < 2 ^ 64 → FitsInline size (length (short_number n))
 number_fits size n least small = let short = (length-short_number n small).1 in omega (arith, short, least)
+
+-- What is written.
+
+-- what holds of a call that succeeded
+on_success : {T : Type 0} (result : Result T Error) (P : Type 0) → P → OnOk result P
+on_success (Ok x) P holds = holds
+on_success (Err e) P holds = tt
+
+-- Within a block it begins where it would have.
+pub within_block : {D C : Type 0} (g : IdGenerator D C) → g.next < g.bound → position_of g.log ≡ next_position g
+within_block g less = by (nat_lt g.next g.bound) refl where
+  behind : Position
+  behind = if nat_lt g.bound g.asked then position_of g.log else position_behind g.log 0 (further_length g)
+
+  by : (a : Bool) → nat_lt g.next g.bound ≡ a → position_of g.log ≡ (if a then position_of g.log else behind)
+  by true is = refl
+  by false is = absurd (grind (arith, nat_tests, is, less))
+
+-- Nothing was.
+pub none_written : {T : Type 0} (result : Result T Error) (old new : Trace) → new ≡ old → WritesBuffers result old new
+unfolding Performs
+none_written result old new same = record { to = 0; buffers = []; made = on_success result (new ≡ old) same; at_most = same }
+
+-- A flush writes the buffers that begin below the end of what was reserved.
+pub flush_written : {T D C : Type 0} (trace : D → Trace) (sum : List ℕ → ℕ) (old mid : IdGenerator D C) → running mid ≡ running old → (result : Result T Error) (new : Trace) → OnOk result (new ≡ after_all (flushing sum mid.log) (trace (running mid).device))
+    → Performs (flushing sum mid.log) (trace (running mid).device) new → WritesBuffers result (trace (running old).device) new
+flush_written trace sum old mid same result new made at_most = subst (λ x. WritesBuffers result (trace x.device) new) same
+    (record { to = reserved_end mid.log; buffers = buffers_of sum mid.log; made = made; at_most = at_most })
+
+-- Where the log keeps a failure, it writes nothing.
+pub faulty_still : {D C : Type 0} (old mid : IdGenerator D C) (new : Log D C) → running mid ≡ running old → kept_fault mid ≡ kept_fault old → ((e : IoError) → fault_of mid.log ≡ Some e → new ≡ mid.log) → IsSome (kept_fault old) → config_of new ≡ running old
+faulty_still old mid new same kept faulty some = by (kept_fault old) refl some where
+  by : (o : Option IoError) → kept_fault old ≡ o → IsSome o → config_of new ≡ running old
+  by (Some e) is some = ap config_of (faulty e (kept ∙ is)) ∙ same
+  by None is some = cc
+
+module _ {D C : Type 0} (old mid : IdGenerator D C) (still : bound_of old < asked_of old → mid ≡ old) (asks : asked_of old ≡ bound_of old → HasAsked old mid) where
+  -- Where a flush has no further segment, the generator is used up,
+  pub used_up : size_of mid ≡ size_of old → kept_fault mid ≡ kept_fault old → kept_fault mid ≡ None → IsUsedUpBelow mid.log (reserved_end mid.log) → IsUsedUp old
+  used_up size kept free used = inr (
+    sym kept ∙ free,
+    elim (cases_lt old.bound old.asked) [
+      | inl less ↦ inr (less, subst (λ (x : IdGenerator D C). IsUsedUpBelow x.log (reserved_end x.log)) (still less) used)
+      | inr none ↦ inl (
+        (let ahead = old.ahead in omega (arith, none, ahead)),
+        inr (λ reach.
+            let ahead = old.ahead in
+            let position = (asks (omega (arith, none, ahead))).position in
+            out_of_reach mid.log used.1 (subst (λ k. EndsInReach k (position_of mid.log)) (sym size) (subst (EndsInReach (size_of old)) (sym position) reach))),
+      )
+    ],
+  )
+
+  -- and where it has what it needs, it had room.
+  pub had_room : kept_fault old ≡ None → old.bound < 2 ^ 64 - 1 → (IsUsedUpBelow mid.log (reserved_end mid.log) → ⊥) → HasRoom old
+  had_room free left none = inr (free, left, (λ same. (asks same).room), λ less used. none (subst (λ (x : IdGenerator D C). IsUsedUpBelow x.log (reserved_end x.log)) (sym (still less)) used))
+
+  -- The next record may begin behind that of the further bound then.
+  pub next_begins : (old.next < old.bound → ⊥) → position_of mid.log ≡ next_position old
+  next_begins none = by (nat_lt old.next old.bound) (nat_lt old.bound old.asked) refl refl where
+    behind : Position
+    behind = position_behind old.log 0 (further_length old)
+
+    by : (a b : Bool) → nat_lt old.next old.bound ≡ a → nat_lt old.bound old.asked ≡ b → position_of mid.log ≡ (if a then position_of old.log else (if b then position_of old.log else behind))
+    by true b is less = absurd (none (grind (arith, nat_tests, is)))
+    by false true is less = ap (λ (x : IdGenerator D C). position_of x.log) (still (grind (arith, nat_tests, less)))
+    by false false is less = (let ahead = old.ahead in (asks (grind (arith, nat_tests, less, ahead))).position)
 
 -- What a reservation answers where none is open.
 
@@ -215,27 +302,28 @@ ends_well (error.CollectionNotFound name) fault none answers = answers
 ends_well (error.ReportableBug text) fault none answers = answers
 
 -- It fails only as a generator may, where its item goes to no blob.
-pub reserve_fails : (e : Error) (used : Type 0) (least : ℤ → Type 0) (causes : ReserveCauses) → (causes.kind ≡ None → ⊥) → causes.in_blob ≡ false → causes.open_count ≡ 0
-    → ReserveAnswers {T = Reservation} (Err e) used least causes → NextFails e causes.old causes.new causes.before causes.after
-reserve_fails (error.Io e) used least causes written inline none (inl kept) = inl kept
-reserve_fails (error.Io e) used least causes written inline none (inr refused) = let clash : false ≡ true = sym inline ∙ refused.in_blob in cc
-reserve_fails error.OutOfMemory used least causes written inline none answers = answers.0
-reserve_fails error.PlacesUsedUp used least causes written inline none answers = (answers.0.1 ∙ sym answers.0.0, answers.0.2)
-reserve_fails (error.Unsupported text) used least causes written inline none answers = absurd (written answers.1)
-reserve_fails (error.Held at) used least causes written inline none answers = absurd (let full = answers.3 in omega (arith, full, none))
-reserve_fails (error.Corruption at) used least causes written inline none answers = absurd answers
-reserve_fails (error.NotReserved at) used least causes written inline none answers = absurd answers
-reserve_fails (error.CollectionNotFound name) used least causes written inline none answers = absurd answers
-reserve_fails (error.ReportableBug text) used least causes written inline none answers = absurd answers
+pub reserve_fails : (e : Error) (used so : Type 0) (least : ℤ → Type 0) (causes : ReserveCauses) → (causes.old ≡ None → used → so) → (causes.kind ≡ None → ⊥) → causes.in_blob ≡ false → causes.open_count ≡ 0
+    → ReserveAnswers {T = Reservation} (Err e) used least causes → NextFails e so causes.old causes.new causes.before causes.after
+reserve_fails (error.Io e) used so least causes up written inline none (inl kept) = inl kept
+reserve_fails (error.Io e) used so least causes up written inline none (inr refused) = let clash : false ≡ true = sym inline ∙ refused.in_blob in cc
+reserve_fails error.OutOfMemory used so least causes up written inline none answers = answers.0
+reserve_fails error.PlacesUsedUp used so least causes up written inline none answers = (up answers.0.0 answers.2, answers.0.1 ∙ sym answers.0.0, answers.0.2)
+reserve_fails (error.Unsupported text) used so least causes up written inline none answers = absurd (written answers.1)
+reserve_fails (error.Held at) used so least causes up written inline none answers = absurd (let full = answers.3 in omega (arith, full, none))
+reserve_fails (error.Corruption at) used so least causes up written inline none answers = absurd answers
+reserve_fails (error.NotReserved at) used so least causes up written inline none answers = absurd answers
+reserve_fails (error.CollectionNotFound name) used so least causes up written inline none answers = absurd answers
+reserve_fails (error.ReportableBug text) used so least causes up written inline none answers = absurd answers
 
 -- So does a flush that nothing holds.
-pub flush_fails : (e : Error) (held : Option ℕ) (used : Type 0) (old new : Option IoError) (before now : ℕ) → held ≡ None → HeldAnswers {T = ℕ} (Err e) held used old new before now → NextFails e old new before now
-flush_fails (error.Io e) held used old new before now free answers = answers
-flush_fails error.OutOfMemory held used old new before now free answers = answers
-flush_fails error.PlacesUsedUp held used old new before now free answers = (answers.2 ∙ sym answers.1, answers.3)
-flush_fails (error.Held at) held used old new before now free answers = absurd (some_place answers.0.0 (sym free ∙ answers.0.1))
-flush_fails (error.Unsupported text) held used old new before now free answers = absurd answers
-flush_fails (error.Corruption at) held used old new before now free answers = absurd answers
-flush_fails (error.NotReserved at) held used old new before now free answers = absurd answers
-flush_fails (error.CollectionNotFound name) held used old new before now free answers = absurd answers
-flush_fails (error.ReportableBug text) held used old new before now free answers = absurd answers
+pub flush_fails : (e : Error) (held : Option ℕ) (used so : Type 0) (old new : Option IoError) (before now : ℕ) → (old ≡ None → used → so) → held ≡ None
+    → HeldAnswers {T = ℕ} (Err e) held used old new before now → NextFails e so old new before now
+flush_fails (error.Io e) held used so old new before now up free answers = answers
+flush_fails error.OutOfMemory held used so old new before now up free answers = answers
+flush_fails error.PlacesUsedUp held used so old new before now up free answers = (up answers.1 answers.0, answers.2 ∙ sym answers.1, answers.3)
+flush_fails (error.Held at) held used so old new before now up free answers = absurd (some_place answers.0.0 (sym free ∙ answers.0.1))
+flush_fails (error.Unsupported text) held used so old new before now up free answers = absurd answers
+flush_fails (error.Corruption at) held used so old new before now up free answers = absurd answers
+flush_fails (error.NotReserved at) held used so old new before now up free answers = absurd answers
+flush_fails (error.CollectionNotFound name) held used so old new before now up free answers = absurd answers
+flush_fails (error.ReportableBug text) held used so old new before now up free answers = absurd answers

@@ -1,6 +1,6 @@
 -- Opening a generator: what a recovery and the start of a log make of a device that gives on.
 use Rattle.std.specs.List.{Contains}
-use Rattle.std.proofs.Common.{◌≡◌, ◌∙◌, inl, inr, ◌≤◌, ◌<◌, ◌+◌, ℕ, ℤ, max, List, [], Option, Err, refl, sym, subst, arith}
+use Rattle.std.proofs.Common.{◌≡◌, ◌∙◌, inl, inr, ◌≤◌, ◌<◌, ◌+◌, ℕ, ℤ, max, List, [], length, Option, Err, refl, sym, subst, arith}
 use Rattle.sled_codec.specs.declared.result.Error.{Error}
 use Rattle.sled_codec.specs.declared.result.Error.TheVariants as error
 use Rattle.sled_codec.specs.declared.serialization.snapshot.Snapshot.{Snapshot}
@@ -10,6 +10,7 @@ use Rattle.sled_codec.specs.PageTables.{IsTable}
 use Rattle.sled_codec.specs.Snapshots.{SnapshotModel, stable_place}
 use Rattle.sled_store.specs.Device.{State, Trace, content_of, state_of}
 use Rattle.sled_store.specs.Moments.{LeavesOnly, Throughout}
+use Rattle.sled_store.specs.Begin.{IsInReach, IsStartable}
 use Rattle.sled_store.specs.Blobs.{ItemAnswers}
 use Rattle.sled_store.specs.Causes.{StartRefuses}
 use Rattle.sled_store.proofs.PublicLaws.{joined}
@@ -19,13 +20,15 @@ use Rattle.sled_core.specs.Good.{IsGood}
 use Rattle.sled_core.specs.Keeps.{GoesOn, Preserves}
 use Rattle.sled_core.specs.Recoverable.{RecoverableIfOwn}
 use Rattle.sled_core.specs.Running.{Fits, Ready}
-use Rattle.sled_core.specs.Starts.{BeginsBehind}
+use Rattle.sled_core.specs.Starts.{BeginsBehind, HasMadeStart, StartCalls}
 use Rattle.sled_core.proofs.PublicLaws.{ready_place}
 use Rattle.sled_log.specs.Orderly.{CanRecover}
+use Rattle.sled_log.specs.Restores.{Restores}
 use Rattle.sled_log.proofs.PublicLaws.{kept_below, orderly, table_below}
 use Rattle.ids.specs.Bounds.{GivesFrom, HasMost, IsLastBound, IsOfBounds, Reserves}
 use Rattle.ids.specs.Generators.{CanOpen, HasBounds}
-use Rattle.ids.specs.Readings.{HasTable, IsOpenError}
+use Rattle.ids.specs.Openings.{HasStarted, StartFailed}
+use Rattle.ids.specs.Readings.{HasTable, IsIdle, IsOpenError}
 use Rattle.ids.proofs.BoundLemmas.{bounds_below, last_enough, most_below, reserves_below, reserves_less}
 use Rattle.ids.proofs.Moments.{gives_throughout}
 
@@ -150,6 +153,36 @@ module _ (sum : List ℕ → ℕ) (size n most : ℕ) (old mid : Trace) (s : Sna
         | inr x ↦ has.greatest x.0 v x.1.there x.1.has
       ],
     )
+
+-- What was asked of the device, whatever that has. The configuration that a recovery leaves says the size of segments once more.
+module _ (sum : List ℕ → ℕ) (size again : ℕ) (same : again ≡ size) (old mid new : Trace) (s : SnapshotModel) (recovers : Restores sum size old mid s) where
+  abbrev pub len : ℕ
+  len = length (state_of mid).log.bytes
+
+  pub not_started : (e : Error) (before first now : ℕ) → first ≡ before → StartCalls again s mid new
+      → StartRefuses e (IsStartable again len s) (IsInReach again len s) (new ≡ mid) first now → StartFailed sum size e old new before now
+  not_started e before first now counted calls cause = record {
+    snapshot = s;
+    mid = mid;
+    recovers = recovers;
+    calls = subst (λ k. StartCalls k s mid new) same calls;
+    cause = subst (λ k. StartRefuses e (IsStartable k len s) (IsInReach k len s) (new ≡ mid) before now) same
+        (subst (λ k. StartRefuses e (IsStartable again len s) (IsInReach again len s) (new ≡ mid) k now) counted cause);
+  }
+
+  pub was_started : HasMadeStart again s mid new → IsStartable again len s → IsInReach again len s → HasStarted sum size old new
+  was_started made startable in_reach = record {
+    snapshot = s;
+    mid = mid;
+    recovers = recovers;
+    startable = subst (λ k. IsStartable k len s) same startable;
+    in_reach = subst (λ k. IsInReach k len s) same in_reach;
+    made = subst (λ k. HasMadeStart k s mid new) same made;
+  }
+
+-- In a log that begins nothing was reserved.
+pub begins_idle : {D C : Type 0} (size n : ℕ) (s : SnapshotModel) (log : Log D C) → BeginsBehind size n s log → IsIdle log
+begins_idle size n s log begins = record { reserved = begins.reserved; unsealed = begins.unsealed; fault = begins.fault }
 
 -- Why none was opened.
 

@@ -1,7 +1,8 @@
 -- Reading a bound: what an answer of the log says of it.
-use Rattle.std.proofs.Common.{◌≡◌, ◌∙◌, inl, inr, ◌<◌, ◌++◌, ◌<ℤ◌, ℕ, ℤ, pos, Bool, true, false, if◌then◌else◌, List, [], ◌∷◌, length, map, get_or, Option, None, Some, Result, Ok, Err, Vec, Global, refl, sym, ap, subst, arith}
+use Rattle.std.proofs.Common.{◌≡◌, ◌∙◌, ◌⊎◌, ◌-◌, ◌%◌, inl, inr, ◌<◌, ◌++◌, ◌<ℤ◌, ◌≤ℤ◌, ℕ, ℤ, pos, Bool, true, false, if◌then◌else◌, List, [], ◌∷◌, length, map, get_or, Option, None, Some, Result, Ok, Err, Vec, Global, refl, sym, ap, subst, arith}
 use Rattle.std.specs.Prelude.{IfErr, IfOk, OnErr, OnOk, int_lt}
 use Rattle.std.specs.List.{Contains, slice_get}
+use Rattle.std.proofs.lemmas.Bool.{cases_lt}
 use Rattle.std.proofs.lemmas.Int.{ints}
 use Rattle.std.proofs.lemmas.Option.{same_Some}
 use Rattle.std.proofs.lemmas.List.{append-nil, length-map}
@@ -21,15 +22,15 @@ use Rattle.sled_store.specs.Device.{Trace}
 use Rattle.sled_core.specs.declared.logger.Log.{Log}
 use Rattle.sled_core.specs.declared.logger.read_message.LogRead.{LogRead}
 use Rattle.sled_core.specs.declared.logger.read_message.LogRead.TheVariants as read
-use Rattle.sled_core.specs.Reading.{GivesMessage, data_of}
-use Rattle.sled_core.specs.ReadBuffer.{ReadAnswers}
+use Rattle.sled_core.specs.Reading.{GivesMessage, IsNoPlace, data_of}
+use Rattle.sled_core.specs.ReadBuffer.{IsUsedUpAt, ReadAnswers, RefusesPlace, Settles, held_at}
 use Rattle.sled_core.specs.Causes.{IsFault}
-use Rattle.sled_core.specs.Fits.{HasRecordOf}
-use Rattle.sled_core.proofs.PublicLaws.{kept_still}
+use Rattle.sled_core.specs.Fits.{FirstWaits, HasRecordOf, current_begin, device_of, fault_of, reserved_end, segment_size_of, synced_end}
+use Rattle.sled_core.proofs.PublicLaws.{first_waits, kept_still}
 use Rattle.sled_log.specs.Replaces.{HasLast}
 use Rattle.sled_log.proofs.PublicLaws.{table_has_last, table_has_page}
 use Rattle.ids.specs.Bounds.{IsLastBound, IsLastMessage}
-use Rattle.ids.specs.Readings.{CountsError, CountsFailure, HasTable, HoldsAt, IsOpenError, OnlyRead}
+use Rattle.ids.specs.Readings.{CountsError, CountsFailure, HasTable, HoldsAt, IsIdle, IsOpenError, IsReadError, OnlyRead}
 
 -- the item of a message that was read
 pub gives_data : (m : Message) (r : LogRead) → GivesMessage m r → data_of r ≡ Some m.bytes
@@ -89,6 +90,71 @@ none_holds lsn stable held low = by (int_lt lsn (pos stable)) refl where
   by : (b : Bool) → int_lt lsn (pos stable) ≡ b → (if b then None else held) ≡ None
   by true is = refl
   by false is = absurd (grind (arith, ints, is, low))
+
+-- It isn't decided by the code what is no place of a record.
+no_place : (size : ℕ) (lsn : ℤ) (lid : ℕ) → IsNoPlace size lsn lid ⊎ (IsNoPlace size lsn lid → ⊥)
+no_place size lsn lid = by (int_lt lsn (pos 0)) refl where
+  begins : (lsn <ℤ pos 0 → ⊥) → IsNoPlace size lsn lid ⊎ (IsNoPlace size lsn lid → ⊥)
+  begins up = elim (cases_lt (lid % size) 20) [
+    | inl low ↦ inl (inr (λ may. let behind = may.behind_header in omega (arith, low, behind)))
+    | inr behind ↦ elim (cases_lt (size - 32) (lid % size)) [
+      | inl short ↦ inl (inr (λ may. let room = may.before_end in omega (arith, short, room)))
+      | inr room ↦ inr (λ w. elim w [
+        | inl low ↦ up low
+        | inr none ↦ none (record { behind_header = omega (arith, behind); before_end = omega (arith, room) })
+      ])
+    ]
+  ]
+
+  by : (b : Bool) → int_lt lsn (pos 0) ≡ b → IsNoPlace size lsn lid ⊎ (IsNoPlace size lsn lid → ⊥)
+  by true is = inl (inl (grind (arith, ints, is)))
+  by false is = begins (λ low. grind (arith, ints, is, low))
+
+-- A log in which nothing was reserved.
+module _ {D C : Type 0} (trace : D → Trace) (sum : List ℕ → ℕ) (lsn : ℤ) (lid : ℕ) (old new : Log D C) (idle : IsIdle old) where
+  -- A read of it writes nothing.
+  pub read_unwritten : (result : Result LogRead Error) → Settles trace sum result lsn (ptr.Inline lid) old new → RefusesPlace result lsn (ptr.Inline lid) old new → trace (device_of new) ≡ trace (device_of old)
+  read_unwritten result settles refuses = by (int_lt lsn (pos (synced_end old))) refl where
+    by : (b : Bool) → int_lt lsn (pos (synced_end old)) ≡ b → trace (device_of new) ≡ trace (device_of old)
+    by true is = settles.unwritten (grind (arith, ints, is))
+    by false is =
+        let end = idle.reserved in
+        let up : pos (synced_end old) ≤ℤ lsn = grind (arith, ints, is) in
+        elim (no_place (segment_size_of old) lsn lid) [
+          | inl none ↦ ap (λ x. trace (device_of x)) (refuses.no_place idle.fault none).1
+          | inr place ↦ ap (λ x. trace (device_of x)) (refuses.unchanged (refuses.not_reserved idle.fault place (omega (arith, ints, up, end)) up))
+        ]
+
+  current_synced : current_begin old ≡ synced_end old
+  current_synced = sym (subst (FirstWaits (synced_end old) (current_begin old)) idle.unsealed (first_waits old))
+
+  -- Nothing holds it, and it needs no further segment.
+  pub read_known : (blobs : ℤ → Option (List ℕ)) (before now : ℕ) (e : Error)
+      → ReadAnswers {T = LogRead} sum blobs (ptr.Inline lid) (Err e) lsn (synced_end old) (reserved_end old) (held_at sum old lsn) (IsUsedUpAt old lsn) (fault_of old) (fault_of new) before now → IsReadError e
+  read_known blobs before now (error.Io e) answers = tt
+  read_known blobs before now error.OutOfMemory answers = tt
+  read_known blobs before now (error.Corruption at) answers = tt
+  read_known blobs before now (error.NotReserved at) answers = tt
+  read_known blobs before now error.PlacesUsedUp answers =
+      let low = answers.0 in
+      let up = answers.1.0 in
+      let end = idle.reserved in
+      let begin = current_synced in
+      absurd (omega (arith, ints, low, up, end, begin))
+  read_known blobs before now (error.Held at) answers =
+      let low = answers.0 in
+      let end = idle.reserved in
+      absurd (some_place answers.1.0 (sym (none_holds lsn (synced_end old) _ (omega (arith, ints, low, end))) ∙ answers.1.1)) where
+        some_place : (place : ℕ) → None ≡ Some place → ⊥
+        some_place place is = cc
+  read_known blobs before now (error.Unsupported text) answers = absurd answers
+  read_known blobs before now (error.CollectionNotFound name) answers = absurd answers
+  read_known blobs before now (error.ReportableBug text) answers = absurd answers
+
+-- damage is a reason
+pub damage_known : (result : Result ℕ Error) → IfErr result (λ e. e ≡ error.Corruption None) → IfErr result IsReadError
+damage_known (Ok v) damage = tt
+damage_known (Err e) damage = subst IsReadError (sym damage) tt
 
 -- Tables.
 

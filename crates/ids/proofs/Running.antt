@@ -4,25 +4,42 @@ use Rattle.ids.specs.declared.run.Command.{Command}
 use Rattle.ids.specs.declared.run.Reply.{Reply}
 use Rattle.ids.specs.IdRuns.{Carries, IdRuns, IdState}
 
-module _ (sum : List ℕ → ℕ) (size : ℕ) where
+module _ (sum : List ℕ → ℕ) (size : ℕ) (Between UsedUp : IdState → Type 0) where
+  -- A command was carried out, and more is known of where it leads.
+  carried_over : (Leads Next : IdState → Type 0) → ((b : IdState) → Leads b → Next b) → (a : IdState) (c : Command) (r : Reply) → Carries sum size UsedUp a c r Leads → Carries sum size UsedUp a c r Next
+  carried_over Leads Next over a c r carries = record {
+    new = carries.new;
+    later = carries.later;
+    acts = carries.acts;
+    step = λ own. let done = carries.step own in (done.0, done.1, over done.0 done.2);
+  }
+
+  -- What is claimed of each place between two commands holds of it, too.
+  pub carried_between : (Next : IdState → Type 0) → ((b : IdState) → Next b → Between b) → (a : IdState) (c : Command) (r : Reply) → Carries sum size UsedUp a c r Next → Carries sum size UsedUp a c r (λ b. Between b × Next b)
+  carried_between Next stands a c r carries = carried_over Next (λ b. Between b × Next b) (λ b at. (stands b at, at)) a c r carries
+
   -- Nothing was carried out yet.
-  pub runs_none : (a : IdState) (Leads : IdState → Type 0) → Leads a → IdRuns sum size a [] [] Leads
+  pub runs_none : (a : IdState) (Leads : IdState → Type 0) → Leads a → IdRuns sum size Between UsedUp a [] [] Leads
   unfolding IdRuns
   runs_none a Leads leads = leads
 
   -- One command more was.
-  pub runs_more : (Leads Next : IdState → Type 0) (c : Command) (r : Reply) → ((b : IdState) → Leads b → Carries sum size b c r Next)
-      → (a : IdState) (cs : List Command) (rs : List Reply) → IdRuns sum size a cs rs Leads → IdRuns sum size a (cs ++ c ∷ []) (rs ++ r ∷ []) Next
+  pub runs_more : (Leads Next : IdState → Type 0) (c : Command) (r : Reply) → ((b : IdState) → Leads b → Carries sum size UsedUp b c r (λ x. Between x × Next x))
+      → (a : IdState) (cs : List Command) (rs : List Reply) → IdRuns sum size Between UsedUp a cs rs Leads → IdRuns sum size Between UsedUp a (cs ++ c ∷ []) (rs ++ r ∷ []) Next
   unfolding IdRuns
   runs_more Leads Next c r more a [] [] runs = more a runs
-  runs_more Leads Next c r more a (d ∷ ds) (q ∷ qs) runs = λ own. let done = runs own in (done.0, done.1, runs_more Leads Next c r more done.0 ds qs done.2)
+  runs_more Leads Next c r more a (d ∷ ds) (q ∷ qs) runs =
+      carried_over (λ b. Between b × IdRuns sum size Between UsedUp b ds qs Leads) (λ b. Between b × IdRuns sum size Between UsedUp b (ds ++ c ∷ []) (qs ++ r ∷ []) Next)
+      (λ b both. (both.0, runs_more Leads Next c r more b ds qs both.1)) a d q runs
   runs_more Leads Next c r more a [] (q ∷ qs) runs = absurd runs
   runs_more Leads Next c r more a (d ∷ ds) [] runs = absurd runs
 
   -- What is claimed of where they lead implies more.
-  pub runs_over : (Leads Next : IdState → Type 0) → ((b : IdState) → Leads b → Next b) → (a : IdState) (cs : List Command) (rs : List Reply) → IdRuns sum size a cs rs Leads → IdRuns sum size a cs rs Next
+  pub runs_over : (Leads Next : IdState → Type 0) → ((b : IdState) → Leads b → Next b) → (a : IdState) (cs : List Command) (rs : List Reply) → IdRuns sum size Between UsedUp a cs rs Leads → IdRuns sum size Between UsedUp a cs rs Next
   unfolding IdRuns
   runs_over Leads Next over a [] [] runs = over a runs
-  runs_over Leads Next over a (d ∷ ds) (q ∷ qs) runs = λ own. let done = runs own in (done.0, done.1, runs_over Leads Next over done.0 ds qs done.2)
+  runs_over Leads Next over a (d ∷ ds) (q ∷ qs) runs =
+      carried_over (λ b. Between b × IdRuns sum size Between UsedUp b ds qs Leads) (λ b. Between b × IdRuns sum size Between UsedUp b ds qs Next)
+      (λ b both. (both.0, runs_over Leads Next over b ds qs both.1)) a d q runs
   runs_over Leads Next over a [] (q ∷ qs) runs = absurd runs
   runs_over Leads Next over a (d ∷ ds) [] runs = absurd runs

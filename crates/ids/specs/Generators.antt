@@ -1,18 +1,23 @@
 -- What a generator keeps of its log, and what its calls answer.
-use Rattle.std.specs.Prelude.{◌≡◌, ◌≤◌, ◌⊎◌, ◌+◌, ◌-◌, ◌^◌, nat_lt, if◌then◌else◌, ℕ, List, Option, None, Result, Ok, Err, max, min}
+use Rattle.std.specs.Prelude.{◌≡◌, ◌≤◌, ◌<◌, ◌⊎◌, ◌+◌, ◌-◌, ◌^◌, nat_lt, if◌then◌else◌, ℕ, List, length, Option, None, Result, Ok, Err, OnOk, max, min}
 use Rattle.std.specs.declared.io.Error.{Error as IoError}
 use Rattle.sled_codec.specs.declared.result.Error.{Error}
 use Rattle.sled_codec.specs.declared.result.Error.TheVariants.{Io, OutOfMemory, PlacesUsedUp}
 use Rattle.sled_codec.specs.History.{Message, History}
+use Rattle.sled_codec.specs.Spelling.{short_number}
 use Rattle.sled_store.specs.Device.{Trace, State, content_of}
 use Rattle.sled_store.specs.Moments.{Throughout}
+use Rattle.sled_store.specs.Script.{Performs, after_all}
 use Rattle.sled_store.specs.declared.config.RunningConfig.{RunningConfig}
 use Rattle.sled_core.specs.declared.logger.Log.{Log}
 use Rattle.sled_core.specs.Causes.{IsFault}
 use Rattle.sled_core.specs.Keeps.{ConfigKept}
-use Rattle.sled_core.specs.Fits.{config_of, fault_of, reserved_end, segment_size_of}
+use Rattle.sled_core.specs.Fits.{IsUsedUpBelow, IsUsedUpFor, config_of, fault_of, position_behind, position_of, reserved_end, segment_size_of}
+use Rattle.sled_core.specs.Positions.{Position}
 use Rattle.sled_core.specs.Recoverable.{NoForeign}
 use Rattle.sled_core.specs.Running.{Fits}
+use Rattle.sled_core.specs.Waiting.{BufferAt, writes_below}
+use Rattle.sled_log.specs.RunStates.{EndsInReach}
 use Rattle.ids.specs.declared.generator.IdGenerator.{IdGenerator}
 use Rattle.ids.specs.Bounds.{IsOfBounds, HasBoundBelow, HasMost, Reserves, GivesFrom}
 use Rattle.ids.specs.Readings.{CountsError}
@@ -29,9 +34,9 @@ pub record HasBounds {D C : Type 0} (trace : D → Trace) (sum : List ℕ → �
   pub most : HasMost history asked
   pub there : (asked ≡ bound) ⊎ HasBoundBelow history (reserved_end log) asked
 
--- what a generator has its log keep
-unfoldable pub Generates : {D C : Type 0} → (D → Trace) → (List ℕ → ℕ) → IdGenerator D C → Type 0
-Generates trace sum g = HasBounds trace sum g.log g.bound g.asked
+-- its log
+abbrev pub log_of : {D C : Type 0} → IdGenerator D C → Log D C
+log_of g = g.log
 
 -- the identifier that it gives next
 abbrev pub next_of : {D C : Type 0} → IdGenerator D C → ℕ
@@ -47,6 +52,10 @@ asked_of g = g.asked
 abbrev pub block_of : {D C : Type 0} → IdGenerator D C → ℕ
 block_of g = g.block
 
+-- what a generator has its log keep
+unfoldable pub Generates : {D C : Type 0} → (D → Trace) → (List ℕ → ℕ) → IdGenerator D C → Type 0
+Generates trace sum g = HasBounds trace sum (log_of g) (bound_of g) (asked_of g)
+
 -- the same identifiers of the same block come
 pub record SameBlock {D C : Type 0} (old new : IdGenerator D C) : Type 0 where
   pub next : next_of new ≡ next_of old
@@ -55,25 +64,29 @@ pub record SameBlock {D C : Type 0} (old new : IdGenerator D C) : Type 0 where
 
 -- what it runs on
 abbrev pub running : {D C : Type 0} → IdGenerator D C → RunningConfig D C
-running g = config_of g.log
+running g = config_of (log_of g)
 
 -- the same identifiers come, over the same log
 pub record SameNext {D C : Type 0} (old new : IdGenerator D C) : Type 0 where
   pub next : next_of new ≡ next_of old
   pub bound : bound_of new ≡ bound_of old
   pub asked : asked_of new ≡ asked_of old
-  pub running : running new ≡ running old
+  pub log : log_of new ≡ log_of old
 
 -- the size of its log's segments, and the failure of the device that its log keeps
 abbrev pub size_of : {D C : Type 0} → IdGenerator D C → ℕ
-size_of g = segment_size_of g.log
+size_of g = segment_size_of (log_of g)
 
 abbrev pub kept_fault : {D C : Type 0} → IdGenerator D C → Option IoError
-kept_fault g = fault_of g.log
+kept_fault g = fault_of (log_of g)
+
+-- the end of the block behind the last one that was asked for, of which as many identifiers are left as a block has, or fewer
+abbrev pub further_bound : {D C : Type 0} → IdGenerator D C → ℕ
+further_bound g = min (bound_of g + block_of g) (2 ^ 64 - 1)
 
 -- the end of the block of the identifier that comes: the one that it is of, or behind it the one that was asked for already, or a further block
 abbrev pub next_bound : {D C : Type 0} → IdGenerator D C → ℕ
-next_bound g = if nat_lt g.next g.bound then g.bound else (if nat_lt g.bound g.asked then g.asked else min (g.bound + g.block) (2 ^ 64 - 1))
+next_bound g = if nat_lt (next_of g) (bound_of g) then bound_of g else (if nat_lt (bound_of g) (asked_of g) then asked_of g else further_bound g)
 
 -- A generator goes on giving: it asks for a further block at most, keeps what it has its log keep, and at each moment its device gives from the end of the block before.
 pub record GivesOn {D C : Type 0} (trace : D → Trace) (sum : List ℕ → ℕ) (old new : IdGenerator D C) : Type 0 where
@@ -93,17 +106,57 @@ abbrev pub CountsFault : {T R : Type 0} → Result T (Error × R) → ℕ → �
 CountsFault (Ok g) before after = after ≡ before
 CountsFault (Err e) before after = CountsError e.0 before after
 
--- Why none was given out: the log keeps a failure, or the device failed in this call, or memory was refused, or places are used up.
-abbrev pub NextFails : Error → Option IoError → Option IoError → ℕ → ℕ → Type 0
-NextFails (Io e) old new before after = IsFault e old new before after
-NextFails OutOfMemory old new before after = (old ≡ None) × (new ≡ None) × (after ≡ before)
-NextFails PlacesUsedUp old new before after = (new ≡ old) × (after ≡ before)
-NextFails _ old new before after = ⊥
+-- how many bytes the item of a further bound has
+abbrev pub further_length : {D C : Type 0} → IdGenerator D C → ℕ
+further_length g = length (short_number (further_bound g))
+
+-- where the next record of its log may begin then: behind the record of a further bound, where that has to be asked for
+abbrev pub next_position : {D C : Type 0} → IdGenerator D C → Position
+next_position g =
+    if nat_lt (next_of g) (bound_of g) then position_of (log_of g)
+    else (if nat_lt (bound_of g) (asked_of g) then position_of (log_of g) else position_behind (log_of g) 0 (further_length g))
+
+-- A generator's log needs a further segment that isn't in reach: for the record of a further bound, or to flush that; or to flush the bound that was asked for.
+abbrev pub NeedsSegment : {D C : Type 0} → IdGenerator D C → Type 0
+NeedsSegment g =
+    ((asked_of g ≡ bound_of g) × (IsUsedUpFor (log_of g) 0 (further_length g) ⊎ (EndsInReach (size_of g) (position_behind (log_of g) 0 (further_length g)) → ⊥)))
+    ⊎ ((bound_of g < asked_of g) × IsUsedUpBelow (log_of g) (reserved_end (log_of g)))
+
+-- No identifier is left above its block; or its log, which keeps no failure, needs such a segment.
+abbrev pub IsUsedUp : {D C : Type 0} → IdGenerator D C → Type 0
+IsUsedUp g = (bound_of g ≡ 2 ^ 64 - 1) ⊎ ((kept_fault g ≡ None) × NeedsSegment g)
+
+-- Its block has an identifier; or its log keeps no failure, identifiers are left above the block, and no record for that needs such a segment.
+abbrev pub HasRoom : {D C : Type 0} → IdGenerator D C → Type 0
+HasRoom g =
+    (next_of g < bound_of g)
+    ⊎ ((kept_fault g ≡ None) × (bound_of g < 2 ^ 64 - 1) × (asked_of g ≡ bound_of g → IsUsedUpFor (log_of g) 0 (further_length g) → ⊥)
+    × (bound_of g < asked_of g → IsUsedUpBelow (log_of g) (reserved_end (log_of g)) → ⊥))
+
+-- The record of a further bound was put into its log, which keeps no failure and had a place for that.
+pub record HasAsked {D C : Type 0} (old new : IdGenerator D C) : Type 0 where
+  pub sound : kept_fault old ≡ None
+  pub room : IsUsedUpFor (log_of old) 0 (further_length old) → ⊥
+  pub position : position_of (log_of new) ≡ position_behind (log_of old) 0 (further_length old)
+
+-- Why none was given out: the log keeps a failure, or the device failed in this call; or memory was refused, while the log keeps none; or places are used up, where this is so.
+abbrev pub NextFails : Error → Type 0 → Option IoError → Option IoError → ℕ → ℕ → Type 0
+NextFails (Io e) used old new before after = IsFault e old new before after
+NextFails OutOfMemory used old new before after = (old ≡ None) × (new ≡ None) × (after ≡ before)
+NextFails PlacesUsedUp used old new before after = used × (new ≡ old) × (after ≡ before)
+NextFails _ used old new before after = ⊥
 
 -- An identifier was given out, and no call of the device failed; or none for one of these reasons.
 abbrev pub NextAnswers : {T D C : Type 0} → (D → ℕ) → Result T Error → IdGenerator D C → IdGenerator D C → Type 0
 NextAnswers faults (Ok id) old new = (kept_fault new ≡ kept_fault old) × (faults (running new).device ≡ faults (running old).device)
-NextAnswers faults (Err e) old new = NextFails e (kept_fault old) (kept_fault new) (faults (running old).device) (faults (running new).device)
+NextAnswers faults (Err e) old new = NextFails e (IsUsedUp old) (kept_fault old) (kept_fault new) (faults (running old).device) (faults (running new).device)
+
+-- Buffers of a log were written that begin below a place, one write and one sync for each: all of them where the call succeeds, and else up to a call that failed.
+pub record WritesBuffers {T : Type 0} (result : Result T Error) (old new : Trace) : Type 0 where
+  pub to : ℕ
+  pub buffers : List BufferAt
+  pub made : OnOk result (new ≡ after_all (writes_below to buffers) old)
+  pub at_most : Performs (writes_below to buffers) old new
 
 -- A generator can be opened on this device: what was given out isn't given again, and what a recovery reads is what the log itself wrote.
 pub record CanOpen (sum : List ℕ → ℕ) (size n most : ℕ) (device : State) : Type 0 where

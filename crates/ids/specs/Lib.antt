@@ -2,4 +2,5 @@ pub mod Bounds
 pub mod Generators
 pub mod IdPhases
 pub mod IdRuns
+pub mod Openings
 pub mod Readings

@@ -1,10 +1,10 @@
 //! A generator of identifiers over a log (`specs/Bounds.antt`).
-ghost use Rattle.std.specs.Prelude.{◌≡◌, ◌≤◌, ◌<◌, ◌+◌, ◌^◌, ◌-◌, [], ℕ, nat_lt, if◌then◌else◌, min, None, Some, IfOk, IfErr, OnErr, OnOk};
+ghost use Rattle.std.specs.Prelude.{◌≡◌, ◌≤◌, ◌<◌, ◌+◌, ◌^◌, ◌-◌, [], ℕ, nat_lt, if◌then◌else◌, max, None, Some, IsSome, IfOk, IfErr, OnErr, OnOk};
 ghost use Rattle.std.specs.Int.NonZero.{non_zero_u64_get};
-ghost use Rattle.sled_core.specs.Fits.{open_places, pins_of};
+ghost use Rattle.sled_core.specs.Fits.{open_places, pins_of, position_of};
 ghost use Rattle.sled_core.specs.Keeps.{ConfigKept};
 ghost use Rattle.sled_store.specs.Device.{state_of};
-ghost use Rattle.sled_store.specs.Moments.{Throughout};
+ghost use Rattle.sled_store.specs.Moments.{IsLater, Throughout};
 ghost use Rattle.ids.specs.Bounds.{GivesFrom};
 
 use crate::reading::read_bound;
@@ -43,8 +43,9 @@ pub struct IdGenerator<D, C> {
 }
 
 impl<D: Device, C: Checksum> IdGenerator<D, C> {
+    ghost use Rattle.ids.specs.Openings.{OpenActs};
     ghost use Rattle.ids.specs.Readings.{IsOpenError};
-    ghost use Rattle.ids.specs.Generators.{CanOpen, CountsFault, Generates, GivesOn, NextAnswers, SameBlock, SameNext, asked_of, block_of, bound_of, kept_fault, next_bound, next_of, running, running_after, size_of};
+    ghost use Rattle.ids.specs.Generators.{CanOpen, CountsFault, Generates, GivesOn, HasAsked, HasRoom, NextAnswers, SameBlock, SameNext, WritesBuffers, asked_of, block_of, bound_of, further_bound, kept_fault, log_of, next_bound, next_of, next_position, running, running_after, size_of};
 
     /// Recovers what the device has, begins a log on it, and returns a generator that goes on from the greatest bound that is found; from 0
     /// on a device that was never written to. Its blocks have 100 identifiers.
@@ -64,6 +65,9 @@ impl<D: Device, C: Checksum> IdGenerator<D, C> {
         ensures fails { let old = state_of (D.trace config.device) in (n most : ℕ) → CanOpen C.sum_of config.config.segment_size n most old
             → IfErr result (λ e. IsOpenError e.0) }
         ensures answers { CountsFault result (D.faults config.device) (D.faults (running_after result).device) }
+        ensures acts { OpenActs C.sum_of config.config.segment_size result (D.trace config.device) (D.trace (running_after result).device)
+            (D.faults config.device) (D.faults (running_after result).device) }
+        ensures later { IsLater (D.trace config.device) (D.trace (running_after result).device) }
         ensures config { ConfigKept config (running_after result) }
     {
         let mut config = config;
@@ -101,7 +105,7 @@ impl<D: Device, C: Checksum> IdGenerator<D, C> {
         self.block = block.get();
     }
 
-    /// Gives an identifier out. Where the block is used up, a further one is made durable first.
+    /// Gives an identifier out. Where the block is used up, a further one is made durable first: one message, and a flush.
     ///
     /// # Errors
     ///
@@ -111,8 +115,13 @@ impl<D: Device, C: Checksum> IdGenerator<D, C> {
         ensures given { IfOk result (λ id. (id ≡ next_of self.old) × (next_of self.new ≡ id + 1)) }
         ensures takes { OnOk result (bound_of self.new ≡ next_bound self.old) }
         ensures kept { OnErr result ((next_of self.new ≡ next_of self.old) × (bound_of self.new ≡ bound_of self.old)) }
-        ensures within { next_of self.old < bound_of self.old → (OnErr result ⊥) × (running self.new ≡ running self.old) }
+        ensures within { next_of self.old < bound_of self.old → (OnErr result ⊥) × (log_of self.new ≡ log_of self.old) }
+        ensures asks { OnOk result (asked_of self.new ≡ max (asked_of self.old) (next_bound self.old)) }
+        ensures room { OnOk result (HasRoom self.old) }
+        ensures position { OnOk result (position_of (log_of self.new) ≡ next_position self.old) }
         ensures goes_on { GivesOn D.trace C.sum_of self.old self.new }
+        ensures writes { WritesBuffers result (D.trace (running self.old).device) (D.trace (running self.new).device) }
+        ensures faulty { IsSome (kept_fault self.old) → OnErr result (running self.new ≡ running self.old) }
         ensures answers { NextAnswers D.faults result self.old self.new }
     {
         match self.take_block() {
@@ -131,7 +140,12 @@ impl<D: Device, C: Checksum> IdGenerator<D, C> {
         ensures whole { next_of self.old < bound_of self.old → (OnErr result ⊥) × (self.new ≡ self.old) }
         ensures same { next_of self.new ≡ next_of self.old }
         ensures same_end { OnErr result (bound_of self.new ≡ bound_of self.old) }
+        ensures asked { OnOk result (asked_of self.new ≡ max (asked_of self.old) (next_bound self.old)) }
+        ensures room { OnOk result (HasRoom self.old) }
+        ensures position { OnOk result (position_of (log_of self.new) ≡ next_position self.old) }
         ensures keeps { GivesOn D.trace C.sum_of self.old self.new }
+        ensures writes { WritesBuffers result (D.trace (running self.old).device) (D.trace (running self.new).device) }
+        ensures faulty { IsSome (kept_fault self.old) → OnErr result (running self.new ≡ running self.old) }
         ensures causes { NextAnswers D.faults result self.old self.new }
     {
         if self.next < self.bound {
@@ -153,7 +167,11 @@ impl<D: Device, C: Checksum> IdGenerator<D, C> {
     /// Puts the bound of a further block into the log's history, unless it is there.
     fn ask(&mut self) -> Result<()>
         ensures end { OnOk result (asked_of self.new ≡ (if nat_lt (bound_of self.old) (asked_of self.old) then asked_of self.old
-            else min (bound_of self.old + block_of self.old) (2 ^ 64 - 1))) }
+            else further_bound self.old)) }
+        ensures still { bound_of self.old < asked_of self.old → self.new ≡ self.old }
+        ensures left { OnOk result (bound_of self.old < 2 ^ 64 - 1) }
+        ensures asked { OnOk result (asked_of self.old ≡ bound_of self.old → HasAsked self.old self.new) }
+        ensures unwritten { running self.new ≡ running self.old }
         ensures further { OnOk result (bound_of self.new < asked_of self.new) }
         ensures rest { SameBlock self.old self.new }
         ensures gives_on { GivesOn D.trace C.sum_of self.old self.new }
@@ -201,15 +219,17 @@ impl<D: Device, C: Checksum> IdGenerator<D, C> {
 }
 
 impl<D: CrashDevice, C: Checksum> IdGenerator<D, C> {
-    ghost use Rattle.ids.specs.Generators.{Generates, SameBlock, asked_of, kept_fault, running};
+    ghost use Rattle.ids.specs.Generators.{Generates, SameBlock, asked_of, kept_fault, log_of, running};
 
     /// Has the device stop within a call, as `CrashDevice::stop_after`. Nothing else of the generator is another.
     pub fn stop_after(&mut self, n: u64)
         ensures stops { D.stops_in (running self.new).device ≡ Some n }
         ensures trace { D.trace (running self.new).device ≡ D.trace (running self.old).device }
         ensures faults { D.faults (running self.new).device ≡ D.faults (running self.old).device }
+        ensures stopped { D.is_stopped (running self.new).device ≡ D.is_stopped (running self.old).device }
         ensures same { SameBlock self.old self.new }
         ensures asked { (asked_of self.new ≡ asked_of self.old) × (kept_fault self.new ≡ kept_fault self.old) }
+        ensures position { position_of (log_of self.new) ≡ position_of (log_of self.old) }
         ensures generates { Generates D.trace C.sum_of self.old → Generates D.trace C.sum_of self.new }
         ensures config { ConfigKept (running self.old) (running self.new) }
     {

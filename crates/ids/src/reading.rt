@@ -7,7 +7,7 @@ ghost use Rattle.sled_codec.specs.Snapshots.{Present, model_of, page_of};
 ghost use Rattle.sled_core.specs.Fits.{device_of, fault_of};
 ghost use Rattle.sled_core.specs.Reading.{GivesMessage};
 ghost use Rattle.ids.specs.Bounds.{HasBound, IsLastBound};
-ghost use Rattle.ids.specs.Readings.{CountsFailure, HasTable, HoldsAt, IsOpenError, OnlyRead};
+ghost use Rattle.ids.specs.Readings.{CountsFailure, HasTable, HoldsAt, IsIdle, IsOpenError, IsReadError, OnlyRead};
 
 use crate::generator::BOUND_PAGE;
 use sled_log::device::{Checksum, Device};
@@ -27,6 +27,8 @@ pub(crate) fn read_bound<D: Device, C: Checksum>(
     ensures errors { (H : History) (cut : ℕ) → HasTable D.trace C.sum_of log.old (model_of snapshot.now).pages H cut → IfErr result IsOpenError }
     ensures only { OnlyRead D.trace C.sum_of log.old log.new }
     ensures fault { OnOk result (fault_of log.old ≡ None → fault_of log.new ≡ None) }
+    ensures unwritten { IsIdle log.old → D.trace (device_of log.new) ≡ D.trace (device_of log.old) }
+    ensures known { IsIdle log.old → IfErr result IsReadError }
     ensures answers { fault_of log.old ≡ None → CountsFailure result (D.faults (device_of log.old)) (D.faults (device_of log.new)) }
 {
     match snapshot.pt.first() {
@@ -47,6 +49,8 @@ fn read_page<D: Device, C: Checksum>(
         → IfErr result IsOpenError }
     ensures only { OnlyRead D.trace C.sum_of log.old log.new }
     ensures fault { OnOk result (fault_of log.old ≡ None → fault_of log.new ≡ None) }
+    ensures unwritten { IsIdle log.old → D.trace (device_of log.new) ≡ D.trace (device_of log.old) }
+    ensures known { IsIdle log.old → IfErr result IsReadError }
     ensures answers { fault_of log.old ≡ None → CountsFailure result (D.faults (device_of log.old)) (D.faults (device_of log.new)) }
 {
     match page {
@@ -68,6 +72,8 @@ fn read_number<D: Device, C: Checksum>(
         → IfErr result IsOpenError }
     ensures only { OnlyRead D.trace C.sum_of log.old log.new }
     ensures fault { OnOk result (fault_of log.old ≡ None → fault_of log.new ≡ None) }
+    ensures unwritten { IsIdle log.old → D.trace (device_of log.new) ≡ D.trace (device_of log.old) }
+    ensures known { IsIdle log.old → IfErr result IsReadError }
     ensures answers { fault_of log.old ≡ None → CountsFailure result (D.faults (device_of log.old)) (D.faults (device_of log.new)) }
 {
     let DiskPtr::Inline(lid) = pointer else {

@@ -2,8 +2,9 @@
 ghost use Rattle.std.specs.Prelude.{◌≡◌, ℕ, IfOk, OnErr};
 ghost use Rattle.sled_store.specs.Device.{state_of};
 ghost use Rattle.ids.specs.Bounds.{GivesFrom};
-ghost use Rattle.ids.specs.IdRuns.{IdRuns, IdState, begins_at};
-ghost use Rattle.ids.specs.IdPhases.{EndsAt};
+ghost use Rattle.sled_log.specs.RunPhases.{view_by};
+ghost use Rattle.ids.specs.IdRuns.{IdRuns, begins_at};
+ghost use Rattle.ids.specs.IdPhases.{EndsAt, SomeStands, SomeUsedUp};
 
 pub(crate) mod step;
 
@@ -12,6 +13,7 @@ use sled_log::config::RunningConfig;
 use sled_log::device::{Checksum, Choice, CrashDevice};
 use sled_log::result::Error;
 use std::alloc::AllocError;
+use std::num::NonZeroU64;
 
 /// What is done with a generator.
 #[derive(Drop)]
@@ -20,6 +22,8 @@ pub enum Command {
     Open,
     /// Has one that is open give an identifier out.
     Next,
+    /// Has one that is open take blocks of so many identifiers from the next one on.
+    SetBlock(NonZeroU64),
     /// Closes one that is open.
     Close,
     /// Has the device stop within a call, after so many more calls that change or sync.
@@ -35,6 +39,8 @@ pub enum Reply {
     Opened,
     /// This identifier was given out.
     Given(u64),
+    /// A further block has as many identifiers as were asked for.
+    Set,
     /// The generator is closed.
     Closed,
     /// The device will stop.
@@ -51,7 +57,8 @@ pub enum Reply {
 ///
 /// For every list of commands, restarts and crashes among them, within a call of the device and within a recovery too: the identifiers
 /// that are given out strictly ascend, so that none comes twice, and a generator fails to open only for a failure of the device, want of memory, or
-/// where places are used up.
+/// where places are used up. Each command makes the calls that it is for, and no others: within a block none, for a further block those of a log's flush,
+/// those of a recovery and of a start where a generator is opened.
 ///
 /// # Errors
 ///
@@ -60,10 +67,10 @@ pub fn run<D: CrashDevice, C: Checksum>(
     config: RunningConfig<D, C>,
     commands: &[Command],
 ) -> (RunningConfig<D, C>, Result<Vec<Reply>, AllocError>)
-    ensures ascends { let size = config.config.segment_size in
+    ensures ascends { let size = config.config.segment_size in let view = view_by D.trace D.faults D.is_stopped D.stops_in in
         (n most : ℕ) → GivesFrom C.sum_of size n most (state_of (D.trace config.device)) → IfOk result.1 (λ replies.
-        IdRuns C.sum_of size (begins_at (D.trace config.device) (D.faults config.device) n most) commands.now replies.items
-        (EndsAt C.sum_of size (D.trace result.0.device) (D.faults result.0.device))) }
+        IdRuns C.sum_of size (SomeStands D C view C.sum_of size) (SomeUsedUp D C view C.sum_of)
+        (begins_at (view config.device) n most) commands.now replies.items (EndsAt C.sum_of size (view result.0.device))) }
     ensures refused { OnErr result.1 (result.0 ≡ config) }
 {
     let alloc = config.alloc();

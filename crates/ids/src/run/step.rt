@@ -1,6 +1,7 @@
 //! One command of a run, carried out in its phase (`specs/IdPhases.antt`).
 ghost use Rattle.std.specs.Prelude.{◌≡◌, Bool};
 ghost use Rattle.ids.specs.declared.run.Command.TheVariants as told;
+ghost use Rattle.sled_log.specs.RunPhases.{view_by};
 ghost use Rattle.ids.specs.IdPhases.{CarriesOut, running_in};
 
 use crate::generator::IdGenerator;
@@ -20,7 +21,7 @@ pub(crate) fn step<D: CrashDevice, C: Checksum>(
     phase: Phase<D, C>,
     command: &Command,
 ) -> (Phase<D, C>, Reply)
-    ensures { CarriesOut D.trace D.faults C.sum_of phase command.now result }
+    ensures { CarriesOut (view_by D.trace D.faults D.is_stopped D.stops_in) C.sum_of phase command.now result }
 {
     match phase {
         Phase::Closed(config) => step_closed(config, command),
@@ -33,11 +34,13 @@ fn step_closed<D: CrashDevice, C: Checksum>(
     config: RunningConfig<D, C>,
     command: &Command,
 ) -> (Phase<D, C>, Reply)
-    ensures { CarriesOut D.trace D.faults C.sum_of (Phase.Closed config) command.now result }
+    ensures { CarriesOut (view_by D.trace D.faults D.is_stopped D.stops_in) C.sum_of (Phase.Closed config) command.now result }
 {
     match command {
         Command::Open => open(config),
-        Command::Next | Command::Close => (Phase::Closed(config), Reply::Refused),
+        Command::Next | Command::Close | Command::SetBlock(_) => {
+            (Phase::Closed(config), Reply::Refused)
+        }
         Command::Stop(n) => {
             let mut config = config;
             config.device.stop_after(*n);
@@ -52,11 +55,16 @@ fn step_open<D: CrashDevice, C: Checksum>(
     generator: IdGenerator<D, C>,
     command: &Command,
 ) -> (Phase<D, C>, Reply)
-    ensures { CarriesOut D.trace D.faults C.sum_of (Phase.Open generator) command.now result }
+    ensures { CarriesOut (view_by D.trace D.faults D.is_stopped D.stops_in) C.sum_of (Phase.Open generator) command.now result }
 {
     match command {
         Command::Open => (Phase::Open(generator), Reply::Refused),
         Command::Next => next(generator),
+        Command::SetBlock(block) => {
+            let mut generator = generator;
+            generator.set_block(*block);
+            (Phase::Open(generator), Reply::Set)
+        }
         Command::Close => (Phase::Closed(generator.close()), Reply::Closed),
         Command::Stop(n) => {
             let mut generator = generator;
@@ -69,7 +77,7 @@ fn step_open<D: CrashDevice, C: Checksum>(
 
 /// Opens a generator.
 fn open<D: CrashDevice, C: Checksum>(config: RunningConfig<D, C>) -> (Phase<D, C>, Reply)
-    ensures { CarriesOut D.trace D.faults C.sum_of (Phase.Closed config) told.Open result }
+    ensures { CarriesOut (view_by D.trace D.faults D.is_stopped D.stops_in) C.sum_of (Phase.Closed config) told.Open result }
 {
     match IdGenerator::open(config) {
         Ok(generator) => (Phase::Open(generator), Reply::Opened),
@@ -79,7 +87,7 @@ fn open<D: CrashDevice, C: Checksum>(config: RunningConfig<D, C>) -> (Phase<D, C
 
 /// Has a generator give an identifier out.
 fn next<D: CrashDevice, C: Checksum>(generator: IdGenerator<D, C>) -> (Phase<D, C>, Reply)
-    ensures { CarriesOut D.trace D.faults C.sum_of (Phase.Open generator) told.Next result }
+    ensures { CarriesOut (view_by D.trace D.faults D.is_stopped D.stops_in) C.sum_of (Phase.Open generator) told.Next result }
 {
     let mut generator = generator;
     match generator.next() {
@@ -93,7 +101,7 @@ fn crash_open<D: CrashDevice, C: Checksum>(
     generator: IdGenerator<D, C>,
     choice: &Choice,
 ) -> (Phase<D, C>, Reply)
-    ensures { CarriesOut D.trace D.faults C.sum_of (Phase.Open generator) (told.Crash choice.now) result }
+    ensures { CarriesOut (view_by D.trace D.faults D.is_stopped D.stops_in) C.sum_of (Phase.Open generator) (told.Crash choice.now) result }
 {
     match choice.try_clone() {
         Ok(choice) => crash_now(generator.close(), choice),
@@ -106,7 +114,7 @@ fn crash<D: CrashDevice, C: Checksum>(
     config: RunningConfig<D, C>,
     choice: &Choice,
 ) -> (Phase<D, C>, Reply)
-    ensures { CarriesOut D.trace D.faults C.sum_of (Phase.Closed config) (told.Crash choice.now) result }
+    ensures { CarriesOut (view_by D.trace D.faults D.is_stopped D.stops_in) C.sum_of (Phase.Closed config) (told.Crash choice.now) result }
 {
     match choice.try_clone() {
         Ok(choice) => crash_now(config, choice),
@@ -120,7 +128,7 @@ fn crash_now<D: CrashDevice, C: Checksum>(
     choice: Choice,
 ) -> (Phase<D, C>, Reply)
     ensures crashed { (taken : Bool) × (result.1 ≡ Reply.Crashed taken) }
-    ensures step { CarriesOut D.trace D.faults C.sum_of (Phase.Closed config) (told.Crash choice) result }
+    ensures step { CarriesOut (view_by D.trace D.faults D.is_stopped D.stops_in) C.sum_of (Phase.Closed config) (told.Crash choice) result }
 {
     let mut config = config;
     let taken = config.device.crash(choice);

@@ -1,10 +1,10 @@
-use Rattle.std.proofs.Common.{◌∙◌, ◌<ℤ◌, pos, arith, subst, sym}
+use Rattle.std.proofs.Common.{◌∙◌, ◌<ℤ◌, pos, Ok, Err, arith, subst, sym}
 use Rattle.std.specs.Int.{w64}
 use Rattle.std.proofs.lemmas.Int.{ints, to_z-of_z}
 use Rattle.sled_core.specs.Fits.{synced_end}
 use Rattle.sled_core.proofs.PublicLaws.{fits_holds}
 use Rattle.ids.specs.Readings.{IsOpenError}
-use Rattle.ids.proofs.ReadLemmas.{counts_damage, no_error, none_holds, on_ok, read_counts, read_fails, read_still, record_there}
+use Rattle.ids.proofs.ReadLemmas.{counts_damage, damage_known, no_error, none_holds, on_ok, read_counts, read_fails, read_known, read_still, read_unwritten, record_there}
 use Rattle.ids.proofs.reading.read_number.Goals as goal
 
 pub returns-in_default-clause-only : goal.returns-in_default-clause-only
@@ -34,6 +34,12 @@ returns-in-Ok-clause-fault g c = on_ok _ c.number_in.result (λ free. c.in-Ok.en
 pub returns-in-Ok-clause-answers : goal.returns-in-Ok-clause-answers
 returns-in-Ok-clause-answers g c = λ free. counts_damage c.number_in.result _ _ c.number_in.ensures.damage c.in-Ok.ensures.answers.5
 
+pub returns-in-Ok-clause-unwritten : goal.returns-in-Ok-clause-unwritten
+returns-in-Ok-clause-unwritten g c = λ idle. read_unwritten g.D.Device.trace g.C.Checksum.sum_of _ c.in-Inline.lid c.args.log.now c.read.new.self idle (Ok c.in-Ok.read) c.in-Ok.ensures.calls c.in-Ok.ensures.refused
+
+pub returns-in-Ok-clause-known : goal.returns-in-Ok-clause-known
+returns-in-Ok-clause-known g c = λ idle. damage_known c.number_in.result c.number_in.ensures.damage
+
 -- It was not.
 
 pub returns-in-Err-clause-errors : goal.returns-in-Err-clause-errors
@@ -50,3 +56,9 @@ returns-in-Err-clause-errors g c = λ H m cut n holds place pointer.
 
 pub returns-in-Err-clause-answers : goal.returns-in-Err-clause-answers
 returns-in-Err-clause-answers g c = λ free. read_counts g.C.Checksum.sum_of _ c.in-Inline.lid _ _ _ _ _ _ _ _ _ c.in-Err.e free c.in-Err.ensures.answers
+
+pub returns-in-Err-clause-unwritten : goal.returns-in-Err-clause-unwritten
+returns-in-Err-clause-unwritten g c = λ idle. read_unwritten g.D.Device.trace g.C.Checksum.sum_of _ c.in-Inline.lid c.args.log.now c.read.new.self idle (Err c.in-Err.e) c.in-Err.ensures.calls c.in-Err.ensures.refused
+
+pub returns-in-Err-clause-known : goal.returns-in-Err-clause-known
+returns-in-Err-clause-known g c = λ idle. read_known g.D.Device.trace g.C.Checksum.sum_of _ c.in-Inline.lid c.args.log.now c.read.new.self idle _ _ _ c.in-Err.e c.in-Err.ensures.answers

@@ -1,13 +1,14 @@
-use Rattle.std.proofs.Common.{◌∙◌, ◌+◌, if◌then◌else◌, Bool, false, length, Ok, Err, ap, arith, refl, subst}
+use Rattle.std.proofs.Common.{◌≡◌, ◌∙◌, inl, inr, ◌+◌, if◌then◌else◌, Bool, false, length, Ok, Err, ap, arith, refl, subst}
 use Rattle.std.proofs.lemmas.Bool.Decides.{nat_tests}
 use Rattle.sled_codec.specs.declared.serialization.message.LogKind.TheVariants.{Replace}
 use Rattle.sled_codec.specs.Spelling.{short_number}
 use Rattle.sled_core.specs.declared.reservation.Reservation.{Reservation}
 use Rattle.sled_core.specs.Causes.{ReserveAnswers}
-use Rattle.sled_core.specs.Fits.{IsLeastOpen, IsUsedUpFor, config_of}
+use Rattle.sled_core.specs.Fits.{IsLeastOpen, IsUsedUpFor, config_of, position_behind}
 use Rattle.sled_core.specs.OpenPlaces.{open_places_along}
 use Rattle.sled_core.specs.Reserves.{reserve_causes}
 use Rattle.sled_core.proofs.PublicLaws.{awaited, comes_inline, goes_on_further, not_in_blob, refused_inline}
+use Rattle.ids.specs.Generators.{IsUsedUp, further_bound}
 use Rattle.ids.proofs.Generating.{generates_has, gives_still, has_asked, has_generates, has_still, has_throughout, none_for, none_behind, ends_well, number_fits, reserve_fails}
 use Rattle.ids.proofs.Moments.{through_less}
 use Rattle.ids.proofs.generator.IdGenerator.ask.Goals as goal
@@ -58,8 +59,18 @@ returns-in-Err-clause-answers g c =
     let n = length (short_number c.saturating_add-asked.result) in
     let size = number_fits _ c.saturating_add-asked.result (config_of old.log).config.least c.saturating_add-asked.type_inv in
     let causes = λ (b : Bool). reserve_causes g.D.Device.trace g.D.Device.faults Replace 0 b (if b then 8 else n) old.log c.reserve.new.self in
-    reserve_fails c.in-Err.e _ _ (causes false) (λ none. cc) refl (none_for old.log 0 _ old.ended)
+    let none = c.if-self.false in
+    let ahead = old.ahead in
+    let is : c.saturating_add-asked.result ≡ further_bound old = c.saturating_add-asked.ensures in
+    reserve_fails c.in-Err.e (IsUsedUpFor old.log 0 n) (IsUsedUp old) _ (causes false)
+    (λ free used. inr (free, inl (omega (arith, none, ahead), inl (subst (λ k. IsUsedUpFor old.log 0 (length (short_number k))) is used)))) (λ none. cc) refl (none_for old.log 0 _ old.ended)
     (subst (λ (b : Bool). ReserveAnswers {T = Reservation} (Err c.in-Err.e) (IsUsedUpFor old.log 0 (if b then 8 else n)) (IsLeastOpen old.log) (causes b)) (not_in_blob old.log n size) c.in-Err.ensures.answers)
+
+pub returns-in-Err-clause-unwritten : goal.returns-in-Err-clause-unwritten
+returns-in-Err-clause-unwritten g c =
+    let old = c.args.self.now in
+    let size = number_fits _ c.saturating_add-asked.result (config_of old.log).config.least c.saturating_add-asked.type_inv in
+    (refused_inline g.C.Checksum.sum_of old.log c.reserve.new.self 0 _ _ (not_in_blob old.log _ size) c.in-Err.e c.in-Err.ensures.left).config
 
 -- The bound was reserved and completed.
 
@@ -125,3 +136,50 @@ returns-in-Ok-complete-clause-gives_on g c =
 
 pub returns-in-Ok-complete-clause-end : goal.returns-in-Ok-complete-clause-end
 returns-in-Ok-complete-clause-end g c = let none = c.if-self.false in let asked = c.saturating_add-asked.ensures in grind (arith, nat_tests, none, asked)
+
+pub returns-in-Ok-complete-clause-asked : goal.returns-in-Ok-complete-clause-asked
+returns-in-Ok-complete-clause-asked g c = λ same.
+    let trace = g.D.Device.trace in
+    let sum = g.C.Checksum.sum_of in
+    let old = c.args.self.now in
+    let size = number_fits _ c.saturating_add-asked.result (config_of old.log).config.least c.saturating_add-asked.type_inv in
+    let is : c.saturating_add-asked.result ≡ further_bound old = c.saturating_add-asked.ensures in
+    let came = comes_inline trace g.D.Device.faults sum Replace 0 (short_number c.saturating_add-asked.result) old.log c.reserve.new.self (Ok c.in-Ok.ticket) size
+    (record {
+      ticket = c.in-Ok.ensures.ticket;
+      stored = c.in-Ok.ensures.stored;
+      manifest = c.in-Ok.ensures.manifest;
+      behind = c.in-Ok.ensures.behind;
+      others = c.in-Ok.ensures.others;
+      answers = c.in-Ok.ensures.answers;
+      device = c.in-Ok.ensures.device;
+      keeps = c.in-Ok.ensures.keeps;
+      seen = c.in-Ok.ensures.seen;
+      left = tt;
+    }) in
+    record {
+      sound = came.answers.0.0;
+      room = subst (λ k. IsUsedUpFor old.log 0 (length (short_number k)) → ⊥) is came.answers.1.1;
+      position = c.in-Ok-complete.ensures.position.position ∙ came.behind.position ∙ ap (λ k. position_behind old.log 0 (length (short_number k))) is;
+    }
+
+pub returns-in-Ok-complete-clause-unwritten : goal.returns-in-Ok-complete-clause-unwritten
+returns-in-Ok-complete-clause-unwritten g c =
+    let trace = g.D.Device.trace in
+    let sum = g.C.Checksum.sum_of in
+    let old = c.args.self.now in
+    let size = number_fits _ c.saturating_add-asked.result (config_of old.log).config.least c.saturating_add-asked.type_inv in
+    let came = comes_inline trace g.D.Device.faults sum Replace 0 (short_number c.saturating_add-asked.result) old.log c.reserve.new.self (Ok c.in-Ok.ticket) size
+    (record {
+      ticket = c.in-Ok.ensures.ticket;
+      stored = c.in-Ok.ensures.stored;
+      manifest = c.in-Ok.ensures.manifest;
+      behind = c.in-Ok.ensures.behind;
+      others = c.in-Ok.ensures.others;
+      answers = c.in-Ok.ensures.answers;
+      device = c.in-Ok.ensures.device;
+      keeps = c.in-Ok.ensures.keeps;
+      seen = c.in-Ok.ensures.seen;
+      left = tt;
+    }) in
+    c.in-Ok-complete.ensures.same.config ∙ came.device

@@ -1,13 +1,15 @@
-use Rattle.std.proofs.Common.{rules, ◌∙◌, ◌<◌, ◌^◌, ℕ, ap, refl, subst, sym, arith}
+use Rattle.std.proofs.Common.{rules, ◌∙◌, inl, inr, ◌<◌, ◌^◌, ℕ, ap, refl, subst, sym, arith}
 use Rattle.sled_codec.specs.Snapshots.{model_of, stable_place}
 use Rattle.sled_store.specs.Device.{state_of}
-use Rattle.sled_store.specs.Moments.{Throughout}
+use Rattle.sled_store.specs.Moments.{IsLater, Throughout}
+use Rattle.sled_store.proofs.PublicLaws.{later_both}
 use Rattle.sled_core.specs.Fits.{device_of, fault_of, open_places, pins_of}
 use Rattle.sled_core.proofs.PublicLaws.{kept_further, none_is_empty, reads_recoverable}
 use Rattle.ids.specs.Bounds.{GivesFrom}
+use Rattle.ids.specs.Openings.{HasStarted, OpenFails}
 use Rattle.ids.specs.Readings.{CountsError}
 use Rattle.ids.proofs.Generating.{has_generates}
-use Rattle.ids.proofs.Opening.{begun_table, can_recover, found_bounds, going_on, recovered, recovering, recovery_fails, sized_back, start_fails, starting}
+use Rattle.ids.proofs.Opening.{begins_idle, begun_table, can_recover, found_bounds, going_on, not_started, recovered, recovering, recovery_fails, sized_back, start_fails, starting, was_started}
 use Rattle.ids.proofs.generator.IdGenerator.open.Goals as goal
 
 -- The recovery failed.
@@ -31,6 +33,12 @@ returns-in-Err-clause-fails g c = λ n most can.
     let recovers = can_recover sum size n most (state_of old) can in
     let can_read = reads_recoverable sum size can.gives.history can.gives.acknowledged can.gives.floor old can.gives.left can.own in
     recovery_fails sum _ c.in-Err.e _ _ (c.in-Err.ensures.read can.gives.history can.gives.acknowledged can.gives.floor recovers.orderly can_read).0 c.in-Err.ensures.answers
+
+pub returns-in-Err-clause-acts : goal.returns-in-Err-clause-acts
+returns-in-Err-clause-acts g c = inl (record {
+  comes = record { calls = c.in-Err.ensures.calls; ok = tt; corrupt = c.in-Err.ensures.corrupt };
+  answers = c.in-Err.ensures.answers;
+})
 
 -- No log was started.
 
@@ -58,6 +66,20 @@ returns-in-Err-start-clause-fails g c = λ n most can.
     let same = ap (λ x. x.segment_size) c.in-Ok.ensures.config.config in
     let r = recovered sum size n most old (trace config.device) can s config.config.segment_size same c.in-Ok.ensures.recoverable c.in-Ok.ensures.good c.in-Ok.ensures.ready in
     start_fails c.in-Err-start.refused.0 _ _ _ _ _ (c.in-Err-start.ensures.starts r.0.history r.0.acknowledged (stable_place s.stable) r.0.ready) c.in-Err-start.ensures.answers
+
+pub returns-in-Err-start-clause-acts : goal.returns-in-Err-start-clause-acts
+returns-in-Err-start-clause-acts g c =
+    let trace = g.D.Device.trace in
+    let faults = g.D.Device.faults in
+    let sum = g.C.Checksum.sum_of in
+    let size : ℕ = c.args.config.config.segment_size in
+    let config = c.read_snapshot_or_default.new.config in
+    let refused = c.in-Err-start.refused in
+    inr (inl (not_started sum size config.config.segment_size (ap (λ x. x.segment_size) c.in-Ok.ensures.config.config) (trace c.args.config.device) (trace config.device) (trace refused.1.device) (model_of c.in-Ok.snapshot) c.in-Ok.ensures.ok
+    refused.0 (faults c.args.config.device) (faults config.device) (faults refused.1.device) c.in-Ok.ensures.answers c.in-Err-start.ensures.calls c.in-Err-start.ensures.answers))
+
+pub returns-in-Err-start-clause-later : goal.returns-in-Err-start-clause-later
+returns-in-Err-start-clause-later g c = later_both _ _ _ c.in-Ok.ensures.later c.in-Err-start.ensures.later
 
 -- It was opened.
 
@@ -119,6 +141,29 @@ returns-in-Ok-read_bound-clause-answers g c =
     let faults = g.D.Device.faults in
     ap (λ x. faults (device_of x)) c.pin-guard.ensures.taken ∙ c.in-Ok-read_bound.ensures.answers c.in-Ok-start.ensures.begins.fault ∙ c.in-Ok-start.ensures.answers.2 ∙ c.in-Ok.ensures.answers
 
+pub returns-in-Ok-read_bound-clause-acts : goal.returns-in-Ok-read_bound-clause-acts
+returns-in-Ok-read_bound-clause-acts g c =
+    let trace = g.D.Device.trace in
+    let faults = g.D.Device.faults in
+    let sum = g.C.Checksum.sum_of in
+    let size : ℕ = c.args.config.config.segment_size in
+    let config = c.read_snapshot_or_default.new.config in
+    let log = c.in-Ok-start.log in
+    let s = model_of c.in-Ok.snapshot in
+    let begins = c.in-Ok-start.ensures.begins in
+    let answers = c.in-Ok-start.ensures.answers in
+    let started = was_started sum size config.config.segment_size (ap (λ x. x.segment_size) c.in-Ok.ensures.config.config) (trace c.args.config.device) (trace config.device) (trace (device_of log)) s c.in-Ok.ensures.ok c.in-Ok-start.ensures.made answers.0 answers.1 in
+    let still = ap (λ x. trace (device_of x)) c.pin-guard.ensures.taken ∙ c.read_bound.ensures.unwritten (begins_idle _ _ s log begins) in (
+      subst (HasStarted sum size (trace c.args.config.device)) (sym still) started,
+      ap (λ x. faults (device_of x)) c.pin-guard.ensures.taken ∙ c.in-Ok-read_bound.ensures.answers begins.fault ∙ answers.2 ∙ c.in-Ok.ensures.answers,
+    )
+
+pub returns-in-Ok-read_bound-clause-later : goal.returns-in-Ok-read_bound-clause-later
+returns-in-Ok-read_bound-clause-later g c =
+    let trace = g.D.Device.trace in
+    let still = ap (λ x. trace (device_of x)) c.pin-guard.ensures.taken ∙ c.read_bound.ensures.unwritten (begins_idle _ _ (model_of c.in-Ok.snapshot) c.in-Ok-start.log c.in-Ok-start.ensures.begins) in
+    subst (IsLater (trace c.args.config.device)) (sym still) (later_both _ _ _ c.in-Ok.ensures.later c.in-Ok-start.ensures.later)
+
 -- The bound wasn't read.
 
 pub returns-clause-keeps : goal.returns-clause-keeps
@@ -160,3 +205,30 @@ returns-clause-answers g c =
     let before = c.in-Ok-start.ensures.answers.2 ∙ c.in-Ok.ensures.answers in
     subst (λ x. CountsError c.in-Err-read_bound.e (faults c.args.config.device) (faults x.device)) (sym c.halt.ensures.config)
     (subst (λ k. CountsError c.in-Err-read_bound.e k (faults (device_of c.read_bound.new.log))) before (c.in-Err-read_bound.ensures.answers c.in-Ok-start.ensures.begins.fault))
+
+pub returns-clause-acts : goal.returns-clause-acts
+returns-clause-acts g c =
+    let trace = g.D.Device.trace in
+    let faults = g.D.Device.faults in
+    let sum = g.C.Checksum.sum_of in
+    let size : ℕ = c.args.config.config.segment_size in
+    let config = c.read_snapshot_or_default.new.config in
+    let log = c.in-Ok-start.log in
+    let s = model_of c.in-Ok.snapshot in
+    let begins = c.in-Ok-start.ensures.begins in
+    let answers = c.in-Ok-start.ensures.answers in
+    let idle = begins_idle _ _ s log begins in
+    let started = was_started sum size config.config.segment_size (ap (λ x. x.segment_size) c.in-Ok.ensures.config.config) (trace c.args.config.device) (trace config.device) (trace (device_of log)) s c.in-Ok.ensures.ok c.in-Ok-start.ensures.made answers.0 answers.1 in
+    let counts = subst (λ k. CountsError c.in-Err-read_bound.e k (faults (device_of c.read_bound.new.log))) (answers.2 ∙ c.in-Ok.ensures.answers) (c.in-Err-read_bound.ensures.answers begins.fault) in
+    subst (λ x. OpenFails sum size c.in-Err-read_bound.e (trace c.args.config.device) (trace x.device) (faults c.args.config.device) (faults x.device)) (sym c.halt.ensures.config)
+    (inr (inr (record {
+      started = subst (HasStarted sum size (trace c.args.config.device)) (sym (c.read_bound.ensures.unwritten idle)) started;
+      known = c.in-Err-read_bound.ensures.known idle;
+      counts = counts;
+    })))
+
+pub returns-clause-later : goal.returns-clause-later
+returns-clause-later g c =
+    let trace = g.D.Device.trace in
+    let still = ap (λ x. trace x.device) c.halt.ensures.config ∙ c.read_bound.ensures.unwritten (begins_idle _ _ (model_of c.in-Ok.snapshot) c.in-Ok-start.log c.in-Ok-start.ensures.begins) in
+    subst (IsLater (trace c.args.config.device)) (sym still) (later_both _ _ _ c.in-Ok.ensures.later c.in-Ok-start.ensures.later)

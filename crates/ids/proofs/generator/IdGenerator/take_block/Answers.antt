@@ -1,13 +1,23 @@
-use Rattle.std.proofs.Common.{ap, arith, subst}
+use Rattle.std.proofs.Common.{◌∙◌, ap, arith, refl, subst, sym}
 use Rattle.sled_core.proofs.PublicLaws.{none_holding, none_is_empty}
 use Rattle.sled_core.specs.Fits.{device_of, fault_of}
-use Rattle.ids.specs.Generators.{NextFails}
-use Rattle.ids.proofs.Generating.{asked_then, flush_fails, generates_has, gives_still, config_then, has_flushed, has_generates, has_still}
+use Rattle.ids.specs.Generators.{IsUsedUp, NextFails}
+use Rattle.ids.proofs.Generating.{asked_then, config_then, faulty_still, flush_fails, flush_written, generates_has, gives_still, had_room, has_flushed, has_generates, has_still, next_begins, none_written, used_up, within_block}
 use Rattle.ids.proofs.generator.IdGenerator.take_block.Goals as goal
 
 -- The block isn't used up.
 pub returns-then-self-clause-keeps : goal.returns-then-self-clause-keeps
 returns-then-self-clause-keeps g c = gives_still g.D.Device.trace g.C.Checksum.sum_of c.args.self.now
+
+pub returns-then-self-clause-writes : goal.returns-then-self-clause-writes
+returns-then-self-clause-writes g c = none_written _ _ _ refl
+
+pub returns-then-self-clause-position : goal.returns-then-self-clause-position
+returns-then-self-clause-position g c = let less = c.if-self.true in within_block c.args.self.now (omega (arith, less))
+
+-- No further block was asked for.
+pub returns-in-Err-clause-writes : goal.returns-in-Err-clause-writes
+returns-in-Err-clause-writes g c = none_written _ _ _ (ap (λ x. g.D.Device.trace x.device) c.ask.ensures.unwritten)
 
 -- All that was asked for is durable.
 pub returns-in-Ok-flush-clause-keeps : goal.returns-in-Ok-flush-clause-keeps
@@ -24,6 +34,20 @@ returns-in-Ok-flush-clause-keeps g c =
       keeps = λ generates. asked_then trace sum c.args.self.now mid c.flush.new.self (ap (λ x. x.segment_size) first.config.config) c.ask.ensures.rest.bound first.asked (first.generates generates) flushed.keeps.goes_on (first.keeps generates);
       config = config_then first.config flushed.keeps.goes_on.config;
     }
+
+pub returns-in-Ok-flush-clause-writes : goal.returns-in-Ok-flush-clause-writes
+returns-in-Ok-flush-clause-writes g c =
+    flush_written g.D.Device.trace g.C.Checksum.sum_of c.args.self.now c.ask.new.self c.ask.ensures.unwritten _ _ c.in-Ok-flush.ensures.calls c.in-Ok-flush.ensures.at_most
+
+pub returns-in-Ok-flush-clause-room : goal.returns-in-Ok-flush-clause-room
+returns-in-Ok-flush-clause-room g c =
+    let answers = c.in-Ok-flush.ensures.answers in
+    had_room c.args.self.now c.ask.new.self c.ask.ensures.still c.in-Ok.ensures.asked (sym c.in-Ok.ensures.answers.0 ∙ answers.2) c.in-Ok.ensures.left answers.1
+
+pub returns-in-Ok-flush-clause-position : goal.returns-in-Ok-flush-clause-position
+returns-in-Ok-flush-clause-position g c =
+    let none = c.if-self.false in
+    c.in-Ok-flush.ensures.position.position ∙ next_begins c.args.self.now c.ask.new.self c.ask.ensures.still c.in-Ok.ensures.asked (λ less. omega (arith, less, none))
 
 -- It is kept all the same.
 pub returns-in-Err-flush-clause-keeps : goal.returns-in-Err-flush-clause-keeps
@@ -46,8 +70,16 @@ pub returns-in-Err-flush-clause-causes : goal.returns-in-Err-flush-clause-causes
 returns-in-Err-flush-clause-causes g c =
     let sum = g.C.Checksum.sum_of in
     let faults = g.D.Device.faults in
+    let old = c.args.self.now in
     let mid = c.ask.new.self in
     let ended = (none_is_empty mid.log).1 mid.ended in
-    subst (λ k. NextFails c.in-Err-flush.failed k (fault_of c.flush.new.self) (faults c.args.self.now.log.config.device) (faults (device_of c.flush.new.self))) c.in-Ok.ensures.answers.0
-    (subst (λ n. NextFails c.in-Err-flush.failed (fault_of mid.log) (fault_of c.flush.new.self) n (faults (device_of c.flush.new.self))) c.in-Ok.ensures.answers.1
-    (flush_fails c.in-Err-flush.failed _ _ _ _ _ _ (none_holding mid.log sum ended) c.in-Err-flush.ensures.answers))
+    let up = used_up old mid c.ask.ensures.still c.in-Ok.ensures.asked (ap (λ x. x.segment_size) c.ask.ensures.gives_on.config.config) c.in-Ok.ensures.answers.0 in
+    subst (λ k. NextFails c.in-Err-flush.failed (IsUsedUp old) k (fault_of c.flush.new.self) (faults old.log.config.device) (faults (device_of c.flush.new.self))) c.in-Ok.ensures.answers.0
+    (subst (λ n. NextFails c.in-Err-flush.failed (IsUsedUp old) (fault_of mid.log) (fault_of c.flush.new.self) n (faults (device_of c.flush.new.self))) c.in-Ok.ensures.answers.1
+    (flush_fails c.in-Err-flush.failed _ _ (IsUsedUp old) _ _ _ _ up (none_holding mid.log sum ended) c.in-Err-flush.ensures.answers))
+
+pub returns-in-Err-flush-clause-writes : goal.returns-in-Err-flush-clause-writes
+returns-in-Err-flush-clause-writes g c = flush_written g.D.Device.trace g.C.Checksum.sum_of c.args.self.now c.ask.new.self c.ask.ensures.unwritten _ _ tt c.in-Err-flush.ensures.at_most
+
+pub returns-in-Err-flush-clause-faulty : goal.returns-in-Err-flush-clause-faulty
+returns-in-Err-flush-clause-faulty g c = λ some. faulty_still c.args.self.now c.ask.new.self c.flush.new.self c.ask.ensures.unwritten c.in-Ok.ensures.answers.0 c.in-Err-flush.ensures.faulty some

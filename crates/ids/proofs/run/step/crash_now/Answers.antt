@@ -1,6 +1,10 @@
 use Rattle.std.proofs.Common.{refl}
+use Rattle.sled_log.specs.RunPhases.{view_by}
 use Rattle.ids.proofs.Stepping.{crashes}
 use Rattle.ids.proofs.run.step.crash_now.Goals as goal
 
 pub returns-clause-step : goal.returns-clause-step
-returns-clause-step g c = crashes g.D.Device.trace g.D.Device.faults g.C.Checksum.sum_of c.args.config _ c.args.choice c.crash-taken.result refl c.crash-taken.ensures.taken.0 c.crash-taken.ensures.left c.crash-taken.ensures.faults
+returns-clause-step g c =
+    let view = view_by g.D.Device.trace g.D.Device.faults g.D.CrashDevice.is_stopped g.D.CrashDevice.stops_in in
+    let did = c.crash-taken.ensures in
+    crashes view g.C.Checksum.sum_of c.args.config _ c.args.choice c.crash-taken.result refl did.taken (λ i. record { trace = did.left i; failures = did.faults i; is_stopped = did.stopped i; stops_in = did.stops i })
