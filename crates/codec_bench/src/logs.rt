@@ -7,7 +7,7 @@ use crate::figure::{RUNS, Shortest};
 use sled_core::iterator::read_slot;
 use sled_core::iterator::scan::scan;
 use sled_log::config::{Config, RunningConfig};
-use sled_log::device::{MemDevice, PlaceSum};
+use sled_log::device::{Checksum, MemDevice, PlaceSum};
 use sled_log::logger::{Log, LogKind, PageId};
 use sled_log::reservation::{Guard, Reservation};
 use sled_log::snapshot::{Snapshot, read_snapshot_or_default};
@@ -15,11 +15,23 @@ use std::alloc::{AllocError, Global};
 use std::io;
 use std::time::Instant;
 
-/// A log on a device in memory.
+/// A log on a device in memory, with the sum for tests.
 pub type MemoryLog = Log<MemDevice, PlaceSum>;
 
 /// What such a log runs on.
 pub type Running = RunningConfig<MemDevice, PlaceSum>;
+
+/// The same number for all bytes: with it a log is measured without what a checksum takes.
+#[derive(Debug, Clone, Copy)]
+pub struct NoSum;
+
+impl Checksum for NoSum {
+    ghost sum_of = { λ bytes. 0 };
+
+    fn sum(&self, _bytes: &[u8]) -> u32 {
+        0
+    }
+}
 
 /// How many pages are replaced, one behind another and again from the first. Each takes one byte in a header.
 const PAGES: u64 = 200;
@@ -40,14 +52,26 @@ const LONGEST_SEGMENT: u64 = 8388608;
 
 /// What a log in segments of this size runs on, on a device that has nothing yet.
 pub fn empty(alloc: Global, segment_size: u64) -> io::Result<Running> {
+    empty_with(alloc, segment_size, PlaceSum)
+}
+
+/// The same with another checksum.
+fn empty_with<C: Checksum + Drop>(
+    alloc: Global,
+    segment_size: u64,
+    checksum: C,
+) -> io::Result<RunningConfig<MemDevice, C>> {
     match Config::new(segment_size) {
-        Some(config) => Ok(RunningConfig::new(alloc, config, MemDevice::new(alloc), PlaceSum)),
+        Some(config) => Ok(RunningConfig::new(alloc, config, MemDevice::new(alloc), checksum)),
         None => Err(io::Error::other("no segments have this size")),
     }
 }
 
 /// A log that begins on such a device.
-pub fn started(alloc: Global, config: Running) -> io::Result<MemoryLog>
+pub fn started<C: Checksum + Drop>(
+    alloc: Global,
+    config: RunningConfig<MemDevice, C>,
+) -> io::Result<Log<MemDevice, C>>
     ensures { IfOk result (λ log. pins_of log ≡ 0) }
 {
     match Log::start(config, &Snapshot::empty(alloc)) {
@@ -67,7 +91,7 @@ pub fn item(alloc: Global, len: u32) -> Result<Vec<u8>, AllocError> {
 
 /// Replaces one page after another by an item until one more has begun the next segment, so that the first one is sealed,
 /// and answers how many messages these are.
-fn fill(log: &mut MemoryLog, item: &Vec<u8>, guard: &Guard) -> io::Result<u32>
+fn fill<C: Checksum>(log: &mut Log<MemDevice, C>, item: &Vec<u8>, guard: &Guard) -> io::Result<u32>
     requires { length item.now.items < 2 ^ 63 }
 {
     let mut page = 0;
@@ -97,7 +121,11 @@ fn page_behind(page: u64, pages: u64) -> u64 {
 }
 
 /// Replaces one page after another by an item, segment after segment.
-fn replace_many(log: &mut MemoryLog, item: &Vec<u8>, guard: &Guard) -> io::Result<()>
+fn replace_many<C: Checksum>(
+    log: &mut Log<MemDevice, C>,
+    item: &Vec<u8>,
+    guard: &Guard,
+) -> io::Result<()>
     requires { length item.now.items < 2 ^ 63 }
 {
     let mut page = 0;
@@ -115,7 +143,7 @@ fn replace_many(log: &mut MemoryLog, item: &Vec<u8>, guard: &Guard) -> io::Resul
 }
 
 /// Completes a message.
-pub fn complete(log: &mut MemoryLog, ticket: Reservation) -> io::Result<()>
+pub fn complete<C: Checksum>(log: &mut Log<MemDevice, C>, ticket: Reservation) -> io::Result<()>
     requires awaited { IsOpen log.old ticket }
     requires message { is_manifest_of ticket ≡ false }
 {
@@ -126,7 +154,7 @@ pub fn complete(log: &mut MemoryLog, ticket: Reservation) -> io::Result<()>
 }
 
 /// Settles what was completed.
-pub fn flush(log: &mut MemoryLog) -> io::Result<()> {
+pub fn flush<C: Checksum>(log: &mut Log<MemDevice, C>) -> io::Result<()> {
     if !log.none_open() {
         return Err(io::Error::other("a message isn't completed"));
     }
@@ -137,7 +165,7 @@ pub fn flush(log: &mut MemoryLog) -> io::Result<()> {
 }
 
 /// Goes over all messages of the log, and answers how many these are.
-fn iterate(log: &mut MemoryLog) -> io::Result<u32> {
+fn iterate<C: Checksum>(log: &mut Log<MemDevice, C>) -> io::Result<u32> {
     let mut messages: u32 = 0;
     for item in log.iter_from(0) {
         if item.is_err() {
@@ -149,7 +177,7 @@ fn iterate(log: &mut MemoryLog) -> io::Result<u32> {
 }
 
 /// Reads the bytes of the segment and all records in it, and answers how many these are.
-fn scan_segment(config: &mut Running) -> io::Result<usize> {
+fn scan_segment<C: Checksum>(config: &mut RunningConfig<MemDevice, C>) -> io::Result<usize> {
     let read = read_slot(config, 0);
     let Ok(mut buf) = read else {
         return Err(io::Error::other("the segment isn't read"));
@@ -161,7 +189,7 @@ fn scan_segment(config: &mut Running) -> io::Result<usize> {
 }
 
 /// Recovers the table, and answers how many pages it has.
-fn recover(config: &mut Running) -> io::Result<usize> {
+fn recover<C: Checksum>(config: &mut RunningConfig<MemDevice, C>) -> io::Result<usize> {
     match read_snapshot_or_default(config) {
         Ok(snapshot) => Ok(snapshot.pt.len()),
         Err(_) => Err(io::Error::other("the log isn't recovered")),
@@ -193,10 +221,10 @@ impl Figures {
     }
 
     /// Fills the segment of a log, settles it, and goes over its messages.
-    fn time_writing(
+    fn time_writing<C: Checksum>(
         &mut self,
         rt: &HostRuntime,
-        log: &mut MemoryLog,
+        log: &mut Log<MemDevice, C>,
         item: &Vec<u8>,
         guard: &Guard,
     ) -> io::Result<()>
@@ -218,7 +246,11 @@ impl Figures {
     }
 
     /// Reads what was settled, and recovers it.
-    fn time_reading(&mut self, rt: &HostRuntime, config: &mut Running) -> io::Result<()> {
+    fn time_reading<C: Checksum>(
+        &mut self,
+        rt: &HostRuntime,
+        config: &mut RunningConfig<MemDevice, C>,
+    ) -> io::Result<()> {
         let start = Instant::now(rt)?;
         let met = scan_segment(config)?;
         self.scan.add(start.elapsed(rt)?);
@@ -243,15 +275,16 @@ impl Figures {
 }
 
 /// Fills a segment of a log on an empty device and settles it. Answers what the log ran on.
-fn write(
+fn write<C: Checksum + Drop>(
     rt: &HostRuntime,
     segment_size: u64,
+    checksum: C,
     item: &Vec<u8>,
     figures: &mut Figures,
-) -> io::Result<Running>
+) -> io::Result<RunningConfig<MemDevice, C>>
     requires { length item.now.items < 2 ^ 63 }
 {
-    let config = empty(rt.alloc(), segment_size)?;
+    let config = empty_with(rt.alloc(), segment_size, checksum)?;
     let mut log = started(rt.alloc(), config)?;
     let guard = log.pin();
     let timed = figures.time_writing(rt, &mut log, item, &guard);
@@ -262,11 +295,16 @@ fn write(
 }
 
 /// Measures what a log does with records whose items have so many bytes, and prints the shortest run of each.
-pub fn measure(rt: &HostRuntime, name: &str, len: u32) -> io::Result<()> {
+pub fn measure<C: Checksum + Copy + Drop>(
+    rt: &HostRuntime,
+    name: &str,
+    len: u32,
+    checksum: C,
+) -> io::Result<()> {
     let item = item(rt.alloc(), len)?;
     let mut figures = Figures::new();
     for _ in 0..RUNS {
-        let mut config = write(rt, SEGMENT_SIZE, &item, &mut figures)?;
+        let mut config = write(rt, SEGMENT_SIZE, checksum, &item, &mut figures)?;
         figures.time_reading(rt, &mut config)?;
     }
     figures.print(rt, name)

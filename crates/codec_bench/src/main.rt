@@ -17,8 +17,10 @@ mod recoveries;
 mod sequence;
 mod syncs;
 
+use logs::NoSum;
 use recoveries::Shape;
 use sequence::Sequence;
+use sled_log::device::PlaceSum;
 use std::num::NonZeroU64;
 use std::{env, io};
 
@@ -38,9 +40,20 @@ fn main(rt: HostRuntime) -> io::Result<()> {
     headers::measure(&rt, "header", &headers)?;
     let alike = headers::of_one_size(rt.alloc(), &mut sequence)?;
     headers::measure(&rt, "header of 14 bytes", &alike)?;
-    logs::measure(&rt, "records of 11 bytes", 10)?;
-    logs::measure(&rt, "records of 200 bytes", 199)?;
-    logs::measure(&rt, "records of 4000 bytes", 3997)?;
+    for (name, len) in [
+        ("records of 11 bytes", 10),
+        ("records of 200 bytes", 199),
+        ("records of 4000 bytes", 3997),
+    ] {
+        logs::measure(&rt, name, len, PlaceSum)?;
+    }
+    for (name, len) in [
+        ("records of 11 bytes, no sum", 10),
+        ("records of 200 bytes, no sum", 199),
+        ("records of 4000 bytes, no sum", 3997),
+    ] {
+        logs::measure(&rt, name, len, NoSum)?;
+    }
     logs::measure_segments(&rt, "segments of 8 KiB, 11 bytes", 8192, 10)?;
     logs::measure_segments(&rt, "segments of 512 KiB, 11 bytes", 524288, 10)?;
     logs::measure_segments(&rt, "segments of 512 KiB, 200 bytes", 524288, 199)?;
