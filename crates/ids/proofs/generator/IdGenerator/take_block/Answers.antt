@@ -1,7 +1,8 @@
-use Rattle.std.proofs.Common.{◌∙◌, ap, arith, refl, subst, sym}
+use Rattle.std.proofs.Common.{◌≡◌, ◌∙◌, ◌<◌, ◌≤◌, nat_lt, if◌then◌else◌, max, ap, arith, refl, subst, sym, ℕ, Bool, true, false}
+use Rattle.std.proofs.lemmas.Bool.Decides.{nat_tests}
 use Rattle.sled_core.proofs.PublicLaws.{none_holding, none_is_empty}
 use Rattle.sled_core.specs.Fits.{device_of, fault_of}
-use Rattle.ids.specs.Generators.{IsUsedUp, NextFails}
+use Rattle.ids.specs.Generators.{IsUsedUp, NextFails, further_bound}
 use Rattle.ids.proofs.Generating.{asked_then, config_then, faulty_still, flush_fails, flush_written, generates_has, gives_still, had_room, has_flushed, has_generates, has_still, next_begins, none_written, used_up, within_block}
 use Rattle.ids.proofs.generator.IdGenerator.take_block.Goals as goal
 
@@ -83,3 +84,32 @@ returns-in-Err-flush-clause-writes g c = flush_written g.D.Device.trace g.C.Chec
 
 pub returns-in-Err-flush-clause-faulty : goal.returns-in-Err-flush-clause-faulty
 returns-in-Err-flush-clause-faulty g c = λ some. faulty_still c.args.self.now c.ask.new.self c.flush.new.self c.ask.ensures.unwritten c.in-Ok.ensures.answers.0 c.in-Err-flush.ensures.faulty some
+
+-- The end of the block of the identifier that comes, by numbers alone: where the block is used up it is what was asked for.
+end_of : (next bound asked further now : ℕ) → bound ≤ next → now ≡ (if nat_lt bound asked then asked else further) → now ≡ (if nat_lt next bound then bound else (if nat_lt bound asked then asked else further))
+end_of next bound asked further now used is = by (nat_lt next bound) refl where
+  by : (b : Bool) → nat_lt next bound ≡ b → now ≡ (if b then bound else (if nat_lt bound asked then asked else further))
+  by true test = absurd (let not : ⊥ = grind (arith, nat_tests, test, used) in not)
+  by false test = is
+
+-- That isn't below what was asked for before.
+no_less : (bound asked further now : ℕ) → bound < now → now ≡ (if nat_lt bound asked then asked else further) → asked ≤ now
+no_less bound asked further now more is = by (nat_lt bound asked) refl is where
+  by : (b : Bool) → nat_lt bound asked ≡ b → now ≡ (if b then asked else further) → asked ≤ now
+  by true test same = omega (arith, same)
+  by false test same = (let up : asked ≤ bound = grind (arith, nat_tests, test) in omega (arith, up, more))
+
+pub returns-in-Ok-flush-clause-end : goal.returns-in-Ok-flush-clause-end
+returns-in-Ok-flush-clause-end g c =
+    let old = c.args.self.now in
+    let none = c.if-self.false in
+    end_of old.next old.bound old.asked (further_bound old) c.ask.new.self.asked (omega (arith, none)) c.in-Ok.ensures.end
+
+pub returns-in-Ok-flush-clause-asked : goal.returns-in-Ok-flush-clause-asked
+returns-in-Ok-flush-clause-asked g c =
+    let old = c.args.self.now in
+    let now : ℕ = c.ask.new.self.asked in
+    let same = c.ask.ensures.rest.bound in
+    let more = c.in-Ok.ensures.further in
+    let up : old.asked ≤ now = no_less old.bound old.asked (further_bound old) now (omega (arith, same, more)) c.in-Ok.ensures.end in
+    subst (λ (n : ℕ). now ≡ max old.asked n) (returns-in-Ok-flush-clause-end g c) (omega (arith, up))
