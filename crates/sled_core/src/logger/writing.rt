@@ -9,6 +9,7 @@ ghost use Rattle.std.specs.declared.io.ErrorKind.TheVariants.{OutOfMemory};
 ghost use Rattle.sled_codec.specs.Errors.{IsErrorOf};
 ghost use Rattle.sled_codec.specs.History.{History, Message};
 ghost use Rattle.sled_store.specs.Answers.{Counts, FailsOr};
+ghost use Rattle.sled_store.specs.Blobs.{UnlessFault};
 ghost use Rattle.sled_store.specs.Device.{state_of, Wrote, Synced};
 ghost use Rattle.sled_store.specs.Script.{after_all, Performs};
 ghost use Rattle.sled_core.specs.Begun.{SegmentView, line_at, view_at};
@@ -56,6 +57,7 @@ impl<D: Device, C: Checksum> Log<D, C> {
         ensures answers { Answers result (fault_of self.old) (fault_of self.new) (D.faults (device_of self.old)) (D.faults (device_of self.new)) }
         ensures faulty { (e : IoError) → fault_of self.old ≡ Some e → self.new ≡ self.old }
         ensures err { OnErr result ((synced_end self.new ≡ synced_end self.old) × (waiting_of self.new ≡ waiting_of self.old)) }
+        ensures refused { UnlessFault result (D.trace (device_of self.old)) (D.trace (device_of self.new)) }
     {
         if let Some(e) = self.fault {
             return Err(Error::Io(e));
@@ -235,6 +237,7 @@ impl<D: Device, C: Checksum> Log<D, C> {
         ensures tickets { KeepsTickets self.old self.new }
         ensures position { SamePosition self.old self.new }
         ensures answers { Answers result None (fault_of self.new) (D.faults (device_of self.old)) (D.faults (device_of self.new)) }
+        ensures refused { UnlessFault result (D.trace (device_of self.old)) (D.trace (device_of self.new)) }
     {
         self.write_bytes(n, k)?;
         let (site, buffer) = nth(&self.site, &self.buffer, &self.behind, n);

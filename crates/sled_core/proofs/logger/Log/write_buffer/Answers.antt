@@ -1,9 +1,16 @@
-use Rattle.std.proofs.Common.{◌≡◌, ◌∙◌, ◌≤◌, List, ℕ, ap, sym, subst, refl, arith, map, set, true, Some}
+use Rattle.std.proofs.Common.{◌≡◌, ◌∙◌, ◌≤◌, List, ℕ, ap, sym, subst, refl, arith, map, set, true, Option, None, Some, Err, inl, inr}
+use Rattle.std.specs.declared.io.Error.{Error as IoError}
+use Rattle.sled_codec.specs.declared.result.Error.{Error}
+use Rattle.sled_codec.specs.declared.result.Error.TheVariants.{Io, OutOfMemory}
+use Rattle.sled_store.specs.Blobs.{UnlessFault}
+use Rattle.sled_store.specs.Device.{Trace}
+use Rattle.sled_core.specs.Causes.{Answers}
 use Rattle.std.specs.List.{slice_get}
 use Rattle.sled_store.specs.Accounts.{machine_of}
 use Rattle.sled_store.proofs.Traces.ScriptLemmas.{later_performed}
 use Rattle.sled_store.specs.declared.config.Config.{Config}
 use Rattle.std.proofs.lemmas.Option.{slice_get_within}
+use Rattle.std.proofs.lemmas.Result.{err_from_is_err_and}
 use Rattle.sled_core.specs.Begun.{SegmentView, line_at, view_at}
 use Rattle.sled_core.specs.declared.iobuf.IoBuf.{IoBuf}
 use Rattle.sled_core.specs.declared.iobuf.SegmentPosition.{SegmentPosition}
@@ -46,6 +53,21 @@ noted_left_is : {D C : Type 0} (old : Log D C) (n k : ℕ) (r : IsReadyIn (line_
 noted_left_is old n k r same line =
     let up = end_grows old n k r in
     (λ i. not_whole (written_to (line i)) (map batch_of (same i))) ∙ sym (not_whole_further (written_to (line_of old)) (written_to (line_left old n k r)) up (map batch_of old.noted.items))
+
+-- A write that was refused changed nothing on the device, unless that failed.
+unless_fault : (T : Type 0) (e : Error) (fault : Option IoError) (before after : ℕ) (old new : Trace) → Answers {T = T} (Err e) None fault before after → (fault ≡ None → new ≡ old) → UnlessFault {T = T} (Err e) old new
+unless_fault T (Io e) fault before after old new (inl kept) same = let never : None ≡ Some e = kept.0 in cc
+unless_fault T (Io e) fault before after old new (inr failed) same = inl failed.3
+unless_fault T OutOfMemory fault before after old new answers same = same answers.1
+unless_fault T _ fault before after old new answers same = absurd answers
+
+pub returns-in_err-write_bytes-clause-refused : goal.returns-in_err-write_bytes-clause-refused
+returns-in_err-write_bytes-clause-refused g c =
+    let old = c.args.self.now in
+    let mid = c.write_bytes.new.self in
+    let did = c.in_err-write_bytes.ensures in
+    let e = err_from_is_err_and c.from_residual.result c.from_residual.ensures.1 in
+    rw (e.1, e.2) (unless_fault (Unit {0}) c.in_err-write_bytes.field-0.0 mid.fault (g.D.Device.faults old.config.device) (g.D.Device.faults mid.config.device) (g.D.Device.trace old.config.device) (g.D.Device.trace mid.config.device) did.answers did.refused)
 
 pub returns-in_err-write_bytes-clause-keeps : goal.returns-in_err-write_bytes-clause-keeps
 unfolding Holds Fits
