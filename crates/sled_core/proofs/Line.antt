@@ -23,6 +23,7 @@ pub mod Facts
 pub mod Faulty
 pub mod Filling
 pub mod Fillings
+pub mod HeaderMarks
 pub mod KeptReads
 pub mod Last
 pub mod LineEnds

@@ -18,6 +18,7 @@ pub mod LogFile
 pub mod LogSegments
 pub mod Logged
 pub mod Manifests
+pub mod Marked
 pub mod OnFile
 pub mod OpenBatches
 pub mod OpenPlaces

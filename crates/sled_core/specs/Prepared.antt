@@ -12,6 +12,7 @@ use Rattle.sled_core.specs.Buffers.{most_open}
 use Rattle.sled_core.specs.Fits.{KeepsTickets, current_of, is_moved, machine_at, position_of, reserved_end, segment_size_of, start_behind, start_of, target_of, waiting_behind, waiting_of}
 use Rattle.sled_core.specs.Keeps.{KeepsSeen, Preserves}
 use Rattle.sled_core.specs.Manifests.{is_manifest}
+use Rattle.sled_core.specs.Marked.{BeginsMarked}
 use Rattle.sled_core.specs.Positions.{Position}
 use Rattle.sled_core.specs.Turned.{HasPlace, HasRoomForBatch, HasRoomIn}
 
@@ -38,6 +39,7 @@ pub record IsMadeReady {D C : Type 0} (sum : List ℕ → ℕ) (old new : Log D 
   pub reserved : reserved_end new ≡ reserved_ready old page n
   pub position : position_of new ≡ target_of old page n
   pub seals : (waiting_of new ≡ waiting_behind sum old page n) × (start_of new ≡ start_behind old page n)
+  pub marked : BeginsMarked sum old new
 
 -- A log is ready for a record with a body of n bytes: this is its header, which the current segment and its buffer have room for, and the body behind it. It fits all that it did.
 pub record IsPrepared {D C : Type 0} (trace : D → Trace) (sum : List ℕ → ℕ) (old new : Log D C) (kept : Purpose) (head : Head) (n : ℕ) : Type 0 where
@@ -53,6 +55,7 @@ pub record IsPrepared {D C : Type 0} (trace : D → Trace) (sum : List ℕ → �
   -- a manifest has room for its batch
   pub batch : is_manifest kept.log_kind kept.page ≡ true → HasRoomForBatch new
   pub seals : (waiting_of new ≡ waiting_behind sum old kept.page n) × (start_of new ≡ start_behind old kept.page n)
+  pub marked : BeginsMarked sum old new
 
 -- Where a further segment is needed that isn't in reach, and so many are open in the buffer that the record would be of: this comes of it.
 abbrev pub PrepareAnswers : {T : Type 0} → Result T Error → Type 0 → ℕ → (ℤ → Type 0) → Type 0

@@ -17,6 +17,7 @@ use Rattle.sled_core.specs.Causes.{ReserveAnswers, ReserveCauses}
 use Rattle.sled_core.specs.Fits.{Awaits, IsLeastOpen, IsUnchanged, IsUsedUpFor, config_of, device_of, fault_of, message_as, open_for, open_places, position_behind, position_of, reserved_end, size_for, start_behind, start_of, target_of, waiting_behind, waiting_of}
 use Rattle.sled_core.specs.Keeps.{KeepsSeen, Preserves}
 use Rattle.sled_core.specs.Manifests.{is_manifest, kind_for}
+use Rattle.sled_core.specs.Marked.{BeginsMarked}
 use Rattle.sled_core.specs.Prepared.{IsMadeReady}
 use Rattle.sled_core.specs.Running.{IsStored}
 use Rattle.sled_core.specs.Tickets.{is_manifest_of}
@@ -54,13 +55,14 @@ reserve_causes trace faults kind page blob n old new = record {
   after = faults (device_of new);
 }
 
--- A log has a reservation of a page's record with a body of n bytes, behind all that it had: what is reserved ends with that record, whose place comes last among the open ones. Where it had no room in the current segment, that is sealed, and a further one begins with it.
+-- A log has a reservation of a page's record with a body of n bytes, behind all that it had: what is reserved ends with that record, whose place comes last among the open ones. Where it had no room in the current segment, that is sealed, and a further one begins with it, whose header has the last stable place for its mark.
 pub record StandsBehind {D C : Type 0} (sum : List ℕ → ℕ) (old new : Log D C) (page n : ℕ) : Type 0 where
   pub position : position_of new ≡ position_behind old page n
   pub reserved : reserved_end new ≡ (target_of old page n).place + size_for old page n
   pub opens : open_places new ≡ open_places old ++ (target_of old page n).place ∷ []
   pub waiting : waiting_of new ≡ waiting_behind sum old page n
   pub start : start_of new ≡ start_behind old page n
+  pub marked : BeginsMarked sum old new
 
 -- What a reservation comes to, by whether the item goes to a blob, and how long the body of its record is.
 pub record ReservesAs {D C : Type 0} (trace : D → Trace) (faults : D → ℕ) (sum : List ℕ → ℕ) (result : Result Reservation Error) (kind : LogKind) (page : ℕ) (item : List ℕ) (blob : Bool) (n : ℕ) (old new : Log D C) : Type 0 where

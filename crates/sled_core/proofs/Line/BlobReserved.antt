@@ -38,6 +38,7 @@ use Rattle.sled_core.specs.Turned.{ChangesDevice, HasPlace, HasRoomForBatch, Has
 use Rattle.sled_core.specs.Waiting.{last_of, start_in, unwritten}
 use Rattle.sled_core.proofs.Blobs.ItemsStay.{blobs_made, item_made}
 use Rattle.sled_core.proofs.Holds.KeptCalls.{kept_further}
+use Rattle.sled_core.proofs.Line.HeaderMarks.{marked_same}
 use Rattle.sled_core.proofs.Line.LineEnds.{noted_same}
 use Rattle.sled_core.proofs.Line.LogWrites.{same_line}
 use Rattle.sled_core.proofs.Line.Prepares.{seen_further}
@@ -55,7 +56,7 @@ module _ {D C : Type 0} (trace : D → Trace) (sum : List ℕ → ℕ) (old mid 
   ready_place = ap (λ (q : Position). q.place) ready_position
 
   pub ready_seen : IsMadeReady sum old mid kept.page n
-  ready_seen = record { tickets = ready.tickets; seen = ready.seen; reserved = ready.reserved; position = ready_position ∙ sym ready.target; seals = ready.seals }
+  ready_seen = record { tickets = ready.tickets; seen = ready.seen; reserved = ready.reserved; position = ready_position ∙ sym ready.target; seals = ready.seals; marked = ready.marked }
 
   -- It is ready still where its device alone is another, or the failure that it keeps.
   module _ (made : Log D C) (rest : ChangesDevice mid made) (keeps : Preserves trace sum mid made) (blob : Option ℤ) where
@@ -112,6 +113,7 @@ module _ {D C : Type 0} (trace : D → Trace) (sum : List ℕ → ℕ) (old mid 
       room = subst (λ (b : IoBuf). HasRoomIn b (head.len + n)) (sym buffer_same) ready.room;
       batch = still_batch;
       seals = (ap unwritten line_same ∙ ready.seals.0, ap start_in current_same ∙ ready.seals.1);
+      marked = marked_same sum old mid made ready.marked (ap (λ (v : SegmentView). v.parts.site.place) current_same) (ap (λ (v : SegmentView). v.parts.bytes) current_same);
     }
 
 -- A message that may have a blob has a kind that is written so.

@@ -21,13 +21,15 @@ use Rattle.sled_core.specs.Fits.{Awaits, AwaitsIn, FitsInline, open_places, IsUn
 use Rattle.sled_core.specs.Keeps.{KeepsSeen, Preserves}
 use Rattle.sled_core.specs.Logged.{in_log}
 use Rattle.sled_core.specs.Positions.{Position, behind_record, lid_at, next_segment_at}
+use Rattle.sled_core.specs.Marked.{BeginsMarked}
 use Rattle.sled_core.specs.Prepared.{IsPrepared, next_here, number_of, text_of}
 use Rattle.sled_core.specs.Reserves.{StandsBehind}
 use Rattle.sled_core.specs.Turned.{ChangesLine, ChangesSlots, HasPlace, HasRoomForBatch, HasRoomIn, IsTicketFor, begun_view, next_line, reserved_now}
 use Rattle.sled_core.specs.Waiting.{BufferAt, BufferStart, at_last, closed_now, unwritten}
 use Rattle.sled_core.proofs.Holds.KeptCalls.{kept_further}
 use Rattle.sled_core.proofs.Line.Begins.{begins_current, begins_keeps, begins_same, begins_tickets}
-use Rattle.sled_core.proofs.Line.LogReserves.{placeholder_fits, record_long, reserves_keeps, reserves_opens, reserves_others, reserves_position, reserves_same, target_here, target_next}
+use Rattle.sled_core.proofs.Line.HeaderMarks.{begun_marked, marked_further, none_begun}
+use Rattle.sled_core.proofs.Line.LogReserves.{placeholder_fits, record_long, reserves_current, reserves_keeps, reserves_opens, reserves_others, reserves_position, reserves_same, target_here, target_next}
 use Rattle.sled_core.proofs.Line.LogSpans.{next_buffers, reserved_buffers, same_buffers}
 use Rattle.sled_core.proofs.Line.Reserves.{HasPlaceFor, ticket_reserved}
 use Rattle.sled_core.proofs.Line.Targets.{record_short}
@@ -109,6 +111,7 @@ module _ {D C : Type 0} (trace : D → Trace) (sum : List ℕ → ℕ) (old mid 
         room = room;
         batch = batch;
         seals = (buffers.0 ∙ sym (ap (λ (o : Bool). if o then closed else waiting_of old) stays), buffers.1 ∙ sym (ap (λ (o : Bool). if o then next else start_of old) stays));
+        marked = none_begun sum old mid (ap (λ (v : SegmentView). v.parts.site.place) current);
       }
 
 -- It has none, by the header that it would have there.
@@ -164,6 +167,7 @@ module _ {D C : Type 0} (trace : D → Trace) (sum : List ℕ → ℕ) (old : Lo
         room = record { bytes = omega (arith, space, least, all, short, inline); reserved = room.reserved; few = room.few };
         batch = batch;
         seals = (buffers.0 ∙ sym (ap (λ (o : Bool). if o then closed else waiting_of old) moves), buffers.1 ∙ sym (ap (λ (o : Bool). if o then next else start_of old) moves));
+        marked = begun_marked sum old size (machine_at old) mid current;
       }
 
 -- A record with this body was laid out in a log that was made ready for it, and this is its ticket.
@@ -265,9 +269,14 @@ module _ {D C : Type 0} {trace : D → Trace} {sum : List ℕ → ℕ} {old mid 
       let at = sym (ap (λ (q : Position). q.place) ready.target) in
       reserves_opens trace sum mid new more r line laid.rest laid.accountant fits ∙ (λ i. ready.tickets.opens i ++ at i ∷ [])
 
+  made_marked : BeginsMarked sum old new
+  made_marked =
+      let current = reserves_current trace sum mid new more r line laid.rest laid.accountant fits in
+      marked_further sum old mid new more ready.marked (ap (λ (v : SegmentView). v.parts.site.place) current) (ap (λ (v : SegmentView). v.parts.bytes) current)
+
   -- It stands behind all that the log had.
   pub made_behind : StandsBehind sum old new kept.page len
-  made_behind = record { position = made_position; reserved = made_end; opens = made_opens; waiting = made_seals.0; start = made_seals.1 }
+  made_behind = record { position = made_position; reserved = made_end; opens = made_opens; waiting = made_seals.0; start = made_seals.1; marked = made_marked }
 
   -- The ticket is for its message, as the log has it.
   abbrev pub laid_message : Message

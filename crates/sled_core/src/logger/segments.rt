@@ -8,6 +8,7 @@ ghost use Rattle.sled_core.specs.Begun.{SegmentView, begin_of, last_buffer, line
 ghost use Rattle.sled_core.specs.Causes.{FaultOrMemory};
 ghost use Rattle.sled_core.specs.Fits.{AddsBuffers, IsUnchanged, IsUsedUp, KeepsAll, KeepsTickets, buffers_of, current_begin, current_of, line_of, machine_at, reserved_end, sealing_end, segment_size_of, stable_end, start_of, waiting_of};
 ghost use Rattle.sled_core.specs.Keeps.{Preserves, SamePosition, start_sealed};
+ghost use Rattle.sled_core.specs.Marked.{BeginsMarked};
 ghost use Rattle.sled_core.specs.Positions.{is_short};
 ghost use Rattle.sled_core.specs.Turned.{CanClose, ChangesLine, ChangesSlots, EndsApart, HasRoomForBatch, HasRoomIn, IsBegunView, next_line, promoted};
 ghost use Rattle.sled_core.specs.Waiting.{at_last, holds_any, sealed_now, with_parts};
@@ -85,6 +86,7 @@ impl<D: Device, C: Checksum> Log<D, C> {
         ensures buffers { OnOk result (AddsBuffers C.sum_of self.old self.new) }
         ensures begins { OnOk result (current_begin self.new ≡ sealing_end self.old) }
         ensures start { OnOk result (start_of self.new ≡ start_sealed self.old) }
+        ensures marked { OnOk result (BeginsMarked C.sum_of self.old self.new) }
         ensures keeps { Preserves D.trace C.sum_of self.old self.new }
         ensures tickets { KeepsTickets self.old self.new }
         ensures same { KeepsAll self.old self.new }

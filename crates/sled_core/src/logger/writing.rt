@@ -17,6 +17,7 @@ ghost use Rattle.sled_core.specs.Buffers.{first_open_in, open_in};
 ghost use Rattle.sled_core.specs.Causes.{Answers, FaultOrMemory, HeldAnswers, OnDone};
 ghost use Rattle.sled_core.specs.Fits.{Holds, IsUnchanged, IsUsedUp, IsUsedUpBelow, IsWritten, KeepsAll, KeepsTickets, NoneSealed, buffers_of, current_begin, current_of, device_of, fault_of, flushing, held_len, holding_below, line_of, pending_of, reserved_end, sealing_end, segment_size_of, stable_end, start_of, synced_end, waiting_of, writing_below, writing_pending};
 ghost use Rattle.sled_core.specs.Keeps.{LeavesAbove, LeavesSome, Preserves, SamePosition, SealsBelow, WritesBelow};
+ghost use Rattle.sled_core.specs.Marked.{BeginsMarked};
 ghost use Rattle.sled_core.specs.Running.{Fits, end_below};
 ghost use Rattle.sled_core.specs.Stable.{SyncsAll};
 ghost use Rattle.sled_core.specs.Turned.{ChangesDevice, IsReadyIn, promoted, ready_below, write_in, written_now};
@@ -93,6 +94,7 @@ impl<D: Device, C: Checksum> Log<D, C> {
         ensures answer { IfOk result (λ n. n ≡ held_len self.old) }
         ensures sealed { OnOk result (waiting_of self.new ≡ buffers_of C.sum_of self.old) }
         ensures begins { OnOk result (current_begin self.new ≡ (if holds_any (current_of self.old) then sealing_end self.old else current_begin self.old)) }
+        ensures marked { OnOk result (BeginsMarked C.sum_of self.old self.new) }
         ensures keeps { Preserves D.trace C.sum_of self.old self.new }
         ensures tickets { KeepsTickets self.old self.new }
         ensures same { KeepsAll self.old self.new }
