@@ -56,7 +56,7 @@ pub enum Reply {
 /// Carries these commands out in order, and returns what the generator ran on, with what came of each. At last it closes a generator that is open.
 ///
 /// For every list of commands, restarts and crashes among them, within a call of the device and within a recovery too: the identifiers
-/// that are given out strictly ascend, so that none comes twice, and a generator fails to open only for a failure of the device, want of memory, or
+/// that are given out strictly ascend, so that none comes twice, and a generator fails to open only for a failure of the device, lack of memory, or
 /// where places are used up. Each command makes the calls that it is for, and no others: within a block none, for a further block those of a log's flush,
 /// those of a recovery and of a start where a generator is opened.
 ///

@@ -62,7 +62,7 @@ impl<D: CrashDevice, C: Checksum> Session<D, C> {
     /// Runs these commands in order, and returns what came of each.
     ///
     /// For every list of commands, crashes among them, within a call of the device and within a recovery too: a recovery
-    /// fails only for a failure of the device or want of memory; where it succeeds, its page table is that of the completed
+    /// fails only for a failure of the device or lack of memory; where it succeeds, its page table is that of the completed
     /// messages below one cut, which passes every acknowledged message, isn't below an earlier cut and splits no batch; every
     /// pointer reads its own bytes; and what lies past the cut is forgotten.
     ///

@@ -134,7 +134,7 @@ impl<D: Device, C: Checksum> Iterator for LogIter<'_, D, C> {
     ///
     /// `Io` where the device failed in this call, which a log keeps, and `OutOfMemory`; `Corruption` where a damaged record is met in the next
     /// segment, or where the blob of the next record doesn't pass for it (named where its checksum fails). The first item of an
-    /// iterator of a log may be the failure that the log kept before, or want of memory for the list of its segments.
+    /// iterator of a log may be the failure that the log kept before, or lack of memory for the list of its segments.
     fn next(&mut self) -> Option<Result<(LogKind, PageId, Lsn, DiskPtr, u64)>> {
         if let Some(e) = self.refusal.take() {
             return Some(Err(e));

@@ -33,7 +33,7 @@ impl<D: Device, C: Checksum> Log<D, C> {
     /// Returns an iterator over the messages of the log by place, from the beginning of the segment that holds a place up to
     /// the stable end; a negative place counts as 0. It passes over messages that were given up, manifests, and messages whose blob is
     /// gone. It ends at a batch that doesn't end below the stable end, and at a segment whose header isn't there or a record that doesn't read. A failure
-    /// of the device, which the log keeps, and want of memory are items of it, and never its end.
+    /// of the device, which the log keeps, and lack of memory are items of it, and never its end.
     ///
     /// It goes over the segments that the log has in its slots. A segment is read as a whole when its first message is
     /// asked for. The list of segments takes memory: where that is refused, `OutOfMemory` is the one item. Where the log keeps a failure of
