@@ -26,8 +26,10 @@ impl<D: Device, C: Checksum> Log<D, C> {
     /// An item whose record may take more than a quarter of a segment (`fits_inline` tells) goes to a blob, a file of its own
     /// under the message's place. That is durable before any room is claimed for the record, which has the place in its stead.
     ///
-    /// The caller owes the log an order of pages, which is not tested here: a page gets a Replace only once
-    /// all lower pages have one, or a recovery finds damage (`docs/USING.md`, "Write").
+    /// The caller owes the log an order of pages, which is not tested here: a page is begun by a Replace, and only once
+    /// all lower pages have one. Where page 1 is begun before page 0, this call and `complete` answer Ok, and so does a flush; but as long as
+    /// page 1 is durable and page 0 isn't, a recovery of the device is `Corruption`, for no table of pages has a gap. No log can
+    /// be started on one, so after a crash or a halt nothing mends it (`docs/USING.md`, "Write").
     ///
     /// # Errors
     ///
