@@ -67,7 +67,12 @@ impl fmt::Display for DiskPtr {
 /// then is unchanged.
 #[derive(Debug, Drop, Error)]
 pub enum Error {
-    /// Bytes that encode nothing. `at` names the blob, where a blob is what is damaged.
+    /// Bytes that encode nothing, or that this log can't have written. `at` names the blob, where a blob is what is damaged.
+    ///
+    /// What can be the cause: bytes of the device that changed, or that something else wrote; another size of segments or another
+    /// checksum than the device was written with; pages that weren't begun in order, each by a Replace; a snapshot that isn't
+    /// of this device; and of a read a place or a pointer that no message has. The calls that answer it say which of these
+    /// they mean. It doesn't come of every such cause: most changed bytes end what is read (`docs/DEVICE.md`, "Bit rot").
     #[error("the bytes are damaged: {at:?}")]
     Corruption {
         /// The blob with a wrong checksum, if it is one.

@@ -261,6 +261,11 @@ impl<D: Device, C: Checksum> Log<D, C> {
     /// before all. Its header has the blob's kind, this page, the number of the segment of this place, and 0 for checksum and
     /// length; the length of its record is answered as 0.
     ///
+    /// The page isn't compared with what is read. Of an inline pointer the answer is what the record at its offset has, if it is one of
+    /// the segment of this place: where place and pointer may be those of another page's message, the caller compares
+    /// `header.pid` with the page that it asked for. Of a blob's pointer that shows nothing: a blob names no page, and the header has
+    /// the page that was asked for. Place and pointer that `complete` answered for a message, or that a recovered table has for its page, belong together.
+    ///
     /// # Errors
     ///
     /// In this order: `Io` where the log keeps a failure of its device; `Corruption` for a negative place, and for an offset at
