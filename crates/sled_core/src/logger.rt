@@ -56,7 +56,7 @@ use crate::reservation::{Guard, Reservation};
 use sled_codec::result::{DiskPtr, Error, LogOffset, Lsn, PageId, Result};
 use sled_codec::serialization::{Checksum, LogKind, SegmentNumber, Serialize, Snapshot};
 use sled_store::segment::accountant::SegmentAccountant;
-use sled_store::segment::may_begin;
+use sled_store::segment::{MINIMUM_ITEMS_PER_SEGMENT, may_begin};
 use sled_store::{Device, RunningConfig};
 use std::collections::VecDeque;
 use std::io;
@@ -332,7 +332,7 @@ impl<D: Device, C: Checksum> Log<D, C> {
         requires { T.fits (T.meaning item.now) }
         ensures { IsTrue result ↔ FitsInline (segment_size_of self.now) (length (T.short (T.meaning item.now))) }
     {
-        item.serialized_size() <= self.config.config.segment_size / 4 - 52
+        item.serialized_size() <= self.config.config.segment_size / MINIMUM_ITEMS_PER_SEGMENT as u64 - 52
     }
 
     /// Gives the log up, and returns what it ran on. It writes nothing.

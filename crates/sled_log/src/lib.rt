@@ -6,6 +6,7 @@
 #![tactic(auto)]
 
 pub use sled_codec::{result as result, serialization as serialization};
+pub use sled_store::{blob_io as blob_io, header as header};
 
 pub mod iterator;
 pub mod laws;
@@ -49,12 +50,23 @@ pub mod logger {
     pub use sled_codec::result::{DiskPtr, LogOffset, Lsn, PageId};
     pub use sled_codec::serialization::message::{BATCH_MANIFEST_PID, COUNTER_PID, META_PID};
     pub use sled_codec::serialization::{
-        LogKind, MessageHeader, MessageKind, SegmentHeader, SegmentNumber,
+        BatchManifest, LogKind, MessageHeader, MessageKind, SegmentHeader, SegmentNumber,
     };
     pub use sled_core::logger::Log;
     pub use sled_core::logger::read_at::{BasedBuf, ReadAt};
     pub use sled_core::logger::read_message::{LogRead, read_message};
-    pub use sled_store::segment::{MAX_MSG_HEADER_LEN, SEG_HEADER_LEN};
+    pub use sled_store::segment::{
+        MAX_MSG_HEADER_LEN, MINIMUM_ITEMS_PER_SEGMENT, SEG_HEADER_LEN,
+    };
+}
+
+/// Segments: which slot each gets, when its slot is free again, and which pages are to be written again first.
+///
+/// A log has an accountant of its own. One that stands alone begins with `SegmentAccountant::start`, and gives the pages
+/// (`clean_pop`); its cleaner is a part of it.
+pub mod segment {
+    pub use sled_store::segment::accountant::{CacheInfo, SegmentAccountant};
+    pub use sled_store::segment::cleaner::SegmentCleaner;
 }
 
 /// Tickets: what a caller holds for a place that is kept for it, and for a pin.

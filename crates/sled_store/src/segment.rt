@@ -21,6 +21,10 @@ pub const MAX_MSG_HEADER_LEN: usize = 32;
 /// The header of a segment, in bytes.
 pub const SEG_HEADER_LEN: usize = 20;
 
+/// How many records a segment has room for at least, beside its header: a record takes no more than this part of it, and a longer
+/// item goes to a blob.
+pub const MINIMUM_ITEMS_PER_SEGMENT: usize = 4;
+
 /// Whether a record may begin at an offset of the log file.
 pub fn may_begin(lid: LogOffset, segment_size: u64) -> bool
     requires { 0 < segment_size }
