@@ -332,7 +332,8 @@ impl<D: Device, C: Checksum> Log<D, C> {
         requires { T.fits (T.meaning item.now) }
         ensures { IsTrue result ↔ FitsInline (segment_size_of self.now) (length (T.short (T.meaning item.now))) }
     {
-        item.serialized_size() <= self.config.config.segment_size / MINIMUM_ITEMS_PER_SEGMENT as u64 - 52
+        item.serialized_size()
+            <= self.config.config.segment_size / MINIMUM_ITEMS_PER_SEGMENT as u64 - 52
     }
 
     /// Gives the log up, and returns what it ran on. It writes nothing.

@@ -1,7 +1,11 @@
 -- Where an iterator begins that no log makes: the segments are found and the tail is read, from a place on.
-use Rattle.std.specs.Prelude.{◌⊎◌, ℕ, ℤ, Bool, false, List, [], Option, Some, None, Result}
+use Rattle.std.specs.Prelude.{◌≡◌, ◌⊎◌, ℕ, ℤ, Bool, false, List, [], Option, Some, None, Err}
+use Rattle.std.specs.Borrow.{MutBor}
 use Rattle.sled_codec.specs.declared.result.Error.{Error}
-use Rattle.sled_store.specs.Blobs.{ItemAnswers}
+use Rattle.sled_store.specs.declared.config.RunningConfig.{RunningConfig}
+use Rattle.sled_store.specs.Device.{Trace}
+use Rattle.sled_core.specs.Causes.{ItemAnswersOver}
+use Rattle.sled_core.specs.Keeps.{OnlyReads}
 use Rattle.sled_core.specs.declared.iterator.Segment.{Segment}
 use Rattle.sled_core.specs.Iterates.{Item, IsIteration}
 use Rattle.sled_log.specs.Recovery.{Scanned, IsUnordered, IsOrdering, IsTail, IsDamagedTail, HaveGoodBlobs, tail_begins, tail_end, begun_below}
@@ -27,6 +31,7 @@ IsDamagedFrom sum size log blobs least =
     IsUnordered sum size log least
     ⊎ ((ordering : List Segment) × IsOrdering sum size log least ordering × IsDamagedTail sum size log blobs ordering (tail_begins size least ordering))
 
--- Why no iterator began: the device failed, which it counted, memory was refused, or something is damaged.
-abbrev pub BeginAnswers : {T : Type 0} → (List ℕ → ℕ) → (ℤ → Option (List ℕ)) → Result T Error → ℕ → Type 0
-BeginAnswers sum blobs result before = (after : ℕ) × ItemAnswers sum blobs result before after
+-- No iterator began: what was lent comes back, and was only read. The device failed, which it counted, memory was refused, or something is damaged.
+abbrev pub IsGivenBack : {D C : Type 0} → (D → Trace) → (D → ℕ) → (List ℕ → ℕ) → MutBor (RunningConfig D C) → Error → MutBor (RunningConfig D C) → Type 0
+IsGivenBack trace faults sum lent e back =
+    (back.ghost_name ≡ lent.ghost_name) × OnlyReads trace lent.now back.now × ItemAnswersOver {T = Unit {0}} trace faults sum (Err e) lent.now back.now

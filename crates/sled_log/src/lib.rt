@@ -55,9 +55,7 @@ pub mod logger {
     pub use sled_core::logger::Log;
     pub use sled_core::logger::read_at::{BasedBuf, ReadAt};
     pub use sled_core::logger::read_message::{LogRead, read_message};
-    pub use sled_store::segment::{
-        MAX_MSG_HEADER_LEN, MINIMUM_ITEMS_PER_SEGMENT, SEG_HEADER_LEN,
-    };
+    pub use sled_store::segment::{MAX_MSG_HEADER_LEN, MINIMUM_ITEMS_PER_SEGMENT, SEG_HEADER_LEN};
 }
 
 /// Segments: which slot each gets, when its slot is free again, and which pages are to be written again first.

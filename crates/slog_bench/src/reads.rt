@@ -54,7 +54,7 @@ fn iterate(config: &mut Running, from: i64, out: &mut Answer) {
                 out.text.push(" lost");
             }
         }
-        Err(e) => out.error(&e),
+        Err((e, _)) => out.error(&e),
     }
 }
 

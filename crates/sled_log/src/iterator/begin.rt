@@ -1,7 +1,7 @@
 //! Where an iterator begins: the segments are found and the tail of the log is read, and then nothing more.
-ghost use Rattle.std.specs.Prelude.{◌≡◌, ◌+◌, ◌*◌, ◌/◌, ◌%◌, ◌^◌, ◌<◌, ℕ, true, false, None, List, [], IfOk, unwrap_or};
+ghost use Rattle.std.specs.Prelude.{◌≡◌, ◌+◌, ◌*◌, ◌/◌, ◌%◌, ◌^◌, ◌<◌, ℕ, true, false, None, List, [], IfOk, IfErr, unwrap_or};
 ghost use Rattle.std.specs.List.{All};
-ghost use Rattle.sled_codec.specs.Errors.{IsCorruption};
+ghost use Rattle.sled_codec.specs.Errors.{IsCorrupt, IsCorruption};
 ghost use Rattle.sled_store.specs.Device.{state_of};
 ghost use Rattle.sled_core.specs.Causes.{ItemAnswersOver};
 ghost use Rattle.sled_core.specs.Keeps.{OnlyReads};
@@ -9,11 +9,11 @@ ghost use Rattle.sled_core.specs.Iterators.{BorrowsFile, IsAhead, reads_of, refu
 ghost use Rattle.sled_core.specs.Ahead.{CanGoOn, IsLeft};
 ghost use Rattle.sled_log.specs.Recovery.{Scanned, IsTail, IsDamagedTail, HaveGoodBlobs, begun_below, is_ascending, place_of_mark, tail_end};
 ghost use Rattle.sled_log.specs.Passes.{CanAllBeRead};
-ghost use Rattle.sled_log.specs.IteratorBegins.{Begins, IsDamagedFrom, begins_from, BeginAnswers};
+ghost use Rattle.sled_log.specs.IteratorBegins.{Begins, IsDamagedFrom, begins_from, IsGivenBack};
 
 use crate::snapshot::ordering::find_segments;
 use crate::snapshot::tail::{check_passes, count_below, read_tail, tail_begins};
-use sled_codec::result::{Lsn, Result};
+use sled_codec::result::{Error, Lsn, Result};
 use sled_codec::serialization::Checksum;
 use sled_core::iterator::rest::Rest;
 use sled_core::iterator::{LogIter, Segment, begins_from};
@@ -27,17 +27,16 @@ use sled_store::{Device, RunningConfig};
 ///
 /// `Corruption` where segments are found that can't be of one log, where a damaged record is met in the tail, or where the
 /// blob of one of its records doesn't pass for it (named where its checksum fails); `Io` where the device failed, and
-/// `OutOfMemory`.
+/// `OutOfMemory`. With the error the configuration comes back, of which nothing was changed.
 pub fn raw_segment_iter_from<'a, D: Device, C: Checksum>(
     lsn: Lsn,
     config: &'a mut RunningConfig<D, C>,
-) -> Result<LogIter<'a, D, C>>
+) -> std::result::Result<LogIter<'a, D, C>, (Error, &'a mut RunningConfig<D, C>)>
     ensures begins { let size = config.old.config.segment_size in let s = state_of (D.trace config.old.device) in
         IfOk result (λ it. Begins C.sum_of size s.log.bytes s.blobs.file (begins_from size lsn) (IsAhead D.trace C.sum_of it)) }
     ensures corrupt { let size = config.old.config.segment_size in let s = state_of (D.trace config.old.device) in
-        IsCorruption result → IsDamagedFrom C.sum_of size s.log.bytes s.blobs.file (begins_from size lsn) }
-    ensures answers { let blobs = (state_of (D.trace config.old.device)).blobs.file in
-        BeginAnswers C.sum_of blobs result (D.faults config.old.device) }
+        IfErr result (λ x. IsCorrupt x.0 → IsDamagedFrom C.sum_of size s.log.bytes s.blobs.file (begins_from size lsn)) }
+    ensures given_back { IfErr result (λ x. IsGivenBack D.trace D.faults C.sum_of config.entry x.0 x.1) }
     ensures begun { IfOk result (λ it. refusal_of it ≡ None) }
     ensures faults { IfOk result (λ it. D.faults (reads_of it).device ≡ D.faults config.old.device) }
     ensures reads { IfOk result (λ it. OnlyReads D.trace config.old (reads_of it)) }
@@ -45,7 +44,7 @@ pub fn raw_segment_iter_from<'a, D: Device, C: Checksum>(
 {
     match begin_at(config, begins_from(config.config.segment_size, lsn)) {
         Ok(rest) => Ok(LogIter::new(config, rest)),
-        Err(e) => Err(e),
+        Err(e) => Err((e, config)),
     }
 }
 

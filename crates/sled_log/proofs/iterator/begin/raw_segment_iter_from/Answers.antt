@@ -11,9 +11,6 @@ use Rattle.sled_core.proofs.Iterates.AheadLemmas.{file_ahead, left_ahead}
 use Rattle.sled_core.proofs.Iterates.LeftLemmas.{left_still}
 use Rattle.sled_log.proofs.iterator.begin.raw_segment_iter_from.Goals as goal
 
-pub returns-in-Err-clause-answers : goal.returns-in-Err-clause-answers
-returns-in-Err-clause-answers g c = (g.D.Device.faults c.begin_at.new.config.device, c.in-Err.ensures.answers)
-
 pub returns-in-Ok-clause-begins : goal.returns-in-Ok-clause-begins
 returns-in-Ok-clause-begins g c =
     let trace = g.D.Device.trace in
