@@ -1,10 +1,10 @@
 -- What ends the manifest of a batch: which pegs it may have, and what comes of it.
-use Rattle.std.specs.Prelude.{◌≡◌, ◌+◌, ◌≤ℤ◌, ◌<ℤ◌, ◌⊎◌, ℕ, ℤ, pos, int_lt, unsigned_abs, if◌then◌else◌, List, Contains, Some, slice_get}
+use Rattle.std.specs.Prelude.{◌≡◌, ◌+◌, ◌*◌, ◌≤◌, ◌≤ℤ◌, ◌<ℤ◌, ◌⊎◌, ℕ, ℤ, pos, int_lt, unsigned_abs, if◌then◌else◌, List, Contains, Some, length, slice_get}
 use Rattle.sled_codec.specs.History.{Batch, Batched, History, Step}
 use Rattle.sled_core.specs.Begun.{SegmentView, records_to}
 use Rattle.sled_core.specs.declared.logger.Log.{Log}
 use Rattle.sled_core.specs.declared.reservation.Reservation.{Reservation}
-use Rattle.sled_core.specs.Fits.{config_of, fault_of, line_of, noted_in, pins_of, reserved_end, segment_size_of, stable_end, synced_end}
+use Rattle.sled_core.specs.Fits.{config_of, fault_of, kept_batches, line_of, noted_in, pins_of, reserved_end, segment_size_of, stable_end, synced_end}
 use Rattle.sled_core.specs.OpenBatches.{with_batch}
 use Rattle.sled_core.specs.Tickets.{place_of}
 
@@ -31,7 +31,7 @@ with_batch_for ticket peg bs = if int_lt (place_of ticket) peg then with_batch (
 abbrev pub EndsBatch : History → Reservation → ℤ → History → Type 0
 EndsBatch H ticket peg H' = ((peg ≡ place_of ticket) × (H' ≡ H)) ⊎ ((place_of ticket <ℤ peg) × Step H (Batched (batch_for ticket peg)) H')
 
--- What runs the log, what is written of it, where it is stable, its failure and its pins stay, and the batch is noted.
+-- What runs the log, what is written of it, where it is stable, its failure and its pins stay, and the batch is noted. Where there is one, no more batches are kept then than twice those that aren't wholly on the device.
 pub record NotesBatchOf {D C : Type 0} (ticket : Reservation) (peg : ℤ) (old new : Log D C) : Type 0 where
   pub config : config_of new ≡ config_of old
   pub synced : synced_end new ≡ synced_end old
@@ -39,3 +39,4 @@ pub record NotesBatchOf {D C : Type 0} (ticket : Reservation) (peg : ℤ) (old n
   pub stable : stable_end new ≡ stable_end old
   pub fault : fault_of new ≡ fault_of old
   pub pins : pins_of new ≡ pins_of old
+  pub few : place_of ticket <ℤ peg → kept_batches new ≤ 2 * length (noted_in new)

@@ -83,6 +83,10 @@ synced_end log = log.site.place + log.buffer.written_len
 abbrev pub noted_in : {D C : Type 0} → Log D C → List Batch
 noted_in log = not_whole (synced_end log) (map batch_of log.noted.items)
 
+-- how many batches a log keeps in memory: those, and those that are wholly on the device and weren't left out yet
+abbrev pub kept_batches : {D C : Type 0} → Log D C → ℕ
+kept_batches log = length log.noted.items
+
 -- the place behind the stable end: behind all that is on the device without a gap, or where the lowest batch begins that goes on behind that
 abbrev pub stable_end : {D C : Type 0} → Log D C → ℕ
 stable_end log = stable_below (synced_end log) (noted_in log)

@@ -88,7 +88,7 @@ pub record HasRoomIn (b : IoBuf) (len : ℕ) : Type 0 where
 pub record HasRoomForBatch {D C : Type 0} (log : Log D C) : Type 0 where
   pub place : length log.noted.items + log.manifests < vec_capacity log.noted
 
--- A batch is noted: that changes the noted batches alone, and how many manifests are open.
+-- A batch is noted: that changes the noted batches alone.
 pub record NotesBatch {D C : Type 0} (old new : Log D C) : Type 0 where
   pub config : new.config ≡ old.config
   pub site : new.site ≡ old.site
@@ -98,6 +98,7 @@ pub record NotesBatch {D C : Type 0} (old new : Log D C) : Type 0 where
   pub reserved : new.reserved_to ≡ old.reserved_to
   pub fault : new.fault ≡ old.fault
   pub pins : new.pins ≡ old.pins
+  pub manifests : new.manifests ≡ old.manifests
 
 -- It can be filled to the end of a segment of this size, and sealed, without memory.
 pub record CanClose (b : IoBuf) (size : ℕ) : Type 0 where

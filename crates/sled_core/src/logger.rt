@@ -80,7 +80,7 @@ pub struct Log<D, C> {
     pins: u32,
     /// The batches that were noted, by place, but for those that are wholly on the device and were left out. There is room for that of each open manifest.
     noted: Vec<NotedBatch>,
-    /// No more reservations of manifests are open or abandoned than this.
+    /// How many reservations of manifests are open or abandoned.
     manifests: usize,
     ghost in_segment: { length buffer.bytes.items ≤ config.config.segment_size },
     ghost place_in_reach: { site.place + config.config.segment_size < 2 ^ 63 },
@@ -92,7 +92,7 @@ pub struct Log<D, C> {
     ghost pegs: { All (λ b. b.peg < reserved_to) noted.items },
     ghost by_place: { AreByPlace 0 (map batch_of noted.items) } by { AreByPlace-prop 0 (map batch_of noted.items) },
     ghost room: { length noted.items + manifests ≤ vec_capacity noted },
-    ghost counted: { open_manifests (line_at site buffer behind.items) ≤ manifests },
+    ghost counted: { open_manifests (line_at site buffer behind.items) ≡ manifests },
     ghost indexed: { AreReady (line_at site buffer behind.items) ready } by { AreReady-prop (line_at site buffer behind.items) ready },
 }
 

@@ -1,5 +1,5 @@
 -- The manifest of a ticket ends, and its batch is noted: what is seen of the log then, and that it holds and fits the history with the batch.
-use Rattle.std.proofs.Common.{◌≡◌, ◌∙◌, ◌⊎◌, ◌≤◌, ◌<◌, ◌+◌, ◌-◌, ◌*◌, ◌/◌, ◌<ℤ◌, ap, sym, refl, arith, subst, inl, inr, ℕ, suc, pos, Bool, true, List, length, map, set, None, Some}
+use Rattle.std.proofs.Common.{◌≡◌, ◌∙◌, ◌⊎◌, ◌≤◌, ◌<◌, ◌+◌, ◌-◌, ◌*◌, ◌/◌, ◌<ℤ◌, ap, sym, refl, arith, subst, inl, inr, ℕ, pos, Bool, true, List, length, map, set, None, Some}
 use Rattle.std.specs.Prelude.{int_lt, unsigned_abs, if◌then◌else◌}
 use Rattle.std.specs.List.{Contains, slice_get}
 use Rattle.std.proofs.lemmas.Int.{ints}
@@ -14,12 +14,12 @@ use Rattle.sled_core.specs.declared.iobuf.ReservationState.TheVariants.{Manifest
 use Rattle.sled_core.specs.declared.iobuf.Reserved.{Reserved}
 use Rattle.sled_core.specs.declared.logger.Log.{Log}
 use Rattle.sled_core.specs.declared.reservation.Reservation.{Reservation}
-use Rattle.sled_core.specs.Fits.{Awaits, AwaitsIn, Holds, KeepsAll, KeepsBuffers, config_of, current_of, fault_of, line_of, noted_in, open_places, reserved_end, synced_end}
+use Rattle.sled_core.specs.Fits.{Awaits, AwaitsIn, Holds, KeepsAll, KeepsBuffers, config_of, current_of, fault_of, kept_batches, line_of, noted_in, open_places, reserved_end, synced_end}
 use Rattle.sled_core.specs.Keeps.{GoesOn, KeepsOthers, SamePosition}
 use Rattle.sled_core.specs.Logged.{logged, in_log}
 use Rattle.sled_core.specs.Manifests.{is_manifest}
 use Rattle.sled_core.specs.OpenBatches.{batch_of, not_whole, stable_below, with_batch}
-use Rattle.sled_core.specs.OpenPlaces.{TakesOut, open_manifests, open_places_along}
+use Rattle.sled_core.specs.OpenPlaces.{TakesOut, open_places_along}
 use Rattle.sled_core.specs.Positions.{position_in}
 use Rattle.sled_core.specs.Running.{Fits}
 use Rattle.sled_core.specs.Tickets.{IsFor, index_of, is_manifest_of, place_of}
@@ -35,7 +35,6 @@ use Rattle.sled_core.proofs.Line.Facts.{IsSegment, nth_facts}
 use Rattle.sled_core.proofs.Line.Fillings.{log_off}
 use Rattle.sled_core.proofs.Line.LogSpans.{ended_buffers}
 use Rattle.sled_core.proofs.Line.Moves.{fits_as, holds_as}
-use Rattle.sled_core.proofs.Line.OpenManifests.{manifests_ended}
 use Rattle.sled_core.proofs.Reached.ByPlace.{left_with, stable_with_batch}
 use Rattle.sled_core.proofs.Reserve.Ranges.{at_there}
 use Rattle.sled_core.proofs.Stable.Places.{reserved_ends, reserved_in_reach}
@@ -87,6 +86,19 @@ reserved_at log ticket m awaits place n index place_is n_is index_is = record {
   own = awaits.own;
 }
 
+-- It is whichever reservation is there,
+module _ {D C : Type 0} (log : Log D C) (ticket : Reservation) (n index : ℕ) (f : IsReservedAt log ticket n index) (v : SegmentView) (r : Reserved) (among : slice_get (line_of log) n ≡ Some v) (there : slice_get v.parts.reserved (index - v.gone) ≡ Some r) where
+  is_there : f.reserved ≡ r
+  is_there =
+      let both : Some f.segment ≡ Some v = sym f.among ∙ among in
+      let same : f.segment ≡ v = cc in
+      let both_there : Some f.reserved ≡ Some r = sym f.there ∙ ap (λ (x : SegmentView). slice_get x.parts.reserved (index - x.gone)) same ∙ there in
+      cc
+
+  -- and the ticket says whether that is of a manifest.
+  pub kind_there : is_manifest r.log_kind r.page ≡ is_manifest_of ticket
+  kind_there = ap (λ (x : Reserved). is_manifest x.log_kind x.page) (sym is_there) ∙ sym f.own.manifest
+
 -- A manifest has 8 bytes behind its header.
 module _ {D C : Type 0} (log : Log D C) (ticket : Reservation) (n index : ℕ) (f : IsReservedAt log ticket n index) (manifest : is_manifest_of ticket ≡ true) where
   pub of_manifest : is_manifest f.reserved.log_kind f.reserved.page ≡ true
@@ -97,12 +109,7 @@ module _ {D C : Type 0} (log : Log D C) (ticket : Reservation) (n index : ℕ) (
 
   -- whichever reservation is there
   pub body_there : (v : SegmentView) (r : Reserved) → slice_get (line_of log) n ≡ Some v → slice_get v.parts.reserved (index - v.gone) ≡ Some r → r.len ≡ r.header_len + 8
-  body_there v r among there =
-      let both : Some f.segment ≡ Some v = sym f.among ∙ among in
-      let same : f.segment ≡ v = cc in
-      let both_there : Some f.reserved ≡ Some r = sym f.there ∙ ap (λ (x : SegmentView). slice_get x.parts.reserved (index - x.gone)) same ∙ there in
-      let is : f.reserved ≡ r = cc in
-      subst (λ (x : Reserved). x.len ≡ x.header_len + 8) is manifest_body
+  body_there v r among there = subst (λ (x : Reserved). x.len ≡ x.header_len + 8) (is_there log ticket n index f v r among there) manifest_body
 
 -- What is seen of a log whose batch was noted: the manifest isn't open any more, and all else is as it was.
 pub record IsBatchNoted {D C : Type 0} (trace : D → Trace) (sum : List ℕ → ℕ) (old new : Log D C) (ticket : Reservation) (peg : ℕ) : Type 0 where
@@ -130,10 +137,6 @@ module _ {D C : Type 0} (trace : D → Trace) (sum : List ℕ → ℕ) (old mid 
 
   short : length (marking sum f.segment.parts.bytes f.reserved peg) ≤ f.reserved.len
   short = marking_short sum v i r peg facts f.there f.own.open_yet (manifest_body old ticket n index f manifest)
-
-  -- One manifest fewer is open.
-  pub one_fewer_open : open_manifests (line_of old) ≡ suc (open_manifests (line_of mid))
-  one_fewer_open = manifests_ended (line_of old) n v i r (marking sum v.parts.bytes r peg) Manifest true f.among f.there f.own.open_yet (of_manifest old ticket n index f manifest) refl ∙ ap (λ (l : List SegmentView). suc (open_manifests l)) (sym line)
 
   ended_same : KeepsAll old mid
   ended_same = keeps_ended old mid n v f.among i r f.there f.own.open_yet (marking sum v.parts.bytes r peg) short Manifest line ended
@@ -178,14 +181,15 @@ module _ {D C : Type 0} (trace : D → Trace) (sum : List ℕ → ℕ) (old mid 
     goes_up : int_lt (place_of ticket) (pos peg) ≡ true
     goes_up = grind (arith, ints, above)
 
-    batch_same : NotesBatchOf ticket (pos peg) old new
-    batch_same = record {
+    batch_same : kept_batches new ≤ 2 * length (noted_in new) → NotesBatchOf ticket (pos peg) old new
+    batch_same few = record {
       config = now_config;
       synced = now_synced;
       noted = now_noted ∙ (λ j. with_batch (record { low = (sym begins ∙ low_is) j; peg = peg }) (noted_in old)) ∙ sym (ap (λ (o : Bool). if o then with_batch (batch_for ticket (pos peg)) (noted_in old) else noted_in old) goes_up);
       stable = (λ j. stable_below (now_synced j) (now_noted j)) ∙ stable_with_batch (synced_end old) (noted_in old) (record { low = v.parts.site.place + r.from; peg = peg }) low_unwritten;
       fault = rest.fault ∙ ended.fault;
       pins = rest.pins ∙ ended.pins;
+      few = λ later. few;
     }
 
     batch_position : SamePosition old new
@@ -199,7 +203,7 @@ module _ {D C : Type 0} (trace : D → Trace) (sum : List ℕ → ℕ) (old mid 
 
     batch_goes_on : GoesOn trace sum old new
     batch_goes_on = goes_on_quietly trace sum old new (record { config = ap (λ (c : RunningConfig D C). c.config) now_config; checksum = ap (λ (c : RunningConfig D C). c.checksum) now_config })
-        (ap (λ (c : RunningConfig D C). trace c.device) now_config) (let same = now_synced in omega (arith, same)) (λ none. sym batch_same.fault ∙ none)
+        (ap (λ (c : RunningConfig D C). trace c.device) now_config) (let same = now_synced in omega (arith, same)) (λ none. sym (rest.fault ∙ ended.fault) ∙ none)
 
     -- the reservation isn't open any more, and the others are for what they were for,
     batch_opens : (place : ℕ) → pos place ≡ place_of ticket → TakesOut place (open_places old) (open_places new)
@@ -217,8 +221,8 @@ module _ {D C : Type 0} (trace : D → Trace) (sum : List ℕ → ℕ) (old mid 
         (logged H) holds.holds ticket other (in_log m) f.own.place awaits elsewhere)
 
     -- so much is seen,
-    pub batch_seen : IsBatchNoted trace sum old new ticket peg
-    batch_seen = record { same = batch_same; position = batch_position; buffers = batch_buffers; goes_on = batch_goes_on; opens = batch_opens; others = batch_others }
+    pub batch_seen : kept_batches new ≤ 2 * length (noted_in new) → IsBatchNoted trace sum old new ticket peg
+    batch_seen few = record { same = batch_same few; position = batch_position; buffers = batch_buffers; goes_on = batch_goes_on; opens = batch_opens; others = batch_others }
 
     -- and the log holds the history with the batch,
     pub batch_holds : peg < reserved_end old → ((b : Batch) → Contains (noted_in old) b → (pos b.peg <ℤ place_of ticket) ⊎ (peg < b.low)) → LiesInNoFilling old.config.config.segment_size (line_of old) (pos peg) → (H : History) → Holds trace sum old H

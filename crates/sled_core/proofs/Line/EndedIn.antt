@@ -20,7 +20,7 @@ use Rattle.sled_core.specs.Turned.{HasOpenIn, ended_now}
 use Rattle.sled_core.proofs.Line.EndedLine.{behind_within, canceling_short, completing_short, ended_view, filled_over, first_is, first_reserved, line_behind, marking_short, mut_reserved, read_is, read_there}
 use Rattle.sled_core.proofs.Line.Facts.{nth_facts}
 use Rattle.sled_core.proofs.Line.Filling.{follow_in, follow_with}
-use Rattle.sled_core.proofs.Line.OpenManifests.{ended_no_more, fewer_counted, manifests_ended}
+use Rattle.sled_core.proofs.Line.OpenManifests.{fewer_counted, manifests_ended}
 
 -- A way to end a reservation, which is open: the bytes that go over the beginning of its record, and the state that it has then.
 pub record IsEnding {D C : Type 0} (log : Log D C) (n index : ℕ) (its : HasOpenIn (line_of log) n index) (how : List ℕ → Reserved → List ℕ) (state : ReservationState) : Type 0 where
@@ -44,9 +44,8 @@ pub record HasEnded {D C : Type 0} (log : Log D C) (n index : ℕ) (its : HasOpe
   pub follow : FollowOn (segment_size_of log) (log.site.place + segment_size_of log) ss
   -- all of them are filled as those of a log
   pub filled : AreFilled (segment_size_of log) log.reserved_to (line_at log.site b ss)
-  -- no more manifests are open than were, and one fewer where it was of one
-  pub counted : open_manifests (line_at log.site b ss) ≤ log.manifests
-  pub fewer : (manifest : Bool) (count : ℕ) → is_manifest its.reserved.log_kind its.reserved.page ≡ manifest → log.manifests ≡ (if manifest then suc count else count) → open_manifests (line_at log.site b ss) ≤ count
+  -- as many manifests are open as were, and one fewer where it was of one
+  pub counted : (manifest : Bool) (count : ℕ) → is_manifest its.reserved.log_kind its.reserved.page ≡ manifest → log.manifests ≡ (if manifest then suc count else count) → open_manifests (line_at log.site b ss) ≡ count
 
 module _ {D C : Type 0} (log : Log D C) (n index : ℕ) (its : HasOpenIn (line_of log) n index) where
   -- It is completed, or aborted, or it is the manifest of a batch that has ended.
@@ -132,16 +131,9 @@ module _ {D C : Type 0} (log : Log D C) (n index : ℕ) (its : HasOpenIn (line_o
     ended_filled line is = subst (AreFilled size log.reserved_to) (sym is)
         (filled_over size log.reserved_to (line_of log) n its.segment (index - its.segment.gone) its.reserved (how its.segment.parts.bytes its.reserved) state its.among (nth_facts log n its.segment its.among) its.there its.open_yet way.plain way.short log.filled)
 
-    -- and no more manifests are open, or one fewer.
-    ended_counted : (line : List SegmentView) → line ≡ now → open_manifests line ≤ log.manifests
-    ended_counted line is =
-        let same = ap open_manifests is in
-        let fewer = ended_no_more (line_of log) n its.segment (index - its.segment.gone) its.reserved (how its.segment.parts.bytes its.reserved) state its.among its.there its.open_yet way.closed in
-        let old = log.counted in
-        omega (arith, same, fewer, old)
-
-    ended_fewer : (line : List SegmentView) → line ≡ now → (manifest : Bool) (count : ℕ) → is_manifest its.reserved.log_kind its.reserved.page ≡ manifest → log.manifests ≡ (if manifest then suc count else count) → open_manifests line ≤ count
-    ended_fewer line is manifest count kind less =
+    -- and as many manifests are open, or one fewer.
+    ended_counted : (line : List SegmentView) → line ≡ now → (manifest : Bool) (count : ℕ) → is_manifest its.reserved.log_kind its.reserved.page ≡ manifest → log.manifests ≡ (if manifest then suc count else count) → open_manifests line ≡ count
+    ended_counted line is manifest count kind less =
         let all = manifests_ended (line_of log) n its.segment (index - its.segment.gone) its.reserved (how its.segment.parts.bytes its.reserved) state manifest its.among its.there its.open_yet kind way.closed in
         fewer_counted manifest (open_manifests (line_of log)) (open_manifests line) log.manifests count (all ∙ (λ j. if manifest then suc (open_manifests (sym is j)) else open_manifests (sym is j))) less log.counted
 
@@ -165,7 +157,6 @@ module _ {D C : Type 0} (log : Log D C) (n index : ℕ) (its : HasOpenIn (line_o
           follow = log.follow;
           filled = ended_filled (line_at log.site new log.behind.items) line;
           counted = ended_counted (line_at log.site new log.behind.items) line;
-          fewer = ended_fewer (line_at log.site new log.behind.items) line;
         }
 
     -- One behind it had it.
@@ -190,5 +181,4 @@ module _ {D C : Type 0} (log : Log D C) (n index : ℕ) (its : HasOpenIn (line_o
           follow = follow_with size (log.site.place + size) log.behind.items (n - 1) t after at refl (let short = follow_in size (log.site.place + size) log.behind.items (n - 1) t at log.follow in omega (arith, long, short)) log.follow;
           filled = ended_filled (line_at log.site log.buffer (set log.behind.items (n - 1) after)) line;
           counted = ended_counted (line_at log.site log.buffer (set log.behind.items (n - 1) after)) line;
-          fewer = ended_fewer (line_at log.site log.buffer (set log.behind.items (n - 1) after)) line;
         }

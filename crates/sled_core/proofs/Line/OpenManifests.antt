@@ -1,18 +1,19 @@
 -- How many reservations of manifests are open: in segments one behind another, with the last one changed, with one of them changed, and without those at the front that are wholly on the device.
-use Rattle.std.proofs.Common.{◌≡◌, ◌∙◌, ◌≤◌, ◌<◌, ◌+◌, ◌/◌, ◌==◌, ◌&&◌, nat_lt, ap, refl, arith, ℕ, zero, suc, Bool, true, false, if◌then◌else◌, List, [], ◌∷◌, ◌++◌, length, drop, set, Some}
+use Rattle.std.proofs.Common.{◌≡◌, ◌∙◌, ◌≤◌, ◌<◌, ◌+◌, ◌/◌, ◌&&◌, nat_lt, ap, refl, arith, ℕ, zero, suc, Bool, true, false, if◌then◌else◌, List, [], ◌∷◌, ◌++◌, length, drop, take, set, Some}
 use Rattle.std.specs.List.{slice_get}
+use Rattle.std.proofs.lemmas.List.{take-append-drop}
 use Rattle.sled_store.specs.SegmentStates.{Machine}
 use Rattle.sled_core.specs.Begun.{SegmentView}
-use Rattle.sled_core.specs.Buffers.{ended, open_state, padding_at}
+use Rattle.sled_core.specs.Buffers.{ended, none_open, open_state, padding_at}
 use Rattle.sled_core.specs.Caps.{segment_rest}
 use Rattle.sled_core.specs.declared.iobuf.ReservationState.{ReservationState}
 use Rattle.sled_core.specs.declared.iobuf.ReservationState.TheVariants.{Open}
 use Rattle.sled_core.specs.declared.iobuf.Reserved.{Reserved}
 use Rattle.sled_core.specs.Manifests.{is_manifest}
 use Rattle.sled_core.specs.OpenPlaces.{open_manifests, open_manifests_in}
-use Rattle.sled_core.specs.SealedBuffers.{run_count, written_at}
-use Rattle.sled_core.specs.Turned.{begun_view, ended_now, next_line, promoted, reserved_now, written_now}
+use Rattle.sled_core.specs.Turned.{begun_view, ended_now, next_line, promoted, reserved_now}
 use Rattle.sled_core.specs.Waiting.{at_last, closed_now, filled_now, last_of, sealed_now, with_filling}
+use Rattle.sled_core.proofs.Line.Segments.{AreSegments, by_front, full_empty}
 
 -- those of a segment
 abbrev pub manifests_of : SegmentView → ℕ
@@ -34,14 +35,21 @@ along-append : (vs ws : List SegmentView) → open_manifests (vs ++ ws) ≡ open
 along-append [] ws = omega arith
 along-append (v ∷ vs) ws = let rest = along-append vs ws in omega (arith, rest)
 
--- There are no more of them without the first ones.
-manifests_dropped : (n : ℕ) (rs : List Reserved) → open_manifests_in (drop n rs) ≤ open_manifests_in rs
-manifests_dropped zero rs = omega arith
-manifests_dropped (suc n) [] = omega arith
-manifests_dropped (suc n) (r ∷ rs) = by (open_state r.state && is_manifest r.log_kind r.page) (manifests_dropped n rs) where
-  by : (o : Bool) → open_manifests_in (drop n rs) ≤ open_manifests_in rs → open_manifests_in (drop n rs) ≤ one_more o (open_manifests_in rs)
-  by true rest = omega (arith, rest)
-  by false rest = rest
+-- There are none where none is open,
+none_manifests : (rs : List Reserved) → none_open rs ≡ true → open_manifests_in rs ≡ 0
+none_manifests [] none = refl
+none_manifests (r ∷ rs) none = by (none_manifests rs) (open_state r.state) none where
+  by : (none_open rs ≡ true → open_manifests_in rs ≡ 0) → (o : Bool) → (if o then false else none_open rs) ≡ true → one_more (o && is_manifest r.log_kind r.page) (open_manifests_in rs) ≡ 0
+  by rest true none = cc
+  by rest false none = rest none
+
+-- and as many without the first ones, of which none is open.
+pub manifests_behind : (n : ℕ) (rs : List Reserved) → none_open (take n rs) ≡ true → open_manifests_in (drop n rs) ≡ open_manifests_in rs
+manifests_behind n rs none =
+    let all = manifests-append (take n rs) (drop n rs) in
+    let whole = ap open_manifests_in (take-append-drop n rs) in
+    let front = none_manifests (take n rs) none in
+    omega (arith, all, whole, front)
 
 -- One that isn't open adds none, and one that is adds one where it is of a manifest.
 closed_adds_none : (rs : List Reserved) (r : Reserved) → open_state r.state ≡ false → open_manifests_in (rs ++ r ∷ []) ≡ open_manifests_in rs
@@ -98,14 +106,15 @@ manifests_reserved more r manifest v vs is kind = by manifest (at_last_adds (res
   by true all = omega (arith, all)
   by false all = omega (arith, all)
 
--- Those at the front that are wholly on the device are left out.
-pub manifests_promoted : (size : ℕ) (line : List SegmentView) → open_manifests (promoted size line) ≤ open_manifests line
-manifests_promoted size [] = omega arith
-manifests_promoted size (v ∷ []) = omega arith
-manifests_promoted size (v ∷ w ∷ ws) = by (v.parts.written_len == size) (manifests_promoted size (w ∷ ws)) where
-  by : (o : Bool) → open_manifests (promoted size (w ∷ ws)) ≤ open_manifests (w ∷ ws) → open_manifests (if o then promoted size (w ∷ ws) else v ∷ w ∷ ws) ≤ open_manifests (v ∷ w ∷ ws)
-  by true rest = omega (arith, rest)
-  by false rest = omega arith
+-- Those at the front that are wholly on the device have no reservations.
+pub manifests_promoted : (size place : ℕ) (vs : List SegmentView) → 256 ≤ size → AreSegments size place vs → open_manifests (promoted size vs) ≡ open_manifests vs
+manifests_promoted size place vs big are =
+    (by_front size (λ l. ((p : ℕ) × AreSegments size p l) × (open_manifests l ≡ open_manifests vs))
+    (λ v w ws full has. ((has.0.0 + size, has.0.1.1), gone v w ws (full_empty size has.0.0 v big has.0.1.0 full) ∙ has.1))
+    vs ((place, are), refl)).1
+  where
+    gone : (v w : SegmentView) (ws : List SegmentView) → v.parts.reserved ≡ [] → open_manifests (w ∷ ws) ≡ open_manifests (v ∷ w ∷ ws)
+    gone v w ws none = let own : manifests_of v ≡ 0 = ap open_manifests_in none in omega (arith, own)
 
 -- One of the segments is another.
 set_manifests : (line : List SegmentView) (n : ℕ) (v w : SegmentView) → slice_get line n ≡ Some v → open_manifests (set line n w) + manifests_of v ≡ open_manifests line + manifests_of w
@@ -116,12 +125,9 @@ set_manifests (x ∷ xs) zero v w there =
     omega (arith, own)
 set_manifests (x ∷ xs) (suc n) v w there = let rest = set_manifests xs n v w there in omega (arith, rest)
 
--- One of its sealed buffers is written.
-pub manifests_written : (line : List SegmentView) (n k : ℕ) (v : SegmentView) → slice_get line n ≡ Some v → open_manifests (set line n (written_now k v)) ≤ open_manifests line
-manifests_written line n k v there =
-    let all = set_manifests line n v (written_now k v) there in
-    let fewer : manifests_of (written_now k v) ≤ manifests_of v = manifests_dropped (run_count (written_at k v.parts.sealed)) v.parts.reserved in
-    omega (arith, all, fewer)
+-- It has as many.
+pub set_same : (line : List SegmentView) (n : ℕ) (v w : SegmentView) → slice_get line n ≡ Some v → manifests_of w ≡ manifests_of v → open_manifests (set line n w) ≡ open_manifests line
+set_same line n v w there same = let all = set_manifests line n v w there in omega (arith, all, same)
 
 -- One of its reservations has ended: there is one fewer where it is of a manifest.
 ended_fewer : (rs : List Reserved) (i : ℕ) (r new : Reserved) (manifest : Bool) → slice_get rs i ≡ Some r → r.state ≡ Open → is_manifest r.log_kind r.page ≡ manifest → open_state new.state ≡ false
@@ -148,25 +154,17 @@ manifests_ended line n v i r text state manifest among there is kind closed = by
   by true fewer = let all = set_manifests line n v (ended_now i r text state v) among in omega (arith, all, fewer)
   by false fewer = let all = set_manifests line n v (ended_now i r text state v) among in omega (arith, all, fewer)
 
--- whatever it is of, there are no more
-pub ended_no_more : (line : List SegmentView) (n : ℕ) (v : SegmentView) (i : ℕ) (r : Reserved) (text : List ℕ) (state : ReservationState) → slice_get line n ≡ Some v → slice_get v.parts.reserved i ≡ Some r → r.state ≡ Open → open_state state ≡ false
-    → open_manifests (set line n (ended_now i r text state v)) ≤ open_manifests line
-ended_no_more line n v i r text state among there is closed = by (is_manifest r.log_kind r.page) (manifests_ended line n v i r text state (is_manifest r.log_kind r.page) among there is refl closed) where
-  by : (o : Bool) → open_manifests line ≡ one_more o (open_manifests (set line n (ended_now i r text state v))) → open_manifests (set line n (ended_now i r text state v)) ≤ open_manifests line
-  by true all = omega (arith, all)
-  by false all = omega (arith, all)
-
--- What a log counts of them, which are no more than that: with a further one, and without one of them.
-pub more_counted : (manifest : Bool) (old new count now : ℕ) → new ≡ (if manifest then suc old else old) → now ≡ (if manifest then suc count else count) → old ≤ count → new ≤ now
+-- What a log counts of them: with a further one, and without one of them.
+pub more_counted : (manifest : Bool) (old new count now : ℕ) → new ≡ (if manifest then suc old else old) → now ≡ (if manifest then suc count else count) → old ≡ count → new ≡ now
 more_counted true old new count now more is low = omega (arith, more, is, low)
 more_counted false old new count now more is low = omega (arith, more, is, low)
 
-pub fewer_counted : (manifest : Bool) (old new count now : ℕ) → old ≡ (if manifest then suc new else new) → count ≡ (if manifest then suc now else now) → old ≤ count → new ≤ now
+pub fewer_counted : (manifest : Bool) (old new count now : ℕ) → old ≡ (if manifest then suc new else new) → count ≡ (if manifest then suc now else now) → old ≡ count → new ≡ now
 fewer_counted true old new count now fewer is low = omega (arith, fewer, is, low)
 fewer_counted false old new count now fewer is low = omega (arith, fewer, is, low)
 
 -- one that is open is among those
-pub some_counted : (manifest : Bool) (old new count : ℕ) → old ≡ (if manifest then suc new else new) → old ≤ count → manifest ≡ true → 0 < count
+pub some_counted : (manifest : Bool) (old new count : ℕ) → old ≡ (if manifest then suc new else new) → old ≡ count → manifest ≡ true → 0 < count
 some_counted true old new count fewer low is = omega (arith, fewer, low)
 some_counted false old new count fewer low is = cc
 

@@ -14,6 +14,7 @@ use Rattle.sled_core.specs.SealedBuffers.{AreSealed, is_ready, run_count, writte
 use Rattle.sled_core.specs.Tickets.{IsFor, index_of}
 use Rattle.sled_core.specs.Turned.{written_now}
 use Rattle.sled_core.proofs.Line.Nth.{set_get, set_other}
+use Rattle.sled_core.proofs.Line.OpenManifests.{manifests_behind, manifests_of}
 use Rattle.sled_core.proofs.Line.OpenPlaces.{none_placed, places_of, places_parted}
 use Rattle.sled_core.proofs.Line.Segments.{run_written}
 use Rattle.sled_core.proofs.Sealed.Ended.{get_behind, get_front}
@@ -69,6 +70,10 @@ module _ (line : List SegmentView) (n k : ℕ) (v : SegmentView) (b : Sealed) (a
     }
   ]
 
-  -- and the same reservations are open
+  -- the same reservations are open,
   pub places_written : places_of (written_now k v) ≡ places_of v
   places_written = sym (places_parted v.parts.site.place gone entries ∙ ap (λ (l : List ℕ). l ++ open_places_in v.parts.site.place (drop gone entries)) (none_placed v.parts.site.place (take gone entries) closed))
+
+  -- and as many are of manifests
+  pub manifests_written : manifests_of (written_now k v) ≡ manifests_of v
+  manifests_written = manifests_behind gone entries closed

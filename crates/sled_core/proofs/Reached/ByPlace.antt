@@ -1,5 +1,5 @@
 -- Batches by place: with one more, and of those that are left of them.
-use Rattle.std.proofs.Common.{◌≡◌, ◌⊎◌, ◌∙◌, ◌<◌, ◌≤◌, ◌+◌, ℕ, Bool, true, false, List, [], ◌∷◌, refl, sym, ap, subst, arith, inl, inr}
+use Rattle.std.proofs.Common.{◌≡◌, ◌⊎◌, ◌∙◌, ◌<◌, ◌≤◌, ◌+◌, ℕ, suc, Bool, true, false, List, [], ◌∷◌, length, refl, sym, ap, subst, arith, inl, inr}
 use Rattle.std.specs.Prelude.{nat_lt, min, if◌then◌else◌}
 use Rattle.std.specs.List.{Contains}
 use Rattle.std.proofs.lemmas.Bool.Decides.{nat_tests}
@@ -35,6 +35,14 @@ with_rest b (c ∷ cs) x there = by (with_rest b cs x) (in_cases c x cs there) (
   by rest (inr known) true = in_rest b x (c ∷ cs) there
   by rest (inl same) false = subst (Contains (c ∷ with_batch b cs)) same (in_first c (with_batch b cs))
   by rest (inr known) false = in_rest c x (with_batch b cs) (rest known)
+
+-- There is one more of them.
+pub one_longer : (b : Batch) (cs : List Batch) → length (with_batch b cs) ≡ length cs + 1
+one_longer b [] = refl
+one_longer b (c ∷ cs) = by (one_longer b cs) (nat_lt b.low c.low) where
+  by : length (with_batch b cs) ≡ length cs + 1 → (o : Bool) → length (if o then b ∷ c ∷ cs else c ∷ with_batch b cs) ≡ suc (length cs) + 1
+  by rest true = omega arith
+  by rest false = omega (arith, rest)
 
 -- The stable place is the same with one more, which begins at what is read or behind it.
 pub stable_with_batch : (reach : ℕ) (bs : List Batch) (b : Batch) → reach ≤ b.low → stable_below reach (with_batch b bs) ≡ stable_below reach bs

@@ -203,3 +203,15 @@ each_apart end low peg past xs apart k d lt = elim (cases_lt (get_or xs k d).peg
   | inl ended ↦ inl (omega (arith, ended, past))
   | inr later ↦ apart (batch_of (get_or xs k d)) (is_left end xs k d lt later)
 ]
+
+-- Where all of them from one on aren't wholly read, no fewer are left than those.
+pub left_from : (end i : ℕ) (xs : List NotedBatch) → ((j : ℕ) (d : NotedBatch) → i ≤ j → j < length xs → end ≤ (get_or xs j d).peg) → length xs ≤ i + length (left_of end xs)
+left_from end i [] later = omega arith
+left_from end zero (b ∷ xs) later = by (nat_lt b.peg end) refl (let rest = left_from end 0 xs (λ j d low lt. later (suc j) d (omega arith) (omega (arith, lt))) in omega (arith, rest)) where
+  by : (o : Bool) → nat_lt b.peg end ≡ o → length xs ≤ length (left_of end xs) → suc (length xs) ≤ 0 + length (if o then left_of end xs else batch_of b ∷ left_of end xs)
+  by true ended rest = let own = later 0 b (omega arith) (omega arith) in absurd (grind (arith, nat_tests, ended, own))
+  by false ended rest = omega (arith, rest)
+left_from end (suc i) (b ∷ xs) later = by (nat_lt b.peg end) (left_from end i xs (λ j d low lt. later (suc j) d (omega (arith, low)) (omega (arith, lt)))) where
+  by : (o : Bool) → length xs ≤ i + length (left_of end xs) → suc (length xs) ≤ suc i + length (if o then left_of end xs else batch_of b ∷ left_of end xs)
+  by true rest = omega (arith, rest)
+  by false rest = omega (arith, rest)

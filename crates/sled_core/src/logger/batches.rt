@@ -4,13 +4,12 @@
 //! manifest is reserved, room is made for its batch. The batches are kept by place, and looked for by a search: each ends in front
 //! of where the next one begins, since a batch that is noted has no place in common with one that isn't wholly on the device, and
 //! begins behind all that is.
-ghost use Rattle.std.specs.Prelude.{vec_capacity, ◌≡◌, ◌+◌, ◌-◌, ◌<◌, ◌≤◌, ◌^◌, ◌⊎◌, ◌↔◌, ◌<ℤ◌, pos, if◌then◌else◌, suc, ℕ, All, Contains, IsTrue, map, length, true, OnOk, IsOkUnless};
+ghost use Rattle.std.specs.Prelude.{vec_capacity, ◌≡◌, ◌+◌, ◌*◌, ◌<◌, ◌≤◌, ◌^◌, ◌⊎◌, ◌↔◌, ◌<ℤ◌, pos, if◌then◌else◌, suc, ℕ, All, Contains, IsTrue, map, length, true, OnOk, IsOkUnless};
 ghost use Rattle.std.specs.List.Sorted.{IsPartitionPoint};
 ghost use Rattle.sled_codec.specs.History.{Batch};
-ghost use Rattle.sled_core.specs.Fits.{line_of, noted_in, reserved_end, stable_end, synced_end};
+ghost use Rattle.sled_core.specs.Fits.{kept_batches, noted_in, reserved_end, stable_end, synced_end};
 ghost use Rattle.sled_core.specs.OpenBatches.{AreByPlace, batch_of, behind_batch, not_whole, stable_below, with_batch};
-ghost use Rattle.sled_core.specs.OpenPlaces.{open_manifests};
-ghost use Rattle.sled_core.specs.Turned.{NotesBatch};
+ghost use Rattle.sled_core.specs.Turned.{HasRoomForBatch, NotesBatch};
 
 use crate::logger::Log;
 use sled_codec::result::{Error, Lsn, Result};
@@ -55,49 +54,49 @@ impl<D: Device, C: Checksum> Log<D, C> {
 
     /// Notes the batch of a manifest that has ended. It takes no memory.
     ///
-    /// It is put in by place, which is mostly behind the others. Where there are 1, 2, 4, 8 and so on of them, those are left out
-    /// first that are wholly on the device. So the list is no longer than twice those that aren't, and each of them is looked at a
-    /// few times, however many are noted one behind another.
+    /// It is put in by place, which is mostly behind the others. Those that are wholly on the device are left out before, where
+    /// they are half of all or more. So the list is no longer than twice those that aren't, and for each one that is left out no more
+    /// than two are looked at, however many are noted one behind another.
     pub(crate) fn note(&mut self, low: u64, peg: u64)
-        requires some { 0 < self.old.manifests }
+        requires room { HasRoomForBatch self.old }
         requires above { low ≤ peg }
         requires within { peg < reserved_end self.old }
         requires unwritten { synced_end self.old ≤ low }
         requires apart { (b : Batch) → Contains (noted_in self.old) b → (b.peg < low) ⊎ (peg < b.low) }
-        requires counted { open_manifests (line_of self.old) < self.old.manifests }
         ensures noted { noted_in self.new ≡ with_batch (record { low = low; peg = peg }) (noted_in self.old) }
-        ensures manifests { self.new.manifests ≡ self.old.manifests - 1 }
+        ensures few { kept_batches self.new ≤ 2 * length (noted_in self.new) }
         ensures rest { NotesBatch self.old self.new }
     {
-        if (self.noted.len() as u64).is_power_of_two() {
-            self.drop_whole();
-        }
+        self.drop_whole();
         self.put_batch(low, peg);
     }
 
     /// Notes it among the others.
     fn put_batch(&mut self, low: u64, peg: u64)
-        requires some { 0 < self.old.manifests }
+        requires room { HasRoomForBatch self.old }
         requires above { low ≤ peg }
         requires within { peg < reserved_end self.old }
         requires apart { All (λ b. (b.peg < low) ⊎ (peg < b.low)) self.old.noted.items }
-        requires counted { open_manifests (line_of self.old) < self.old.manifests }
         ensures noted { map batch_of self.new.noted.items ≡ with_batch (record { low = low; peg = peg }) (map batch_of self.old.noted.items) }
-        ensures manifests { self.new.manifests ≡ self.old.manifests - 1 }
+        ensures longer { kept_batches self.new ≡ kept_batches self.old + 1 }
         ensures rest { NotesBatch self.old self.new }
     {
-        self.manifests -= 1;
         put_in(&mut self.noted, NotedBatch { low, peg });
     }
 
-    /// Leaves out the batches that are wholly on the device.
+    /// Leaves out the batches that are wholly on the device, where they are half of all or more.
     fn drop_whole(&mut self)
+        requires room { HasRoomForBatch self.old }
+        ensures room { HasRoomForBatch self.new }
         ensures noted { noted_in self.new ≡ noted_in self.old }
-        ensures manifests { self.new.manifests ≡ self.old.manifests }
+        ensures few { kept_batches self.new ≤ 2 * length (noted_in self.new) }
         ensures rest { NotesBatch self.old self.new }
     {
         let end = self.synced_end();
-        keep_open(&mut self.noted, end);
+        let whole = ended_before(&self.noted, end);
+        if whole >= self.noted.len() - whole {
+            keep_open(&mut self.noted, end);
+        }
     }
 }
 

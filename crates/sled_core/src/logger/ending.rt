@@ -1,12 +1,12 @@
 //! Which reservation a ticket is for, and ending it.
-ghost use Rattle.std.specs.Prelude.{◌≡◌, ◌+◌, ◌-◌, ◌≤◌, ◌<◌, ◌^◌, ◌↔◌, ℕ, true, All, Some, IsTrue, length, set, slice_get};
+ghost use Rattle.std.specs.Prelude.{◌≡◌, ◌+◌, ◌-◌, ◌≤◌, ◌<◌, ◌^◌, ◌↔◌, ℕ, false, true, All, Some, IsTrue, length, set, slice_get};
 ghost use Rattle.sled_core.specs.declared.iobuf.Reserved.{Reserved};
 ghost use Rattle.sled_core.specs.Begun.{SegmentView};
 ghost use Rattle.sled_core.specs.Buffers.{canceling, completing, marking, none_open};
 ghost use Rattle.sled_core.specs.Fits.{IsOpen, NoneOpen, line_of};
 ghost use Rattle.sled_core.specs.Manifests.{is_manifest};
 ghost use Rattle.sled_core.specs.Tickets.{IsFor};
-ghost use Rattle.sled_core.specs.Turned.{ChangesLine, HasOpenIn, IsOpenIn, ended_now};
+ghost use Rattle.sled_core.specs.Turned.{ChangesLine, HasOpenIn, HasRoomForBatch, IsOpenIn, ended_now};
 
 use crate::iobuf::{IoBuf, ReservationState, Reserved, SegmentPosition};
 use crate::logger::Log;
@@ -20,10 +20,12 @@ use sled_store::Device;
 use std::collections::VecDeque;
 
 impl<D: Device, C: Checksum> Log<D, C> {
-    /// Completes a reservation of a segment, by their numbers.
+    /// Completes a reservation of a segment, by their numbers. It isn't of a manifest.
     #[inline(always)]
     pub(crate) fn complete_in(&mut self, n: usize, index: usize)
-        requires { HasOpenIn (line_of self.old) n index }
+        requires awaited { HasOpenIn (line_of self.old) n index }
+        requires message { (v : SegmentView) (r : Reserved) → slice_get (line_of self.old) n ≡ Some v → slice_get v.parts.reserved (index - v.gone) ≡ Some r
+            → is_manifest r.log_kind r.page ≡ false }
         ensures line { (v : SegmentView) (r : Reserved) → slice_get (line_of self.old) n ≡ Some v → slice_get v.parts.reserved (index - v.gone) ≡ Some r
             → line_of self.new ≡ set (line_of self.old) n (ended_now (index - v.gone) r (completing r) ReservationState.Completed v) }
         ensures rest { ChangesLine self.old self.new }
@@ -65,26 +67,31 @@ impl<D: Device, C: Checksum> Log<D, C> {
         }
     }
 
-    /// Ends one that is the manifest of a batch, with the peg of this.
+    /// Ends one that is the manifest of a batch, with the peg of this. The room that was made for the batch is left for it.
     pub(crate) fn mark_batch_in(&mut self, n: usize, index: usize, peg: u64)
         requires awaited { HasOpenIn (line_of self.old) n index }
         requires body { (v : SegmentView) (r : Reserved) → slice_get (line_of self.old) n ≡ Some v → slice_get v.parts.reserved (index - v.gone) ≡ Some r
             → r.len ≡ r.header_len + 8 }
+        requires kind { (v : SegmentView) (r : Reserved) → slice_get (line_of self.old) n ≡ Some v → slice_get v.parts.reserved (index - v.gone) ≡ Some r
+            → is_manifest r.log_kind r.page ≡ true }
         ensures line { (v : SegmentView) (r : Reserved) → slice_get (line_of self.old) n ≡ Some v → slice_get v.parts.reserved (index - v.gone) ≡ Some r
             → line_of self.new ≡ set (line_of self.old) n (ended_now (index - v.gone) r (marking C.sum_of v.parts.bytes r peg) ReservationState.Manifest v) }
         ensures rest { ChangesLine self.old self.new }
-        ensures manifests { self.new.manifests ≡ self.old.manifests }
+        ensures room { HasRoomForBatch self.new }
     {
         let checksum = &self.config.checksum;
+        let manifests = without_manifest(self.manifests, true);
         if n == 0 {
             let i = index - self.buffer.gone;
             self.buffer.mark_batch(checksum, i, peg);
             self.ready.note_ended(&self.site, &self.buffer, i);
+            self.manifests = manifests;
         } else {
             let s = &mut self.behind[n - 1];
             let i = index - s.buffer.gone;
             s.buffer.mark_batch(checksum, i, peg);
             self.ready.note_ended(&s.site, &s.buffer, i);
+            self.manifests = manifests;
         }
     }
 

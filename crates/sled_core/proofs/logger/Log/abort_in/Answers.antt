@@ -61,7 +61,7 @@ invariant_of-self g c =
       pegs = log.pegs;
       by_place = log.by_place;
       room = (let old = log.room in let fewer = without_fewer c.args.manifest log.manifests c.without_manifest-manifests.result c.without_manifest-manifests.ensures in omega (arith, old, fewer));
-      counted = now.fewer c.args.manifest c.without_manifest-manifests.result (c.requires.kind its.segment its.reserved its.among its.there) c.without_manifest-manifests.ensures;
+      counted = now.counted c.args.manifest c.without_manifest-manifests.result (c.requires.kind its.segment its.reserved its.among its.there) c.without_manifest-manifests.ensures;
       indexed = indexed log c.args.n c.args.index its (canceling g.C.Checksum.sum_of) Canceled log.site log.buffer c.abort.new.self did _ (now.line its.segment its.reserved its.among its.there) c.note_ended.new.self c.note_ended.ensures;
     }
 
@@ -113,7 +113,7 @@ invariant_of-self-else-n-eq0 g c =
       pegs = log.pegs;
       by_place = log.by_place;
       room = (let old = log.room in let fewer = without_fewer c.args.manifest log.manifests c.without_manifest-manifests.result c.without_manifest-manifests.ensures in omega (arith, old, fewer));
-      counted = now.fewer c.args.manifest c.without_manifest-manifests.result (c.requires.kind its.segment its.reserved its.among its.there) c.without_manifest-manifests.ensures;
+      counted = now.counted c.args.manifest c.without_manifest-manifests.result (c.requires.kind its.segment its.reserved its.among its.there) c.without_manifest-manifests.ensures;
       indexed = indexed log c.args.n c.args.index its (canceling g.C.Checksum.sum_of) Canceled t.site t.buffer c.abort-else-n-eq0.new.self did _ (now.line its.segment its.reserved its.among its.there) c.note_ended-else-n-eq0.new.self c.note_ended-else-n-eq0.ensures;
     }
 

@@ -210,7 +210,7 @@ module _ {D C : Type 0} (sum : List ℕ → ℕ) (old mid : Log D C) (line : lin
       All-weaker (λ (b : NotedBatch). b.peg < mid.reserved_to) (λ (b : NotedBatch). b.peg < to) (λ b less. omega (arith, less, same, grows)) mid.noted.items mid.pegs
 
   -- and as many manifests are open
-  begun_counted : open_manifests (line_at mid.site b (ss ++ s ∷ [])) ≤ mid.manifests
+  begun_counted : open_manifests (line_at mid.site b (ss ++ s ∷ [])) ≡ mid.manifests
   begun_counted =
       let all = ap open_manifests next_is ∙ manifests_next sum its_size (machine_at old) (stable_end old) (line_of old) in
       let same = ap open_manifests line in
@@ -471,7 +471,7 @@ invariant_of-self-2 g c =
       pegs = begun_pegs sum old mid line rest b ss (closed g c) (next g c) (next_at g c) slot begun c.args.to c.requires.grows;
       by_place = mid.by_place;
       room = mid.room;
-      counted = subst (λ (l : List SegmentBuffer). open_manifests (line_at mid.site b l) ≤ mid.manifests) (sym c.push_back_reserved.ensures.items) (begun_counted sum old mid line rest b ss (closed g c) (next g c) (next_at g c) slot begun);
+      counted = subst (λ (l : List SegmentBuffer). open_manifests (line_at mid.site b l) ≡ mid.manifests) (sym c.push_back_reserved.ensures.items) (begun_counted sum old mid line rest b ss (closed g c) (next g c) (next_at g c) slot begun);
       indexed = subst (λ (l : List SegmentBuffer). AreReady (line_at mid.site b l) (ready_then g c)) (sym c.push_back_reserved.ensures.items)
           (still_ready (line_more mid.site b ss (next g c)) (ready_then g c) (ready_then g c) refl refl
           (further_ready (line_at mid.site b ss) (segment_view (next g c)) (ready_then g c) (ap (λ (v : SegmentView). v.parts.sealed) begun.view)

@@ -15,6 +15,7 @@ use Rattle.sled_core.specs.OpenPlaces.{TakesOut, open_places_along}
 use Rattle.sled_core.specs.Running.{Fits}
 use Rattle.sled_core.specs.Tickets.{place_of}
 use Rattle.sled_core.proofs.Holds.KeptCalls.{goes_on_still}
+use Rattle.sled_core.proofs.Line.BatchNoted.{kind_there, reserved_at}
 use Rattle.sled_core.proofs.Line.EndedKeeps.{fits_ended, goes_on_ended, holds_ended, keeps_ended, position_ended}
 use Rattle.sled_core.proofs.Line.EndedTickets.{ended_takes, others_await, says_place, ticket_above, ticket_among, ticket_open, ticket_there}
 use Rattle.sled_core.proofs.Line.Ends.{fits_completed, holds_completed}
@@ -36,8 +37,15 @@ segment_of-n-requires g c =
     let place : c.unsigned_abs.result ≡ unsigned_abs (place_of c.args.ticket) = c.unsigned_abs.ensures.value ∙ says_place c.lsn-place.result (place_of c.args.ticket) c.lsn-place.type_inv c.lsn-place.ensures in
     omega (arith, above, place)
 
-pub complete_in-requires : goal.complete_in-requires
-complete_in-requires g c =
+pub complete_in-requires-clause-message : goal.complete_in-requires-clause-message
+complete_in-requires-clause-message g c = λ v r at there.
+    let place : c.unsigned_abs.result ≡ unsigned_abs (place_of c.args.ticket) = c.unsigned_abs.ensures.value ∙ says_place c.lsn-place.result (place_of c.args.ticket) c.lsn-place.type_inv c.lsn-place.ensures in
+    kind_there c.args.self.now c.args.ticket c.segment_of-n.result c.index-index.result
+    (reserved_at c.args.self.now c.args.ticket c.requires.awaited.0 c.requires.awaited.1 c.unsigned_abs.result c.segment_of-n.result c.index-index.result place c.segment_of-n.ensures c.index-index.ensures) v r at there
+    ∙ c.requires.message
+
+pub complete_in-requires-clause-awaited : goal.complete_in-requires-clause-awaited
+complete_in-requires-clause-awaited g c =
     let place : c.unsigned_abs.result ≡ unsigned_abs (place_of c.args.ticket) = c.unsigned_abs.ensures.value ∙ says_place c.lsn-place.result (place_of c.args.ticket) c.lsn-place.type_inv c.lsn-place.ensures in
     ticket_open c.args.self.now c.args.ticket c.requires.awaited.0 c.requires.awaited.1 c.unsigned_abs.result c.segment_of-n.result c.index-index.result place c.segment_of-n.ensures c.index-index.ensures
 

@@ -1,11 +1,9 @@
 -- The manifest of a ticket has ended, in whichever segment it lies, and its batch is noted.
-use Rattle.std.proofs.Common.{◌≡◌, ◌∙◌, arith, suc}
+use Rattle.std.proofs.Common.{◌≡◌, ◌∙◌, arith}
 use Rattle.std.specs.Prelude.{unsigned_abs}
-use Rattle.sled_core.specs.Fits.{line_of}
-use Rattle.sled_core.specs.OpenPlaces.{open_manifests}
 use Rattle.sled_core.specs.Tickets.{place_of}
 use Rattle.sled_core.proofs.Holds.KeptCalls.{goes_on_still}
-use Rattle.sled_core.proofs.Line.BatchNoted.{IsBatchNoted, IsReservedAt, batch_fits, batch_holds, batch_seen, body_there, note_above, note_apart, note_unwritten, one_fewer_open, reserved_at}
+use Rattle.sled_core.proofs.Line.BatchNoted.{IsBatchNoted, IsReservedAt, batch_fits, batch_holds, batch_seen, body_there, note_above, note_apart, note_unwritten, kind_there, reserved_at}
 use Rattle.sled_core.proofs.Line.EndedTickets.{says_place, ticket_above, ticket_open}
 use Rattle.sled_core.proofs.logger.Log.end_batch.Given as given
 use Rattle.sled_core.proofs.logger.Log.end_batch.Goals as goal
@@ -34,23 +32,13 @@ there_first g c =
 pub mark_batch_in-requires-clause-body : goal.mark_batch_in-requires-clause-body
 mark_batch_in-requires-clause-body g c = body_there c.args.self.now c.args.ticket c.segment_of-n.result c.index-index.result (there_first g c) c.requires.manifest
 
+pub mark_batch_in-requires-clause-kind : goal.mark_batch_in-requires-clause-kind
+mark_batch_in-requires-clause-kind g c = λ v r among there. kind_there c.args.self.now c.args.ticket c.segment_of-n.result c.index-index.result (there_first g c) v r among there ∙ c.requires.manifest
+
 there_marked : (g : given.Over) (c : goal.After-note-arg-1 g) → IsReservedAt c.args.self.now c.args.ticket c.segment_of-n.result c.index-index.result
 there_marked g c =
     let place : c.unsigned_abs-low.result ≡ unsigned_abs (place_of c.args.ticket) = c.unsigned_abs-low.ensures.value ∙ says_place c.lsn-place.result (place_of c.args.ticket) c.lsn-place.type_inv c.lsn-place.ensures in
     reserved_at c.args.self.now c.args.ticket c.requires.awaited.0 c.requires.awaited.1 c.unsigned_abs-low.result c.segment_of-n.result c.index-index.result place c.segment_of-n.ensures c.index-index.ensures
-
--- One manifest fewer is open then.
-fewer : (g : given.Over) (c : goal.After-note-arg-1 g) → open_manifests (line_of c.args.self.now) ≡ suc (open_manifests (line_of c.mark_batch_in.new.self))
-fewer g c =
-    let f = there_marked g c in
-    one_fewer_open g.D.Device.trace g.C.Checksum.sum_of c.args.self.now c.mark_batch_in.new.self c.mark_batch_in.new.self c.args.ticket c.segment_of-n.result c.index-index.result f c.requires.manifest c.args.peg
-    (c.mark_batch_in.ensures.line f.segment f.reserved f.among f.there) c.mark_batch_in.ensures.rest
-
-pub note-requires-clause-some : goal.note-requires-clause-some
-note-requires-clause-some g c = let less = fewer g c in let counted = c.args.self.now.counted in let same = c.mark_batch_in.ensures.manifests in omega (arith, less, counted, same)
-
-pub note-requires-clause-counted : goal.note-requires-clause-counted
-note-requires-clause-counted g c = let less = fewer g c in let counted = c.args.self.now.counted in let same = c.mark_batch_in.ensures.manifests in omega (arith, less, counted, same)
 
 -- It is noted as one that lies by itself, behind what is written.
 pub note-requires-clause-above : goal.note-requires-clause-above
@@ -104,7 +92,7 @@ seen g c =
     let place : c.unsigned_abs-low.result ≡ unsigned_abs (place_of c.args.ticket) = c.unsigned_abs-low.ensures.value ∙ says_place c.lsn-place.result (place_of c.args.ticket) c.lsn-place.type_inv c.lsn-place.ensures in
     batch_seen g.D.Device.trace g.C.Checksum.sum_of c.args.self.now c.mark_batch_in.new.self c.note.new.self c.args.ticket c.segment_of-n.result c.index-index.result f c.requires.manifest c.args.peg
     (c.mark_batch_in.ensures.line f.segment f.reserved f.among f.there) c.mark_batch_in.ensures.rest c.note.ensures.rest c.unsigned_abs-low.result place
-    c.note.ensures.noted c.requires.above
+    c.note.ensures.noted c.requires.above c.note.ensures.few
 
 pub returns-clause-others : goal.returns-clause-others
 returns-clause-others g c = (seen g c).others

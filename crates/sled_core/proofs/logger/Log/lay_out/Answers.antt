@@ -1,5 +1,5 @@
 -- A placeholder is laid out in the first segment or in the last one behind it, whichever is being filled.
-use Rattle.std.proofs.Common.{◌≡◌, ◌∙◌, ◌+◌, ◌-◌, ◌<◌, ◌≤◌, sym, ap, refl, subst, arith, rules, ℕ, suc, Bool, if◌then◌else◌, List, [], ◌∷◌, ◌++◌, append_assoc, length, length-append, map, drop, take, set, deque_len, Some}
+use Rattle.std.proofs.Common.{◌≡◌, ◌∙◌, ◌+◌, ◌-◌, ◌<◌, sym, ap, refl, subst, arith, rules, ℕ, suc, Bool, if◌then◌else◌, List, [], ◌∷◌, ◌++◌, append_assoc, length, length-append, map, drop, take, set, deque_len, Some}
 use Rattle.std.specs.List.{All, slice_get}
 use Rattle.std.proofs.lemmas.List.Elements.{All-weaker}
 use Rattle.sled_core.specs.Begun.{AreFilled, SegmentView, line_at, segment_view, view_at}
@@ -48,14 +48,14 @@ laid_filled log more r to line is is_open some end =
     subst (AreFilled log.config.config.segment_size to) (sym is)
     (filled_reserved (λ _. 0) log.config.config.segment_size more r log.reserved_to to log.site.place (view_at log.site log.buffer) (map segment_view log.behind.items) (line_segments log) is_open some end log.filled).1
 
--- What was noted lies below what is reserved then, and as many manifests are open as are counted, at the most.
+-- What was noted lies below what is reserved then, and as many manifests are open as are counted.
 laid_pegs : {D C : Type 0} (log : Log D C) (to n : ℕ) → to ≡ (current_of log).parts.site.place + length (current_of log).parts.bytes + n → All (λ (b : NotedBatch). b.peg < to) log.noted.items
 laid_pegs log to n end =
     let low = (filled_last log.config.config.segment_size log.reserved_to (view_at log.site log.buffer) (map segment_view log.behind.items) log.filled).1 in
     All-weaker (λ (b : NotedBatch). b.peg < log.reserved_to) (λ (b : NotedBatch). b.peg < to) (λ b less. omega (arith, less, low, end)) log.noted.items log.pegs
 
 laid_counted : {D C : Type 0} (log : Log D C) (more : List ℕ) (r : Reserved) (manifest : Bool) (now : ℕ) (line : List SegmentView) → line ≡ at_last (reserved_now more r) (line_of log) → r.state ≡ Open → manifest ≡ is_manifest r.log_kind r.page
-    → now ≡ (if manifest then suc log.manifests else log.manifests) → open_manifests line ≤ now
+    → now ≡ (if manifest then suc log.manifests else log.manifests) → open_manifests line ≡ now
 laid_counted log more r manifest now line is opened kind more_is =
     more_counted manifest (open_manifests (line_of log)) (open_manifests line) log.manifests now
     (ap open_manifests is ∙ manifests_reserved more r manifest (view_at log.site log.buffer) (map segment_view log.behind.items) opened (sym kind))

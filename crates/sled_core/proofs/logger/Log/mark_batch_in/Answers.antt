@@ -1,15 +1,27 @@
 -- The manifest of a batch has ended, in the first segment or in one behind it.
-use Rattle.std.proofs.Common.{◌≡◌, ◌+◌, subst}
+use Rattle.std.proofs.Common.{◌≡◌, ◌+◌, ◌-◌, arith, refl, set, subst, true}
 use Rattle.sled_core.specs.declared.iobuf.ReservationState.TheVariants.{Manifest}
 use Rattle.sled_core.specs.declared.iobuf.Reserved.{Reserved}
 use Rattle.sled_core.specs.declared.logger.segments.SegmentBuffer.{SegmentBuffer}
 use Rattle.sled_core.specs.Buffers.{marking}
 use Rattle.sled_core.specs.Fits.{line_of}
-use Rattle.sled_core.specs.Turned.{HasOpenIn}
+use Rattle.sled_core.specs.OpenPlaces.{open_manifests}
+use Rattle.sled_core.specs.Turned.{HasOpenIn, ended_now}
 use Rattle.sled_core.proofs.Line.EndedIn.{behind_ended, behind_in, first_ended, marks, mut_is, mut_open, mut_within}
 use Rattle.sled_core.proofs.Line.EndedLine.{first_is, read_is, read_numbered}
+use Rattle.sled_core.proofs.Line.OpenManifests.{manifests_ended, some_counted, without_fewer}
 use Rattle.sled_core.proofs.Pending.EndsIn.{Ended, in_reach, indexed, own}
 use Rattle.sled_core.proofs.logger.Log.mark_batch_in.Goals as goal
+
+-- It was counted.
+pub without_manifest-manifests-requires : goal.without_manifest-manifests-requires
+without_manifest-manifests-requires g c =
+    let log = c.args.self.now in
+    let its : HasOpenIn (line_of log) c.args.n c.args.index = c.requires.awaited in
+    let i = c.args.index - its.segment.gone in
+    let text = marking g.C.Checksum.sum_of its.segment.parts.bytes its.reserved c.args.peg in
+    let ended = manifests_ended (line_of log) c.args.n its.segment i its.reserved text Manifest true its.among its.there its.open_yet (c.requires.kind its.segment its.reserved its.among its.there) refl in
+    some_counted true (open_manifests (line_of log)) (open_manifests (set (line_of log) c.args.n (ended_now i its.reserved text Manifest its.segment))) log.manifests ended log.counted
 
 -- The first segment has it.
 
@@ -44,8 +56,8 @@ invariant_of-self g c =
       account = log.account;
       pegs = log.pegs;
       by_place = log.by_place;
-      room = log.room;
-      counted = now.counted;
+      room = (let old = log.room in let fewer = without_fewer true log.manifests c.without_manifest-manifests.result c.without_manifest-manifests.ensures in omega (arith, old, fewer));
+      counted = now.counted true c.without_manifest-manifests.result (c.requires.kind its.segment its.reserved its.among its.there) c.without_manifest-manifests.ensures;
       indexed = indexed log c.args.n c.args.index its (λ bytes r. marking g.C.Checksum.sum_of bytes r c.args.peg) Manifest log.site log.buffer c.mark_batch.new.self did _ (now.line its.segment its.reserved its.among its.there) c.note_ended.new.self c.note_ended.ensures;
     }
 
@@ -102,8 +114,8 @@ invariant_of-self-else-n-eq0 g c =
       account = log.account;
       pegs = log.pegs;
       by_place = log.by_place;
-      room = log.room;
-      counted = now.counted;
+      room = (let old = log.room in let fewer = without_fewer true log.manifests c.without_manifest-manifests.result c.without_manifest-manifests.ensures in omega (arith, old, fewer));
+      counted = now.counted true c.without_manifest-manifests.result (c.requires.kind its.segment its.reserved its.among its.there) c.without_manifest-manifests.ensures;
       indexed = indexed log c.args.n c.args.index its (λ bytes r. marking g.C.Checksum.sum_of bytes r c.args.peg) Manifest t.site t.buffer c.mark_batch-else-n-eq0.new.self did _ (now.line its.segment its.reserved its.among its.there) c.note_ended-else-n-eq0.new.self c.note_ended-else-n-eq0.ensures;
     }
 

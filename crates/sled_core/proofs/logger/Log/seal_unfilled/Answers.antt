@@ -45,10 +45,10 @@ module _ {D C : Type 0} (log : Log D C) (room : is_short (segment_size_of log) (
 
 -- They have as many open manifests.
 module _ {D C : Type 0} (log : Log D C) where
-  sealed_counted : (line : List SegmentView) → line ≡ at_last sealed_now (line_of log) → open_manifests line ≤ log.manifests
+  sealed_counted : (line : List SegmentView) → line ≡ at_last sealed_now (line_of log) → open_manifests line ≡ log.manifests
   sealed_counted line is = let same = ap open_manifests is ∙ manifests_sealed (line_of log) in let old = log.counted in omega (arith, same, old)
 
-  still_counted : (line : List SegmentView) → line ≡ line_of log → open_manifests line ≤ log.manifests
+  still_counted : (line : List SegmentView) → line ≡ line_of log → open_manifests line ≡ log.manifests
   still_counted line is = let same = ap open_manifests is in let old = log.counted in omega (arith, same, old)
 
 -- There was no memory for its place.

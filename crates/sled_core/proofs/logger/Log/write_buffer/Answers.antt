@@ -34,12 +34,12 @@ use Rattle.sled_core.proofs.Line.Facts.{nth_facts}
 use Rattle.sled_core.proofs.Line.Faulty.{fits_with_same, holds_with_same}
 use Rattle.sled_core.proofs.Line.LineEnds.{noted_later, noted_same}
 use Rattle.sled_core.proofs.Line.LogWrites.{KeepsInvariants, crash_write, end_grows, fits_done, fits_failed, holds_done, holds_failed, keeps_invariants, line_after, line_left, names, noted_left, same_line, segments_written}
-use Rattle.sled_core.proofs.Line.OpenManifests.{manifests_promoted, manifests_written}
+use Rattle.sled_core.proofs.Line.OpenManifests.{manifests_promoted, set_same}
 use Rattle.sled_core.proofs.Line.OpenPlaces.{places_promoted, set_places}
 use Rattle.sled_core.proofs.Line.Promotes.{awaits_promoted, last_promoted, last_set}
 use Rattle.sled_core.proofs.Line.Segments.{line_segments, nth_segment}
 use Rattle.sled_core.proofs.Reached.OpenBatch.{not_whole_further}
-use Rattle.sled_core.proofs.Line.WrittenTickets.{awaits_written, places_written}
+use Rattle.sled_core.proofs.Line.WrittenTickets.{awaits_written, manifests_written, places_written}
 use Rattle.sled_core.proofs.Pending.Logs.{written_ready}
 use Rattle.sled_core.proofs.logger.Log.write_buffer.Goals as goal
 
@@ -104,18 +104,19 @@ kept : {D C : Type 0} (old mid : Log D C) (n k : ℕ) (r : IsReadyIn (line_of ol
     → (site : SegmentPosition) (its : IoBuf) → slice_get (line_of mid) n ≡ Some (view_at site its) → (ready : ReadyBuffers)
     → ((x : Sealed) (before behind : List ℕ) (others : ℕ) → slice_get its.sealed.items k ≡ Some x → is_ready x ≡ true → HasOwn mid.ready site.place its.written_len its.sealed.items before behind others
     → HasOwn ready site.place its.written_len (written_at k its.sealed.items) before behind others)
-    → (now : IsReadyIn (line_of mid) n k) × KeepsInvariants mid n k now site' b' ss' × (open_manifests (line_at site' b' ss') ≤ mid.manifests) × AreReady (line_at site' b' ss') ready
+    → (now : IsReadyIn (line_of mid) n k) × KeepsInvariants mid n k now site' b' ss' × (open_manifests (line_at site' b' ss') ≡ mid.manifests) × AreReady (line_at site' b' ss') ready
 kept old mid n k r rest b ss marked site' b' ss' is site its there ready noted =
     let now : IsReadyIn (line_of mid) n k = subst (λ (l : List SegmentView). IsReadyIn l n k) (sym (same_line old mid rest)) r in
     let still : ChangesDevice mid mid = record { config = refl; checksum = refl; site = refl; buffer = refl; behind = refl; reserved = refl; pins = refl; accountant = refl; noted = refl; manifests = refl } in
     let line = line_after mid mid n k now.segment still now.among b ss marked (line_at site' b' ss') is in
     let same = ap open_manifests line in
-    let left = manifests_promoted mid.config.config.segment_size (set (line_of mid) n (written_now k now.segment)) in
-    let fewer = manifests_written (line_of mid) n k now.segment now.among in
+    let left = manifests_promoted mid.config.config.segment_size mid.site.place (set (line_of mid) n (written_now k now.segment)) mid.config.config.least (segments_written mid n k now) in
+    let is_segment = nth_segment mid.config.config.segment_size mid.site.place (line_of mid) (line_segments mid) n now.segment now.among in
+    let written = set_same (line_of mid) n now.segment (written_now k now.segment) now.among (manifests_written (line_of mid) n k now.segment now.buffer now.among now.there now.ready is_segment.are) in
     let old = mid.counted in (
       now,
       keeps_invariants mid n k now site' b' ss' line,
-      omega (arith, same, left, fewer, old),
+      omega (arith, same, left, written, old),
       subst (λ (l : List SegmentView). AreReady l ready) (sym line) (written_ready mid n k now site its there ready noted),
     )
 
