@@ -11,7 +11,7 @@ use Rattle.sled_codec.specs.History.{Message}
 use Rattle.sled_codec.specs.Sums.{flipped}
 use Rattle.sled_codec.specs.Spelling.{SpellsMessageHeader, SpellsSigned}
 use Rattle.sled_codec.specs.Places.{part, MayBegin}
-use Rattle.sled_store.specs.Blobs.{IsItemOf, IsDamagedFor}
+use Rattle.sled_store.specs.Blobs.{IsItemOf, IsDamagedFor, NamesBlobAt}
 use Rattle.sled_core.specs.declared.logger.read_at.BasedBuf.{BasedBuf}
 use Rattle.sled_core.specs.declared.logger.unverified_record.UnverifiedRecord.{UnverifiedRecord}
 use Rattle.sled_core.specs.declared.logger.read_message.LogRead.{LogRead}
@@ -131,6 +131,11 @@ pub record HasDamagedBlob (sum : List ℕ → ℕ) (size : ℕ) (log : List ℕ)
 -- A record stands there that can't be read, for its body or for its blob.
 abbrev pub IsUnreadable : (List ℕ → ℕ) → ℕ → List ℕ → (ℤ → Option (List ℕ)) → ℕ → ℕ → Type 0
 IsUnreadable sum size log blobs lid number = IsMalformed sum size log lid number ⊎ HasDamagedBlob sum size log blobs lid number
+
+-- So it is answered: of a record that can't be read for its body nothing is named, and of one whose blob is damaged what that is.
+abbrev pub IsUnreadableAs : (List ℕ → ℕ) → ℕ → List ℕ → (ℤ → Option (List ℕ)) → ℕ → ℕ → Option DiskPtr → Type 0
+IsUnreadableAs sum size log blobs lid number at =
+    (IsMalformed sum size log lid number × (at ≡ None)) ⊎ ((d : HasDamagedBlob sum size log blobs lid number) × NamesBlobAt sum blobs d.place at)
 
 -- The message is given: its kind, its page and its item, and how long its record is, or where its blob lies.
 abbrev pub GivesMessage : Message → LogRead → Type 0

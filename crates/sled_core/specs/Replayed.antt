@@ -1,9 +1,10 @@
 -- A segment as a pass over a log file reads it: its records up to a batch that is open, with the blobs that they name.
 use Rattle.std.specs.Prelude.{◌≡◌, ◌≢◌, ◌+◌, ◌/◌, ◌%◌, ◌^◌, ◌≤◌, ◌<◌, ℕ, ℤ, if◌then◌else◌, List, length, Option, None, IfNone, is_some}
 use Rattle.sled_codec.specs.declared.serialization.message.MessageKind.TheVariants.{Corrupted}
+use Rattle.sled_codec.specs.declared.result.DiskPtr.{DiskPtr}
 use Rattle.sled_codec.specs.declared.result.DiskPtr.TheVariants.{Blob}
 use Rattle.sled_codec.specs.Kinds.{log_kind_of}
-use Rattle.sled_store.specs.Blobs.{IsDamagedFor}
+use Rattle.sled_store.specs.Blobs.{IsDamagedFor, NamesBlobAt}
 use Rattle.sled_core.specs.declared.iterator.scan.ScannedRecord.{ScannedRecord}
 use Rattle.sled_core.specs.declared.iterator.scan.RecordContent.{RecordContent}
 use Rattle.sled_core.specs.declared.iterator.scan.RecordContent.TheVariants.{Gives, NamesBlob, Skipped, BatchStart}
@@ -55,6 +56,13 @@ HasBadBlob sum blobs (Gives kind page pointer) = ⊥
 HasBadBlob sum blobs (NamesBlob kind page lid place) = IsDamagedFor sum kind (blobs place)
 HasBadBlob sum blobs Skipped = ⊥
 HasBadBlob sum blobs (BatchStart peg) = ⊥
+
+-- what damage of the blob that a record names is called
+abbrev pub NamesBlobOf : (List ℕ → ℕ) → (ℤ → Option (List ℕ)) → RecordContent → Option DiskPtr → Type 0
+NamesBlobOf sum blobs (Gives kind page pointer) at = ⊥
+NamesBlobOf sum blobs (NamesBlob kind page lid place) at = NamesBlobAt sum blobs place at
+NamesBlobOf sum blobs Skipped at = ⊥
+NamesBlobOf sum blobs (BatchStart peg) at = ⊥
 
 -- A record that names a blob is a message where the blob is there, and else was given up.
 abbrev pub with_blob : (ℤ → Option (List ℕ)) → RecordContent → RecordContent

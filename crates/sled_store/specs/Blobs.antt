@@ -117,3 +117,14 @@ ItemAnswers sum blobs (Err (Io e)) before after = IsTrue (is_fault e) × (after 
 ItemAnswers sum blobs (Err OutOfMemory) before after = after ≡ before
 ItemAnswers sum blobs (Err (Corruption at)) before after = (after ≡ before) × NamesDamage sum blobs at
 ItemAnswers sum blobs (Err _) before after = ⊥
+
+-- What damage of the blob at a place names: that blob exactly where it has a checksum, which fails; and nothing where it is too short to have one, or holds another kind.
+abbrev pub NamesBlobAt : (List ℕ → ℕ) → (ℤ → Option (List ℕ)) → ℤ → Option DiskPtr → Type 0
+NamesBlobAt sum blobs place None = (bytes : List ℕ) × (blobs place ≡ Some bytes) × (5 ≤ length bytes → IsDamagedBlob sum bytes → ⊥)
+NamesBlobAt sum blobs place (Some (Blob lid at)) = (lid ≡ 0) × (at ≡ place) × (bytes : List ℕ) × (blobs place ≡ Some bytes) × (5 ≤ length bytes) × IsDamagedBlob sum bytes
+NamesBlobAt sum blobs place (Some (Inline lid)) = ⊥
+
+-- where a call answers damage, this is so of what that names
+abbrev pub OnDamage : {T : Type 0} → Result T Error → (Option DiskPtr → Type 0) → Type 0
+OnDamage (Err (Corruption at)) P = P at
+OnDamage _ P = Unit {0}

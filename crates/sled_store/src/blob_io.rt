@@ -6,7 +6,7 @@ ghost use Rattle.std.specs.Prelude.{◌≡◌, ◌≢◌, ◌⊎◌, ◌≤◌, 
 ghost use Rattle.sled_codec.specs.Kinds.{code_of};
 ghost use Rattle.sled_codec.specs.Spelling.{low_bytes};
 ghost use Rattle.sled_codec.specs.Errors.{IsCorruption};
-ghost use Rattle.sled_store.specs.Blobs.{blob_bytes, HoldsItem, IsDamagedBlob, KeepsBlob, IsItemOf, IsDamagedFor, IsMissing, making, removing_blobs, AreFrom, MayGo, from_place, MakeAnswers, UnlessFault, BlobAnswers, ItemAnswers, RemoveAnswers};
+ghost use Rattle.sled_store.specs.Blobs.{blob_bytes, HoldsItem, IsDamagedBlob, KeepsBlob, IsItemOf, IsDamagedFor, IsMissing, making, removing_blobs, AreFrom, MayGo, from_place, MakeAnswers, UnlessFault, BlobAnswers, ItemAnswers, NamesBlobAt, OnDamage, RemoveAnswers};
 ghost use Rattle.sled_codec.specs.declared.serialization.message.MessageKind.TheVariants as kind;
 ghost use Rattle.sled_store.specs.Device.{state_of, BlobRemoved};
 ghost use Rattle.sled_store.specs.Script.{Performs, after_all};
@@ -155,6 +155,7 @@ pub fn read_item<D: Device, C: Checksum>(
     requires { wanted ≢ kind.Corrupted }
     ensures item { IfOk result (λ o. IsItemOf C.sum_of wanted ((state_of (D.trace config.old.device)).blobs.file place) (option_map (λ v. v.items) o)) }
     ensures damaged { IsCorruption result → IsDamagedFor C.sum_of wanted ((state_of (D.trace config.old.device)).blobs.file place) }
+    ensures named { OnDamage result (NamesBlobAt C.sum_of (state_of (D.trace config.old.device)).blobs.file place) }
     ensures answers { let blobs = (state_of (D.trace config.old.device)).blobs.file in
         ItemAnswers C.sum_of blobs result (D.faults config.old.device) (D.faults config.new.device) }
     ensures trace { D.trace config.new.device ≡ D.trace config.old.device }

@@ -3,9 +3,10 @@
 ghost use Rattle.std.specs.Prelude.{◌≡◌, OnErr, OnOk};
 ghost use Rattle.sled_codec.specs.Errors.{IsCorruption};
 ghost use Rattle.sled_store.specs.Device.{state_of};
+ghost use Rattle.sled_store.specs.Blobs.{OnDamage};
 ghost use Rattle.sled_core.specs.Causes.{ItemAnswersOver};
 ghost use Rattle.sled_core.specs.Keeps.{OnlyReads};
-ghost use Rattle.sled_core.specs.Replayed.{NamesKind, HasBadBlob, resolved};
+ghost use Rattle.sled_core.specs.Replayed.{NamesKind, HasBadBlob, NamesBlobOf, resolved};
 
 use crate::iterator::scan::{RecordContent, ScannedRecord};
 use sled_codec::result::{DiskPtr, Result};
@@ -28,6 +29,7 @@ pub fn find_blob<D: Device, C: Checksum>(
     ensures met { let blobs = (state_of (D.trace config.old.device)).blobs.file in OnOk result (met.new ≡ resolved blobs met.old) }
     ensures good { let blobs = (state_of (D.trace config.old.device)).blobs.file in OnOk result (HasBadBlob C.sum_of blobs met.old.what → ⊥) }
     ensures bad { let blobs = (state_of (D.trace config.old.device)).blobs.file in IsCorruption result → HasBadBlob C.sum_of blobs met.old.what }
+    ensures named { let blobs = (state_of (D.trace config.old.device)).blobs.file in OnDamage result (NamesBlobOf C.sum_of blobs met.old.what) }
     ensures err { OnErr result (met.new ≡ met.old) }
     ensures answers { ItemAnswersOver D.trace D.faults C.sum_of result config.old config.new }
     ensures reads { OnlyReads D.trace config.old config.new }

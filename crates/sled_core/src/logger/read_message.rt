@@ -10,9 +10,9 @@ ghost use Rattle.sled_codec.specs.Sums.{flipped};
 ghost use Rattle.sled_store.specs.Device.{state_of};
 ghost use Rattle.sled_store.specs.Answers.{Counts, Fails};
 ghost use Rattle.sled_store.specs.Causes.{DeviceAnswers};
-ghost use Rattle.sled_store.specs.Blobs.{IsDamagedFor};
+ghost use Rattle.sled_store.specs.Blobs.{IsDamagedFor, NamesBlobAt, OnDamage};
 ghost use Rattle.sled_core.specs.Causes.{ItemAnswersOver, ReaderAnswers};
-ghost use Rattle.sled_core.specs.Reading.{HoldsAs, IsRecordRead, IsReading, IsWithItem, IsMalformed, IsUnreadable, IsFound, IsBare, file_read, data_of, is_blob};
+ghost use Rattle.sled_core.specs.Reading.{HoldsAs, IsRecordRead, IsReading, IsWithItem, IsMalformed, IsUnreadable, IsUnreadableAs, IsFound, IsBare, file_read, data_of, is_blob};
 
 use crate::iobuf::record::sum_behind;
 use crate::logger::read_at::{BasedBuf, ReadAt};
@@ -89,6 +89,8 @@ pub fn read_message<D: Device, C: Checksum>(
         (file_read buf.entry s.log.bytes) s.blobs.file lid number.0) }
     ensures unreadable { let s = state_of (D.trace config.old.device) in IsCorruption result → IsUnreadable C.sum_of config.old.config.segment_size
         (file_read buf.entry s.log.bytes) s.blobs.file lid number.0 }
+    ensures named { let s = state_of (D.trace config.old.device) in OnDamage result (IsUnreadableAs C.sum_of config.old.config.segment_size
+        (file_read buf.entry s.log.bytes) s.blobs.file lid number.0) }
     ensures answers { ItemAnswersOver D.trace D.faults C.sum_of result config.old config.new }
     ensures trace { D.trace config.new.device ≡ D.trace config.old.device }
     ensures config { config.new.config ≡ config.old.config }
@@ -110,6 +112,7 @@ fn with_item<D: Device, C: Checksum>(
     requires { is_blob header.kind ≡ true }
     ensures item { IfOk result (IsWithItem C.sum_of (state_of (D.trace config.old.device)).blobs.file header place len) }
     ensures damaged { IsCorruption result → IsDamagedFor C.sum_of header.kind ((state_of (D.trace config.old.device)).blobs.file place) }
+    ensures named { OnDamage result (NamesBlobAt C.sum_of (state_of (D.trace config.old.device)).blobs.file place) }
     ensures answers { ItemAnswersOver D.trace D.faults C.sum_of result config.old config.new }
     ensures trace { D.trace config.new.device ≡ D.trace config.old.device }
     ensures config { config.new.config ≡ config.old.config }
