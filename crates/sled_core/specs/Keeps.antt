@@ -10,6 +10,7 @@ use Rattle.sled_core.specs.declared.logger.Log.{Log}
 use Rattle.sled_core.specs.declared.reservation.Reservation.{Reservation}
 use Rattle.sled_core.specs.Fits.{Awaits, Holds, NoneSealed, buffers_of, config_of, current_begin, current_of, device_of, fault_of, line_of, machine_at, noted_in, pins_of, position_of, reserved_end, segment_size_of, start_of, synced_end, waiting_of}
 use Rattle.sled_store.specs.SegmentStates.{next_slot}
+use Rattle.sled_core.specs.Marked.{BeginsMarked}
 use Rattle.sled_core.specs.Positions.{is_short}
 use Rattle.sled_core.specs.Tickets.{place_of}
 use Rattle.sled_core.specs.Waiting.{BufferAt, BufferStart, not_below}
@@ -116,3 +117,5 @@ pub record WritesBelow {T D C : Type 0} (sum : List ℕ → ℕ) (result : Resul
   pub seals : SealsBelow result to old new
   pub above : OnOk result (LeavesAbove sum to old new)
   pub some : OnErr result (LeavesSome sum to old new)
+  -- a segment that was begun has the last stable place for its mark
+  pub marked : BeginsMarked sum old new

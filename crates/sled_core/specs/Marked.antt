@@ -8,3 +8,8 @@ use Rattle.sled_core.specs.Fits.{current_of, stable_end}
 pub record BeginsMarked {D C : Type 0} (sum : List ℕ → ℕ) (old new : Log D C) : Type 0 where
   pub header : (current_of new).parts.site.place ≢ (current_of old).parts.site.place
       → (rest : List ℕ) × ((current_of new).parts.bytes ≡ short_header sum (pos (current_of new).parts.site.place) (pos (stable_end old) -ℤ pos 1) ++ rest)
+
+-- The segment that is being filled lies where it lay, and has the bytes that it had.
+pub record KeepsSegment {D C : Type 0} (old new : Log D C) : Type 0 where
+  pub place : (current_of new).parts.site.place ≡ (current_of old).parts.site.place
+  pub bytes : (current_of new).parts.bytes ≡ (current_of old).parts.bytes

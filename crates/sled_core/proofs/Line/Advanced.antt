@@ -14,9 +14,11 @@ use Rattle.sled_core.specs.declared.logger.Log.{Log}
 use Rattle.sled_core.specs.Causes.{Answers, HeldAnswers}
 use Rattle.sled_core.specs.Fits.{KeepsTickets, current_begin, device_of, fault_of, holding_below, line_of, start_of, synced_end, waiting_of, writing_below}
 use Rattle.sled_core.specs.Keeps.{Preserves, SamePosition}
+use Rattle.sled_core.specs.Marked.{KeepsSegment}
 use Rattle.sled_core.specs.Turned.{IsReadyIn, promoted, ready_below, write_in, written_now}
 use Rattle.sled_core.specs.Waiting.{BufferAt, held_below, unwritten, writes_below}
 use Rattle.sled_core.proofs.Holds.KeptCalls.{kept_further, kept_still, position_further, position_still, tickets_further, tickets_still}
+use Rattle.sled_core.proofs.Line.HeaderMarks.{segment_further, segment_written}
 use Rattle.sled_core.proofs.Line.Below.{BeginFrom, IsFirst, IsStuck, first_fewer, first_holds, first_there_ready, first_writes, line_first, line_past, line_stuck}
 use Rattle.sled_core.proofs.Line.Current.{current_holds, current_writes}
 use Rattle.sled_core.proofs.Line.LogSpans.{IsLeft, left_all, left_further, written_starts}
@@ -77,6 +79,7 @@ module _ {D C : Type 0} (trace : D → Trace) (sum : List ℕ → ℕ) (faults :
     pub one : length (waiting_of old) ≤ 1 → (line_of now ≡ line_of old) ⊎ (waiting_of now ≡ [])
     pub left : IsLeft to (waiting_of old) (waiting_of now)
     pub start : start_of now ≡ start_of old
+    pub segment : KeepsSegment old now
 
   pub advanced_still : (log : Log D C) → fault_of log ≡ None → Advanced log log
   advanced_still log fault = record {
@@ -94,6 +97,7 @@ module _ {D C : Type 0} (trace : D → Trace) (sum : List ℕ → ℕ) (faults :
     one = λ few. inl refl;
     left = left_all to (waiting_of log);
     start = refl;
+    segment = record { place = refl; bytes = refl };
   }
 
   -- One more is written.
@@ -118,6 +122,7 @@ module _ {D C : Type 0} (trace : D → Trace) (sum : List ℕ → ℕ) (faults :
         one = λ few. inr (by_left step few (so_far.one few));
         left = left_further to (waiting_of old) (waiting_of mid) (waiting_of new) calls so_far.left step;
         start = written_starts mid new size 0 (first_view mid) 0 refl is ∙ so_far.start;
+        segment = segment_further old mid new so_far.segment (segment_written mid new size 0 0 (first_view mid) refl is);
       }
     where
       by_few : (bs : List BufferAt) → length bs ≤ 0 → bs ≡ []

@@ -1,13 +1,16 @@
 -- The header of a segment that a call begins has the last stable place for its mark.
-use Rattle.std.proofs.Common.{◌≡◌, ◌∙◌, ◌-ℤ◌, ◌++◌, ap, sym, ℕ, List, [], pos, append_assoc}
+use Rattle.std.proofs.Common.{◌≡◌, ◌∙◌, ◌-ℤ◌, ◌++◌, ap, sym, refl, set, ℕ, List, [], Some, pos, append_assoc}
+use Rattle.std.specs.List.{slice_get}
 use Rattle.std.proofs.lemmas.List.{append-nil}
 use Rattle.sled_codec.specs.Record.{short_header}
 use Rattle.sled_store.specs.SegmentStates.{Machine}
-use Rattle.sled_core.specs.Begun.{SegmentView}
+use Rattle.sled_core.specs.Begun.{SegmentView, view_at}
 use Rattle.sled_core.specs.declared.logger.Log.{Log}
-use Rattle.sled_core.specs.Fits.{current_of, stable_end}
-use Rattle.sled_core.specs.Marked.{BeginsMarked}
-use Rattle.sled_core.specs.Turned.{begun_view}
+use Rattle.sled_core.specs.Fits.{current_of, line_of, stable_end}
+use Rattle.sled_core.specs.Marked.{BeginsMarked, KeepsSegment}
+use Rattle.sled_core.specs.Turned.{begun_view, promoted, written_now}
+use Rattle.sled_core.specs.Waiting.{last_of}
+use Rattle.sled_core.proofs.Line.Promotes.{last_promoted, last_set}
 
 module _ {D C : Type 0} (sum : List ℕ → ℕ) (old : Log D C) where
   -- Where none was begun there is nothing to say,
@@ -40,3 +43,22 @@ module _ {D C : Type 0} (sum : List ℕ → ℕ) (old : Log D C) where
   -- So it is where the segment that is being filled has the same bytes still.
   pub marked_same : (mid new : Log D C) → BeginsMarked sum old mid → (current_of new).parts.site.place ≡ (current_of mid).parts.site.place → (current_of new).parts.bytes ≡ (current_of mid).parts.bytes → BeginsMarked sum old new
   marked_same mid new marked at is = marked_further mid new [] marked at (is ∙ sym (append-nil (current_of mid).parts.bytes))
+
+-- The segment that is being filled stays as it is where no segment is another,
+pub segment_same : {D C : Type 0} (old new : Log D C) → line_of new ≡ line_of old → KeepsSegment old new
+segment_same old new same =
+    let first : SegmentView = view_at old.site old.buffer in
+    record { place = ap (λ (vs : List SegmentView). (last_of first vs).parts.site.place) same; bytes = ap (λ (vs : List SegmentView). (last_of first vs).parts.bytes) same }
+
+-- where a buffer is written,
+pub segment_written : {D C : Type 0} (old new : Log D C) (size n k : ℕ) (v : SegmentView) → slice_get (line_of old) n ≡ Some v → line_of new ≡ promoted size (set (line_of old) n (written_now k v)) → KeepsSegment old new
+segment_written old new size n k v among is = record { place = so ℕ (λ (x : SegmentView). x.parts.site.place) refl; bytes = so (List ℕ) (λ (x : SegmentView). x.parts.bytes) refl } where
+  so : (X : Type 0) (P : SegmentView → X) → P (written_now k v) ≡ P v → P (current_of new) ≡ P (current_of old)
+  so X P same =
+      ap (λ (vs : List SegmentView). P (last_of v vs)) is
+      ∙ ap P (last_promoted size v (set (line_of old) n (written_now k v)))
+      ∙ last_set P v (line_of old) n v (written_now k v) among same
+
+-- and behind two calls that leave it.
+pub segment_further : {D C : Type 0} (old mid new : Log D C) → KeepsSegment old mid → KeepsSegment mid new → KeepsSegment old new
+segment_further old mid new first second = record { place = second.place ∙ first.place; bytes = second.bytes ∙ first.bytes }

@@ -13,6 +13,7 @@ use Rattle.sled_core.specs.declared.logger.Log.{Log}
 use Rattle.sled_core.specs.Causes.{HeldAnswers, OnDone}
 use Rattle.sled_core.specs.Fits.{AddsBuffers, IsUnchanged, IsUsedUp, IsUsedUpBelow, KeepsAll, KeepsTickets, NoneSealed, buffers_of, current_begin, current_of, device_of, fault_of, holding_below, reserved_end, sealing_end, segment_size_of, start_of, synced_end, waiting_of, writing_below}
 use Rattle.sled_core.specs.Keeps.{LeavesAbove, LeavesSome, Preserves, SamePosition, WritesBelow, start_sealed}
+use Rattle.sled_core.specs.Marked.{BeginsMarked}
 use Rattle.sled_core.specs.Positions.{is_short}
 use Rattle.sled_core.specs.Waiting.{BufferAt, held_below, holds_any, writes_below}
 use Rattle.sled_core.proofs.Holds.KeptCalls.{kept_still, position_further, position_still, tickets_further, tickets_still}
@@ -20,6 +21,7 @@ use Rattle.sled_core.proofs.Line.Below.{begin_all, held_front, line_past, writes
 use Rattle.sled_core.proofs.Line.Current.{ComeBehind, line_current}
 use Rattle.sled_core.proofs.Line.Entered.{filled_last}
 use Rattle.sled_core.proofs.Line.Facts.{current_facts}
+use Rattle.sled_core.proofs.Line.HeaderMarks.{none_begun}
 use Rattle.sled_core.proofs.Line.LogSpans.{above_first, leaves_above, left_all, some_first}
 use Rattle.sled_core.proofs.Line.Lying.{lie_up, line_lie}
 use Rattle.sled_core.proofs.Line.Outcomes.{answers_used, held_alike, on_done, on_err, on_ok}
@@ -72,7 +74,7 @@ module _ {D C : Type 0} (sum : List ℕ → ℕ) (to : ℕ) (old mid : Log D C) 
   -- What is written and what is left is of the log as it was.
   module _ {T : Type 0} (new : Log D C) (result : Result T Error) (below : current_begin old < to) (begins : current_begin mid ≡ sealing_end old) (waiting : waiting_of mid ≡ buffers_of sum old) (start : start_of mid ≡ start_sealed old) (synced : synced_end mid ≡ synced_end old)
       (current : current_begin new ≡ current_begin mid) (none : ((b : BufferAt) → Contains (waiting_of mid) b → b.place < to) → OnOk result (NoneSealed new)) (one : length (waiting_of mid) ≤ 1 → OnErr result (synced_end new ≡ synced_end mid))
-      (above : OnOk result (LeavesAbove sum to mid new)) (some : OnErr result (LeavesSome sum to mid new)) where
+      (above : OnOk result (LeavesAbove sum to mid new)) (some : OnErr result (LeavesSome sum to mid new)) (marked : BeginsMarked sum old new) where
     few : NoneSealed old → (length (waiting_of mid) ≤ 1) × ((b : BufferAt) → Contains (waiting_of mid) b → b.place < to)
     few unsealed =
         subst (λ (l : List BufferAt). (length l ≤ 1) × ((b : BufferAt) → Contains l b → b.place < to)) (sym waiting)
@@ -88,12 +90,13 @@ module _ {D C : Type 0} (sum : List ℕ → ℕ) (to : ℕ) (old mid : Log D C) 
       };
       above = on_ok result (LeavesAbove sum to mid new) (LeavesAbove sum to old new) (above_first sum to old mid new below (sealed_past begins) waiting start) above;
       some = on_err result (LeavesSome sum to mid new) (LeavesSome sum to old new) (some_first sum to old mid new below (sealed_past begins) waiting start) some;
+      marked = marked;
     }
 
 -- So it is where the current buffer begins behind the place.
 pub writes_still : {T D C : Type 0} (sum : List ℕ → ℕ) (to : ℕ) (old new : Log D C) (result : Result T Error) → to ≤ current_begin old → current_begin new ≡ current_begin old → (((b : BufferAt) → Contains (waiting_of old) b → b.place < to) → OnOk result (NoneSealed new))
-    → (length (waiting_of old) ≤ 1 → OnErr result (synced_end new ≡ synced_end old)) → OnOk result (LeavesAbove sum to old new) → OnErr result (LeavesSome sum to old new) → WritesBelow sum result to old new
-writes_still sum to old new result sealed current none one above some = record {
+    → (length (waiting_of old) ≤ 1 → OnErr result (synced_end new ≡ synced_end old)) → OnOk result (LeavesAbove sum to old new) → OnErr result (LeavesSome sum to old new) → BeginsMarked sum old new → WritesBelow sum result to old new
+writes_still sum to old new result sealed current none one above some marked = record {
   seals = record {
     held = λ held. omega (arith, sealed, current);
     none = λ unsealed. none (λ b there. absurd (in_nothing b (subst (λ (l : List BufferAt). Contains l b) unsealed there)));
@@ -101,6 +104,7 @@ writes_still sum to old new result sealed current none one above some = record {
   };
   above = above;
   some = some;
+  marked = marked;
 }
 
 -- All below the place was on the device already: nothing is done.
@@ -115,6 +119,7 @@ writes_already sum to log x past =
       seals = record { held = λ held. absurd held; none = λ unsealed. unsealed; err = λ unsealed. tt };
       above = leaves_above sum to log log (omega (arith, past, up)) refl (left_all to (waiting_of log)) (line_past size log.site.place to first behind (line_segments log) past);
       some = tt;
+      marked = none_begun sum log log refl;
     }
 
 -- the current buffer isn't sealed for that
@@ -127,10 +132,10 @@ unused_already to log past used =
 -- What is so of a call is so of another that answers for it.
 
 pub writes_ok : {T S D C : Type 0} (sum : List ℕ → ℕ) (to : ℕ) (old new : Log D C) (x : T) (y : S) → WritesBelow {T = T} sum (Ok x) to old new → WritesBelow {T = S} sum (Ok y) to old new
-writes_ok sum to old new x y writes = record { seals = record { held = λ held. absurd held; none = writes.seals.none; err = λ unsealed. tt }; above = writes.above; some = tt }
+writes_ok sum to old new x y writes = record { seals = record { held = λ held. absurd held; none = writes.seals.none; err = λ unsealed. tt }; above = writes.above; some = tt; marked = writes.marked }
 
 pub writes_err : (T S : Type 0) {D C : Type 0} (sum : List ℕ → ℕ) (to : ℕ) (old new : Log D C) (e : Error) → WritesBelow {T = T} sum (Err e) to old new → WritesBelow {T = S} sum (Err e) to old new
-writes_err T S sum to old new e writes = record { seals = record { held = λ held. writes.seals.held (held_alike T S e held); none = λ unsealed. tt; err = writes.seals.err }; above = tt; some = writes.some }
+writes_err T S sum to old new e writes = record { seals = record { held = λ held. writes.seals.held (held_alike T S e held); none = λ unsealed. tt; err = writes.seals.err }; above = tt; some = writes.some; marked = writes.marked }
 
 -- The current buffer could not be sealed: nothing was done.
 pub unchanged_performs : {D C : Type 0} (old new : Log D C) → IsUnchanged old new → (trace : D → Trace) (es : List Event) → Performs es (trace (device_of old)) (trace (device_of new))
@@ -149,8 +154,9 @@ module _ {D C : Type 0} (trace : D → Trace) (sum : List ℕ → ℕ) (to : ℕ
     pub writing : writing_below sum mid to ≡ writing_below sum old to
     pub holding : holding_below sum mid to ≡ holding_below sum old to
     pub unused : IsUsedUpBelow old to → ⊥
+    pub marked : BeginsMarked sum old mid
     pub writes : (new : Log D C) (result : Result (Unit {0}) Error) → current_begin new ≡ current_begin mid → (((b : BufferAt) → Contains (waiting_of mid) b → b.place < to) → OnOk result (NoneSealed new))
-        → (length (waiting_of mid) ≤ 1 → OnErr result (synced_end new ≡ synced_end mid)) → OnOk result (LeavesAbove sum to mid new) → OnErr result (LeavesSome sum to mid new) → WritesBelow sum result to old new
+        → (length (waiting_of mid) ≤ 1 → OnErr result (synced_end new ≡ synced_end mid)) → OnOk result (LeavesAbove sum to mid new) → OnErr result (LeavesSome sum to mid new) → BeginsMarked sum old new → WritesBelow sum result to old new
 
   pub sealed_already : (log : Log D C) → fault_of log ≡ None → to ≤ reserved_end log → to ≤ current_begin log → SealedFor log log
   sealed_already log fault reserved past = record {
@@ -164,12 +170,13 @@ module _ {D C : Type 0} (trace : D → Trace) (sum : List ℕ → ℕ) (to : ℕ
     writing = refl;
     holding = refl;
     unused = λ used. let below = used.0 in omega (arith, past, below);
-    writes = λ new result current none one above some. writes_still sum to log new result past current none one above some;
+    marked = none_begun sum log log refl;
+    writes = λ new result current none one above some marked. writes_still sum to log new result past current none one above some marked;
   }
 
   pub sealed_first : (old mid : Log D C) → fault_of old ≡ None → to ≤ reserved_end old → current_begin old < to → waiting_of mid ≡ buffers_of sum old → AddsBuffers sum old mid → current_begin mid ≡ sealing_end old → start_of mid ≡ start_sealed old
-      → Preserves trace sum old mid → KeepsTickets old mid → KeepsAll old mid → SamePosition old mid → (IsUsedUp old → ⊥) → SealedFor old mid
-  sealed_first old mid fault reserved below waiting adds begins start keeps tickets same position unused = record {
+      → Preserves trace sum old mid → KeepsTickets old mid → KeepsAll old mid → SamePosition old mid → (IsUsedUp old → ⊥) → BeginsMarked sum old mid → SealedFor old mid
+  sealed_first old mid fault reserved below waiting adds begins start keeps tickets same position unused marked = record {
     fault = same.fault ∙ fault;
     reserved = let still = position.reserved in omega (arith, reserved, still);
     past = sealed_past sum to old mid reserved begins;
@@ -180,7 +187,8 @@ module _ {D C : Type 0} (trace : D → Trace) (sum : List ℕ → ℕ) (to : ℕ
     writing = writing_more sum to old mid reserved adds;
     holding = holding_more sum to old mid reserved adds;
     unused = λ used. unused used.1;
-    writes = λ new result current none one above some. writes_sealed sum to old mid reserved new result below begins waiting start same.synced current none one above some;
+    marked = marked;
+    writes = λ new result current none one above some known. writes_sealed sum to old mid reserved new result below begins waiting start same.synced current none one above some known;
   }
 
   -- and what it makes of the log as it was

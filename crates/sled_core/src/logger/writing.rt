@@ -17,7 +17,7 @@ ghost use Rattle.sled_core.specs.Buffers.{first_open_in, open_in};
 ghost use Rattle.sled_core.specs.Causes.{Answers, FaultOrMemory, HeldAnswers, OnDone};
 ghost use Rattle.sled_core.specs.Fits.{Holds, IsUnchanged, IsUsedUp, IsUsedUpBelow, IsWritten, KeepsAll, KeepsTickets, NoneSealed, buffers_of, current_begin, current_of, device_of, fault_of, flushing, held_len, holding_below, line_of, pending_of, reserved_end, sealing_end, segment_size_of, stable_end, start_of, synced_end, waiting_of, writing_below, writing_pending};
 ghost use Rattle.sled_core.specs.Keeps.{LeavesAbove, LeavesSome, Preserves, SamePosition, SealsBelow, WritesBelow};
-ghost use Rattle.sled_core.specs.Marked.{BeginsMarked};
+ghost use Rattle.sled_core.specs.Marked.{BeginsMarked, KeepsSegment};
 ghost use Rattle.sled_core.specs.Running.{Fits, end_below};
 ghost use Rattle.sled_core.specs.Stable.{SyncsAll};
 ghost use Rattle.sled_core.specs.Turned.{ChangesDevice, IsReadyIn, promoted, ready_below, write_in, written_now};
@@ -197,6 +197,7 @@ impl<D: Device, C: Checksum> Log<D, C> {
         ensures one { length (waiting_of self.old) ≤ 1 → OnErr result (synced_end self.new ≡ synced_end self.old) }
         ensures above { OnOk result (LeavesAbove C.sum_of to self.old self.new) }
         ensures some { OnErr result (LeavesSome C.sum_of to self.old self.new) }
+        ensures segment { KeepsSegment self.old self.new }
     {
         while self.has_ready_below(to) {
             self.write_buffer(0, 0)?;

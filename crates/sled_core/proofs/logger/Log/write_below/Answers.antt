@@ -3,6 +3,7 @@ use Rattle.std.proofs.Common.{◌≤◌, sym, subst, arith}
 use Rattle.sled_core.specs.declared.logger.Log.{Log}
 use Rattle.sled_core.specs.Fits.{current_begin}
 use Rattle.sled_core.proofs.Holds.KeptCalls.{kept_further}
+use Rattle.sled_core.proofs.Line.HeaderMarks.{marked_same}
 use Rattle.sled_core.proofs.Line.SealFirst.{SealedFor, first_answers, first_calls, first_performs, first_position, first_tickets, sealed_already, sealed_first, sealed_past, some_below, unchanged_performs}
 use Rattle.sled_core.proofs.logger.Log.write_below.Given.{Over}
 use Rattle.sled_core.proofs.logger.Log.write_below.Goals.{then-current_begin-to+in_ok-seal, else-current_begin-to}
@@ -29,7 +30,7 @@ ready g c = elim c.if-current_begin-to.branch [
       let did = w.in_ok-seal.ensures in
       subst (λ (l : Log _ _). SealedFor g.D.Device.trace g.C.Checksum.sum_of c.args.to c.args.self.now l) (sym w.self-is)
       (sealed_first g.D.Device.trace g.C.Checksum.sum_of c.args.to c.args.self.now w.seal.new.self c.requires.fault c.requires.reserved (omega (arith, c.current_begin.ensures.is, w.if-current_begin-to.true))
-      did.waiting did.buffers did.begins did.start did.keeps did.tickets did.same did.position did.answers.0)
+      did.waiting did.buffers did.begins did.start did.keeps did.tickets did.same did.position did.answers.0 did.marked)
   | else-current_begin-to w ↦
       subst (λ (l : Log _ _). SealedFor g.D.Device.trace g.C.Checksum.sum_of c.args.to c.args.self.now l) (sym w.self-is)
       (sealed_already g.D.Device.trace g.C.Checksum.sum_of c.args.to c.args.self.now c.requires.fault c.requires.reserved (omega (arith, c.current_begin.ensures.is, w.if-current_begin-to.false)))
@@ -58,3 +59,4 @@ pub returns-clause-buffers : goal.returns-clause-buffers
 returns-clause-buffers g c =
     let did = c.write_sealed_below.ensures in
     (ready g c).writes c.write_sealed_below.new.self c.write_sealed_below.result did.current did.none did.one did.above did.some
+    (marked_same g.C.Checksum.sum_of c.args.self.now c.if-current_begin-to.self c.write_sealed_below.new.self (ready g c).marked did.segment.place did.segment.bytes)

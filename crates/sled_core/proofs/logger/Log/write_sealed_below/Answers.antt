@@ -7,6 +7,7 @@ use Rattle.sled_core.specs.Turned.{ready_below}
 use Rattle.sled_core.proofs.Holds.KeptCalls.{kept_further}
 use Rattle.sled_core.proofs.Line.Advanced.{advanced_further, advanced_still, all_made, failed_further, failed_one, failed_position, failed_tickets, first_step, first_view, holds_up, past_left, ready_in, same_current, stuck_left, stuck_one, write_failed}
 use Rattle.sled_core.proofs.Line.Below.{IsStuck, begin_none, first_fewer, held_past, writes_past}
+use Rattle.sled_core.proofs.Line.HeaderMarks.{segment_further, segment_same}
 use Rattle.sled_core.proofs.Line.LogSpans.{IsLeft, leaves_above, leaves_some, same_buffers}
 use Rattle.sled_core.specs.Waiting.{BufferAt}
 use Rattle.sled_core.proofs.logger.Log.write_sealed_below.Given as given
@@ -75,6 +76,10 @@ returns-in_err-write_buffer-clause-some g c =
     rw e.1 (leaves_some g.C.Checksum.sum_of c.args.to c.args.self.now c.write_buffer.new.self c.requires.sealed (same.1 ∙ so_far.start)
     (subst (λ (l : List BufferAt). IsLeft c.args.to (waiting_of c.args.self.now) l) (sym same.0) so_far.left))
 
+pub returns-in_err-write_buffer-clause-segment : goal.returns-in_err-write_buffer-clause-segment
+returns-in_err-write_buffer-clause-segment g c =
+    segment_further c.args.self.now c.loop-self.self c.write_buffer.new.self c.loop-self.invariant.advanced.segment (segment_same c.loop-self.self c.write_buffer.new.self c.in_err-write_buffer.ensures.same)
+
 -- An open reservation holds the rest up.
 
 pub least_held-requires : goal.least_held-requires
@@ -122,7 +127,13 @@ returns-then-synced_end-to-clause-one g c = λ few. stuck_one g.D.Device.trace g
 pub returns-then-synced_end-to-clause-some : goal.returns-then-synced_end-to-clause-some
 returns-then-synced_end-to-clause-some g c = leaves_some g.C.Checksum.sum_of c.args.to c.args.self.now c.loop-self.self c.requires.sealed c.loop-self.invariant.advanced.start c.loop-self.invariant.advanced.left
 
+pub returns-then-synced_end-to-clause-segment : goal.returns-then-synced_end-to-clause-segment
+returns-then-synced_end-to-clause-segment g c = c.loop-self.invariant.advanced.segment
+
 -- All that begins below the place is written.
+
+pub returns-clause-segment : goal.returns-clause-segment
+returns-clause-segment g c = c.loop-self.invariant.advanced.segment
 
 pub returns-clause-calls : goal.returns-clause-calls
 returns-clause-calls g c =
