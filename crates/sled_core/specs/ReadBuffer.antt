@@ -14,6 +14,7 @@ use Rattle.sled_core.specs.declared.logger.Log.{Log}
 use Rattle.sled_core.specs.Causes.{HeldAnswers, IsFaultAt, IsHeld, OnDone}
 use Rattle.sled_core.specs.Fits.{IsUsedUp, NoneSealed, buffers_of, current_begin, device_of, fault_of, reserved_end, sealing_end, segment_size_of, start_of, synced_end, waiting_of}
 use Rattle.sled_core.specs.Keeps.{start_sealed}
+use Rattle.sled_core.specs.Marked.{BeginsMarked}
 use Rattle.sled_core.specs.Reading.{IsNoPlace}
 use Rattle.sled_core.specs.ReadPointer.{place_read}
 use Rattle.sled_core.specs.Stable.{IsNotReserved}
@@ -93,6 +94,8 @@ pub record WritesAround {T D C : Type 0} (sum : List ℕ → ℕ) (result : Resu
   pub written : pos (synced_end old) ≤ℤ lsn → OnOk result (LeavesWritten sum (unsigned_abs lsn) old new)
   pub held : IsHeld result → LeavesSealed sum (unsigned_abs lsn) old new
   pub some : OnErr result (LeavesUnsealed sum (unsigned_abs lsn) old new ⊎ LeavesSealed sum (unsigned_abs lsn) old new ⊎ LeavesWritten sum (unsigned_abs lsn) old new)
+  -- a segment that was begun has the last stable place for its mark
+  pub marked : BeginsMarked sum old new
 
 -- What a read refuses: all where the log keeps a failure; else what is no place as damage, and then a place that wasn't reserved as that. The log is as it was.
 pub record RefusesPlace {T D C : Type 0} (result : Result T Error) (lsn : ℤ) (p : DiskPtr) (old new : Log D C) : Type 0 where

@@ -30,6 +30,7 @@ use Rattle.sled_core.specs.declared.logger.Log.{Log}
 use Rattle.sled_core.specs.Fits.{HasRecordOf, Holds, HoldsLine, current_begin, device_of, fault_of, line_of, reserved_end, segment_size_of, start_of, synced_end, waiting_of}
 use Rattle.sled_core.specs.LogFile.{StaysFrom}
 use Rattle.sled_core.specs.Logged.{in_log, logged}
+use Rattle.sled_core.specs.Marked.{KeepsSegment}
 use Rattle.sled_core.specs.ReadBuffer.{IsSettled, IsWrittenPlace, LeavesWritten, ReadAnswers, RefusesPlace, SealsAround, SettleAnswers, Settles, WritesAround, held_at, settling}
 use Rattle.sled_core.specs.ReadPointer.{GivesBlob, IsDamageAt, place_read}
 use Rattle.sled_core.specs.Reading.{IsNoPlace}
@@ -38,6 +39,7 @@ use Rattle.sled_core.specs.SealedBuffers.{writing}
 use Rattle.sled_core.specs.Stable.{IsNotReserved}
 use Rattle.sled_core.specs.Waiting.{BufferAt, has_place, unless_held, write_around}
 use Rattle.sled_core.specs.Fits.{buffers_of}
+use Rattle.sled_core.proofs.Line.HeaderMarks.{marked_same}
 use Rattle.sled_core.proofs.Line.Around.{is_none, none_found}
 use Rattle.sled_core.proofs.Line.Outcomes.{all_done, all_err, all_ok, held_alike}
 use Rattle.sled_core.proofs.Line.Records.{IsHeldAt, entry_stays, first_stable, line_begins, line_record}
@@ -291,14 +293,15 @@ module _ {D C : Type 0} (lsn : ℤ) (old mid : Log D C) where
   }
 
   pub around_err : {T T' : Type 0} (sum : List ℕ → ℕ) (e : Error) → WritesAround {T = T} sum (Err e) lsn old mid → WritesAround {T = T'} sum (Err e) lsn old mid
-  around_err {T = T} {T' = T'} sum e is = record { still = is.still; written = λ _. tt; held = λ held. is.held (held_alike T T' e held); some = is.some }
+  around_err {T = T} {T' = T'} sum e is = record { still = is.still; written = λ _. tt; held = λ held. is.held (held_alike T T' e held); some = is.some; marked = is.marked }
 
-  pub around_read : {T T' : Type 0} (sum : List ℕ → ℕ) (r : Result T' Error) (new : Log D C) (x : T) → WritesAround {T = T} sum (Ok x) lsn old mid → waiting_of new ≡ waiting_of mid → start_of new ≡ start_of mid → (IsHeld r → ⊥) → WritesAround sum r lsn old new
-  around_read sum r new x is waiting start free = record {
+  pub around_read : {T T' : Type 0} (sum : List ℕ → ℕ) (r : Result T' Error) (new : Log D C) (x : T) → WritesAround {T = T} sum (Ok x) lsn old mid → waiting_of new ≡ waiting_of mid → start_of new ≡ start_of mid → (IsHeld r → ⊥) → KeepsSegment mid new → WritesAround sum r lsn old new
+  around_read sum r new x is waiting start free segment = record {
     still = λ below. (waiting ∙ (is.still below).0, start ∙ (is.still below).1);
     written = λ behind. all_ok r _ (left behind);
     held = λ held. absurd (free held);
     some = elim (or_beyond (pos (synced_end old)) lsn) [ inl behind ↦ all_err r _ (inr (inr (left behind))) | inr below ↦ all_err r _ (inl (waiting ∙ (is.still below).0, start ∙ (is.still below).1)) ];
+    marked = marked_same sum old mid new is.marked segment.place segment.bytes;
   } where
     left : pos (synced_end old) ≤ℤ lsn → LeavesWritten sum (unsigned_abs lsn) old new
     left behind = (waiting ∙ (is.written behind).0, start ∙ (is.written behind).1)

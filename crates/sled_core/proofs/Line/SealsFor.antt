@@ -12,12 +12,14 @@ use Rattle.sled_core.specs.Begun.{SegmentView, segment_view, view_at}
 use Rattle.sled_core.specs.declared.logger.Log.{Log}
 use Rattle.sled_core.specs.Fits.{AddsBuffers, IsUsedUp, KeepsAll, KeepsTickets, buffers_of, current_begin, current_of, device_of, fault_of, held_len, reserved_end, sealing_end, segment_size_of, start_of, synced_end, waiting_of}
 use Rattle.sled_core.specs.Keeps.{Preserves, SamePosition, start_sealed}
+use Rattle.sled_core.specs.Marked.{BeginsMarked, KeepsSegment}
 use Rattle.sled_core.specs.ReadBuffer.{IsUsedUpAt, LeavesSealed, LeavesWritten, WritesAround, held_at, settling}
 use Rattle.sled_core.specs.Waiting.{BufferAt, Span, has_place, without_around}
 use Rattle.sled_core.proofs.Holds.KeptCalls.{kept_still, position_still, tickets_still}
 use Rattle.sled_core.proofs.Line.Around.{found, found_front, held_found, held_of, writes_found, writes_of}
 use Rattle.sled_core.proofs.Line.Below.{begin_all}
 use Rattle.sled_core.proofs.Line.Entered.{filled_last}
+use Rattle.sled_core.proofs.Line.HeaderMarks.{marked_same, none_begun}
 use Rattle.sled_core.proofs.Line.Outcomes.{held_err, on_err, on_ok}
 use Rattle.sled_core.proofs.Line.SealFirst.{ends_behind}
 use Rattle.sled_core.proofs.Line.Shows.{buffers_add}
@@ -36,6 +38,7 @@ pub record SealsFor {D C : Type 0} (trace : D → Trace) (sum : List ℕ → ℕ
   pub apart : place < current_begin old → current_begin mid ≡ current_begin old
   pub once : (current_begin mid ≡ current_begin old) ⊎ (current_begin mid ≡ sealing_end old)
   pub sealed : LeavesSealed sum place old mid
+  pub marked : BeginsMarked sum old mid
   pub none : waiting_of old ≡ [] → (b : BufferAt) → Contains (waiting_of mid) b → has_place place b ≡ true
 
 -- It hasn't.
@@ -53,6 +56,7 @@ seals_still trace sum place log lower = record {
   apart = λ _. refl;
   once = inl refl;
   sealed = still (let no : nat_le (current_begin log) place ≡ false = grind (arith, nat_tests, lower) in no);
+  marked = none_begun sum log log refl;
   none = λ none b has. absurd (in_nothing b (subst (λ (l : List BufferAt). Contains l b) none has));
 } where
   still : nat_le (current_begin log) place ≡ false → LeavesSealed sum place log log
@@ -72,8 +76,8 @@ holds_reserved log place above reserved =
 
 -- It has.
 pub seals_current : {D C : Type 0} (trace : D → Trace) (sum : List ℕ → ℕ) (place : ℕ) (old mid : Log D C) → current_begin old ≤ place → place < reserved_end old → AddsBuffers sum old mid → waiting_of mid ≡ buffers_of sum old → current_begin mid ≡ sealing_end old → start_of mid ≡ start_sealed old
-    → Preserves trace sum old mid → KeepsTickets old mid → SamePosition old mid → KeepsAll old mid → (IsUsedUp old → ⊥) → SealsFor trace sum place old mid
-seals_current {D} {C} trace sum place old mid above reserved adds waiting begins start keeps tickets position same unused =
+    → Preserves trace sum old mid → KeepsTickets old mid → SamePosition old mid → KeepsAll old mid → (IsUsedUp old → ⊥) → BeginsMarked sum old mid → SealsFor trace sum place old mid
+seals_current {D} {C} trace sum place old mid above reserved adds waiting begins start keeps tickets position same unused marked =
     let held = holds_reserved old place above reserved in
     let current = buffers_add sum old held.0 in
     record {
@@ -89,6 +93,7 @@ seals_current {D} {C} trace sum place old mid above reserved adds waiting begins
       apart = λ lower. absurd (omega (arith, above, lower));
       once = inr begins;
       sealed = by_test (let yes : nat_le (current_begin old) place ≡ true = grind (arith, nat_tests, above) in yes);
+      marked = marked;
       none = λ none b has. by_more (ap (λ (s : Span). s.place) current.seen) (ap (λ (s : Span). s.end) current.seen) held.1 (only_in current.more b (subst (λ (l : List BufferAt). Contains l b) (waiting ∙ current.is ∙ ap (λ (l : List BufferAt). l ++ current.more ∷ []) none) has));
     }
   where
@@ -117,10 +122,11 @@ module _ {D C : Type 0} (trace : D → Trace) (sum : List ℕ → ℕ) (place : 
     pub leaves_written : waiting_of new ≡ without_around place (waiting_of mid) → LeavesWritten sum place old new
     leaves_written is = (is ∙ ap (without_around place) seals.sealed.0, start ∙ seals.sealed.1)
 
-    pub writes_around : {T : Type 0} (r : Result T Error) → synced_end old ≤ place → OnOk r (waiting_of new ≡ without_around place (waiting_of mid)) → OnErr r (waiting_of new ≡ waiting_of mid) → WritesAround sum r (pos place) old new
-    writes_around r behind done failed = record {
+    pub writes_around : {T : Type 0} (r : Result T Error) → synced_end old ≤ place → OnOk r (waiting_of new ≡ without_around place (waiting_of mid)) → OnErr r (waiting_of new ≡ waiting_of mid) → KeepsSegment mid new → WritesAround sum r (pos place) old new
+    writes_around r behind done failed segment = record {
       still = λ below. absurd (omega (arith, ints, below, behind));
       written = λ _. on_ok r _ _ leaves_written done;
       held = λ held. leaves_sealed (held_err r _ held failed);
       some = on_err r _ _ (λ same. inr (inl (leaves_sealed same))) failed;
+      marked = marked_same sum old mid new seals.marked segment.place segment.bytes;
     }

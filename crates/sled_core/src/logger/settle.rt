@@ -6,6 +6,7 @@ ghost use Rattle.sled_store.specs.Script.{after_all, Performs};
 ghost use Rattle.sled_core.specs.Causes.{HeldAnswers, IsHeld, OnDone};
 ghost use Rattle.sled_core.specs.Fits.{KeepsTickets, NoneSealed, current_begin, device_of, fault_of, reserved_end, start_of, synced_end, waiting_of};
 ghost use Rattle.sled_core.specs.Keeps.{Preserves, SamePosition};
+ghost use Rattle.sled_core.specs.Marked.{KeepsSegment};
 ghost use Rattle.sled_core.specs.ReadBuffer.{IsUsedUpAt, IsWrittenPlace, SealsAround, SettleAnswers, WritesAround, held_at, settling};
 ghost use Rattle.sled_core.specs.Stable.{IsNotReserved};
 ghost use Rattle.sled_core.specs.Waiting.{BufferAt, has_place, without_around};
@@ -84,6 +85,7 @@ impl<D: Device, C: Checksum> Log<D, C> {
         ensures without { OnOk result (waiting_of self.new ≡ without_around place (waiting_of self.old)) }
         ensures same { OnErr result (waiting_of self.new ≡ waiting_of self.old) }
         ensures one { ((b : BufferAt) → Contains (waiting_of self.old) b → has_place place b ≡ true) → OnOk result (NoneSealed self.new) }
+        ensures segment { KeepsSegment self.old self.new }
     {
         let n = self.segment_of(place);
         let (site, buffer) = self.segment(n);

@@ -6,6 +6,9 @@ use Rattle.std.specs.declared.io.Error.{Error as IoError}
 use Rattle.std.proofs.lemmas.Int.{ints, to_z-of_z}
 use Rattle.std.proofs.lemmas.Result.{err_from_is_err_and}
 use Rattle.sled_codec.specs.declared.result.DiskPtr.{DiskPtr}
+use Rattle.sled_codec.specs.declared.result.Error.{Error}
+use Rattle.sled_codec.specs.declared.result.Error.TheVariants.{Corruption}
+use Rattle.sled_codec.specs.Errors.{IsCorruption}
 use Rattle.sled_codec.specs.History.{Message, History}
 use Rattle.sled_codec.specs.Places.{MayBegin}
 use Rattle.sled_codec.specs.Pointers.{lid_of}
@@ -26,6 +29,7 @@ use Rattle.sled_core.proofs.Line.Advanced.{same_current}
 use Rattle.sled_core.proofs.Line.BlobReads.{IsReadable, gives_read, readable, reads_stable}
 use Rattle.sled_core.proofs.Line.KeptReads.{err_waits, gives_at_once, kept_readable}
 use Rattle.sled_core.proofs.Line.LogSpans.{same_buffers}
+use Rattle.sled_core.proofs.Line.HeaderMarks.{segment_same}
 use Rattle.sled_core.proofs.Line.Reads.{above_zero, around_err, around_read, err_answers, err_gives, err_refuses, err_settles, fits_begins, is_settled, read_answers, read_held, read_reserved, read_settles, refuses_none, seals_err, seals_read, settled_blobs, settled_names, settled_record}
 use Rattle.sled_core.proofs.Line.Records.{inline_is}
 use Rattle.sled_core.proofs.Line.Settles.{held_stable, stable_up, written_still}
@@ -116,6 +120,16 @@ err_at : (g : given.Over) (c : goal.After-from_residual g) → SettleAnswers {T 
     (IsUsedUpAt c.args.self.now (place_read c.args.lsn c.args.ptr)) c.settle_at.new.self.fault (g.D.Device.faults c.args.self.now.config.device) (g.D.Device.faults c.settle_at.new.self.config.device)
 err_at g c = subst (λ z. SettleAnswers {T = Unit {0}} (Err c.in_err-settle_at.field-0.0) z (synced_end c.args.self.now) (reserved_end c.args.self.now) (held_at g.C.Checksum.sum_of c.args.self.now z) (IsUsedUpAt c.args.self.now z) c.settle_at.new.self.fault
     (g.D.Device.faults c.args.self.now.config.device) (g.D.Device.faults c.settle_at.new.self.config.device)) (at_err g c) c.in_err-settle_at.ensures.answers
+
+-- which is no damage
+err_sound : (S T : Type 0) (e : Error) (lsn : ℤ) (stable end : ℕ) (held : Option ℕ) (used : Type 0) (now : Option IoError) (before after : ℕ) → SettleAnswers {T = S} (Err e) lsn stable end held used now before after → IsCorruption {T = T} (Err e) → ⊥
+err_sound S T (Corruption at) lsn stable end held used now before after answers is = absurd answers.1
+err_sound S T _ lsn stable end held used now before after answers is = absurd is
+
+pub returns-in_err-settle_at-clause-undamaged : goal.returns-in_err-settle_at-clause-undamaged
+returns-in_err-settle_at-clause-undamaged g c = λ H A f U m fits among has place pointer inline.
+    let e = err_from_is_err_and c.from_residual.result c.from_residual.ensures.1 in
+    rw (e.1, e.2) (err_sound (Unit {0}) LogRead c.in_err-settle_at.field-0.0 _ _ _ _ _ _ _ _ (err_at g c))
 
 pub returns-in_err-settle_at-clause-blob : goal.returns-in_err-settle_at-clause-blob
 returns-in_err-settle_at-clause-blob g c = λ H A f U m fits zeros.
@@ -292,7 +306,7 @@ returns-clause-buffers g c =
     let same = same_buffers mid new c.read_settled.ensures.line in
     let free = read_held sum _ c.args.ptr c.read_settled.result _ _ _ _ c.read_settled.ensures.answers in (
       seals_read place old mid c.read_settled.result new tt (subst (λ z. SealsAround {T = Unit {0}} (Ok tt) z old mid) at c.in_ok-settle_at.ensures.seals) same.0 (same_current mid new c.read_settled.ensures.line) free,
-      around_read place old mid sum c.read_settled.result new tt (subst (λ z. WritesAround {T = Unit {0}} sum (Ok tt) z old mid) at c.in_ok-settle_at.ensures.buffers) same.0 same.1 free,
+      around_read place old mid sum c.read_settled.result new tt (subst (λ z. WritesAround {T = Unit {0}} sum (Ok tt) z old mid) at c.in_ok-settle_at.ensures.buffers) same.0 same.1 free (segment_same mid new c.read_settled.ensures.line),
     )
 
 pub returns-clause-answers : goal.returns-clause-answers

@@ -16,6 +16,7 @@ use Rattle.sled_core.proofs.Holds.KeptCalls.{kept_further, kept_still, position_
 use Rattle.sled_core.proofs.Line.Advanced.{same_current}
 use Rattle.sled_core.proofs.Line.LogSpans.{same_buffers}
 use Rattle.sled_core.proofs.Line.Outcomes.{answers_used, seal_answers, seal_not_done, seal_not_held}
+use Rattle.sled_core.proofs.Line.HeaderMarks.{none_begun, segment_same}
 use Rattle.sled_core.proofs.Line.SealsFor.{SealsFor, held_at_same, holds_reserved, seals_current, seals_still, settling_same, writes_around}
 use Rattle.sled_core.proofs.Line.Settles.{held_stable, stable_written}
 use Rattle.sled_core.proofs.logger.Log.settle.Given.{Over}
@@ -46,7 +47,7 @@ returns-then-place-synced_end-clause-seals g c = record { still = λ _. refl; ap
 pub returns-then-place-synced_end-clause-buffers : goal.returns-then-place-synced_end-clause-buffers
 returns-then-place-synced_end-clause-buffers g c =
     let below : c.args.place < synced_end c.args.self.now = omega (arith, c.if-place-synced_end.true, c.synced_end.ensures.is) in
-    record { still = λ _. (refl, refl); written = λ behind. absurd (omega (arith, ints, below, behind)); held = λ is. absurd is; some = tt }
+    record { still = λ _. (refl, refl); written = λ behind. absurd (omega (arith, ints, below, behind)); held = λ is. absurd is; some = tt; marked = none_begun g.C.Checksum.sum_of c.args.self.now c.args.self.now refl }
 
 -- The current buffer could not be sealed.
 
@@ -103,6 +104,7 @@ returns-in_err-seal-clause-buffers g c =
       written = λ _. tt;
       held = λ is. absurd (seal_not_held (Unit {0}) (Unit {0}) c.in_err-seal.field-0.0 _ c.in_err-seal.ensures.answers is);
       some = inl (same_buffers c.args.self.now c.seal.new.self c.in_err-seal.ensures.err.line);
+      marked = none_begun g.C.Checksum.sum_of c.args.self.now c.seal.new.self (segment_same c.args.self.now c.seal.new.self c.in_err-seal.ensures.err.line).place;
     })
 
 -- The buffer that has the place is sealed now.
@@ -118,7 +120,7 @@ sealed_for g c =
       | then-place-current_begin+in_ok-seal w ↦ subst (λ (l : Log g.row.D.Denot g.row.C.Denot). SealsFor trace sum place old l) (sym w.self-is)
           (seals_current trace sum place old w.seal.new.self (let up = w.if-place-current_begin.true in omega (arith, up, begin))
           (elim c.requires.reserved [ inl below ↦ absurd (omega (arith, below, c.if-place-synced_end.false, c.synced_end.ensures.is)) | inr lower ↦ lower ])
-          w.in_ok-seal.ensures.buffers w.in_ok-seal.ensures.waiting w.in_ok-seal.ensures.begins w.in_ok-seal.ensures.start w.seal.ensures.keeps w.seal.ensures.tickets w.seal.ensures.position w.seal.ensures.same w.in_ok-seal.ensures.answers.0)
+          w.in_ok-seal.ensures.buffers w.in_ok-seal.ensures.waiting w.in_ok-seal.ensures.begins w.in_ok-seal.ensures.start w.seal.ensures.keeps w.seal.ensures.tickets w.seal.ensures.position w.seal.ensures.same w.in_ok-seal.ensures.answers.0 w.in_ok-seal.ensures.marked)
       | else-place-current_begin w ↦ subst (λ (l : Log g.row.D.Denot g.row.C.Denot). SealsFor trace sum place old l) (sym w.self-is)
           (seals_still trace sum place old (let low = w.if-place-current_begin.false in omega (arith, low, begin)))
     ]
@@ -143,7 +145,7 @@ seals g c =
       | then-place-current_begin+in_ok-seal w ↦ subst (λ (l : Log g.row.D.Denot g.row.C.Denot). SealsFor trace sum place old l) (sym w.self-is)
           (seals_current trace sum place old w.seal.new.self (let up = w.if-place-current_begin.true in omega (arith, up, begin))
           (elim c.requires.reserved [ inl below ↦ absurd (omega (arith, below, c.if-place-synced_end.false, c.synced_end.ensures.is)) | inr lower ↦ lower ])
-          w.in_ok-seal.ensures.buffers w.in_ok-seal.ensures.waiting w.in_ok-seal.ensures.begins w.in_ok-seal.ensures.start w.seal.ensures.keeps w.seal.ensures.tickets w.seal.ensures.position w.seal.ensures.same w.in_ok-seal.ensures.answers.0)
+          w.in_ok-seal.ensures.buffers w.in_ok-seal.ensures.waiting w.in_ok-seal.ensures.begins w.in_ok-seal.ensures.start w.seal.ensures.keeps w.seal.ensures.tickets w.seal.ensures.position w.seal.ensures.same w.in_ok-seal.ensures.answers.0 w.in_ok-seal.ensures.marked)
       | else-place-current_begin w ↦ subst (λ (l : Log g.row.D.Denot g.row.C.Denot). SealsFor trace sum place old l) (sym w.self-is)
           (seals_still trace sum place old (let low = w.if-place-current_begin.false in omega (arith, low, begin)))
     ]
@@ -206,4 +208,4 @@ pub returns-clause-buffers : goal.returns-clause-buffers
 returns-clause-buffers g c =
     let did = c.write_around.ensures in
     writes_around g.D.Device.trace g.C.Checksum.sum_of c.args.place c.args.self.now c.if-place-current_begin.self (seals g c) c.write_around.new.self did.start c.write_around.result
-    (omega (arith, c.if-place-synced_end.false, c.synced_end.ensures.is)) did.without did.same
+    (omega (arith, c.if-place-synced_end.false, c.synced_end.ensures.is)) did.without did.same did.segment

@@ -6,6 +6,8 @@ use Rattle.sled_store.specs.Script.{Performs, after_all}
 use Rattle.sled_store.proofs.Traces.ScriptLemmas.{performs_nothing}
 use Rattle.sled_core.specs.Fits.{segment_size_of, start_of}
 use Rattle.sled_core.proofs.Holds.KeptCalls.{kept_still}
+use Rattle.sled_core.specs.Marked.{KeepsSegment}
+use Rattle.sled_core.proofs.Line.HeaderMarks.{segment_same, segment_written}
 use Rattle.sled_core.proofs.Line.LogSpans.{same_buffers, written_starts}
 use Rattle.sled_core.proofs.Line.Outcomes.{answers_free, done_free, either, on_err, on_ok}
 use Rattle.sled_core.proofs.Line.Settles.{found_early, found_gone, found_held, held_at_found, held_none, inside, is_ready_there, looks, nothing_waits, number_within, settling_found, settling_it, some_held, without_still, wrote_all, wrote_place, wrote_without, written_found}
@@ -144,6 +146,14 @@ pub returns-clause-answers : goal.returns-clause-answers
 returns-clause-answers g c =
     let looked = looks c.args.self.now c.args.place c.segment_of-n.result c.segment.result.0 c.segment.result.1.now c.requires.behind c.requires.sealed c.segment_of-n.ensures c.segment.ensures.view c.segment.ensures.place in
     answers_free c.write_buffer.result _ _ _ _ (held_none c.args.self.now c.args.place looked c.around-k.result.0 c.around-k.result.1 c.if-at-buffer.false c.around-k.ensures.there c.around-k.ensures.point c.if-b.false (let none = c.if-b-gt0.false in omega (arith, none)) g.C.Checksum.sum_of) c.write_buffer.ensures.answers
+
+pub returns-clause-segment : goal.returns-clause-segment
+returns-clause-segment g c =
+    let old = c.args.self.now in
+    let new = c.write_buffer.new.self in
+    let looked = looks c.args.self.now c.args.place c.segment_of-n.result c.segment.result.0 c.segment.result.1.now c.requires.behind c.requires.sealed c.segment_of-n.ensures c.segment.ensures.view c.segment.ensures.place in
+    either c.write_buffer.result _ _ (KeepsSegment old new) (λ wrote. segment_written old new (segment_size_of old) c.segment_of-n.result c.around-k.result.0 looked.segment looked.among wrote)
+    (λ same. segment_same old new same) (c.write_buffer.ensures.line looked.segment looked.among) c.write_buffer.ensures.same
 
 pub returns-clause-start : goal.returns-clause-start
 returns-clause-start g c =
