@@ -192,12 +192,11 @@ impl<D: Device, C: Checksum> Log<D, C> {
         ensures position { SamePosition self.old self.new }
         ensures answers { HeldAnswers result (holding_below C.sum_of self.old to) ⊥ None (fault_of self.new)
             (D.faults (device_of self.old)) (D.faults (device_of self.new)) }
-        ensures current { current_begin self.new ≡ current_begin self.old }
+        ensures current { (current_begin self.new ≡ current_begin self.old) × KeepsSegment self.old self.new }
         ensures none { ((b : BufferAt) → Contains (waiting_of self.old) b → b.place < to) → OnOk result (NoneSealed self.new) }
         ensures one { length (waiting_of self.old) ≤ 1 → OnErr result (synced_end self.new ≡ synced_end self.old) }
         ensures above { OnOk result (LeavesAbove C.sum_of to self.old self.new) }
         ensures some { OnErr result (LeavesSome C.sum_of to self.old self.new) }
-        ensures segment { KeepsSegment self.old self.new }
     {
         while self.has_ready_below(to) {
             self.write_buffer(0, 0)?;

@@ -58,5 +58,5 @@ returns-clause-answers g c =
 pub returns-clause-buffers : goal.returns-clause-buffers
 returns-clause-buffers g c =
     let did = c.write_sealed_below.ensures in
-    (ready g c).writes c.write_sealed_below.new.self c.write_sealed_below.result did.current did.none did.one did.above did.some
-    (marked_same g.C.Checksum.sum_of c.args.self.now c.if-current_begin-to.self c.write_sealed_below.new.self (ready g c).marked did.segment.place did.segment.bytes)
+    (ready g c).writes c.write_sealed_below.new.self c.write_sealed_below.result did.current.0 did.none did.one did.above did.some
+    (marked_same g.C.Checksum.sum_of c.args.self.now c.if-current_begin-to.self c.write_sealed_below.new.self (ready g c).marked did.current.1.place did.current.1.bytes)

@@ -61,7 +61,12 @@ returns-in_err-write_buffer-clause-answers g c =
     rw (e.1, e.2) (write_failed (Unit {0}) (Unit {0}) c.in_err-write_buffer.field-0.0 _ ⊥ _ _ _ _ c.loop-self.invariant.advanced.counted c.in_err-write_buffer.ensures.answers)
 
 pub returns-in_err-write_buffer-clause-current : goal.returns-in_err-write_buffer-clause-current
-returns-in_err-write_buffer-clause-current g c = same_current c.loop-self.self c.write_buffer.new.self c.in_err-write_buffer.ensures.same ∙ c.loop-self.invariant.advanced.current
+returns-in_err-write_buffer-clause-current g c =
+    let mid = c.loop-self.self in
+    let new = c.write_buffer.new.self in
+    let same = c.in_err-write_buffer.ensures.same in
+    let so_far = c.loop-self.invariant.advanced in
+    (same_current mid new same ∙ so_far.current, segment_further c.args.self.now mid new so_far.segment (segment_same mid new same))
 
 pub returns-in_err-write_buffer-clause-one : goal.returns-in_err-write_buffer-clause-one
 returns-in_err-write_buffer-clause-one g c = λ few.
@@ -75,10 +80,6 @@ returns-in_err-write_buffer-clause-some g c =
     let e = err_from_is_err_and c.from_residual.result c.from_residual.ensures.1 in
     rw e.1 (leaves_some g.C.Checksum.sum_of c.args.to c.args.self.now c.write_buffer.new.self c.requires.sealed (same.1 ∙ so_far.start)
     (subst (λ (l : List BufferAt). IsLeft c.args.to (waiting_of c.args.self.now) l) (sym same.0) so_far.left))
-
-pub returns-in_err-write_buffer-clause-segment : goal.returns-in_err-write_buffer-clause-segment
-returns-in_err-write_buffer-clause-segment g c =
-    segment_further c.args.self.now c.loop-self.self c.write_buffer.new.self c.loop-self.invariant.advanced.segment (segment_same c.loop-self.self c.write_buffer.new.self c.in_err-write_buffer.ensures.same)
 
 -- An open reservation holds the rest up.
 
@@ -119,7 +120,7 @@ returns-then-synced_end-to-clause-answers g c =
     )
 
 pub returns-then-synced_end-to-clause-current : goal.returns-then-synced_end-to-clause-current
-returns-then-synced_end-to-clause-current g c = c.loop-self.invariant.advanced.current
+returns-then-synced_end-to-clause-current g c = (c.loop-self.invariant.advanced.current, c.loop-self.invariant.advanced.segment)
 
 pub returns-then-synced_end-to-clause-one : goal.returns-then-synced_end-to-clause-one
 returns-then-synced_end-to-clause-one g c = λ few. stuck_one g.D.Device.trace g.C.Checksum.sum_of g.D.Device.faults c.args.to c.args.self.now c.loop-self.self c.loop-self.invariant.advanced (stuck g c) few
@@ -127,13 +128,7 @@ returns-then-synced_end-to-clause-one g c = λ few. stuck_one g.D.Device.trace g
 pub returns-then-synced_end-to-clause-some : goal.returns-then-synced_end-to-clause-some
 returns-then-synced_end-to-clause-some g c = leaves_some g.C.Checksum.sum_of c.args.to c.args.self.now c.loop-self.self c.requires.sealed c.loop-self.invariant.advanced.start c.loop-self.invariant.advanced.left
 
-pub returns-then-synced_end-to-clause-segment : goal.returns-then-synced_end-to-clause-segment
-returns-then-synced_end-to-clause-segment g c = c.loop-self.invariant.advanced.segment
-
 -- All that begins below the place is written.
-
-pub returns-clause-segment : goal.returns-clause-segment
-returns-clause-segment g c = c.loop-self.invariant.advanced.segment
 
 pub returns-clause-calls : goal.returns-clause-calls
 returns-clause-calls g c =
@@ -168,7 +163,7 @@ returns-clause-answers g c =
     )
 
 pub returns-clause-current : goal.returns-clause-current
-returns-clause-current g c = c.loop-self.invariant.advanced.current
+returns-clause-current g c = (c.loop-self.invariant.advanced.current, c.loop-self.invariant.advanced.segment)
 
 pub returns-clause-none : goal.returns-clause-none
 returns-clause-none g c = λ below.
