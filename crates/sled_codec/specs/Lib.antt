@@ -1,3 +1,4 @@
+pub mod Beginnings
 pub mod Coords
 pub mod EachLaws
 pub mod ErrorLaws

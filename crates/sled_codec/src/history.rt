@@ -1,10 +1,10 @@
 //! Completed messages, and the table of pages that they make. A plain, slow reading of the definitions
 //! of `specs/History.antt`, for tests.
-ghost use Rattle.std.specs.Prelude.{◌≡◌, ◌++◌, ◌&&◌, IfOk, OnOk, map, filter, nat_lt, option_map, Some};
+ghost use Rattle.std.specs.Prelude.{◌≡◌, ◌++◌, ◌&&◌, IfOk, OnOk, IsOkUnless, map, filter, nat_lt, option_map, Some};
 ghost use Rattle.sled_codec.specs.History.{of_page, page_state, last_beginning, entries_from, begins_page, is_replace, is_link};
 ghost use Rattle.sled_codec.specs.Seen.{seen};
 
-use crate::result::{DiskPtr, PageId, Result};
+use crate::result::{DiskPtr, Error, PageId, Result};
 use crate::serialization::LogKind;
 use std::alloc::Global;
 
@@ -39,7 +39,8 @@ pub fn entries_of_page<'a>(
     cut: u64,
     page: PageId,
 ) -> Result<Vec<Message<'a>>>
-    ensures { IfOk result (λ entries. map seen entries.items ≡ page_state (of_page (map seen messages.now) cut page)) }
+    ensures entries { IfOk result (λ entries. map seen entries.items ≡ page_state (of_page (map seen messages.now) cut page)) }
+    ensures memory { IsOkUnless result Error.OutOfMemory }
 {
     let mut of_page = Vec::new(alloc);
     for m in messages {
@@ -53,7 +54,8 @@ pub fn entries_of_page<'a>(
 // The entries of one page, whose messages these are.
 #[tactic(auto, unfolding(crate::specs::History::page_state))]
 fn page_state<'a>(alloc: Global, of_page: &[Message<'a>]) -> Result<Vec<Message<'a>>>
-    ensures { IfOk result (λ entries. map seen entries.items ≡ page_state (map seen of_page.now)) }
+    ensures entries { IfOk result (λ entries. map seen entries.items ≡ page_state (map seen of_page.now)) }
+    ensures memory { IsOkUnless result Error.OutOfMemory }
 {
     match last_beginning(of_page) {
         None => Ok(Vec::new(alloc)),
@@ -76,7 +78,8 @@ fn last_beginning<'a>(of_page: &[Message<'a>]) -> Option<Message<'a>>
 
 // A beginning, and what stands on it.
 fn behind<'a>(alloc: Global, base: Message<'a>, of_page: &[Message<'a>]) -> Result<Vec<Message<'a>>>
-    ensures { IfOk result (λ entries. map seen entries.items ≡ entries_from (Some (seen base.entry)) (map seen of_page.now)) }
+    ensures entries { IfOk result (λ entries. map seen entries.items ≡ entries_from (Some (seen base.entry)) (map seen of_page.now)) }
+    ensures memory { IsOkUnless result Error.OutOfMemory }
 {
     let mut entries = Vec::new(alloc);
     entries.push(base)?;
@@ -88,8 +91,9 @@ fn behind<'a>(alloc: Global, base: Message<'a>, of_page: &[Message<'a>]) -> Resu
 
 // Puts the Links above a place behind the entries.
 fn push_links<'a>(entries: &mut Vec<Message<'a>>, place: u64, of_page: &[Message<'a>]) -> Result<()>
-    ensures { OnOk result (map seen entries.new.items ≡ map seen entries.old.items
+    ensures links { OnOk result (map seen entries.new.items ≡ map seen entries.old.items
         ++ filter (λ m. is_link m.kind && nat_lt place m.place) (map seen of_page.now)) }
+    ensures memory { IsOkUnless result Error.OutOfMemory }
 {
     for m in of_page {
         if is_link(m.kind) && m.place > place {

@@ -1,5 +1,7 @@
 //! Byte strings, whose spelling begins with their length, and `()`, which has no bytes.
-ghost use Rattle.std.specs.Prelude.{◌≡◌, ◌+◌, ◌^◌, ◌<◌, ◌≤◌, ℕ, List, [], length, true, false};
+ghost use Rattle.std.specs.Prelude.{◌≡◌, ◌+◌, ◌^◌, ◌<◌, ◌≤◌, ◌++◌, ℕ, List, [], length, true, false, IfOk, IfErr, OnErr};
+ghost use Rattle.sled_codec.specs.Beginnings.{BeginsWithBytes};
+ghost use Rattle.sled_codec.specs.Errors.{IsCorruption, IsDecodeErrorOf};
 ghost use Rattle.sled_codec.specs.Spelling.{SpellsBytes, short_bytes};
 ghost use Rattle.sled_codec.specs.SpellingLaws.{short_spells-bytes, one_value-bytes, no_front-bytes, one_value-nothing, no_front-nothing};
 ghost use Rattle.std.proofs.Common.{refl};
@@ -85,7 +87,15 @@ impl Serialize for Vec<u8> {
         copy_in(self, buf, next)
     }
 
-    fn deserialize(alloc: Global, buf: &mut &[u8]) -> Result<Vec<u8>> {
+    // Memory is taken for bytes that are there, whatever their count says.
+    fn deserialize(alloc: Global, buf: &mut &[u8]) -> Result<Vec<u8>>
+        ensures ok { IfOk result (λ v. (front : List ℕ) × SpellsBytes front v.items × (buf.old.now ≡ front ++ buf.new.now)) }
+        ensures rest { IfOk result (λ v. Unit {0}) }
+        ensures corrupt { IsCorruption result → (front rest : List ℕ) (v : List ℕ) → buf.old.now ≡ front ++ rest → Unit {0} → SpellsBytes front v → ⊥ }
+        ensures errors { IfErr result (IsDecodeErrorOf true) }
+        ensures err { OnErr result (buf.new.now ≡ buf.old.now) }
+        ensures memory { IfErr result (λ e. e ≡ Error.OutOfMemory → BeginsWithBytes buf.old.now) }
+    {
         let mut rest: &[u8] = *buf;
         let len = u64::deserialize(alloc, &mut rest)?;
         if len > rest.len() as u64 {
