@@ -3,4 +3,5 @@ pub mod CrashLogLemmas
 pub mod ForeignLemmas
 pub mod LeavesLemmas
 pub mod SettledLemmas
+pub mod StoodLemmas
 pub mod SyncedLemmas

@@ -1,3 +1,4 @@
 pub mod MomentLemmas
 pub mod ScriptLemmas
+pub mod StopLemmas
 pub mod Walks

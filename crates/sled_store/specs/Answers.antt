@@ -5,7 +5,7 @@ use Rattle.std.specs.IoError.{error_kind}
 use Rattle.std.specs.declared.io.Error.{Error}
 use Rattle.std.specs.declared.io.ErrorKind.{ErrorKind}
 use Rattle.std.specs.declared.io.ErrorKind.TheVariants.{OutOfMemory, NotFound, AlreadyExists}
-use Rattle.sled_store.specs.Device.{Event, Trace, Wrote, Cut, Synced, BlobMade, BlobSynced, BlobRemoved, SnapshotFilled, SnapshotPublished, SnapshotRemoved, NamesSynced, Crashed}
+use Rattle.sled_store.specs.Device.{Event, Trace, Wrote, Cut, Synced, BlobMade, BlobSynced, BlobRemoved, SnapshotFilled, SnapshotPublished, SnapshotRemoved, NamesSynced, StopAsked, Crashed}
 
 -- of the kinds of errors, those that are failures of the device
 abbrev pub is_fault_kind : ErrorKind → Bool
@@ -61,6 +61,7 @@ Tears (SnapshotRemoved number done) e = (gone : Bool) × (e ≡ SnapshotRemoved 
 Tears Synced e = ⊥
 Tears (BlobSynced place) e = ⊥
 Tears NamesSynced e = ⊥
+Tears (StopAsked n) e = ⊥
 Tears (Crashed left) e = ⊥
 
 -- A call that succeeded added its event. A refusal added none, and a failure none or what it leaves of the call.

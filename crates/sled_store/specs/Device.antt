@@ -15,7 +15,8 @@ pub data Left : Type 0 where
   Latest : (patch : List (ℕ × ℕ)) → Left
   Given : (log : List ℕ) (blobs snapshots : List (ℤ × List ℕ)) → Left
 
--- A call that changed something or may have, or a crash. `asked` is what was asked for, `now` is what was done.
+-- A call that changed something or may have, or a crash; or what a test asked: that `n` more calls are done, and the next is stopped within.
+-- `asked` is what was asked for, `now` is what was done.
 pub data Event : Type 0 where
   Wrote : (at : ℕ) (asked now : List ℕ) → Event
   Cut : (asked now : ℕ) → Event
@@ -27,6 +28,7 @@ pub data Event : Type 0 where
   SnapshotPublished : (number : ℤ) (done : Bool) → Event
   SnapshotRemoved : (number : ℤ) (done : Bool) → Event
   NamesSynced : Event
+  StopAsked : (n : ℕ) → Event
   Crashed : (left : Left) → Event
 
 -- all events so far, the newest first
@@ -204,10 +206,23 @@ LeavesOneOf (s ∷ others) left = LeavesFile s.file s.is_unsynced left ⊎ Leave
 abbrev pub LeavesName : NamesState → ℤ → Option (List ℕ) → Type 0
 LeavesName s n left = LeavesFile (s.file n) (s.is_unsynced n) left ⊎ LeavesOneOf (s.earlier n) left ⊎ LeavesOneOf (s.half_done n) left
 
+-- a write that was asked of the log file, and what the file was at each sync and crash since, the newest first
+pub record Placement : Type 0 where
+  pub at : ℕ
+  pub bytes : List ℕ
+  pub since : List (List ℕ)
+
+-- each of these has seen the log file settle so
+abbrev pub settled_again : List ℕ → List Placement → List Placement
+settled_again log [] = []
+settled_again log (p ∷ was) = record p { since = log ∷ p.since } ∷ settled_again log was
+
 -- what was ever asked to be written to the log file, the newest first; neither a sync nor a crash forgets it
-abbrev pub placed_step : Event → List (ℕ × List ℕ) → List (ℕ × List ℕ)
-placed_step (Wrote at asked now) was = (at, asked) ∷ was
-placed_step _ was = was
+abbrev pub placed_step : Event → LogState → List Placement → List Placement
+placed_step (Wrote at asked now) s was = record { at = at; bytes = asked; since = [] } ∷ was
+placed_step Synced s was = settled_again s.bytes was
+placed_step (Crashed left) s was = settled_again (log_left left s) was
+placed_step _ s was = was
 
 -- All parts. A call other than `sync_names` touches only those of the log, of the blobs or of the snapshots, by computation.
 
@@ -217,7 +232,7 @@ pub record State : Type 0 where
   pub snapshots : NamesState
   pub temporary : Temporary
   -- each write that was ever asked of the log file, the newest first
-  pub placed : List (ℕ × List ℕ)
+  pub placed : List Placement
 
 abbrev pub fresh : State
 fresh = record { log = at_rest []; blobs = names_at_rest (λ _. None); snapshots = names_at_rest (λ _. None); temporary = record { bytes = []; asked = [] }; placed = [] }
@@ -228,7 +243,7 @@ step e s = record {
   blobs = blob_step e s.blobs;
   snapshots = snapshot_step e s.temporary s.snapshots;
   temporary = temporary_step e s.temporary;
-  placed = placed_step e s.placed;
+  placed = placed_step e s.log s.placed;
 }
 
 -- the state after these events

@@ -1,5 +1,5 @@
 -- What a test asked of a device in memory, and how each of its calls obeys.
-use Rattle.std.specs.Prelude.{◌≡◌, ◌≢◌, ◌⊎◌, ◌+◌, ◌-◌, ◌/◌, ◌||◌, ◌==◌, ℕ, Bool, true, false, ◌∷◌, length, take, Option, None, Some}
+use Rattle.std.specs.Prelude.{◌≡◌, ◌≢◌, ◌⊎◌, ◌<◌, ◌+◌, ◌-◌, ◌/◌, ◌||◌, ◌==◌, ℕ, Bool, true, false, ◌∷◌, length, take, Option, None, Some}
 use Rattle.std.specs.Bool.{MatchBool}
 use Rattle.std.specs.declared.io.ErrorKind.{ErrorKind}
 use Rattle.std.specs.declared.io.ErrorKind.TheVariants.{Other}
@@ -7,18 +7,23 @@ use Rattle.sled_store.specs.declared.device.memory.MemDevice.{MemDevice}
 use Rattle.sled_store.specs.Answers.{is_fault_kind}
 use Rattle.sled_store.specs.Device.{Event, Trace, Wrote, Synced, BlobSynced, NamesSynced}
 use Rattle.sled_store.specs.Memory.{has_room}
+use Rattle.sled_store.specs.Stops.{left_to_do, one_fewer}
+
+-- what it did so far
+abbrev pub trace_of : MemDevice → Trace
+trace_of device = device.story.trace.events
 
 -- which call fails, counted from the next one on; 0 for none
 abbrev pub fails_in : MemDevice → ℕ
-fails_in device = device.faults.fails_in
+fails_in device = device.story.faults.fails_in
 
 -- how many calls that change or sync are done before one is stopped within, where one is to be
 abbrev pub stops_in : MemDevice → Option ℕ
-stops_in device = device.faults.stops_after
+stops_in device = left_to_do (trace_of device)
 
 -- one was stopped within, and no crash came since
 abbrev pub is_stopped : MemDevice → Bool
-is_stopped device = device.faults.is_stopped
+is_stopped device = device.story.faults.is_stopped
 
 -- these three, each by its value
 abbrev pub Awaits : MemDevice → ℕ → Option ℕ → Bool → Type 0
@@ -28,21 +33,12 @@ Awaits device fails stops stopped = (fails_in device ≡ fails) × (stops_in dev
 abbrev pub is_due : MemDevice → Bool
 is_due device = is_stopped device || fails_in device == 1
 
--- one call fewer is to be done
-abbrev pub one_fewer : Option ℕ → Option ℕ
-one_fewer None = None
-one_fewer (Some n) = Some (n - 1)
-
--- what it did so far
-abbrev pub trace_of : MemDevice → Trace
-trace_of device = device.ghost_trace.events
-
--- What a call leaves that fails since it was due: of a write the first half of its bytes, rounded down, unless the device was stopped or memory
--- had to be taken; of any other nothing.
+-- What a call leaves that fails since it was due: of a write of some bytes the first half of them, rounded down, unless the device was stopped or
+-- memory had to be taken; of any other nothing.
 abbrev pub LeftByFailure : Option Event → MemDevice → MemDevice → Type 0
 LeftByFailure (Some (Wrote at asked now)) old new =
-    ((is_stopped old ≡ false) × (trace_of new ≡ Wrote at asked (take (length asked / 2) asked) ∷ trace_of old))
-    ⊎ ((trace_of new ≡ trace_of old) × ((is_stopped old ≡ true) ⊎ (has_room old.log (at + length asked) ≡ false)))
+    ((is_stopped old ≡ false) × (0 < length asked) × (trace_of new ≡ Wrote at asked (take (length asked / 2) asked) ∷ trace_of old))
+    ⊎ ((trace_of new ≡ trace_of old) × ((is_stopped old ≡ true) ⊎ (length asked ≡ 0) ⊎ (has_room old.log (at + length asked) ≡ false)))
 LeftByFailure event old new = trace_of new ≡ trace_of old
 
 -- what a call leaves that is stopped within: what it changes is done, and nothing is settled by it

@@ -1,10 +1,11 @@
 -- Only what the log itself wrote passes as its own. No checksum can show that, so it is a premise of what is proved of recovery.
 -- Bytes inside an item that a user gave don't count as written by the log, though they may look like a record.
-use Rattle.std.specs.Prelude.{◌≡◌, ◌⊎◌, ◌≤◌, ◌+◌, ◌-◌, ◌*◌, ◌/◌, ◌%◌, ℕ, ℤ, pos, nat_lt, if◌then◌else◌, List, length, take, Contains, Option, Some}
+use Rattle.std.specs.Prelude.{◌≡◌, ◌⊎◌, ◌≤◌, ◌+◌, ◌-◌, ◌*◌, ◌/◌, ◌%◌, ℕ, ℤ, pos, nat_lt, if◌then◌else◌, List, length, take, All, Contains, Option, Some}
 use Rattle.sled_codec.specs.declared.serialization.message.MessageKind.{MessageKind}
 use Rattle.sled_codec.specs.Places.{part}
 use Rattle.sled_codec.specs.Record.{IsRecord, IsHeader}
-use Rattle.sled_store.specs.Device.{LogState, NamesState, settled_files}
+use Rattle.sled_store.specs.Device.{LogState, NamesState, Placement, settled_files}
+use Rattle.sled_store.specs.Readers.{Reads}
 
 -- A write to the log file covers these bytes at an offset of the file: it has just them there.
 pub record Covers (write : ℕ × List ℕ) (at : ℕ) (text : List ℕ) : Type 0 where
@@ -16,9 +17,13 @@ pub record Covers (write : ℕ × List ℕ) (at : ℕ) (text : List ℕ) : Type 
 unfoldable pub IsWhole : LogState → ℕ → List ℕ → Type 0
 IsWhole past at text = (part past.settled at (length text) ≡ text) ⊎ ((write : ℕ × List ℕ) × Contains past.asked write × Covers write at text)
 
--- One of these writes laid down this header: it begins at that offset of the file with it.
-unfoldable pub HeaderWasPlaced : List (ℕ × List ℕ) → ℕ → List ℕ → Type 0
-HeaderWasPlaced placed at text = (write : ℕ × List ℕ) × Contains placed write × (write.0 ≡ at) × (take 20 write.1 ≡ text)
+-- A text has stood at an offset of the file whenever that was settled since a write: at each sync, and at each crash.
+abbrev pub HasStood : Placement → ℕ → List ℕ → Type 0
+HasStood write at text = All (λ log. part log at (length text) ≡ text) write.since
+
+-- One of these writes laid down this header, and it has stood since: the write begins at that offset of the file with it.
+unfoldable pub HeaderWasPlaced : List Placement → ℕ → List ℕ → Type 0
+HeaderWasPlaced placed at text = (write : Placement) × Contains placed write × (write.at ≡ at) × (take 20 write.bytes ≡ text) × HasStood write at text
 
 -- where in a write to an offset of the file the first record begins: behind a header, where a slot begins at that offset
 abbrev pub first_record : ℕ → ℕ → ℕ
@@ -31,18 +36,17 @@ module _ (sum : List ℕ → ℕ) (size : ℕ) where
     behind : (at len : ℕ) (kind : MessageKind) (page : ℕ) (body : List ℕ) → IsReached number text first at → at + len ≤ length text
         → IsRecord sum (part text at len) kind page number body → IsReached number text first (at + len)
 
-  -- One of these writes laid down this record of a number: it covers it, and a reader of records of that number comes to it from the first one of the write.
-  unfoldable pub RecordWasPlaced : List (ℕ × List ℕ) → ℕ → ℕ → List ℕ → Type 0
-  RecordWasPlaced placed number at text =
-      (write : ℕ × List ℕ) × Contains placed write × Covers write at text × IsReached number write.1 (first_record size write.0) (at - write.0)
+  -- One of these writes laid down this record of a number, and it has stood since: it covers it, and a reader of records of that number comes
+  -- to it from the first one of the write.
+  unfoldable pub RecordWasPlaced : List Placement → ℕ → ℕ → List ℕ → Type 0
+  RecordWasPlaced placed number at text = (write : Placement) × Contains placed write × Covers (write.at, write.bytes) at text
+      × IsReached number write.bytes (first_record size write.at) (at - write.at) × HasStood write at text
 
-  -- In each slot that begins with a header, that header and each record of its number that a reader comes to was placed there by the log, and stands whole.
-  pub record NoForeignLog (past : LogState) (placed : List (ℕ × List ℕ)) (log : List ℕ) : Type 0 where
+  -- In each slot that begins with a header, that header and each record of its number that a reader reads was placed there by the log, and stands whole. (Behind a Cap and where no record has room nothing is read, so nothing is asked of what may lie there.)
+  pub record NoForeignLog (past : LogState) (placed : List Placement) (log : List ℕ) : Type 0 where
     pub headers : (slot : ℕ) (lsn mark : ℤ) → IsHeader sum (part log (slot * size) 20) lsn mark
         → HeaderWasPlaced placed (slot * size) (part log (slot * size) 20) × IsWhole past (slot * size) (part log (slot * size) 20)
-    pub records : (slot lsn : ℕ) (mark : ℤ) (at len : ℕ) (kind : MessageKind) (page : ℕ) (body : List ℕ)
-        → IsHeader sum (part log (slot * size) 20) (pos lsn) mark
-        → IsReached (lsn / size) (part log (slot * size) size) 20 at → at + len ≤ size → IsRecord sum (part log (slot * size + at) len) kind page (lsn / size) body
+    pub records : (slot lsn : ℕ) (mark : ℤ) (at len : ℕ) → IsHeader sum (part log (slot * size) 20) (pos lsn) mark → Reads sum size (lsn / size) (part log (slot * size) size) 20 at len
         → RecordWasPlaced placed (lsn / size) (slot * size + at) (part log (slot * size + at) len)
         × IsWhole past (slot * size + at) (part log (slot * size + at) len)
 

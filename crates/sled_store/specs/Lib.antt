@@ -11,10 +11,12 @@ pub mod Foreign
 pub mod Marks
 pub mod Memory
 pub mod MemoryNames
+pub mod MemoryStops
 pub mod Moments
 pub mod Noted
 pub mod OwnNames
 pub mod OwnParts
+pub mod Readers
 pub mod Script
 pub mod SegmentStates
 pub mod Segments
@@ -22,6 +24,8 @@ pub mod SlotSets
 pub mod SlotTables
 pub mod SnapshotFiles
 pub mod Stabilizing
+pub mod StartCauses
 pub mod Started
 pub mod Starting
+pub mod Stops
 pub mod Words

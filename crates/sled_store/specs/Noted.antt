@@ -1,7 +1,7 @@
 -- What a note adds to a trace, and what a choice asks a crash to leave.
 use Rattle.std.specs.Prelude.{ℕ, ℤ, Vec, List, map}
 use Rattle.std.specs.declared.alloc.Global.{Global}
-use Rattle.sled_store.specs.Device.{Event, Left, Wrote, Cut, Synced, BlobMade, BlobSynced, BlobRemoved, SnapshotFilled, SnapshotPublished, SnapshotRemoved, NamesSynced, Crashed, Settled, Latest, Given}
+use Rattle.sled_store.specs.Device.{Event, Left, Wrote, Cut, Synced, BlobMade, BlobSynced, BlobRemoved, SnapshotFilled, SnapshotPublished, SnapshotRemoved, NamesSynced, StopAsked, Crashed, Settled, Latest, Given}
 use Rattle.sled_store.specs.declared.device.choice.Offer.{Offer}
 use Rattle.sled_store.specs.declared.device.choice.Choice.{Choice}
 use Rattle.sled_store.specs.declared.device.choice.Choice.TheVariants as choice
@@ -32,6 +32,7 @@ event_of (note.SnapshotFilled asked now) = SnapshotFilled asked.now now.now
 event_of (note.SnapshotPublished number done) = SnapshotPublished number done
 event_of (note.SnapshotRemoved number done) = SnapshotRemoved number done
 event_of note.NamesSynced = NamesSynced
+event_of (note.StopAsked n) = StopAsked n
 event_of (note.CrashedOld patch) = Crashed (Settled patch.now)
 event_of (note.CrashedNew patch) = Crashed (Latest patch.now)
 event_of (note.CrashedWith offer) = Crashed (offered offer.now)

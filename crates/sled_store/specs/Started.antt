@@ -4,7 +4,7 @@ use Rattle.std.specs.List.{list_any, range_with_len}
 use Rattle.sled_codec.specs.declared.result.Error.{Error}
 use Rattle.sled_codec.specs.Snapshots.{Entry, Page, SnapshotModel, stable_place}
 use Rattle.sled_store.specs.Begin.{entries_in, entries_of, slot_of, sizes_in, slots_of, is_active, unused, filling}
-use Rattle.sled_store.specs.Causes.{StartRefuses}
+use Rattle.sled_store.specs.StartCauses.{StartRefuses}
 use Rattle.sled_store.specs.SegmentStates.{SlotState, Machine, Step, free_slot, left_after}
 use Rattle.sled_store.specs.SlotTables.{number_in, active_entry}
 use Rattle.sled_store.specs.Stabilizing.{cut_back}

@@ -1,12 +1,13 @@
 -- What passes as the log's own by what was settled and asked for before a call, or when it was torn, does so after the whole call.
-use Rattle.std.proofs.Common.{◌≡◌, ◌∙◌, ◌&&◌, ◌*◌, ◌+◌, ℕ, ℤ, zero, length, take, drop, suc, Bool, true, false, is_some, if◌then◌else◌, List, [], ◌∷◌, ◌++◌, Option, Some, None, refl, sym, ap, subst, inl, inr, arith}
+use Rattle.std.proofs.Common.{◌≡◌, ◌∙◌, ◌&&◌, ◌*◌, ◌/◌, ◌+◌, ℕ, ℤ, zero, length, take, drop, suc, Bool, true, false, is_some, if◌then◌else◌, List, [], ◌∷◌, ◌++◌, Option, Some, None, refl, sym, ap, subst, inl, inr, arith}
 use Rattle.std.specs.Ordering.{int_eq}
 use Rattle.std.specs.List.{Contains}
 use Rattle.std.proofs.lemmas.List.Elements.{Contains-append_right}
 use Rattle.sled_codec.specs.Places.{part}
-use Rattle.sled_store.specs.Device.{Event, NameState, LogState, NamesState, State, step, renamed, unnamed, settled_file, settled_files, at_rest, names_at_rest}
+use Rattle.sled_store.specs.Device.{Event, NameState, LogState, NamesState, Placement, State, step, renamed, unnamed, settled_file, settled_files, settled_again, at_rest, names_at_rest}
 use Rattle.sled_store.specs.Answers.{Tears}
 use Rattle.sled_store.specs.Foreign.{IsWhole, HeaderWasPlaced, RecordWasPlaced, NoForeignLog, NoForeignNames}
+use Rattle.sled_store.proofs.Crashes.StoodLemmas.{header_settled, record_settled}
 use Rattle.sled_store.proofs.Crashes.LeavesLemmas.{Asked, write, cut, make_blob, remove_blob, fill, publish, remove_snapshot}
 
 -- Two states of a part have the same settled content, and what was asked of the first was asked of the second.
@@ -26,7 +27,7 @@ pub record Knows (s t : State) : Type 0 where
   pub log : LogKnows s.log t.log
   pub blobs : NamesKnow s.blobs t.blobs
   pub snapshots : NamesKnow s.snapshots t.snapshots
-  pub placed : (w : ℕ × List ℕ) → Contains s.placed w → Contains t.placed w
+  pub placed : (w : Placement) → Contains s.placed w → Contains t.placed w
 
 -- So what passes as the log's own by the first does so by the second.
 
@@ -36,23 +37,23 @@ whole_still s t at text knows (inl stood) = inl (subst (λ (l : List ℕ). part 
 whole_still s t at text knows (inr since) = inr (since.0, knows.asked since.0 since.1, since.2)
 
 -- Writes are among others.
-abbrev pub Among : List (ℕ × List ℕ) → List (ℕ × List ℕ) → Type 0
-Among few all = (w : ℕ × List ℕ) → Contains few w → Contains all w
+abbrev pub Among : List Placement → List Placement → Type 0
+Among few all = (w : Placement) → Contains few w → Contains all w
 
-header_placed : (few all : List (ℕ × List ℕ)) (at : ℕ) (text : List ℕ) → Among few all → HeaderWasPlaced few at text → HeaderWasPlaced all at text
+header_placed : (few all : List Placement) (at : ℕ) (text : List ℕ) → Among few all → HeaderWasPlaced few at text → HeaderWasPlaced all at text
 unfolding HeaderWasPlaced
-header_placed few all at text more laid = (laid.0, more laid.0 laid.1, laid.2, laid.3)
+header_placed few all at text more laid = (laid.0, more laid.0 laid.1, laid.2, laid.3, laid.4)
 
-record_placed : (sum : List ℕ → ℕ) (size : ℕ) (few all : List (ℕ × List ℕ)) (number at : ℕ) (text : List ℕ) → Among few all → RecordWasPlaced sum size few number at text → RecordWasPlaced sum size all number at text
+record_placed : (sum : List ℕ → ℕ) (size : ℕ) (few all : List Placement) (number at : ℕ) (text : List ℕ) → Among few all → RecordWasPlaced sum size few number at text → RecordWasPlaced sum size all number at text
 unfolding RecordWasPlaced
-record_placed sum size few all number at text more laid = (laid.0, more laid.0 laid.1, laid.2, laid.3)
+record_placed sum size few all number at text more laid = (laid.0, more laid.0 laid.1, laid.2, laid.3, laid.4)
 
 -- of the log file
-pub own_log : (sum : List ℕ → ℕ) (size : ℕ) (s t : LogState) (few all : List (ℕ × List ℕ)) (left : List ℕ) → LogKnows s t → Among few all → NoForeignLog sum size s few left → NoForeignLog sum size t all left
+pub own_log : (sum : List ℕ → ℕ) (size : ℕ) (s t : LogState) (few all : List Placement) (left : List ℕ) → LogKnows s t → Among few all → NoForeignLog sum size s few left → NoForeignLog sum size t all left
 own_log sum size s t few all left knows more own = record {
   headers = λ slot lsn mark is. let was = own.headers slot lsn mark is in (header_placed few all _ _ more was.0, whole_still s t _ _ knows was.1);
-  records = λ slot lsn mark at len kind page body is reached fits rec.
-      let was = own.records slot lsn mark at len kind page body is reached fits rec in (record_placed sum size few all _ _ _ more was.0, whole_still s t _ _ knows was.1);
+  records = λ slot lsn mark at len is read.
+      let was = own.records slot lsn mark at len is read in (record_placed sum size few all _ _ _ more was.0, whole_still s t _ _ knows was.1);
 }
 
 -- of files under names
@@ -113,12 +114,12 @@ torn_removal s name done = by (is_some (s.file name))
     by true = torn_change s name done (record { file = None; is_unsynced = false }) (record { file = None; is_unsynced = false }) []
     by false = names_same s
 
-later : (w : ℕ × List ℕ) (ws : List (ℕ × List ℕ)) (x : ℕ × List ℕ) → Contains ws x → Contains (w ∷ ws) x
+later : {X : Type 0} (w : X) (ws : List X) (x : X) → Contains ws x → Contains (w ∷ ws) x
 later w ws x (k, below, is) = (suc k, omega (arith, below), is)
 
 -- The state after a call knows all that the one before it does.
 pub before_knows : (e : Event) (s : State) → Asked e → Knows s (step e s)
-before_knows e s (write at bytes) = record { log = record { settled = refl; asked = later (at, bytes) s.log.asked }; blobs = names_same s.blobs; snapshots = names_same s.snapshots; placed = later (at, bytes) s.placed }
+before_knows e s (write at bytes) = record { log = record { settled = refl; asked = later (at, bytes) s.log.asked }; blobs = names_same s.blobs; snapshots = names_same s.snapshots; placed = later (record { at = at; bytes = bytes; since = [] }) s.placed }
 before_knows e s (cut len) = record { log = record { settled = refl; asked = λ w is. is }; blobs = names_same s.blobs; snapshots = names_same s.snapshots; placed = λ w is. is }
 before_knows e s (make_blob place bytes) = record { log = log_same s.log; blobs = before_change s.blobs place true (record { file = Some bytes; is_unsynced = true }) (bytes ∷ []); snapshots = names_same s.snapshots; placed = λ w is. is }
 before_knows e s (remove_blob place) = record { log = log_same s.log; blobs = before_removal s.blobs place true; snapshots = names_same s.snapshots; placed = λ w is. is }
@@ -153,11 +154,16 @@ take_again (suc n) [] = refl
 take_again (suc n) (x ∷ xs) = ap (λ (l : List ℕ). x ∷ l) (take_again n xs)
 
 -- the log file, as it was left
-pub own_log_at_rest : (sum : List ℕ → ℕ) (size : ℕ) (past : LogState) (placed : List (ℕ × List ℕ)) (log : List ℕ) → NoForeignLog sum size past placed log → NoForeignLog sum size (at_rest log) placed log
+pub own_log_at_rest : (sum : List ℕ → ℕ) (size : ℕ) (past : LogState) (placed : List Placement) (log : List ℕ) → NoForeignLog sum size past placed log → NoForeignLog sum size (at_rest log) (settled_again log placed) log
 unfolding IsWhole
 own_log_at_rest sum size past placed log own = record {
-  headers = λ slot lsn mark is. ((own.headers slot lsn mark is).0, inl (take_again 20 (drop (slot * size) log)));
-  records = λ slot lsn mark at len kind page body is reached fits rec. ((own.records slot lsn mark at len kind page body is reached fits rec).0, inl (take_again len (drop (slot * size + at) log)));
+  headers = λ slot lsn mark is.
+      let stands = take_again 20 (drop (slot * size) log) in
+      (header_settled log placed (slot * size) (part log (slot * size) 20) (own.headers slot lsn mark is).0 stands, inl stands);
+  records = λ slot lsn mark at len is read.
+      let stands = take_again len (drop (slot * size + at) log) in
+      let laid = (own.records slot lsn mark at len is read).0 in
+      (record_settled sum size log placed (lsn / size) (slot * size + at) (part log (slot * size + at) len) laid stands, inl stands);
 }
 
 -- files under names

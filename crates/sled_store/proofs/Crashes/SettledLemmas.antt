@@ -1,6 +1,6 @@
 -- In every trace, what is read and what is settled are each among what a crash may leave.
 use Rattle.std.proofs.Common.{◌≡◌, ◌⊎◌, ◌≤◌, ℕ, ℤ, max, Bool, true, false, List, [], ◌∷◌, length, get_or, Option, Some, None, refl, ◌∙◌, sym, arith, inl, inr, subst, length-take}
-use Rattle.sled_store.specs.Device.{Event, Trace, LogState, NameState, NamesState, log_step, state_of, content_of, settled_content, settled_file, log_left, Leaves, LeavesFile, LeavesOneOf, LeavesName, LeavesLog, Wrote, Cut, Synced, BlobMade, BlobSynced, BlobRemoved, SnapshotFilled, SnapshotPublished, SnapshotRemoved, NamesSynced, Crashed, at_rest}
+use Rattle.sled_store.specs.Device.{Event, Trace, LogState, NameState, NamesState, log_step, state_of, content_of, settled_content, settled_file, log_left, Leaves, LeavesFile, LeavesOneOf, LeavesName, LeavesLog, Wrote, Cut, Synced, BlobMade, BlobSynced, BlobRemoved, SnapshotFilled, SnapshotPublished, SnapshotRemoved, NamesSynced, StopAsked, Crashed, at_rest}
 use Rattle.sled_store.proofs.LogFile.OverwrittenLemmas.{length-overwritten}
 use Rattle.sled_store.proofs.LogFile.LogLemmas.{at_rest_left}
 use Rattle.sled_store.proofs.LogFile.LooseLemmas.{end_of-mono, firm_written, firm_cut}
@@ -48,6 +48,7 @@ sound_step (SnapshotFilled asked now) s sound = sound
 sound_step (SnapshotPublished number done) s sound = sound
 sound_step (SnapshotRemoved number done) s sound = sound
 sound_step NamesSynced s sound = sound
+sound_step (StopAsked n) s sound = sound
 
 -- so it is in every trace
 pub sound : (h : Trace) → IsSound (state_of h).log

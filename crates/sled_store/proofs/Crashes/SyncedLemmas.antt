@@ -1,7 +1,7 @@
 -- Where all is synced a crash leaves exactly what is read.
 use Rattle.std.proofs.Common.{◌≡◌, ◌&&◌, ℤ, ℕ, Bool, true, false, if◌then◌else◌, is_some, List, [], ◌∷◌, Some, None, refl}
 use Rattle.std.specs.Ordering.{int_eq}
-use Rattle.sled_store.specs.Device.{Trace, Event, Content, NameState, NamesState, Temporary, state_of, content_of, Leaves, renamed, snapshot_step, Wrote, Cut, Synced, BlobMade, BlobSynced, BlobRemoved, SnapshotFilled, SnapshotPublished, SnapshotRemoved, NamesSynced, Crashed}
+use Rattle.sled_store.specs.Device.{Trace, Event, Content, NameState, NamesState, Temporary, state_of, content_of, Leaves, renamed, snapshot_step, Wrote, Cut, Synced, BlobMade, BlobSynced, BlobRemoved, SnapshotFilled, SnapshotPublished, SnapshotRemoved, NamesSynced, StopAsked, Crashed}
 use Rattle.sled_store.specs.Durable.{SameContent}
 use Rattle.sled_store.proofs.LogFile.LogLemmas.{at_rest_left}
 use Rattle.sled_store.proofs.Names.NamesLemmas.{settled_name_left, settled_name_synced}
@@ -25,6 +25,7 @@ firm_step (SnapshotFilled asked now) t s n was = was
 firm_step (SnapshotPublished number done) t s n was = firm_renamed s number done (record { file = Some t.bytes; is_unsynced = false }) (t.asked ∷ []) n refl was
 firm_step (SnapshotRemoved number done) t s n was = firm_unnamed s number done (is_some (s.file number)) n was
 firm_step NamesSynced t s n was = was
+firm_step (StopAsked k) t s n was = was
 firm_step (Crashed left) t s n was = refl
 
 -- The bytes of a snapshot are never lost: they are synced before it has a name.

@@ -3,13 +3,12 @@ use Rattle.std.proofs.Common.{◌≡◌, ◌≤◌, ◌<◌, ◌+◌, ◌-◌, �
 use Rattle.std.proofs.lemmas.List.{drop-take, drop-drop, take-take}
 use Rattle.std.proofs.Math.Nat.{lt-div-mul-add, mul-le-mul_right}
 use Rattle.sled_codec.specs.Places.{part}
-use Rattle.sled_codec.specs.Record.{IsRecord, IsHeader}
+use Rattle.sled_codec.specs.Record.{IsHeader}
 use Rattle.sled_codec.proofs.Segments.{one_header, length-short_header}
-use Rattle.sled_store.specs.Device.{LogState}
+use Rattle.sled_store.specs.Device.{LogState, Placement}
 use Rattle.sled_store.specs.Foreign.{NoForeignLog}
+use Rattle.sled_store.specs.Readers.{Reads}
 use Rattle.sled_store.specs.OwnParts.{IsOwnRecord, AreOwnFrom, IsOwnHeader, IsOwnSlot, IsOwnBegun}
-use Rattle.sled_store.proofs.Crashes.ForeignLemmas.{take_again}
-use Rattle.sled_store.proofs.Own.ReachedLemmas.{record_some}
 
 -- a part of a slot is a part of the file
 pub part_in_slot : (log : List ℕ) (size begin at len : ℕ) → at + len ≤ size → part (part log begin size) at len ≡ part log (begin + at) len
@@ -28,7 +27,7 @@ slot_beyond n size last k some long past below =
     let up : q + 1 ≤ k = omega (arith, past, below) in
     omega (arith, lt-div-mul-add {a = n - 20} {b = size} some, mul-le-mul_right {m = q + 1} {n = k} size up, long)
 
-module _ (sum : List ℕ → ℕ) (size : ℕ) (past : LogState) (placed : List (ℕ × List ℕ)) where
+module _ (sum : List ℕ → ℕ) (size : ℕ) (past : LogState) (placed : List Placement) where
   -- Where no header begins a slot, it is the log's own.
   pub own_unbegun : (log : List ℕ) (slot : ℕ) → ((lsn mark : ℤ) → IsHeader sum (part log (slot * size) 20) lsn mark → ⊥) → IsOwnSlot sum size past placed log slot
   own_unbegun log slot none = record {
@@ -73,26 +72,19 @@ module _ (sum : List ℕ → ℕ) (size : ℕ) (past : LogState) (placed : List 
       let long : length (part log (slot * size) 20) ≡ 20 = ap length is.is ∙ length-short_header sum lsn mark in
       absurd (omega (arith, long, short, length-take 20 (drop (slot * size) log), length-drop (slot * size) log)))
 
+  -- what is read of a slot is a part of the file
+  read_in_slot : (log : List ℕ) (slot number at len : ℕ) → Reads sum size number (part log (slot * size) size) 20 at len → part (part log (slot * size) size) at len ≡ part log (slot * size + at) len
+  read_in_slot log slot number at len r = let inside = r.inside in part_in_slot log size (slot * size) at len (omega (arith, inside, length-take size (drop (slot * size) log)))
+
   -- each slot, and the file
   pub own_file : (log : List ℕ) → ((slot : ℕ) → IsOwnSlot sum size past placed log slot) → NoForeignLog sum size past placed log
   own_file log own = record {
     headers = λ slot lsn mark is. (own slot).header lsn mark is;
-    records = λ slot lsn mark at len kind page body is reached fits r.
-        let inside = part_in_slot log size (slot * size) at len fits in
-        subst (λ (l : List ℕ). IsOwnRecord sum size past placed (lsn / size) (slot * size + at) l) inside
-        ((own slot).records lsn mark is at len kind page body reached (subst (λ (l : List ℕ). IsRecord sum l kind page (lsn / size) body) (sym inside) r));
+    records = λ slot lsn mark at len is r. subst (λ (l : List ℕ). IsOwnRecord sum size past placed (lsn / size) (slot * size + at) l) (read_in_slot log slot (lsn / size) at len r) ((own slot).records lsn mark is at len r);
   }
 
   pub slots_own : (log : List ℕ) → NoForeignLog sum size past placed log → (slot : ℕ) → IsOwnSlot sum size past placed log slot
   slots_own log own slot = record {
     header = λ lsn mark is. own.headers slot lsn mark is;
-    records = λ lsn mark is at len kind page body reached r.
-        let text : List ℕ = part log (slot * size) size in
-        let some = record_some sum (part text at len) kind page (lsn / size) body r in
-        let n : ℕ = length (part text at len) in
-        let fits : at + n ≤ size = omega (arith, some, length-take len (drop at text), length-drop at text, length-take size (drop (slot * size) log)) in
-        let again : part text at n ≡ part text at len = take_again len (drop at text) in
-        let there : part log (slot * size + at) n ≡ part text at len = sym (part_in_slot log size (slot * size) at n fits) ∙ again in
-        subst (λ (l : List ℕ). IsOwnRecord sum size past placed (lsn / size) (slot * size + at) l) there
-        (own.records slot lsn mark at n kind page body is reached fits (subst (λ (l : List ℕ). IsRecord sum l kind page (lsn / size) body) (sym there) r));
+    records = λ lsn mark is at len r. subst (λ (l : List ℕ). IsOwnRecord sum size past placed (lsn / size) (slot * size + at) l) (sym (read_in_slot log slot (lsn / size) at len r)) (own.records slot lsn mark at len is r);
   }

@@ -1,19 +1,21 @@
 //! Whether only what the log itself wrote passes as its own in what a crash left of the log file: a plain, slow
 //! reading of `NoForeignLog` in `specs/Foreign.antt`.
 //!
-//! A device keeps its past in its proof alone, so a test that chooses its crashes by this notes it: the bytes at the
-//! last sync, and each write as it was asked.
+//! A device keeps its past in its proof alone, so a test that chooses its crashes by this notes it: each write as it
+//! was asked, and what the file was at each sync and crash.
 ghost use Rattle.std.specs.Prelude.{◌≡◌, ◌↔◌, ◌+◌, ◌*◌, ◌/◌, ◌^◌, ◌<◌, ◌≤◌, ℕ, pos, List, length, IsTrue, IfOk, IfSome, IfNone, IsOkUnless};
 ghost use Rattle.sled_codec.specs.Places.{part};
-ghost use Rattle.sled_store.specs.Device.{LogState};
+ghost use Rattle.sled_store.specs.Device.{LogState, Placement};
 ghost use Rattle.sled_store.specs.Foreign.{Covers, IsWhole, IsReached, HeaderWasPlaced, RecordWasPlaced, NoForeignLog, first_record};
-ghost use Rattle.sled_store.specs.OwnParts.{IsCovered, synced_then, past_of, Lays, LaysRecord, FindsRecord, IsOwnRecord, IsOwnHeader, AreOwnFrom, IsOwnSlot, IsOwnBegun, FindsHeader, IsNoted};
+ghost use Rattle.sled_store.specs.OwnParts.{KnownPast, noted, past_of, placed_of, log_of, Lays, LaysRecord, FindsRecord, FindsRead, IsCap, IsOwnRecord, IsOwnHeader, AreOwnFrom, IsOwnSlot, IsOwnBegun, FindsHeader, IsNoted};
 
 pub mod names;
 
 use sled_codec::result::{Error, Lsn, Result};
 use sled_codec::serialization::record::is_record;
-use sled_codec::serialization::{Checksum, MessageHeader, SegmentHeader, SegmentNumber, Serialize};
+use sled_codec::serialization::{
+    Checksum, MessageHeader, MessageKind, SegmentHeader, SegmentNumber, Serialize,
+};
 use std::alloc::Global;
 use std::marker::Model;
 
@@ -86,15 +88,72 @@ impl LogWrite {
     }
 }
 
-/// What a test noted of the past of a log file.
+/// What a test notes of the past of a log file.
+#[derive(Drop)]
+pub enum LogNote {
+    /// A write that was asked.
+    Wrote(LogWrite),
+    /// The bytes of the file at a sync, or what a crash left.
+    Settled(Vec<u8>),
+}
+
+impl LogNote {
+    // Whether bytes stand whole at an offset of the file behind this, where `was` tells whether they did before.
+    #[tactic(auto, unfolding(crate::specs::Foreign::IsWhole))]
+    fn keeps_whole(&self, was: bool, at: usize, text: &[u8]) -> bool
+        ensures { (k : KnownPast) → IsTrue was ↔ IsWhole (log_of k) at text.now → IsTrue result ↔ IsWhole (log_of (noted self.now k)) at text.now }
+    {
+        match self {
+            LogNote::Wrote(write) => was || write.covers(at, text),
+            LogNote::Settled(bytes) => stands_at(bytes, at, text),
+        }
+    }
+
+    // Whether these bytes were placed as a header, and stood since, behind this.
+    #[tactic(auto, unfolding(crate::specs::Foreign::HeaderWasPlaced))]
+    fn keeps_header(&self, was: bool, at: usize, text: &[u8]) -> bool
+        ensures { (k : KnownPast) → IsTrue was ↔ HeaderWasPlaced k.placed at text.now → IsTrue result ↔ HeaderWasPlaced (noted self.now k).placed at text.now }
+    {
+        match self {
+            LogNote::Wrote(write) => was || write.lays(at, text),
+            LogNote::Settled(bytes) => was && stands_at(bytes, at, text),
+        }
+    }
+
+    // Whether this record of a number was placed, and stood since, behind this.
+    #[tactic(auto, unfolding(crate::specs::Foreign::RecordWasPlaced))]
+    fn keeps_record<C: Checksum>(
+        &self,
+        alloc: Global,
+        checksum: &C,
+        size: usize,
+        was: bool,
+        number: SegmentNumber,
+        at: usize,
+        text: &[u8],
+    ) -> Result<bool>
+        requires { 0 < size }
+        ensures placed { (k : KnownPast) → IsTrue was ↔ RecordWasPlaced C.sum_of size k.placed number.0 at text.now
+            → IfOk result (λ b. IsTrue b ↔ RecordWasPlaced C.sum_of size (noted self.now k).placed number.0 at text.now) }
+        ensures err { IsOkUnless result Error.OutOfMemory }
+    {
+        match self {
+            LogNote::Wrote(write) => {
+                if was {
+                    return Ok(true);
+                }
+                write.lays_record(alloc, checksum, size, number, at, text)
+            }
+            LogNote::Settled(bytes) => Ok(was && stands_at(bytes, at, text)),
+        }
+    }
+}
+
+/// What a test noted of the past of a log file: each write, and what the file was at each sync and crash.
 #[derive(Drop)]
 pub struct LogPast {
-    /// The bytes at the last sync, or what the last crash left.
-    pub settled: Vec<u8>,
-    /// The writes that were asked since then.
-    pub since: Vec<LogWrite>,
-    /// The writes that were ever asked, those since then among them.
-    pub ever: Vec<LogWrite>,
+    /// The oldest first.
+    pub notes: Vec<LogNote>,
 }
 
 // Whether bytes stand at an offset of others.
@@ -111,37 +170,28 @@ fn stands_at(bytes: &[u8], at: usize, text: &[u8]) -> bool
     &rest[..text.len()] == text
 }
 
-// Whether one of these writes covers these bytes at an offset of the file.
-fn is_covered(writes: &[LogWrite], at: usize, text: &[u8]) -> bool
-    ensures { IsTrue result ↔ IsCovered writes.now at text.now }
-{
-    for write in writes {
-        if write.covers(at, text) {
-            return true;
-        }
-    }
-    false
-}
-
 // Whether bytes stand whole at an offset of the file.
 #[tactic(auto, unfolding(crate::specs::Foreign::IsWhole))]
-fn is_whole(settled: &[u8], since: &[LogWrite], at: usize, text: &[u8]) -> bool
-    ensures { IsTrue result ↔ IsWhole (synced_then settled.now since.now) at text.now }
+fn is_whole(past: &LogPast, at: usize, text: &[u8]) -> bool
+    ensures { IsTrue result ↔ IsWhole (past_of past.now) at text.now }
 {
-    stands_at(settled, at, text) || is_covered(since, at, text)
+    let mut whole = text.is_empty();
+    for note in &past.notes {
+        whole = note.keeps_whole(whole, at, text);
+    }
+    whole
 }
 
-// Whether one of these writes laid down these bytes as a header.
+// Whether these bytes were placed as a header, and stood since.
 #[tactic(auto, unfolding(crate::specs::Foreign::HeaderWasPlaced))]
-fn header_was_placed(writes: &[LogWrite], at: usize, text: &[u8]) -> bool
-    ensures { IsTrue result ↔ HeaderWasPlaced writes.now at text.now }
+fn header_was_placed(past: &LogPast, at: usize, text: &[u8]) -> bool
+    ensures { IsTrue result ↔ HeaderWasPlaced (placed_of past.now) at text.now }
 {
-    for write in writes {
-        if write.lays(at, text) {
-            return true;
-        }
+    let mut placed = false;
+    for note in &past.notes {
+        placed = note.keeps_header(placed, at, text);
     }
-    false
+    placed
 }
 
 // The length of the record of a number with which bytes begin, where they do.
@@ -228,28 +278,26 @@ fn first_record(size: usize, at: usize) -> usize
     if at % size > 0 { 0 } else { 20 }
 }
 
-// Whether one of these writes laid down this record of a number.
+// Whether this record of a number was placed, and stood since.
 #[tactic(auto, unfolding(crate::specs::Foreign::RecordWasPlaced))]
 fn record_was_placed<C: Checksum>(
     alloc: Global,
     checksum: &C,
     size: usize,
-    writes: &[LogWrite],
+    past: &LogPast,
     number: SegmentNumber,
     at: usize,
     text: &[u8],
 ) -> Result<bool>
     requires { 0 < size }
-    ensures placed { IfOk result (λ b. IsTrue b ↔ RecordWasPlaced C.sum_of size writes.now number.0 at text.now) }
+    ensures placed { IfOk result (λ b. IsTrue b ↔ RecordWasPlaced C.sum_of size (placed_of past.now) number.0 at text.now) }
     ensures err { IsOkUnless result Error.OutOfMemory }
 {
-    for write in writes {
-        let lays = write.lays_record(alloc, checksum, size, number, at, text)?;
-        if lays {
-            return Ok(true);
-        }
+    let mut placed = false;
+    for note in &past.notes {
+        placed = note.keeps_record(alloc, checksum, size, placed, number, at, text)?;
     }
-    Ok(false)
+    Ok(placed)
 }
 
 // Whether a record of a number at an offset of the file is the log's own.
@@ -263,16 +311,45 @@ fn record_is_own<C: Checksum>(
     text: &[u8],
 ) -> Result<bool>
     requires { 0 < size }
-    ensures own { IfOk result (λ b. IsTrue b ↔ IsOwnRecord C.sum_of size (past_of past.now) past.now.ever.items number.0 at text.now) }
+    ensures own { IfOk result (λ b. IsTrue b ↔ IsOwnRecord C.sum_of size (past_of past.now) (placed_of past.now) number.0 at text.now) }
     ensures err { IsOkUnless result Error.OutOfMemory }
 {
-    if !is_whole(&past.settled, &past.since, at, text) {
+    if !is_whole(past, at, text) {
         return Ok(false);
     }
-    record_was_placed(alloc, checksum, size, &past.ever, number, at, text)
+    record_was_placed(alloc, checksum, size, past, number, at, text)
 }
 
-// Whether each record of a number is the log's own that a reader comes to in a slot, whose bytes these are.
+// The length of the record of a number that a reader reads at an offset of a segment, where it reads one.
+fn read_at<C: Checksum>(
+    alloc: Global,
+    checksum: &C,
+    size: usize,
+    number: SegmentNumber,
+    text: &[u8],
+    at: usize,
+) -> Result<Option<usize>>
+    ensures found { IfOk result (FindsRead C.sum_of size number.0 text.now at) }
+    ensures err { IsOkUnless result Error.OutOfMemory }
+{
+    if size < 32 || at > size - 32 {
+        return Ok(None);
+    }
+    record_at(alloc, checksum, number, text, at)
+}
+
+// Whether the record of a text is a Cap.
+fn is_cap(text: &[u8]) -> bool
+    requires { 4 < length text.now }
+    ensures { IsTrue result ↔ IsCap text.now }
+{
+    match MessageKind::from(text[4]) {
+        MessageKind::Cap => true,
+        _ => false,
+    }
+}
+
+// Whether each record of a number is the log's own that a reader reads in a slot, whose bytes these are.
 fn records_are_own<C: Checksum>(
     alloc: Global,
     checksum: &C,
@@ -284,15 +361,18 @@ fn records_are_own<C: Checksum>(
 ) -> Result<bool>
     requires some { 0 < size }
     requires small { begin + length slot.now < 2 ^ 64 }
-    ensures own { IfOk result (λ b. IsTrue b ↔ AreOwnFrom C.sum_of size (past_of past.now) past.now.ever.items number.0 begin slot.now 20) }
+    ensures own { IfOk result (λ b. IsTrue b ↔ AreOwnFrom C.sum_of size (past_of past.now) (placed_of past.now) number.0 begin slot.now 20) }
     ensures err { IsOkUnless result Error.OutOfMemory }
 {
     let mut at = 20;
-    while let Some(len) = record_at(alloc, checksum, number, slot, at)? {
+    while let Some(len) = read_at(alloc, checksum, size, number, slot, at)? {
         let text = &slot[at..at + len];
         let own = record_is_own(alloc, checksum, size, past, number, begin + at, text)?;
         if !own {
             return Ok(false);
+        }
+        if is_cap(text) {
+            return Ok(true);
         }
         at += len;
     }
@@ -315,9 +395,9 @@ fn header_of<C: Checksum>(checksum: &C, bytes: &[u8]) -> Option<SegmentHeader>
 
 // Whether a header at an offset of the file is the log's own.
 fn header_is_own(past: &LogPast, at: usize, bytes: &[u8]) -> bool
-    ensures { IsTrue result ↔ IsOwnHeader (past_of past.now) past.now.ever.items at bytes.now }
+    ensures { IsTrue result ↔ IsOwnHeader (past_of past.now) (placed_of past.now) at bytes.now }
 {
-    header_was_placed(&past.ever, at, bytes) && is_whole(&past.settled, &past.since, at, bytes)
+    header_was_placed(past, at, bytes) && is_whole(past, at, bytes)
 }
 
 // A place as a number, where it is not below 0.
@@ -344,7 +424,7 @@ fn begun_slot_is_own<C: Checksum>(
     requires some { 0 < size }
     requires header { 20 ≤ length rest.now }
     requires small { begin + length rest.now < 2 ^ 64 }
-    ensures own { IfOk result (λ b. IsTrue b ↔ IsOwnBegun C.sum_of size (past_of past.now) past.now.ever.items begin rest.now place) }
+    ensures own { IfOk result (λ b. IsTrue b ↔ IsOwnBegun C.sum_of size (past_of past.now) (placed_of past.now) begin rest.now place) }
     ensures err { IsOkUnless result Error.OutOfMemory }
 {
     if !header_is_own(past, begin, &rest[..20]) {
@@ -371,7 +451,7 @@ fn slot_is_own<C: Checksum>(
 ) -> Result<bool>
     requires some { 0 < size }
     requires there { slot * size + 20 ≤ length log.now }
-    ensures own { IfOk result (λ b. IsTrue b ↔ IsOwnSlot C.sum_of size (past_of past.now) past.now.ever.items log.now slot) }
+    ensures own { IfOk result (λ b. IsTrue b ↔ IsOwnSlot C.sum_of size (past_of past.now) (placed_of past.now) log.now slot) }
     ensures err { IsOkUnless result Error.OutOfMemory }
 {
     let begin = slot * size;
@@ -391,7 +471,7 @@ fn slots_are_own<C: Checksum>(
     log: &[u8],
 ) -> Result<bool>
     requires { 0 < size }
-    ensures own { IfOk result (λ b. IsTrue b ↔ NoForeignLog C.sum_of size (past_of past.now) past.now.ever.items log.now) }
+    ensures own { IfOk result (λ b. IsTrue b ↔ NoForeignLog C.sum_of size (past_of past.now) (placed_of past.now) log.now) }
     ensures err { IsOkUnless result Error.OutOfMemory }
 {
     if log.len() < 20 {
@@ -407,10 +487,10 @@ fn slots_are_own<C: Checksum>(
 }
 
 /// Returns whether nothing is foreign in the bytes that a crash left of a log file with segments of this size: each
-/// header of a slot, and each record of its number that a reader comes to, was placed there by the log and stands
-/// whole in what was synced or in a write since (`docs/DEFINITIONS.md`, "NoForeign").
+/// header of a slot, and each record of its number that a reader reads, was placed there by a write of the log and
+/// has stood there at each sync and crash since (`docs/DEFINITIONS.md`, "NoForeign").
 ///
-/// It reads the file once for each write, so it is for small files, in tests.
+/// It reads the file once for each note, so it is for small files, in tests.
 ///
 /// # Errors
 ///
@@ -423,7 +503,7 @@ pub fn is_log_own<C: Checksum>(
     left: &[u8],
 ) -> Result<bool>
     requires { 0 < size }
-    ensures own { IfOk result (λ b. (s : LogState) (placed : List (ℕ × List ℕ)) → IsNoted past.now s placed
+    ensures own { IfOk result (λ b. (s : LogState) (placed : List Placement) → IsNoted past.now s placed
         → IsTrue b ↔ NoForeignLog C.sum_of size s placed left.now) }
     ensures err { IsOkUnless result Error.OutOfMemory }
 {

@@ -7,7 +7,8 @@ ghost use Rattle.sled_codec.specs.Errors.{IsCorruption, IsDecodeError};
 ghost use Rattle.sled_codec.specs.Snapshots.{model_of, is_sound, stable_place};
 ghost use Rattle.sled_store.specs.Script.{Performs, after_all};
 ghost use Rattle.sled_store.specs.Begin.{slots_of, is_used, IsStartable, not_below, fill, filling, first_of, first_or, IsInReach, place_at, beginning_at};
-ghost use Rattle.sled_store.specs.Causes.{DeviceAnswers, CheckAnswers};
+ghost use Rattle.sled_store.specs.Causes.{DeviceAnswers};
+ghost use Rattle.sled_store.specs.StartCauses.{CheckAnswers};
 ghost use Rattle.sled_store.specs.SlotTables.{IsSlotTable};
 ghost use Rattle.sled_store.specs.Started.{all_entries};
 
@@ -30,7 +31,7 @@ pub struct Beginning {
 }
 
 /// Which slots of a file a snapshot uses, and how many it has. `Corruption` comes where no log can begin from
-/// the snapshot, and `PlacesUsedUp` where a segment of it would not end below 2^63.
+/// the snapshot, whatever its places are, and `PlacesUsedUp` exactly where one can, but a segment of it would not end below 2^63.
 pub fn check_snapshot(
     alloc: Global,
     size: u64,
@@ -44,15 +45,15 @@ pub fn check_snapshot(
     ensures table { IfOk result (λ b. IsSlotTable size b.0 (all_entries (model_of snapshot.now))) }
     ensures slots { IfOk result (λ b. b.1 ≡ slots_of size len) }
     ensures corrupt { IsCorruption result → IsStartable size len (model_of snapshot.now) → ⊥ }
-    ensures answers { CheckAnswers result (IsInReach size len (model_of snapshot.now)) }
+    ensures answers { CheckAnswers result (IsStartable size len (model_of snapshot.now)) (IsInReach size len (model_of snapshot.now)) }
 {
-    if len >= (1 << 63) - size {
-        return Err(Error::PlacesUsedUp);
-    }
     let table = match slot_table_of(alloc, size, len, snapshot) {
         Ok(table) => table,
         Err(e) => return Err(e),
     };
+    if len >= (1 << 63) - size {
+        return Err(Error::PlacesUsedUp);
+    }
     let slots = slots_of(size, len);
     if slots * size >= (1 << 63) - size || place_at(size, snapshot) >= (1 << 63) - size {
         return Err(Error::PlacesUsedUp);
@@ -98,8 +99,7 @@ pub fn beginning_at(size: u64, next: u64, snapshot: &Snapshot) -> Beginning
 
 /// Which slots of a file a snapshot uses. `Corruption` comes where no log can begin from it.
 fn slot_table_of(alloc: Global, size: u64, len: u64, snapshot: &Snapshot) -> Result<SlotTable>
-    requires some { 0 < size }
-    requires small { len + size < 2 ^ 64 }
+    requires { 0 < size }
     ensures startable { OnOk result (IsStartable size len (model_of snapshot.now)) }
     ensures used { IfOk result (λ b. (k : ℕ) → is_some (get nat_cmp b.held k) ≡ is_used size (model_of snapshot.now) k) }
     ensures table { IfOk result (λ b. IsSlotTable size b (all_entries (model_of snapshot.now))) }
@@ -203,9 +203,8 @@ fn write_unused<D: Device, C: Checksum>(
 
 /// How many slots a file has.
 pub fn slots_of(size: u64, len: u64) -> u64
-    requires some { 0 < size }
-    requires small { len + size < 2 ^ 64 }
+    requires { 0 < size }
     ensures { result ≡ slots_of size len }
 {
-    (len + (size - 1)) / size
+    len.div_ceil(size)
 }

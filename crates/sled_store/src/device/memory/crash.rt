@@ -18,50 +18,56 @@ impl MemDevice {
 
     // Leaves what is settled, with other bytes at these offsets, where a crash may.
     pub(crate) fn crash_back(&mut self, patch: &[(u64, u8)]) -> bool
-        ensures taken { IsTrue result ↔ MayBeLeft (Settled patch.now) (state_of self.old.ghost_trace.events) }
-        ensures left { self.new.ghost_trace.events ≡ Crashed (if result then Settled patch.now else Settled []) ∷ self.old.ghost_trace.events }
-        ensures faults { self.new.faults ≡ self.old.faults }
+        ensures taken { IsTrue result ↔ MayBeLeft (Settled patch.now) (state_of self.old.story.trace.events) }
+        ensures left { self.new.story.trace.events ≡ Crashed (if result then Settled patch.now else Settled []) ∷ self.old.story.trace.events }
+        ensures count { self.new.story.faults.count ≡ self.old.story.faults.count }
+        ensures fails_in { self.new.story.faults.fails_in ≡ 0 }
+        ensures stopped { self.new.story.faults.is_stopped ≡ false }
     {
         let taken = self.log.crash(true, patch);
         self.blobs.lose();
         self.snapshots.lose();
         if taken {
-            self.ghost_trace = self.ghost_trace.then(&Note::CrashedOld { patch });
+            self.story.crash(&Note::CrashedOld { patch });
             return true;
         }
-        self.ghost_trace = self.ghost_trace.then(&Note::CrashedOld { patch: &[] });
+        self.story.crash(&Note::CrashedOld { patch: &[] });
         false
     }
 
     // Leaves what was last written, with other bytes at these offsets, where a crash may.
     pub(crate) fn crash_on(&mut self, patch: &[(u64, u8)]) -> bool
-        ensures taken { IsTrue result ↔ MayBeLeft (Latest patch.now) (state_of self.old.ghost_trace.events) }
-        ensures left { self.new.ghost_trace.events ≡ Crashed (if result then Latest patch.now else Settled []) ∷ self.old.ghost_trace.events }
-        ensures faults { self.new.faults ≡ self.old.faults }
+        ensures taken { IsTrue result ↔ MayBeLeft (Latest patch.now) (state_of self.old.story.trace.events) }
+        ensures left { self.new.story.trace.events ≡ Crashed (if result then Latest patch.now else Settled []) ∷ self.old.story.trace.events }
+        ensures count { self.new.story.faults.count ≡ self.old.story.faults.count }
+        ensures fails_in { self.new.story.faults.fails_in ≡ 0 }
+        ensures stopped { self.new.story.faults.is_stopped ≡ false }
     {
         if self.log.crash(false, patch) {
             self.blobs.hold();
             self.snapshots.hold();
-            self.ghost_trace = self.ghost_trace.then(&Note::CrashedNew { patch });
+            self.story.crash(&Note::CrashedNew { patch });
             return true;
         }
         self.blobs.lose();
         self.snapshots.lose();
-        self.ghost_trace = self.ghost_trace.then(&Note::CrashedOld { patch: &[] });
+        self.story.crash(&Note::CrashedOld { patch: &[] });
         false
     }
 
     // Leaves an offered content, where a crash may.
     pub(crate) fn crash_with(&mut self, offer: Offer) -> bool
-        ensures taken { IsTrue result ↔ MayBeLeft (offered offer) (state_of self.old.ghost_trace.events) }
-        ensures left { self.new.ghost_trace.events ≡ Crashed (if result then offered offer else Settled []) ∷ self.old.ghost_trace.events }
-        ensures faults { self.new.faults ≡ self.old.faults }
+        ensures taken { IsTrue result ↔ MayBeLeft (offered offer) (state_of self.old.story.trace.events) }
+        ensures left { self.new.story.trace.events ≡ Crashed (if result then offered offer else Settled []) ∷ self.old.story.trace.events }
+        ensures count { self.new.story.faults.count ≡ self.old.story.faults.count }
+        ensures fails_in { self.new.story.faults.fails_in ≡ 0 }
+        ensures stopped { self.new.story.faults.is_stopped ≡ false }
     {
         if !self.may_leave(&offer) {
             self.lose();
             return false;
         }
-        let ghost_trace = self.ghost_trace.then(&Note::CrashedWith { offer: &offer });
+        self.story.crash(&Note::CrashedWith { offer: &offer });
         let Offer {
             bytes,
             blobs,
@@ -70,24 +76,25 @@ impl MemDevice {
         self.log.take(&bytes);
         self.blobs.take(blobs);
         self.snapshots.take(snapshots);
-        self.ghost_trace = ghost_trace;
         true
     }
 
     // Leaves what is settled.
     fn lose(&mut self)
-        ensures left { self.new.ghost_trace.events ≡ Crashed (Settled []) ∷ self.old.ghost_trace.events }
-        ensures faults { self.new.faults ≡ self.old.faults }
+        ensures left { self.new.story.trace.events ≡ Crashed (Settled []) ∷ self.old.story.trace.events }
+        ensures count { self.new.story.faults.count ≡ self.old.story.faults.count }
+        ensures fails_in { self.new.story.faults.fails_in ≡ 0 }
+        ensures stopped { self.new.story.faults.is_stopped ≡ false }
     {
         self.log.lose();
         self.blobs.lose();
         self.snapshots.lose();
-        self.ghost_trace = self.ghost_trace.then(&Note::CrashedOld { patch: &[] });
+        self.story.crash(&Note::CrashedOld { patch: &[] });
     }
 
     // Whether a crash may leave an offered content.
     fn may_leave(&self, offer: &Offer) -> bool
-        ensures { IsTrue result ↔ MayBeLeft (offered offer.now) (state_of self.now.ghost_trace.events) }
+        ensures { IsTrue result ↔ MayBeLeft (offered offer.now) (state_of self.now.story.trace.events) }
     {
         let ascending = both(is_ascending(&offer.blobs), is_ascending(&offer.snapshots));
         let names = both(
@@ -106,22 +113,19 @@ fn both(a: bool, b: bool) -> bool
 }
 
 impl CrashDevice for MemDevice {
-    ghost is_stopped = { λ device. device.faults.is_stopped };
+    ghost is_stopped = { λ device. device.story.faults.is_stopped };
 
-    ghost stops_in = { λ device. device.faults.stops_after };
-
-    ghost fails_in = { λ device. device.faults.fails_in };
+    ghost fails_in = { λ device. device.story.faults.fails_in };
 
     fn stop_after(&mut self, n: u64) {
-        self.faults.stops_after = Some(n);
+        self.story.arm(n);
     }
 
     fn stopped(&self) -> bool {
-        self.faults.is_stopped
+        self.story.faults.is_stopped
     }
 
     fn crash(&mut self, choice: Choice) -> bool {
-        self.faults.unwritten();
         match choice {
             Choice::Old(patch) => self.crash_back(&patch),
             Choice::New(patch) => self.crash_on(&patch),

@@ -60,6 +60,9 @@ pub(crate) enum Note<'a> {
         done: bool,
     },
     NamesSynced,
+    StopAsked {
+        n: u64,
+    },
     CrashedOld {
         patch: &'a [(u64, u8)],
     },

@@ -33,9 +33,9 @@ impl SegmentAccountant {
     ///
     /// # Errors
     ///
-    /// `Corruption` where no log can begin from the snapshot, and `PlacesUsedUp` where one more slot of the file, or the
-    /// segment in which the log goes on, would not end below 2^63: nothing was written then. `Io` where the device failed,
-    /// and `OutOfMemory`.
+    /// `Corruption` where no log can begin from the snapshot, whatever its places are; `PlacesUsedUp` exactly where one can, but one
+    /// more slot of the file, or the segment in which the log goes on, would not end below 2^63: nothing was written then.
+    /// `Io` where the device failed, and `OutOfMemory`.
     pub fn start<D: Device, C: Checksum>(
         config: &mut RunningConfig<D, C>,
         snapshot: &Snapshot,

@@ -4,7 +4,7 @@ use Rattle.std.specs.Int.{w64}
 use Rattle.std.specs.Result.{IfOk}
 use Rattle.std.proofs.lemmas.Int.{to_z-of_z}
 use Rattle.std.proofs.lemmas.List.{take_min}
-use Rattle.sled_store.specs.OwnParts.{AreOwnFrom, IsOwnBegun, past_of}
+use Rattle.sled_store.specs.OwnParts.{AreOwnFrom, IsOwnBegun, past_of, placed_of}
 use Rattle.sled_store.proofs.Own.AnswerLemmas.{told_as}
 use Rattle.sled_store.proofs.Own.SlotLemmas.{own_by_records, records_own}
 use Rattle.sled_store.proofs.device.foreign.begun_slot_is_own.Goals as goal
@@ -16,7 +16,7 @@ returns-in-Some-clause-own g c =
     let is : c.args.place ≡ pos lsn = sym (to_z-of_z w64 c.args.place c.ranges.place) ∙ c.in-Some.ensures.some in
     let header = c.header_is_own.ensures.0 c.if-not-header_is_own.false in
     let slot : take c.min.result rest ≡ take c.args.size rest = ap (λ n. take n rest) c.min.ensures ∙ take_min c.args.size rest in
-    told_as (AreOwnFrom g.C.Checksum.sum_of c.args.size (past_of c.args.past.now) c.args.past.now.ever.items (lsn / c.args.size) c.args.begin (take c.args.size rest) 20) (IsOwnBegun g.C.Checksum.sum_of c.args.size (past_of c.args.past.now) c.args.past.now.ever.items c.args.begin rest c.args.place) c.records_are_own.result
-    (own_by_records g.C.Checksum.sum_of c.args.size (past_of c.args.past.now) c.args.past.now.ever.items c.args.begin rest c.args.place lsn is header)
-    (records_own g.C.Checksum.sum_of c.args.size (past_of c.args.past.now) c.args.past.now.ever.items c.args.begin rest c.args.place lsn is header)
-    (subst (λ (l : List ℕ). IfOk c.records_are_own.result (λ b. IsTrue b ↔ AreOwnFrom g.C.Checksum.sum_of c.args.size (past_of c.args.past.now) c.args.past.now.ever.items (lsn / c.args.size) c.args.begin l 20)) slot c.records_are_own.ensures.own)
+    told_as (AreOwnFrom g.C.Checksum.sum_of c.args.size (past_of c.args.past.now) (placed_of c.args.past.now) (lsn / c.args.size) c.args.begin (take c.args.size rest) 20) (IsOwnBegun g.C.Checksum.sum_of c.args.size (past_of c.args.past.now) (placed_of c.args.past.now) c.args.begin rest c.args.place) c.records_are_own.result
+    (own_by_records g.C.Checksum.sum_of c.args.size (past_of c.args.past.now) (placed_of c.args.past.now) c.args.begin rest c.args.place lsn is header)
+    (records_own g.C.Checksum.sum_of c.args.size (past_of c.args.past.now) (placed_of c.args.past.now) c.args.begin rest c.args.place lsn is header)
+    (subst (λ (l : List ℕ). IfOk c.records_are_own.result (λ b. IsTrue b ↔ AreOwnFrom g.C.Checksum.sum_of c.args.size (past_of c.args.past.now) (placed_of c.args.past.now) (lsn / c.args.size) c.args.begin l 20)) slot c.records_are_own.ensures.own)

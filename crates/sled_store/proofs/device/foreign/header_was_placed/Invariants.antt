@@ -1,8 +1,8 @@
--- So far: no write did.
-use Rattle.std.proofs.Common.{ℕ, List}
-use Rattle.sled_store.specs.OwnParts.{Lays}
-use Rattle.sled_store.proofs.Own.ElementLemmas.{NoneBelow}
+-- So far: by the notes before this one.
+use Rattle.std.proofs.Common.{◌↔◌, IsTrue, take}
+use Rattle.sled_store.specs.Foreign.{HeaderWasPlaced}
+use Rattle.sled_store.specs.OwnParts.{all_noted, nothing_known}
 use Rattle.sled_store.proofs.device.foreign.header_was_placed.Given as goal
 
-abbrev pub invariant-loop-write : goal.invariant-loop-write
-invariant-loop-write l = NoneBelow l.writes (λ (w : ℕ × List ℕ). Lays w l.at l.text) l.write-index
+abbrev pub invariant-loop-note : goal.invariant-loop-note
+invariant-loop-note l = IsTrue l.placed ↔ HeaderWasPlaced (all_noted (take l.note-index l.past.notes.items) nothing_known).placed l.at l.text

@@ -5,7 +5,7 @@ use Rattle.std.specs.Result.{IfOk}
 use Rattle.std.proofs.lemmas.Int.{to_z-of_z}
 use Rattle.std.proofs.lemmas.List.{take_rest}
 use Rattle.sled_codec.specs.Record.{IsHeader}
-use Rattle.sled_store.specs.OwnParts.{IsOwnSlot, IsOwnBegun, past_of}
+use Rattle.sled_store.specs.OwnParts.{IsOwnSlot, IsOwnBegun, past_of, placed_of}
 use Rattle.sled_store.proofs.Own.AnswerLemmas.{told_as}
 use Rattle.sled_store.proofs.Own.SlotLemmas.{own_unbegun, own_begun, begun_own}
 use Rattle.sled_store.proofs.device.foreign.slot_is_own.Goals as goal
@@ -16,16 +16,16 @@ returns-in-Some-clause-own g c =
     let begin : ℕ = c.args.slot * c.args.size in
     let rest : List ℕ = take (length log - begin) (drop begin log) in
     let h = c.in-Some.header in
-    told_as (IsOwnBegun g.C.Checksum.sum_of c.args.size (past_of c.args.past.now) c.args.past.now.ever.items begin rest h.lsn) (IsOwnSlot g.C.Checksum.sum_of c.args.size (past_of c.args.past.now) c.args.past.now.ever.items log c.args.slot) c.begun_slot_is_own.result
-    (own_begun g.C.Checksum.sum_of c.args.size (past_of c.args.past.now) c.args.past.now.ever.items log c.args.slot rest (take_rest log begin) h.lsn h.max_stable_lsn c.in-Some.ensures)
-    (begun_own g.C.Checksum.sum_of c.args.size (past_of c.args.past.now) c.args.past.now.ever.items log c.args.slot rest (take_rest log begin) h.lsn h.max_stable_lsn c.in-Some.ensures)
-    (subst (λ (z : ℤ). IfOk c.begun_slot_is_own.result (λ b. IsTrue b ↔ IsOwnBegun g.C.Checksum.sum_of c.args.size (past_of c.args.past.now) c.args.past.now.ever.items begin rest z)) (to_z-of_z w64 h.lsn c.in-Some.ensures.place_fits) c.begun_slot_is_own.ensures.own)
+    told_as (IsOwnBegun g.C.Checksum.sum_of c.args.size (past_of c.args.past.now) (placed_of c.args.past.now) begin rest h.lsn) (IsOwnSlot g.C.Checksum.sum_of c.args.size (past_of c.args.past.now) (placed_of c.args.past.now) log c.args.slot) c.begun_slot_is_own.result
+    (own_begun g.C.Checksum.sum_of c.args.size (past_of c.args.past.now) (placed_of c.args.past.now) log c.args.slot rest (take_rest log begin) h.lsn h.max_stable_lsn c.in-Some.ensures)
+    (begun_own g.C.Checksum.sum_of c.args.size (past_of c.args.past.now) (placed_of c.args.past.now) log c.args.slot rest (take_rest log begin) h.lsn h.max_stable_lsn c.in-Some.ensures)
+    (subst (λ (z : ℤ). IfOk c.begun_slot_is_own.result (λ b. IsTrue b ↔ IsOwnBegun g.C.Checksum.sum_of c.args.size (past_of c.args.past.now) (placed_of c.args.past.now) begin rest z)) (to_z-of_z w64 h.lsn c.in-Some.ensures.place_fits) c.begun_slot_is_own.ensures.own)
 
 pub returns-in-None-clause-own : goal.returns-in-None-clause-own
 returns-in-None-clause-own g c =
     let log : List ℕ = c.args.log.now in
     let begin : ℕ = c.args.slot * c.args.size in (
-      λ t. own_unbegun g.C.Checksum.sum_of c.args.size (past_of c.args.past.now) c.args.past.now.ever.items log c.args.slot
+      λ t. own_unbegun g.C.Checksum.sum_of c.args.size (past_of c.args.past.now) (placed_of c.args.past.now) log c.args.slot
           (λ lsn mark is. c.in-None.ensures lsn mark (subst (λ (l : List ℕ). IsHeader g.C.Checksum.sum_of (take 20 l) lsn mark) (sym (take_rest log begin)) is)),
       λ own. search rules,
     )

@@ -9,7 +9,8 @@ use Rattle.sled_codec.specs.Snapshots.{SnapshotModel, model_of}
 use Rattle.sled_store.specs.Device.{Trace, Event, state_of}
 use Rattle.sled_store.specs.Script.{Performs, after_all}
 use Rattle.sled_store.specs.Blobs.{RemoveAnswers}
-use Rattle.sled_store.specs.Causes.{CheckAnswers, DeviceAnswers, StartRefuses}
+use Rattle.sled_store.specs.Causes.{DeviceAnswers}
+use Rattle.sled_store.specs.StartCauses.{CheckAnswers, StartRefuses}
 use Rattle.sled_store.specs.Begin.{IsStartable, IsInReach, slots_of, is_used, not_below, unused, filling}
 use Rattle.sled_store.specs.SegmentStates.{Machine}
 use Rattle.sled_store.specs.Stabilizing.{cut_back}
@@ -57,10 +58,10 @@ module _ (startable in_reach unwritten : Type 0) (before : ℕ) where
   refused_reading (CollectionNotFound name) mid after came readable same = absurd came
   refused_reading (ReportableBug text) mid after came readable same = absurd came
 
-  refused_check : (e : Error) (after : ℕ) → CheckAnswers {T = Unit {0}} (Err e) in_reach → (IsCorruption {T = Unit {0}} (Err e) → startable → ⊥) → unwritten → after ≡ before → StartRefuses e startable in_reach unwritten before after
+  refused_check : (e : Error) (after : ℕ) → CheckAnswers {T = Unit {0}} (Err e) startable in_reach → (IsCorruption {T = Unit {0}} (Err e) → startable → ⊥) → unwritten → after ≡ before → StartRefuses e startable in_reach unwritten before after
   refused_check OutOfMemory after came corrupt none same = same
   refused_check (Corruption at) after came corrupt none same = (came, corrupt tt, none, same)
-  refused_check PlacesUsedUp after came corrupt none same = (came, none, same)
+  refused_check PlacesUsedUp after came corrupt none same = (came.0, came.1, none, same)
   refused_check (Io e) after came corrupt none same = absurd came
   refused_check (Unsupported text) after came corrupt none same = absurd came
   refused_check (Held place) after came corrupt none same = absurd came
@@ -74,7 +75,7 @@ returns-in-Err-clause-answers g c =
     let len : ℕ = length (state_of (g.D.Device.trace c.args.config.now.device)).log.bytes in
     let s : SnapshotModel = model_of c.args.snapshot.now in
     refused_check (IsStartable size len s) (IsInReach size len s) (g.D.Device.trace c.len.new.self ≡ g.D.Device.trace c.args.config.now.device) (g.D.Device.faults c.args.config.now.device) c.in-Err.e (g.D.Device.faults c.len.new.self)
-    (subst (λ n. CheckAnswers {T = Unit {0}} (Err c.in-Err.e) (IsInReach size n s)) c.in_ok-len.ensures.len c.in-Err.ensures.answers)
+    (subst (λ n. CheckAnswers {T = Unit {0}} (Err c.in-Err.e) (IsStartable size n s) (IsInReach size n s)) c.in_ok-len.ensures.len c.in-Err.ensures.answers)
     (subst (λ n. IsCorruption {T = Unit {0}} (Err c.in-Err.e) → IsStartable size n s → ⊥) c.in_ok-len.ensures.len c.in-Err.ensures.corrupt)
     c.len.ensures.trace c.in_ok-len.ensures.faults
 

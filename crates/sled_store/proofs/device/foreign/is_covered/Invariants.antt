@@ -1,8 +1,0 @@
--- So far: no write did.
-use Rattle.std.proofs.Common.{ℕ, List}
-use Rattle.sled_store.specs.Foreign.{Covers}
-use Rattle.sled_store.proofs.Own.ElementLemmas.{NoneBelow}
-use Rattle.sled_store.proofs.device.foreign.is_covered.Given as goal
-
-abbrev pub invariant-loop-write : goal.invariant-loop-write
-invariant-loop-write l = NoneBelow l.writes (λ (w : ℕ × List ℕ). Covers w l.at l.text) l.write-index
