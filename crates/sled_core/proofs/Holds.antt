@@ -13,6 +13,7 @@ pub mod HoldsLemmas
 pub mod HoldsMarked
 pub mod KeptCalls
 pub mod LastEnds
+pub mod LessClaimed
 pub mod MarkedLemmas
 pub mod MarkedSegments
 pub mod OpenTickets
@@ -21,6 +22,7 @@ pub mod PegLemmas
 pub mod PlacedBatches
 pub mod PlacesBeside
 pub mod ReachLemmas
+pub mod Reasons
 pub mod RunningLemmas
 pub mod SealedCalls
 pub mod StandsAdds

@@ -4,10 +4,12 @@ pub mod Headers
 pub mod KeptLemmas
 pub mod Kinds
 pub mod LeftLemmas
+pub mod Named
 pub mod NextLemmas
 pub mod OfSlots
 pub mod OneReplay
 pub mod OverLog
 pub mod Records
 pub mod Slots
+pub mod Spent
 pub mod TurnLemmas

@@ -7,6 +7,7 @@ pub mod Iterated
 pub mod Iterates
 pub mod Line
 pub mod Logged
+pub mod OwnLog
 pub mod Pending
 pub mod PublicLaws
 pub mod Reached

@@ -8,6 +8,7 @@ pub mod BlobReads
 pub mod BlobRemoved
 pub mod BlobReserved
 pub mod Buffers
+pub mod CameFar
 pub mod Canceled
 pub mod Closes
 pub mod Current
@@ -51,6 +52,7 @@ pub mod Reads
 pub mod Records
 pub mod Reserved
 pub mod ReservedInline
+pub mod ReservedWhole
 pub mod Reserves
 pub mod Rewritten
 pub mod SealFirst

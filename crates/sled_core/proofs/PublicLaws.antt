@@ -1,4 +1,5 @@
--- What a crate above may rely on of logs: where the messages lie that a log fits, what a crash leaves of its device, and that an empty device is ready.
+-- The lemmas by which a proof of a crate above cites the laws of logs: where the messages lie that a log fits, what a crash leaves of its device, and that an empty device is ready.
+-- The laws are the interface (`src/laws.rt`): each says what a client may rely on, and its lemma here says the same. Those under "Helpers" have no law: they put clauses of calls together, or say a law once more in the form that a proof needs.
 use Rattle.std.proofs.Common.{◌≡◌, ◌∙◌, ◌≤◌, ◌<◌, ◌+◌, ◌*◌, ◌^◌, ℕ, ℤ, pos, Bool, true, false, nat_lt, if◌then◌else◌, List, [], ◌∷◌, ◌++◌, Option, None, Some, rules, refl, sym, ap, subst, arith, inl, inr}
 use Rattle.std.specs.Prelude.{FitsSigned}
 use Rattle.std.specs.Int.{w64, cast_signed, cast_unsigned}
@@ -15,14 +16,14 @@ use Rattle.sled_store.proofs.LogFile.LogLemmas.{at_rest_left}
 use Rattle.sled_store.proofs.Names.NamesLemmas.{settled_name_left, settled_name_at_rest}
 use Rattle.sled_store.proofs.Crashes.SettledLemmas.{read_left}
 use Rattle.sled_core.specs.declared.logger.Log.{Log}
-use Rattle.sled_core.specs.Fits.{KeepsAll, stable_end, FitsInline, NoneOpen, NoneOpenIn, IsUnchanged, IsWritten, synced_end, segment_size_of, buffers_of, current_begin, current_of, held_len, holding_below, is_moved, line_of, machine_at, message_rewriting, next_place, noted_in, reserved_end, sealing_end, start_behind, start_of, target_of, waiting_behind, waiting_of}
+use Rattle.sled_core.specs.Fits.{KeepsAll, stable_end, FirstWaits, FitsInline, HasRecordOf, NoneOpen, NoneOpenIn, IsUnchanged, IsWritten, synced_end, segment_size_of, buffers_of, current_begin, current_of, held_len, holding_below, is_moved, line_of, machine_at, message_rewriting, next_place, noted_in, reserved_end, sealing_end, start_behind, start_of, target_of, waiting_behind, waiting_of}
 use Rattle.sled_core.specs.Logged.{logged}
 use Rattle.sled_core.specs.Waiting.{BufferAt, BufferStart, HasLength, at_last, closed_now, first_held, held_below, spans, unwritten}
 use Rattle.sled_store.specs.SegmentStates.{next_slot}
 use Rattle.sled_core.specs.Recoverable.{NoForeign, Recoverable, LeavesRecoverable}
 use Rattle.sled_core.specs.Running.{Fits, IsStored, Ready}
 use Rattle.sled_core.proofs.Flush.Settled.{leaves_less}
-use Rattle.sled_core.proofs.Holds.CallMoments.{own_after_crash}
+pub use Rattle.sled_core.proofs.Holds.CallMoments.{own_after_crash}
 use Rattle.sled_core.proofs.Holds.ReachLemmas.{kept_past}
 use Rattle.sled_core.proofs.Line.Facts.{current_facts}
 use Rattle.sled_core.proofs.Line.Rewritten.{rewritten_stored}
@@ -32,24 +33,48 @@ use Rattle.sled_core.proofs.Line.Spans.{spans_added}
 use Rattle.sled_core.proofs.Logged.Messages.{all_in_log}
 use Rattle.sled_core.proofs.Start.Places.{goes_on_at}
 pub use Rattle.sled_core.proofs.Start.FreshReady.{fresh_leaves, fresh_ready, empty_ready, empty_recoverable}
-pub use Rattle.sled_core.proofs.Holds.KeptCalls.{goes_on_still, goes_on_further, kept_still, kept_further}
-pub use Rattle.sled_core.proofs.Holds.WithoutBlob.{alone_answers, alone_keeps, alone_same, inline_alone, without_further, without_none}
+pub use Rattle.sled_core.proofs.Holds.KeptCalls.{goes_on_further, kept_still, kept_further}
 use Rattle.sled_core.specs.Keeps.{Preserves}
 use Rattle.sled_core.specs.OpenBatches.{stable_below}
 use Rattle.sled_core.proofs.Line.LineEnds.{stable_kept}
 use Rattle.sled_core.proofs.Reached.StableBelow.{stable_low}
 pub use Rattle.sled_core.proofs.Holds.LastEnds.{message_acknowledged, batch_acknowledged, acknowledged_least}
-pub use Rattle.sled_core.proofs.Holds.ReachLemmas.{fits_holds, fits_acknowledged, fits_stable, fits_reach, fits_apart, awaited, awaited_small, inline_stored, reserved_small}
+pub use Rattle.sled_core.proofs.Holds.LessClaimed.{fits_claimed, leaves_claimed, ready_claimed, recoverable_claimed}
+pub use Rattle.sled_core.proofs.Holds.ReachLemmas.{fits_holds, fits_stable, fits_reach, fits_apart, awaited, awaited_small, inline_stored, reserved_small}
+pub use Rattle.sled_core.proofs.Holds.Reasons.{end_fails, end_succeeds, reserve_fails, write_fails}
 pub use Rattle.sled_core.proofs.Holds.RunningLemmas.{fits_leaves}
 pub use Rattle.sled_core.proofs.Iterated.StillThere.{still_there}
 pub use Rattle.sled_core.proofs.Line.Buffers.{first_waits}
 pub use Rattle.sled_core.proofs.Line.Fillings.{end_off}
 pub use Rattle.sled_core.proofs.Line.NoneLeft.{noted_pegs}
+pub use Rattle.sled_core.proofs.Stable.OfLog.{stable_of_log}
 pub use Rattle.sled_core.proofs.Line.OpenSeen.{buffers_held, current_count, current_least, none_is_empty, ticket_places}
--- A reservation of an item that fits inline: its clauses, without the blob that it doesn't make.
-pub use Rattle.sled_core.proofs.Line.ReservedInline.{ReservesInline, comes_inline, inline_keeps, inline_message, not_in_blob, refused_inline}
+-- A reservation: its clauses, put together.
+pub use Rattle.sled_core.proofs.Line.ReservedWhole.{reserves_as}
 -- An iterator of a log only reads it, and gives it back.
 pub use Rattle.sled_core.proofs.Iterates.OverLog.{over_back, over_begun, over_next}
+-- Intervals have one stable end, in none of whose batches it lies.
+pub use Rattle.sled_core.proofs.Stable.OneEnd.{end_in_none, one_contiguous, one_stable, uncovered_beyond}
+-- Nothing becomes foreign by what a log does to its device.
+pub use Rattle.sled_core.proofs.Crash.OwnBehind.{lost_behind, read_own}
+pub use Rattle.sled_core.proofs.Crash.OwnLemmas.{lost_own, nothing_own, synced_own, written_own, zeros_by_place, zeros_no_header}
+pub use Rattle.sled_core.proofs.Crash.OwnRecords.{out_of_order_own}
+-- Helpers: a call that does nothing, a reservation of an item that fits inline, and a call that goes on without a blob, by their clauses; and the acknowledged end of what a log fits.
+pub use Rattle.sled_core.proofs.Holds.KeptCalls.{goes_on_still}
+pub use Rattle.sled_core.proofs.Holds.ReachLemmas.{fits_acknowledged}
+pub use Rattle.sled_core.proofs.Holds.WithoutBlob.{alone_answers, alone_keeps, alone_same, without_further, without_none}
+pub use Rattle.sled_core.proofs.Line.ReservedInline.{ReservesInline, comes_inline, inline_keeps, inline_message, not_in_blob, refused_inline}
+
+-- As much is synced where the same buffers wait, and the current one begins where it did.
+first_same : (s s' begin begin' : ℕ) (bs bs' : List BufferAt) → FirstWaits s begin bs → FirstWaits s' begin' bs' → bs' ≡ bs → begin' ≡ begin → s' ≡ s
+first_same s s' begin begin' [] [] first first' same begins = first' ∙ begins ∙ sym first
+first_same s s' begin begin' (b ∷ bs) (b' ∷ bs') first first' same begins = let one : b' ≡ b = cc in first' ∙ ap (λ (x : BufferAt). x.place) one ∙ sym first
+first_same s s' begin begin' [] (b' ∷ bs') first first' same begins = cc
+first_same s s' begin begin' (b ∷ bs) [] first first' same begins = cc
+
+pub synced_as_first : {D C : Type 0} (old new : Log D C) → waiting_of new ≡ waiting_of old → start_of new ≡ start_of old → synced_end new ≡ synced_end old
+synced_as_first old new waiting start =
+    first_same (synced_end old) (synced_end new) (current_begin old) (current_begin new) (waiting_of old) (waiting_of new) (first_waits old) (first_waits new) waiting (ap (λ (s : BufferStart). s.place) start)
 
 -- Where no reservation was open, none is as long as nothing is another.
 pub unchanged_ended : {D C : Type 0} (old new : Log D C) → IsUnchanged old new → NoneOpen old → NoneOpen new
@@ -157,10 +182,17 @@ pub ready_place : (sum : List ℕ → ℕ) (size : ℕ) (device : State) (s : Sn
 unfolding Ready
 ready_place sum size device s H A f some ready = goes_on_at size (stable_place s.stable) s.active some ready.active
 
--- What a crash left stays the log's own once it is what is read.
+-- Helper: what a crash left stays the log's own once it is what is read, over traces.
 pub own_behind_crash : (sum : List ℕ → ℕ) (size : ℕ) (left : Left) (trace : Trace) → NoForeign sum size (state_of trace) (content_left left (state_of trace))
     → NoForeign sum size (state_of (Crashed left ∷ trace)) (content_of (state_of (Crashed left ∷ trace)))
 own_behind_crash sum size left trace own = own_after_crash sum size left (state_of trace) own
+
+-- A log has the record of what isn't synced yet, and of an entry of the table of all that is synced.
+pub record_unsynced : {D C : Type 0} (log : Log D C) (H : History) (m : Message) → synced_end log ≤ m.place → HasRecordOf log H m
+record_unsynced log H m above = inl (omega (arith, above))
+
+pub record_of_entry : {D C : Type 0} (log : Log D C) (H : History) (m : Message) (cut : ℕ) → synced_end log ≤ cut → Contains (table H cut m.page) m → HasRecordOf log H m
+record_of_entry log H m cut above entry = inr (cut, above, entry)
 
 -- All below the stable end is on the device.
 pub stable_reached_at : {D C : Type 0} (log : Log D C) → stable_end log ≤ synced_end log

@@ -1,4 +1,5 @@
 pub mod Batches
+pub mod BeginBelow
 pub mod CompletesLemmas
 pub mod Entries
 pub mod Filled

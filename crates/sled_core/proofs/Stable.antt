@@ -1,6 +1,7 @@
 pub mod EndLemmas
 pub mod KnownEnds
 pub mod Noted
+pub mod OfLog
 pub mod OneEnd
 pub mod Places
 pub mod SlowEnd

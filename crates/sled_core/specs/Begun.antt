@@ -1,8 +1,8 @@
 -- The segments that a log has begun, and what it has of each: the first one that isn't wholly on the device, and those behind it.
-use Rattle.std.specs.Prelude.{◌≡◌, ◌≤◌, ◌<◌, ◌+◌, ◌*◌, ◌^◌, ℕ, List, [], ◌∷◌, length, map, drop, Option, None, Some, refl}
+use Rattle.std.specs.Prelude.{◌≡◌, ◌≤◌, ◌<◌, ◌+◌, ◌*◌, ◌^◌, ℕ, List, [], ◌∷◌, length, map, Option, None, Some, refl}
 use native.Mathlib.Nat.{ℕ_set}
 use native.Mathlib.Bridge.{le_prop}
-use Rattle.sled_core.specs.Buffers.{records_end}
+use Rattle.sled_core.specs.Buffers.{NoPadding, records_end}
 use Rattle.sled_core.specs.declared.iobuf.IoBuf.{IoBuf}
 use Rattle.sled_core.specs.declared.iobuf.Reserved.{Reserved}
 use Rattle.sled_core.specs.declared.iobuf.Sealed.{Sealed}
@@ -68,10 +68,14 @@ abbrev pub line_end : ℕ → List SegmentView → ℕ
 line_end size [] = 0
 line_end size (v ∷ vs) = v.parts.site.place + length (v ∷ vs) * size
 
--- Each buffer of a segment at this place that has an entry begins below a place: the sealed ones, which begin at an offset, and the current one.
-abbrev pub AreEntered : ℕ → ℕ → ℕ → List Sealed → List Reserved → Type 0
-AreEntered to place from [] rs = 0 < length rs → place + from < to
-AreEntered to place from (b ∷ bs) rs = (0 < b.count → place + from < to) × AreEntered to place b.end bs (drop b.count rs)
+-- Each reservation of a segment at this place begins below a place. What fills the segment may lie behind that.
+abbrev pub AreEntered : ℕ → ℕ → List Reserved → Type 0
+AreEntered to place [] = Unit {0}
+AreEntered to place (r ∷ rs) = (NoPadding r → place + r.from < to) × AreEntered to place rs
+
+-- A segment at this place that has more than its header has something reserved.
+abbrev pub IsUsed : ℕ → ℕ → ℕ → Type 0
+IsUsed to place len = 20 < len → place + 20 < to
 
 -- how far the records of a segment of so many bytes go: up to what fills it
 abbrev pub records_to : Option ℕ → ℕ → ℕ
@@ -91,28 +95,28 @@ pub IsUnfilled-prop : (o : Option ℕ) → IsProp (IsUnfilled o)
 IsUnfilled-prop None = λ p q. refl
 IsUnfilled-prop (Some from) = λ p q. absurd p
 
--- Segments one behind another: in all but the last one each byte is in a sealed buffer or written, and the current buffer begins within the last one. What has an entry begins below a place, which isn't behind all bytes. What fills a segment begins where the entries' records end at most, and a place that lies in the segment, or at its end, isn't behind that; nothing fills the last one.
+-- Segments one behind another, of which what was reserved ends at a place that isn't behind all bytes: in all but the last one each byte is in a sealed buffer or written, and the current buffer begins within the last one. Each reservation begins below that place, and a segment that has more than its header has one. What fills a segment begins where the entries' records end at most, and where the place lies in the segment, or at its end, it isn't behind that; nothing fills the last one.
 abbrev pub AreFilled : ℕ → ℕ → List SegmentView → Type 0
 AreFilled size to [] = Unit {0}
 AreFilled size to (v ∷ []) =
-    (begin_of v < size) × (to ≤ v.parts.site.place + length v.parts.bytes) × AreEntered to v.parts.site.place v.parts.written_len v.parts.sealed v.parts.reserved
-    × IsUnfilled v.parts.filled × (length v.parts.bytes ≤ records_end v.parts.reserved (length v.parts.bytes))
+    (begin_of v < size) × (to ≤ v.parts.site.place + length v.parts.bytes) × AreEntered to v.parts.site.place v.parts.reserved
+    × IsUnfilled v.parts.filled × (length v.parts.bytes ≤ records_end v.parts.reserved (length v.parts.bytes)) × IsUsed to v.parts.site.place (length v.parts.bytes)
 AreFilled size to (v ∷ w ∷ vs) =
-    (begin_of v ≡ size) × AreEntered to v.parts.site.place v.parts.written_len v.parts.sealed v.parts.reserved × AreFilled size to (w ∷ vs)
-    × (records_to v.parts.filled size ≤ records_end v.parts.reserved size) × (to ≤ v.parts.site.place + size → to ≤ v.parts.site.place + records_to v.parts.filled size)
+    (begin_of v ≡ size) × AreEntered to v.parts.site.place v.parts.reserved × AreFilled size to (w ∷ vs)
+    × (records_to v.parts.filled size ≤ records_end v.parts.reserved size) × (to ≤ v.parts.site.place + size → to ≤ v.parts.site.place + records_to v.parts.filled size) × IsUsed to v.parts.site.place (length v.parts.bytes)
 
 -- The segments that a log has are filled so: the first one, and those behind it.
 abbrev pub IsFilledLine : ℕ → ℕ → SegmentPosition → IoBuf → List SegmentBuffer → Type 0
 IsFilledLine size to site b behind = AreFilled size to (line_at site b behind)
 
-AreEntered-prop : (to place from : ℕ) (bs : List Sealed) (rs : List Reserved) → IsProp (AreEntered to place from bs rs)
-AreEntered-prop to place from [] rs = λ p q i some. le_prop (p some) (q some) i
-AreEntered-prop to place from (b ∷ bs) rs = λ p q i. (λ some. le_prop (p.0 some) (q.0 some) i, AreEntered-prop to place b.end bs (drop b.count rs) p.1 q.1 i)
+AreEntered-prop : (to place : ℕ) (rs : List Reserved) → IsProp (AreEntered to place rs)
+AreEntered-prop to place [] = λ p q. refl
+AreEntered-prop to place (r ∷ rs) = λ p q i. (λ some. le_prop (p.0 some) (q.0 some) i, AreEntered-prop to place rs p.1 q.1 i)
 
 pub AreFilled-prop : (size to : ℕ) (vs : List SegmentView) → IsProp (AreFilled size to vs)
 AreFilled-prop size to [] = λ p q. refl
-AreFilled-prop size to (v ∷ []) = λ p q i. (le_prop p.0 q.0 i, le_prop p.1 q.1 i, AreEntered-prop to v.parts.site.place v.parts.written_len v.parts.sealed v.parts.reserved p.2 q.2 i, IsUnfilled-prop v.parts.filled p.3 q.3 i, le_prop p.4 q.4 i)
-AreFilled-prop size to (v ∷ w ∷ vs) = λ p q i. (ℕ_set _ _ p.0 q.0 i, AreEntered-prop to v.parts.site.place v.parts.written_len v.parts.sealed v.parts.reserved p.1 q.1 i, AreFilled-prop size to (w ∷ vs) p.2 q.2 i, le_prop p.3 q.3 i, λ low. le_prop (p.4 low) (q.4 low) i)
+AreFilled-prop size to (v ∷ []) = λ p q i. (le_prop p.0 q.0 i, le_prop p.1 q.1 i, AreEntered-prop to v.parts.site.place v.parts.reserved p.2 q.2 i, IsUnfilled-prop v.parts.filled p.3 q.3 i, le_prop p.4 q.4 i, λ some. le_prop (p.5 some) (q.5 some) i)
+AreFilled-prop size to (v ∷ w ∷ vs) = λ p q i. (ℕ_set _ _ p.0 q.0 i, AreEntered-prop to v.parts.site.place v.parts.reserved p.1 q.1 i, AreFilled-prop size to (w ∷ vs) p.2 q.2 i, le_prop p.3 q.3 i, λ low. le_prop (p.4 low) (q.4 low) i, λ some. le_prop (p.5 some) (q.5 some) i)
 
 pub IsFilledLine-prop : (size to : ℕ) (site : SegmentPosition) (b : IoBuf) (behind : List SegmentBuffer) → IsProp (IsFilledLine size to site b behind)
 IsFilledLine-prop size to site b behind = AreFilled-prop size to (line_at site b behind)

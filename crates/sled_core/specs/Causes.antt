@@ -27,11 +27,12 @@ Answers (Err (Io e)) old new before after = IsFault e old new before after
 Answers (Err OutOfMemory) old new before after = (old ≡ None) × (new ≡ None) × (after ≡ before)
 Answers (Err _) old new before after = ⊥
 
--- A call that writes buffers up to one that has an open reservation: as each that may touch the device. Held it is exactly where there is one, and that begins at this place; and places are used up exactly where the call needs a further segment and there is none in reach.
+-- A call that writes buffers up to one that has an open reservation: as each that may touch the device. Held it is exactly where there is one, and that begins at this place; and places are used up exactly where the call needs a further segment and there is none in reach, before it takes memory.
 abbrev pub HeldAnswers : {T : Type 0} → Result T Error → Option ℕ → Type 0 → Option IoError → Option IoError → ℕ → ℕ → Type 0
 HeldAnswers (Err (Held at)) held used old new before after = ((place : ℕ) × (held ≡ Some place) × (at ≡ pos place)) × (used → ⊥) × (old ≡ None) × (new ≡ None) × (after ≡ before)
 HeldAnswers (Ok n) held used old new before after = (held ≡ None) × (used → ⊥) × (old ≡ None) × (new ≡ None) × (after ≡ before)
 HeldAnswers (Err PlacesUsedUp) held used old new before after = used × (old ≡ None) × (new ≡ None) × (after ≡ before)
+HeldAnswers (Err OutOfMemory) held used old new before after = (used → ⊥) × (old ≡ None) × (new ≡ None) × (after ≡ before)
 HeldAnswers result held used old new before after = Answers result old new before after
 
 -- the call was held by an open reservation
@@ -50,7 +51,7 @@ abbrev pub FaultOrMemory : {T : Type 0} → Result T Error → Type 0 → Option
 FaultOrMemory (Ok _) used fault = (used → ⊥) × (fault ≡ None)
 FaultOrMemory (Err (Io e)) used fault = fault ≡ Some e
 FaultOrMemory (Err PlacesUsedUp) used fault = used × (fault ≡ None)
-FaultOrMemory (Err OutOfMemory) used fault = fault ≡ None
+FaultOrMemory (Err OutOfMemory) used fault = (used → ⊥) × (fault ≡ None)
 FaultOrMemory (Err _) used fault = ⊥
 
 -- A call that touches no device and wants no memory: it fails exactly where the log keeps a failure, and answers that.
@@ -92,7 +93,7 @@ ReserveAnswers (Err (Io e)) used least at = ((at.old ≡ Some e) × (at.new ≡ 
 ReserveAnswers (Err (Unsupported text)) used least at = NoFault at × (at.kind ≡ None) × (string_bytes text ≡ [])
 ReserveAnswers (Err PlacesUsedUp) used least at = NoFault at × IsSome at.kind × used
 ReserveAnswers (Err (Held place)) used least at = NoFault at × IsSome at.kind × (used → ⊥) × (at.open_count ≡ most_open) × least place
-ReserveAnswers (Err OutOfMemory) used least at = NoFault at × IsSome at.kind × (at.open_count < most_open)
+ReserveAnswers (Err OutOfMemory) used least at = NoFault at × HasRecordPlace used at
 ReserveAnswers (Err _) used least at = ⊥
 
 -- A reservation of a record that every page may have, and that needs nothing of the device: as `ReserveAnswers`, without a kind to refuse or a blob.
@@ -101,7 +102,7 @@ RewriteAnswers (Ok _) fault used open_count least = (fault ≡ None) × (used �
 RewriteAnswers (Err (Io e)) fault used open_count least = fault ≡ Some e
 RewriteAnswers (Err PlacesUsedUp) fault used open_count least = (fault ≡ None) × used
 RewriteAnswers (Err (Held at)) fault used open_count least = (fault ≡ None) × (used → ⊥) × (open_count ≡ most_open) × least at
-RewriteAnswers (Err OutOfMemory) fault used open_count least = (fault ≡ None) × (open_count < most_open)
+RewriteAnswers (Err OutOfMemory) fault used open_count least = (fault ≡ None) × (used → ⊥) × (open_count < most_open)
 RewriteAnswers (Err _) fault used open_count least = ⊥
 
 -- Room for one more reservation of a buffer of which so many are open: no further one may be open, with the least place of those that are, or memory was refused.

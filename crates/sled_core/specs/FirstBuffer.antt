@@ -1,10 +1,9 @@
 -- The buffer that a log begins with.
-use Rattle.std.specs.Prelude.{◌≡◌, ◌≤◌, ◌<◌, ◌+◌, ◌%◌, ◌^◌, ◌-ℤ◌, ℕ, pos, List, [], length, Option, None, IfSome}
+use Rattle.std.specs.Prelude.{◌≡◌, ◌≤◌, ◌<◌, ◌%◌, ◌-ℤ◌, ℕ, pos, List, [], length, Option, None, IfSome}
 use Rattle.sled_codec.specs.declared.result.Error.{Error}
-use Rattle.sled_codec.specs.declared.result.Error.TheVariants.{OutOfMemory, Corruption, PlacesUsedUp}
+use Rattle.sled_codec.specs.declared.result.Error.TheVariants.{OutOfMemory, Corruption}
 use Rattle.sled_codec.specs.Record.{short_header}
 use Rattle.sled_core.specs.declared.iobuf.IoBuf.{IoBuf}
-use Rattle.sled_store.specs.Begin.{place_at}
 
 -- The buffer of a segment of which so much is there: the header where nothing is there, whose mark is the place before it; else as many bytes as are there, which are written already.
 pub record IsFirstBuffer (sum : List ℕ → ℕ) (place offset : ℕ) (b : IoBuf) : Type 0 where
@@ -15,9 +14,8 @@ pub record IsFirstBuffer (sum : List ℕ → ℕ) (place offset : ℕ) (b : IoBu
   pub filled : b.filled ≡ None
   pub sealed : b.sealed.items ≡ []
 
--- Why there is none: the stable place lies in the header of the active segment, or a new segment would not end below 2^63, or memory was refused.
+-- Why there is none: the stable place lies in the header of the active segment, or memory was refused.
 abbrev pub RefusesBuffer : ℕ → ℕ → Option ℕ → Error → Type 0
 RefusesBuffer size stable active OutOfMemory = Unit {0}
 RefusesBuffer size stable active (Corruption at) = (at ≡ None) × (IfSome active (λ a. 20 ≤ stable % size) → ⊥)
-RefusesBuffer size stable active PlacesUsedUp = place_at size stable active + size < 2 ^ 63 → ⊥
 RefusesBuffer size stable active _ = ⊥

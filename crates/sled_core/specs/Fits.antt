@@ -325,7 +325,8 @@ pub record HoldsNext (sum : List ℕ → ℕ) (size : ℕ) (device : State) (fau
   pub held : sealed_end s.written_len s.sealed ≤ length s.bytes
   pub behind : s.written_len ≤ length s.bytes
   pub segment : HoldsSegment sum (log_parts size s.site device fault s.bytes s.written_len s.sealed s.reserved) stays (record { messages = own; batches = batches })
-  pub above : All (λ m. place ≤ m.place) own
+  -- behind its header
+  pub above : All (λ m. place + 20 ≤ m.place) own
 
 -- Segments that begin one behind another at a place hold these messages.
 abbrev pub HoldBehind : (List ℕ → ℕ) → ℕ → State → Option IoError → ℕ → List SegmentParts → (Message → Type 0) → List Batch → List Message → Type 0
@@ -362,6 +363,8 @@ pub record FitsBatches (end last : ℕ) (noted : List Batch) (H : History) : Typ
   pub within : CloseBelow last H.batches
   pub apart : AreApart end H.batches
   pub before : (m : Message) → Contains H.messages m → (b : Batch) → Contains H.batches b → end ≤ b.peg → m.place < b.low → m.place + m.size ≤ b.low
+  -- where it ends before that place it begins there, too
+  pub rising : (b : Batch) → Contains H.batches b → (b.low ≤ b.peg) ⊎ (b.low < end)
 
 -- So do those of a log that has noted these batches and whose slots are these: theirs are taken, and the free ones have zeros.
 pub record HoldsWith (sum : List ℕ → ℕ) (noted : List Batch) (size : ℕ) (device : State) (fault : Option IoError) (line : List SegmentView) (m : Machine) (H : History) : Type 0 where
@@ -447,6 +450,7 @@ pub record IsUnchanged {D C : Type 0} (old new : Log D C) : Type 0 where
   pub pins : new.pins ≡ old.pins
   pub machine : machine_at new ≡ machine_at old
   pub noted : noted_in new ≡ noted_in old
+  pub kept : kept_batches new ≤ kept_batches old
   pub config : new.config ≡ old.config
 
 -- what the log runs on
@@ -462,6 +466,8 @@ pub record KeepsAll {D C : Type 0} (old new : Log D C) : Type 0 where
   pub config : config_of new ≡ config_of old
   pub synced : synced_end new ≡ synced_end old
   pub noted : noted_in new ≡ noted_in old
+  -- of those that are wholly on the device no more are kept in memory
+  pub kept : kept_batches new ≤ kept_batches old
   pub fault : fault_of new ≡ fault_of old
   pub pins : pins_of new ≡ pins_of old
 

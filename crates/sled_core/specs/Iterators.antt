@@ -1,5 +1,5 @@
 -- What a caller sees of an iterator: what it borrows, and what is ahead of it.
-use Rattle.std.specs.Prelude.{◌≡◌, ◌+◌, ℕ, ℤ, true, false, List, map, Bool, Option, None, Some, Result, Err, IfNone, IfSome}
+use Rattle.std.specs.Prelude.{◌≡◌, ◌+◌, ℕ, ℤ, true, List, map, Option, None, Some, Result, Err, IfNone, IfSome}
 use Rattle.std.specs.Borrow.{MutBor}
 use Rattle.std.specs.declared.io.Error.{Error as IoError}
 use Rattle.sled_codec.specs.History.{History, Message}
@@ -15,7 +15,7 @@ use Rattle.sled_core.specs.declared.logger.Log.{Log}
 use Rattle.sled_core.specs.Causes.{failure_in}
 use Rattle.sled_core.specs.Fits.{KeepsBuffers, KeepsTickets, device_of, fault_of, machine_at, segment_size_of, stable_end}
 use Rattle.sled_core.specs.Keeps.{OnlyReads, Preserves, SamePosition}
-use Rattle.sled_core.specs.Iterates.{Item, IsIteration, NextGives, NextAnswers, BehindLast}
+use Rattle.sled_core.specs.Iterates.{Item, Damage, IsIteration, NextGives, NextAnswers, BehindLast}
 use Rattle.sled_core.specs.Ahead.{IsLeft, IsSpent, most_left}
 use Rattle.sled_core.specs.LogSegments.{AreSegments, begins_from}
 use Rattle.sled_core.specs.OnFile.{AreOnFile, item_of}
@@ -48,8 +48,8 @@ abbrev pub IsLogOf : {D C : Type 0} → LogIter D C → Option (MutBor (Log D C)
 IsLogOf it result = result ≡ log_in it.source
 
 -- These messages are ahead of an iterator that wasn't refused, and then damage or the end.
-unfoldable pub IsAhead : {D C : Type 0} → (D → Trace) → (List ℕ → ℕ) → LogIter D C → List Item → Bool → Type 0
-IsAhead trace sum it items damaged = IfNone it.refusal (IsLeft trace sum (config_in it.source) it.rest items damaged)
+unfoldable pub IsAhead : {D C : Type 0} → (D → Trace) → (List ℕ → ℕ) → LogIter D C → List Item → Damage → Type 0
+IsAhead trace sum it items damage = IfNone it.refusal (IsLeft trace sum (config_in it.source) it.rest items damage)
 
 -- No message is ahead of an iterator, and nothing is read any more.
 unfoldable pub IsOver : {D C : Type 0} → LogIter D C → Type 0
@@ -97,7 +97,7 @@ LogIsReadFor trace sum item (source.Log r) (source.Log s) = IsReadFor trace sum 
 -- What a call of an iterator gives: the next message of those that are ahead, or none where it is over, or an error. Behind an error and
 -- where none came it is over. What it borrows was only read, and it goes on borrowing the same.
 pub record IsNext {D C : Type 0} (trace : D → Trace) (faults : D → ℕ) (sum : List ℕ → ℕ) (old : LogIter D C) (result : Option (Result Item Error)) (new : LogIter D C) : Type 0 where
-  pub gives : (items : List Item) (damaged : Bool) → IsAhead trace sum old items damaged → NextGives (IsAhead trace sum new) items damaged result
+  pub gives : (items : List Item) (damage : Damage) → IsAhead trace sum old items damage → NextGives (IsAhead trace sum new) items damage result
   pub ended : BehindLast result (IsOver new)
   pub over : IsOver old → result ≡ None
   -- a refusal is the one item, and nothing is read for it
@@ -120,11 +120,11 @@ GoesOver trace sum log lsn it =
     let size = segment_size_of log in
     let s = state_of (trace (device_of log)) in
     (ss : List Segment) × AreSegments size (machine_at log) (begins_from size lsn) (stable_end log) ss
-    × ((items : List Item) (damaged : Bool) → IsIteration sum size s.log.bytes s.blobs.file (stable_end log) true ss items damaged → IsAhead trace sum it items damaged)
+    × ((items : List Item) (damage : Damage) → IsIteration sum size s.log.bytes s.blobs.file (stable_end log) true ss items damage → IsAhead trace sum it items damage)
 
 -- It gives the messages of a history from the segment that holds a place on and below the stable end, of which a slot has the segment and, where they name a blob, that is there; by place. And it doesn't end at damage.
 abbrev pub GivesMessages : {D C : Type 0} → (D → Trace) → (List ℕ → ℕ) → Log D C → History → ℤ → LogIter D C → Type 0
 GivesMessages trace sum log H lsn it =
     let size = segment_size_of log in
     let s = state_of (trace (device_of log)) in
-    (ms : List Message) × AreOnFile size (machine_at log) s.blobs.file H (begins_from size lsn) (stable_end log) ms × IsAhead trace sum it (map item_of ms) false
+    (ms : List Message) × AreOnFile size (machine_at log) s.blobs.file H (begins_from size lsn) (stable_end log) ms × IsAhead trace sum it (map item_of ms) None

@@ -8,7 +8,7 @@ use Rattle.sled_store.specs.Device.{Trace}
 use Rattle.sled_store.specs.Moments.{IsLater, LeavesOnly}
 use Rattle.sled_core.specs.declared.logger.Log.{Log}
 use Rattle.sled_core.specs.declared.reservation.Reservation.{Reservation}
-use Rattle.sled_core.specs.Fits.{Awaits, Holds, NoneSealed, buffers_of, config_of, current_begin, current_of, device_of, fault_of, line_of, machine_at, noted_in, pins_of, position_of, reserved_end, segment_size_of, start_of, synced_end, waiting_of}
+use Rattle.sled_core.specs.Fits.{Awaits, Holds, NoneSealed, buffers_of, config_of, current_begin, current_of, device_of, fault_of, kept_batches, line_of, machine_at, noted_in, pins_of, position_of, reserved_end, segment_size_of, start_of, synced_end, waiting_of}
 use Rattle.sled_store.specs.SegmentStates.{next_slot}
 use Rattle.sled_core.specs.Marked.{BeginsMarked}
 use Rattle.sled_core.specs.Positions.{is_short}
@@ -48,6 +48,8 @@ pub record Preserves {D C : Type 0} (trace : D → Trace) (sum : List ℕ → �
   pub fits : (H : History) (A f : ℕ) (U : List Message) → Fits trace sum old H A f U → Fits trace sum new H A f U
   -- no batch is noted, and those that were are kept until they are wholly on the device
   pub noted : noted_in new ≡ not_whole (synced_end new) (noted_in old)
+  -- in memory no more are kept than were
+  pub kept : kept_batches new ≤ kept_batches old
 
 -- Where a log holds a history, the tickets of other places than this one's await what they awaited.
 abbrev pub KeepsOthers : {D C : Type 0} → (D → Trace) → (List ℕ → ℕ) → Reservation → Log D C → Log D C → Type 0

@@ -9,6 +9,7 @@ pub mod Causes
 pub mod FirstBuffer
 pub mod Fits
 pub mod FreeSlots
+pub mod Fronts
 pub mod Full
 pub mod Good
 pub mod Iterates
@@ -24,6 +25,7 @@ pub mod OpenBatches
 pub mod OpenPlaces
 pub mod Own
 pub mod OwnBlobs
+pub mod OwnLog
 pub mod OwnNames
 pub mod Positions
 pub mod Prepared
@@ -33,6 +35,7 @@ pub mod ReadPointer
 pub mod Reading
 pub mod Ready
 pub mod ReadyBuffers
+pub mod Reasons
 pub mod Recoverable
 pub mod Replayed
 pub mod Reserves

@@ -1,9 +1,7 @@
--- The blob that a reservation made for its item, and what a call that removes it leaves of a log.
-use Rattle.std.specs.Prelude.{◌≡◌, ◌≢◌, ◌⊎◌, ◌≤◌, ◌+◌, ◌%◌, ◌^◌, ℕ, ℤ, if◌then◌else◌, List, [], ◌∷◌, Option, None, Some, IsTrue, IsSome, Result, Ok, Err, OnOk, Contains}
-use Rattle.std.specs.Ordering.{int_eq}
+-- What a call leaves of a log that removes the blob which a reservation made for its item (`own_blob` of `Tickets`).
+use Rattle.std.specs.Prelude.{◌≡◌, ◌≢◌, ◌⊎◌, ◌≤◌, ◌+◌, ◌%◌, ◌^◌, ℕ, ℤ, List, [], ◌∷◌, Option, None, Some, IsTrue, IsSome, Result, Ok, Err, OnOk, Contains}
 use Rattle.std.specs.declared.io.Error.{Error as IoError}
-use Rattle.sled_codec.specs.declared.result.DiskPtr.{DiskPtr}
-use Rattle.sled_codec.specs.declared.result.DiskPtr.TheVariants.{Inline, Blob}
+use Rattle.sled_codec.specs.declared.result.DiskPtr.TheVariants.{Blob}
 use Rattle.sled_codec.specs.declared.result.Error.{Error}
 use Rattle.sled_codec.specs.declared.result.Error.TheVariants.{Io}
 use Rattle.sled_codec.specs.History.{Message, History}
@@ -13,22 +11,11 @@ use Rattle.sled_store.specs.Device.{Event, Trace}
 use Rattle.sled_store.specs.Moments.{IsLater, LeavesOnly}
 use Rattle.sled_store.specs.Script.{Performs, after_all}
 use Rattle.sled_core.specs.declared.logger.Log.{Log}
-use Rattle.sled_core.specs.declared.reservation.Reservation.{Reservation}
-use Rattle.sled_core.specs.Fits.{Holds, config_of, device_of, fault_of, noted_in, segment_size_of, synced_end}
+use Rattle.sled_core.specs.Fits.{Holds, config_of, device_of, fault_of, kept_batches, noted_in, segment_size_of, synced_end}
 use Rattle.sled_core.specs.Keeps.{ConfigKept}
 use Rattle.sled_core.specs.OpenBatches.{not_whole}
 use Rattle.sled_core.specs.Recoverable.{RecoverableIfOwn}
 use Rattle.sled_core.specs.Running.{Fits, IsStored}
-use Rattle.sled_core.specs.Tickets.{place_of, pointer_of}
-
--- the blob of a message that lies at a place, where that made it: its name is that place, while the item of a rewritten one stays where an earlier message put it
-abbrev pub own_in : ℤ → DiskPtr → Option ℤ
-own_in place (Inline lid) = None
-own_in place (Blob lid blob) = if int_eq blob place then Some blob else None
-
--- that of a ticket's message
-abbrev pub own_blob : Reservation → Option ℤ
-own_blob ticket = own_in (place_of ticket) (pointer_of ticket)
 
 -- a message has its item in no blob of this name, if one is named
 abbrev pub IsBeside : Option ℤ → Message → Type 0
@@ -56,6 +43,7 @@ pub record PreservesWithout {D C : Type 0} (trace : D → Trace) (sum : List ℕ
   pub history : (H : History) → Holds trace sum old H → Holds trace sum new H
   pub fits : (H : History) (A f : ℕ) (U : List Message) → Fits trace sum old H A f U → AreBeside blob H → Fits trace sum new H A f U
   pub noted : noted_in new ≡ not_whole (synced_end new) (noted_in old)
+  pub kept : kept_batches new ≤ kept_batches old
 
 -- Why a blob was not removed, if there was one: the log kept a failure, or the device failed in this call, and the log keeps that.
 abbrev pub RemovedAnswers : {T : Type 0} → Result T Error → Option ℤ → Option IoError → Option IoError → ℕ → ℕ → Type 0

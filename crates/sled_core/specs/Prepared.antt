@@ -1,5 +1,5 @@
 -- What a log is made ready for: a record that will stand behind all bytes of its current segment.
-use Rattle.std.specs.Prelude.{◌≡◌, ◌+◌, ◌<◌, ◌/◌, if◌then◌else◌, ℕ, ℤ, List, length, take, drop, true, Result, Ok, Err}
+use Rattle.std.specs.Prelude.{◌≡◌, ◌+◌, ◌<◌, ◌/◌, ℕ, ℤ, List, length, take, drop, true, Result, Ok, Err}
 use Rattle.sled_codec.specs.Spelling.{short_header_tail}
 use Rattle.sled_codec.specs.declared.result.Error.{Error}
 use Rattle.sled_codec.specs.declared.result.Error.TheVariants.{OutOfMemory, Held, PlacesUsedUp}
@@ -9,7 +9,7 @@ use Rattle.sled_core.specs.declared.iobuf.record.Head.{Head}
 use Rattle.sled_core.specs.declared.logger.Log.{Log}
 use Rattle.sled_core.specs.Begun.{last_buffer}
 use Rattle.sled_core.specs.Buffers.{most_open}
-use Rattle.sled_core.specs.Fits.{KeepsTickets, current_of, is_moved, machine_at, position_of, reserved_end, segment_size_of, start_behind, start_of, target_of, waiting_behind, waiting_of}
+use Rattle.sled_core.specs.Fits.{KeepsTickets, current_of, machine_at, position_of, reserved_end, segment_size_of, start_behind, start_of, target_of, waiting_behind, waiting_of}
 use Rattle.sled_core.specs.Keeps.{KeepsSeen, Preserves}
 use Rattle.sled_core.specs.Manifests.{is_manifest}
 use Rattle.sled_core.specs.Marked.{BeginsMarked}
@@ -28,15 +28,11 @@ number_of log = (current_of log).parts.site.place / segment_size_of log
 abbrev pub text_of : Head → List ℕ
 text_of head = take head.len head.bytes
 
--- where what was reserved ends of a log that is made ready: where a further segment is begun for the record, behind the header of that
-abbrev pub reserved_ready : {D C : Type 0} → Log D C → ℕ → ℕ → ℕ
-reserved_ready log page n = if is_moved log page n then (target_of log page n).place else reserved_end log
-
--- What a caller sees of a log that was made ready for the record of a page's message with a body of n bytes, and has none: that would stand where it was to stand, behind what fills the current segment if it has to.
+-- What a caller sees of a log that was made ready for the record of a page's message with a body of n bytes, and has none: that would stand where it was to stand, behind what fills the current segment if it has to, and what was reserved ends where it did.
 pub record IsMadeReady {D C : Type 0} (sum : List ℕ → ℕ) (old new : Log D C) (page n : ℕ) : Type 0 where
   pub tickets : KeepsTickets old new
   pub seen : KeepsSeen old new
-  pub reserved : reserved_end new ≡ reserved_ready old page n
+  pub reserved : reserved_end new ≡ reserved_end old
   pub position : position_of new ≡ target_of old page n
   pub seals : (waiting_of new ≡ waiting_behind sum old page n) × (start_of new ≡ start_behind old page n)
   pub marked : BeginsMarked sum old new
@@ -46,7 +42,7 @@ pub record IsPrepared {D C : Type 0} (trace : D → Trace) (sum : List ℕ → �
   pub keeps : Preserves trace sum old new
   pub tickets : KeepsTickets old new
   pub seen : KeepsSeen old new
-  pub reserved : reserved_end new ≡ reserved_ready old kept.page n
+  pub reserved : reserved_end new ≡ reserved_end old
   pub target : target_of old kept.page n ≡ next_here new
   pub tail : drop 4 (text_of head) ≡ short_header_tail kept.kind n (number_of new) kept.page
   pub long : head.len ≡ length (text_of head)
@@ -62,5 +58,5 @@ abbrev pub PrepareAnswers : {T : Type 0} → Result T Error → Type 0 → ℕ �
 PrepareAnswers (Ok _) used open_count least = (used → ⊥) × (open_count < most_open)
 PrepareAnswers (Err PlacesUsedUp) used open_count least = used
 PrepareAnswers (Err (Held at)) used open_count least = (used → ⊥) × (open_count ≡ most_open) × least at
-PrepareAnswers (Err OutOfMemory) used open_count least = open_count < most_open
+PrepareAnswers (Err OutOfMemory) used open_count least = (used → ⊥) × (open_count < most_open)
 PrepareAnswers (Err _) used open_count least = ⊥

@@ -113,7 +113,7 @@ SettleAnswers result lsn stable end held used new before after = ((lsn <ℤ pos 
 abbrev pub ReadAnswers : {T : Type 0} → (List ℕ → ℕ) → (ℤ → Option (List ℕ)) → DiskPtr → Result T Error → ℤ → ℕ → ℕ → Option ℕ → Type 0 → Option IoError → Option IoError → ℕ → ℕ → Type 0
 ReadAnswers sum blobs p (Ok _) lsn stable end held used old new before after = ((lsn <ℤ pos stable) ⊎ (lsn <ℤ pos end)) × (held ≡ None) × (used → ⊥) × (old ≡ None) × (new ≡ None) × (after ≡ before)
 ReadAnswers sum blobs p (Err (Io e)) lsn stable end held used old new before after = IsFaultAt blobs p e (((lsn <ℤ pos stable) ⊎ (lsn <ℤ pos end)) × (held ≡ None) × (used → ⊥)) old new before after
-ReadAnswers sum blobs p (Err OutOfMemory) lsn stable end held used old new before after = ((lsn <ℤ pos stable) ⊎ (lsn <ℤ pos end)) × (old ≡ None) × (new ≡ None) × (after ≡ before)
+ReadAnswers sum blobs p (Err OutOfMemory) lsn stable end held used old new before after = ((lsn <ℤ pos stable) ⊎ (lsn <ℤ pos end)) × (used → ⊥) × (old ≡ None) × (new ≡ None) × (after ≡ before)
 ReadAnswers sum blobs p (Err (Corruption at)) lsn stable end held used old new before after = (old ≡ None) × (new ≡ None) × (after ≡ before) × NamesDamage sum blobs at
 ReadAnswers sum blobs p (Err (Held at)) lsn stable end held used old new before after = (lsn <ℤ pos end) × ((place : ℕ) × (held ≡ Some place) × (at ≡ pos place)) × (used → ⊥) × (old ≡ None) × (new ≡ None) × (after ≡ before)
 ReadAnswers sum blobs p (Err PlacesUsedUp) lsn stable end held used old new before after = (lsn <ℤ pos end) × used × (old ≡ None) × (new ≡ None) × (after ≡ before)

@@ -42,6 +42,16 @@ pub record IsLaid (size : ℕ) (log : List ℕ) (lid number : ℕ) (header : Lis
   pub in_slot : lid % size + (length header + length body) ≤ size
   pub small : lid + (length header + length body) < 2 ^ 64
 
+-- A header of this segment stands there that announces a record whose end is within its slot.
+pub record IsAnnounced (size : ℕ) (log : List ℕ) (lid number : ℕ) : Type 0 where
+  pub header : List ℕ
+  pub announced : MessageHeader
+  pub spelled : SpellsMessageHeader header announced
+  pub is : part log lid (length header) ≡ header
+  pub numbered : announced.segment_number.0 ≡ number
+  pub valid : announced.kind ≢ kind.Corrupted
+  pub in_slot : lid % size + (length header + announced.len) ≤ size
+
 -- what was found is laid there
 abbrev pub IsFound : ℕ → List ℕ → ℕ → ℕ → UnverifiedRecord → Type 0
 IsFound size log lid number f = IsLaid size log lid number (take f.header_len f.head) f.header f.body.items

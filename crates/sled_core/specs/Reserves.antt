@@ -14,13 +14,13 @@ use Rattle.sled_store.specs.Device.{Trace, state_of}
 use Rattle.sled_store.specs.Script.{Performs, after_all}
 use Rattle.sled_core.specs.declared.logger.Log.{Log}
 use Rattle.sled_core.specs.Causes.{ReserveAnswers, ReserveCauses}
-use Rattle.sled_core.specs.Fits.{Awaits, IsLeastOpen, IsUnchanged, IsUsedUpFor, config_of, device_of, fault_of, message_as, open_for, open_places, position_behind, position_of, reserved_end, size_for, start_behind, start_of, target_of, waiting_behind, waiting_of}
+use Rattle.sled_core.specs.Fits.{Awaits, IsLeastOpen, IsUnchanged, IsUsedUpFor, blob_at, config_of, device_of, fault_of, message_as, open_for, open_places, position_behind, position_of, reserved_end, size_for, start_behind, start_of, target_of, waiting_behind, waiting_of}
 use Rattle.sled_core.specs.Keeps.{KeepsSeen, Preserves}
 use Rattle.sled_core.specs.Manifests.{is_manifest, kind_for}
 use Rattle.sled_core.specs.Marked.{BeginsMarked}
 use Rattle.sled_core.specs.Prepared.{IsMadeReady}
 use Rattle.sled_core.specs.Running.{IsStored}
-use Rattle.sled_core.specs.Tickets.{is_manifest_of}
+use Rattle.sled_core.specs.Tickets.{is_manifest_of, own_blob}
 use Rattle.sled_core.specs.declared.reservation.Reservation.{Reservation}
 use Rattle.sled_codec.specs.History.{Message}
 
@@ -69,6 +69,8 @@ pub record ReservesAs {D C : Type 0} (trace : D → Trace) (faults : D → ℕ) 
   pub ticket : IfOk result (λ ticket. Awaits new ticket (message_as old kind page blob n item))
   pub stored : OnOk result (IsStored trace sum new (message_as old kind page blob n item))
   pub manifest : IfOk result (λ ticket. is_manifest_of ticket ≡ is_manifest kind page)
+  -- the blob that it made, where it made one
+  pub own : IfOk result (λ ticket. own_blob ticket ≡ blob_at blob (target_of old page n).place)
   pub behind : OnOk result (StandsBehind sum old new page n)
   pub others : (ticket : Reservation) (m : Message) → Awaits old ticket m → Awaits new ticket m
   pub answers : ReserveAnswers result (IsUsedUpFor old page n) (IsLeastOpen old) (reserve_causes trace faults kind page blob n old new)

@@ -7,7 +7,7 @@ use Rattle.sled_store.specs.Answers.{is_fault}
 use Rattle.sled_store.specs.Device.{Event}
 use Rattle.sled_core.specs.declared.logger.Log.{Log}
 use Rattle.sled_core.specs.Causes.{HeldAnswers, IsFault}
-use Rattle.sled_core.specs.Fits.{holding_below, noted_in, reserved_end, stable_end, synced_end, writing_below}
+use Rattle.sled_core.specs.Fits.{device_of, fault_of, holding_below, noted_in, reserved_end, stable_end, synced_end, writing_below}
 use Rattle.sled_core.specs.Keeps.{sealed_for, start_for}
 use Rattle.sled_core.specs.OpenBatches.{behind_batch}
 use Rattle.sled_core.specs.Waiting.{BufferAt, BufferStart, not_below}
@@ -34,15 +34,20 @@ abbrev pub IsNotReserved : {T : Type 0} → Result T Error → Type 0
 IsNotReserved (Err (NotReserved at)) = Unit {0}
 IsNotReserved _ = ⊥
 
--- A call that makes a place durable, where what was reserved ends before this one: as each that may touch the device. That the place was not reserved it answers exactly where that lies behind it and behind the stable end, and no failure is kept. The device fails in it only where the place was reserved.
+-- A call that makes a place durable, where what was reserved ends before this one: as each that may touch the device. That the place was not reserved it answers exactly where that lies behind it and behind the stable end, and no failure is kept. The device fails in it, and memory is refused, only where the place was reserved and isn't stable.
 abbrev pub StableAnswers : {T : Type 0} → Result T Error → ℤ → ℕ → ℕ → Option ℕ → Type 0 → Option IoError → Option IoError → ℕ → ℕ → Type 0
 StableAnswers (Err (NotReserved at)) lsn stable end held used old new before after = (at ≡ lsn) × (pos stable ≤ℤ lsn) × (pos end ≤ℤ lsn) × (old ≡ None) × (new ≡ None) × (after ≡ before)
 StableAnswers (Ok n) lsn stable end held used old new before after = ((lsn <ℤ pos stable) ⊎ (lsn <ℤ pos end)) × HeldAnswers (Ok n) held used old new before after
-StableAnswers (Err OutOfMemory) lsn stable end held used old new before after = (pos stable ≤ℤ lsn) × (lsn <ℤ pos end) × (old ≡ None) × (new ≡ None) × (after ≡ before)
+StableAnswers (Err OutOfMemory) lsn stable end held used old new before after = (pos stable ≤ℤ lsn) × (lsn <ℤ pos end) × (used → ⊥) × (old ≡ None) × (new ≡ None) × (after ≡ before)
 StableAnswers (Err (Held at)) lsn stable end held used old new before after = (lsn <ℤ pos end) × HeldAnswers {T = ℕ} (Err (Held at)) held used old new before after
 StableAnswers (Err PlacesUsedUp) lsn stable end held used old new before after = (lsn <ℤ pos end) × HeldAnswers {T = ℕ} (Err PlacesUsedUp) held used old new before after
-StableAnswers (Err (Io e)) lsn stable end held used old new before after = (old ≡ None → lsn <ℤ pos end) × IsFault e old new before after
+StableAnswers (Err (Io e)) lsn stable end held used old new before after = (old ≡ None → (pos stable ≤ℤ lsn) × (lsn <ℤ pos end)) × IsFault e old new before after
 StableAnswers (Err _) lsn stable end held used old new before after = ⊥
+
+-- What a call that makes these calls of the device spares: it does nothing where the log keeps a failure, and where there is nothing to do the device has none.
+pub record SparesDevice {D C : Type 0} (faults : D → ℕ) (es : List Event) (old new : Log D C) : Type 0 where
+  pub faulty : (e : IoError) → fault_of old ≡ Some e → new ≡ old
+  pub idle : es ≡ [] → faults (device_of new) ≡ faults (device_of old)
 
 -- All that was reserved is durable.
 pub record SyncsAll {D C : Type 0} (old new : Log D C) : Type 0 where
@@ -55,7 +60,7 @@ pub record SyncsAll {D C : Type 0} (old new : Log D C) : Type 0 where
 abbrev pub CloseAnswers : {T : Type 0} → Result T Error → Option ℕ → Type 0 → Option IoError → ℕ → ℕ → Type 0
 CloseAnswers (Ok _) held used fault before after = (held ≡ None) × (used → ⊥) × (fault ≡ None) × (after ≡ before)
 CloseAnswers (Err (Io e)) held used fault before after = ((fault ≡ Some e) × (after ≡ before)) ⊎ ((fault ≡ None) × (after ≡ (before + 1) % 2 ^ 64) × IsTrue (is_fault e))
-CloseAnswers (Err OutOfMemory) held used fault before after = (fault ≡ None) × (after ≡ before)
+CloseAnswers (Err OutOfMemory) held used fault before after = (used → ⊥) × (fault ≡ None) × (after ≡ before)
 CloseAnswers (Err PlacesUsedUp) held used fault before after = used × (fault ≡ None) × (after ≡ before)
 CloseAnswers (Err (Held at)) held used fault before after = ((place : ℕ) × (held ≡ Some place) × (at ≡ pos place)) × (used → ⊥) × (fault ≡ None) × (after ≡ before)
 CloseAnswers (Err _) held used fault before after = ⊥

@@ -5,6 +5,7 @@ use Rattle.std.specs.declared.cmp.Reverse.{Reverse}
 use Rattle.std.specs.declared.cmp.Ordering.{Ordering}
 use Rattle.std.specs.Int.{w64}
 use Rattle.std.specs.Ordering.{ordering_then, int_cmp}
+use Rattle.sled_codec.specs.History.{Batch}
 
 -- the place is in the interval
 abbrev pub LiesIn : ℤ → ℤ × ℤ → Type 0
@@ -37,6 +38,10 @@ pub record IsStableEnd (s : ℤ) (is bs : List (ℤ × ℤ)) (r : ℤ) : Type 0 
   pub end : ℤ
   pub contiguous : IsContiguousEnd s is end
   pub stable : (All (λ b. IsHalfSynced end b → ⊥) bs × (r ≡ end)) ⊎ IsBeforeHalfSynced end bs r
+
+-- the places of a batch that a log noted, as an interval
+abbrev pub places_of : Batch → ℤ × ℤ
+places_of b = (pos b.low, pos b.peg)
 
 -- the batch isn't wholly synced at e, and the place is in it, below its peg
 pub record IsOpenAround (e place : ℤ) (batch : ℤ × ℤ) : Type 0 where

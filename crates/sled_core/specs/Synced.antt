@@ -1,5 +1,5 @@
 -- What a `StabilityIntervals` knows.
-use Rattle.std.specs.Prelude.{◌≡◌, ◌≤◌, ◌<ℤ◌, ◌-◌, ℕ, ℤ, List, All}
+use Rattle.std.specs.Prelude.{◌≡◌, ◌≤◌, ◌<ℤ◌, ◌+ℤ◌, ◌-◌, pos, ℕ, ℤ, List, All}
 use Rattle.std.specs.BinaryHeap.{heap_items, heap_len, heap_capacity}
 use Rattle.std.specs.VecDeque.{deque_len, deque_capacity}
 use Rattle.sled_core.specs.declared.iobuf.intervals.StabilityIntervals.{StabilityIntervals}
@@ -29,10 +29,12 @@ sync_room v = heap_capacity v.ahead - heap_len v.ahead
 abbrev pub batch_room : StabilityIntervals → ℕ
 batch_room v = deque_capacity v.batches - deque_len v.batches
 
--- what it keeps is what comes of these intervals and these batches, given to it since it began behind the place s
+-- what it keeps is what comes of these intervals and these batches, given to it since it began behind the place s, and no more of them than it has to
 pub record Knows (v : StabilityIntervals) (s : ℤ) (is bs : List (ℤ × ℤ)) : Type 0 where
   pub contiguous : IsContiguousEnd s is (contiguous_of v)
   pub reached : Reaches s is (contiguous_of v) (ahead_of v)
+  -- those that are kept begin behind a place that isn't synced
+  pub beyond : All (λ i. (contiguous_of v +ℤ pos 1) <ℤ i.0) (ahead_of v)
   pub awaited : AreWaiting bs (contiguous_of v) (batches_of v)
   pub open_yet : All (λ b. contiguous_of v <ℤ b.1) (batches_of v)
 

@@ -1,5 +1,5 @@
 -- What a ticket says.
-use Rattle.std.specs.Prelude.{◌≡◌, ◌+◌, ℕ, ℤ, pos, Bool}
+use Rattle.std.specs.Prelude.{◌≡◌, ◌+◌, ℕ, ℤ, pos, Bool, Option}
 use Rattle.sled_core.specs.declared.iobuf.ReservationState.TheVariants.{Open}
 use Rattle.sled_core.specs.declared.iobuf.Reserved.{Reserved}
 use Rattle.sled_core.specs.declared.iobuf.SegmentPosition.{SegmentPosition}
@@ -27,6 +27,10 @@ len_of ticket = ticket.len
 -- whether it is of the manifest of a batch
 abbrev pub is_manifest_of : Reservation → Bool
 is_manifest_of ticket = ticket.is_manifest
+
+-- the blob that its reservation made for its item, if it made one; the item of a rewritten pointer stays where an earlier message put it
+abbrev pub own_blob : Reservation → Option ℤ
+own_blob ticket = ticket.own_blob
 
 -- a place and a pointer are those that a ticket says
 abbrev pub IsPlaceOf : Reservation → ℤ × DiskPtr → Type 0

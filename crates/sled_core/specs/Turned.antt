@@ -1,5 +1,5 @@
 -- What the calls of a log make of its segments, one behind another.
-use Rattle.std.specs.Prelude.{◌≡◌, ◌⊎◌, ◌+◌, ◌*◌, ◌≤◌, ◌<◌, ◌==◌, ◌-◌, ◌-ℤ◌, ℕ, ℤ, pos, Bool, if◌then◌else◌, List, [], ◌∷◌, ◌++◌, length, drop, set, slice_get, take, nat_lt, true, false, Option, None, Some, vec_capacity}
+use Rattle.std.specs.Prelude.{◌≡◌, ◌+◌, ◌*◌, ◌≤◌, ◌<◌, ◌==◌, ◌-◌, ◌-ℤ◌, ℕ, ℤ, pos, Bool, if◌then◌else◌, List, [], ◌∷◌, ◌++◌, length, drop, set, slice_get, take, nat_lt, true, false, Option, None, Some, vec_capacity}
 use Rattle.std.specs.VecDeque.{deque_len, deque_capacity}
 use Rattle.sled_codec.specs.Record.{short_header}
 use Rattle.sled_codec.specs.Written.{written}
@@ -14,7 +14,7 @@ use Rattle.sled_core.specs.declared.iobuf.ReservationState.TheVariants.{Open}
 use Rattle.sled_core.specs.declared.logger.Log.{Log}
 use Rattle.sled_core.specs.Begun.{SegmentView, view_at}
 use Rattle.sled_core.specs.Buffers.{ended, most_open, open_in, pointer_as}
-use Rattle.sled_core.specs.Fits.{current_of, reserved_end, segment_size_of}
+use Rattle.sled_core.specs.Fits.{current_of, segment_size_of}
 use Rattle.sled_core.specs.SealedBuffers.{behind_run, bytes_between, first_ready, is_ready, one_ended, run_count, run_end, sealed_count, sealed_end, writing, written_at}
 use Rattle.sled_core.specs.declared.reservation.Reservation.{Reservation}
 use Rattle.sled_core.specs.Tickets.{IsFor, index_of, len_of, place_of, pointer_of}
@@ -105,10 +105,6 @@ pub record CanClose (b : IoBuf) (size : ℕ) : Type 0 where
   pub bytes : size ≤ vec_capacity b.bytes
   pub reserved : deque_len b.reserved < deque_capacity b.reserved
   pub sealed : deque_len b.sealed < deque_capacity b.sealed
-
--- What was reserved ends at a place already, or that lies behind the segment that is being filled.
-pub record EndsApart {D C : Type 0} (log : Log D C) (to : ℕ) : Type 0 where
-  pub ends : (to ≡ reserved_end log) ⊎ ((current_of log).parts.site.place + segment_size_of log < to)
 
 -- The buffer of a segment that begins there, with its header alone, whose mark is the place before this one.
 pub record IsBegunView (sum : List ℕ → ℕ) (site : SegmentPosition) (stable : ℕ) (b : IoBuf) : Type 0 where

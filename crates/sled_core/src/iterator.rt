@@ -1,7 +1,7 @@
 //! Reading a log file: which segments are found in it, what is met in each, and an iterator over the messages.
 //!
 //! `specs/Scan.antt` says what is met, for any log file, and `specs/Iterates.antt` what an iterator gives.
-ghost use Rattle.std.specs.Prelude.{take, ℤ, IfNone, ◌≡◌, ◌-◌, ◌/◌, ◌%◌, ◌≤◌, ◌<◌, ℕ, None, pos, IfOk, IfSome, OnOk};
+ghost use Rattle.std.specs.Prelude.{take, ℤ, IfNone, ◌≡◌, ◌-◌, ◌/◌, ◌%◌, ◌≤◌, ◌<◌, ℕ, None, pos, [], IfOk, IfSome, OnErr, OnOk};
 ghost use Rattle.sled_codec.specs.Errors.{IsCorruption};
 ghost use Rattle.sled_codec.specs.Places.{part};
 ghost use Rattle.sled_codec.specs.Record.{IsHeader};
@@ -19,7 +19,7 @@ pub(crate) mod sums;
 
 pub use crate::iterator::log_iter::LogIter;
 use crate::logger::read_at::{BasedBuf, ReadAt};
-use sled_codec::result::{LogOffset, Lsn, Result};
+use sled_codec::result::{Error, LogOffset, Lsn, Result};
 use sled_codec::serialization::{Checksum, SegmentHeader};
 use sled_store::segment::SEG_HEADER_LEN;
 use sled_store::{Device, RunningConfig};
@@ -69,7 +69,7 @@ pub fn read_slot<D: Device, C: Checksum>(
 }
 
 /// Reads the bytes of a slot, as far as the file has them, into a buffer, whose memory serves for slot after slot. After
-/// an error the buffer holds nothing that counts.
+/// an error the buffer has no bytes.
 ///
 /// # Errors
 ///
@@ -79,7 +79,8 @@ pub fn read_slot_into<D: Device, C: Checksum>(
     slot: LogOffset,
     buf: &mut BasedBuf,
 ) -> Result<()>
-    ensures offset { OnOk result (buf.new.offset ≡ slot) }
+    ensures offset { buf.new.offset ≡ slot }
+    ensures emptied { OnErr result (buf.new.buf.items ≡ []) }
     ensures bytes { OnOk result (buf.new.buf.items ≡ part (state_of (D.trace config.old.device)).log.bytes slot config.old.config.segment_size) }
     ensures answers { DeviceAnswers result (D.faults config.old.device) (D.faults config.new.device) }
     ensures readable { IsCorruption result → ⊥ }
@@ -89,10 +90,20 @@ pub fn read_slot_into<D: Device, C: Checksum>(
 {
     let size = config.config.segment_size as usize;
     buf.offset = slot;
-    buf.buf.resize(size, 0)?;
-    let count = config.pread_exact_or_eof(&mut buf.buf, slot)?;
-    buf.buf.truncate(count);
-    Ok(())
+    if let Err(e) = buf.buf.resize(size, 0) {
+        buf.buf.clear();
+        return Err(Error::from(e));
+    }
+    match config.pread_exact_or_eof(&mut buf.buf, slot) {
+        Ok(count) => {
+            buf.buf.truncate(count);
+            Ok(())
+        }
+        Err(e) => {
+            buf.buf.clear();
+            Err(e)
+        }
+    }
 }
 
 /// Returns the segment whose header stands at the beginning of a slot, where one passes there that begins at

@@ -1,35 +1,41 @@
-//! Laws of logs, each the contract of a function that does nothing. A proof cites them by the lemmas of
-//! `proofs/PublicLaws.antt`.
-ghost use Rattle.std.specs.Prelude.{◌≡◌, ◌↔◌, ◌⊎◌, ◌≤◌, ◌<◌, ◌≤ℤ◌, ◌<ℤ◌, ◌-ℤ◌, ◌+◌, ◌*◌, ◌/◌, ◌%◌, ◌^◌, ◌∷◌, ◌++◌, ℕ, ℤ, pos, true, List, [], replicate, Option, None, Some, Result, length, ◌-◌, Contains};
+//! Laws of logs, each the contract of a function that does nothing. They are the interface for a client: what it may rely on besides the
+//! contracts of the calls. A proof cites a law by the lemma of `proofs/PublicLaws.antt` that says the same; what that file has besides, under
+//! "Helpers", promises nothing more.
+ghost use Rattle.std.specs.Prelude.{◌≡◌, ◌↔◌, ◌⊎◌, ◌≤◌, ◌<◌, ◌≤ℤ◌, ◌<ℤ◌, ◌+ℤ◌, ◌-ℤ◌, ◌+◌, ◌*◌, ◌/◌, ◌%◌, ◌^◌, ◌∷◌, ◌++◌, ℕ, ℤ, pos, true, List, [], replicate, Option, None, Some, Result, IfErr, IfOk, OnOk, length, map, ◌-◌, Contains};
 ghost use Rattle.std.specs.Borrow.{MutBor};
+ghost use Rattle.std.specs.declared.io.Error.{Error as IoError};
 ghost use Rattle.sled_codec.specs.declared.result.Error.{Error};
 ghost use Rattle.sled_core.specs.Iterates.{Item};
 ghost use Rattle.sled_core.specs.Iterators.{BorrowsLog, IsLogOf, IsNext, IsOnlyRead, IsOverLog};
 ghost use Rattle.std.specs.Int.{w64, cast_signed, cast_unsigned};
 ghost use Rattle.std.specs.List.{All};
 ghost use Rattle.sled_codec.specs.declared.result.DiskPtr.TheVariants.{Blob};
+ghost use Rattle.sled_codec.specs.declared.serialization.message.LogKind.{LogKind};
 ghost use Rattle.sled_codec.specs.declared.serialization.message.LogKind.TheVariants.{Replace};
 ghost use Rattle.sled_codec.specs.History.{Message, Batch, History, no_history, table};
 ghost use Rattle.sled_codec.specs.Record.{IsHeader};
 ghost use Rattle.sled_codec.specs.WellFormed.{LieApart};
 ghost use Rattle.sled_store.specs.Device.{Trace, State, Left, Leaves, Crashed, state_of, content_of, content_left, at_rest, fresh, Content, Settled, Wrote, Synced, step};
 ghost use Rattle.sled_store.specs.Moments.{IsLater, LeavesOnly};
-ghost use Rattle.sled_core.specs.Fits.{stable_end, KeepsAll, Awaits, FitsInline, HasRecordOf, Holds, IsLeastOpen, IsUnchanged, IsWritten, NoneOpen, buffers_of, current_begin, device_of, fault_of, held_len, holding_below, is_moved, line_of, machine_at, message_rewriting, next_place, noted_in, open_of, open_places, reserved_end, sealing_end, segment_size_of, start_behind, start_of, synced_end, target_of, waiting_behind, waiting_of};
+ghost use Rattle.sled_core.specs.Fits.{stable_end, KeepsAll, Awaits, FirstWaits, FitsInline, HasRecordOf, Holds, IsLeastOpen, IsUnchanged, IsUsedUpBelow, IsUsedUpFor, IsWritten, NoneOpen, blob_at, body_length, buffers_of, current_begin, device_of, fault_of, held_len, holding_below, in_blob_of, is_moved, line_of, machine_at, message_for, message_rewriting, next_place, noted_in, open_of, open_places, reserved_end, sealing_end, segment_size_of, start_behind, start_of, synced_end, target_of, waiting_behind, waiting_of};
 ghost use Rattle.sled_codec.specs.Snapshots.{SnapshotModel, empty_model, stable_place};
 ghost use Rattle.sled_store.specs.Begin.{offset_at, place_at};
 ghost use Rattle.sled_core.specs.Waiting.{HasLength, spans};
 ghost use Rattle.sled_core.specs.Batches.{LiesInNoFilling};
-ghost use Rattle.sled_core.specs.Keeps.{GoesOn, Preserves};
+ghost use Rattle.sled_core.specs.Causes.{FaultAnswers, HeldAnswers, ReserveAnswers, ReserveCauses};
+ghost use Rattle.sled_core.specs.Keeps.{GoesOn, KeepsSeen, Preserves};
+ghost use Rattle.sled_core.specs.Reasons.{ReserveFails, TellsOf, WriteFails};
 ghost use Rattle.sled_core.specs.Reading.{IsInline};
 ghost use Rattle.sled_core.specs.Ready.{IsReady};
 ghost use Rattle.sled_core.specs.Recoverable.{NoForeign, Recoverable, RecoverableIfOwn, LeavesRecoverable, NoHeaderOfZeros};
 ghost use Rattle.sled_core.specs.OnFile.{HasSegment};
 ghost use Rattle.sled_core.specs.OpenPlaces.{first_between, places_from};
+ghost use Rattle.sled_core.specs.Reserves.{RefusalLeaves, ReservesAs, StandsBehind, TouchesBlob, reserve_causes};
 ghost use Rattle.sled_core.specs.Running.{Fits, IsStored, Ready, end_below};
-ghost use Rattle.sled_core.specs.Manifests.{is_manifest};
-ghost use Rattle.sled_core.specs.Tickets.{is_manifest_of, len_of, place_of, pointer_of};
+ghost use Rattle.sled_core.specs.Manifests.{is_manifest, kind_for};
+ghost use Rattle.sled_core.specs.Tickets.{is_manifest_of, len_of, own_blob, place_of, pointer_of};
 ghost use Rattle.sled_core.specs.Own.{IsSomeRecord, written_out_of_order, IsReachedToEnd};
-ghost use Rattle.sled_core.specs.StableEnds.{LiesIn, IsContiguousEnd, IsHalfSynced, IsStableEnd, AreApart};
+ghost use Rattle.sled_core.specs.StableEnds.{LiesIn, IsContiguousEnd, IsHalfSynced, IsStableEnd, AreApart, places_of};
 ghost use Rattle.sled_codec.specs.Sums.{place_sum};
 
 use crate::iterator::LogIter;
@@ -124,6 +130,46 @@ pub fn less_is_acknowledged_before<C: Checksum>()
         → Ready C.sum_of size device s H less f }
 {}
 
+/// What a log fits, what is ready for one and what can be recovered, now or by what a crash leaves, stays so where less counts as
+/// acknowledged, and where the floor is lower. A client needs it that keeps a bound or a floor of its own, lower than the log's.
+pub fn less_may_be_claimed<D: Device, C: Checksum>()
+    ensures fits { (log : Log D C) (H : History) (A less f lower : ℕ) (U : List Message) → less ≤ A → lower ≤ f → Fits D.trace C.sum_of log H A f U
+        → Fits D.trace C.sum_of log H less lower U }
+    ensures ready { (size : ℕ) (device : State) (s : SnapshotModel) (H : History) (A less f lower : ℕ) → less ≤ A → lower ≤ f
+        → Ready C.sum_of size device s H A f → Ready C.sum_of size device s H less lower }
+    ensures leaves { (size : ℕ) (device : State) (H : History) (A less f lower : ℕ) → less ≤ A → lower ≤ f
+        → LeavesRecoverable C.sum_of size H A f device → LeavesRecoverable C.sum_of size H less lower device }
+    ensures recoverable { (size : ℕ) (content : Content) (H : History) (A less f lower : ℕ) → less ≤ A → lower ≤ f
+        → Recoverable C.sum_of size content H A f → Recoverable C.sum_of size content H less lower }
+{}
+
+/// The clauses of `Log::reserve` come to one relation, `ReservesAs`. A client needs it to give a lemma of its own all that a reservation did.
+pub fn a_reservation_comes_to_one_relation<D: Device, C: Checksum>()
+    ensures { (kind : LogKind) (page : ℕ) (item : List ℕ) (old new : Log D C) (result : Result Reservation Error)
+        → let blob = in_blob_of old (length item) in let n = body_length old (length item) in
+        IfOk result (λ ticket. Awaits new ticket (message_for old kind page item))
+        → OnOk result (IsStored D.trace C.sum_of new (message_for old kind page item))
+        → IfOk result (λ ticket. is_manifest_of ticket ≡ is_manifest kind page)
+        → IfOk result (λ ticket. own_blob ticket ≡ blob_at blob (target_of old page n).place)
+        → OnOk result (StandsBehind C.sum_of old new page n)
+        → ((ticket : Reservation) (m : Message) → Awaits old ticket m → Awaits new ticket m)
+        → ReserveAnswers result (IsUsedUpFor old page n) (IsLeastOpen old) (reserve_causes D.trace D.faults kind page blob n old new)
+        → TouchesBlob D.trace C.sum_of result blob (kind_for kind page true 8) (pos (target_of old page n).place) item old new
+        → Preserves D.trace C.sum_of old new → KeepsSeen old new → RefusalLeaves C.sum_of result blob old new page n
+        → ReservesAs D.trace D.faults C.sum_of result kind page item blob n old new }
+{}
+
+/// Where a call fails, it is for one of its own reasons: the end of a ticket, a call that writes buffers, and one that keeps a place. A
+/// client needs it to go through these reasons, and not through all errors.
+pub fn a_call_fails_for_its_own_reasons<T, D: Device, C: Checksum>()
+    ensures end { (result : Result T Error) (fault : Option IoError) → FaultAnswers result fault → IfErr result (TellsOf fault) }
+    ensures write { (log : Log D C) (to : ℕ) (result : Result T Error) (held : Option ℕ) (old new : Option IoError) (before after : ℕ)
+        → HeldAnswers result held (IsUsedUpBelow log to) old new before after
+        → IfErr result (WriteFails held (IsUsedUpBelow log to) old new before after) }
+    ensures reserve { (log : Log D C) (page n : ℕ) (result : Result T Error) (at : ReserveCauses)
+        → ReserveAnswers result (IsUsedUpFor log page n) (IsLeastOpen log) at → IfErr result (ReserveFails (IsUsedUpFor log page n) (IsLeastOpen log) at) }
+{}
+
 /// Where no reservation was open, none is as long as nothing of the log is another.
 pub fn an_unchanged_log_has_none_open<D: Device, C: Checksum>()
     ensures { (old new : Log D C) → IsUnchanged old new → NoneOpen old → NoneOpen new }
@@ -160,12 +206,34 @@ pub fn batches_end_in_what_was_reserved<D: Device, C: Checksum>()
     ensures noted { (log : Log D C) (b : Batch) → Contains (noted_in log) b → b.peg < reserved_end log }
 {}
 
+/// The stable end of a log is that of the interval that is on its device without a gap, from behind any place in it on, and of
+/// the batches that it noted (`specs/StableEnds.antt`): as a `StabilityIntervals` would have it that knew of these.
+pub fn a_log_is_stable_as_its_intervals_are<D: Device, C: Checksum>()
+    ensures { (log : Log D C) (s : ℤ) → s <ℤ pos (synced_end log)
+        → IsStableEnd s ((s +ℤ pos 1, pos (synced_end log) -ℤ pos 1) ∷ []) (map places_of (noted_in log)) (pos (stable_end log) -ℤ pos 1) }
+{}
+
 /// The stable end isn't behind what is on the device without a gap. It never falls, where a call notes no batch; it stays where
 /// what is written and noted stays.
 pub fn the_stable_end_never_falls<D: Device, C: Checksum>()
     ensures reached { (log : Log D C) → stable_end log ≤ synced_end log }
     ensures keeps { (old new : Log D C) → Preserves D.trace C.sum_of old new → stable_end old ≤ stable_end new }
     ensures same { (old new : Log D C) → KeepsAll old new → stable_end new ≡ stable_end old }
+{}
+
+/// All before the synced end is on the device without a gap, and there the first of the buffers begins that aren't, or the current
+/// one. So it is where it was as long as these are the same, as behind a read of a place below it.
+pub fn the_first_buffer_waits_behind_what_is_synced<D: Device, C: Checksum>()
+    ensures first { (log : Log D C) → FirstWaits (synced_end log) (current_begin log) (waiting_of log) }
+    ensures same { (old new : Log D C) → waiting_of new ≡ waiting_of old → start_of new ≡ start_of old → synced_end new ≡ synced_end old }
+{}
+
+/// A log has the record of each message that begins where what is synced ends, or behind that, and of each that is in the table of all
+/// that is synced, or of more.
+pub fn what_is_not_synced_has_its_record<D: Device, C: Checksum>()
+    ensures unsynced { (log : Log D C) (H : History) (m : Message) → synced_end log ≤ m.place → HasRecordOf log H m }
+    ensures entry { (log : Log D C) (H : History) (m : Message) (cut : ℕ) → synced_end log ≤ cut → Contains (table H cut m.page) m
+        → HasRecordOf log H m }
 {}
 
 /// A log still has the segment of each message that it has the record of: so its iterator passes over none of them for want of a segment.

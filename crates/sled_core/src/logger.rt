@@ -99,7 +99,9 @@ pub struct Log<D, C> {
 impl<D: Device, C: Checksum> Log<D, C> {
     ghost use Rattle.sled_core.specs.Fits.{Holds, open_places, Awaits, IsOpen, FitsInline, fault_of, synced_end, reserved_end, pins_of, config_of, device_of, HasRecordOf, line_of, segment_size_of, waiting_of, current_begin, FirstWaits, stable_end, KeepsBuffers, KeepsAll, KeepsTickets};
     ghost use Rattle.sled_core.specs.OpenPlaces.{TakesOutPlaceOf};
+    ghost use Rattle.sled_core.specs.Fronts.{CameAround};
     ghost use Rattle.sled_core.specs.Keeps.{ConfigKept, GoesOn, KeepsOthers, Preserves, SamePosition};
+    ghost use Rattle.sled_core.specs.Marked.{StartsMarked};
     ghost use Rattle.sled_core.specs.ReadBuffer.{IsUsedUpAt, ReadAnswers, RefusesPlace, SealsAround, Settles, WritesAround, held_at};
     ghost use Rattle.sled_core.specs.ReadPointer.{IsDamageAt, IsDamageOf, IsReadOf, ReadsBlob, place_read};
     ghost use Rattle.sled_core.specs.Ready.{IsReady};
@@ -109,12 +111,13 @@ impl<D: Device, C: Checksum> Log<D, C> {
     /// Begins a log on what a recovery left: it goes on at the snapshot's stable place. First it fills the
     /// slots of the file that the snapshot does not use with zeros, in ascending order, and syncs the file
     /// where there is one. Then, while more than one slot is free and the last one is, it cuts that off, and syncs the cut.
+    /// Where it begins a segment, that has the last stable place for the mark in its header.
     ///
     /// # Errors
     ///
-    /// `Corruption` where no log can begin from the snapshot, and `PlacesUsedUp` where one more slot of the file,
-    /// or the segment in which the log goes on, would not end below 2^63; nothing was written then. `Io` where the
-    /// device failed, and `OutOfMemory`. With each of them the configuration comes back.
+    /// `Corruption` where no log can begin from the snapshot, whatever its places are; `PlacesUsedUp` exactly where one can, but one
+    /// more slot of the file, or the segment in which the log goes on, would not end below 2^63; nothing was written then.
+    /// `Io` where the device failed, and `OutOfMemory`. With each of them the configuration comes back.
     pub fn start(
         config: RunningConfig<D, C>,
         snapshot: &Snapshot,
@@ -129,6 +132,7 @@ impl<D: Device, C: Checksum> Log<D, C> {
             → IfErr result (λ e. IsCorrupt e.0 → ⊥) }
         ensures begins { let len = length (state_of (D.trace config.device)).log.bytes in
             IfOk result (λ log. BeginsBehind config.config.segment_size len (model_of snapshot.now) log) }
+        ensures marked { IfOk result (λ log. StartsMarked C.sum_of log) }
         ensures config { ConfigKept config (config_left result) }
         ensures later { IsLater (D.trace config.device) (D.trace (config_left result).device) }
         ensures made { OnOk result (HasMadeStart config.config.segment_size (model_of snapshot.now) (D.trace config.device)
@@ -288,7 +292,8 @@ impl<D: Device, C: Checksum> Log<D, C> {
         ensures corrupt { IfErr result (IsDamageAt C.sum_of (segment_size_of self.old) (state_of (D.trace (device_of self.new))) lsn ptr) }
         ensures calls { Settles D.trace C.sum_of result lsn ptr self.old self.new }
         ensures refused { RefusesPlace result lsn ptr self.old self.new }
-        ensures buffers { let at = place_read lsn ptr in SealsAround result at self.old self.new × WritesAround C.sum_of result at self.old self.new }
+        ensures buffers { let at = place_read lsn ptr in SealsAround result at self.old self.new × WritesAround C.sum_of result at self.old self.new
+            × OnErr result (CameAround D.trace C.sum_of (unsigned_abs at) self.old self.new) }
         ensures keeps { Preserves D.trace C.sum_of self.old self.new }
         ensures tickets { KeepsTickets self.old self.new }
         ensures position { SamePosition self.old self.new }

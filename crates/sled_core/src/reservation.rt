@@ -1,7 +1,7 @@
 //! Tickets: what a caller holds for a place that is kept for it, and for a pin. Neither can be dropped,
 //! so each is handed back to the log that made it, or abandoned on purpose.
 
-use sled_codec::result::{DiskPtr, Lsn};
+use sled_codec::result::{BlobPointer, DiskPtr, Lsn};
 
 /// A place in the log that is kept for a message. It is spent by `Log::complete`, by `Log::abort` or by `abandon`.
 pub struct Reservation {
@@ -14,12 +14,15 @@ pub struct Reservation {
     len: usize,
     // Whether it is of the manifest of a batch.
     is_manifest: bool,
+    // The blob that this reservation made for its item. That of a rewritten pointer was made by another one.
+    pub(crate) own_blob: Option<BlobPointer>,
 }
 
 impl Reservation {
-    ghost use Rattle.std.specs.Prelude.{◌≡◌, pos};
-    ghost use Rattle.sled_core.specs.Tickets.{place_of, pointer_of, index_of, len_of, is_manifest_of};
+    ghost use Rattle.std.specs.Prelude.{◌≡◌, None};
+    ghost use Rattle.sled_core.specs.Tickets.{place_of, pointer_of, index_of, len_of, is_manifest_of, own_blob};
 
+    /// One that made no blob.
     #[inline(always)]
     pub(crate) fn new(
         lsn: Lsn,
@@ -33,6 +36,7 @@ impl Reservation {
         ensures index { index_of result ≡ index }
         ensures len { len_of result ≡ len }
         ensures manifest { is_manifest_of result ≡ is_manifest }
+        ensures own { own_blob result ≡ None }
     {
         Reservation {
             lsn,
@@ -40,6 +44,7 @@ impl Reservation {
             index,
             len,
             is_manifest,
+            own_blob: None,
         }
     }
 
@@ -86,6 +91,7 @@ impl Reservation {
             index: _,
             len: _,
             is_manifest: _,
+            own_blob: _,
         } = self;
     }
 }

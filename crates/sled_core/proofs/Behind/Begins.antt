@@ -148,7 +148,7 @@ module _ (sum : List ℕ → ℕ) (size : ℕ) (site : SegmentPosition) (device 
       };
       laid = λ whole i above below. zeros whole i (omega (arith, above)) below;
     };
-    above = All-nil (λ (m : Message). behind_place size (site.place + size) behind ≤ m.place);
+    above = All-nil (λ (m : Message). behind_place size (site.place + size) behind + 20 ≤ m.place);
   }
 
   -- The log holds what it held, begun from the same snapshot, where the mark of the new segment lies below what is written.

@@ -25,7 +25,7 @@ use Rattle.sled_core.proofs.Flush.Completed.{all_below, grows}
 use Rattle.sled_core.proofs.Holds.Added.{was_or_added}
 use Rattle.sled_core.proofs.Holds.BegunLemmas.{begun-adds, stays_adds}
 use Rattle.sled_core.proofs.Holds.BehindKept.{behind_fewer}
-use Rattle.sled_core.proofs.Holds.CompletedLemmas.{behind_written, ends_within, segment-complete, segment-fewer}
+use Rattle.sled_core.proofs.Holds.CompletedLemmas.{behind_head, behind_written, ends_within, segment-complete, segment-fewer}
 use Rattle.sled_core.proofs.Holds.WholeHistory.{behind_above}
 use Rattle.sled_core.proofs.Sealed.InBuffer.{end_ended}
 
@@ -71,6 +71,13 @@ module _ (sum : List ℕ → ℕ) (size : ℕ) (site : SegmentPosition) (device 
   low : begins ≤ m.place
   low =
       let far = behind_written sum size s.site device fault s.bytes s.written_len s.sealed s.reserved i r own_history here.segment there in
+      let next = here.next in
+      omega (arith, far, next)
+
+  -- behind its header,
+  behind_header : begins + 20 ≤ m.place
+  behind_header =
+      let far = behind_head sum size s.site device fault s.bytes s.written_len s.sealed s.reserved i r own_history here.segment there in
       let next = here.next in
       omega (arith, far, next)
 
@@ -163,7 +170,7 @@ module _ (sum : List ℕ → ℕ) (size : ℕ) (site : SegmentPosition) (device 
         held = omega (arith, held, long, end_ended s.written_len i s.sealed);
         behind = omega (arith, behind, long);
         segment = done_here.2 (StaysBelow completed_history stable site.place) (λ x under its. stayed x its);
-        above = all_still (λ x. begins ≤ x.place) here.above low;
+        above = all_still (λ x. begins + 20 ≤ x.place) here.above behind_header;
       }
 
   pub behind_completed : HoldBehind sum size device fault (site.place + size) (pre ++ now_with s completed s.written_len (one_ended i s.sealed) (set s.reserved i (ended Completed r)) ∷ post) (StaysBelow completed_history stable site.place) done_here.0.batches

@@ -6,7 +6,7 @@ use Rattle.std.proofs.lemmas.Bool.{cases_lt}
 use Rattle.std.proofs.lemmas.Grind.{same_number_lists}
 use Rattle.sled_codec.specs.History.{History, Message}
 use Rattle.sled_codec.specs.Snapshots.{SnapshotModel}
-use Rattle.sled_store.specs.Device.{LeavesLog, State, Synced, Wrote, at_rest, overwritten, step}
+use Rattle.sled_store.specs.Device.{LeavesLog, State, Synced, Wrote, at_rest, overwritten, step, Placement}
 use Rattle.sled_store.specs.Foreign.{NoForeignLog}
 use Rattle.sled_store.specs.Script.{Along}
 use Rattle.sled_store.proofs.Histories.Ascending.{Ascends}
@@ -104,7 +104,7 @@ module _ (sum : List ℕ → ℕ) (size : ℕ) (site : SegmentPosition) (device 
   some = some_asked sum size site device fault bytes from bs rs (logged H) pre s post fits.holds big whole short place_small slot_small fresh b rest closed recorded (take k s.sealed) split
 
   -- What a crash leaves of the write.
-  torn : NoHeaderOfZeros sum → (part left : List ℕ) → length part ≤ length asked → LeavesLog (after_write old (s.site.slot + at) asked part) left → (placed : List (ℕ × List ℕ))
+  torn : NoHeaderOfZeros sum → (part left : List ℕ) → length part ≤ length asked → LeavesLog (after_write old (s.site.slot + at) asked part) left → (placed : List Placement)
       → NoForeignLog sum size (after_write old (s.site.slot + at) asked part) placed left → StandsTo sum size left (logged H) (stable_below reach H.batches) first reach
   torn none = torn_one sum size site device fault bytes from bs rs (logged H) pre s post fits.holds big whole short place_small slot_small fresh b rest closed recorded (take k s.sealed) split none reach first
       (subst (λ (l : List BegunSegment). StandsAmong sum size old site from l reach (logged H) first) (begun_is pre s post) (fits.among whole none))

@@ -6,7 +6,7 @@ use Rattle.std.specs.List.{All}
 use Rattle.std.proofs.lemmas.Bool.{cases_lt}
 use Rattle.sled_codec.specs.History.{History}
 use Rattle.sled_codec.specs.Snapshots.{SnapshotModel}
-use Rattle.sled_store.specs.Device.{overwritten, LeavesLog}
+use Rattle.sled_store.specs.Device.{overwritten, LeavesLog, Placement}
 use Rattle.sled_store.specs.Foreign.{NoForeignLog}
 use Rattle.sled_store.proofs.Histories.Ascending.{Ascends}
 use Rattle.sled_core.specs.OpenBatches.{stable_below}
@@ -89,7 +89,7 @@ module _ (sum : List ℕ → ℕ) (none : NoHeaderOfZeros sum) (size : ℕ) (som
 
   module _ (has : HasOnly H (completed_in site bytes done) (batches_in site bytes done) (site.place + max 20 from) (site.place + stop)) (no_end : records_why size done stop ≢ Broken → NoBatchEnds H (site.place + last) (site.place + size)) where
     -- What a crash leaves of it.
-    pub torn_head_any : (now left : List ℕ) → length now ≤ length asked → LeavesLog (after_write file (site.slot + from) asked now) left → {placed : List (ℕ × List ℕ)}
+    pub torn_head_any : (now left : List ℕ) → length now ≤ length asked → LeavesLog (after_write file (site.slot + from) asked now) left → {placed : List Placement}
         → NoForeignLog sum size (after_write file (site.slot + from) asked now) placed left → StandsTo sum size left H (stable_below reach H.batches) first reach
     torn_head_any now left no_more leaves {placed} only_own = elim (cases_lt size (from + 32)) [
       | inl full ↦ torn_rest sum size some file site from from asked within slot_begins (omega arith) left_over full reach H first alone.stands alone.here now left no_more leaves {placed = placed} only_own

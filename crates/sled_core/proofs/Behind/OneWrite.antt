@@ -9,7 +9,7 @@ use Rattle.std.proofs.lemmas.Bool.{cases_lt}
 use Rattle.std.proofs.lemmas.List.Elements.{All-drop, Contains-append_left, Contains-append_right}
 use Rattle.sled_codec.specs.History.{Batch, History, Message}
 use Rattle.sled_codec.specs.Snapshots.{SnapshotModel}
-use Rattle.sled_store.specs.Device.{State, LeavesLog, overwritten}
+use Rattle.sled_store.specs.Device.{State, LeavesLog, overwritten, Placement}
 use Rattle.sled_store.specs.Foreign.{NoForeignLog}
 use Rattle.sled_store.proofs.Segments.Elements.{in_first}
 use Rattle.sled_core.specs.OpenBatches.{stable_below}
@@ -188,7 +188,7 @@ module _ (sum : List ℕ → ℕ) (size : ℕ) (site : SegmentPosition) (device 
 
   -- What a crash leaves of the write.
   pub torn_one : (front : List Sealed) → s.sealed ≡ front ++ b ∷ rest → NoHeaderOfZeros sum → (reach : ℕ) (first : SnapshotModel) → StandsAmong sum size old site from (before ++ y ∷ after) reach H first → (now left : List ℕ) → length now ≤ length (asked front)
-      → LeavesLog (after_write old (s.site.slot + at front) (asked front) now) left → (placed : List (ℕ × List ℕ)) → NoForeignLog sum size (after_write old (s.site.slot + at front) (asked front) now) placed left → StandsTo sum size left H (stable_below reach H.batches) first reach
+      → LeavesLog (after_write old (s.site.slot + at front) (asked front) now) left → (placed : List Placement) → NoForeignLog sum size (after_write old (s.site.slot + at front) (asked front) now) placed left → StandsTo sum size left H (stable_below reach H.batches) first reach
   torn_one [] split none reach first among now left no_more leaves placed only_own =
       torn_other_sealed sum none size big old site from before y after here.segment.place_begins here.segment.slot_begins place_small slot_small s.bytes begins s.reserved b rest (fresh_split [] split) closed (are_split [] split) (rise_split [] split)
       (lies [] split).2 here.segment.stand header (laid_old [] split) reach first among (has_first split) (no_end_first split) now left no_more leaves {placed = placed} only_own

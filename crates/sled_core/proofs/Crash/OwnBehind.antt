@@ -1,16 +1,19 @@
 -- A write at the end of the records of the first segment makes nothing foreign.
 use Rattle.std.proofs.Common.{◌≡◌, ◌⊎◌, ◌≤◌, ◌<◌, ◌+◌, ◌-◌, ◌/◌, ◌∙◌, ℕ, zero, suc, ℤ, pos, List, [], ◌∷◌, ◌++◌, length, take, drop, refl, sym, ap, subst, arith, inl, inr, length-append, length-take, length-drop}
 use Rattle.std.specs.List.{Contains}
+use Rattle.std.proofs.lemmas.List.Elements.{All-nil}
 use Rattle.std.proofs.lemmas.Bool.{cases_lt}
 use Rattle.std.proofs.lemmas.List.{take-append-le, drop-append-le}
 use Rattle.sled_codec.specs.declared.serialization.message.MessageKind.{MessageKind}
 use Rattle.sled_codec.specs.Places.{part}
 use Rattle.sled_codec.specs.Record.{IsRecord, IsHeader}
-use Rattle.sled_store.specs.Device.{LogState, State, Wrote, Synced, Settled, step, content_of, content_left, at_rest}
+use Rattle.sled_store.specs.Device.{LogState, State, Wrote, Synced, Settled, step, content_of, content_left, at_rest, settled_again, Placement}
 use Rattle.sled_store.specs.Foreign.{IsReached, at_first, behind, first_record, Covers, IsWhole, HeaderWasPlaced, RecordWasPlaced, NoForeignLog}
 use Rattle.sled_store.proofs.Crashes.ForeignLemmas.{Knows, LogKnows, before_knows, own_log, own_log_at_rest, take_again}
 use Rattle.sled_store.proofs.Crashes.LeavesLemmas.{write}
 use Rattle.sled_store.specs.OwnParts.{BeginsAt}
+use Rattle.sled_store.specs.Readers.{Reads}
+use Rattle.sled_store.proofs.Own.ReaderLemmas.{read_begins, read_same, reads_reached}
 use Rattle.sled_store.proofs.Own.ReachedLemmas.{record_some, begins, same_record, same_len, first_step, goes_on}
 use Rattle.sled_store.proofs.LogFile.OverwrittenLemmas.{overwritten-end}
 use Rattle.sled_core.specs.Own.{IsReachedToEnd}
@@ -74,10 +77,10 @@ module _ (sum : List ℕ → ℕ) (size number : ℕ) where
     ]
 
 -- The write at the end of the log file.
-module _ (sum : List ℕ → ℕ) (size : ℕ) (before after : LogState) (placed : List (ℕ × List ℕ)) (old text : List ℕ) (twenty : 20 ≤ length old) (short : length old + length text ≤ size) (end : IsReachedToEnd sum size old)
+module _ (sum : List ℕ → ℕ) (size : ℕ) (before after : LogState) (placed : List Placement) (old text : List ℕ) (twenty : 20 ≤ length old) (short : length old + length text ≤ size) (end : IsReachedToEnd sum size old)
     (own : NoForeignLog sum size before placed old) (knows : LogKnows before after) (asked : Contains after.asked (length old, text)) where
-  abbrev writes : List (ℕ × List ℕ)
-  writes = (length old, text) ∷ placed
+  abbrev writes : List Placement
+  writes = record { at = length old; bytes = text; since = [] } ∷ placed
 
   -- what was there is still the log's own
   was_own : FirstOwn sum size after writes old
@@ -100,35 +103,37 @@ module _ (sum : List ℕ → ℕ) (size : ℕ) (before after : LogState) (placed
       } in
       let room : length old < size = omega (arith, short, some, length-take len (drop (at - length old) text), length-drop (at - length old) text) in
       let none : first_record size (length old) ≡ 0 = begins_inside size (length old) (omega (arith, twenty)) room in
-      (((length old, text), (0, omega arith, refl), covers, subst (λ n. IsReached sum size number text n (at - length old)) (sym none) reached), inr ((length old, text), asked, covers))
+      ((record { at = length old; bytes = text; since = [] }, (0, omega arith, refl), covers, subst (λ n. IsReached sum size number text n (at - length old)) (sym none) reached, All-nil _), inr ((length old, text), asked, covers))
 
   behind_own : NoForeignLog sum size after writes (old ++ text)
   behind_own = first_own sum size (old ++ text) (omega (arith, short, length-append old text)) after writes (record {
     headers = λ lsn mark is.
         subst (λ (l : List ℕ). HeaderWasPlaced writes 0 l × IsWhole after 0 l) (sym header_same) (was_own.headers lsn mark (subst (λ (l : List ℕ). IsHeader sum l lsn mark) header_same is));
-    records = λ lsn mark at len kind page body is reached fits rec.
+    records = λ lsn mark at len is r.
         let header : IsHeader sum (part old 0 20) (pos lsn) mark = subst (λ (l : List ℕ). IsHeader sum l (pos lsn) mark) header_same is in
-        elim (splits sum size (lsn / size) old text twenty (end lsn mark header) at reached) [
-          | inl (reached_old, below) ↦ old_own lsn mark at len kind page body header reached_old below rec
+        elim (splits sum size (lsn / size) old text twenty (end lsn mark header) at (reads_reached sum size (lsn / size) (old ++ text) 20 at r.comes)) [
+          | inl (reached_old, below) ↦ old_own lsn mark at len header reached_old below r
           | inr (reached_text, past) ↦ (
               let moved : part (old ++ text) at len ≡ part text (at - length old) len = in_text old text at len past in
               subst (λ (l : List ℕ). RecordWasPlaced sum size writes (lsn / size) at l × IsWhole after at l) (sym moved)
-              (text_own (lsn / size) at len kind page body reached_text past (subst (λ (l : List ℕ). IsRecord sum l kind page (lsn / size) body) moved rec)))
+              (text_own (lsn / size) at len r.kind r.page r.body reached_text past (subst (λ (l : List ℕ). IsRecord sum l r.kind r.page (lsn / size) r.body) moved r.is)))
         ];
   })
     where
-      old_own : (lsn : ℕ) (mark : ℤ) (at len : ℕ) (kind : MessageKind) (page : ℕ) (body : List ℕ) → IsHeader sum (part old 0 20) (pos lsn) mark → IsReached sum size (lsn / size) old 20 at → at < length old
-          → IsRecord sum (part (old ++ text) at len) kind page (lsn / size) body
+      old_own : (lsn : ℕ) (mark : ℤ) (at len : ℕ) → IsHeader sum (part old 0 20) (pos lsn) mark → IsReached sum size (lsn / size) old 20 at → at < length old → Reads sum size (lsn / size) (old ++ text) 20 at len
           → RecordWasPlaced sum size writes (lsn / size) at (part (old ++ text) at len) × IsWhole after at (part (old ++ text) at len)
-      old_own lsn mark at len kind page body header reached below rec =
+      old_own lsn mark at len header reached below r =
           let found = old_record sum size (lsn / size) old text twenty (end lsn mark header) at reached below in
           let there = found.1 in
           let inside : at + found.0 ≤ length old = found.2 in
           let kept : part (old ++ text) at found.0 ≡ part old at found.0 = in_old old text at found.0 inside in
-          let same : part (old ++ text) at len ≡ part (old ++ text) at found.0 =
-          same_record sum size (lsn / size) (old ++ text) at len found.0 kind page body there.kind there.page there.body rec (subst (λ (l : List ℕ). IsRecord sum l there.kind there.page (lsn / size) there.body) (sym kept) there.is) in
-          subst (λ (l : List ℕ). RecordWasPlaced sum size writes (lsn / size) at l × IsWhole after at l) (sym (same ∙ kept))
-          (was_own.records lsn mark at found.0 there.kind there.page there.body header reached (omega (arith, inside, short)) there.is)
+          let longer : at + found.0 ≤ length (old ++ text) = omega (arith, inside, length-append old text) in
+          let same : len ≡ found.0 =
+          same_len sum size (lsn / size) (old ++ text) at len found.0 (read_begins sum size (lsn / size) (old ++ text) 20 at len r)
+          (begins sum size (lsn / size) (old ++ text) at found.0 there.kind there.page there.body longer (subst (λ (l : List ℕ). IsRecord sum l there.kind there.page (lsn / size) there.body) (sym kept) there.is)) in
+          let fits : at + len ≤ length old = omega (arith, inside, same) in
+          let read = read_same sum size (lsn / size) (old ++ text) old 20 (length old) 20 at len (λ i n low high. sym (in_old old text i n high)) (omega arith) (omega arith) fits r in
+          subst (λ (l : List ℕ). RecordWasPlaced sum size writes (lsn / size) at l × IsWhole after at l) (sym (in_old old text at len fits)) (was_own.records lsn mark at len header read)
 
 -- So nothing is foreign in what is read behind it.
 pub read_own : (sum : List ℕ → ℕ) (size : ℕ) (s : State) (text : List ℕ) → NoForeign sum size s (content_of s) → 20 ≤ length s.log.bytes → length s.log.bytes + length text ≤ size → IsReachedToEnd sum size s.log.bytes
@@ -149,7 +154,7 @@ pub lost_behind : (sum : List ℕ → ℕ) (size : ℕ) (s : State) (at : ℕ) (
 lost_behind sum size s at asked now own =
     let t : State = step (Wrote at asked now) (step Synced s) in
     record {
-      log = own_log sum size (at_rest s.log.bytes) t.log s.placed t.placed s.log.bytes
+      log = own_log sum size (at_rest s.log.bytes) t.log (settled_again s.log.bytes s.placed) t.placed s.log.bytes
           (record { settled = refl; asked = λ w none. (suc none.0, let le = none.1 in omega (arith, le), none.2) })
           (λ w there. (suc there.0, let le = there.1 in omega (arith, le), there.2))
           (own_log_at_rest sum size s.log s.placed s.log.bytes own.log);

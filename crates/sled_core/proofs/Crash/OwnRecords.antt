@@ -1,6 +1,7 @@
 -- Where a record was written before the one in front of it nothing is foreign, in what is read before that one is synced.
 use Rattle.std.proofs.Common.{◌≡◌, ◌⊎◌, ◌≤◌, ◌<◌, ◌+◌, ◌-◌, ◌/◌, ◌∙◌, ℕ, List, [], ◌∷◌, ◌++◌, length, take, drop, refl, sym, ap, subst, arith, inl, inr, length-append, length-take, length-drop}
-use Rattle.std.specs.List.{Contains}
+use Rattle.std.specs.List.{All, Contains}
+use Rattle.std.proofs.lemmas.List.Elements.{All-nil, All-cons}
 use Rattle.std.proofs.Math.Nat.{mod-eq_of_lt}
 use Rattle.std.proofs.Math.Seq.{take-append_seam, drop-append_seam}
 use Rattle.std.proofs.lemmas.List.{take-append-drop}
@@ -9,10 +10,11 @@ use Rattle.sled_codec.specs.declared.serialization.message.MessageKind.{MessageK
 use Rattle.sled_codec.specs.Places.{part}
 use Rattle.sled_codec.specs.Record.{IsRecord}
 use Rattle.sled_codec.proofs.Records.{one_record}
-use Rattle.sled_store.specs.Device.{State, state_of, content_of, overwritten}
+use Rattle.sled_store.specs.Device.{State, state_of, content_of, overwritten, Placement}
 use Rattle.sled_store.specs.Foreign.{IsReached, at_first, behind, first_record, Covers, IsWhole, HeaderWasPlaced, RecordWasPlaced}
 use Rattle.sled_store.proofs.LogFile.LooseLemmas.{end_of-some}
 use Rattle.sled_store.proofs.Own.ReachedLemmas.{record_some}
+use Rattle.sled_store.proofs.Own.ReaderLemmas.{reads_reached}
 use Rattle.sled_store.proofs.LogFile.OverwrittenLemmas.{length-overwritten, overwritten-end, overwritten-part}
 use Rattle.sled_core.specs.Own.{IsSomeRecord, written_out_of_order}
 use Rattle.sled_core.specs.Recoverable.{NoForeign, NoHeaderOfZeros}
@@ -118,16 +120,19 @@ module _ (sum : List ℕ → ℕ) (size : ℕ) (first second third : List ℕ) (
     long_log : length log ≡ end
     long_log = let some = some_length sum second b in omega (arith, long_settled, length-overwritten settled to_second second, end_of-some to_second (length second) (omega (arith, some)))
 
+    header_read : part one_write 0 20 ≡ header
+    header_read = ap (λ (l : List ℕ). part l 0 20) first_read ∙ ap (λ n. take n front) (sym twenty) ∙ take-append_seam header first
+
     header_settled : part settled 0 20 ≡ header
-    header_settled =
-        part_kept sum size one_write to_third third 0 20 (omega (arith, long_front)) (inl (omega arith))
-        ∙ ap (λ (l : List ℕ). part l 0 20) first_read ∙ ap (λ n. take n front) (sym twenty) ∙ take-append_seam header first
+    header_settled = part_kept sum size one_write to_third third 0 20 (omega (arith, long_front)) (inl (omega arith)) ∙ header_read
+
+    first_there : part one_write 20 (length first) ≡ first
+    first_there =
+        ap (λ (l : List ℕ). part l 20 (length first)) first_read ∙ ap (λ n. take (length first) (drop n front)) (sym twenty)
+        ∙ ap (take (length first)) (drop-append_seam header first) ∙ take_all first
 
     first_settled : part settled 20 (length first) ≡ first
-    first_settled =
-        part_kept sum size one_write to_third third 20 (length first) (omega (arith, long_front)) (inl (omega arith))
-        ∙ ap (λ (l : List ℕ). part l 20 (length first)) first_read ∙ ap (λ n. take (length first) (drop n front)) (sym twenty)
-        ∙ ap (take (length first)) (drop-append_seam header first) ∙ take_all first
+    first_settled = part_kept sum size one_write to_third third 20 (length first) (omega (arith, long_front)) (inl (omega arith)) ∙ first_there
 
     third_settled : part settled to_third (length third) ≡ third
     third_settled = overwritten-part one_write to_third third
@@ -135,8 +140,15 @@ module _ (sum : List ℕ → ℕ) (size : ℕ) (first second third : List ℕ) (
     kept : (at n : ℕ) → at + n ≤ end → (at + n ≤ to_second) ⊎ (to_third ≤ at) → part log at n ≡ part settled at n
     kept at n there apart = part_kept sum size settled to_second second at n (omega (arith, there, long_settled)) apart
 
-    abbrev writes : List (ℕ × List ℕ)
-    writes = (to_second, second) ∷ (to_third, third) ∷ (0, front) ∷ []
+    abbrev writes : List Placement
+    writes =
+        record { at = to_second; bytes = second; since = [] } ∷ record { at = to_third; bytes = third; since = settled ∷ [] } ∷ record { at = 0; bytes = front; since = settled ∷ one_write ∷ [] } ∷ []
+
+    -- a text stood in both files that were synced
+    stood_twice : (at : ℕ) (text : List ℕ) → part settled at (length text) ≡ text → part one_write at (length text) ≡ text → All (λ (l : List ℕ). part l at (length text) ≡ text) (settled ∷ one_write ∷ [])
+    stood_twice at text then before =
+        let Stands : List ℕ → Type 0 = λ l. part l at (length text) ≡ text in
+        All-cons Stands settled (one_write ∷ []) then (All-cons Stands one_write [] before (All-nil Stands))
 
     -- the log itself placed a record and it stands whole
     abbrev IsOwn : ℕ → ℕ → List ℕ → Type 0
@@ -151,20 +163,22 @@ module _ (sum : List ℕ → ℕ) (size : ℕ) (first second third : List ℕ) (
     second_whole = inr ((to_second, second), (0, omega arith, refl), covers_all to_second second)
 
     -- a record that is all of a write
-    alone : (number at : ℕ) (r : List ℕ) → 0 < at → at < size → Contains writes (at, r) → RecordWasPlaced sum size writes number at r
+    alone : (number at : ℕ) (r : List ℕ) (since : List (List ℕ)) → 0 < at → at < size → Contains writes (record { at = at; bytes = r; since = since }) → All (λ (l : List ℕ). part l at (length r) ≡ r) since
+        → RecordWasPlaced sum size writes number at r
     unfolding RecordWasPlaced
-    alone number at r some inside there =
+    alone number at r since some inside there stood =
         let none : at - at ≡ 0 = omega arith in (
-          (at, r),
+          record { at = at; bytes = r; since = since },
           there,
           covers_all at r,
           subst (λ n. IsReached sum size number r n (at - at)) (sym (begins_inside size at some inside)) (subst (λ n. IsReached sum size number r 0 n) (sym none) at_first),
+          stood,
         )
 
     first_placed : (number : ℕ) → RecordWasPlaced sum size writes number 20 first
     unfolding RecordWasPlaced
     first_placed number = (
-      (0, front),
+      record { at = 0; bytes = front; since = settled ∷ one_write ∷ [] },
       (2, omega arith, refl),
       record {
         begins = omega arith;
@@ -172,6 +186,7 @@ module _ (sum : List ℕ → ℕ) (size : ℕ) (first second third : List ℕ) (
         same = ap (λ n. take (length first) (drop n front)) (sym twenty) ∙ ap (take (length first)) (drop-append_seam header first) ∙ take_all first;
       },
       subst (λ n. IsReached sum size number front n 20) (sym (first_of_slot size)) at_first,
+      stood_twice 20 first first_settled first_there,
     )
 
     header_own : HeaderWasPlaced writes 0 (part log 0 20) × IsWhole state.log 0 (part log 0 20)
@@ -179,8 +194,10 @@ module _ (sum : List ℕ → ℕ) (size : ℕ) (first second third : List ℕ) (
     header_own =
         let is : part log 0 20 ≡ header = kept 0 20 (omega arith) (inl (omega arith)) ∙ header_settled in
         let begins : take 20 front ≡ header = ap (λ n. take n front) (sym twenty) ∙ take-append_seam header first in
-        subst (λ (l : List ℕ). HeaderWasPlaced writes 0 l × IsWhole state.log 0 l) (sym is)
-        (((0, front), (2, omega arith, refl), refl, begins), settled_whole 0 header (ap (part settled 0) twenty ∙ header_settled))
+        subst (λ (l : List ℕ). HeaderWasPlaced writes 0 l × IsWhole state.log 0 l) (sym is) (
+          (record { at = 0; bytes = front; since = settled ∷ one_write ∷ [] }, (2, omega arith, refl), refl, begins, stood_twice 0 header (ap (part settled 0) twenty ∙ header_settled) (ap (part one_write 0) twenty ∙ header_read)),
+          settled_whole 0 header (ap (part settled 0) twenty ∙ header_settled),
+        )
 
     put : (number at from : ℕ) (text r : List ℕ) → at ≡ from → text ≡ r → IsOwn number from r → IsOwn number at text
     put number at from text r here is own = subst (λ n. IsOwn number n text) (sym here) (subst (λ (l : List ℕ). IsOwn number from l) (sym is) own)
@@ -196,15 +213,15 @@ module _ (sum : List ℕ → ℕ) (size : ℕ) (first second third : List ℕ) (
         (kept to_third (length third) (omega arith) (inr (omega arith)) ∙ third_settled)
         number at len kind page body reached rec) [
           | inl (here, is) ↦ put number at 20 (part log at len) first here is (first_placed number, settled_whole 20 first first_settled)
-          | inr (inl (here, is)) ↦ put number at to_second (part log at len) second here is (alone number to_second second (omega arith) (omega (arith, short, some_second)) (0, omega arith, refl), second_whole)
-          | inr (inr (here, is)) ↦ put number at to_third (part log at len) third here is (alone number to_third third (omega arith) (omega (arith, short, some_third)) (1, omega arith, refl), settled_whole to_third third third_settled)
+          | inr (inl (here, is)) ↦ put number at to_second (part log at len) second here is (alone number to_second second [] (omega arith) (omega (arith, short, some_second)) (0, omega arith, refl) (All-nil _), second_whole)
+          | inr (inr (here, is)) ↦ put number at to_third (part log at len) third here is (alone number to_third third (settled ∷ []) (omega arith) (omega (arith, short, some_third)) (1, omega arith, refl) (All-cons (λ (l : List ℕ). part l to_third (length third) ≡ third) settled [] third_settled (All-nil _)), settled_whole to_third third third_settled)
         ]
 
     -- So nothing is foreign.
     pub out_of_order_own : NoForeign sum size state (content_of state)
     out_of_order_own = record {
       log = first_own sum size log (omega (arith, long_log, short)) state.log state.placed
-          (record { headers = λ lsn mark is. header_own; records = λ lsn mark at len kind page body is reached fits rec. record_own (lsn / size) at len kind page body reached rec });
+          (record { headers = λ lsn mark is. header_own; records = λ lsn mark at len is r. record_own (lsn / size) at len r.kind r.page r.body (reads_reached sum size (lsn / size) log 20 at r.comes) r.is });
       blobs = no_names_own _;
       snapshots = no_names_own _;
       zeros = zeros;

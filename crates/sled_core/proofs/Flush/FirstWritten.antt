@@ -11,7 +11,7 @@ use Rattle.std.proofs.lemmas.List.Elements.{All-append, All-contains, All-drop, 
 use Rattle.sled_codec.specs.History.{Message, Batch, History}
 use Rattle.sled_codec.specs.Snapshots.{stable_place}
 use Rattle.sled_codec.specs.WellFormed.{LieApart}
-use Rattle.sled_store.specs.Device.{LogState, State, Wrote, Synced, LeavesLog, at_rest, overwritten, step}
+use Rattle.sled_store.specs.Device.{LogState, State, Wrote, Synced, LeavesLog, at_rest, overwritten, step, Placement}
 use Rattle.sled_store.specs.Foreign.{NoForeignLog}
 use Rattle.sled_store.proofs.Segments.FitLemmas.{all_front}
 use Rattle.sled_core.specs.declared.iobuf.Reserved.{Reserved}
@@ -288,7 +288,7 @@ module _ (sum : List ℕ → ℕ) (size : ℕ) (site : SegmentPosition) (device 
 
   -- What a crash leaves of the write.
   pub torn_first : (reach : ℕ) → NoHeaderOfZeros sum → {others : List BegunSegment} → StandsAmong sum size old_whole site from others reach H holds.begun.first → (now left : List ℕ) → length now ≤ length asked_whole
-      → LeavesLog (after_write old_whole (site.slot + from) asked_whole now) left → (placed : List (ℕ × List ℕ))
+      → LeavesLog (after_write old_whole (site.slot + from) asked_whole now) left → (placed : List Placement)
       → NoForeignLog sum size (after_write old_whole (site.slot + from) asked_whole now) placed left → StandsTo sum size left H (stable_below reach H.batches) holds.begun.first reach
   torn_first reach zeros alone now left no_more leaves placed only_own =
       torn_head_any sum zeros size big old_whole site holds.own.place_begins holds.own.slot_begins place_small slot_small bytes from begins_whole rs b rest fresh closed are rise_whole inside_whole holds.own.stand

@@ -23,8 +23,7 @@ use Rattle.sled_core.specs.LogFile.{IsLogFile, StaysBelow, StaysFrom}
 use Rattle.sled_core.proofs.Reached.Marks.{less_than}
 use Rattle.sled_core.proofs.Reserve.Entries.{some_in}
 use Rattle.sled_core.proofs.Reserve.Ranges.{chain_grows}
-use Rattle.sled_core.specs.SealedBuffers.{AreSealed, FirstUnwritten}
-use Rattle.sled_core.proofs.Sealed.Zeros.{rest_zeros}
+use Rattle.sled_core.specs.SealedBuffers.{AreZeros}
 
 -- The snapshot is the same, and more of the log is settled.
 abbrev pub begun-more : (sum : List ℕ → ℕ) (size : ℕ) (snapshots snapshots' : ℤ → Option (List ℕ)) (site : SegmentPosition) (from from' : ℕ) (H : History) → snapshots' ≡ snapshots → from ≤ from'
@@ -134,16 +133,15 @@ module _ (sum : List ℕ → ℕ) (size : ℕ) (site : SegmentPosition) (device 
       ] in
       subst (λ n. HoldsIn sum (log_parts n site after now bytes from bs rs) behind H) (sym sizes) here
 
--- Where nothing was reserved since the last write, and no segment was begun behind the first one, all is on the device.
+-- Where no message was completed since the last write, and the segments behind the first one have none, all is on the device.
 module _ (sum : List ℕ → ℕ) (size : ℕ) (site : SegmentPosition) (device : State) (fault : Option IoError) (bytes : List ℕ) (from : ℕ) (bs : List Sealed) (rs : List Reserved) (H : History)
-    (holds : HoldsIn sum (log_parts size site device fault bytes from bs rs) [] H) where
-  pub all_kept : CloseBelow (site.place + from) H.batches → rs ≡ [] → fault ≡ None → site.place + size < 2 ^ 63 → from ≤ size → FirstUnwritten bs → AreSealed from rs bs → IsKept sum size site from device H
-  all_kept closed none whole in_reach inside fresh are =
+    {behind : List SegmentParts} (holds : HoldsIn sum (log_parts size site device fault bytes from bs rs) behind H) where
+  pub all_kept : CloseBelow (site.place + from) H.batches → completed_in site bytes rs ≡ [] → holds.later ≡ [] → fault ≡ None → site.place + size < 2 ^ 63 → from ≤ size → AreZeros device.log.bytes (site.slot + from) (site.slot + size) → IsKept sum size site from device H
+  all_kept closed none last whole in_reach inside clean =
       let own = holds.own in
-      let last : holds.later ≡ [] = holds.others in
       let all : H.messages ≡ own.earlier =
       holds.messages ∙ ap (λ (ms : List Message). holds.head ++ ms) last ∙ append-nil holds.head
-      ∙ own.messages ∙ ap (λ (l : List Reserved). own.earlier ++ completed_in site bytes l) none ∙ append-nil own.earlier in
+      ∙ own.messages ∙ ap (λ (ms : List Message). own.earlier ++ ms) none ∙ append-nil own.earlier in
       record {
         below = subst (λ (ms : List Message). EndBelow (site.place + from) ms) (sym all) own.below;
         apart = subst LieApart (sym all) own.apart;
@@ -154,7 +152,7 @@ module _ (sum : List ℕ → ℕ) (size : ℕ) (site : SegmentPosition) (device 
         inside = inside;
         begun = holds.begun;
         on_device = subst (λ (ms : List Message). IsOnDevice sum size device.log site from ms (StaysFrom H (stable_place holds.begun.first.stable))) (sym all) (own.written whole);
-        clean = rest_zeros device.log.bytes site.slot bytes from bs size fresh (subst (λ (l : List Reserved). AreSealed from l bs) none are) (own.laid whole);
+        clean = clean;
       }
 
 -- What is on a device stands in the log file that is read of it.

@@ -5,7 +5,7 @@ use Rattle.std.specs.declared.io.Error.{Error as IoError}
 use Rattle.std.proofs.lemmas.Bool.{cases_lt}
 use Rattle.sled_codec.specs.History.{Message, History}
 use Rattle.sled_codec.specs.Snapshots.{SnapshotModel}
-use Rattle.sled_store.specs.Device.{LogState, State, Wrote, Synced, LeavesLog, at_rest, overwritten, step}
+use Rattle.sled_store.specs.Device.{LogState, State, Wrote, Synced, LeavesLog, at_rest, overwritten, step, Placement}
 use Rattle.sled_store.specs.Foreign.{NoForeignLog}
 use Rattle.sled_store.specs.Script.{Along}
 use Rattle.sled_core.specs.Logged.{logged}
@@ -99,7 +99,7 @@ module _ (sum : List ℕ → ℕ) (size : ℕ) (site : SegmentPosition) (device 
 
   -- What a crash leaves of the write.
   torn_later : x.is_written ≡ false → (W : History) (first : SnapshotModel) (reach : ℕ) → NoHeaderOfZeros sum → {others : List BegunSegment} → StandsAmong sum size old_later site from others reach W first → (now left : List ℕ) → length now ≤ length asked_later
-      → LeavesLog (after_write old_later (site.slot + at) asked_later now) left → (placed : List (ℕ × List ℕ)) → NoForeignLog sum size (after_write old_later (site.slot + at) asked_later now) placed left
+      → LeavesLog (after_write old_later (site.slot + at) asked_later now) left → (placed : List Placement) → NoForeignLog sum size (after_write old_later (site.slot + at) asked_later now) placed left
       → StandsTo sum size left W (stable_below reach W.batches) first reach
   torn_later fresh W first reach zeros alone now left no_more leaves placed only_own =
       torn_behind_unwritten sum zeros size big old_later site holds.slot_begins bytes from later_begins rs x xs b rest fresh are rise_later lies.2 (site.place / size) holds.stand reach W first old_later (holds.laid whole)

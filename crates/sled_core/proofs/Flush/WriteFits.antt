@@ -5,7 +5,7 @@ use Rattle.std.specs.declared.io.Error.{Error as IoError}
 use Rattle.std.proofs.lemmas.Bool.{cases_lt}
 use Rattle.sled_codec.specs.History.{Message, History}
 use Rattle.sled_codec.specs.Snapshots.{SnapshotModel}
-use Rattle.sled_store.specs.Device.{State, Wrote, Synced, LeavesLog, at_rest, overwritten, step}
+use Rattle.sled_store.specs.Device.{State, Wrote, Synced, LeavesLog, at_rest, overwritten, step, Placement}
 use Rattle.sled_store.specs.Foreign.{NoForeignLog}
 use Rattle.sled_store.specs.Script.{Along}
 use Rattle.sled_store.proofs.Histories.Ascending.{Ascends}
@@ -36,7 +36,7 @@ module _ (sum : List ℕ → ℕ) (size : ℕ) (site : SegmentPosition) (device 
     (reach' : ℕ) (up : reach ≤ reach') (near' : reach' ≤ site.place + to) (ends' : (m : Message) → Contains (logged H).messages m → m.place < site.place + to
     → (m.place < reach') × (m.place + m.size ≤ reach')) (beside' : NoBatchBegins (logged H) reach' (site.place + to) × NoBatchEnds (logged H) reach' (site.place + to)) (at : ℕ) (asked : List ℕ)
     (torn : NoHeaderOfZeros sum → StandsAmong sum size device.log.bytes site from (map begun_segment behind) reach (logged H) fits.holds.begun.first → (now left : List ℕ) → length now ≤ length asked → LeavesLog (after_write device.log.bytes at asked now) left
-    → (placed : List (ℕ × List ℕ)) → NoForeignLog sum size (after_write device.log.bytes at asked now) placed left → StandsTo sum size left (logged H) (stable_below reach H.batches) fits.holds.begun.first reach)
+    → (placed : List Placement) → NoForeignLog sum size (after_write device.log.bytes at asked now) placed left → StandsTo sum size left (logged H) (stable_below reach H.batches) fits.holds.begun.first reach)
     {Standing : List ℕ → Type 0} (standing : (l : List ℕ) → Standing l → StandsTo sum size l (logged H) (stable_below reach' H.batches) fits.holds.begun.first reach')
     (alone : NoHeaderOfZeros sum → (end : ℕ) → site.slot ≤ end → StandsAmong sum size (padded end device.log.bytes) site from (map begun_segment behind) reach (logged H) fits.holds.begun.first
     → Standing (padded end (overwritten device.log.bytes at asked)))
@@ -51,7 +51,7 @@ module _ (sum : List ℕ → ℕ) (size : ℕ) (site : SegmentPosition) (device 
   ordered : Ascends (logged H).messages
   ordered = whole_ascends sum size site device fault bytes from bs rs (logged H) fits.holds short
 
-  torn_now : NoHeaderOfZeros sum → (now left : List ℕ) → length now ≤ length asked → LeavesLog (after_write device.log.bytes at asked now) left → (placed : List (ℕ × List ℕ))
+  torn_now : NoHeaderOfZeros sum → (now left : List ℕ) → length now ≤ length asked → LeavesLog (after_write device.log.bytes at asked now) left → (placed : List Placement)
       → NoForeignLog sum size (after_write device.log.bytes at asked now) placed left → StandsTo sum size left (logged H) (stable_below reach H.batches) fits.holds.begun.first reach
   torn_now zeros = torn zeros (fits.among whole zeros)
 

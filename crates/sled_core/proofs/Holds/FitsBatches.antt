@@ -1,5 +1,5 @@
 -- The batches of a history over what is written of a log and what it noted: where more is written, where a message or a batch comes to the history, where a log begins, and where all is written.
-use Rattle.std.proofs.Common.{◌≡◌, ◌⊎◌, ◌<◌, ◌≤◌, ◌+◌, ℕ, List, [], ◌∷◌, subst, sym, arith, inl, inr}
+use Rattle.std.proofs.Common.{◌≡◌, ◌⊎◌, ⊎_elim, ◌<◌, ◌≤◌, ◌+◌, ℕ, List, [], ◌∷◌, subst, sym, arith, inl, inr}
 use Rattle.std.specs.List.{Contains}
 use Rattle.std.proofs.lemmas.List.Elements.{All-append, All-cons, All-contains}
 use Rattle.sled_codec.specs.History.{AddsBatch, AddsMessage, Batch, History, Message}
@@ -24,6 +24,7 @@ batches_up low high last last' noted H up more fits = record {
   within = closed_up last last' H.batches more fits.within;
   apart = apart_further low high H.batches up fits.apart;
   before = λ m one b there later low. fits.before m one b there (omega (arith, up, later)) low;
+  rising = λ b there. ⊎_elim (λ pegged. inl pegged) (λ lower. inr (omega (arith, lower, up))) (fits.rising b there);
 }
 
 -- Those that are wholly written needn't be kept.
@@ -34,6 +35,7 @@ batches_left end last noted H fits = record {
   within = fits.within;
   apart = fits.apart;
   before = fits.before;
+  rising = fits.rising;
 }
 
 -- A message is completed that has no place in common with a batch.
@@ -47,6 +49,7 @@ batches_completed end last noted H H' m adds beside fits = record {
     | inl old ↦ fits.before x old b (was b there) later low
     | inr same ↦ subst (λ (y : Message). y.place < b.low → y.place + y.size ≤ b.low) same (λ lower. own b (was b there) lower) low
   ];
+  rising = λ b there. fits.rising b (was b there);
 } where
   was : (b : Batch) → Contains H'.batches b → Contains H.batches b
   was b there = subst (λ (l : List Batch). Contains l b) adds.batches there
@@ -72,6 +75,10 @@ batches_noted end last noted H H' b adds behind short others ends fits = record 
     | inl was ↦ fits.before m (message_was H H' b adds m one) c was later low
     | inr same ↦ subst (λ (x : Batch). m.place < x.low → m.place + m.size ≤ x.low) same (λ lower. ends m (message_was H H' b adds m one) lower) low
   ];
+  rising = λ c there. elim (was_or_batch H H' b adds c there) [
+    | inl was ↦ fits.rising c was
+    | inr same ↦ subst (λ (x : Batch). (x.low ≤ x.peg) ⊎ (x.low < end)) same (inl (let pegged = adds.pegged in omega (arith, pegged)))
+  ];
 } where
   its_end : b.low < last
   its_end = let pegged = adds.pegged in omega (arith, pegged, short)
@@ -86,4 +93,5 @@ batches_begun end last H more closed =
       within = closed_up end last H.batches more closed;
       apart = ended_apart end H.batches ended;
       before = λ m one b there later low. absurd (let under = ended b there in omega (arith, under, later));
+      rising = λ b there. inr (All-contains (λ (x : Batch). (x.low < end) × (x.peg < end)) H.batches b closed there).0;
     }

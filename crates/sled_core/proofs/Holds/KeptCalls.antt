@@ -1,11 +1,12 @@
 -- A call keeps what a log held and fitted where it leaves its device and what is written alone, and where it is two such calls in a row.
-use Rattle.std.proofs.Common.{◌≡◌, ◌∙◌, ◌≤◌, ℕ, List, [], None, refl, ap, subst, arith}
+use Rattle.std.proofs.Common.{◌≡◌, ◌∙◌, ◌≤◌, ℕ, Bool, List, [], None, refl, ap, subst, arith}
 use Rattle.sled_codec.specs.History.{Message, History}
 use Rattle.sled_store.specs.declared.config.Config.{Config}
-use Rattle.sled_store.specs.Device.{Trace, state_of}
+use Rattle.sled_store.specs.Device.{State, Trace, state_of}
 use Rattle.sled_store.specs.Moments.{LeavesOnly}
 use Rattle.sled_store.proofs.PublicLaws.{later_both}
 use Rattle.sled_store.proofs.Traces.MomentLemmas.{started, stays, joined}
+use Rattle.sled_store.proofs.Traces.StopLemmas.{asked_behind, asked_state, asked_later, asked_throughout}
 use Rattle.sled_core.specs.declared.logger.Log.{Log}
 use Rattle.sled_core.specs.Fits.{KeepsTickets, config_of, device_of, fault_of, segment_size_of, synced_end}
 use Rattle.sled_core.specs.Keeps.{ConfigKept, GoesOn, Preserves, SamePosition}
@@ -31,12 +32,24 @@ module _ {D C : Type 0} (trace : D → Trace) (sum : List ℕ → ℕ) where
     items = λ none. items_same trace sum old new (ap (λ (t : Trace). (state_of t).blobs) same);
   }
 
+  -- its device was asked to stop within a call
+  pub goes_on_asked : (old new : Log D C) (stopped : Bool) (n : ℕ) → ConfigKept (config_of old) (config_of new) → trace (device_of new) ≡ asked_behind stopped n (trace (device_of old)) → synced_end old ≤ synced_end new
+      → (fault_of new ≡ None → fault_of old ≡ None) → GoesOn trace sum old new
+  goes_on_asked old new stopped n config asked stable sound = record {
+    config = config;
+    later = asked_later stopped n _ _ asked;
+    stable = stable;
+    crash = λ H A f U fits. asked_throughout stopped n _ _ asked _ (fits_leaves trace sum old H A f U fits);
+    sound = sound;
+    items = λ none. items_same trace sum old new (ap (λ (s : State). s.blobs) (asked_state stopped n _ _ asked));
+  }
+
   pub goes_on_still : (log : Log D C) → GoesOn trace sum log log
   goes_on_still log = goes_on_quietly log log (record { config = refl; checksum = refl }) refl (omega arith) (λ none. none)
 
   -- nothing was done
   pub kept_still : (log : Log D C) → Preserves trace sum log log
-  kept_still log = record { goes_on = goes_on_still log; history = λ H holds. holds; fits = λ H A f U fits. fits; noted = noted_still log }
+  kept_still log = record { goes_on = goes_on_still log; history = λ H holds. holds; fits = λ H A f U fits. fits; noted = noted_still log; kept = omega arith }
 
   pub goes_on_further : (old mid new : Log D C) → Preserves trace sum old mid → GoesOn trace sum mid new → GoesOn trace sum old new
   goes_on_further old mid new first then = record {
@@ -57,6 +70,7 @@ module _ {D C : Type 0} (trace : D → Trace) (sum : List ℕ → ℕ) where
     history = λ H holds. then.history H (first.history H holds);
     fits = λ H A f U fits. then.fits H A f U (first.fits H A f U fits);
     noted = noted_further old mid new then.goes_on.stable first.noted then.noted;
+    kept = let before = first.kept in let after = then.kept in omega (arith, before, after);
   }
 
 -- So it is with its tickets,

@@ -22,7 +22,7 @@ pub behind_above : (sum : List ℕ → ℕ) (size : ℕ) (device : State) (fault
 behind_above sum size device fault place [] stays batches ms is = λ k d lt. absurd (omega (arith, ap length is, lt))
 behind_above sum size device fault place (s ∷ ss) stays batches ms (own, later, all, here, rest) =
     let far = behind_above sum size device fault (place + size) ss stays batches later rest in
-    subst (All (λ (m : Message). place ≤ m.place)) (sym all) (All-append (λ (m : Message). place ≤ m.place) own later here.above (λ k d lt. let b = far k d lt in omega (arith, b)))
+    subst (All (λ (m : Message). place ≤ m.place)) (sym all) (All-append (λ (m : Message). place ≤ m.place) own later (λ k d lt. let a = here.above k d lt in omega (arith, a)) (λ k d lt. let b = far k d lt in omega (arith, b)))
 
 -- and lie one behind another.
 pub behind_apart : (sum : List ℕ → ℕ) (size : ℕ) (device : State) (fault : Option IoError) (place : ℕ) (ss : List SegmentParts) (stays : Message → Type 0) (batches : List Batch) (ms : List Message)

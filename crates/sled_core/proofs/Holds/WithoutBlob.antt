@@ -1,28 +1,21 @@
 -- A call that goes on without a blob keeps all that a log held and what it fitted of histories that don't name that: where it is followed by one that keeps all, and where there is no such blob.
-use Rattle.std.proofs.Common.{◌≡◌, ◌∙◌, is_some, false, true, ℕ, ℤ, List, Option, None, Some, Result, Ok, Err, ap, refl, sym, subst, inl, inr, arith}
+use Rattle.std.proofs.Common.{◌≡◌, ◌≤◌, ◌∙◌, is_some, false, true, ℕ, ℤ, List, Option, None, Some, Result, Ok, Err, ap, refl, sym, subst, inl, inr, arith}
 use Rattle.std.specs.Prelude.{IsSome}
 use Rattle.std.specs.declared.io.Error.{Error as IoError}
-use Rattle.sled_codec.specs.declared.result.DiskPtr.{DiskPtr}
-use Rattle.sled_codec.specs.declared.result.DiskPtr.TheVariants.{Inline, Blob}
 use Rattle.sled_codec.specs.declared.result.Error.{Error}
 use Rattle.sled_codec.specs.declared.result.Error.TheVariants as error
-use Rattle.sled_codec.specs.History.{Message}
 use Rattle.sled_store.specs.declared.config.Config.{Config}
 use Rattle.sled_store.specs.Device.{Trace}
 use Rattle.sled_store.specs.Moments.{LeavesOnly}
 use Rattle.sled_store.proofs.PublicLaws.{later_both}
 use Rattle.sled_store.proofs.Traces.MomentLemmas.{joined}
 use Rattle.sled_core.specs.declared.logger.Log.{Log}
-use Rattle.sled_core.specs.declared.reservation.Reservation.{Reservation}
 use Rattle.sled_core.specs.Causes.{FaultAnswers}
-use Rattle.sled_core.specs.Fits.{Awaits, KeepsAll, device_of, fault_of}
+use Rattle.sled_core.specs.Fits.{KeepsAll, device_of, fault_of, kept_batches}
 use Rattle.sled_core.specs.Keeps.{KeepsSeen, Preserves}
-use Rattle.sled_core.specs.OwnBlobs.{PreservesWithout, RemovedAnswers, RemovesBlob, own_blob, own_in}
-use Rattle.sled_core.specs.Reading.{IsInline}
+use Rattle.sled_core.specs.OwnBlobs.{PreservesWithout, RemovedAnswers, RemovesBlob}
 use Rattle.sled_core.specs.Recoverable.{RecoverableIfOwn}
-use Rattle.sled_core.specs.Tickets.{place_of, pointer_of}
 use Rattle.sled_core.proofs.Holds.KeptCalls.{kept_still}
-use Rattle.sled_core.proofs.Holds.ReachLemmas.{awaited}
 use Rattle.sled_core.proofs.Line.LineEnds.{noted_further}
 
 module _ {D C : Type 0} (trace : D → Trace) (sum : List ℕ → ℕ) where
@@ -38,6 +31,7 @@ module _ {D C : Type 0} (trace : D → Trace) (sum : List ℕ → ℕ) where
     history = keeps.history;
     fits = λ H A f U fits beside. keeps.fits H A f U fits;
     noted = keeps.noted;
+    kept = keeps.kept;
   }
 
   -- nothing was done
@@ -58,6 +52,7 @@ module _ {D C : Type 0} (trace : D → Trace) (sum : List ℕ → ℕ) where
     history = λ H holds. then.history H (first.history H holds);
     fits = λ H A f U fits beside. then.fits H A f U (first.fits H A f U fits beside);
     noted = noted_further old mid new then.goes_on.stable first.noted then.noted;
+    kept = let before = first.kept in let after = then.kept in omega (arith, before, after);
   }
 
   -- without a blob all is kept
@@ -74,14 +69,8 @@ module _ {D C : Type 0} (trace : D → Trace) (sum : List ℕ → ℕ) where
     history = keeps.history;
     fits = λ H A f U fits. keeps.fits H A f U fits (λ m there. tt);
     noted = keeps.noted;
+    kept = keeps.kept;
   }
-
--- The ticket of a message that has its item in its record has no blob of its own.
-pub inline_alone : {D C : Type 0} (log : Log D C) (ticket : Reservation) (m : Message) → Awaits log ticket m → IsInline m.pointer → own_blob ticket ≡ None
-inline_alone log ticket m awaits inline = by (pointer_of ticket) (subst IsInline (awaited log ticket m awaits).1 inline) where
-  by : (pointer : DiskPtr) → IsInline pointer → own_in (place_of ticket) pointer ≡ None
-  by (Inline lid) is = refl
-  by (Blob lid place) is = absurd is
 
 -- Where there is no such blob, the call fails only where the log keeps a failure, and leaves what that is;
 pub alone_answers : {T : Type 0} (result : Result T Error) (blob : Option ℤ) (old new : Option IoError) (before after : ℕ) → blob ≡ None → RemovedAnswers result blob old new before after → FaultAnswers result old × (new ≡ old)
@@ -99,8 +88,8 @@ alone_answers (Err (error.ReportableBug text)) blob old new before after none an
 alone_answers (Err (error.Held at)) blob old new before after none answers = absurd answers
 
 -- it asks nothing of the device, so what runs the log stays;
-pub alone_keeps : {T D C : Type 0} (trace : D → Trace) (result : Result T Error) (blob : Option ℤ) (old new : Log D C) → blob ≡ None → RemovesBlob trace result blob old new → KeepsSeen old new → fault_of new ≡ fault_of old → KeepsAll old new
-alone_keeps trace result blob old new none removes seen fault = record { config = removes.none none; synced = seen.synced; noted = seen.noted; fault = fault; pins = seen.pins }
+pub alone_keeps : {T D C : Type 0} (trace : D → Trace) (result : Result T Error) (blob : Option ℤ) (old new : Log D C) → blob ≡ None → RemovesBlob trace result blob old new → KeepsSeen old new → kept_batches new ≤ kept_batches old → fault_of new ≡ fault_of old → KeepsAll old new
+alone_keeps trace result blob old new none removes seen kept fault = record { config = removes.none none; synced = seen.synced; noted = seen.noted; kept = kept; fault = fault; pins = seen.pins }
 
 -- and a log that keeps a failure is as it was.
 pub alone_same : {D C : Type 0} (T : Type 0) (old new : Log D C) (e : Error) → FaultAnswers {T = T} (Err e) (fault_of old) → (IsSome (fault_of old) → new ≡ old) → new ≡ old

@@ -1,5 +1,5 @@
 -- What an iterator gives of the records of one segment: the messages of the history below its end, but for those whose blob is missing.
-use Rattle.std.proofs.Common.{⊎_elim, ◌≡◌, ◌∙◌, ◌⊎◌, ◌+◌, ◌<◌, ◌≤◌, ◌==◌, ◌||◌, nat_le, ℕ, ℤ, pos, Bool, true, false, is_some, if◌then◌else◌, List, [], ◌∷◌, ◌++◌, map, Option, Some, refl, sym, ap, subst, arith, inl, inr}
+use Rattle.std.proofs.Common.{⊎_elim, ◌≡◌, ◌∙◌, ◌⊎◌, ◌+◌, ◌<◌, ◌≤◌, ◌==◌, ◌||◌, nat_le, ℕ, ℤ, pos, Bool, true, false, is_some, if◌then◌else◌, List, [], ◌∷◌, ◌++◌, map, Option, Some, None, refl, sym, ap, subst, arith, inl, inr}
 use Rattle.std.specs.Bool.{MatchBool}
 use Rattle.std.specs.List.{Contains}
 use Rattle.std.proofs.lemmas.Bool.{cases_lt}
@@ -17,7 +17,7 @@ use Rattle.sled_store.proofs.Segments.Elements.{in_first, in_rest, in_cases, in_
 use Rattle.sled_core.specs.declared.iterator.scan.ScannedRecord.{ScannedRecord}
 use Rattle.sled_core.specs.declared.iterator.scan.RecordContent.{RecordContent}
 use Rattle.sled_core.specs.declared.iterator.scan.RecordContent.TheVariants.{Gives, NamesBlob, Skipped, BatchStart}
-use Rattle.sled_core.specs.Iterates.{Item, items_of, stops, GivesOf}
+use Rattle.sled_core.specs.Iterates.{Item, Damage, items_of, stops, GivesOf}
 use Rattle.sled_core.specs.OnFile.{HasBlobThere, item_of}
 use Rattle.sled_core.specs.Recoverable.{MeetsMessage, NamesBlobOf, IsOfHistory, PassesIfThere}
 use Rattle.sled_core.specs.Replayed.{HasBadBlob, with_blob}
@@ -54,15 +54,19 @@ no_message x what is m meets not_given not_named = elim meets.what [
   | inr names ↦ not_named names.0 m.page names.1 names.2 (sym is ∙ names.5)
 ]
 
+-- no damage is met
+abbrev undamaged : Damage
+undamaged = None
+
 -- Given is what this gives, behind which that is given.
 module _ (sum : List ℕ → ℕ) (size : ℕ) (log : List ℕ) (blobs : ℤ → Option (List ℕ)) (H : History) (ordered : Ascends H.messages) (good : (n : Message) → Contains H.messages n → PassesIfThere sum blobs n n.pointer)
-    (end : ℕ) (closed : (b : Batch) → Contains H.batches b → b.low < end → b.peg < end) (on : List Item → Bool → Type 0) (rest : List Item) (goes : on rest false) (to : ℕ) (last : end < to → rest ≡ []) where
+    (end : ℕ) (closed : (b : Batch) → Contains H.batches b → b.low < end → b.peg < end) (on : List Item → Damage → Type 0) (rest : List Item) (goes : on rest None) (to : ℕ) (last : end < to → rest ≡ []) where
   -- These are the messages of the history that are given of records which lie from one place up to another: all that are met below the end, but for those whose blob is missing.
   pub record AreGiven (from : ℕ) (ms : List ScannedRecord) (L : List Message) : Type 0 where
     pub of : (m : Message) → Contains L m → Contains H.messages m × (from ≤ m.place) × (m.place < to) × (m.place < end) × HasBlobThere blobs m.pointer
     pub ascends : Ascends L
     pub all : (x : ScannedRecord) (m : Message) → Contains ms x → Contains H.messages m → MeetsMessage x m → m.place < end → HasBlobThere blobs m.pointer → Contains L m
-    pub gives : GivesOf sum blobs end ms on (map item_of L ++ rest) false
+    pub gives : GivesOf sum blobs end ms on (map item_of L ++ rest) None
 
   -- a record of the history
   abbrev IsKnown : ScannedRecord → Type 0
@@ -90,8 +94,8 @@ module _ (sum : List ℕ → ℕ) (size : ℕ) (log : List ℕ) (blobs : ℤ →
   -- what is given of a record that doesn't stop an iterator, and of those behind it
   abbrev Passed : ScannedRecord → List ScannedRecord → List Item → Type 0
   Passed x ms items =
-      (HasBadBlob sum blobs x.what × (items ≡ []) × (false ≡ true))
-      ⊎ ((HasBadBlob sum blobs x.what → ⊥) × ((others : List Item) × (items ≡ items_of x (with_blob blobs x.what) ++ others) × GivesOf sum blobs end ms on others false))
+      (HasBadBlob sum blobs x.what × (items ≡ []) × ⊥)
+      ⊎ ((HasBadBlob sum blobs x.what → ⊥) × ((others : List Item) × (items ≡ items_of x (with_blob blobs x.what) ++ others) × GivesOf sum blobs end ms on others None))
 
   -- One record more.
   module _ (from : ℕ) (x : ScannedRecord) (ms : List ScannedRecord) (stand : Stand from (x ∷ ms) to) (known : IsKnown x) where
@@ -108,16 +112,16 @@ module _ (sum : List ℕ → ℕ) (size : ℕ) (log : List ℕ) (blobs : ℤ →
               let bounds = stand_in x.place (x ∷ ms) to (omega arith, stand.1, stand.2) y there in
               let place = meets.place in
               absurd (omega (arith, over, bounds.0, place, under));
-          gives = subst (λ b. MatchBool b ((rest ≡ []) × (false ≡ false)) (Passed x ms rest)) (sym stops_here) (last (omega (arith, over, first.1, first.2)), refl);
+          gives = subst (λ b. MatchBool b ((rest ≡ []) × (undamaged ≡ undamaged)) (Passed x ms rest)) (sym stops_here) (last (omega (arith, over, first.1, first.2)), refl);
         }
 
     module _ (under : x.place < end) (L : List Message) (are : AreGiven (x.place + x.len) ms L) where
       -- this is given of it and of those behind it
-      on_given : (items : List Item) → Passed x ms items → GivesOf sum blobs end (x ∷ ms) on items false
+      on_given : (items : List Item) → Passed x ms items → GivesOf sum blobs end (x ∷ ms) on items None
       on_given items passed =
           let test : nat_le end x.place ≡ false = grind (arith, nat_tests, under) in
           let goes_on : stops end x ≡ false = ap (λ b. b || opens end x.what) test ∙ not_open x known.0 under in
-          subst (λ b. MatchBool b ((items ≡ []) × (false ≡ false)) (Passed x ms items)) (sym goes_on) passed
+          subst (λ b. MatchBool b ((items ≡ []) × (undamaged ≡ undamaged)) (Passed x ms items)) (sym goes_on) passed
 
       -- with which nothing is given
       passed_by : items_of x (with_blob blobs x.what) ≡ [] → ((m : Message) → Contains H.messages m → MeetsMessage x m → HasBlobThere blobs m.pointer → ⊥) → AreGiven from (x ∷ ms) L

@@ -169,4 +169,4 @@ module _ {D C : Type 0} (trace : D → Trace) (sum : List ℕ → ℕ) (log : Lo
     gives_messages lsn it over =
         let given = gives_on_file sum size state.log.bytes some H apart_messages (stable_below fits.reach H.batches) first fits.reach among.stands (stable_end log) is_end m slots state.blobs.file good (begins_from size lsn)
         (mul-mod_left (place_of_mark lsn / size) size) over.0 over.1 in
-        (given.0, given.1, over.2 (map item_of given.0) false given.2)
+        (given.0, given.1, over.2 (map item_of given.0) None given.2)

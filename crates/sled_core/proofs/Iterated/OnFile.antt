@@ -17,7 +17,7 @@ use Rattle.sled_core.specs.declared.iterator.Segment.{Segment}
 use Rattle.sled_core.specs.declared.iterator.scan.ScannedRecord.{ScannedRecord}
 use Rattle.sled_core.specs.declared.iterator.scan.ScanEnd.{ScanEnd}
 use Rattle.sled_core.specs.declared.iterator.scan.ScanEnd.TheVariants.{Full, Capped, Broken}
-use Rattle.sled_core.specs.Iterates.{Item, HasItsHeader, GivesOf, GivesBehind, IsIteration}
+use Rattle.sled_core.specs.Iterates.{Item, Damage, HasItsHeader, GivesOf, GivesBehind, IsIteration}
 use Rattle.sled_core.specs.LogSegments.{AreSegments}
 use Rattle.sled_core.specs.OnFile.{HasBlobThere, item_of, AreOnFile}
 use Rattle.sled_core.specs.Reached.{StandsTo}
@@ -65,7 +65,7 @@ none_too None P holds = holds
 none_too (Some at) P holds = tt
 
 -- Behind a segment that leads on, or behind which nothing is given, that is given which is given of the others.
-behind_goes : (why : ScanEnd) (on : List Item → Bool → Type 0) (items : List Item) → (why ≢ Broken) ⊎ (items ≡ []) → on items false → GivesBehind true why on items false
+behind_goes : (why : ScanEnd) (on : List Item → Damage → Type 0) (items : List Item) → (why ≢ Broken) ⊎ (items ≡ []) → on items None → GivesBehind true why on items None
 behind_goes Full on items goes given = given
 behind_goes Capped on items goes given = given
 behind_goes Broken on items (inl leads) given = absurd (leads refl)
@@ -91,7 +91,7 @@ module _ (sum : List ℕ → ℕ) (size : ℕ) (log : List ℕ) (some : 256 ≤ 
     pub of : (n : Message) → Contains L n → Contains H.messages n × (n.place < end) × HasBlobThere blobs n.pointer × ((s : Segment) × Contains ss s × (n.place / size * size ≡ s.place))
     pub ascends : Ascends L
     pub all : (s : Segment) (n : Message) → Contains ss s → Contains H.messages n → n.place / size * size ≡ s.place → n.place < end → HasBlobThere blobs n.pointer → Contains L n
-    pub gives : IsIteration sum size log blobs end true ss (map item_of L) false
+    pub gives : IsIteration sum size log blobs end true ss (map item_of L) None
 
   -- One segment more.
   module _ (s : Segment) (ss : List Segment) (first : CanBeGivenOf s) (each : (u : Segment) → Contains ss u → CanBeGivenOf u) (rises : (u : Segment) → Contains ss u → s.place < u.place) (L : List Message) (are : AreGivenOf ss L) where
@@ -104,7 +104,7 @@ module _ (sum : List ℕ → ℕ) (size : ℕ) (log : List ℕ) (some : 256 ≤ 
     to = s.place + r.stop
 
     -- what is given behind it
-    abbrev On : List Item → Bool → Type 0
+    abbrev On : List Item → Damage → Type 0
     On = GivesBehind true r.why (IsIteration sum size log blobs end true ss)
 
     -- the records that are met in it
@@ -148,7 +148,7 @@ module _ (sum : List ℕ → ℕ) (size : ℕ) (log : List ℕ) (some : 256 ≤ 
     known x there = let at = path_to sum size log s.slot s.place 20 r.met r.stop path x there in met_inline sum size log blobs (s.slot + at.1) (s.place / size) x at.2.3
 
     -- what is given of the others is given behind it
-    goes : On (map item_of L) false
+    goes : On (map item_of L) None
     goes = behind_goes r.why (IsIteration sum size log blobs end true ss) (map item_of L) leads are.gives
 
     -- these are given of its records
@@ -191,7 +191,7 @@ module _ (sum : List ℕ → ℕ) (size : ℕ) (log : List ℕ) (some : 256 ≤ 
         gives =
             let x : Scanned = record { segment = s; met = r.met; stop = r.stop; why = r.why } in
             let replayed : IsReplayed sum size log end x = (r.read.0, none_too (open_at end r.met) _ r.read.1) in
-            let items = subst (λ (l : List Item). GivesOf sum blobs end r.met On l false) (sym (map-append item_of own L)) is.gives in
+            let items = subst (λ (l : List Item). GivesOf sum blobs end r.met On l None) (sym (map-append item_of own L)) is.gives in
             inr (λ missing. missing first.header, inr (x, refl, replayed, items));
       }
 
@@ -260,7 +260,7 @@ module _ (sum : List ℕ → ℕ) (size : ℕ) (log : List ℕ) (some : 256 ≤ 
       }
 
   -- An iterator gives the messages of the history that are on file.
-  pub gives_on_file : (ms : List Message) × AreOnFile size m blobs H from end ms × IsIteration sum size log blobs end true ss (map item_of ms) false
+  pub gives_on_file : (ms : List Message) × AreOnFile size m blobs H from end ms × IsIteration sum size log blobs end true ss (map item_of ms) None
   gives_on_file =
       let given = given_of sum size log some H lie reach blobs good end is_end.closed ss (listed_rises size m from end ss are slots.one) can_be_given in
       let L : List Message = given.0 in

@@ -6,9 +6,9 @@ use Rattle.sled_core.specs.declared.iterator.scan.ScannedRecord.{ScannedRecord}
 use Rattle.sled_core.specs.declared.iterator.scan.ScanEnd.{ScanEnd}
 use Rattle.sled_core.specs.Reading.{IsMalformed}
 use Rattle.sled_core.specs.Scan.{IsPath, IsEnd, IsScan}
-use Rattle.sled_core.specs.Replayed.{IsReplayed, HasBadBlob, with_blob, IsDamagedBefore}
+use Rattle.sled_core.specs.Replayed.{IsReplayed, HasBadBlob, NamesBlobOf, with_blob, IsDamagedBefore}
 use Rattle.sled_core.specs.Tail.{Scanned, opens, open_at}
-use Rattle.sled_core.specs.Iterates.{Item, items_of, stops, GivesOf}
+use Rattle.sled_core.specs.Iterates.{Item, Damage, IsNamed, items_of, stops, GivesOf}
 use Rattle.sled_core.proofs.Tail.OneReading.{one_met, met_formed, no_end_at, end_formed, one_scan, path_begins}
 
 -- what holds by a test, where another thing does in the second case
@@ -53,49 +53,49 @@ module _ (sum : List ℕ → ℕ) (size : ℕ) (log : List ℕ) (end slot place 
   abbrev Ends : List ScannedRecord → ℕ → ScanEnd → Type 0
   Ends ms stop why = IfNone (open_at end ms) (IsEnd sum size log slot place stop why)
 
-  module _ (blobs : ℤ → Option (List ℕ)) (on : List Item → Bool → Type 0) where
+  module _ (blobs : ℤ → Option (List ℕ)) (on : List Item → Damage → Type 0) where
     -- what is given of one reading is given of another one
     gives_of_other : (at : ℕ) (ms : List ScannedRecord) (stop : ℕ) (why : ScanEnd) (ns : List ScannedRecord) (last : ℕ) (reason : ScanEnd) → Path at ms stop → Ends ms stop why → Path at ns last → Ends ns last reason
-        → (items : List Item) (damaged : Bool) → GivesOf sum blobs end ns on items damaged → GivesOf sum blobs end ms on items damaged
-    gives_of_other at [] stop why [] last reason path ends other behind items damaged gives = gives
-    gives_of_other at [] stop why (n ∷ ns) last reason path ends other behind items damaged gives =
+        → (items : List Item) (damage : Damage) → GivesOf sum blobs end ns on items damage → GivesOf sum blobs end ms on items damage
+    gives_of_other at [] stop why [] last reason path ends other behind items damage gives = gives
+    gives_of_other at [] stop why (n ∷ ns) last reason path ends other behind items damage gives =
         absurd (no_end_at sum size log slot place at n why other.0 other.2 (subst (λ k. IsEnd sum size log slot place k why) path ends))
-    gives_of_other at (m ∷ ms) stop why [] last reason path ends other behind items damaged gives =
+    gives_of_other at (m ∷ ms) stop why [] last reason path ends other behind items damage gives =
         absurd (no_end_at sum size log slot place at m reason path.0 path.2 (subst (λ k. IsEnd sum size log slot place k reason) other behind))
-    gives_of_other at (m ∷ ms) stop why (n ∷ ns) last reason path ends other behind items damaged gives =
+    gives_of_other at (m ∷ ms) stop why (n ∷ ns) last reason path ends other behind items damage gives =
         let same : n ≡ m = one_met sum size log (slot + at) (place / size) n other.2 m path.2 (other.1 ∙ sym path.1) in
         let len : at + n.len ≡ at + m.len = ap (λ (y : ScannedRecord). at + y.len) same in
-        let here : GivesOf sum blobs end (m ∷ ns) on items damaged = subst (λ (y : ScannedRecord). GivesOf sum blobs end (y ∷ ns) on items damaged) same gives in
+        let here : GivesOf sum blobs end (m ∷ ns) on items damage = subst (λ (y : ScannedRecord). GivesOf sum blobs end (y ∷ ns) on items damage) same gives in
         let Left : List ScannedRecord → Type 0 = λ ks.
-        (HasBadBlob sum blobs m.what × (items ≡ []) × (damaged ≡ true))
-        ⊎ ((HasBadBlob sum blobs m.what → ⊥) × ((rest : List Item) × (items ≡ items_of m (with_blob blobs m.what) ++ rest) × GivesOf sum blobs end ks on rest damaged)) in
-        second_case (stops end m) ((items ≡ []) × (damaged ≡ false)) (Left ns) (Left ms)
+        (HasBadBlob sum blobs m.what × (items ≡ []) × IsNamed (NamesBlobOf sum blobs m.what) damage)
+        ⊎ ((HasBadBlob sum blobs m.what → ⊥) × ((rest : List Item) × (items ≡ items_of m (with_blob blobs m.what) ++ rest) × GivesOf sum blobs end ks on rest damage)) in
+        second_case (stops end m) ((items ≡ []) × (damage ≡ None)) (Left ns) (Left ms)
         (λ end_not left. let is = no_stop end m end_not in by is left
         (λ rest. gives_of_other (at + m.len) ms stop why ns last reason path.3 (shut end m ms (IsEnd sum size log slot place stop why) is ends)
         (subst (λ k. Path k ns last) len other.3)
-        (shut end n ns (IsEnd sum size log slot place last reason) (ap (λ (y : ScannedRecord). opens end y.what) same ∙ is) behind) rest damaged))
+        (shut end n ns (IsEnd sum size log slot place last reason) (ap (λ (y : ScannedRecord). opens end y.what) same ∙ is) behind) rest damage))
         here
       where
         by : opens end m.what ≡ false
-            → (HasBadBlob sum blobs m.what × (items ≡ []) × (damaged ≡ true)) ⊎ ((HasBadBlob sum blobs m.what → ⊥) × ((rest : List Item) × (items ≡ items_of m (with_blob blobs m.what) ++ rest) × GivesOf sum blobs end ns on rest damaged))
-            → ((rest : List Item) → GivesOf sum blobs end ns on rest damaged → GivesOf sum blobs end ms on rest damaged)
-            → (HasBadBlob sum blobs m.what × (items ≡ []) × (damaged ≡ true)) ⊎ ((HasBadBlob sum blobs m.what → ⊥) × ((rest : List Item) × (items ≡ items_of m (with_blob blobs m.what) ++ rest) × GivesOf sum blobs end ms on rest damaged))
+            → (HasBadBlob sum blobs m.what × (items ≡ []) × IsNamed (NamesBlobOf sum blobs m.what) damage) ⊎ ((HasBadBlob sum blobs m.what → ⊥) × ((rest : List Item) × (items ≡ items_of m (with_blob blobs m.what) ++ rest) × GivesOf sum blobs end ns on rest damage))
+            → ((rest : List Item) → GivesOf sum blobs end ns on rest damage → GivesOf sum blobs end ms on rest damage)
+            → (HasBadBlob sum blobs m.what × (items ≡ []) × IsNamed (NamesBlobOf sum blobs m.what) damage) ⊎ ((HasBadBlob sum blobs m.what → ⊥) × ((rest : List Item) × (items ≡ items_of m (with_blob blobs m.what) ++ rest) × GivesOf sum blobs end ms on rest damage))
         by is (inl bad) more = inl bad
         by is (inr (fine, (rest, parts, gives))) more = inr (fine, (rest, parts, more rest gives))
 
-  module _ (blobs : ℤ → Option (List ℕ)) (some : List Item → Bool → Type 0) (others : List Item → Bool → Type 0) where
+  module _ (blobs : ℤ → Option (List ℕ)) (some : List Item → Damage → Type 0) (others : List Item → Damage → Type 0) where
     -- what is given behind these records may be said in another way, where no batch among them is open
-    pub gives_as : (ms : List ScannedRecord) → IfNone (open_at end ms) ((items : List Item) (damaged : Bool) → some items damaged → others items damaged)
-        → (items : List Item) (damaged : Bool) → GivesOf sum blobs end ms some items damaged → GivesOf sum blobs end ms others items damaged
-    gives_as [] so items damaged gives = so items damaged gives
-    gives_as (m ∷ ms) so items damaged gives =
-        let Left : (List Item → Bool → Type 0) → Type 0 = λ on.
-        (HasBadBlob sum blobs m.what × (items ≡ []) × (damaged ≡ true))
-        ⊎ ((HasBadBlob sum blobs m.what → ⊥) × ((rest : List Item) × (items ≡ items_of m (with_blob blobs m.what) ++ rest) × GivesOf sum blobs end ms on rest damaged)) in
-        second_case (stops end m) ((items ≡ []) × (damaged ≡ false)) (Left some) (Left others)
+    pub gives_as : (ms : List ScannedRecord) → IfNone (open_at end ms) ((items : List Item) (damage : Damage) → some items damage → others items damage)
+        → (items : List Item) (damage : Damage) → GivesOf sum blobs end ms some items damage → GivesOf sum blobs end ms others items damage
+    gives_as [] so items damage gives = so items damage gives
+    gives_as (m ∷ ms) so items damage gives =
+        let Left : (List Item → Damage → Type 0) → Type 0 = λ on.
+        (HasBadBlob sum blobs m.what × (items ≡ []) × IsNamed (NamesBlobOf sum blobs m.what) damage)
+        ⊎ ((HasBadBlob sum blobs m.what → ⊥) × ((rest : List Item) × (items ≡ items_of m (with_blob blobs m.what) ++ rest) × GivesOf sum blobs end ms on rest damage)) in
+        second_case (stops end m) ((items ≡ []) × (damage ≡ None)) (Left some) (Left others)
         (λ end_not left. elim left [
           | inl bad ↦ inl bad
-          | inr on ↦ inr (on.0, (on.1.0, on.1.1, gives_as ms (shut end m ms ((is : List Item) (d : Bool) → some is d → others is d) (no_stop end m end_not) so) on.1.0 damaged on.1.2))
+          | inr on ↦ inr (on.0, (on.1.0, on.1.1, gives_as ms (shut end m ms ((is : List Item) (d : Damage) → some is d → others is d) (no_stop end m end_not) so) on.1.0 damage on.1.2))
         ])
         gives
 
@@ -116,6 +116,24 @@ module _ (sum : List ℕ → ℕ) (size : ℕ) (log : List ℕ) (end slot place 
       undamaged (at + m.len) ms stop why ns next path.3 (shut end m ms (IsEnd sum size log slot place stop why) (ap (λ (y : ScannedRecord). opens end y.what) (sym same) ∙ parts.0) ends)
       (subst (λ k. Path k ns next) len other.3) parts.1 room bad
 
+  -- and all damaged records stand at one offset, behind the same records
+  same_damage : (at : ℕ) (ms : List ScannedRecord) (stop : ℕ) (ns : List ScannedRecord) (next : ℕ) → Path at ms stop → IsMalformed sum size log (slot + stop) (place / size)
+      → Path at ns next → IsMalformed sum size log (slot + next) (place / size) → (ms ≡ ns) × (stop ≡ next)
+  same_damage at [] stop [] next path bad other worse = (refl, path ∙ sym other)
+  same_damage at [] stop (n ∷ ns) next path bad other worse =
+      absurd (met_formed sum size log (slot + at) (place / size) n other.2 (subst (λ k. IsMalformed sum size log (slot + k) (place / size)) path bad))
+  same_damage at (m ∷ ms) stop [] next path bad other worse =
+      absurd (met_formed sum size log (slot + at) (place / size) m path.2 (subst (λ k. IsMalformed sum size log (slot + k) (place / size)) other worse))
+  same_damage at (m ∷ ms) stop (n ∷ ns) next path bad other worse =
+      let same : n ≡ m = one_met sum size log (slot + at) (place / size) n other.2 m path.2 (other.1 ∙ sym path.1) in
+      let len : at + n.len ≡ at + m.len = ap (λ (y : ScannedRecord). at + y.len) same in
+      let more = same_damage (at + m.len) ms stop ns next path.3 bad (subst (λ k. Path k ns next) len other.3) worse in
+      (ap (λ (l : List ScannedRecord). m ∷ l) more.0 ∙ ap (λ (y : ScannedRecord). y ∷ ns) (sym same), more.1)
+
+-- Of a segment one damaged record can be met.
+pub one_damage : (sum : List ℕ → ℕ) (size : ℕ) (log : List ℕ) (end : ℕ) (s : Segment) (d e : IsDamagedBefore sum size log end s) → (d.met ≡ e.met) × (d.next ≡ e.next)
+one_damage sum size log end s d e = same_damage sum size log end s.slot s.place 20 d.met d.next e.met e.next d.path d.damaged e.path e.damaged
+
 module _ (sum : List ℕ → ℕ) (size : ℕ) (log : List ℕ) (end : ℕ) (x : Scanned) (s : Segment) (at : x.segment ≡ s) (read : IsReplayed sum size log end x) where
   -- a segment that is read so has no damaged record before a batch that is open
   pub replayed_undamaged : IsDamagedBefore sum size log end s → ⊥
@@ -124,11 +142,11 @@ module _ (sum : List ℕ → ℕ) (size : ℕ) (log : List ℕ) (end : ℕ) (x :
       undamaged sum size log end x.segment.slot x.segment.place 20 x.met x.stop x.why here.met here.next read.0 read.1 here.path here.not_open here.room here.damaged
 
   -- and gives what any other reading gives
-  pub replayed_gives : (blobs : ℤ → Option (List ℕ)) (on : List Item → Bool → Type 0) (y : Scanned) → y.segment ≡ s → IsReplayed sum size log end y
-      → (items : List Item) (damaged : Bool) → GivesOf sum blobs end y.met on items damaged → GivesOf sum blobs end x.met on items damaged
-  replayed_gives blobs on y other again items damaged gives =
+  pub replayed_gives : (blobs : ℤ → Option (List ℕ)) (on : List Item → Damage → Type 0) (y : Scanned) → y.segment ≡ s → IsReplayed sum size log end y
+      → (items : List Item) (damage : Damage) → GivesOf sum blobs end y.met on items damage → GivesOf sum blobs end x.met on items damage
+  replayed_gives blobs on y other again items damage gives =
       let there = subst (λ (t : Segment). IsPath sum size log t.slot t.place 20 y.met y.stop × IfNone (open_at end y.met) (IsEnd sum size log t.slot t.place y.stop y.why)) (other ∙ sym at) again in
-      gives_of_other sum size log end x.segment.slot x.segment.place blobs on 20 x.met x.stop x.why y.met y.stop y.why read.0 read.1 there.0 there.1 items damaged gives
+      gives_of_other sum size log end x.segment.slot x.segment.place blobs on 20 x.met x.stop x.why y.met y.stop y.why read.0 read.1 there.0 there.1 items damage gives
 
   -- no batch is open in the one where none is in the other, and then both end for one reason
   pub replayed_ends : (y : Scanned) → y.segment ≡ s → IsReplayed sum size log end y → IfNone (open_at end x.met) (y.why ≡ x.why)

@@ -5,12 +5,14 @@ use Rattle.sled_codec.specs.declared.serialization.message.MessageHeader.{Messag
 use Rattle.sled_codec.specs.Places.{part}
 use Rattle.sled_core.specs.declared.iterator.scan.ScannedRecord.{ScannedRecord}
 use Rattle.sled_core.specs.declared.iterator.scan.ScanEnd.{ScanEnd}
+use Rattle.sled_core.specs.declared.iterator.scan.SegmentScan.{SegmentScan}
 use Rattle.sled_core.specs.declared.iterator.scan.ScanEnd.TheVariants.{Full, Capped, Broken}
 use Rattle.sled_core.specs.declared.logger.read_at.BasedBuf.{BasedBuf}
 use Rattle.sled_core.specs.Reading.{IsMalformed, StandsAt, file_of}
 use Rattle.sled_core.specs.Scan.{IsMet, EndsThere, IsPath, IsEnd, IsScan, IsDamagedIn}
 use Rattle.sled_core.specs.declared.iterator.Segment.{Segment}
 use Rattle.sled_core.proofs.Read.ScanLemmas.{aligned_offset}
+use Rattle.sled_core.specs.Ahead.{IsDamagedBehind}
 use Rattle.sled_core.specs.Replayed.{CanBeRead, IsDamagedBefore}
 use Rattle.sled_core.specs.Tail.{open_at}
 
@@ -185,3 +187,21 @@ module _ (sum : List ℕ → ℕ) (size : ℕ) (s : Segment) (log : List ℕ) (b
           room = d.room;
           damaged = damaged_at sum size s.slot ready.aligned alone_file log there back d.next (s.place / size) (omega (arith, room)) d.damaged;
         }
+
+    pub damaged_behind_whole : (end : ℕ) (scan : SegmentScan) → IsDamagedBehind sum own (file_of b) end s scan → IsDamagedBehind sum size log end s scan
+    damaged_behind_whole end scan bad =
+        let there = in_file size s.slot log ready.inside in
+        let back = in_buffer size s.slot log ready.inside in
+        let d = alone_so (λ n l. IsDamagedBehind sum n l end s scan) bad in
+        let room = d.0.room in (
+          record {
+            met = d.0.met;
+            next = d.0.next;
+            path = path_in sum size s.slot ready.aligned alone_file log there back s.place 20 d.0.met d.0.next d.0.path;
+            not_open = d.0.not_open;
+            room = d.0.room;
+            damaged = damaged_at sum size s.slot ready.aligned alone_file log there back d.0.next (s.place / size) (omega (arith, room)) d.0.damaged;
+          },
+          d.1,
+          d.2,
+        )

@@ -1,14 +1,16 @@
 -- What comes of a record that has its turn, and what an error says.
-use Rattle.std.proofs.Common.{◌≡◌, ◌∙◌, ℕ, ℤ, Bool, true, List, [], Option, Some, None, Result, Ok, Err, OnSome, IfSome, IfNone, refl, sym, ap, subst}
+use Rattle.std.proofs.Common.{◌≡◌, ◌∙◌, ℕ, ℤ, List, Option, Some, None, Result, Ok, Err, OnSome, IfSome, IfNone, refl, sym, ap, subst}
+use Rattle.sled_codec.specs.declared.result.DiskPtr.{DiskPtr}
 use Rattle.sled_codec.specs.declared.result.Error.{Error}
 use Rattle.sled_codec.specs.declared.result.Error.TheVariants as error
 use Rattle.sled_codec.specs.Errors.{IsCorrupt}
+use Rattle.sled_store.specs.Blobs.{OnDamage}
 use Rattle.sled_store.specs.Device.{Trace, state_of}
 use Rattle.sled_core.specs.declared.iterator.scan.ScannedRecord.{ScannedRecord}
 use Rattle.sled_core.specs.declared.iterator.scan.RecordContent.{RecordContent}
 use Rattle.sled_core.specs.declared.iterator.scan.RecordContent.TheVariants.{Gives, NamesBlob, Skipped, BatchStart}
 use Rattle.sled_core.specs.Replayed.{HasBadBlob, with_blob, resolved}
-use Rattle.sled_core.specs.Iterates.{Item, items_of, NextGives, SaysDamage}
+use Rattle.sled_core.specs.Iterates.{Item, Damage, items_of, NextGives, SaysDamage}
 use Rattle.sled_core.specs.Ahead.{those_of}
 
 -- a record with its blob is the message that it is at its own place
@@ -28,22 +30,35 @@ pub fine_still : (sum : List ℕ → ℕ) (t u : Trace) (w : RecordContent) → 
 fine_still sum t u w same fine bad = fine (subst (λ (x : Trace). HasBadBlob sum (state_of x).blobs.file w) (sym same) bad)
 
 -- an error says of damage what is known of it
-pub damage_said : (e : Error) (items : List Item) (damaged : Bool) → (IsCorrupt e → (items ≡ []) × (damaged ≡ true)) → SaysDamage e items damaged
-damage_said (error.Corruption at) items damaged bad = bad tt
-damage_said (error.Unsupported t) items damaged bad = tt
-damage_said (error.Io e) items damaged bad = tt
-damage_said error.OutOfMemory items damaged bad = tt
-damage_said (error.Held n) items damaged bad = tt
-damage_said (error.NotReserved n) items damaged bad = tt
-damage_said error.PlacesUsedUp items damaged bad = tt
-damage_said (error.CollectionNotFound n) items damaged bad = tt
-damage_said (error.ReportableBug t) items damaged bad = tt
+pub damage_said : (e : Error) (items : List Item) (damage : Damage) → (IsCorrupt e → SaysDamage e items damage) → SaysDamage e items damage
+damage_said (error.Corruption at) items damage bad = bad tt
+damage_said (error.Unsupported t) items damage bad = tt
+damage_said (error.Io e) items damage bad = tt
+damage_said error.OutOfMemory items damage bad = tt
+damage_said (error.Held n) items damage bad = tt
+damage_said (error.NotReserved n) items damage bad = tt
+damage_said error.PlacesUsedUp items damage bad = tt
+damage_said (error.CollectionNotFound n) items damage bad = tt
+damage_said (error.ReportableBug t) items damage bad = tt
+
+-- so it does of damage that has a name, where that is known to be so
+pub said_named : (e : Error) (items : List Item) (damage : Damage) {Bad : Type 0} → (IsCorrupt e → Bad) → (Names : Option DiskPtr → Type 0) → OnDamage {T = Unit {0}} (Err e) Names
+    → ((name : Option DiskPtr) → Bad → Names name → SaysDamage (error.Corruption name) items damage) → SaysDamage e items damage
+said_named (error.Corruption at) items damage bad Names named says = says at (bad tt) named
+said_named (error.Unsupported t) items damage bad Names named says = tt
+said_named (error.Io e) items damage bad Names named says = tt
+said_named error.OutOfMemory items damage bad Names named says = tt
+said_named (error.Held n) items damage bad Names named says = tt
+said_named (error.NotReserved n) items damage bad Names named says = tt
+said_named error.PlacesUsedUp items damage bad Names named says = tt
+said_named (error.CollectionNotFound n) items damage bad Names named says = tt
+said_named (error.ReportableBug t) items damage bad Names named says = tt
 
 -- what the next message is, where more is known of what is ahead then
-pub next_as : (ahead after : List Item → Bool → Type 0) → ((items : List Item) (damaged : Bool) → ahead items damaged → after items damaged) → (items : List Item) (damaged : Bool) (r : Option (Result Item Error)) → NextGives ahead items damaged r → NextGives after items damaged r
-next_as ahead after then items damaged None gives = gives
-next_as ahead after then items damaged (Some (Ok item)) gives = (gives.0, gives.1, then gives.0 damaged gives.2)
-next_as ahead after then items damaged (Some (Err e)) gives = gives
+pub next_as : (ahead after : List Item → Damage → Type 0) → ((items : List Item) (damage : Damage) → ahead items damage → after items damage) → (items : List Item) (damage : Damage) (r : Option (Result Item Error)) → NextGives ahead items damage r → NextGives after items damage r
+next_as ahead after then items damage None gives = gives
+next_as ahead after then items damage (Some (Ok item)) gives = (gives.0, gives.1, then gives.0 damage gives.2)
+next_as ahead after then items damage (Some (Err e)) gives = gives
 
 -- what holds where a message or an error came, and where none came
 pub some_as : {X : Type 0} (o : Option X) (P Q : Type 0) → (P → Q) → OnSome o P → OnSome o Q

@@ -1,5 +1,5 @@
 -- A call that writes one buffer behind another, by place, and how far it came.
-use Rattle.std.proofs.Common.{◌≡◌, ◌∙◌, ◌⊎◌, ◌≤◌, ◌<◌, ◌+◌, ℕ, true, false, List, [], ◌∷◌, ◌++◌, length, map, set, Option, None, Some, Err, refl, sym, ap, subst, arith, inl, inr, append_assoc}
+use Rattle.std.proofs.Common.{◌≡◌, ◌∙◌, ◌⊎◌, ◌≤◌, ◌<◌, ◌+◌, ◌*◌, ℕ, zero, suc, true, false, List, [], ◌∷◌, ◌++◌, length, drop, map, set, Option, None, Some, Err, refl, sym, ap, subst, arith, inl, inr, append_assoc, length-append}
 use Rattle.std.specs.List.{Contains}
 use Rattle.std.specs.declared.io.Error.{Error as IoError}
 use Rattle.std.proofs.lemmas.List.{append-nil}
@@ -13,6 +13,7 @@ use Rattle.sled_core.specs.Begun.{SegmentView, segment_view, view_at}
 use Rattle.sled_core.specs.declared.logger.Log.{Log}
 use Rattle.sled_core.specs.Causes.{Answers, HeldAnswers}
 use Rattle.sled_core.specs.Fits.{KeepsTickets, current_begin, device_of, fault_of, holding_below, line_of, start_of, synced_end, waiting_of, writing_below}
+use Rattle.sled_core.specs.Fronts.{syncs}
 use Rattle.sled_core.specs.Keeps.{Preserves, SamePosition}
 use Rattle.sled_core.specs.Marked.{KeepsSegment}
 use Rattle.sled_core.specs.Turned.{IsReadyIn, promoted, ready_below, write_in, written_now}
@@ -80,6 +81,11 @@ module _ {D C : Type 0} (trace : D → Trace) (sum : List ℕ → ℕ) (faults :
     pub left : IsLeft to (waiting_of old) (waiting_of now)
     pub start : start_of now ≡ start_of old
     pub segment : KeepsSegment old now
+    -- so many, each by a write and a sync
+    pub count : ℕ
+    pub gone : waiting_of now ≡ drop count (waiting_of old)
+    pub synced : syncs (trace (device_of now)) ≡ count + syncs (trace (device_of old))
+    pub pairs : length done ≡ 2 * count
 
   pub advanced_still : (log : Log D C) → fault_of log ≡ None → Advanced log log
   advanced_still log fault = record {
@@ -98,6 +104,10 @@ module _ {D C : Type 0} (trace : D → Trace) (sum : List ℕ → ℕ) (faults :
     left = left_all to (waiting_of log);
     start = refl;
     segment = record { place = refl; bytes = refl };
+    count = 0;
+    gone = refl;
+    synced = omega arith;
+    pairs = refl;
   }
 
   -- One more is written.
@@ -123,8 +133,24 @@ module _ {D C : Type 0} (trace : D → Trace) (sum : List ℕ → ℕ) (faults :
         left = left_further to (waiting_of old) (waiting_of mid) (waiting_of new) calls so_far.left step;
         start = written_starts mid new size 0 (first_view mid) 0 refl is ∙ so_far.start;
         segment = segment_further old mid new so_far.segment (segment_written mid new size 0 0 (first_view mid) refl is);
+        count = suc so_far.count;
+        gone = sym (drop_one so_far.count (waiting_of old) step.first (waiting_of new) (sym so_far.gone ∙ step.is));
+        synced = (
+            let one : syncs (trace (device_of new)) ≡ suc (syncs (trace (device_of mid))) = ap syncs came ∙ ap (λ (es : List Event). syncs (after_all es (trace (device_of mid)))) step.calls in
+            let before = so_far.synced in
+            omega (arith, one, before));
+        pairs = (
+            let two : length calls ≡ 2 = ap length step.calls in
+            let before = so_far.pairs in
+            omega (arith, two, before, length-append so_far.done calls));
       }
     where
+      drop_one : (n : ℕ) (xs : List BufferAt) (y : BufferAt) (ys : List BufferAt) → drop n xs ≡ y ∷ ys → drop (suc n) xs ≡ ys
+      drop_one zero [] y ys same = cc
+      drop_one zero (x ∷ xs) y ys same = cc
+      drop_one (suc n) [] y ys same = cc
+      drop_one (suc n) (x ∷ xs) y ys same = drop_one n xs y ys same
+
       by_few : (bs : List BufferAt) → length bs ≤ 0 → bs ≡ []
       by_few [] le = refl
       by_few (b ∷ bs) le = absurd (omega (arith, le))
@@ -149,6 +175,18 @@ module _ {D C : Type 0} (trace : D → Trace) (sum : List ℕ → ℕ) (faults :
       current_writes sum old.config.config.segment_size old.site.place to (first_view old) (views_behind old) (line_segments old) sealed ∙ so_far.whole ∙ ap (λ (es : List Event). so_far.done ++ es) left in
       subst (λ (es : List Event). Performs es (trace (device_of old)) (trace (device_of new))) (sym all)
       (performs_behind so_far.done (calls ++ writes_below to after) _ _ _ so_far.came (performs_more calls (writes_below to after) _ _ most))
+
+  -- So there was a call to make.
+  pub failed_any : (old mid : Log D C) → to ≤ current_begin old → Advanced old mid → ready_below (line_of mid) to ≡ true → writing_below sum old to ≡ [] → ⊥
+  failed_any old mid sealed so_far ready none =
+      let size : ℕ = mid.config.config.segment_size in
+      let step = line_first size mid.site.place to (first_view mid) (views_behind mid) (line_segments mid) ready in
+      let calls : List Event = write_in (line_of mid) 0 0 in
+      let after : List BufferAt = unwritten (promoted size (set (line_of mid) 0 (written_now 0 (first_view mid)))) in
+      let left : writes_below to (waiting_of mid) ≡ calls ++ writes_below to after = first_writes to (waiting_of mid) after calls step in
+      let all : writing_below sum old to ≡ so_far.done ++ (calls ++ writes_below to after) =
+      current_writes sum old.config.config.segment_size old.site.place to (first_view old) (views_behind old) (line_segments old) sealed ∙ so_far.whole ∙ ap (λ (es : List Event). so_far.done ++ es) left in
+      absurd (omega (arith, ap length none, ap length all, ap length step.calls, length-append so_far.done (calls ++ writes_below to after), length-append calls (writes_below to after)))
 
   -- Where there was one at most, and it can be written, none was.
   pub failed_one : (old mid new : Log D C) → Advanced old mid → ready_below (line_of mid) to ≡ true → line_of new ≡ line_of mid → length (waiting_of old) ≤ 1 → synced_end new ≡ synced_end old
@@ -194,7 +232,7 @@ module _ {D C : Type 0} (trace : D → Trace) (sum : List ℕ → ℕ) (faults :
     by_left (inr none) = let some : Some (now.site.place + stuck.from) ≡ None = sym stuck.holds ∙ ap (held_below to) none in cc
 
 -- What a call answers that writes a buffer, in a call that nothing holds up so far.
-pub write_failed : (T S : Type 0) (e : Error) (held : Option ℕ) (used : Type 0) (now : Option IoError) (before mid after : ℕ) → mid ≡ before → Answers {T = T} (Err e) None now mid after → HeldAnswers {T = S} (Err e) held used None now before after
-write_failed T S (Io e) held used now before mid after same answers = subst (λ n. HeldAnswers {T = S} (Err (Io e)) held used None now n after) same answers
-write_failed T S OutOfMemory held used now before mid after same answers = subst (λ n. HeldAnswers {T = S} (Err OutOfMemory) held used None now n after) same answers
-write_failed T S _ held used now before mid after same answers = absurd answers
+pub write_failed : (T S : Type 0) (e : Error) (held : Option ℕ) (used : Type 0) (now : Option IoError) (before mid after : ℕ) → (used → ⊥) → mid ≡ before → Answers {T = T} (Err e) None now mid after → HeldAnswers {T = S} (Err e) held used None now before after
+write_failed T S (Io e) held used now before mid after not same answers = subst (λ n. HeldAnswers {T = S} (Err (Io e)) held used None now n after) same answers
+write_failed T S OutOfMemory held used now before mid after not same answers = (not, answers.0, answers.1, answers.2 ∙ same)
+write_failed T S _ held used now before mid after not same answers = absurd answers

@@ -41,7 +41,7 @@ use Rattle.sled_core.proofs.Line.Closes.{IsClosable, filled_gone, filled_length,
 use Rattle.sled_core.proofs.Line.Ends.{line_holds}
 use Rattle.sled_core.proofs.Line.Facts.{IsSegment, current_facts, nth_facts}
 use Rattle.sled_core.proofs.Line.Last.{All-at_last, last_behind_all, last_get_of, unwritten-append}
-use Rattle.sled_core.proofs.Line.LineEnds.{end_at_last, noted_later, noted_same}
+use Rattle.sled_core.proofs.Line.LineEnds.{end_at_last, kept_same, noted_later, noted_same}
 use Rattle.sled_core.proofs.Line.Moves.{fits_as, holds_as}
 use Rattle.sled_core.proofs.Line.OpenPlaces.{places_begun, places_closed}
 use Rattle.sled_core.proofs.Line.OlderSlots.{begun_handed, entries_handed, newest_low}
@@ -370,7 +370,7 @@ module _ {D C : Type 0} (trace : D → Trace) (sum : List ℕ → ℕ) (old new 
   begins_noted = noted_same old new rest.noted begins_synced
 
   pub begins_same : KeepsAll old new
-  begins_same = record { config = rest.config; synced = begins_synced; noted = begins_noted; fault = rest.fault; pins = rest.pins }
+  begins_same = record { config = rest.config; synced = begins_synced; noted = begins_noted; kept = kept_same old new rest.noted; fault = rest.fault; pins = rest.pins }
 
   facts : IsSegment its_size (old.site.place + length old.behind.items * its_size) (current_of old)
   facts = current_facts old
@@ -411,4 +411,5 @@ module _ {D C : Type 0} (trace : D → Trace) (sum : List ℕ → ℕ) (old new 
         fits = λ H A f' U fits. fits_as trace sum old new rest.config rest.fault (noted_in old) begins_noted _ line _ machine H A f' U rest.pins
             (fits_next sum its_size device (fault_of old) (machine_at old) big old.account.slots first behind closes g.short small lies f.place_small (noted_in old) (pins_of old) H A f' U fits);
         noted = noted_later old new rest.noted (let same = begins_synced in omega (arith, same));
+        kept = kept_same old new rest.noted;
       }

@@ -27,7 +27,7 @@ use Rattle.sled_core.proofs.Blobs.Unnamed.{IsUnnamed}
 use Rattle.sled_core.proofs.Holds.StoredItems.{items_same}
 use Rattle.sled_core.proofs.Holds.ReachLemmas.{fits_reach}
 use Rattle.sled_core.proofs.Holds.RunningLemmas.{fits_leaves}
-use Rattle.sled_core.proofs.Line.DeviceChanged.{device_fits, device_holds, device_noted, device_stable}
+use Rattle.sled_core.proofs.Line.DeviceChanged.{device_fits, device_holds, device_kept, device_noted, device_stable}
 
 -- Where no failure is kept the blob was made, where there was none, or nothing was changed.
 abbrev pub IsMadeOrSame : Option IoError → Trace → Trace → ℤ → List ℕ → Type 0
@@ -105,4 +105,5 @@ module _ {D C : Type 0} (trace : D → Trace) (sum : List ℕ → ℕ) (old new 
     history = holds;
     fits = fits_on;
     noted = device_noted old new rest;
+    kept = device_kept old new rest;
   }

@@ -26,7 +26,7 @@ use Rattle.sled_core.proofs.Blobs.Along.{fits_removed, leaves_removing}
 use Rattle.sled_core.proofs.Blobs.ItemsStay.{items_removed}
 use Rattle.sled_core.proofs.Blobs.Over.{holds_over_names}
 use Rattle.sled_core.proofs.Holds.RunningLemmas.{fits_leaves}
-use Rattle.sled_core.proofs.Line.DeviceChanged.{device_fits, device_holds, device_noted, device_stable}
+use Rattle.sled_core.proofs.Line.DeviceChanged.{device_fits, device_holds, device_kept, device_noted, device_stable}
 use Rattle.sled_core.proofs.Line.MadeAnswers.{kept_by}
 
 -- Where the log keeps no failure behind it, the call was done.
@@ -92,6 +92,7 @@ module _ {D C : Type 0} (trace : D → Trace) (sum : List ℕ → ℕ) (old new 
     history = holds;
     fits = fits_on;
     noted = device_noted old new rest;
+    kept = device_kept old new rest;
   })
 
 -- Which calls that removed a blob, if there was one.

@@ -172,6 +172,7 @@ module _ {D C : Type 0} {trace : D → Trace} {sum : List ℕ → ℕ} {old mid 
     ticket = tt;
     stored = tt;
     manifest = tt;
+    own = tt;
     behind = tt;
     others = (ready_behind None).tickets.awaits;
     answers = blob_refused (reserve_causes trace faults kind page true 8 old made) (IsUsedUpFor old page 8) (IsLeastOpen old) e refl room tries.none answers_old;

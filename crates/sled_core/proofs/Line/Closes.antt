@@ -1,5 +1,5 @@
 -- The segment that is being filled is filled to its end, and its buffer is sealed: the segments hold and fit what they did.
-use Rattle.std.proofs.Common.{◌≡◌, ◌⊎◌, inl, inr, ◌∙◌, ◌<◌, ◌≤◌, ◌+◌, ◌/◌, ◌^◌, ap, sym, refl, arith, subst, ℕ, zero, suc, List, [], ◌∷◌, ◌++◌, length, map, drop, Option, Some, true, false, nat_lt, if◌then◌else◌, Bool, length-append, length-drop}
+use Rattle.std.proofs.Common.{◌≡◌, ◌∙◌, ◌<◌, ◌≤◌, ◌+◌, ◌/◌, ◌^◌, ap, sym, refl, arith, subst, ℕ, zero, suc, List, [], ◌∷◌, ◌++◌, length, map, drop, Option, Some, true, false, nat_lt, if◌then◌else◌, Bool, length-append}
 use Rattle.std.specs.List.{slice_get}
 use Rattle.std.specs.declared.io.Error.{Error as IoError}
 use Rattle.std.proofs.lemmas.Bool.Decides.{nat_tests}
@@ -15,13 +15,14 @@ use Rattle.sled_core.specs.Fits.{HoldsIn, HoldsLine, LogParts, log_parts, parts_
 use Rattle.sled_core.specs.Logged.{logged}
 use Rattle.sled_core.specs.Running.{FitsIn, FitsLine}
 use Rattle.sled_core.specs.SealedBuffers.{seal_at, sealed_count}
-use Rattle.sled_core.specs.Waiting.{at_last, closed_now, filled_now, last_of, sealed_now, with_filling, with_parts}
+use Rattle.sled_core.specs.Waiting.{at_last, closed_now, filled_now, last_of, sealed_now, with_filling}
 use Rattle.sled_core.proofs.Behind.Calls.{behind-filled, behind-sealed, segment-filled}
 use Rattle.sled_core.proofs.Behind.FitsCalls.{behind-fits-filled, behind-fits-sealed}
 use Rattle.sled_core.proofs.Flush.FlushLemmas.{holds_over}
 use Rattle.sled_core.proofs.Holds.HoldsLemmas.{body-append}
 use Rattle.sled_core.proofs.Holds.RunningLemmas.{fits-moved}
-use Rattle.sled_core.proofs.Line.Entered.{IsEntered, LiesBehind, entered_one, unfilled_to}
+use Rattle.sled_core.proofs.Line.Entered.{IsEntered, LiesBehind, unfilled_to}
+use Rattle.sled_core.proofs.Reserve.BeginBelow.{entered_more}
 use Rattle.sled_core.proofs.Line.Last.{by_last}
 use Rattle.sled_core.proofs.Line.Seals.{IsFilledSome, first_sealed}
 use Rattle.sled_core.proofs.Reached.CapStands.{length-segment_rest}
@@ -83,16 +84,11 @@ module _ (sum : List ℕ → ℕ) (size : ℕ) where
       let w : SegmentView = filled_now sum size v in
       end_one w.parts.written_len w.parts.sealed (seal_at (length w.parts.bytes) (drop (sealed_count w.parts.sealed) w.parts.reserved)) ∙ filled_length v short small
 
-  -- Its buffers with an entry begin below a place, where it does.
-  pub closed_entered : (to to' : ℕ) (v : SegmentView) → to ≤ to' → IsEntered to v → v.parts.site.place + begin_of v < to' → IsEntered to' (closed_now sum size v)
-  closed_entered to to' v up entered low = by_filled (λ (x : SegmentView). IsEntered to' (sealed_now x)) v
-      (λ _. one (v.parts.bytes ++ more_of v) (v.parts.reserved ++ padding_at size (length v.parts.bytes) ∷ []))
-      (λ _. one v.parts.bytes v.parts.reserved)
-    where
-      one : (bytes : List ℕ) (rs : List Reserved) → IsEntered to' (sealed_now (with_parts v bytes v.parts.sealed rs))
-      one bytes rs =
-          entered_one to to' v.parts.site.place v.parts.written_len v.parts.sealed v.parts.reserved rs (seal_at (length bytes) (drop (sealed_count v.parts.sealed) rs)) up entered (λ _. low)
-          (omega (arith, length-drop (sealed_count v.parts.sealed) rs))
+  -- Its reservations begin below a place still: what fills it is none.
+  pub closed_entered : (to : ℕ) (v : SegmentView) → IsEntered to v → IsEntered to (closed_now sum size v)
+  closed_entered to v entered = by_filled (λ (x : SegmentView). IsEntered to (sealed_now x)) v
+      (λ _. entered_more to v.parts.site.place v.parts.reserved (padding_at size (length v.parts.bytes)) entered (λ none. absurd (none refl)))
+      (λ _. entered)
 
   -- What fills it begins where its records end, and a place that doesn't lie behind them then lies in front of that, or behind the segment.
   pub closed_records : (v : SegmentView) → length v.parts.bytes ≤ size → IsUnfilled v.parts.filled → length v.parts.bytes ≤ records_end v.parts.reserved (length v.parts.bytes)
@@ -103,10 +99,8 @@ module _ (sum : List ℕ → ℕ) (size : ℕ) where
       let all = subst (λ n. n ≤ records_end v.parts.reserved n) (let long : length v.parts.bytes ≡ size = omega (arith, full, short) in long) whole in
       omega (arith, all, unfilled_to v.parts.filled size unfilled))
 
-  pub closed_ends : (to to' : ℕ) (v : SegmentView) → length v.parts.bytes ≤ size → to ≤ v.parts.site.place + length v.parts.bytes → IsUnfilled v.parts.filled → (to' ≡ to) ⊎ (v.parts.site.place + size < to') → LiesBehind size to' (closed_now sum size v)
-  closed_ends to to' v short low unfilled moved = by_filled (λ (x : SegmentView). LiesBehind size to' (sealed_now x)) v
-      (λ less inside. elim moved [ inl same ↦ omega (arith, same, low) | inr far ↦ absurd (omega (arith, far, inside)) ])
-      (λ full inside. omega (arith, inside, unfilled_to v.parts.filled size unfilled))
+  pub closed_ends : (to : ℕ) (v : SegmentView) → length v.parts.bytes ≤ size → to ≤ v.parts.site.place + length v.parts.bytes → IsUnfilled v.parts.filled → LiesBehind size to (closed_now sum size v)
+  closed_ends to v short low unfilled = by_filled (λ (x : SegmentView). LiesBehind size to (sealed_now x)) v (λ less inside. low) (λ full inside. omega (arith, inside, unfilled_to v.parts.filled size unfilled))
 
   -- A reservation of it that is open is of it still, for the same message.
   get_more : (rs more : List Reserved) (i : ℕ) (r : Reserved) → slice_get rs i ≡ Some r → slice_get (rs ++ more) i ≡ Some r

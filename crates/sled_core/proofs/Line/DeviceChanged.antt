@@ -6,13 +6,13 @@ use Rattle.sled_store.specs.Accounts.{machine_of}
 use Rattle.sled_store.specs.Device.{State, Trace, state_of}
 use Rattle.sled_store.specs.declared.config.Config.{Config}
 use Rattle.sled_core.specs.declared.logger.Log.{Log}
-use Rattle.sled_core.specs.Fits.{Holds, HoldsWith, device_of, fault_of, line_of, machine_at, noted_in, pins_of, segment_size_of, synced_end, written_to}
+use Rattle.sled_core.specs.Fits.{Holds, HoldsWith, device_of, fault_of, kept_batches, line_of, machine_at, noted_in, pins_of, segment_size_of, synced_end, written_to}
 use Rattle.sled_core.specs.Logged.{logged}
 use Rattle.sled_core.specs.OpenBatches.{not_whole}
 use Rattle.sled_core.specs.Running.{Fits, FitsWith}
 use Rattle.sled_core.specs.Turned.{ChangesDevice}
 use Rattle.sled_core.proofs.Line.Faulty.{fits_with_kept, fits_with_same, holds_with_kept, holds_with_same}
-use Rattle.sled_core.proofs.Line.LineEnds.{noted_later, noted_same}
+use Rattle.sled_core.proofs.Line.LineEnds.{kept_same, noted_later, noted_same}
 use Rattle.sled_core.proofs.Line.LogWrites.{same_line}
 
 module _ {D C : Type 0} (old new : Log D C) (rest : ChangesDevice old new) where
@@ -34,6 +34,9 @@ module _ {D C : Type 0} (old new : Log D C) (rest : ChangesDevice old new) where
 
   pub device_noted : noted_in new ≡ not_whole (synced_end new) (noted_in old)
   device_noted = noted_later old new (λ i. (rest.noted i).items) device_stable
+
+  pub device_kept : kept_batches new ≤ kept_batches old
+  device_kept = kept_same old new (λ i. (rest.noted i).items)
 
   module _ (trace : D → Trace) (sum : List ℕ → ℕ) (kept : (fault_of new ≡ fault_of old) ⊎ ((e : IoError) × (fault_of new ≡ Some e))) where
     abbrev after : State

@@ -26,7 +26,7 @@ use Rattle.sled_core.specs.SealedBuffers.{one_ended, one_fewer}
 use Rattle.sled_core.specs.Turned.{ChangesLine, ended_now}
 use Rattle.sled_core.specs.Waiting.{buffer_at, unwritten, unwritten_in, unwritten_of}
 use Rattle.sled_core.proofs.Holds.KeptCalls.{goes_on_quietly}
-use Rattle.sled_core.proofs.Line.LineEnds.{noted_later, noted_same}
+use Rattle.sled_core.proofs.Line.LineEnds.{kept_same, noted_later, noted_same}
 use Rattle.sled_core.proofs.Line.EndedLine.{over_bytes}
 use Rattle.sled_core.proofs.Line.Ends.{set_keeps}
 use Rattle.sled_core.proofs.Line.Facts.{nth_facts}
@@ -121,7 +121,7 @@ module _ {D C : Type 0} (old new : Log D C) (n : ℕ) (v : SegmentView) (there :
   left_ended = noted_later old new rest.noted (let same = synced_ended in omega (arith, same))
 
   pub keeps_ended : KeepsAll old new
-  keeps_ended = record { config = rest.config; synced = synced_ended; noted = noted_ended; fault = rest.fault; pins = rest.pins }
+  keeps_ended = record { config = rest.config; synced = synced_ended; noted = noted_ended; kept = kept_same old new rest.noted; fault = rest.fault; pins = rest.pins }
 
   pub goes_on_ended : (trace : D → Trace) (sum : List ℕ → ℕ) → GoesOn trace sum old new
   goes_on_ended trace sum = goes_on_quietly trace sum old new (record { config = ap (λ (c : RunningConfig D C). c.config) rest.config; checksum = ap (λ (c : RunningConfig D C). c.checksum) rest.config })

@@ -1,7 +1,6 @@
 -- The segments of a log where a reservation of one of them has ended: they are filled as they were; and what code has of one behind the first.
-use Rattle.std.proofs.Common.{◌≡◌, ◌≢◌, ◌∙◌, ◌≤◌, ◌<◌, ◌+◌, ◌-◌, ap, sym, refl, arith, subst, ℕ, zero, suc, Bool, true, false, nat_lt, if◌then◌else◌, List, [], ◌∷◌, ◌++◌, length, drop, set, get_or, Some, length-drop}
+use Rattle.std.proofs.Common.{◌≡◌, ◌≢◌, ◌∙◌, ◌≤◌, ◌<◌, ◌+◌, ◌-◌, ap, sym, refl, arith, subst, ℕ, zero, suc, List, ◌∷◌, ◌++◌, length, set, get_or, Some}
 use Rattle.std.specs.List.{slice_get}
-use Rattle.std.proofs.lemmas.List.{length-set}
 use Rattle.std.proofs.lemmas.Option.{slice_get_within}
 use Rattle.sled_codec.specs.Written.{written}
 use Rattle.sled_codec.specs.Kinds.{code_of}
@@ -12,14 +11,14 @@ use Rattle.sled_core.specs.declared.iobuf.IoBuf.{IoBuf}
 use Rattle.sled_core.specs.declared.iobuf.ReservationState.{ReservationState}
 use Rattle.sled_core.specs.declared.iobuf.ReservationState.TheVariants.{Open, Padding}
 use Rattle.sled_core.specs.declared.iobuf.Reserved.{Reserved}
-use Rattle.sled_core.specs.declared.iobuf.Sealed.{Sealed}
 use Rattle.sled_core.specs.declared.iobuf.SegmentPosition.{SegmentPosition}
 use Rattle.sled_core.specs.declared.logger.Log.{Log}
 use Rattle.sled_core.specs.declared.logger.segments.SegmentBuffer.{SegmentBuffer}
-use Rattle.sled_core.specs.Begun.{AreEntered, AreFilled, SegmentView, line_at, segment_view, view_at}
+use Rattle.sled_core.specs.Begun.{AreFilled, SegmentView, line_at, segment_view, view_at}
+use Rattle.sled_core.proofs.Reserve.BeginBelow.{entered_ended}
 use Rattle.sled_core.specs.Buffers.{IsHeaded, body_in, canceling, completing, ended, ending, marking}
 use Rattle.sled_core.specs.Fits.{line_of}
-use Rattle.sled_core.specs.SealedBuffers.{one_ended, one_fewer}
+use Rattle.sled_core.specs.SealedBuffers.{one_ended}
 use Rattle.sled_core.specs.Turned.{HasOpenIn, ended_now}
 use Rattle.sled_core.proofs.Line.Facts.{IsSegment}
 use Rattle.sled_core.proofs.Line.Marks.{line_set}
@@ -63,27 +62,12 @@ pub ended_bytes : {size place : ℕ} (v : SegmentView) (i : ℕ) (r : Reserved) 
     → length (written v.parts.bytes r.from (ending word k)) ≡ length v.parts.bytes
 ended_bytes v i r word k facts there is_open = over_bytes v i r (ending word k) facts there (ending_short v i r word k facts there is_open)
 
--- Its buffers have entries as they had.
-entered_same : (to place from : ℕ) (bs : List Sealed) (rs rs' : List Reserved) → length rs' ≡ length rs → AreEntered to place from bs rs → AreEntered to place from bs rs'
-entered_same to place from [] rs rs' long are = λ some. are (omega (arith, long, some))
-entered_same to place from (b ∷ bs) rs rs' long are = (are.0, entered_same to place b.end bs (drop b.count rs) (drop b.count rs') (omega (arith, length-drop b.count rs, length-drop b.count rs', long)) are.1)
-
-entered_ended : (to place from i : ℕ) (bs : List Sealed) (rs rs' : List Reserved) → length rs' ≡ length rs → AreEntered to place from bs rs → AreEntered to place from (one_ended i bs) rs'
-entered_ended to place from i [] rs rs' long are = λ some. are (omega (arith, long, some))
-entered_ended to place from i (b ∷ bs) rs rs' long are = by_test (entered_ended to place b.end (i - b.count) bs (drop b.count rs) (drop b.count rs') fewer are.1) (nat_lt i b.count) where
-  fewer : length (drop b.count rs') ≡ length (drop b.count rs)
-  fewer = omega (arith, length-drop b.count rs, length-drop b.count rs', long)
-
-  by_test : AreEntered to place b.end (one_ended (i - b.count) bs) (drop b.count rs') → (o : Bool) → AreEntered to place from (if o then one_fewer b ∷ bs else b ∷ one_ended (i - b.count) bs) rs'
-  by_test rest true = (are.0, entered_same to place b.end bs (drop b.count rs) (drop b.count rs') fewer are.1)
-  by_test rest false = (are.0, rest)
-
 -- Its segments are filled as they were, whatever is written over it.
 pub filled_over : (size to : ℕ) (line : List SegmentView) (n : ℕ) {place : ℕ} (v : SegmentView) (i : ℕ) (r : Reserved) (text : List ℕ) (state : ReservationState) → slice_get line n ≡ Some v → IsSegment size place v
     → slice_get v.parts.reserved i ≡ Some r → r.state ≡ Open → state ≢ Padding → length text ≤ r.len → AreFilled size to line → AreFilled size to (set line n (ended_now i r text state v))
 filled_over size to line n v i r text state among facts there is_open plain short filled =
     filled_set size to line n v (ended_now i r text state v) among refl (end_ended v.parts.written_len i v.parts.sealed) (over_bytes v i r text facts there short)
-    (entered_ended to v.parts.site.place v.parts.written_len i v.parts.sealed v.parts.reserved (set v.parts.reserved i (ended state r)) (length-set v.parts.reserved i (ended state r))) refl
+    (entered_ended to v.parts.site.place i v.parts.reserved r state there is_open) refl
     (omega (arith, records_set v.parts.reserved i r state (length v.parts.bytes) there is_open plain)) facts filled
 
 -- What code makes of a buffer is the segment with that reservation ended.

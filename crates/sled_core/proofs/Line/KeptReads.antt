@@ -45,7 +45,7 @@ module _ (sum : List ℕ → ℕ) (size : ℕ) (big : 256 ≤ size) (device : St
   behind_begins place [] stays batches ms none stand there = absurd (in_nothing (in_log m) (subst (λ (l : List Message). Contains l (in_log m)) none there))
   behind_begins place (s ∷ ss) stays batches ms (own, later, all, next, rest) stand there = elim (Contains-append_cases own later (in_log m) (subst (λ (l : List Message). Contains l (in_log m)) all there)) [
     | inl mine ↦ (
-        let above = All-contains (λ (x : Message). place ≤ x.place) own (in_log m) next.above mine in
+        let above = All-contains (λ (x : Message). place + 20 ≤ x.place) own (in_log m) next.above mine in
         let at = next.next in
         let inside = next.inside in
         let written = next.behind in

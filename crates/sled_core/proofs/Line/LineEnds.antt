@@ -9,7 +9,7 @@ use Rattle.sled_core.specs.Begun.{SegmentView, first_place}
 use Rattle.sled_core.specs.declared.iobuf.SegmentPosition.{SegmentPosition}
 use Rattle.sled_core.specs.declared.logger.batches.NotedBatch.{NotedBatch}
 use Rattle.sled_core.specs.declared.logger.Log.{Log}
-use Rattle.sled_core.specs.Fits.{line_end, noted_in, stable_end, synced_end}
+use Rattle.sled_core.specs.Fits.{kept_batches, line_end, noted_in, stable_end, synced_end}
 use Rattle.sled_core.specs.OpenBatches.{batch_of, behind_batch, not_whole, stable_below}
 use Rattle.sled_core.specs.Turned.{promoted}
 use Rattle.sled_core.specs.Waiting.{at_last}
@@ -74,6 +74,10 @@ noted_quiet old new noted synced =
 
 pub noted_still : {D C : Type 0} (log : Log D C) → noted_in log ≡ not_whole (synced_end log) (noted_in log)
 noted_still log = noted_quiet log log refl refl
+
+-- As many are kept in memory then.
+pub kept_same : {D C : Type 0} (old new : Log D C) → new.noted.items ≡ old.noted.items → kept_batches new ≤ kept_batches old
+kept_same old new items = let same = ap (λ (l : List NotedBatch). length l) items in omega (arith, same)
 
 -- Two calls, one behind the other.
 pub noted_further : {D C : Type 0} (old mid new : Log D C) → synced_end mid ≤ synced_end new → noted_in mid ≡ not_whole (synced_end mid) (noted_in old) → noted_in new ≡ not_whole (synced_end new) (noted_in mid) → noted_in new ≡ not_whole (synced_end new) (noted_in old)

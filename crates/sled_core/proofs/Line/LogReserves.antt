@@ -28,7 +28,7 @@ use Rattle.sled_core.proofs.Holds.FitsBatches.{batches_up}
 use Rattle.sled_core.proofs.Holds.KeptCalls.{goes_on_quietly}
 use Rattle.sled_core.proofs.Line.Facts.{current_facts}
 use Rattle.sled_core.proofs.Line.Last.{last_changed}
-use Rattle.sled_core.proofs.Line.LineEnds.{end_last, first_at_last, noted_later, noted_same}
+use Rattle.sled_core.proofs.Line.LineEnds.{end_last, first_at_last, kept_same, noted_later, noted_same}
 use Rattle.sled_core.proofs.Line.Moves.{fits_as, holds_as}
 use Rattle.sled_core.proofs.Line.OpenPlaces.{places_reserved}
 use Rattle.sled_core.proofs.Line.Reserves.{HasPlaceFor, awaits_reserved, line_fits_reserved, line_reserved, slots_reserved}
@@ -154,7 +154,7 @@ module _ {D C : Type 0} (trace : D → Trace) (sum : List ℕ → ℕ) (old new 
   kept_noted = noted_same old new rest.noted reserves_synced
 
   pub reserves_same : KeepsAll old new
-  reserves_same = record { config = rest.config; synced = reserves_synced; noted = kept_noted; fault = rest.fault; pins = rest.pins }
+  reserves_same = record { config = rest.config; synced = reserves_synced; noted = kept_noted; kept = kept_same old new rest.noted; fault = rest.fault; pins = rest.pins }
 
   pub reserves_current : current_of new ≡ reserved_now more r (current_of old)
   reserves_current = ap (last_of v) line ∙ last_changed (reserved_now more r) v v vs
@@ -198,4 +198,5 @@ module _ {D C : Type 0} (trace : D → Trace) (sum : List ℕ → ℕ) (old new 
           entries = its.entries;
         });
     noted = noted_later old new rest.noted (let same = reserves_synced in omega (arith, same));
+    kept = kept_same old new rest.noted;
   }

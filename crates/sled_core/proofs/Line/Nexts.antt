@@ -1,20 +1,19 @@
 -- What code makes where a further segment is begun: it lies behind the others, and all of them are filled as they have to be.
-use Rattle.std.proofs.Common.{None, ◌≡◌, ◌⊎◌, ⊎_elim, inl, inr, ◌∙◌, ◌<◌, ◌≤◌, ◌+◌, ◌*◌, ◌^◌, ◌-ℤ◌, ap, refl, arith, ℕ, pos, List, [], ◌∷◌, ◌++◌, length}
+use Rattle.std.proofs.Common.{None, ◌≡◌, ◌∙◌, ◌<◌, ◌≤◌, ◌+◌, ◌*◌, ◌^◌, ◌-ℤ◌, ap, refl, arith, ℕ, pos, List, [], ◌∷◌, ◌++◌, length}
 use Rattle.std.proofs.Math.Nat.{suc-mul}
 use Rattle.std.proofs.lemmas.List.{map-append}
 use Rattle.sled_codec.proofs.Segments.{length-short_header}
 use Rattle.sled_codec.specs.Record.{short_header}
 use Rattle.sled_store.specs.SegmentStates.{Machine, next_slot}
-use Rattle.sled_core.specs.Begun.{AreFilled, FollowOn, SegmentView, begin_of, last_buffer, line_at, segment_view, view_at}
+use Rattle.sled_core.specs.Begun.{AreFilled, FollowOn, SegmentView, last_buffer, line_at, segment_view, view_at}
 use Rattle.sled_core.specs.declared.iobuf.IoBuf.{IoBuf}
 use Rattle.sled_core.specs.declared.iobuf.SegmentPosition.{SegmentPosition}
 use Rattle.sled_core.specs.declared.logger.segments.SegmentBuffer.{SegmentBuffer}
 use Rattle.sled_core.specs.Turned.{IsBegunView, begun_view, next_line}
 use Rattle.sled_core.specs.Waiting.{closed_now, last_of}
 use Rattle.sled_core.proofs.Line.Begins.{closable}
-use Rattle.sled_core.proofs.Line.Closes.{IsClosable, closed_begin, closed_ends, closed_entered, closed_records}
-use Rattle.sled_core.proofs.Line.Entered.{filled_begun, filled_last, last_unfilled}
-use Rattle.sled_core.proofs.Line.Segments.{AreSegments}
+use Rattle.sled_core.proofs.Line.Closes.{IsClosable, closed_begin, closed_ends, closed_entered, closed_records, filled_site}
+use Rattle.sled_core.proofs.Line.Entered.{filled_begun, filled_last, last_unfilled, last_used}
 use Rattle.sled_core.proofs.Line.Facts.{IsSegment}
 
 -- They follow one another with one more at the end.
@@ -39,15 +38,19 @@ begun_is sum size m stable v site b at slot is =
     is.view
     ∙ (λ i. record { parts = record { site = record { place = at i; slot = slot i }; bytes = short_header sum (pos (at i)) (pos stable -ℤ pos 1); written_len = 0; filled = None; sealed = []; reserved = [] }; gone = 0 })
 
--- The segments are filled then, where what is reserved ends behind the beginning of the buffer that was filled up, and behind the new header at most.
-pub filled_next : (sum : List ℕ → ℕ) (size to to' : ℕ) (m : Machine) (stable place : ℕ) (v : SegmentView) (vs : List SegmentView) → AreSegments size place (v ∷ vs) → {last : ℕ} → IsSegment size last (last_of v vs) → 0 < size → to ≤ to'
-    → (last_of v vs).parts.site.place + begin_of (last_of v vs) < to' → to' ≤ (last_of v vs).parts.site.place + size + 20 → (to' ≡ to) ⊎ ((last_of v vs).parts.site.place + size < to') → AreFilled size to (v ∷ vs) → AreFilled size to' (next_line sum size m stable (v ∷ vs))
-filled_next sum size to to' m stable place v vs are {last = its_place} here some up low within moved filled =
+-- The segments are filled then, where the one that is filled up has more than its header.
+pub filled_next : (sum : List ℕ → ℕ) (size to : ℕ) (m : Machine) (stable : ℕ) (v : SegmentView) (vs : List SegmentView) {place : ℕ} → IsSegment size place (last_of v vs) → 0 < size → 20 < length (last_of v vs).parts.bytes
+    → AreFilled size to (v ∷ vs) → AreFilled size to (next_line sum size m stable (v ∷ vs))
+filled_next sum size to m stable v vs {place = its_place} here some used filled =
     let w : SegmentView = last_of v vs in
     let last = filled_last size to v vs filled in
     let unfilled = last_unfilled size to v vs filled in
     let its : IsClosable size w = closable size its_place w here last.0 in
     let long = length-short_header sum (pos (w.parts.site.place + size)) (pos stable -ℤ pos 1) in
-    filled_begun size to to' (closed_now sum size) (begun_view sum size m stable w) up (some, omega (arith, within, long), λ more. absurd (omega (arith, more))) tt (omega arith)
-    place v vs are (⊎_elim (λ same. inl same) (λ far. inr (omega (arith, far))) moved) (closed_begin sum size w its.short its.small) (closed_entered sum size to to' w up last.2 low)
-    (closed_records sum size w its.short unfilled.0 unfilled.1, closed_ends sum size to to' w its.short last.1 unfilled.0 moved) filled
+    let low = last.1 in
+    let short = its.short in
+    let site : (closed_now sum size w).parts.site.place ≡ w.parts.site.place = ap (λ (p : SegmentPosition). p.place) (filled_site sum size w) in
+    let above = last_used size to v vs filled used in
+    filled_begun size to (closed_now sum size) (begun_view sum size m stable w) (some, omega (arith, low, short, long), tt) tt (omega arith) (omega (arith, long))
+    v vs (closed_begin sum size w its.short its.small) (closed_entered sum size to w last.2)
+    (closed_records sum size w its.short unfilled.0 unfilled.1, closed_ends sum size to w its.short last.1 unfilled.0, λ _. omega (arith, above, site)) filled

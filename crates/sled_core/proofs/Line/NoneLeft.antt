@@ -1,49 +1,70 @@
--- Where all that was reserved is on the device, nothing is left of it in any segment, and none is begun behind the first one: the device has all of the history.
-use Rattle.std.proofs.Common.{inl, inr, ap, ◌≡◌, ◌≤◌, ◌<◌, ◌+◌, refl, arith, subst, ℕ, zero, suc, List, [], ◌∷◌, length, map, drop, None}
+-- Where all that was reserved is on the device nothing is left in any segment but what fills it: the device has all of the history.
+use Rattle.std.proofs.Common.{inl, inr, ap, ◌≡◌, ◌∙◌, ◌≤◌, ◌<◌, ◌+◌, ◌/◌, max, refl, arith, subst, ℕ, Option, List, [], ◌∷◌, ◌++◌, length, map, None}
 use Rattle.std.specs.List.{All, Contains}
+use Rattle.std.specs.declared.io.Error.{Error as IoError}
 use Rattle.std.proofs.lemmas.Bool.{cases_lt}
+use Rattle.std.proofs.lemmas.List.{append-nil}
 use Rattle.std.proofs.lemmas.List.Elements.{All-contains, All-head, All-tail}
-use Rattle.sled_codec.specs.History.{Batch, History}
-use Rattle.sled_store.specs.Device.{Trace, state_of}
-use Rattle.sled_store.proofs.Segments.Elements.{all_from_in, in_cases, in_nothing}
-use Rattle.sled_core.specs.Begun.{AreEntered, AreFilled, line_at, segment_view, view_at}
-use Rattle.sled_core.specs.Buffers.{batches_in}
-use Rattle.sled_core.specs.declared.iobuf.Reserved.{Reserved}
-use Rattle.sled_core.specs.declared.iobuf.Sealed.{Sealed}
+use Rattle.sled_codec.specs.History.{Batch, History, Message}
+use Rattle.sled_store.specs.Device.{State, Trace, state_of}
+use Rattle.sled_store.proofs.Segments.Elements.{all_from_in, in_cases, in_first, in_nothing}
+use Rattle.sled_core.specs.Begun.{AreFilled, IsUsed, SegmentView, segment_view, view_at}
 use Rattle.sled_core.specs.declared.logger.batches.NotedBatch.{NotedBatch}
 use Rattle.sled_core.specs.declared.logger.Log.{Log}
-use Rattle.sled_core.specs.declared.logger.segments.SegmentBuffer.{SegmentBuffer}
-use Rattle.sled_core.specs.Fits.{CloseBelow, Holds, HoldsIn, IsWritten, fault_of, line_end, line_of, log_parts, noted_in, parts_in, reserved_end, stable_end, synced_end}
+use Rattle.sled_core.specs.Buffers.{completed_in}
+use Rattle.sled_core.specs.SealedBuffers.{AreZeros, sealed_end}
+use Rattle.sled_core.specs.Fits.{CloseBelow, HoldBehind, Holds, HoldsNext, HoldsWith, IsWritten, device_of, fault_of, line_of, machine_at, noted_in, parts_in, reserved_end, segment_size_of, stable_end, synced_end}
 use Rattle.sled_core.specs.Logged.{logged}
 use Rattle.sled_core.specs.OpenBatches.{batch_of}
-use Rattle.sled_core.specs.SealedBuffers.{AreSealed}
 use Rattle.sled_core.proofs.Flush.FlushLemmas.{all_kept}
 use Rattle.sled_core.proofs.Holds.BufferEnds.{written_behind}
+use Rattle.sled_core.proofs.Line.Entered.{IsEntered}
 use Rattle.sled_core.proofs.Reached.OpenBatch.{whole_not}
 use Rattle.sled_core.proofs.Reached.StableBelow.{stable_all}
-use Rattle.sled_core.proofs.Sealed.Zeros.{sealed_short}
+use Rattle.sled_core.proofs.Reserve.BeginBelow.{ArePadding, entered_padding, padding_nothing}
+use Rattle.sled_core.proofs.Sealed.Zeros.{rest_zeros}
 
--- Buffers that begin at a place or behind it have no entry that begins below it.
-entered_none : (to place from : ℕ) (bs : List Sealed) (rs : List Reserved) → to ≤ place + from → AreSealed from rs bs → AreEntered to place from bs rs → rs ≡ []
-entered_none to place from [] rs past are entered = by rs entered where
-  by : (l : List Reserved) → (0 < length l → place + from < to) → l ≡ []
-  by [] low = refl
-  by (r ∷ l) low = let below = low (omega arith) in absurd (omega (arith, past, below))
-entered_none to place from (b ∷ bs) rs past are entered = by b.count rs entered.0 (entered_none to place b.end bs (drop b.count rs) (let up = are.0.rises in omega (arith, past, up)) are.1 entered.1) where
-  by : (n : ℕ) (l : List Reserved) → (0 < n → place + from < to) → drop n l ≡ [] → l ≡ []
-  by zero l low none = none
-  by (suc n) l low none = let below = low (omega arith) in absurd (omega (arith, past, below))
+-- The first segment's reservations begin below the place, and it has more than its header only where one does.
+filled_first : (size to : ℕ) (v : SegmentView) (vs : List SegmentView) → AreFilled size to (v ∷ vs) → IsEntered to v × IsUsed to v.parts.site.place (length v.parts.bytes)
+filled_first size to v [] filled = (filled.2, filled.5)
+filled_first size to v (w ∷ ws) filled = (filled.1, filled.5)
 
-pub none_left : {D C : Type 0} (log : Log D C) → reserved_end log ≤ synced_end log → (log.behind.items ≡ []) × (log.buffer.reserved.items ≡ [])
-none_left log all = by log.behind.items log.waits log.filled where
-  by : (ss : List SegmentBuffer) → (0 < length ss → log.buffer.written_len < log.config.config.segment_size) → AreFilled log.config.config.segment_size log.reserved_to (view_at log.site log.buffer ∷ map segment_view ss) → (ss ≡ []) × (log.buffer.reserved.items ≡ [])
-  by [] waits filled = (refl, entered_none log.reserved_to log.site.place log.buffer.written_len log.buffer.sealed.items log.buffer.reserved.items all log.buffer.are filled.2)
-  by (s ∷ ss) waits filled =
-      let none : log.buffer.reserved.items ≡ [] = entered_none log.reserved_to log.site.place log.buffer.written_len log.buffer.sealed.items log.buffer.reserved.items all log.buffer.are filled.1 in
-      let short = sealed_short log.buffer.written_len log.buffer.sealed.items (subst (λ (l : List Reserved). AreSealed log.buffer.written_len l log.buffer.sealed.items) none log.buffer.are) in
-      let full = filled.0 in
-      let low = waits (omega arith) in
-      absurd (omega (arith, short, full, low, log.config.config.least))
+-- and so it is with those behind it
+filled_rest : (size to : ℕ) (v : SegmentView) (vs : List SegmentView) → AreFilled size to (v ∷ vs) → AreFilled size to vs
+filled_rest size to v [] filled = tt
+filled_rest size to v (w ∷ ws) filled = filled.2
+
+module _ (sum : List ℕ → ℕ) (size to : ℕ) (device : State) (fault : Option IoError) where
+  -- A segment that lies behind the place holds no message,
+  next_nothing : (place : ℕ) (w : SegmentView) (stays : Message → Type 0) (batches : List Batch) (own : List Message) → to ≤ place → IsEntered to w → IsUsed to w.parts.site.place (length w.parts.bytes)
+      → HoldsNext sum size device fault place w.parts stays batches own → own ≡ []
+  next_nothing place w stays batches own past entered used here = by own here.above here.segment.messages where
+    at : w.parts.site.place ≡ place
+    at = here.next
+
+    fill : ArePadding size w.parts.reserved
+    fill = entered_padding sum size (w.parts.site.place / size) to w.parts.site.place (max 20 w.parts.written_len) (length w.parts.bytes) w.parts.bytes w.parts.reserved (omega (arith, past, at)) here.segment.chain here.segment.stand entered
+
+    bare : length w.parts.bytes ≤ 20
+    bare = elim (cases_lt 20 (length w.parts.bytes)) [ inl more ↦ absurd (let low = used more in omega (arith, low, past, at)) | inr le ↦ le ]
+
+    by : (ms : List Message) → All (λ (m : Message). place + 20 ≤ m.place) ms → ms ≡ here.segment.earlier ++ completed_in w.parts.site w.parts.bytes w.parts.reserved → ms ≡ []
+    by [] above is = refl
+    by (m ∷ ms) above is =
+        let early : m ∷ ms ≡ here.segment.earlier = is ∙ ap (λ (l : List Message). here.segment.earlier ++ l) (padding_nothing size w.parts.site w.parts.bytes w.parts.reserved fill).0 ∙ append-nil here.segment.earlier in
+        let low = All-contains (λ (x : Message). (x.place < w.parts.site.place + w.parts.written_len) × (x.place + x.size ≤ w.parts.site.place + w.parts.written_len)) here.segment.earlier m here.segment.below (subst (λ (l : List Message). Contains l m) early (in_first m ms)) in
+        let up = All-head (λ (x : Message). place + 20 ≤ x.place) m ms above in
+        let within = here.behind in
+        let short = bare in
+        let lies = at in
+        absurd (omega (arith, low.0, up, within, short, lies))
+
+  -- nor do any one behind another.
+  behind_nothing : (place : ℕ) (ws : List SegmentView) (stays : Message → Type 0) (batches : List Batch) (ms : List Message) → to ≤ place → AreFilled size to ws → HoldBehind sum size device fault place (map parts_in ws) stays batches ms → ms ≡ []
+  behind_nothing place [] stays batches ms past filled holds = holds
+  behind_nothing place (w ∷ ws) stays batches ms past filled (own, later, all, here, rest) =
+      let first = filled_first size to w ws filled in
+      all ∙ (λ i. next_nothing place w stays batches own past first.0 first.1 here i ++ behind_nothing (place + size) ws stays batches later (omega (arith, past)) (filled_rest size to w ws filled) rest i)
 
 -- Each batch that is noted ends below what is reserved.
 pub noted_pegs : {D C : Type 0} (log : Log D C) (b : Batch) → Contains (noted_in log) b → b.peg < reserved_end log
@@ -59,29 +80,61 @@ noted_pegs log b there = among log.noted.items log.pegs (whole_not (synced_end l
 pub all_stable : {D C : Type 0} (log : Log D C) → reserved_end log ≤ synced_end log → stable_end log ≡ synced_end log
 all_stable log all = stable_all (synced_end log) (noted_in log) (λ b there low. let peg = noted_pegs log b there in omega (arith, peg, all))
 
-all_ended : {D C : Type 0} (trace : D → Trace) (sum : List ℕ → ℕ) (log : Log D C) → reserved_end log ≤ synced_end log → log.buffer.reserved.items ≡ [] → log.behind.items ≡ [] → (H : History) → Holds trace sum log H → CloseBelow (synced_end log) H.batches
+-- All batches begin and end there, too.
+all_ended : {D C : Type 0} (trace : D → Trace) (sum : List ℕ → ℕ) (log : Log D C) → reserved_end log ≤ synced_end log → (H : History) → Holds trace sum log H → CloseBelow (synced_end log) H.batches
 unfolding Holds
-all_ended trace sum log all none alone H holds = all_from_in (λ (b : Batch). (b.low < synced_end log) × (b.peg < synced_end log)) H.batches (λ b there. (begins b there, ends b there)) where
+all_ended trace sum log all H holds = all_from_in (λ (b : Batch). (b.low < synced_end log) × (b.peg < synced_end log)) H.batches (λ b there. (begins b there, ends b there)) where
   ends : (b : Batch) → Contains H.batches b → b.peg < synced_end log
   ends b there = elim (cases_lt b.peg (synced_end log)) [ inl low ↦ low | inr high ↦ (let peg = noted_pegs log b (holds.batches.all b there high) in omega (arith, peg, all)) ]
 
   begins : (b : Batch) → Contains H.batches b → b.low < synced_end log
-  begins b there =
-      let within = (All-contains (λ (x : Batch). (x.low < line_end log.config.config.segment_size (line_of log)) × (x.peg < line_end log.config.config.segment_size (line_of log))) H.batches b holds.batches.within there).0 in
-      let last = ap (λ (ss : List SegmentBuffer). line_end log.config.config.segment_size (line_at log.site log.buffer ss)) alone in
-      elim (holds.holds.own.batched.begun b there) [
-        | inl own ↦ absurd (in_nothing b (subst (λ (rs : List Reserved). Contains (batches_in log.site log.buffer.bytes.items rs) b) none own))
-        | inr (inl low) ↦ low
-        | inr (inr high) ↦ absurd (omega (arith, high, within, last))
-      ]
+  begins b there = elim (holds.batches.rising b there) [ inl pegged ↦ (let low = ends b there in omega (arith, low, pegged)) | inr low ↦ low ]
+
+module _ {D C : Type 0} (trace : D → Trace) (sum : List ℕ → ℕ) (log : Log D C) (all : reserved_end log ≤ synced_end log) (whole : fault_of log ≡ None) (H : History)
+    (holds : HoldsWith sum (noted_in log) (segment_size_of log) (state_of (trace (device_of log))) (fault_of log) (line_of log) (machine_at log) (logged H)) (closed : CloseBelow (synced_end log) H.batches) where
+  abbrev its_size : ℕ
+  its_size = segment_size_of log
+
+  abbrev its_device : State
+  its_device = state_of (trace (device_of log))
+
+  abbrev bytes : List ℕ
+  bytes = log.buffer.bytes.items
+
+  abbrev from : ℕ
+  from = log.buffer.written_len
+
+  abbrev behind : List SegmentView
+  behind = map segment_view log.behind.items
+
+  within : from ≤ its_size
+  within = let low = written_behind log.buffer in let short = log.in_segment in omega (arith, low, short)
+
+  sealed_within : sealed_end from log.buffer.sealed.items ≤ length bytes
+  sealed_within = let at = log.buffer.begins in let low = log.buffer.behind in omega (arith, at, low)
+
+  first : IsEntered log.reserved_to (view_at log.site log.buffer) × IsUsed log.reserved_to log.site.place (length bytes)
+  first = filled_first its_size log.reserved_to (view_at log.site log.buffer) behind log.filled
+
+  fill : ArePadding its_size log.buffer.reserved.items
+  fill = entered_padding sum its_size (log.site.place / its_size) log.reserved_to log.site.place (max 20 from) (length bytes) bytes log.buffer.reserved.items (omega (arith, all)) holds.holds.own.chain holds.holds.own.stand first.0
+
+  begun : 20 < sealed_end from log.buffer.sealed.items → 20 ≤ from
+  begun some = let low = sealed_within in let used = first.1 (omega (arith, some, low)) in omega (arith, used, all)
+
+  clean : AreZeros its_device.log.bytes (log.site.slot + from) (log.site.slot + its_size)
+  clean = rest_zeros its_device.log.bytes log.site.slot its_size bytes from log.buffer.sealed.items log.buffer.reserved.items log.buffer.head log.buffer.are fill
+      (let low = sealed_within in let short = log.in_segment in omega (arith, low, short)) begun (holds.holds.own.laid whole)
+
+  nothing_behind : holds.holds.later ≡ []
+  nothing_behind = behind_nothing sum its_size log.reserved_to its_device (fault_of log) (log.site.place + its_size) behind _ (logged H).batches holds.holds.later (let low = within in omega (arith, all, low))
+      (filled_rest its_size log.reserved_to (view_at log.site log.buffer) behind log.filled) holds.holds.others
+
+  all_there : IsWritten trace sum log H
+  all_there = all_kept sum its_size log.site its_device (fault_of log) bytes from log.buffer.sealed.items log.buffer.reserved.items (logged H) holds.holds closed (padding_nothing its_size log.site bytes log.buffer.reserved.items fill).0
+      nothing_behind whole log.place_in_reach within clean
 
 -- So the device has all of what the log holds.
 pub all_written : {D C : Type 0} (trace : D → Trace) (sum : List ℕ → ℕ) (log : Log D C) → reserved_end log ≤ synced_end log → fault_of log ≡ None → (H : History) → Holds trace sum log H → IsWritten trace sum log H
 unfolding Holds
-all_written trace sum log all whole H holds =
-    let left = none_left log all in
-    let size : ℕ = log.config.config.segment_size in
-    let inside = written_behind log.buffer in
-    all_kept sum size log.site (state_of (trace log.config.device)) log.fault log.buffer.bytes.items log.buffer.written_len log.buffer.sealed.items log.buffer.reserved.items (logged H)
-    (subst (λ (ss : List SegmentBuffer). HoldsIn sum (log_parts size log.site (state_of (trace log.config.device)) log.fault log.buffer.bytes.items log.buffer.written_len log.buffer.sealed.items log.buffer.reserved.items) (map parts_in (map segment_view ss)) (logged H)) left.0 holds.holds)
-    (all_ended trace sum log all left.1 left.0 H holds) left.1 whole log.place_in_reach (omega (arith, inside, log.in_segment)) log.buffer.head log.buffer.are
+all_written trace sum log all whole H holds = all_there trace sum log all whole H holds (all_ended trace sum log all H holds)

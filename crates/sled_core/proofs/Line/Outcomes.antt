@@ -59,7 +59,7 @@ pub answers_used : {T : Type 0} (result : Result T Error) (held held' : Option �
 answers_used (Ok x) held held' used now before before' after h b not answers = (sym h ∙ answers.0, not, answers.2, answers.3, answers.4 ∙ b)
 answers_used (Err (Held at)) held held' used now before before' after h b not answers = ((answers.0.0, sym h ∙ answers.0.1, answers.0.2), not, answers.2, answers.3, answers.4 ∙ b)
 answers_used {T} (Err (Io e)) held held' used now before before' after h b not answers = subst (λ n. HeldAnswers {T = T} (Err (Io e)) held' used None now n after) b answers
-answers_used (Err OutOfMemory) held held' used now before before' after h b not answers = (answers.0, answers.1, answers.2 ∙ b)
+answers_used (Err OutOfMemory) held held' used now before before' after h b not answers = (not, answers.1, answers.2, answers.3 ∙ b)
 answers_used (Err PlacesUsedUp) held held' used now before before' after h b not answers = absurd answers.0
 answers_used (Err _) held held' used now before before' after h b not answers = absurd answers
 
@@ -67,7 +67,7 @@ answers_used (Err _) held held' used now before before' after h b not answers = 
 pub answers_free : {T : Type 0} (r : Result T Error) (held : Option ℕ) (now : Option IoError) (before after : ℕ) → held ≡ None → Answers r None now before after → HeldAnswers r held ⊥ None now before after
 answers_free (Ok x) held now before after none answers = (none, (λ never. never), answers.0, answers.1, answers.2)
 answers_free (Err (Io e)) held now before after none answers = answers
-answers_free (Err OutOfMemory) held now before after none answers = answers
+answers_free (Err OutOfMemory) held now before after none answers = ((λ never. never), answers.0, answers.1, answers.2)
 answers_free (Err _) held now before after none answers = absurd answers
 
 pub done_free : {T : Type 0} (r : Result T Error) (now : Option IoError) (before after : ℕ) (P Q : Type 0) → (P → Q) → Answers r None now before after → OnOk r P → OnDone r Q
@@ -77,12 +77,12 @@ done_free (Err _) now before after P Q more answers is = tt
 
 -- A call that touches no device failed: what its caller answers.
 module _ (T S : Type 0) (e : Error) (used : Type 0) (failed : FaultOrMemory {T = T} (Err e) used None) where
-  pub seal_answers : (held : Option ℕ) (all : Type 0) (now : Option IoError) (before after : ℕ) → (used → all) → now ≡ None → after ≡ before → HeldAnswers {T = S} (Err e) held all None now before after
-  seal_answers held all now before after so none same = by_error e failed where
+  pub seal_answers : (held : Option ℕ) (all : Type 0) (now : Option IoError) (before after : ℕ) → (used → all) → (all → used) → now ≡ None → after ≡ before → HeldAnswers {T = S} (Err e) held all None now before after
+  seal_answers held all now before after so back none same = by_error e failed where
     by_error : (e : Error) → FaultOrMemory {T = T} (Err e) used None → HeldAnswers {T = S} (Err e) held all None now before after
     by_error (Io x) is = absurd (let no_fault : None ≡ Some x = is in cc)
     by_error PlacesUsedUp is = (so is.0, refl, none, same)
-    by_error OutOfMemory is = (refl, none, same)
+    by_error OutOfMemory is = ((λ u. is.0 (back u)), refl, none, same)
     by_error _ is = absurd is
 
   pub seal_not_held : IsHeld {T = S} (Err e) → ⊥

@@ -1,5 +1,6 @@
 -- A log is made ready for a record: that has a place in its current segment, or a further one is begun; and what a reservation makes of it then.
-use Rattle.std.proofs.Common.{◌∷◌, [], ◌≡◌, ◌∙◌, ◌<◌, ◌≤◌, ◌+◌, ◌-◌, ◌*◌, ◌/◌, ◌^◌, ◌-ℤ◌, ap, sym, refl, arith, subst, ℕ, pos, Bool, true, false, if◌then◌else◌, List, ◌++◌, length, map, drop, Some, is_some}
+use Rattle.std.proofs.Common.{◌∷◌, [], ◌≡◌, ◌∙◌, ◌<◌, ◌≤◌, ◌+◌, ◌-◌, ◌*◌, ◌/◌, ◌^◌, ◌-ℤ◌, inl, inr, ap, sym, refl, arith, subst, ℕ, pos, Bool, true, false, if◌then◌else◌, List, ◌++◌, length, map, drop, Some, is_some}
+use Rattle.std.proofs.lemmas.Bool.{cases_lt}
 use Rattle.std.proofs.lemmas.Bool.Decides.{nat_tests}
 use Rattle.sled_codec.proofs.Segments.{length-short_header}
 use Rattle.sled_core.specs.Manifests.{is_manifest, kind_for}
@@ -103,7 +104,7 @@ module _ {D C : Type 0} (trace : D → Trace) (sum : List ℕ → ℕ) (old mid 
         keeps = unchanged_keeps old mid same trace sum;
         tickets = unchanged_tickets old mid same;
         seen = seen_all old mid (unchanged_same old mid same);
-        reserved = same.reserved ∙ sym (ap (λ (o : Bool). if o then (target_of old kept.page n).place else reserved_end old) stays);
+        reserved = same.reserved;
         target = here_target ∙ sym (λ i. record { place = (current i).parts.site.place + length (current i).parts.bytes; begins = (current i).parts.site.place; slot = (current i).parts.site.slot; machine = machine i });
         tail = is.bytes ∙ sym (λ i. short_header_tail kept.kind n ((current i).parts.site.place / sizes i) kept.page);
         long = head_long head kept n (number_of old) is;
@@ -129,17 +130,24 @@ module _ {D C : Type 0} (trace : D → Trace) (sum : List ℕ → ℕ) (old : Lo
   next_target : target_of old kept.page n ≡ next_segment_at size v.parts.site.place (machine_at old)
   next_target = target_next size v (machine_at old) kept.page n big inline (λ room inside. not (record { header = room; record_fits = omega (arith, inside, long) }))
 
+  -- so that has more than its header.
+  pub next_used : 20 < length v.parts.bytes
+  next_used = elim (cases_lt 20 (length v.parts.bytes)) [
+    | inl more ↦ more
+    | inr bare ↦ (let least = big in let short = record_short (number_of old) kept.page n in absurd (not (record { header = omega (arith, bare, least); record_fits = omega (arith, bare, least, long, short, inline) })))
+  ]
+
   pub next_moves : is_moved old kept.page n ≡ true
   next_moves = moved old kept.page n next_target
 
   pub next_open : open_for old kept.page n ≡ 0
   next_open = ap (λ (o : Bool). if o then 0 else open_of old) next_moves
 
-  pub next_used : NoFurther old → IsUsedUpFor old kept.page n
-  next_used none = (next_moves, none)
+  pub next_up : NoFurther old → IsUsedUpFor old kept.page n
+  next_up none = (next_moves, none)
 
   pub prepared_next : (mid : Log D C) (head : Head) → IsHeadOf head kept n (number_of mid) → line_of mid ≡ next_line sum size (machine_at old) (stable_end old) (line_of old) → machine_at mid ≡ handed_out (v.parts.site.place + size) (machine_at old) → ChangesSlots old mid
-      → reserved_end mid ≡ v.parts.site.place + size + 20 → HasRoomIn (last_buffer mid.buffer mid.behind.items) (size - 20) → (is_manifest kept.log_kind kept.page ≡ true → HasRoomForBatch mid) → IsPrepared trace sum old mid kept head n
+      → reserved_end mid ≡ reserved_end old → HasRoomIn (last_buffer mid.buffer mid.behind.items) (size - 20) → (is_manifest kept.log_kind kept.page ≡ true → HasRoomForBatch mid) → IsPrepared trace sum old mid kept head n
   prepared_next mid head is line machine rest reserved room batch =
       let current : current_of mid ≡ begun_view sum size (machine_at old) (stable_end old) v = begins_current trace sum old mid line machine rest in
       let header = length-short_header sum (pos (v.parts.site.place + size)) (pos (stable_end old) -ℤ pos 1) in
@@ -157,7 +165,7 @@ module _ {D C : Type 0} (trace : D → Trace) (sum : List ℕ → ℕ) (old : Lo
         keeps = begins_keeps trace sum old mid line machine rest;
         tickets = begins_tickets trace sum old mid line machine rest;
         seen = seen_all old mid (begins_same trace sum old mid line machine rest);
-        reserved = reserved ∙ sym (ap (λ (o : Bool). if o then (target_of old kept.page n).place else reserved_end old) moves ∙ ap (λ (q : Position). q.place) next_target);
+        reserved = reserved;
         target = next_target
             ∙ sym ((λ i. record { place = (current i).parts.site.place + length (current i).parts.bytes; begins = (current i).parts.site.place; slot = (current i).parts.site.slot; machine = machine i })
             ∙ ap (λ k. record { place = v.parts.site.place + size + k; begins = v.parts.site.place + size; slot = next_slot (machine_at old) * size; machine = handed_out (v.parts.site.place + size) (machine_at old) }) header);
@@ -242,7 +250,7 @@ module _ {D C : Type 0} {trace : D → Trace} {sum : List ℕ → ℕ} {old mid 
   pub made_same : KeepsAll old mid → KeepsAll old new
   made_same first =
       let second = reserves_same trace sum mid new more r line laid.rest laid.accountant fits in
-      record { config = second.config ∙ first.config; synced = second.synced ∙ first.synced; noted = second.noted ∙ first.noted; fault = second.fault ∙ first.fault; pins = second.pins ∙ first.pins }
+      record { config = second.config ∙ first.config; synced = second.synced ∙ first.synced; noted = second.noted ∙ first.noted; kept = omega (arith, first.kept, second.kept); fault = second.fault ∙ first.fault; pins = second.pins ∙ first.pins }
 
   pub made_others : (t : Reservation) (m : Message) → Awaits old t m → Awaits new t m
   made_others t m awaits = reserves_others trace sum mid new more r line laid.rest laid.accountant fits t m (ready.tickets.awaits t m awaits)

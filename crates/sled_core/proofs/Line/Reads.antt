@@ -220,7 +220,7 @@ err_answers S T sum blobs p (Held at) lsn stable end held used now before after 
   | inr lower ↦ (lower, answers.0, answers.1, answers.2, answers.3, answers.4)
 ]
 err_answers S T sum blobs p (Io e) lsn stable end held used now before after free up (inside, answers) = fault_at blobs p e _ None now before after answers
-err_answers S T sum blobs p OutOfMemory lsn stable end held used now before after free up (inside, answers) = (inside, answers.0, answers.1, answers.2)
+err_answers S T sum blobs p OutOfMemory lsn stable end held used now before after free up (inside, answers) = (inside, answers.0, answers.1, answers.2, answers.3)
 err_answers S T sum blobs p PlacesUsedUp lsn stable end held used now before after free up (inside, answers) = elim inside [
   | inl below ↦ absurd (let above = up answers.0 in omega (arith, ints, below, above))
   | inr lower ↦ (lower, answers.0, answers.1, answers.2, answers.3)
@@ -268,7 +268,7 @@ read_answers sum blobs (Blob lid place) (Err (Io e)) lsn stable end held used no
   | inl fault ↦ inl fault
   | inr missed ↦ inr (missed.0, missed.1, (inside, none, unused), missed.3, missed.4, missed.5)
 ]
-read_answers sum blobs p (Err OutOfMemory) lsn stable end held used now before after inside none unused answers = (inside, answers.0, answers.1, answers.2)
+read_answers sum blobs p (Err OutOfMemory) lsn stable end held used now before after inside none unused answers = (inside, unused, answers.0, answers.1, answers.2)
 read_answers sum blobs p (Err (Corruption at)) lsn stable end held used now before after inside none unused answers = answers
 read_answers sum blobs p (Err _) lsn stable end held used now before after inside none unused answers = absurd answers
 

@@ -188,14 +188,14 @@ module _ (sum : List ℕ → ℕ) (size : ℕ) (device : State) (to : ℕ) where
   behind_record place [] are filled stays batches ms hold m there lower none lid pointer = absurd (in_nothing m (subst (λ (l : List Message). Contains l m) hold there))
   behind_record place (v ∷ []) are filled stays batches ms (own, later, all, next, rest) m there lower none lid pointer = elim (Contains-append_cases own later m (subst (λ (l : List Message). Contains l m) all there)) [
     | inl mine ↦ (
-        let above = All-contains (λ x. place ≤ x.place) own m next.above mine in
+        let above = All-contains (λ x. place + 20 ≤ x.place) own m next.above mine in
         let at = are.0.at in
         its_record place v [] are filled (record { messages = own; batches = batches }) next.segment m mine (omega (arith, above, at)) lower none lid pointer)
     | inr others ↦ absurd (in_nothing m (subst (λ (l : List Message). Contains l m) rest others))
   ]
   behind_record place (v ∷ w ∷ ws) are filled stays batches ms (own, later, all, next, rest) m there lower none lid pointer = elim (Contains-append_cases own later m (subst (λ (l : List Message). Contains l m) all there)) [
     | inl mine ↦ (
-        let above = All-contains (λ x. place ≤ x.place) own m next.above mine in
+        let above = All-contains (λ x. place + 20 ≤ x.place) own m next.above mine in
         let at = are.0.at in
         its_record place v (w ∷ ws) are filled (record { messages = own; batches = batches }) next.segment m mine (omega (arith, above, at)) lower none lid pointer)
     | inr others ↦ behind_record (place + size) (w ∷ ws) are.1 filled.2 stays batches later rest m others lower (none_both _ _ (sym (found_on m.place (unwritten_of v.parts) (unwritten (w ∷ ws))) ∙ none)).1 lid pointer
@@ -206,7 +206,7 @@ module _ (sum : List ℕ → ℕ) (size : ℕ) (device : State) (to : ℕ) where
   behind_begins place [] are stays batches ms hold m there lid pointer = absurd (in_nothing m (subst (λ (l : List Message). Contains l m) hold there))
   behind_begins place (v ∷ vs) are stays batches ms (own, later, all, next, rest) m there lid pointer = elim (Contains-append_cases own later m (subst (λ (l : List Message). Contains l m) all there)) [
     | inl mine ↦ (
-        let above = All-contains (λ x. place ≤ x.place) own m next.above mine in
+        let above = All-contains (λ x. place + 20 ≤ x.place) own m next.above mine in
         let at = are.0.at in
         segment_begins sum size v.parts.site device v.parts.bytes v.parts.written_len v.parts.sealed v.parts.reserved (record { messages = own; batches = batches }) next.segment are.0.short m mine (omega (arith, above, at)) lid pointer)
     | inr others ↦ behind_begins (place + size) vs are.1 stays batches later rest m others lid pointer

@@ -16,12 +16,13 @@ use Rattle.sled_core.specs.declared.iobuf.record.Head.{Head}
 use Rattle.sled_core.specs.declared.logger.Log.{Log}
 use Rattle.sled_core.specs.declared.reservation.Reservation.{Reservation}
 use Rattle.sled_core.specs.Causes.{HasRecordPlace, NoFault, ReserveAnswers, ReserveCauses}
-use Rattle.sled_core.specs.Fits.{FitsInline, body_length, in_blob_of, segment_size_of, IsLeastOpen, IsUnchanged, IsUsedUpFor, KeepsAll, device_of, fault_of, message_as, target_of}
+use Rattle.sled_core.specs.Fits.{FitsInline, body_length, in_blob_of, segment_size_of, IsLeastOpen, IsUnchanged, IsUsedUpFor, KeepsAll, blob_at, device_of, fault_of, message_as, target_of}
 use Rattle.sled_core.specs.Manifests.{kind_for}
 use Rattle.sled_core.specs.Logged.{in_log}
 use Rattle.sled_core.specs.Prepared.{PrepareAnswers}
 use Rattle.sled_core.specs.Reserves.{MadeAnswers, RefusalLeaves, ReservesAs, TouchesBlob, reserve_causes}
 use Rattle.sled_core.specs.Running.{IsStored}
+use Rattle.sled_core.specs.Tickets.{own_blob}
 use Rattle.sled_core.specs.declared.iobuf.Purpose.{Purpose}
 use Rattle.sled_core.proofs.Line.Prepares.{IsLaid, laid_message, made_behind, made_keeps, made_others, made_seen, made_ticket, seen_all}
 use Rattle.sled_core.proofs.Line.Unchanged.{unchanged_keeps, unchanged_same, unchanged_tickets}
@@ -33,7 +34,7 @@ module _ (at : ReserveCauses) (used : Type 0) (least : ℤ → Type 0) where
   pub prepare_refused : (e : Error) → NoFault at → IsSome at.kind → PrepareAnswers {T = Head} (Err e) used at.open_count least → ReserveAnswers {T = Reservation} (Err e) used least at
   prepare_refused error.PlacesUsedUp well some is = (well, some, is)
   prepare_refused (error.Held place) well some is = (well, some, is.0, is.1, is.2)
-  prepare_refused error.OutOfMemory well some is = (well, some, is)
+  prepare_refused error.OutOfMemory well some is = (well, (some, is.0, is.1))
   prepare_refused (error.Io e) well some is = absurd is
   prepare_refused (error.Unsupported text) well some is = absurd is
   prepare_refused (error.Corruption place) well some is = absurd is
@@ -48,7 +49,7 @@ module _ (at : ReserveCauses) (used : Type 0) (least : ℤ → Type 0) where
   -- where its blob couldn't be made
   pub blob_refused : (e : Error) → at.in_blob ≡ true → HasRecordPlace used at → at.old ≡ None → MadeAnswers {T = Unit {0}} (Err e) at.file at.new at.before at.after → ReserveAnswers {T = Reservation} (Err e) used least at
   blob_refused (error.Io e) goes room none is = inr (record { in_blob = goes; room = room; none = none; refused = is })
-  blob_refused error.OutOfMemory goes room none is = ((none, is.0, is.1), room.0, room.2)
+  blob_refused error.OutOfMemory goes room none is = ((none, is.0, is.1), room)
   blob_refused error.PlacesUsedUp goes room none is = absurd is
   blob_refused (error.Held place) goes room none is = absurd is
   blob_refused (error.Unsupported text) goes room none is = absurd is
@@ -105,6 +106,7 @@ module _ {D C : Type 0} (trace : D → Trace) (faults : D → ℕ) (sum : List �
     ticket = tt;
     stored = tt;
     manifest = tt;
+    own = tt;
     behind = tt;
     others = (unchanged_tickets old new same).awaits;
     answers = answers;
@@ -122,11 +124,12 @@ well_kept {D = D} {C = C} trace faults kind page blob n old new none all = (none
 pub reserved_ok : {D C : Type 0} {trace : D → Trace} (faults : D → ℕ) {sum : List ℕ → ℕ} {old mid new : Log D C} {kept : Purpose} {head : Head} {body : List ℕ} {ticket : Reservation} (laid : IsLaid trace sum old mid new kept head body ticket) (item : List ℕ) (blob : Bool)
     → in_log (message_as old kept.log_kind kept.page blob (length body) item) ≡ laid_message laid
     → IsStored trace sum new (message_as old kept.log_kind kept.page blob (length body) item) → ReserveAnswers (Ok ticket) (IsUsedUpFor old kept.page (length body)) (IsLeastOpen old) (reserve_causes trace faults kept.log_kind kept.page blob (length body) old new)
-    → TouchesBlob trace sum (Ok ticket) blob (kind_for kept.log_kind kept.page true 8) (pos (target_of old kept.page (length body)).place) item old new → ReservesAs trace faults sum (Ok ticket) kept.log_kind kept.page item blob (length body) old new
-reserved_ok faults laid item blob is stored answers device = record {
+    → TouchesBlob trace sum (Ok ticket) blob (kind_for kept.log_kind kept.page true 8) (pos (target_of old kept.page (length body)).place) item old new → own_blob ticket ≡ blob_at blob (target_of old kept.page (length body)).place → ReservesAs trace faults sum (Ok ticket) kept.log_kind kept.page item blob (length body) old new
+reserved_ok faults laid item blob is stored answers device own = record {
   ticket = made_ticket laid _ is;
   stored = stored;
   manifest = laid.manifest;
+  own = own;
   behind = made_behind laid;
   others = made_others laid;
   answers = answers;

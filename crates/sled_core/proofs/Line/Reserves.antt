@@ -6,7 +6,7 @@ use Rattle.std.proofs.lemmas.List.{drop-append-le, map-append, take-append-le}
 use Rattle.sled_codec.specs.History.{History, Message}
 use Rattle.sled_store.specs.Device.{State}
 use Rattle.sled_store.specs.SegmentStates.{Machine}
-use Rattle.sled_core.specs.Begun.{AreEntered, AreFilled, SegmentParts, SegmentView, begin_of}
+use Rattle.sled_core.specs.Begun.{AreFilled, SegmentParts, SegmentView, begin_of}
 use Rattle.sled_core.specs.Buffers.{HasText, IsHeaded, message_in, item_as}
 use Rattle.sled_core.specs.declared.iobuf.Reserved.{Reserved}
 use Rattle.sled_core.specs.declared.iobuf.ReservationState.TheVariants.{Open}
@@ -17,7 +17,7 @@ use Rattle.sled_core.specs.Fits.{AwaitsIn, HoldsIn, HoldsLine, log_parts, parts_
 use Rattle.sled_core.specs.FreeSlots.{HasSlot, HasSlots, HaveOwn}
 use Rattle.sled_core.specs.Logged.{logged}
 use Rattle.sled_core.specs.Running.{FitsIn, FitsLine}
-use Rattle.sled_core.specs.SealedBuffers.{AreSealed, sealed_end}
+use Rattle.sled_core.specs.SealedBuffers.{AreSealed}
 use Rattle.sled_core.specs.Tickets.{IsFor, index_of}
 use Rattle.sled_core.specs.Turned.{reserved_now}
 use Rattle.sled_core.specs.Waiting.{BufferAt, at_last, buffer_at, last_of, unwritten, unwritten_in, unwritten_of}
@@ -26,8 +26,9 @@ use Rattle.sled_core.proofs.Behind.FitsCalls.{behind-fits-reserved}
 use Rattle.sled_core.proofs.Holds.HoldsLemmas.{body-append}
 use Rattle.sled_core.proofs.Holds.RunningLemmas.{fits-moved}
 use Rattle.sled_core.proofs.Holds.WholeLemmas.{holds-append}
-use Rattle.sled_core.proofs.Line.Entered.{behind_filling, entered_up}
+use Rattle.sled_core.proofs.Line.Entered.{behind_filling, used_up}
 use Rattle.sled_core.proofs.Line.Segments.{AreSegments}
+use Rattle.sled_core.proofs.Reserve.BeginBelow.{entered_more, entered_up}
 use Rattle.sled_core.proofs.Reserve.RecordEnds.{records_open}
 use Rattle.sled_core.proofs.Line.LineEnds.{end_at_last}
 use Rattle.sled_core.proofs.Line.Last.{All-at_last, by_last, last_get_of}
@@ -155,32 +156,25 @@ module _ (sum : List ℕ → ℕ) (size : ℕ) (more : List ℕ) (r : Reserved) 
   unwritten_reserved v (w ∷ ws) its = ap (λ (l : List BufferAt). unwritten_of v.parts ++ l) (unwritten_reserved w ws its)
 
   -- All begins below the end of the new record.
-  entered_more : (to to' place from : ℕ) (bs : List Sealed) (rs : List Reserved) → AreSealed from rs bs → to ≤ to' → place + sealed_end from bs < to' → AreEntered to place from bs rs → AreEntered to' place from bs (rs ++ r ∷ [])
-  entered_more to to' place from [] rs are up low entered = λ some. low
-  entered_more to to' place from (b ∷ bs) rs are up low entered =
-      let count = are.0.counted in
-      let within : b.count ≤ length rs = omega (arith, count, length-take b.count rs) in
-      (λ some. let old = entered.0 some in omega (arith, old, up), subst (λ (l : List Reserved). AreEntered to' place b.end bs l) (sym (drop-append-le b.count rs (r ∷ []) within)) (entered_more to to' place b.end bs (drop b.count rs) are.1 up low entered.1))
-
-  pub filled_reserved : (to to' place : ℕ) (v : SegmentView) (vs : List SegmentView) → AreSegments size place (v ∷ vs) → r.state ≡ Open → 0 < length more
+  pub filled_reserved : (to to' place : ℕ) (v : SegmentView) (vs : List SegmentView) → AreSegments size place (v ∷ vs) → r.state ≡ Open → r.from ≡ length (last_of v vs).parts.bytes → 0 < length more
       → to' ≡ (last_of v vs).parts.site.place + length (last_of v vs).parts.bytes + length more → AreFilled size to (v ∷ vs) → (to ≤ to') × AreFilled size to' (at_last now (v ∷ vs))
-  filled_reserved to to' place v [] are is_open some is filled =
+  filled_reserved to to' place v [] are is_open begins some is filled =
       let up : to ≤ to' = (let old = filled.1 in omega (arith, old, is)) in
       let facts = are.0 in
-      let begins = facts.begins in
       let long = length-append v.parts.bytes more in (
         up,
         (
           filled.0,
           omega (arith, is, long),
-          entered_more to to' v.parts.site.place v.parts.written_len v.parts.sealed v.parts.reserved facts.are up (omega (arith, begins, is, some)) filled.2,
+          entered_more to' v.parts.site.place v.parts.reserved r (entered_up to to' v.parts.site.place v.parts.reserved up filled.2) (λ _. omega (arith, begins, is, some)),
           filled.3,
           records_open v.parts.reserved r (length v.parts.bytes) (length (v.parts.bytes ++ more)) (λ k d lt. let inside = facts.within k d lt in let byte = (facts.headed k d lt).0 in omega (arith, inside, byte)) filled.4 is_open,
+          λ used. omega (arith, used, is, long),
         ),
       )
-  filled_reserved to to' place v (w ∷ []) are is_open some is filled =
-      let rest = filled_reserved to to' (place + size) w [] are.1 is_open some is filled.2 in
-      (rest.0, (filled.0, entered_up to to' v.parts.site.place v.parts.written_len v.parts.sealed v.parts.reserved rest.0 filled.1, rest.1, filled.3, behind_filling size to to' place v w [] are (inr (omega (arith, is, some))) filled.4))
-  filled_reserved to to' place v (w ∷ x ∷ xs) are is_open some is filled =
-      let rest = filled_reserved to to' (place + size) w (x ∷ xs) are.1 is_open some is filled.2 in
-      (rest.0, (filled.0, entered_up to to' v.parts.site.place v.parts.written_len v.parts.sealed v.parts.reserved rest.0 filled.1, rest.1, filled.3, behind_filling size to to' place v w (x ∷ xs) are (inr (omega (arith, is, some))) filled.4))
+  filled_reserved to to' place v (w ∷ []) are is_open begins some is filled =
+      let rest = filled_reserved to to' (place + size) w [] are.1 is_open begins some is filled.2 in
+      (rest.0, (filled.0, entered_up to to' v.parts.site.place v.parts.reserved rest.0 filled.1, rest.1, filled.3, behind_filling size to' place v w [] are (omega (arith, is, some)), used_up to to' v rest.0 filled.5))
+  filled_reserved to to' place v (w ∷ x ∷ xs) are is_open begins some is filled =
+      let rest = filled_reserved to to' (place + size) w (x ∷ xs) are.1 is_open begins some is filled.2 in
+      (rest.0, (filled.0, entered_up to to' v.parts.site.place v.parts.reserved rest.0 filled.1, rest.1, filled.3, behind_filling size to' place v w (x ∷ xs) are (omega (arith, is, some)), used_up to to' v rest.0 filled.5))

@@ -1,5 +1,5 @@
 -- A call that writes the buffers that begin below a place, and seals the current one first, where that does: what it makes of the log is what the write of those makes of the sealed one.
-use Rattle.std.proofs.Common.{◌≡◌, ◌∙◌, ◌≤◌, ◌<◌, ◌+◌, ap, sym, refl, arith, subst, ℕ, Bool, true, false, if◌then◌else◌, List, [], ◌∷◌, ◌++◌, length, map, None, Result, Ok, Err, OnOk, OnErr}
+use Rattle.std.proofs.Common.{◌≡◌, ◌∙◌, ◌≤◌, ◌<◌, ◌+◌, ◌*◌, ap, sym, refl, arith, subst, inl, inr, ℕ, Bool, true, false, nat_lt, if◌then◌else◌, List, [], ◌∷◌, ◌++◌, length, take, drop, map, None, Result, Ok, Err, OnOk, OnErr}
 use Rattle.std.specs.List.{Contains}
 use Rattle.std.proofs.lemmas.Bool.Decides.{nat_tests}
 use Rattle.sled_codec.specs.declared.result.Error.{Error}
@@ -10,8 +10,9 @@ use Rattle.sled_store.proofs.Segments.Elements.{in_nothing, only_in}
 use Rattle.sled_store.proofs.Traces.ScriptLemmas.{performs_nothing}
 use Rattle.sled_core.specs.Begun.{SegmentView, segment_view, view_at}
 use Rattle.sled_core.specs.declared.logger.Log.{Log}
-use Rattle.sled_core.specs.Causes.{HeldAnswers, OnDone}
+use Rattle.sled_core.specs.Causes.{HeldAnswers, IsHeld, OnDone}
 use Rattle.sled_core.specs.Fits.{AddsBuffers, IsUnchanged, IsUsedUp, IsUsedUpBelow, KeepsAll, KeepsTickets, NoneSealed, buffers_of, current_begin, current_of, device_of, fault_of, holding_below, reserved_end, sealing_end, segment_size_of, start_of, synced_end, waiting_of, writing_below}
+use Rattle.sled_core.specs.Fronts.{CameTo, SealedNone, WroteFront, syncs}
 use Rattle.sled_core.specs.Keeps.{LeavesAbove, LeavesSome, Preserves, SamePosition, WritesBelow, start_sealed}
 use Rattle.sled_core.specs.Marked.{BeginsMarked}
 use Rattle.sled_core.specs.Positions.{is_short}
@@ -22,7 +23,7 @@ use Rattle.sled_core.proofs.Line.Current.{ComeBehind, line_current}
 use Rattle.sled_core.proofs.Line.Entered.{filled_last}
 use Rattle.sled_core.proofs.Line.Facts.{current_facts}
 use Rattle.sled_core.proofs.Line.HeaderMarks.{none_begun}
-use Rattle.sled_core.proofs.Line.LogSpans.{above_first, leaves_above, left_all, some_first}
+use Rattle.sled_core.proofs.Line.LogSpans.{above_first, leaves_above, left_all, same_buffers, some_first}
 use Rattle.sled_core.proofs.Line.Lying.{lie_up, line_lie}
 use Rattle.sled_core.proofs.Line.Outcomes.{answers_used, held_alike, on_done, on_err, on_ok}
 use Rattle.sled_core.proofs.Line.Segments.{line_segments}
@@ -67,6 +68,20 @@ module _ {D C : Type 0} (sum : List ℕ → ℕ) (to : ℕ) (old mid : Log D C) 
 
     pub holding_more : holding_below sum mid to ≡ holding_below sum old to
     holding_more = ap (held_below to) adds.is ∙ held_front to (buffers_of sum old) adds.more (begin_all (reserved_end old) to adds.more reserved adds.behind)
+
+  -- so many of them at the front are written of the one as of the other
+  pub front_first : {trace : D → Trace} (adds : AddsBuffers sum old mid) (new : Log D C) → current_begin old < to → to ≤ current_begin mid → waiting_of mid ≡ buffers_of sum old → start_of mid ≡ start_sealed old → device_of mid ≡ device_of old
+      → WroteFront trace sum to mid new → WroteFront trace sum to old new
+  front_first {trace} adds new below sealed waiting start device front =
+      let before : nat_lt (current_begin old) to ≡ true = grind (arith, nat_tests, below) in
+      let behind : nat_lt (current_begin mid) to ≡ false = grind (arith, nat_tests, sealed) in
+      record {
+        count = front.count;
+        left = front.left ∙ (λ i. drop front.count (if behind i then buffers_of sum mid else waiting i)) ∙ sym (ap (λ (o : Bool). drop front.count (if o then buffers_of sum old else waiting_of old)) before);
+        start = front.start ∙ (λ i. if behind i then start_sealed mid else start i) ∙ sym (ap (λ (o : Bool). if o then start_sealed old else start_of old) before);
+        synced = front.synced ∙ ap (λ d. front.count + syncs (trace d)) device;
+        whole = λ sound. front.whole sound ∙ (λ i. after_all (take (2 * front.count) (writing_more adds i)) (trace (device i)));
+      }
 
   pub sealed_past : current_begin mid ≡ sealing_end old → to ≤ current_begin mid
   sealed_past begins = let most = ends_behind old in omega (arith, reserved, begins, most)
@@ -141,6 +156,24 @@ writes_err T S sum to old new e writes = record { seals = record { held = λ hel
 pub unchanged_performs : {D C : Type 0} (old new : Log D C) → IsUnchanged old new → (trace : D → Trace) (es : List Event) → Performs es (trace (device_of old)) (trace (device_of new))
 unchanged_performs {D} {C} old new same trace es = performs_nothing es _ _ (ap (λ (x : RunningConfig D C). trace x.device) same.config)
 
+-- Nothing was done.
+pub writes_none : {T D C : Type 0} (sum : List ℕ → ℕ) (to : ℕ) (log : Log D C) (e : Error) → (IsHeld {T = T} (Err e) → ⊥) → WritesBelow {T = T} sum (Err e) to log log
+writes_none sum to log e never = record {
+  seals = record { held = λ held. absurd (never held); none = λ unsealed. tt; err = λ unsealed. refl };
+  above = tt;
+  some = inl (refl, refl);
+  marked = none_begun sum log log refl;
+}
+
+pub still_came : {D C : Type 0} (trace : D → Trace) (sum : List ℕ → ℕ) (to : ℕ) (log : Log D C) → CameTo trace sum to log log
+still_came trace sum to log = inl (record { waiting = refl; start = refl; still = refl })
+
+-- so none was written
+pub unchanged_came : {D C : Type 0} (trace : D → Trace) (sum : List ℕ → ℕ) (to : ℕ) (old new : Log D C) → IsUnchanged old new → CameTo trace sum to old new
+unchanged_came {D} {C} trace sum to old new same =
+    let buffers = same_buffers old new same.line in
+    inl (record { waiting = buffers.0; start = buffers.1; still = ap (λ (x : RunningConfig D C). trace x.device) same.config })
+
 -- What a call has before it writes, where the buffers that begin below a place are sealed: the log that it was, or the one with its current buffer sealed.
 module _ {D C : Type 0} (trace : D → Trace) (sum : List ℕ → ℕ) (to : ℕ) where
   pub record SealedFor (old mid : Log D C) : Type 0 where
@@ -157,6 +190,7 @@ module _ {D C : Type 0} (trace : D → Trace) (sum : List ℕ → ℕ) (to : ℕ
     pub marked : BeginsMarked sum old mid
     pub writes : (new : Log D C) (result : Result (Unit {0}) Error) → current_begin new ≡ current_begin mid → (((b : BufferAt) → Contains (waiting_of mid) b → b.place < to) → OnOk result (NoneSealed new))
         → (length (waiting_of mid) ≤ 1 → OnErr result (synced_end new ≡ synced_end mid)) → OnOk result (LeavesAbove sum to mid new) → OnErr result (LeavesSome sum to mid new) → BeginsMarked sum old new → WritesBelow sum result to old new
+    pub fronts : (new : Log D C) → WroteFront trace sum to mid new → WroteFront trace sum to old new
 
   pub sealed_already : (log : Log D C) → fault_of log ≡ None → to ≤ reserved_end log → to ≤ current_begin log → SealedFor log log
   sealed_already log fault reserved past = record {
@@ -172,6 +206,7 @@ module _ {D C : Type 0} (trace : D → Trace) (sum : List ℕ → ℕ) (to : ℕ
     unused = λ used. let below = used.0 in omega (arith, past, below);
     marked = none_begun sum log log refl;
     writes = λ new result current none one above some marked. writes_still sum to log new result past current none one above some marked;
+    fronts = λ new front. front;
   }
 
   pub sealed_first : (old mid : Log D C) → fault_of old ≡ None → to ≤ reserved_end old → current_begin old < to → waiting_of mid ≡ buffers_of sum old → AddsBuffers sum old mid → current_begin mid ≡ sealing_end old → start_of mid ≡ start_sealed old
@@ -189,6 +224,7 @@ module _ {D C : Type 0} (trace : D → Trace) (sum : List ℕ → ℕ) (to : ℕ
     unused = λ used. unused used.1;
     marked = marked;
     writes = λ new result current none one above some known. writes_sealed sum to old mid reserved new result below begins waiting start same.synced current none one above some known;
+    fronts = λ new front. front_first sum to old mid reserved adds new below (sealed_past sum to old mid reserved begins) waiting start (ap (λ (x : RunningConfig D C). x.device) same.config) front;
   }
 
   -- and what it makes of the log as it was

@@ -30,7 +30,7 @@ use Rattle.sled_core.proofs.Holds.RunningLemmas.{fits-moved}
 use Rattle.sled_core.proofs.Holds.WholeLemmas.{holds-sealed}
 use Rattle.sled_core.proofs.Line.Facts.{current_facts}
 use Rattle.sled_core.proofs.Line.Last.{All-at_last, at_last_same, at_last_twice, by_last, last_changed, last_get_of}
-use Rattle.sled_core.proofs.Line.LineEnds.{end_at_last, end_last, first_at_last, noted_later, noted_same}
+use Rattle.sled_core.proofs.Line.LineEnds.{end_at_last, end_last, first_at_last, kept_same, noted_later, noted_same}
 use Rattle.sled_core.proofs.Line.Moves.{fits_as, holds_as}
 use Rattle.sled_core.proofs.Line.OpenPlaces.{places_sealed}
 use Rattle.sled_core.proofs.Sealed.Appended.{end_one}
@@ -109,7 +109,7 @@ module _ {D C : Type 0} (trace : D → Trace) (sum : List ℕ → ℕ) (old new 
   kept_noted = noted_same old new rest.noted sealed_synced
 
   pub sealed_same : KeepsAll old new
-  sealed_same = record { config = rest.config; synced = sealed_synced; noted = kept_noted; fault = rest.fault; pins = rest.pins }
+  sealed_same = record { config = rest.config; synced = sealed_synced; noted = kept_noted; kept = kept_same old new rest.noted; fault = rest.fault; pins = rest.pins }
 
   -- and the current segment is the same but for that.
   pub sealed_current : current_of new ≡ sealed_now (current_of old)
@@ -163,6 +163,7 @@ module _ {D C : Type 0} (trace : D → Trace) (sum : List ℕ → ℕ) (old new 
           entries = fits.entries;
         });
     noted = noted_later old new rest.noted (let same = sealed_synced in omega (arith, same));
+    kept = kept_same old new rest.noted;
   }
 
   -- What it held that wasn't sealed is among the sealed buffers, where a further record has room behind it.

@@ -11,6 +11,7 @@ use Rattle.sled_store.proofs.Segments.Elements.{in_nothing, only_in}
 use Rattle.sled_core.specs.Begun.{SegmentView, segment_view, view_at}
 use Rattle.sled_core.specs.declared.logger.Log.{Log}
 use Rattle.sled_core.specs.Fits.{AddsBuffers, IsUsedUp, KeepsAll, KeepsTickets, buffers_of, current_begin, current_of, device_of, fault_of, held_len, reserved_end, sealing_end, segment_size_of, start_of, synced_end, waiting_of}
+use Rattle.sled_core.specs.Fronts.{CameAround, WroteNone, syncs}
 use Rattle.sled_core.specs.Keeps.{Preserves, SamePosition, start_sealed}
 use Rattle.sled_core.specs.Marked.{BeginsMarked, KeepsSegment}
 use Rattle.sled_core.specs.ReadBuffer.{IsUsedUpAt, LeavesSealed, LeavesWritten, WritesAround, held_at, settling}
@@ -121,6 +122,16 @@ module _ {D C : Type 0} (trace : D → Trace) (sum : List ℕ → ℕ) (place : 
 
     pub leaves_written : waiting_of new ≡ without_around place (waiting_of mid) → LeavesWritten sum place old new
     leaves_written is = (is ∙ ap (without_around place) seals.sealed.0, start ∙ seals.sealed.1)
+
+    -- or it could not be
+    pub came_sealed : (waiting_of new ≡ waiting_of mid) × WroteNone trace mid new → CameAround trace sum place old new
+    came_sealed failed = inr (inl (
+      leaves_sealed failed.0,
+      record {
+        synced = failed.1.synced ∙ ap (λ d. syncs (trace d)) seals.device;
+        still = λ sound. failed.1.still sound ∙ ap trace seals.device;
+      },
+    ))
 
     pub writes_around : {T : Type 0} (r : Result T Error) → synced_end old ≤ place → OnOk r (waiting_of new ≡ without_around place (waiting_of mid)) → OnErr r (waiting_of new ≡ waiting_of mid) → KeepsSegment mid new → WritesAround sum r (pos place) old new
     writes_around r behind done failed segment = record {

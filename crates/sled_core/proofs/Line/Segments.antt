@@ -13,10 +13,11 @@ use Rattle.sled_core.specs.declared.iobuf.SegmentPosition.{SegmentPosition}
 use Rattle.sled_core.specs.declared.logger.Log.{Log}
 use Rattle.sled_core.specs.declared.logger.segments.SegmentBuffer.{SegmentBuffer}
 use Rattle.sled_core.specs.Fits.{line_of}
-use Rattle.sled_core.specs.SealedBuffers.{AreSealed, behind_run, is_ready, run_count, run_end, sealed_count, sealed_end, written_at}
+use Rattle.sled_core.specs.SealedBuffers.{AreSealed, behind_run, is_ready, run_count, sealed_count, sealed_end, written_at}
 use Rattle.sled_core.specs.Turned.{promoted, written_now}
 use Rattle.sled_core.proofs.Behind.FullHolds.{none_sealed}
 use Rattle.sled_core.proofs.Line.Facts.{IsSegment, nth_facts}
+use Rattle.sled_core.proofs.Reserve.BeginBelow.{entered_left}
 use Rattle.sled_core.proofs.Reserve.Ranges.{chain_grows}
 use Rattle.sled_core.proofs.Reserve.RecordEnds.{records_fewer}
 use Rattle.sled_core.proofs.Sealed.Around.{whole_chain}
@@ -166,28 +167,9 @@ promoted_same size v (w ∷ ws) waits =
     let low = waits (omega arith) in
     ap (λ (o : Bool). if o then promoted size (w ∷ ws) else v ∷ w ∷ ws) (let is : (v.parts.written_len == size) ≡ false = grind (arith, nat_tests, low) in is)
 
--- What has an entry begins below the same place once those of a segment that are written have gone.
-entered_run : (to place from : ℕ) (bs : List Sealed) (rs : List Reserved) → AreEntered to place from bs rs → AreEntered to place (run_end from bs) (behind_run bs) (drop (run_count bs) rs)
-entered_run to place from [] rs has = has
-entered_run to place from (b ∷ bs) rs has = by_test b.is_written (entered_run to place b.end bs (drop b.count rs) has.1) where
-  by_test : (o : Bool) → AreEntered to place (run_end b.end bs) (behind_run bs) (drop (run_count bs) (drop b.count rs))
-      → AreEntered to place (if o then run_end b.end bs else from) (if o then behind_run bs else b ∷ bs) (drop (if o then b.count + run_count bs else 0) rs)
-  by_test true rest = subst (λ (l : List Reserved). AreEntered to place (run_end b.end bs) (behind_run bs) l) (drop-drop (run_count bs) b.count rs) rest
-  by_test false rest = has
-
-entered_at : (to place from k : ℕ) (bs : List Sealed) (rs : List Reserved) → AreEntered to place from bs rs → AreEntered to place from (written_at k bs) rs
-entered_at to place from k [] rs has = has
-entered_at to place from zero (b ∷ bs) rs has = has
-entered_at to place from (suc k) (b ∷ bs) rs has = (has.0, entered_at to place b.end k bs (drop b.count rs) has.1)
-
-pub entered_written : (to k : ℕ) (v : SegmentView) → AreEntered to v.parts.site.place v.parts.written_len v.parts.sealed v.parts.reserved
-    → let w = written_now k v in AreEntered to w.parts.site.place w.parts.written_len w.parts.sealed w.parts.reserved
-entered_written to k v has =
-    entered_run to v.parts.site.place v.parts.written_len (written_at k v.parts.sealed) v.parts.reserved (entered_at to v.parts.site.place v.parts.written_len k v.parts.sealed v.parts.reserved has)
-
 -- Segments are filled as they were with another one in the place of one of them that lies there, begins its current buffer there, has as many bytes, is filled from there on, and whose records end no lower.
 pub filled_set : (size to : ℕ) (line : List SegmentView) (n : ℕ) (v e : SegmentView) → slice_get line n ≡ Some v → e.parts.site ≡ v.parts.site → begin_of e ≡ begin_of v → length e.parts.bytes ≡ length v.parts.bytes
-    → (AreEntered to v.parts.site.place v.parts.written_len v.parts.sealed v.parts.reserved → AreEntered to e.parts.site.place e.parts.written_len e.parts.sealed e.parts.reserved)
+    → (AreEntered to v.parts.site.place v.parts.reserved → AreEntered to v.parts.site.place e.parts.reserved)
     → e.parts.filled ≡ v.parts.filled → records_end v.parts.reserved (length v.parts.bytes) ≤ records_end e.parts.reserved (length v.parts.bytes) → {place : ℕ} → IsSegment size place v → AreFilled size to line → AreFilled size to (set line n e)
 filled_set size to [] n v e there site begins long entered filling records facts filled = filled
 filled_set size to (x ∷ []) zero v e there site begins long entered filling records facts filled =
@@ -198,9 +180,10 @@ filled_set size to (x ∷ []) zero v e there site begins long entered filling re
     let far = f.4 in (
       omega (arith, begins, low),
       omega (arith, place, long, inside),
-      entered f.2,
+      subst (λ p. AreEntered to p e.parts.reserved) (sym place) (entered f.2),
       subst IsUnfilled (sym filling) f.3,
       omega (arith, long, far, records, ap (records_end e.parts.reserved) long),
+      λ some. let up = f.5 (omega (arith, some, long)) in omega (arith, up, place),
     )
 filled_set size to (x ∷ []) (suc n) v e there site begins long entered filling records facts filled = cc
 filled_set size to (x ∷ w ∷ ws) zero v e there site begins long entered filling records facts filled =
@@ -209,15 +192,21 @@ filled_set size to (x ∷ w ∷ ws) zero v e there site begins long entered fill
     let full = f.0 in let begins_low = facts.begins in let short = facts.short in
     let whole : length v.parts.bytes ≡ size = omega (arith, full, begins_low, short) in
     let far = f.3 in let up = subst (λ n. records_end v.parts.reserved n ≤ records_end e.parts.reserved n) whole records in let kept = ap (λ (o : Option ℕ). records_to o size) filling in
-    let place : e.parts.site.place ≡ v.parts.site.place = ap (λ (p : SegmentPosition). p.place) site in
-    (begins ∙ f.0, entered f.1, f.2, omega (arith, far, up, kept), λ low. let lies = f.4 (omega (arith, low, place)) in omega (arith, lies, place, kept))
+    let place : e.parts.site.place ≡ v.parts.site.place = ap (λ (p : SegmentPosition). p.place) site in (
+      begins ∙ f.0,
+      subst (λ p. AreEntered to p e.parts.reserved) (sym place) (entered f.1),
+      f.2,
+      omega (arith, far, up, kept),
+      λ low. let lies = f.4 (omega (arith, low, place)) in omega (arith, lies, place, kept),
+      λ some. let used = f.5 (omega (arith, some, long)) in omega (arith, used, place),
+    )
 filled_set size to (x ∷ w ∷ ws) (suc zero) v e there site begins long entered filling records facts filled =
-    (filled.0, filled.1, filled_set size to (w ∷ ws) zero v e there site begins long entered filling records facts filled.2, filled.3, filled.4)
+    (filled.0, filled.1, filled_set size to (w ∷ ws) zero v e there site begins long entered filling records facts filled.2, filled.3, filled.4, filled.5)
 filled_set size to (x ∷ w ∷ ws) (suc (suc n)) v e there site begins long entered filling records facts filled =
-    (filled.0, filled.1, filled_set size to (w ∷ ws) (suc n) v e there site begins long entered filling records facts filled.2, filled.3, filled.4)
+    (filled.0, filled.1, filled_set size to (w ∷ ws) (suc n) v e there site begins long entered filling records facts filled.2, filled.3, filled.4, filled.5)
 
 -- So the segments are filled as before.
 pub filled_written : (size to : ℕ) (vs : List SegmentView) (n k : ℕ) (v : SegmentView) → slice_get vs n ≡ Some v → {place : ℕ} → IsSegment size place v → AreFilled size to vs → AreFilled size to (set vs n (written_now k v))
 filled_written size to vs n k v there facts =
-    filled_set size to vs n v (written_now k v) there refl (written_begin v k) refl (entered_written to k v) refl
+    filled_set size to vs n v (written_now k v) there refl (written_begin v k) refl (entered_left to v.parts.site.place (run_count (written_at k v.parts.sealed)) v.parts.reserved) refl
     (records_fewer (run_count (written_at k v.parts.sealed)) v.parts.reserved (max 20 v.parts.written_len) (length v.parts.bytes) (whole_chain v.parts.written_len v.parts.reserved v.parts.sealed (length v.parts.bytes) facts.are facts.chain)) facts

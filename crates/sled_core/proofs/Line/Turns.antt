@@ -1,5 +1,5 @@
 -- The current buffer is sealed where no further record has room in its segment: that is filled to its end, and the next one is begun.
-use Rattle.std.proofs.Common.{◌≡◌, ◌∙◌, ◌<◌, ◌≤◌, ◌+◌, ◌-ℤ◌, ap, sym, refl, arith, subst, ℕ, pos, Bool, true, false, if◌then◌else◌, max, List, [], ◌∷◌, ◌++◌, length, map, drop}
+use Rattle.std.proofs.Common.{◌≡◌, ◌∙◌, ◌≤◌, ◌+◌, ◌-ℤ◌, ap, sym, refl, arith, subst, ℕ, pos, Bool, true, false, if◌then◌else◌, List, [], ◌∷◌, ◌++◌, length, map}
 use Rattle.std.specs.List.{All}
 use Rattle.std.proofs.lemmas.Bool.Decides.{nat_tests}
 use Rattle.std.proofs.lemmas.List.Elements.{All-cons, All-nil}
@@ -7,18 +7,15 @@ use Rattle.sled_codec.proofs.Segments.{length-short_header}
 use Rattle.sled_store.specs.Device.{Trace}
 use Rattle.sled_store.specs.SegmentStates.{handed_out}
 use Rattle.sled_store.specs.declared.config.RunningConfig.{RunningConfig}
-use Rattle.sled_core.specs.Begun.{SegmentView, begin_of, segment_view, view_at}
-use Rattle.sled_core.specs.Buffers.{IsChain}
-use Rattle.sled_core.specs.declared.iobuf.Reserved.{Reserved}
+use Rattle.sled_core.specs.Begun.{SegmentView, segment_view, view_at}
 use Rattle.sled_core.specs.declared.logger.Log.{Log}
 use Rattle.sled_core.specs.Fits.{AddsBuffers, buffers_of, current_begin, current_of, line_of, machine_at, reserved_end, sealing_end, segment_size_of, stable_end, waiting_of}
 use Rattle.sled_core.specs.Keeps.{SamePosition}
 use Rattle.sled_core.specs.Positions.{is_short, next_segment_at}
-use Rattle.sled_core.specs.SealedBuffers.{sealed_count}
 use Rattle.sled_core.specs.Turned.{ChangesSlots, begun_view, next_line}
 use Rattle.sled_core.specs.Waiting.{BufferAt, as_sealed, at_last, buffer_at, closed_now, holds_any, sealed_now, turned_now, unwritten}
 use Rattle.sled_core.proofs.Line.Begins.{begins_position}
-use Rattle.sled_core.proofs.Line.Entered.{entered_current, filled_last}
+use Rattle.sled_core.proofs.Line.Entered.{filled_last}
 use Rattle.sled_core.proofs.Line.Facts.{current_facts}
 use Rattle.sled_core.proofs.Line.Last.{at_last_same, unwritten-append}
 use Rattle.sled_core.proofs.Line.LogSpans.{next_buffers}
@@ -29,24 +26,7 @@ at_last_behind f [] w = refl
 at_last_behind f (v ∷ []) w = refl
 at_last_behind f (v ∷ x ∷ xs) w = ap (λ (l : List SegmentView). v ∷ l) (at_last_behind f (x ∷ xs) w)
 
--- Reservations one behind another up to an end are some where they begin below it.
-chain_some : (from end : ℕ) (rs : List Reserved) → IsChain from rs end → from < end → 0 < length rs
-chain_some from end [] chain low = absurd (omega (arith, chain, low))
-chain_some from end (r ∷ rs) chain low = omega arith
-
-module _ {D C : Type 0} (log : Log D C) (some : holds_any (current_of log) ≡ true) (short : is_short (segment_size_of log) (length (current_of log).parts.bytes) ≡ true) where
-  -- What was reserved ends behind where it begins,
-  pub turns_low : current_begin log < reserved_end log
-  turns_low =
-      let v : SegmentView = current_of log in
-      let here = current_facts log in
-      let rs : List Reserved = drop (sealed_count v.parts.sealed) v.parts.reserved in
-      let big : 256 ≤ segment_size_of log = log.config.config.least in
-      let low : max 20 (begin_of v) < length v.parts.bytes = grind (arith, nat_tests, some, short, big) in
-      let last = filled_last (segment_size_of log) log.reserved_to (view_at log.site log.buffer) (map segment_view log.behind.items) log.filled in
-      entered_current log.reserved_to v.parts.site.place v.parts.written_len v.parts.sealed v.parts.reserved last.2 (chain_some (max 20 (begin_of v)) (length v.parts.bytes) rs here.chain low)
-
--- and within the segment.
+-- What was reserved ends within the segment.
 pub turns_within : {D C : Type 0} (log : Log D C) → reserved_end log ≤ (current_of log).parts.site.place + segment_size_of log
 turns_within log =
     let here = current_facts log in

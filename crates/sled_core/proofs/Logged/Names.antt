@@ -34,6 +34,7 @@ module _ (H R : History) (same : logged H ≡ logged R) where
         let other = alike_there R H (sym same) m there in
         let ends = fits.before other.0 other.1 b (alike_batch R H (sym same) b found) behind (subst (λ (x : Message). x.place < b.low) (sym other.2) low) in
         subst (λ (x : Message). x.place + x.size ≤ b.low) other.2 ends;
+    rising = λ b there. fits.rising b (alike_batch R H (sym same) b there);
   }
 
   module _ (sum : List ℕ → ℕ) where

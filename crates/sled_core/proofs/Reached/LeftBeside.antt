@@ -9,7 +9,7 @@ use Rattle.sled_codec.specs.History.{Message, History}
 use Rattle.sled_codec.specs.Places.{part}
 use Rattle.sled_codec.specs.Pointers.{lid_of}
 use Rattle.sled_codec.specs.Record.{IsHeader}
-use Rattle.sled_store.specs.Device.{LeavesLog}
+use Rattle.sled_store.specs.Device.{LeavesLog, Placement}
 use Rattle.sled_store.specs.Foreign.{NoForeignLog}
 use Rattle.sled_store.proofs.Segments.Elements.{in_first, in_rest, in_cases, in_nothing}
 use Rattle.sled_core.specs.declared.iterator.Segment.{Segment}
@@ -143,7 +143,7 @@ module _ (sum : List ℕ → ℕ) (size : ℕ) (some : 256 ≤ size) (old : List
       other_slots.found_stays sum size old slot from asked now left inside no_more leaves (omega (arith, some)) k (λ same. other (here ∙ ap (λ n. n * size) same)) least s here is
 
   -- Where only what the log wrote passes as its own, that is all.
-  pub same_beside : {placed : List (ℕ × List ℕ)} → NoForeignLog sum size (after_write old (slot * size + from) asked now) placed left → IsSameBeside sum size old left (slot * size)
+  pub same_beside : {placed : List Placement} → NoForeignLog sum size (after_write old (slot * size + from) asked now) placed left → IsSameBeside sum size old left (slot * size)
   same_beside only_own = record {
     found = λ least s other is. (
         let k : ℕ = s.slot / size in

@@ -4,7 +4,7 @@ use Rattle.std.specs.List.{Contains}
 use Rattle.sled_codec.specs.History.{History}
 use Rattle.sled_codec.specs.Record.{IsHeader}
 use Rattle.sled_codec.specs.Snapshots.{SnapshotModel}
-use Rattle.sled_store.specs.Device.{overwritten, LeavesLog}
+use Rattle.sled_store.specs.Device.{overwritten, LeavesLog, Placement}
 use Rattle.sled_store.specs.Foreign.{NoForeignLog}
 use Rattle.sled_core.specs.declared.iterator.Segment.{Segment}
 use Rattle.sled_core.specs.declared.iterator.scan.ScannedRecord.{ScannedRecord}
@@ -78,7 +78,7 @@ module _ (sum : List ℕ → ℕ) (none : NoHeaderOfZeros sum) (size : ℕ) (som
   path_first begins = let at : max 20 from ≡ 20 = omega (arith, begins) in subst (λ n. IsPath sum size new (slot * size) place n more stop) at path
 
   -- What a crash leaves of it.
-  pub torn_stands : (now left : List ℕ) → length now ≤ length asked → LeavesLog (after_write old (slot * size + from) asked now) left → {placed : List (ℕ × List ℕ)}
+  pub torn_stands : (now left : List ℕ) → length now ≤ length asked → LeavesLog (after_write old (slot * size + from) asked now) left → {placed : List Placement}
       → NoForeignLog sum size (after_write old (slot * size + from) asked now) placed left → StandsTo sum size left H A first reach
   torn_stands now left no_more leaves only_own = elim how [
     | inl g ↦ torn_behind sum size some old slot from asked now left inside no_more leaves until covers clean only_own H A first reach is g.scan g.there g.in_slot g.ended g.broken more stop why (clear_on g) (path_on g) (end_on g) truth (caps_on g)

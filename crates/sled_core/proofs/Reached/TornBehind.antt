@@ -9,7 +9,7 @@ use Rattle.sled_codec.specs.History.{Message, History}
 use Rattle.sled_codec.specs.Places.{part}
 use Rattle.sled_codec.specs.Record.{IsHeader}
 use Rattle.sled_codec.specs.Snapshots.{SnapshotModel}
-use Rattle.sled_store.specs.Device.{overwritten, LeavesLog}
+use Rattle.sled_store.specs.Device.{overwritten, LeavesLog, Placement}
 use Rattle.sled_store.specs.Foreign.{NoForeignLog}
 use Rattle.sled_core.specs.declared.iterator.Segment.{Segment}
 use Rattle.sled_core.specs.declared.iterator.scan.ScannedRecord.{ScannedRecord}
@@ -219,7 +219,7 @@ module _ (sum : List ℕ → ℕ) (size : ℕ) (some : 256 ≤ size) (old : List
 -- Where only what the log wrote passes as its own, a crash leaves the first of the records that were written.
 pub torn_behind : (sum : List ℕ → ℕ) (size : ℕ) (some : 256 ≤ size) (old : List ℕ) (slot from : ℕ) (asked now left : List ℕ) (inside : from + length asked ≤ size) (no_more : length now ≤ length asked)
     (leaves : LeavesLog (after_write old (slot * size + from) asked now) left) (until : ℕ) (covers : from + length asked ≤ until) (clean : (i : ℕ) → slot * size + from ≤ i → i < slot * size + until → get_or old i 0 ≡ 0)
-    {placed : List (ℕ × List ℕ)} (only_own : NoForeignLog sum size (after_write old (slot * size + from) asked now) placed left)
+    {placed : List Placement} (only_own : NoForeignLog sum size (after_write old (slot * size + from) asked now) placed left)
     (H : History) (A : ℕ) (first : SnapshotModel) (reach : ℕ) (is : StandsTo sum size old H A first reach)
     (z : Scanned) → Contains is.scanned z → z.segment.slot ≡ slot * size → z.stop ≡ from → z.why ≡ Broken → (more : List ScannedRecord) (stop : ℕ) (why : ScanEnd) → AreClear size until from more
     → IsPath sum size (overwritten old (slot * size + from) asked) (slot * size) z.segment.place from more stop → IsEnd sum size (overwritten old (slot * size + from) asked) (slot * size) z.segment.place stop why

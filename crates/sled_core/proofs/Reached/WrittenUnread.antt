@@ -8,8 +8,9 @@ use Rattle.sled_codec.specs.Places.{part}
 use Rattle.sled_codec.specs.Record.{IsHeader}
 use Rattle.sled_codec.specs.History.{History}
 use Rattle.sled_codec.specs.Snapshots.{SnapshotModel}
-use Rattle.sled_store.specs.Device.{overwritten, LeavesLog}
-use Rattle.sled_store.specs.Foreign.{at_first, NoForeignLog}
+use Rattle.sled_store.specs.Device.{overwritten, LeavesLog, Placement}
+use Rattle.sled_store.specs.Foreign.{NoForeignLog}
+use Rattle.sled_store.specs.Readers.{at_start}
 use Rattle.sled_store.proofs.LogFile.OverwrittenLemmas.{overwritten-below}
 use Rattle.sled_store.proofs.Segments.Elements.{in_nothing}
 use Rattle.sled_core.specs.declared.iterator.scan.ScanEnd.{ScanEnd}
@@ -75,7 +76,7 @@ module _ (sum : List ℕ → ℕ) (size : ℕ) (some : 256 ≤ size) (old : List
           [] z.stop Broken (λ x none. absurd (in_nothing x none)) ((λ capped. absurd (let never : Broken ≡ Capped = capped in cc)), (λ goes. absurd (goes refl))) (none_met new left sum size (slot * size) place z.stop Broken ends) (λ other. absurd (other broken))
 
     -- What a crash leaves of it.
-    pub torn_unread : (now left : List ℕ) → length now ≤ length asked → LeavesLog (after_write old (slot * size + from) asked now) left → {placed : List (ℕ × List ℕ)}
+    pub torn_unread : (now left : List ℕ) → length now ≤ length asked → LeavesLog (after_write old (slot * size + from) asked now) left → {placed : List Placement}
         → NoForeignLog sum size (after_write old (slot * size + from) asked now) placed left → StandsTo sum size left H A first reach
     unfolding EndsThere
     torn_unread now left no_more leaves {placed} own =
@@ -84,7 +85,7 @@ module _ (sum : List ℕ → ℕ) (size : ℕ) (some : 256 ≤ size) (old : List
         let far = behind.behind sum size some old slot from asked now left inside no_more leaves same H A first reach is z known in_slot z.stop low refl in
         let its = behind.header sum size some old slot from asked now left inside no_more leaves same H A first reach is z known in_slot z.stop low refl in
         let path = behind.before_left sum size some old slot from asked now left inside no_more leaves same H A first reach is z known in_slot z.stop low refl in
-        let comes = comes_along sum size left (slot * size) (mul-mod_left slot size) place 20 z.met z.stop path at_first in
+        let comes = comes_along sum size left (slot * size) (mul-mod_left slot size) place 20 z.met z.stop path at_start in
         let room = ends_old.0 in
         stands_unread now left no_more leaves same (
           room,
@@ -123,7 +124,7 @@ module _ (sum : List ℕ → ℕ) (size : ℕ) (some : 256 ≤ size) (old : List
         [] z.stop Full (λ x none. absurd (in_nothing x none)) ((λ capped. absurd (let never : Full ≡ Capped = capped in cc)), (λ goes. (is.caps z known).1 ended)) (none_met new left sum size (slot * size) z.segment.place z.stop Full full) (λ goes broken. cc)
 
     -- What a crash leaves of it.
-    pub torn_full : (now left : List ℕ) → length now ≤ length asked → LeavesLog (after_write old (slot * size + from) asked now) left → {placed : List (ℕ × List ℕ)}
+    pub torn_full : (now left : List ℕ) → length now ≤ length asked → LeavesLog (after_write old (slot * size + from) asked now) left → {placed : List Placement}
         → NoForeignLog sum size (after_write old (slot * size + from) asked now) placed left → StandsTo sum size left H A first reach
     torn_full now left no_more leaves {placed} own = stands_full now left no_more leaves (same_beside sum size some old slot from asked now left inside no_more leaves {placed = placed} own)
 
@@ -138,7 +139,7 @@ module _ (sum : List ℕ → ℕ) (size : ℕ) (some : 256 ≤ size) (old : List
     free = none_in_zeros sum 20 zeros (omega arith) old (slot * size) clean
 
     -- What a crash leaves of it.
-    pub torn_headless : (now left : List ℕ) → length now ≤ length asked → LeavesLog (after_write old (slot * size + from) asked now) left → {placed : List (ℕ × List ℕ)}
+    pub torn_headless : (now left : List ℕ) → length now ≤ length asked → LeavesLog (after_write old (slot * size + from) asked now) left → {placed : List Placement}
         → NoForeignLog sum size (after_write old (slot * size + from) asked now) placed left → StandsTo sum size left H A first reach
     torn_headless now left no_more leaves {placed} own =
         stands_without sum size some old slot from asked now left inside no_more leaves (same_beside sum size some old slot from asked now left inside no_more leaves {placed = placed} own) free H A first reach is

@@ -13,7 +13,7 @@ use Rattle.std.specs.Prelude.{Result, Ok, Err, IfOk}
 use Rattle.sled_core.specs.declared.logger.read_message.LogRead.{LogRead}
 use Rattle.sled_core.specs.declared.logger.read_message.LogRead.TheVariants.{Inline, Blob, Canceled, Cap, Corrupted, DanglingBlob, BatchManifest}
 use Rattle.sled_codec.specs.SpellingLaws.{same_fronts, same_rests}
-use Rattle.sled_core.specs.Reading.{StandsAt, IsLaid, HoldsAs, IsRecordRead, is_inline, is_blob}
+use Rattle.sled_core.specs.Reading.{StandsAt, IsAnnounced, IsLaid, HoldsAs, IsRecordRead, is_inline, is_blob}
 
 -- a number whose lead is a byte has nine bytes at most
 number_short : (text : List ℕ) (v : ℕ) → SpellsNumber text v → get_or text 0 0 < 256 → (1 ≤ length text) × (length text ≤ 9)
@@ -169,6 +169,23 @@ laid_of sum size log lid number h body len stands =
       },
       long,
     )
+
+-- So it is announced there.
+pub announced_of : (sum : List ℕ → ℕ) (size : ℕ) (log : List ℕ) (lid number : ℕ) (h : MessageHeader) (body : List ℕ) (len : ℕ) → StandsAt sum size log lid number h body len → IsAnnounced size log lid number
+announced_of sum size log lid number h body len stands =
+    let n : ℕ = length stands.header in
+    let long : len ≡ n + length body = (laid_of sum size log lid number h body len stands).1 in
+    let counted = stands.counted in
+    let end = stands.in_slot in
+    record {
+      header = stands.header;
+      announced = h;
+      spelled = stands.spelled;
+      is = part_front log lid n len (omega (arith, long)) ∙ ap (take n) stands.is ∙ take_at stands.header body n refl;
+      numbered = stands.numbered;
+      valid = stands.valid;
+      in_slot = omega (arith, long, counted, end);
+    }
 
 -- What is laid with a right sum stands there.
 pub stands_of : (sum : List ℕ → ℕ) (size : ℕ) (log : List ℕ) (lid number : ℕ) (header : List ℕ) (h : MessageHeader) (body : List ℕ) (laid : IsLaid size log lid number header h body)

@@ -3,7 +3,7 @@ use Rattle.std.proofs.Common.{◌≡◌, ◌≤◌, ◌<◌, ◌+◌, ◌%◌, �
 use Rattle.std.specs.List.{All}
 use Rattle.sled_codec.specs.History.{History}
 use Rattle.sled_codec.specs.Snapshots.{SnapshotModel}
-use Rattle.sled_store.specs.Device.{overwritten, LeavesLog}
+use Rattle.sled_store.specs.Device.{overwritten, LeavesLog, Placement}
 use Rattle.sled_store.specs.Foreign.{NoForeignLog}
 use Rattle.sled_store.proofs.Segments.FitLemmas.{all_front}
 use Rattle.sled_core.specs.OpenBatches.{stable_below}
@@ -89,7 +89,7 @@ module _ (sum : List ℕ → ℕ) (none : NoHeaderOfZeros sum) (size : ℕ) (som
 
     -- What a crash leaves of it, in any segment that stands so far.
     pub torn_in_gap : (is : StandsTo sum size file H (stable_below reach H.batches) first reach) → {records : ℕ} → StandsIn sum size file (least_place size first) is.scanned site from records → (now left : List ℕ) → length now ≤ length asked → LeavesLog (after_write file (site.slot + at) asked now) left
-        → {placed : List (ℕ × List ℕ)} → NoForeignLog sum size (after_write file (site.slot + at) asked now) placed left → StandsTo sum size left H (stable_below reach H.batches) first reach
+        → {placed : List Placement} → NoForeignLog sum size (after_write file (site.slot + at) asked now) placed left → StandsTo sum size left H (stable_below reach H.batches) first reach
     torn_in_gap is its now left no_more leaves {placed} only_own =
         torn_gap sum none size some file site from at asked fits slot_begins has_room x.end gap lies.0 (head_headed from rs x (xs ++ b ∷ rest) are) clean reach H first is its now left no_more leaves {placed = placed} only_own
 
@@ -100,7 +100,7 @@ module _ (sum : List ℕ → ℕ) (none : NoHeaderOfZeros sum) (size : ℕ) (som
         gap_stands sum none size some file site from at asked fits slot_begins has_room x.end gap lies.0 (head_headed from rs x (xs ++ b ∷ rest) are) clean reach H first is its there
 
     -- What a crash leaves of it, in the first segment.
-    pub torn_behind_unwritten : {others : List BegunSegment} → StandsAmong sum size file site from others reach H first → (now left : List ℕ) → length now ≤ length asked → LeavesLog (after_write file (site.slot + at) asked now) left → {placed : List (ℕ × List ℕ)}
+    pub torn_behind_unwritten : {others : List BegunSegment} → StandsAmong sum size file site from others reach H first → (now left : List ℕ) → length now ≤ length asked → LeavesLog (after_write file (site.slot + at) asked now) left → {placed : List Placement}
         → NoForeignLog sum size (after_write file (site.slot + at) asked now) placed left → StandsTo sum size left H (stable_below reach H.batches) first reach
     torn_behind_unwritten alone now left no_more leaves {placed} only_own = torn_in_gap alone.stands alone.here now left no_more leaves {placed = placed} only_own
 

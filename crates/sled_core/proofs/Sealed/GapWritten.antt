@@ -6,7 +6,7 @@ use Rattle.std.specs.List.{Contains}
 use Rattle.sled_codec.specs.Record.{IsHeader}
 use Rattle.sled_codec.specs.History.{History}
 use Rattle.sled_codec.specs.Snapshots.{SnapshotModel}
-use Rattle.sled_store.specs.Device.{overwritten, LeavesLog}
+use Rattle.sled_store.specs.Device.{overwritten, LeavesLog, Placement}
 use Rattle.sled_store.specs.Foreign.{NoForeignLog}
 use Rattle.sled_core.specs.Begun.{records_to}
 use Rattle.sled_core.specs.OpenBatches.{stable_below}
@@ -51,7 +51,7 @@ module _ (sum : List ℕ → ℕ) (none : NoHeaderOfZeros sum) (size : ℕ) (som
   far begins = let h = headed begins in omega (arith, h, before)
 
   -- What a crash leaves of it.
-  pub torn_gap : (now left : List ℕ) → length now ≤ length asked → LeavesLog (after_write old (site.slot + at) asked now) left → {placed : List (ℕ × List ℕ)}
+  pub torn_gap : (now left : List ℕ) → length now ≤ length asked → LeavesLog (after_write old (site.slot + at) asked now) left → {placed : List Placement}
       → NoForeignLog sum size (after_write old (site.slot + at) asked now) placed left → StandsTo sum size left H (stable_below reach H.batches) first reach
   torn_gap now left no_more leaves {placed} only_own =
       let leaves_there = subst (λ n. LeavesLog (after_write old (n + at) asked now) left) (sym its_slot) leaves in

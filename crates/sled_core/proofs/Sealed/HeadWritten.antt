@@ -7,7 +7,7 @@ use Rattle.sled_codec.specs.Places.{part}
 use Rattle.sled_codec.specs.Record.{IsHeader}
 use Rattle.sled_codec.specs.History.{History}
 use Rattle.sled_codec.specs.Snapshots.{SnapshotModel}
-use Rattle.sled_store.specs.Device.{overwritten, LeavesLog}
+use Rattle.sled_store.specs.Device.{overwritten, LeavesLog, Placement}
 use Rattle.sled_store.specs.Foreign.{NoForeignLog}
 use Rattle.sled_store.proofs.Histories.Ascending.{Ascends}
 use Rattle.sled_core.specs.Begun.{records_to}
@@ -143,7 +143,7 @@ module _ (sum : List ℕ → ℕ) (none : NoHeaderOfZeros sum) (size : ℕ) (som
   truth_there = subst (λ n. (x : ScannedRecord) → Contains more x → IsOfHistory sum size (overwritten old (n + from) asked) H x) (sym its_slot) truth
 
   -- What a crash leaves of it.
-  pub torn_head : (now left : List ℕ) → length now ≤ length asked → LeavesLog (after_write old (site.slot + from) asked now) left → {placed : List (ℕ × List ℕ)}
+  pub torn_head : (now left : List ℕ) → length now ≤ length asked → LeavesLog (after_write old (site.slot + from) asked now) left → {placed : List Placement}
       → NoForeignLog sum size (after_write old (site.slot + from) asked now) placed left → StandsTo sum size left H (stable_below reach H.batches) first reach
   torn_head now left no_more leaves {placed} only_own =
       torn_stands sum none size some old slot from asked inside until covers clean_there H (stable_below reach H.batches) first reach alone.stands site.place goes_on more stop why clear path_there end_there truth_there caps now left no_more

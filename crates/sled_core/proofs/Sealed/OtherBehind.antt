@@ -3,7 +3,7 @@ use Rattle.std.proofs.Common.{◌≡◌, ◌≤◌, ◌+◌, ◌%◌, ◌⊎◌,
 use Rattle.std.specs.List.{All, Contains}
 use Rattle.sled_codec.specs.History.{History}
 use Rattle.sled_codec.specs.Snapshots.{SnapshotModel}
-use Rattle.sled_store.specs.Device.{overwritten, LeavesLog}
+use Rattle.sled_store.specs.Device.{overwritten, LeavesLog, Placement}
 use Rattle.sled_store.specs.Foreign.{NoForeignLog}
 use Rattle.sled_core.specs.OpenBatches.{stable_below}
 use Rattle.sled_core.specs.declared.iobuf.Reserved.{Reserved}
@@ -32,7 +32,7 @@ module _ (sum : List ℕ → ℕ) (none : NoHeaderOfZeros sum) (size : ℕ) (som
   asked = bytes_between bytes at b.end
 
   -- What a crash leaves of it.
-  pub torn_other_behind : (now left : List ℕ) → length now ≤ length asked → LeavesLog (after_write file (y.site.slot + at) asked now) left → {placed : List (ℕ × List ℕ)}
+  pub torn_other_behind : (now left : List ℕ) → length now ≤ length asked → LeavesLog (after_write file (y.site.slot + at) asked now) left → {placed : List Placement}
       → NoForeignLog sum size (after_write file (y.site.slot + at) asked now) placed left → StandsTo sum size left H (stable_below reach H.batches) first reach
   torn_other_behind = torn_in_gap sum none size some file y.site slot_begins bytes y.from begins rs x xs b rest fresh are rise inside number stand reach H first file laid among.stands (among.behind y known)
 

@@ -8,7 +8,7 @@ use Rattle.sled_codec.specs.History.{History}
 use Rattle.sled_codec.specs.Places.{part}
 use Rattle.sled_codec.specs.Record.{IsHeader}
 use Rattle.sled_codec.specs.Snapshots.{SnapshotModel}
-use Rattle.sled_store.specs.Device.{overwritten, LeavesLog}
+use Rattle.sled_store.specs.Device.{overwritten, LeavesLog, Placement}
 use Rattle.sled_store.specs.Foreign.{NoForeignLog}
 use Rattle.sled_store.proofs.Histories.Ascending.{Ascends}
 use Rattle.sled_store.proofs.Segments.Elements.{in_first}
@@ -156,7 +156,7 @@ module _ (sum : List ℕ → ℕ) (none : NoHeaderOfZeros sum) (size : ℕ) (som
 
   module _ (has : HasOnly H (completed_in y.site bytes done) (batches_in y.site bytes done) (y.site.place + max 20 y.from) (y.site.place + stop)) (no_end : why ≢ Broken → NoBatchEnds H (y.site.place + last) (y.site.place + size)) where
     -- What a crash leaves of it.
-    pub torn_other_sealed : (now left : List ℕ) → length now ≤ length asked → LeavesLog (after_write file (y.site.slot + y.from) asked now) left → {placed : List (ℕ × List ℕ)}
+    pub torn_other_sealed : (now left : List ℕ) → length now ≤ length asked → LeavesLog (after_write file (y.site.slot + y.from) asked now) left → {placed : List Placement}
         → NoForeignLog sum size (after_write file (y.site.slot + y.from) asked now) placed left → StandsTo sum size left H (stable_below reach H.batches) first reach
     torn_other_sealed now left no_more leaves {placed} only_own = elim (cases_lt size (y.from + 32)) [
       | inl full ↦ torn_rest sum size some file y.site y.from y.from asked fits slot_begins (omega arith) left_over full reach H first among.stands its_stands now left no_more leaves {placed = placed} only_own

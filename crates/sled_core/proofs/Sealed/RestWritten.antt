@@ -5,7 +5,7 @@ use Rattle.std.proofs.Math.Nat.{mod-add-div'}
 use Rattle.std.proofs.lemmas.List.Elements.{Contains-append_right}
 use Rattle.sled_codec.specs.History.{History}
 use Rattle.sled_codec.specs.Snapshots.{SnapshotModel}
-use Rattle.sled_store.specs.Device.{overwritten, LeavesLog}
+use Rattle.sled_store.specs.Device.{overwritten, LeavesLog, Placement}
 use Rattle.sled_store.specs.Foreign.{NoForeignLog}
 use Rattle.sled_store.proofs.Segments.Elements.{in_first}
 use Rattle.sled_core.specs.Begun.{records_to}
@@ -48,7 +48,7 @@ module _ (sum : List ℕ → ℕ) (size : ℕ) (some : 256 ≤ size) (old : List
   stops = elim read.3 [ inl (there, broken) ↦ read.2.ended ∙ there | inr (whole, goes) ↦ absurd (omega (arith, whole, left_over)) ]
 
   -- What a crash leaves of it.
-  pub torn_rest : (now left : List ℕ) → length now ≤ length asked → LeavesLog (after_write old (site.slot + at) asked now) left → {placed : List (ℕ × List ℕ)}
+  pub torn_rest : (now left : List ℕ) → length now ≤ length asked → LeavesLog (after_write old (site.slot + at) asked now) left → {placed : List Placement}
       → NoForeignLog sum size (after_write old (site.slot + at) asked now) placed left → StandsTo sum size left H (stable_below reach H.batches) first reach
   torn_rest now left no_more leaves {placed} only_own =
       torn_full sum size some old slot at asked inside H (stable_below reach H.batches) first reach is z read.2.there (read.2.in_slot ∙ sym its_slot) (omega (arith, stops, behind)) (omega (arith, stops, full)) now left no_more

@@ -2,7 +2,7 @@
 use Rattle.std.proofs.Common.{◌≡◌, ◌≤◌, ℕ, List, [], ◌∷◌, length, sym, refl, subst, arith}
 use Rattle.sled_codec.specs.History.{History}
 use Rattle.sled_codec.specs.Snapshots.{SnapshotModel}
-use Rattle.sled_store.specs.Device.{Event, LogState, State, Wrote, Synced, LeavesLog, at_rest, log_step, overwritten, step}
+use Rattle.sled_store.specs.Device.{Event, LogState, State, Wrote, Synced, LeavesLog, at_rest, log_step, overwritten, step, Placement}
 use Rattle.sled_store.specs.Foreign.{NoForeignLog}
 use Rattle.sled_store.specs.Script.{Along}
 use Rattle.sled_store.proofs.Histories.Ascending.{Ascends}
@@ -18,7 +18,7 @@ use Rattle.sled_core.proofs.Torn.TornLemmas.{after_write}
 module _ (sum : List ℕ → ℕ) (size : ℕ) (some : 256 ≤ size) (device : State) (rest : device.log ≡ at_rest device.log.bytes) (H : History) (f : ℕ) (first : SnapshotModel) (reach reach' : ℕ) (up : reach ≤ reach')
     (ordered : Ascends (logged H).messages) (stored : KeepsItems sum device.blobs H (stable_below reach H.batches)) (names : NamesFit sum size device.snapshots (logged H) f first) (blobs : BlobsFit sum device.blobs H (stable_below reach H.batches))
     (before : LeavesRecoverable sum size H (stable_below reach H.batches) f device) (at : ℕ) (asked : List ℕ)
-    (torn : NoHeaderOfZeros sum → (now left : List ℕ) → length now ≤ length asked → LeavesLog (after_write device.log.bytes at asked now) left → (placed : List (ℕ × List ℕ))
+    (torn : NoHeaderOfZeros sum → (now left : List ℕ) → length now ≤ length asked → LeavesLog (after_write device.log.bytes at asked now) left → (placed : List Placement)
     → NoForeignLog sum size (after_write device.log.bytes at asked now) placed left → StandsTo sum size left (logged H) (stable_below reach H.batches) first reach)
     (whole : NoHeaderOfZeros sum → StandsTo sum size (overwritten device.log.bytes at asked) (logged H) (stable_below reach' H.batches) first reach') where
   -- the stable place before the write, and behind it
@@ -42,7 +42,7 @@ module _ (sum : List ℕ → ℕ) (size : ℕ) (some : 256 ≤ size) (device : S
   write_leaves : (now : List ℕ) → length now ≤ length asked → LeavesRecoverable sum size H low f (while_written now)
   write_leaves now no_more = λ left leaves only_own.
       let stands = torn only_own.zeros now left.log no_more (subst (λ (s : LogState). LeavesLog (log_step (Wrote at asked now) s) left.log) rest leaves.log)
-      ((at, asked) ∷ device.placed) (subst (λ (s : LogState). NoForeignLog sum size (log_step (Wrote at asked now) s) ((at, asked) ∷ device.placed) left.log) rest only_own.log) in
+      (record { at = at; bytes = asked; since = [] } ∷ device.placed) (subst (λ (s : LogState). NoForeignLog sum size (log_step (Wrote at asked now) s) (record { at = at; bytes = asked; since = [] } ∷ device.placed) left.log) rest only_own.log) in
       stands_recoverable sum size some left H low f first reach ordered (left_items sum device.blobs left.blobs H low leaves.blobs stored) (names left.snapshots leaves.snapshots only_own.snapshots) (blobs left.blobs leaves.blobs only_own.blobs) stands
 
   -- what stands up to the place needs no more blobs

@@ -4,7 +4,7 @@ use Rattle.std.proofs.Math.Nat.{mul-mod_left, mod-add-div'}
 use Rattle.sled_codec.specs.declared.serialization.message.MessageHeader.{MessageHeader}
 use Rattle.sled_codec.specs.Places.{part}
 use Rattle.sled_codec.specs.Record.{IsHeader}
-use Rattle.sled_store.specs.Device.{LogState}
+use Rattle.sled_store.specs.Device.{LogState, Placement}
 use Rattle.sled_store.specs.Foreign.{IsWhole, NoForeignLog}
 use Rattle.sled_core.specs.declared.iterator.Segment.{Segment}
 use Rattle.sled_core.specs.declared.iterator.scan.ScannedRecord.{ScannedRecord}
@@ -13,7 +13,7 @@ use Rattle.sled_core.specs.Reading.{StandsAt}
 use Rattle.sled_core.specs.Scan.{IsFoundSegment, IsScan}
 use Rattle.sled_core.proofs.Flush.LogFileLemmas.{record_moved}
 use Rattle.sled_core.proofs.Read.FoundLemmas.{found_there}
-use Rattle.sled_core.proofs.Torn.TornRecords.{record_of_stands, long_enough}
+use Rattle.sled_core.proofs.Torn.TornRecords.{long_enough, record_read}
 use Rattle.sled_core.proofs.Torn.WrittenBeside.{found_moved}
 use Rattle.sled_core.proofs.Torn.WrittenParts.{ComesTo, twenty, all_there, in_this_file, in_segment, scan_alike, scan_was}
 
@@ -45,7 +45,7 @@ module _ (sum : List ℕ → ℕ) (size : ℕ) (old left : List ℕ) (slot : ℕ
   found_same long least s here is = found_moved sum size old left least s (same s.slot 20 (omega (arith, here)) (omega (arith, here, long)) (found_there sum size old least s is)) is
 
   -- Where only what stood there passes, too.
-  module _ (past : LogState) (stood : StoodIn size past old slot) {placed : List (ℕ × List ℕ)} (only_own : NoForeignLog sum size past placed left) (long : 20 ≤ size) where
+  module _ (past : LogState) (stood : StoodIn size past old slot) {placed : List Placement} (only_own : NoForeignLog sum size past placed left) (long : 20 ≤ size) where
     -- A header that passes there did so before.
     pub header_was : (lsn mark : ℤ) → IsHeader sum (part left (slot * size) 20) lsn mark → part old (slot * size) 20 ≡ part left (slot * size) 20
     header_was lsn mark is =
@@ -61,16 +61,17 @@ module _ (sum : List ℕ → ℕ) (size : ℕ) (old left : List ℕ) (slot : ℕ
 
     module _ (place : ℕ) (mark : ℤ) (header : IsHeader sum (part left (slot * size) 20) (pos place) mark) where
       -- A record of its number that a reader comes to stood there before.
-      record_was : (from : ℕ) → ComesTo sum size left (slot * size) place from → from < size → (h : MessageHeader) (body : List ℕ) (len : ℕ)
+      record_was : (from : ℕ) → ComesTo sum size left (slot * size) place from → from + 32 ≤ size → (h : MessageHeader) (body : List ℕ) (len : ℕ)
           → StandsAt sum size left (slot * size + from) (place / size) h body len → StandsAt sum size old (slot * size + from) (place / size) h body len
-      record_was from comes below h body len s =
-          let fits = in_segment sum size left (slot * size) (mul-mod_left slot size) from (place / size) h body len below s in
+      record_was from comes room h body len s =
+          let fits = in_segment sum size left (slot * size) (mul-mod_left slot size) from (place / size) h body len (omega (arith, room)) s in
+          let read = record_read sum size left (record { place = place; slot = slot * size }) (mul-mod_left slot size) (place / size) 20 from h body len room s comes in
           let whole = all_there sum size left (slot * size + from) (place / size) h body len s in
           let some = long_enough sum size left (slot * size + from) (place / size) h body len s in
           let alike : part old (slot * size + from) len ≡ part left (slot * size + from) len =
           ap (part old (slot * size + from)) (sym whole)
           ∙ stood (slot * size + from) (part left (slot * size + from) len) (omega arith) (omega (arith, whole, fits)) (omega (arith, whole, some))
-          (only_own.records slot place mark from len h.kind h.pid body header comes fits (record_of_stands sum size left (slot * size + from) (place / size) h body len s)).1 in
+          (only_own.records slot place mark from len header read).1 in
           record_moved sum size left old (slot * size + from) (place / size) h body len alike (in_this_file sum size old left (slot * size + from) len (omega (arith, some)) whole alike) s
 
       -- All is met as before.
@@ -84,4 +85,4 @@ module _ (sum : List ℕ → ℕ) (size : ℕ) (old left : List ℕ) (slot : ℕ
 -- Where the slot is the same in both files, all is met alike.
 pub scan_same : (sum : List ℕ → ℕ) (size : ℕ) (old left : List ℕ) (slot : ℕ) → SameIn size old left slot → SameIn size left old slot → (place : ℕ) (met : List ScannedRecord) (stop : ℕ) (why : ScanEnd)
     → IsScan sum size old (slot * size) place met stop why → IsScan sum size left (slot * size) place met stop why
-scan_same sum size old left slot same back place = scan_alike sum size old left slot place (record_same sum size old left slot same place) (λ from comes. record_same sum size left old slot back place from)
+scan_same sum size old left slot same back place = scan_alike sum size old left slot place (record_same sum size old left slot same place) (λ from comes room. record_same sum size left old slot back place from (omega (arith, room)))

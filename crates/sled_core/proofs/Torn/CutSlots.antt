@@ -5,7 +5,7 @@ use Rattle.std.proofs.lemmas.Bool.{cases_lt}
 use Rattle.std.proofs.lemmas.List.{get_or_past}
 use Rattle.sled_codec.specs.Places.{part}
 use Rattle.sled_codec.specs.Record.{IsHeader}
-use Rattle.sled_store.specs.Device.{LogState, log_step, at_rest, Cut, LeavesLog}
+use Rattle.sled_store.specs.Device.{LogState, log_step, at_rest, Cut, LeavesLog, Placement}
 use Rattle.sled_store.specs.Foreign.{IsWhole, NoForeignLog}
 use Rattle.sled_store.proofs.LogFile.LogLemmas.{durable_at_rest, durable_cut, durable_left, part_cut}
 use Rattle.sled_store.proofs.Segments.Elements.{in_nothing}
@@ -58,7 +58,7 @@ module _ (sum : List ℕ → ℕ) (size : ℕ) (old : List ℕ) (slots now : ℕ
           ∙ part_cut old now lid (lid + len) there (omega (arith, ends, no_less))
           ∙ ap (λ n. take n (drop lid old)) count
 
-    module _ {placed : List (ℕ × List ℕ)} (only_own : NoForeignLog sum size (after_cut size old slots now) placed left) (long : 20 ≤ size) where
+    module _ {placed : List Placement} (only_own : NoForeignLog sum size (after_cut size old slots now) placed left) (long : 20 ≤ size) where
       -- A header that passes in any slot did so before.
       pub cut_header_was : (slot : ℕ) (lsn mark : ℤ) → IsHeader sum (part left (slot * size) 20) lsn mark → IsHeader sum (part old (slot * size) 20) lsn mark
       cut_header_was slot lsn mark is =

@@ -7,7 +7,7 @@ use Rattle.std.proofs.lemmas.List.Elements.{All-contains, All-tail}
 use Rattle.sled_codec.specs.Places.{part}
 use Rattle.sled_codec.specs.Record.{IsHeader}
 use Rattle.sled_store.specs.Begin.{fill}
-use Rattle.sled_store.specs.Device.{Trace, LogState, state_of, log_step, at_rest, Wrote, LeavesLog}
+use Rattle.sled_store.specs.Device.{Trace, LogState, state_of, log_step, at_rest, Wrote, LeavesLog, Placement}
 use Rattle.sled_store.specs.Durable.{IsDurable}
 use Rattle.sled_store.specs.Foreign.{Covers, IsWhole, NoForeignLog}
 use Rattle.sled_store.specs.Script.{after_all}
@@ -138,7 +138,7 @@ module _ (sum : List ℕ → ℕ) (size : ℕ) (old ks : List ℕ) (s : LogState
       let zero : text ≡ replicate 20 0 = covered_zeros (write.0 * size) size lid text (subst (λ (x : ℕ × List ℕ). Covers x lid text) write.2 covers) ∙ ap (λ n. replicate n 0) twenty in
       absurd (none lsn mark (subst (λ (l : List ℕ). IsHeader sum l lsn mark) zero is_header))
 
-  module _ (left : List ℕ) (leaves : LeavesLog s left) {placed : List (ℕ × List ℕ)} (only_own : NoForeignLog sum size s placed left) where
+  module _ (left : List ℕ) (leaves : LeavesLog s left) {placed : List Placement} (only_own : NoForeignLog sum size s placed left) where
     -- A header that passes in any slot did so before.
     pub header_stood : NoHeaderOfZeros sum → (slot : ℕ) (lsn mark : ℤ) → IsHeader sum (part left (slot * size) 20) lsn mark → part old (slot * size) 20 ≡ part left (slot * size) 20
     header_stood none slot lsn mark passes =

@@ -9,7 +9,7 @@ use Rattle.std.proofs.lemmas.List.Elements.{All-cons}
 use Rattle.sled_codec.specs.Places.{part}
 use Rattle.sled_codec.specs.Record.{IsHeader}
 use Rattle.sled_store.specs.Begin.{filling}
-use Rattle.sled_store.specs.Device.{Event, Trace, LogState, State, Content, state_of, at_rest, LeavesLog}
+use Rattle.sled_store.specs.Device.{Event, Trace, LogState, State, Content, state_of, at_rest, LeavesLog, Placement}
 use Rattle.sled_store.specs.Foreign.{NoForeignLog}
 use Rattle.sled_store.specs.Moments.{AllLeft}
 use Rattle.sled_store.specs.Script.{Along, after_all}
@@ -70,7 +70,7 @@ module _ (sum : List ℕ → ℕ) (size : ℕ) (Used : ℕ → Type 0) where
     -- Slots that aren't used are filled.
     module _ (none : NoHeaderOfZeros sum) (old ks : List ℕ) (apart : (j : ℕ) → Used j → All (λ k. k ≢ j) ks) where
       -- while that is done
-      pub filling_keeps : (s : LogState) → IsFilling size old ks s → (left : List ℕ) → LeavesLog s left → {placed : List (ℕ × List ℕ)} → NoForeignLog sum size s placed left → KeepsSlots sum size Used old left
+      pub filling_keeps : (s : LogState) → IsFilling size old ks s → (left : List ℕ) → LeavesLog s left → {placed : List Placement} → NoForeignLog sum size s placed left → KeepsSlots sum size Used old left
       filling_keeps s is left leaves only_own = record {
         before = found_before sum size old ks s is left leaves only_own none;
         found = λ j used. found_stays sum size old ks s is left leaves only_own long j (apart j used);
@@ -96,7 +96,7 @@ module _ (sum : List ℕ → ℕ) (size : ℕ) (Used : ℕ → Type 0) where
     -- Slots above the used ones are cut off.
     module _ (old : List ℕ) (slots : ℕ) (below : (j : ℕ) → Used j → j < slots) where
       -- while that is done
-      pub cutting_keeps : (now : ℕ) → slots * size ≤ now → (left : List ℕ) → LeavesLog (after_cut size old slots now) left → {placed : List (ℕ × List ℕ)} → NoForeignLog sum size (after_cut size old slots now) placed left
+      pub cutting_keeps : (now : ℕ) → slots * size ≤ now → (left : List ℕ) → LeavesLog (after_cut size old slots now) left → {placed : List Placement} → NoForeignLog sum size (after_cut size old slots now) placed left
           → KeepsSlots sum size Used old left
       cutting_keeps now no_less left leaves only_own = record {
         before = λ least s is.

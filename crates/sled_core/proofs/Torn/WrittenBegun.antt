@@ -5,8 +5,9 @@ use Rattle.std.proofs.lemmas.List.{length-replicate, get_or-replicate, get_or-ta
 use Rattle.sled_codec.specs.Places.{part}
 use Rattle.sled_codec.specs.Record.{IsHeader}
 use Rattle.sled_codec.proofs.Segments.{length-short_header, one_header}
-use Rattle.sled_store.specs.Device.{overwritten, LeavesLog}
-use Rattle.sled_store.specs.Foreign.{at_first, NoForeignLog}
+use Rattle.sled_store.specs.Device.{overwritten, LeavesLog, Placement}
+use Rattle.sled_store.specs.Foreign.{NoForeignLog}
+use Rattle.sled_store.specs.Readers.{at_start}
 use Rattle.sled_core.specs.declared.iterator.scan.ScannedRecord.{ScannedRecord}
 use Rattle.sled_core.specs.declared.iterator.scan.ScanEnd.{ScanEnd}
 use Rattle.sled_core.specs.Recoverable.{NoHeaderOfZeros}
@@ -51,7 +52,7 @@ module _ (sum : List ℕ → ℕ) (size : ℕ) (old : List ℕ) (slot from : ℕ
       let written : part new (slot * size) 20 ≡ take 20 asked = ap (λ n. part new n 20) (sym here) ∙ part_laid sum size old (slot * size + from) asked 0 20 (omega (arith, long)) in
       subst (λ (l : List ℕ). IsHeader sum l (pos place) mark) (sym written) begun
 
-  module _ {placed : List (ℕ × List ℕ)} (only_own : NoForeignLog sum size (after_write old (slot * size + from) asked now) placed left) where
+  module _ {placed : List Placement} (only_own : NoForeignLog sum size (after_write old (slot * size + from) asked now) placed left) where
     -- A header that passes in the slot is that of the write.
     pub header_written : (lsn mark' : ℤ) → IsHeader sum (part left (slot * size) 20) lsn mark' → part left (slot * size) 20 ≡ take 20 asked
     header_written lsn mark' is = elim (header_where sum size old (slot * size + from) asked now left no_more leaves only_own slot lsn mark' is) [
@@ -76,7 +77,7 @@ module _ (sum : List ℕ → ℕ) (size : ℕ) (old : List ℕ) (slot from : ℕ
     module _ (header : IsHeader sum (part left (slot * size) 20) (pos place) mark) (more : List ScannedRecord) (stop : ℕ) (why : ScanEnd) where
       pub meets_begun : AreClear size until 20 more → IsScan sum size new (slot * size) place more stop why → MeetsFirst sum size new left (slot * size) place 20 more stop why
       unfolding IsScan
-      meets_begun clear (path, end) = meets_first sum size old slot from asked now left no_more leaves only_own until covers clean place mark header 20 more stop why (omega (arith, first)) clear at_first path end
+      meets_begun clear (path, end) = meets_first sum size old slot from asked now left no_more leaves only_own until covers clean place mark header 20 more stop why (omega (arith, first)) clear at_start path end
 
       -- So much for all that is met in the slot.
       pub scan_begun : (w : MeetsFirst sum size new left (slot * size) place 20 more stop why) → IsScan sum size left (slot * size) place (take w.count more) w.end w.ending

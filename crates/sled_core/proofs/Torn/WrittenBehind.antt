@@ -4,8 +4,9 @@ use Rattle.std.proofs.Math.Nat.{mul-mod_left}
 use Rattle.sled_codec.specs.Places.{part}
 use Rattle.sled_codec.specs.Record.{IsHeader}
 use Rattle.sled_codec.proofs.Segments.{one_header}
-use Rattle.sled_store.specs.Device.{overwritten, LeavesLog}
-use Rattle.sled_store.specs.Foreign.{at_first, NoForeignLog}
+use Rattle.sled_store.specs.Device.{overwritten, LeavesLog, Placement}
+use Rattle.sled_store.specs.Foreign.{NoForeignLog}
+use Rattle.sled_store.specs.Readers.{at_start}
 use Rattle.sled_core.specs.declared.iterator.scan.ScannedRecord.{ScannedRecord}
 use Rattle.sled_core.specs.declared.iterator.scan.ScanEnd.{ScanEnd}
 use Rattle.sled_core.specs.Scan.{IsMet, IsPath, IsEnd, IsScan}
@@ -48,7 +49,7 @@ module _ (sum : List ℕ → ℕ) (size : ℕ) (old : List ℕ) (slot from : ℕ
         alike_before place (here + m.len) ms next before path,
       )
 
-  module _ {placed : List (ℕ × List ℕ)} (only_own : NoForeignLog sum size (after_write old (slot * size + from) asked now) placed left) where
+  module _ {placed : List Placement} (only_own : NoForeignLog sum size (after_write old (slot * size + from) asked now) placed left) where
     -- A header that passes in the slot did so before.
     pub header_stood : (lsn mark : ℤ) → IsHeader sum (part left (slot * size) 20) lsn mark → part old (slot * size) 20 ≡ part left (slot * size) 20
     header_stood lsn mark is = elim (header_where sum size old (slot * size + from) asked now left no_more leaves only_own slot lsn mark is) [
@@ -70,7 +71,7 @@ module _ (sum : List ℕ → ℕ) (size : ℕ) (old : List ℕ) (slot from : ℕ
         -- Behind it the first of the records are met that are met behind it where all is written.
         pub meets_on : AreClear size until from more → IsPath sum size new (slot * size) place from more stop → IsEnd sum size new (slot * size) place stop why → MeetsFirst sum size new left (slot * size) place from more stop why
         meets_on clear path end =
-            let comes = comes_along sum size left (slot * size) aligned place 20 met from before_left at_first in
+            let comes = comes_along sum size left (slot * size) aligned place 20 met from before_left at_start in
             meets_first sum size old slot from asked now left no_more leaves only_own until covers clean place mark (header_left (pos place) mark header) from more stop why (omega arith) clear comes path end
 
         -- So much for all that is met in the slot.

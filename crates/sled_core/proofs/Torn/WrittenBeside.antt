@@ -4,7 +4,7 @@ use Rattle.std.proofs.Math.Nat.{mul-le-mul_right, suc-mul}
 use Rattle.std.proofs.lemmas.Bool.{cases_order}
 use Rattle.sled_codec.specs.Places.{part}
 use Rattle.sled_codec.specs.Record.{IsHeader}
-use Rattle.sled_store.specs.Device.{LeavesLog}
+use Rattle.sled_store.specs.Device.{LeavesLog, Placement}
 use Rattle.sled_store.specs.Foreign.{NoForeignLog}
 use Rattle.sled_core.specs.declared.iterator.Segment.{Segment}
 use Rattle.sled_core.specs.declared.iterator.scan.ScannedRecord.{ScannedRecord}
@@ -45,7 +45,7 @@ module _ (sum : List ℕ → ℕ) (size : ℕ) (old : List ℕ) (slot from : ℕ
       let beside : (s.slot + 20 ≤ slot * size + from) ⊎ (slot * size + from + length asked ≤ s.slot) = elim apart [ inl before ↦ inl (omega (arith, before, here, long)) | inr past ↦ inr (omega (arith, past, here)) ] in
       found_moved sum size old left least s (part_left old (slot * size + from) asked now left no_more leaves s.slot 20 there beside) is
 
-  module _ {placed : List (ℕ × List ℕ)} (only_own : NoForeignLog sum size (after_write old (slot * size + from) asked now) placed left) where
+  module _ {placed : List Placement} (only_own : NoForeignLog sum size (after_write old (slot * size + from) asked now) placed left) where
     -- A header that passes there did so before.
     pub header_stood : (lsn mark : ℤ) → IsHeader sum (part left (k * size) 20) lsn mark → part old (k * size) 20 ≡ part left (k * size) 20
     header_stood lsn mark is =

@@ -1,12 +1,14 @@
 -- What a crash leaves of a settled log file behind a write: a header or a record that a reader comes to stood there before, or is a part of the write. In a slot that the write doesn't touch all is met as before.
-use Rattle.std.proofs.Common.{◌≡◌, ◌⊎◌, ◌≤◌, ◌<◌, ◌+◌, ◌-◌, ◌*◌, ◌/◌, ◌%◌, ◌∙◌, ℕ, ℤ, pos, min, List, [], ◌∷◌, ◌++◌, length, drop, sym, ap, arith, subst, inl, inr, length-take, length-drop}
+use Rattle.std.proofs.Common.{◌≡◌, ◌≢◌, ◌⊎◌, ◌≤◌, ◌<◌, ◌+◌, ◌-◌, ◌*◌, ◌/◌, ◌%◌, ◌∙◌, ℕ, ℤ, pos, min, List, [], ◌∷◌, ◌++◌, length, drop, sym, ap, arith, subst, inl, inr, length-take, length-drop}
 use Rattle.std.proofs.Math.Nat.{mul-mod_left}
 use Rattle.sled_codec.specs.declared.serialization.message.MessageHeader.{MessageHeader}
+use Rattle.sled_codec.specs.declared.serialization.message.MessageKind.TheVariants.{Cap}
 use Rattle.sled_codec.specs.Places.{part}
 use Rattle.sled_codec.specs.Record.{IsHeader}
 use Rattle.sled_codec.proofs.Segments.{length-short_header}
-use Rattle.sled_store.specs.Device.{overwritten, LeavesLog}
-use Rattle.sled_store.specs.Foreign.{IsReached, at_first, Covers, IsWhole, NoForeignLog}
+use Rattle.sled_store.specs.Device.{overwritten, LeavesLog, Placement}
+use Rattle.sled_store.specs.Foreign.{Covers, IsWhole, NoForeignLog}
+use Rattle.sled_store.specs.Readers.{ReadsTo, at_start}
 use Rattle.sled_core.specs.declared.iobuf.SegmentPosition.{SegmentPosition}
 use Rattle.sled_core.specs.declared.iterator.scan.ScannedRecord.{ScannedRecord}
 use Rattle.sled_core.specs.declared.iterator.scan.ScanEnd.{ScanEnd}
@@ -16,11 +18,11 @@ use Rattle.sled_core.specs.Scan.{IsMet, IsPath, IsEnd, EndsThere, IsScan}
 use Rattle.sled_core.proofs.Flush.LogFileLemmas.{record_moved, file_grows, part_kept, part_laid}
 use Rattle.sled_core.proofs.Read.ScanLemmas.{aligned_offset}
 use Rattle.sled_core.proofs.Torn.TornLemmas.{after_write, left_grows, part_left}
-use Rattle.sled_core.proofs.Torn.TornRecords.{the_only, record_of_stands, long_enough, record_reached}
+use Rattle.sled_core.proofs.Torn.TornRecords.{the_only, long_enough, record_reached, record_read, says_plain}
 
 -- a reader of the segment in a slot comes to this offset in it
 abbrev pub ComesTo : (List ℕ → ℕ) → ℕ → List ℕ → ℕ → ℕ → ℕ → Type 0
-ComesTo sum size log slot place from = IsReached sum size (place / size) (part log slot size) 20 from
+ComesTo sum size log slot place from = ReadsTo sum size (place / size) (part log slot size) 20 from
 
 module _ (sum : List ℕ → ℕ) (size : ℕ) (log : List ℕ) where
   -- a header is twenty bytes long
@@ -41,18 +43,18 @@ module _ (sum : List ℕ → ℕ) (size : ℕ) (log : List ℕ) where
     in_segment from number h body len below s = let inside = s.in_slot in omega (arith, inside, aligned_offset slot from size aligned below)
 
     module _ (place : ℕ) where
-      -- A reader that comes to a record comes to its end.
-      pub comes_behind : (from : ℕ) (h : MessageHeader) (body : List ℕ) (len : ℕ) → from < size → StandsAt sum size log (slot + from) (place / size) h body len → ComesTo sum size log slot place from → ComesTo sum size log slot place (from + len)
-      comes_behind from h body len below s comes =
+      -- A reader that comes to a record that is no Cap comes to its end.
+      pub comes_behind : (from : ℕ) (h : MessageHeader) (body : List ℕ) (len : ℕ) → from + 32 ≤ size → h.kind ≢ Cap → StandsAt sum size log (slot + from) (place / size) h body len → ComesTo sum size log slot place from → ComesTo sum size log slot place (from + len)
+      comes_behind from h body len room plain s comes =
           let site : SegmentPosition = record { place = place; slot = slot } in
-          record_reached sum size log site aligned (place / size) 20 from h body len below s comes
+          record_reached sum size log site aligned (place / size) 20 from h body len room plain s comes
 
       -- So it comes to where what it meets ends.
       pub comes_along : (from : ℕ) (ms : List ScannedRecord) (next : ℕ) → IsPath sum size log slot place from ms next → ComesTo sum size log slot place from → ComesTo sum size log slot place next
       unfolding IsMet
       comes_along from [] next path comes = subst (ComesTo sum size log slot place) (sym path) comes
       comes_along from (m ∷ ms) next (room, at_place, (h, body, stands, says), path) comes =
-          comes_along (from + m.len) ms next path (comes_behind from h body m.len (omega (arith, room)) stands comes)
+          comes_along (from + m.len) ms next path (comes_behind from h body m.len room (says_plain h body (slot + from) m.what says) stands comes)
 
   -- What is met doesn't go back.
   pub path_rises : (slot place from : ℕ) (ms : List ScannedRecord) (next : ℕ) → IsPath sum size log slot place from ms next → from ≤ next
@@ -71,7 +73,7 @@ StandToo sum size old left slot place = (from : ℕ) → from < size → (h : Me
 
 abbrev pub StoodBefore : (List ℕ → ℕ) → ℕ → List ℕ → List ℕ → ℕ → ℕ → Type 0
 StoodBefore sum size old left slot place =
-    (from : ℕ) → ComesTo sum size left (slot * size) place from → from < size → (h : MessageHeader) (body : List ℕ) (len : ℕ)
+    (from : ℕ) → ComesTo sum size left (slot * size) place from → from + 32 ≤ size → (h : MessageHeader) (body : List ℕ) (len : ℕ)
     → StandsAt sum size left (slot * size + from) (place / size) h body len → StandsAt sum size old (slot * size + from) (place / size) h body len
 
 module _ (sum : List ℕ → ℕ) (size : ℕ) (old left : List ℕ) (slot place : ℕ) (stays : StandToo sum size old left slot place) (stood : StoodBefore sum size old left slot place) where
@@ -92,18 +94,17 @@ module _ (sum : List ℕ → ℕ) (size : ℕ) (old left : List ℕ) (slot place
   unfolding IsScan
   scan_alike met stop why (path, end) =
       let on = path_on 20 met stop path in
-      (on, end_on stop (comes_along sum size left (slot * size) (mul-mod_left slot size) place 20 met stop on at_first) why end)
+      (on, end_on stop (comes_along sum size left (slot * size) (mul-mod_left slot size) place 20 met stop on at_start) why end)
 
   path_back : (from : ℕ) → ComesTo sum size left (slot * size) place from → (ms : List ScannedRecord) (next : ℕ) → IsPath sum size left (slot * size) place from ms next → IsPath sum size old (slot * size) place from ms next
   unfolding IsMet
   path_back from comes [] next path = path
-  path_back from comes (m ∷ ms) next (room, at_place, (h, body, stands, says), path) =
-      let below : from < size = omega (arith, room) in (
-        room,
-        at_place,
-        (h, body, stood from comes below h body m.len stands, says),
-        path_back (from + m.len) (comes_behind sum size left (slot * size) (mul-mod_left slot size) place from h body m.len below stands comes) ms next path,
-      )
+  path_back from comes (m ∷ ms) next (room, at_place, (h, body, stands, says), path) = (
+    room,
+    at_place,
+    (h, body, stood from comes room h body m.len stands, says),
+    path_back (from + m.len) (comes_behind sum size left (slot * size) (mul-mod_left slot size) place from h body m.len room (says_plain h body (slot * size + from) m.what says) stands comes) ms next path,
+  )
 
   end_back : (from : ℕ) → ComesTo sum size left (slot * size) place from → (why : ScanEnd) → IsEnd sum size left (slot * size) place from why → IsEnd sum size old (slot * size) place from why
   unfolding EndsThere
@@ -115,8 +116,8 @@ module _ (sum : List ℕ → ℕ) (size : ℕ) (old left : List ℕ) (slot place
   pub scan_was : (met : List ScannedRecord) (stop : ℕ) (why : ScanEnd) → IsScan sum size left (slot * size) place met stop why → IsScan sum size old (slot * size) place met stop why
   unfolding IsScan
   scan_was met stop why (path, end) =
-      let comes = comes_along sum size left (slot * size) (mul-mod_left slot size) place 20 met stop path at_first in
-      (path_back 20 at_first met stop path, end_back stop comes why end)
+      let comes = comes_along sum size left (slot * size) (mul-mod_left slot size) place 20 met stop path at_start in
+      (path_back 20 at_start met stop path, end_back stop comes why end)
 
 -- What stands outside a range of a file stands in another one too that has the same bytes there.
 module _ (sum : List ℕ → ℕ) (size : ℕ) (old new : List ℕ) (at n : ℕ) (grows : length old ≤ length new) (same : (lid len : ℕ) → lid + len ≤ length old → (lid + len ≤ at) ⊎ (at + n ≤ lid) → part new lid len ≡ part old lid len) where
@@ -159,7 +160,7 @@ module _ (sum : List ℕ → ℕ) (size : ℕ) (old : List ℕ) (at : ℕ) (aske
       let there : at + (lid - at) ≡ lid = omega (arith, begins) in
       ap (λ n. part new n len) (sym there) ∙ part_laid sum size old at asked (lid - at) len (omega (arith, begins, ends, whole)) ∙ ap (part asked (lid - at)) (sym whole) ∙ by.same
 
-  module _ {placed : List (ℕ × List ℕ)} (only_own : NoForeignLog sum size (after_write old at asked now) placed left) where
+  module _ {placed : List Placement} (only_own : NoForeignLog sum size (after_write old at asked now) placed left) where
     -- what stands whole stood there before, or is a part of the write
     pub stood_or_written : (lid : ℕ) (text : List ℕ) → IsWhole (after_write old at asked now) lid text → (part old lid (length text) ≡ text) ⊎ Covers (at, asked) lid text
     unfolding IsWhole
@@ -175,26 +176,26 @@ module _ (sum : List ℕ → ℕ) (size : ℕ) (old : List ℕ) (at : ℕ) (aske
 
     module _ (slot place : ℕ) (mark : ℤ) (header : IsHeader sum (part left (slot * size) 20) (pos place) mark) where
       -- A record of its number that a reader comes to stood there before, or was written.
-      pub record_where : (from : ℕ) → ComesTo sum size left (slot * size) place from → from < size → (h : MessageHeader) (body : List ℕ) (len : ℕ) → StandsAt sum size left (slot * size + from) (place / size) h body len
+      pub record_where : (from : ℕ) → ComesTo sum size left (slot * size) place from → from + 32 ≤ size → (h : MessageHeader) (body : List ℕ) (len : ℕ) → StandsAt sum size left (slot * size + from) (place / size) h body len
           → (part old (slot * size + from) len ≡ part left (slot * size + from) len) ⊎ Covers (at, asked) (slot * size + from) (part left (slot * size + from) len)
-      record_where from comes below h body len s =
-          let fits = in_segment sum size left (slot * size) (mul-mod_left slot size) from (place / size) h body len below s in
+      record_where from comes room h body len s =
+          let read = record_read sum size left (record { place = place; slot = slot * size }) (mul-mod_left slot size) (place / size) 20 from h body len room s comes in
           let whole = all_there sum size left (slot * size + from) (place / size) h body len s in
           elim (stood_or_written (slot * size + from) (part left (slot * size + from) len)
-          (only_own.records slot place mark from len h.kind h.pid body header comes fits (record_of_stands sum size left (slot * size + from) (place / size) h body len s)).1) [
+          (only_own.records slot place mark from len header read).1) [
             | inl stood ↦ inl (ap (part old (slot * size + from)) (sym whole) ∙ stood)
             | inr write ↦ inr write
           ]
 
       -- In a slot that the write doesn't touch it stood there before.
       module _ (apart : (slot * size + size ≤ at) ⊎ (at + length asked ≤ slot * size)) where
-        pub stood_apart : (from : ℕ) → ComesTo sum size left (slot * size) place from → from < size → (h : MessageHeader) (body : List ℕ) (len : ℕ) → StandsAt sum size left (slot * size + from) (place / size) h body len
+        pub stood_apart : (from : ℕ) → ComesTo sum size left (slot * size) place from → from + 32 ≤ size → (h : MessageHeader) (body : List ℕ) (len : ℕ) → StandsAt sum size left (slot * size + from) (place / size) h body len
             → StandsAt sum size old (slot * size + from) (place / size) h body len
-        stood_apart from comes below h body len s =
-            let fits = in_segment sum size left (slot * size) (mul-mod_left slot size) from (place / size) h body len below s in
+        stood_apart from comes room h body len s =
+            let fits = in_segment sum size left (slot * size) (mul-mod_left slot size) from (place / size) h body len (omega (arith, room)) s in
             let whole = all_there sum size left (slot * size + from) (place / size) h body len s in
             let some = long_enough sum size left (slot * size + from) (place / size) h body len s in
-            elim (record_where from comes below h body len s) [
+            elim (record_where from comes room h body len s) [
               | inl same ↦ record_moved sum size left old (slot * size + from) (place / size) h body len same (in_this_file sum size old left (slot * size + from) len (omega (arith, some)) whole same) s
               | inr write ↦ (
                   let begins = write.begins in

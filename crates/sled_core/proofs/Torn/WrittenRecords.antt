@@ -6,7 +6,7 @@ use Rattle.std.proofs.lemmas.List.{get_or-take, get_or-drop}
 use Rattle.sled_codec.specs.declared.serialization.message.MessageHeader.{MessageHeader}
 use Rattle.sled_codec.specs.Places.{part}
 use Rattle.sled_codec.specs.Record.{IsHeader}
-use Rattle.sled_store.specs.Device.{overwritten, LeavesLog}
+use Rattle.sled_store.specs.Device.{overwritten, LeavesLog, Placement}
 use Rattle.sled_store.specs.Foreign.{NoForeignLog}
 use Rattle.sled_store.proofs.Segments.Elements.{in_cases, in_nothing}
 use Rattle.sled_core.specs.declared.iterator.scan.ScannedRecord.{ScannedRecord}
@@ -19,7 +19,7 @@ use Rattle.sled_core.proofs.Flush.LogFileLemmas.{part_kept, record_moved}
 use Rattle.sled_core.proofs.Read.GivesLemmas.{one_len}
 use Rattle.sled_core.proofs.Read.PathLemmas.{zeros_empty}
 use Rattle.sled_core.proofs.Torn.TornLemmas.{after_write}
-use Rattle.sled_core.proofs.Torn.TornRecords.{same_or_not, long_enough}
+use Rattle.sled_core.proofs.Torn.TornRecords.{same_or_not, long_enough, says_plain}
 use Rattle.sled_core.proofs.Torn.WrittenParts.{ComesTo, all_there, in_this_file, comes_behind, path_rises, covered_new, record_where}
 
 -- These records have in one file the bytes that they have in another, and are all in it.
@@ -87,7 +87,7 @@ all_clear size here (m ∷ ms) = ((λ room. inl (omega (arith, room))), all_clea
 
 -- A write into a slot, up to an offset of which there were zeros.
 module _ (sum : List ℕ → ℕ) (size : ℕ) (old : List ℕ) (slot from : ℕ) (asked now left : List ℕ) (no_more : length now ≤ length asked) (leaves : LeavesLog (after_write old (slot * size + from) asked now) left)
-    {placed : List (ℕ × List ℕ)} (only_own : NoForeignLog sum size (after_write old (slot * size + from) asked now) placed left)
+    {placed : List Placement} (only_own : NoForeignLog sum size (after_write old (slot * size + from) asked now) placed left)
     (until : ℕ) (covers : from + length asked ≤ until) (clean : (i : ℕ) → slot * size + from ≤ i → i < slot * size + until → get_or old i 0 ≡ 0)
     (place : ℕ) (mark : ℤ) (header : IsHeader sum (part left (slot * size) 20) (pos place) mark) where
   abbrev new : List ℕ
@@ -97,7 +97,7 @@ module _ (sum : List ℕ → ℕ) (size : ℕ) (old : List ℕ) (slot from : ℕ
   aligned = mul-mod_left slot size
 
   -- At an offset that a reader comes to, where there were zeros or which lies behind them.
-  module _ (here : ℕ) (later : from ≤ here) (below : here < size) (clear : (here + 5 ≤ until) ⊎ (until ≤ here)) (comes : ComesTo sum size left (slot * size) place here) where
+  module _ (here : ℕ) (later : from ≤ here) (room : here + 32 ≤ size) (clear : (here + 5 ≤ until) ⊎ (until ≤ here)) (comes : ComesTo sum size left (slot * size) place here) where
     -- A record that stands there is one of the write, or was there behind it.
     module _ (h : MessageHeader) (body : List ℕ) (len : ℕ) (s : StandsAt sum size left (slot * size + here) (place / size) h body len) where
       some : 8 ≤ len
@@ -116,7 +116,7 @@ module _ (sum : List ℕ → ℕ) (size : ℕ) (old : List ℕ) (slot from : ℕ
           zeros_empty sum size left (slot * size + here) (place / size) zero h body len s
 
       pub written_there : part new (slot * size + here) len ≡ part left (slot * size + here) len
-      written_there = elim (record_where sum size old (slot * size + from) asked now left no_more leaves only_own slot place mark header here comes below h body len s) [
+      written_there = elim (record_where sum size old (slot * size + from) asked now left no_more leaves only_own slot place mark header here comes room h body len s) [
         | inl stood ↦ elim clear [
           | inl near ↦ absurd (not_before near stood)
           | inr far ↦ (
@@ -150,7 +150,7 @@ module _ (sum : List ℕ → ℕ) (size : ℕ) (old : List ℕ) (slot from : ℕ
       → MeetsFirst sum size new left (slot * size) place here [] here why
   unfolding EndsThere
   ended here later clear comes Full full = record { count = 0; end = here; ending = Full; path = refl; ends = full; alike = tt; rest = refl; how = inl (refl, refl, inl refl) }
-  ended here later clear comes Capped (room, (h, body, len, s, is_cap)) = elim (stands_or_none here later (omega (arith, room)) (clear room) comes h body len s) [
+  ended here later clear comes Capped (room, (h, body, len, s, is_cap)) = elim (stands_or_none here later room (clear room) comes h body len s) [
     | inl (same, there, still) ↦
         record { count = 0; end = here; ending = Capped; path = refl; ends = (room, (h, body, len, still, is_cap)); alike = tt; rest = refl; how = inl (refl, refl, inl refl) }
     | inr none ↦ record { count = 0; end = here; ending = Broken; path = refl; ends = (room, none); alike = tt; rest = refl; how = inl (refl, refl, inr (refl, refl)) }
@@ -160,7 +160,7 @@ module _ (sum : List ℕ → ℕ) (size : ℕ) (old : List ℕ) (slot from : ℕ
     end = here;
     ending = Broken;
     path = refl;
-    ends = (room, λ h body len s. none h body len (stands_new here later (omega (arith, room)) (clear room) comes h body len s));
+    ends = (room, λ h body len s. none h body len (stands_new here later room (clear room) comes h body len s));
     alike = tt;
     rest = refl;
     how = inl (refl, refl, inl refl);
@@ -173,9 +173,9 @@ module _ (sum : List ℕ → ℕ) (size : ℕ) (old : List ℕ) (slot from : ℕ
   meets_first here [] stop why later clear comes path end =
       let at_once = ended here later clear comes why (subst (λ n. IsEnd sum size new (slot * size) place n why) path end) in
       subst (λ n. MeetsFirst sum size new left (slot * size) place here [] n why) (sym path) at_once
-  meets_first here (m ∷ ms) stop why later clear comes (room, at_place, (h, body, stands, says), path) end = elim (stands_or_none here later (omega (arith, room)) (clear.0 room) comes h body m.len stands) [
+  meets_first here (m ∷ ms) stop why later clear comes (room, at_place, (h, body, stands, says), path) end = elim (stands_or_none here later room (clear.0 room) comes h body m.len stands) [
     | inl (same, there, still) ↦ (
-        let on = meets_first (here + m.len) ms stop why (omega (arith, later)) clear.1 (comes_behind sum size left (slot * size) aligned place here h body m.len (omega (arith, room)) still comes) path end in
+        let on = meets_first (here + m.len) ms stop why (omega (arith, later)) clear.1 (comes_behind sum size left (slot * size) aligned place here h body m.len room (says_plain h body (slot * size + here) m.what says) still comes) path end in
         record {
           count = suc on.count;
           end = on.end;

@@ -6,8 +6,9 @@ use Rattle.std.proofs.lemmas.List.{length-replicate}
 use Rattle.sled_codec.specs.declared.serialization.message.MessageHeader.{MessageHeader}
 use Rattle.sled_codec.specs.Places.{part}
 use Rattle.sled_codec.specs.Record.{IsHeader}
-use Rattle.sled_store.specs.Device.{LeavesLog}
-use Rattle.sled_store.specs.Foreign.{at_first, NoForeignLog}
+use Rattle.sled_store.specs.Device.{LeavesLog, Placement}
+use Rattle.sled_store.specs.Foreign.{NoForeignLog}
+use Rattle.sled_store.specs.Readers.{at_start}
 use Rattle.sled_core.specs.declared.iterator.scan.ScannedRecord.{ScannedRecord}
 use Rattle.sled_core.specs.declared.iterator.scan.ScanEnd.{ScanEnd}
 use Rattle.sled_core.specs.declared.iterator.scan.ScanEnd.TheVariants.{Full, Capped, Broken}
@@ -17,7 +18,7 @@ use Rattle.sled_core.specs.Scan.{IsMet, IsPath, IsEnd, EndsThere, IsScan}
 use Rattle.sled_core.proofs.Flush.LogFileLemmas.{record_moved}
 use Rattle.sled_core.proofs.Read.GivesLemmas.{one_len}
 use Rattle.sled_core.proofs.Torn.TornLemmas.{after_write}
-use Rattle.sled_core.proofs.Torn.TornRecords.{same_or_not, long_enough}
+use Rattle.sled_core.proofs.Torn.TornRecords.{same_or_not, long_enough, says_plain}
 use Rattle.sled_core.proofs.Torn.WrittenParts.{ComesTo, all_there, in_this_file, comes_behind, comes_along, scan_apart}
 use Rattle.sled_core.proofs.Torn.ZeroedSlots.{kept, same}
 
@@ -39,7 +40,7 @@ first_of x (m ∷ ms) = m
 
 -- Where each record that a reader comes to has the bytes that it had, and one whose bytes aren't what they were reaches above a place of the file.
 module _ (sum : List ℕ → ℕ) (size : ℕ) (old left : List ℕ) (slot place at : ℕ)
-    (same : (from : ℕ) → ComesTo sum size left (slot * size) place from → from < size → (h : MessageHeader) (body : List ℕ) (len : ℕ) → StandsAt sum size left (slot * size + from) (place / size) h body len
+    (same : (from : ℕ) → ComesTo sum size left (slot * size) place from → from + 32 ≤ size → (h : MessageHeader) (body : List ℕ) (len : ℕ) → StandsAt sum size left (slot * size + from) (place / size) h body len
     → part old (slot * size + from) len ≡ part left (slot * size + from) len)
     (touched : (from : ℕ) (h : MessageHeader) (body : List ℕ) (len : ℕ) → StandsAt sum size old (slot * size + from) (place / size) h body len → (part left (slot * size + from) len ≡ part old (slot * size + from) len → ⊥) → at < slot * size + from + len) where
   -- a reader of what is left comes to this offset
@@ -47,13 +48,10 @@ module _ (sum : List ℕ → ℕ) (size : ℕ) (old left : List ℕ) (slot place
   Comes = ComesTo sum size left (slot * size) place
 
   module _ (from : ℕ) (comes : Comes from) (room : from + 32 ≤ size) where
-    below : from < size
-    below = omega (arith, room)
-
     -- a record that stands there did so before
     stood : (h : MessageHeader) (body : List ℕ) (len : ℕ) → StandsAt sum size left (slot * size + from) (place / size) h body len → StandsAt sum size old (slot * size + from) (place / size) h body len
     stood h body len s =
-        let alike = same from comes below h body len s in
+        let alike = same from comes room h body len s in
         let some = long_enough sum size left (slot * size + from) (place / size) h body len s in
         record_moved sum size left old (slot * size + from) (place / size) h body len alike
         (in_this_file sum size old left (slot * size + from) len (omega (arith, some)) (all_there sum size left (slot * size + from) (place / size) h body len s) alike) s
@@ -71,7 +69,7 @@ module _ (sum : List ℕ → ℕ) (size : ℕ) (old left : List ℕ) (slot place
         λ h' body' len' s'. (
             let before = stood h' body' len' s' in
             let one : len' ≡ len = one_len sum size old (slot * size + from) (place / size) h' h body' body len' len before s in
-            other (subst (λ n. part left (slot * size + from) n ≡ part old (slot * size + from) n) one (sym (same from comes below h' body' len' s')))),
+            other (subst (λ n. part left (slot * size + from) n ≡ part old (slot * size + from) n) one (sym (same from comes room h' body' len' s')))),
       )
     ]
 
@@ -106,7 +104,7 @@ module _ (sum : List ℕ → ℕ) (size : ℕ) (old left : List ℕ) (slot place
   reads_first from [] stop why comes path end = ended from comes why (subst (λ n. IsEnd sum size old (slot * size) place n why) path end)
   reads_first from (m ∷ ms) stop why comes (room, at_place, (h, body, stands, says), path) end = elim (still from comes room h body m.len stands) [
     | inl there ↦ (
-        let further = comes_behind sum size left (slot * size) (mul-mod_left slot size) place from h body m.len (below from comes room) there comes in
+        let further = comes_behind sum size left (slot * size) (mul-mod_left slot size) place from h body m.len room (says_plain h body (slot * size + from) m.what says) there comes in
         let on = reads_first (from + m.len) ms stop why further path end in
         record { found = m ∷ on.found; rest = on.rest; whole = ap (λ (l : List ScannedRecord). m ∷ l) on.whole; stop = on.stop; why = on.why; path = (room, at_place, (h, body, there, says), on.path); end = on.end; above = on.above })
     | inr (above, none) ↦ stops_here from comes room (m ∷ ms) (λ x xs is. subst (λ (l : List ScannedRecord). at < slot * size + from + (first_of x l).len) is above) none
@@ -115,10 +113,10 @@ module _ (sum : List ℕ → ℕ) (size : ℕ) (old left : List ℕ) (slot place
   -- so it is with a whole scan
   pub scan_first : (met : List ScannedRecord) (stop : ℕ) (why : ScanEnd) → IsScan sum size old (slot * size) place met stop why → ReadsFirst sum size left (slot * size) place 20 at met
   unfolding IsScan
-  scan_first met stop why (path, end) = reads_first 20 met stop why at_first path end
+  scan_first met stop why (path, end) = reads_first 20 met stop why at_start path end
 
 module _ (sum : List ℕ → ℕ) (size : ℕ) (old : List ℕ) (at count : ℕ) (now left : List ℕ) (no_more : length now ≤ length (replicate {A = ℕ} count 0)) (leaves : LeavesLog (after_write old at (replicate count 0) now) left)
-    {placed : List (ℕ × List ℕ)} (only_own : NoForeignLog sum size (after_write old at (replicate count 0) now) placed left)
+    {placed : List Placement} (only_own : NoForeignLog sum size (after_write old at (replicate count 0) now) placed left)
     (slot place : ℕ) (mark : ℤ) (header : IsHeader sum (part left (slot * size) 20) (pos place) mark) where
   -- a record whose bytes aren't what they were reaches into the zeros
   touched : (from : ℕ) (h : MessageHeader) (body : List ℕ) (len : ℕ) → StandsAt sum size old (slot * size + from) (place / size) h body len → (part left (slot * size + from) len ≡ part old (slot * size + from) len → ⊥) → at < slot * size + from + len

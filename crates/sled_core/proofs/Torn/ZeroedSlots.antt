@@ -1,12 +1,14 @@
 -- What a crash leaves of a settled log file over a part of which zeros were written: a header or a record that a reader comes to stood there before.
-use Rattle.std.proofs.Common.{◌≡◌, ◌⊎◌, ◌≤◌, ◌<◌, ◌+◌, ◌-◌, ◌*◌, ◌/◌, ◌%◌, ◌∙◌, ℕ, min, ℤ, pos, List, [], ◌∷◌, length, take, drop, replicate, get_or, sym, ap, arith, subst, inl, inr}
+use Rattle.std.proofs.Common.{◌≡◌, ◌≢◌, ◌⊎◌, ◌≤◌, ◌<◌, ◌+◌, ◌-◌, ◌*◌, ◌/◌, ◌%◌, ◌∙◌, ℕ, min, ℤ, pos, List, [], ◌∷◌, length, take, drop, replicate, get_or, sym, ap, arith, subst, inl, inr}
 use Rattle.std.proofs.Math.Nat.{mul-mod_left}
 use Rattle.std.proofs.lemmas.List.{take-replicate, drop-replicate, length-replicate, get_or-replicate, get_or-take, get_or-drop}
 use Rattle.sled_codec.specs.declared.serialization.message.MessageHeader.{MessageHeader}
+use Rattle.sled_codec.specs.declared.serialization.message.MessageKind.TheVariants.{Cap}
 use Rattle.sled_codec.specs.Places.{part}
 use Rattle.sled_codec.specs.Record.{IsHeader}
-use Rattle.sled_store.specs.Device.{LeavesLog, overwritten}
-use Rattle.sled_store.specs.Foreign.{IsReached, Covers, NoForeignLog}
+use Rattle.sled_store.specs.Device.{LeavesLog, overwritten, Placement}
+use Rattle.sled_store.specs.Foreign.{Covers, NoForeignLog}
+use Rattle.sled_store.specs.Readers.{ReadsTo}
 use Rattle.sled_store.proofs.LogFile.OverwrittenLemmas.{overwritten-part}
 use Rattle.sled_core.specs.declared.iterator.scan.ScannedRecord.{ScannedRecord}
 use Rattle.sled_core.specs.Reading.{StandsAt}
@@ -15,7 +17,7 @@ use Rattle.sled_core.specs.Scan.{IsMet, IsPath}
 use Rattle.sled_core.proofs.Flush.LogFileLemmas.{record_moved}
 use Rattle.sled_core.proofs.Read.PathLemmas.{zeros_empty}
 use Rattle.sled_core.proofs.Torn.TornLemmas.{after_write, left_grows, part_left}
-use Rattle.sled_core.proofs.Torn.TornRecords.{long_enough}
+use Rattle.sled_core.proofs.Torn.TornRecords.{long_enough, says_plain}
 use Rattle.sled_core.proofs.Torn.WrittenParts.{twenty, all_there, in_this_file, comes_behind, header_where, record_where, path_stays as path_written}
 
 -- Zeros that were written are read.
@@ -67,7 +69,7 @@ module _ (sum : List ℕ → ℕ) (size : ℕ) (old : List ℕ) (at count : ℕ)
   kept lid n there apart =
       part_left old at zeros now left no_more leaves lid n there (elim apart [ inl before ↦ inl before | inr past ↦ inr (omega (arith, past, long)) ])
 
-  module _ {placed : List (ℕ × List ℕ)} (only_own : NoForeignLog sum size (after_write old at (replicate count 0) now) placed left) where
+  module _ {placed : List Placement} (only_own : NoForeignLog sum size (after_write old at (replicate count 0) now) placed left) where
     -- A header that passes did so before.
     module _ (none : NoHeaderOfZeros sum) where
       pub header_stood : (slot : ℕ) (lsn mark : ℤ) → IsHeader sum (part left (slot * size) 20) lsn mark → part old (slot * size) 20 ≡ part left (slot * size) 20
@@ -85,7 +87,7 @@ module _ (sum : List ℕ → ℕ) (size : ℕ) (old : List ℕ) (at count : ℕ)
       aligned : slot * size % size ≡ 0
       aligned = mul-mod_left slot size
 
-      module _ (from : ℕ) (reached : IsReached sum size (place / size) (part left (slot * size) size) 20 from) (below : from < size) (h : MessageHeader) (body : List ℕ) (len : ℕ) (s : StandsAt sum size left (slot * size + from) (place / size) h body len) where
+      module _ (from : ℕ) (reached : ReadsTo sum size (place / size) (part left (slot * size) size) 20 from) (room : from + 32 ≤ size) (h : MessageHeader) (body : List ℕ) (len : ℕ) (s : StandsAt sum size left (slot * size + from) (place / size) h body len) where
         whole : length (part left (slot * size + from) len) ≡ len
         whole = all_there sum size left (slot * size + from) (place / size) h body len s
 
@@ -93,7 +95,7 @@ module _ (sum : List ℕ → ℕ) (size : ℕ) (old : List ℕ) (at count : ℕ)
         some = long_enough sum size left (slot * size + from) (place / size) h body len s
 
         pub same : part old (slot * size + from) len ≡ part left (slot * size + from) len
-        same = elim (record_where sum size old at zeros now left no_more leaves only_own slot place mark header from reached below h body len s) [
+        same = elim (record_where sum size old at zeros now left no_more leaves only_own slot place mark header from reached room h body len s) [
           | inl alike ↦ alike
           | inr write ↦ absurd (no_zeros sum size left (slot * size + from) (place / size) h body len s (covered_zeros at count (slot * size + from) (part left (slot * size + from) len) write ∙ ap (λ n. replicate n 0) whole))
         ]
@@ -103,21 +105,20 @@ module _ (sum : List ℕ → ℕ) (size : ℕ) (old : List ℕ) (at count : ℕ)
             let there = in_this_file sum size old left (slot * size + from) len (omega (arith, some)) whole same in
             record_moved sum size left old (slot * size + from) (place / size) h body len same there s
 
-        pub reached_behind : IsReached sum size (place / size) (part left (slot * size) size) 20 (from + len)
-        reached_behind = comes_behind sum size left (slot * size) aligned place from h body len below s reached
+        pub reached_behind : h.kind ≢ Cap → ReadsTo sum size (place / size) (part left (slot * size) size) 20 (from + len)
+        reached_behind plain = comes_behind sum size left (slot * size) aligned place from h body len room plain s reached
 
       -- So what a reader meets one behind another it met before.
-      pub path_stood : (from : ℕ) (ms : List ScannedRecord) (next : ℕ) → IsReached sum size (place / size) (part left (slot * size) size) 20 from → IsPath sum size left (slot * size) place from ms next → IsPath sum size old (slot * size) place from ms next
+      pub path_stood : (from : ℕ) (ms : List ScannedRecord) (next : ℕ) → ReadsTo sum size (place / size) (part left (slot * size) size) 20 from → IsPath sum size left (slot * size) place from ms next → IsPath sum size old (slot * size) place from ms next
       unfolding IsMet
       path_stood from [] next reached path = path
       path_stood from (m ∷ ms) next reached path =
           let room = path.0 in
-          let below : from < size = omega (arith, room) in
           let met = path.2 in (
             path.0,
             path.1,
-            (met.0, met.1, stood from reached below met.0 met.1 m.len met.2, met.3),
-            path_stood (from + m.len) ms next (reached_behind from reached below met.0 met.1 m.len met.2) path.3,
+            (met.0, met.1, stood from reached room met.0 met.1 m.len met.2, met.3),
+            path_stood (from + m.len) ms next (reached_behind from reached room met.0 met.1 m.len met.2 (says_plain met.0 met.1 (slot * size + from) m.what met.3)) path.3,
           )
 
   -- What was met before the zeros, or in another slot, still is.

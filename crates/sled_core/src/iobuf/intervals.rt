@@ -50,6 +50,7 @@ impl StabilityIntervals {
         ensures is { result ≡ contiguous_of self.now }
         ensures contiguous { (s : ℤ) (is bs : List (ℤ × ℤ)) → Knows self.now s is bs → IsContiguousEnd s is result }
     {
+        // Batches don't count here.
         self.contiguous
     }
 
@@ -172,6 +173,7 @@ fn take_in(from: Lsn, ahead: &mut BinaryHeap<Reverse<(Lsn, Lsn)>>) -> Lsn
     ensures ordered { IsHeap lowest_first (heap_items ahead.new) }
     ensures reaches { (s : ℤ) (is : List (ℤ × ℤ)) → Reaches s is from (turned (heap_items ahead.old)) → Reaches s is result (turned (heap_items ahead.new)) }
     ensures end { (s : ℤ) (is : List (ℤ × ℤ)) → Reaches s is from (turned (heap_items ahead.old)) → IsContiguousEnd s is result }
+    ensures beyond { All (λ i. (result +ℤ pos 1) <ℤ i.0) (turned (heap_items ahead.new)) }
     ensures forward { from ≤ℤ result }
     ensures fewer { heap_len ahead.new ≤ heap_len ahead.old }
     ensures room { heap_capacity ahead.new ≡ heap_capacity ahead.old }
@@ -192,6 +194,7 @@ fn take_next(end: Lsn, ahead: &mut BinaryHeap<Reverse<(Lsn, Lsn)>>) -> Option<Ls
     ensures forward { IfSome result (λ e. end ≤ℤ e) }
     ensures fewer { OnSome result (heap_len ahead.new < heap_len ahead.old) }
     ensures end { IfNone result ((s : ℤ) (is : List (ℤ × ℤ)) → Reaches s is end (turned (heap_items ahead.old)) → IsContiguousEnd s is end) }
+    ensures beyond { IfNone result (All (λ i. (end +ℤ pos 1) <ℤ i.0) (turned (heap_items ahead.new))) }
     ensures unchanged { IfNone result (HeapUnchanged ahead.old ahead.new) }
     ensures room { heap_capacity ahead.new ≡ heap_capacity ahead.old }
 {

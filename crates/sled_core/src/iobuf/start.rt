@@ -1,6 +1,6 @@
 //! The buffer that a log begins with, and where that lies (`specs/Begin.antt`, in sled_store), with the accountant of
 //! its segments.
-ghost use Rattle.std.specs.Prelude.{◌≡◌, length, IfOk, IfErr, OnOk, IsOkUnless};
+ghost use Rattle.std.specs.Prelude.{◌≡◌, ◌+◌, ◌<◌, ◌^◌, length, IfOk, IfErr, OnOk, IsOkUnless};
 ghost use Rattle.sled_codec.specs.Snapshots.{model_of, stable_place};
 ghost use Rattle.sled_store.specs.Device.{state_of};
 ghost use Rattle.sled_store.specs.Accounts.{IsAccountant, MayHandOut, machine_of};
@@ -24,7 +24,7 @@ use sled_store::{Device, RunningConfig};
 /// the buffer's memory, the accountant starts: it fills the slots that are not used with zeros, syncs them, and cuts free ones
 /// off the end of the file but for one. A segment that is begun has taken its slot from the accountant, which the log keeps.
 ///
-/// `Corruption` comes where no log can begin from the snapshot, `PlacesUsedUp` where one more slot of the
+/// `Corruption` comes where no log can begin from the snapshot, `PlacesUsedUp` where one can, but one more slot of the
 /// file or the segment of the log would not end below 2^63; nothing was written then. `Io` comes where the device
 /// failed, and `OutOfMemory` where memory was refused.
 pub(crate) fn begin<D: Device, C: Checksum>(
@@ -87,10 +87,12 @@ fn take_slot<D: Device, C: Checksum>(
 }
 
 /// The buffer of the segment in which a log goes on: with its header where it is begun, else with none of what is
-/// there already. Its mark is the place before it.
+/// there already. Its mark is the place before it. Where that segment would not end below 2^63 no log begins, and
+/// its header counts for nothing.
 fn first_buffer<D, C: Checksum>(config: &RunningConfig<D, C>, snapshot: &Snapshot) -> Result<IoBuf>
     ensures buffer { let s = model_of snapshot.now in let size = config.now.config.segment_size in
-        IfOk result (λ b. IsFirstBuffer C.sum_of (place_at size (stable_place s.stable) s.active) (offset_at size (stable_place s.stable) s.active) b) }
+        place_at size (stable_place s.stable) s.active + size < 2 ^ 63
+        → IfOk result (λ b. IsFirstBuffer C.sum_of (place_at size (stable_place s.stable) s.active) (offset_at size (stable_place s.stable) s.active) b) }
     ensures refuses { let s = model_of snapshot.now in
         IfErr result (RefusesBuffer config.now.config.segment_size (stable_place s.stable) s.active) }
 {
@@ -102,13 +104,10 @@ fn first_buffer<D, C: Checksum>(config: &RunningConfig<D, C>, snapshot: &Snapsho
         }
         return IoBuf::resumed(config.alloc(), offset as usize);
     }
-    let place = place_at(size, snapshot);
-    if place >= (1 << 63) - size {
-        return Err(Error::PlacesUsedUp);
-    }
+    let lsn = i64::try_from(place_at(size, snapshot)).unwrap_or(0);
     let header = SegmentHeader {
-        lsn: place as i64,
-        max_stable_lsn: place as i64 - 1,
+        lsn,
+        max_stable_lsn: lsn - 1,
         ok: true,
     };
     IoBuf::new(

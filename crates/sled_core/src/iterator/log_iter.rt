@@ -132,8 +132,8 @@ impl<D: Device, C: Checksum> Iterator for LogIter<'_, D, C> {
     ///
     /// # Errors
     ///
-    /// `Io` where the device failed in this call, which a log keeps, and `OutOfMemory`; `Corruption` where a damaged record is met in the next
-    /// segment, or where the blob of the next record doesn't pass for it (named where its checksum fails). The first item of an
+    /// `Io` where the device failed in this call, which a log keeps, and `OutOfMemory`; `Corruption` where the next record that is met is
+    /// damaged, or its blob doesn't pass for it (named where its checksum fails): all messages ahead of it were given. The first item of an
     /// iterator of a log may be the failure that the log kept before, or lack of memory for the list of its segments.
     fn next(&mut self) -> Option<Result<(LogKind, PageId, Lsn, DiskPtr, u64)>> {
         if let Some(e) = self.refusal.take() {

@@ -1,9 +1,10 @@
 //! What is met in a segment up to a batch that is open, record by record: nothing is looked at behind it, where a record may be
 //! damaged (`IsReplayed`, `specs/Replayed.antt`).
-ghost use Rattle.std.specs.Prelude.{◌≡◌, ◌+◌, ◌^◌, ◌≤◌, ◌<◌, IfOk, IfErr};
+ghost use Rattle.std.specs.Prelude.{◌≡◌, ◌+◌, ◌^◌, ◌≤◌, ◌<◌, [], IfOk, IfErr, OnOk};
 ghost use Rattle.std.specs.List.{All};
 ghost use Rattle.sled_codec.specs.Errors.{IsCorruption, IsDecodeError};
 ghost use Rattle.sled_core.specs.Reading.{file_of};
+ghost use Rattle.sled_core.specs.Ahead.{IsDamagedBehind};
 ghost use Rattle.sled_core.specs.Replayed.{CanBeRead, IsDamagedBefore, IsReplayed, scanned_of};
 ghost use Rattle.sled_core.specs.Tail.{opens};
 
@@ -14,7 +15,7 @@ use crate::logger::read_at::BasedBuf;
 use sled_codec::result::Result;
 use sled_codec::serialization::{Checksum, SegmentNumber};
 use sled_store::RunningConfig;
-use sled_store::segment::{MAX_MSG_HEADER_LEN, SEG_HEADER_LEN};
+use sled_store::segment::MAX_MSG_HEADER_LEN;
 
 /// Returns what is met in a segment, up to and with the first batch that does not end below `end`. The buffer has the bytes of
 /// its slot, and has them behind the call too. Where such a batch is met, why the reading ends says nothing.
@@ -39,32 +40,55 @@ pub fn scan_slot<D, C: Checksum>(
     ensures bytes { buf.new.buf.items ≡ buf.old.buf.items }
     ensures offset { buf.new.offset ≡ buf.old.offset }
 {
+    let mut scan = SegmentScan::begin(config.alloc());
+    match scan_into(config, buf, segment, end, &mut scan) {
+        Ok(()) => Ok(scan),
+        Err(e) => Err(e),
+    }
+}
+
+/// The same, into a scan that has nothing yet. Where `Corruption` comes, the scan has what was met ahead of the damaged record, and
+/// stops where that stands.
+pub(crate) fn scan_into<D, C: Checksum>(
+    config: &RunningConfig<D, C>,
+    buf: &mut BasedBuf,
+    segment: &Segment,
+    end: u64,
+    scan: &mut SegmentScan,
+) -> Result<()>
+    requires ready { CanBeRead config.now.config.segment_size (file_of buf.old) segment.now }
+    requires slot { buf.old.offset ≡ segment.now.slot }
+    requires end { end < 2 ^ 63 }
+    requires met { scan.old.met.items ≡ [] }
+    requires begins { scan.old.stop ≡ 20 }
+    requires ending { scan.old.ending ≡ ScanEnd.Full }
+    ensures passed { OnOk result (IsReplayed C.sum_of config.now.config.segment_size (file_of buf.old) end (scanned_of segment.now scan.new)) }
+    ensures stop { scan.new.stop ≤ config.now.config.segment_size }
+    ensures places { All (λ m. m.place < segment.now.place + config.now.config.segment_size) scan.new.met.items }
+    ensures damaged { IsCorruption result → IsDamagedBehind C.sum_of config.now.config.segment_size (file_of buf.old) end segment.now scan.new }
+    ensures errors { IfErr result IsDecodeError }
+    ensures bytes { buf.new.buf.items ≡ buf.old.buf.items }
+    ensures offset { buf.new.offset ≡ buf.old.offset }
+{
     let number = SegmentNumber(segment.place / config.config.segment_size);
     let last = config.config.segment_size - MAX_MSG_HEADER_LEN as u64;
-    let mut met = Vec::new(config.alloc());
-    let mut stop = SEG_HEADER_LEN as u64;
-    while stop <= last {
-        match meet(config, buf, number, segment.place, stop) {
+    while scan.stop <= last {
+        match meet(config, buf, number, segment.place, scan.stop) {
             Ok(Step::Meets(m)) => {
-                met.push(m)?;
-                stop += m.len;
+                scan.met.push(m)?;
+                scan.stop += m.len;
                 if opens(&m.what, end) {
-                    return Ok(SegmentScan {
-                        met,
-                        stop,
-                        ending: ScanEnd::Full,
-                    });
+                    return Ok(());
                 }
             }
-            Ok(Step::Ends(ending)) => return Ok(SegmentScan { met, stop, ending }),
+            Ok(Step::Ends(ending)) => {
+                scan.ending = ending;
+                return Ok(());
+            }
             Err(e) => return Err(e),
         }
     }
-    Ok(SegmentScan {
-        met,
-        stop,
-        ending: ScanEnd::Full,
-    })
+    Ok(())
 }
 
 /// Whether a record is the beginning of a batch that does not end below a place.

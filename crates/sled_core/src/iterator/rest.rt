@@ -1,20 +1,20 @@
 //! What is left of a log file for an iterator to give (`specs/Ahead.antt`).
-ghost use Rattle.std.specs.Prelude.{◌≡◌, ◌↔◌, ◌+◌, ◌^◌, ◌≤◌, ◌<◌, ℕ, ℤ, pos, List, [], Bool, true, false, Ok, None, length, take, IsTrue, IfOk, OnOk, IfNone, OnSome};
+ghost use Rattle.std.specs.Prelude.{◌≡◌, ◌↔◌, ◌+◌, ◌^◌, ◌≤◌, ◌<◌, ℕ, ℤ, pos, nat_lt, List, [], true, false, Ok, None, length, take, IsTrue, IfOk, OnOk, IfNone, OnSome};
 ghost use Rattle.sled_codec.specs.Errors.{IsCorruption};
 ghost use Rattle.sled_store.specs.Causes.{DeviceAnswers};
 ghost use Rattle.sled_store.specs.Device.{state_of};
 ghost use Rattle.sled_core.specs.Causes.{ItemAnswersOver};
 ghost use Rattle.sled_core.specs.Keeps.{OnlyReads};
 ghost use Rattle.sled_codec.specs.Record.{IsHeader};
-ghost use Rattle.sled_core.specs.Iterates.{Item, items_of, NextGives, NextAnswers, BehindLast, stops};
-ghost use Rattle.sled_core.specs.Ahead.{CanGoOn, IsLeft, IsSpent, Finds, IsEnd, ReadsOn, most_left, read_behind, those_of};
+ghost use Rattle.sled_core.specs.Iterates.{Item, Damage, items_of, NextGives, NextAnswers, BehindLast, stops};
+ghost use Rattle.sled_core.specs.Ahead.{CanGoOn, IsLeft, IsGiven, IsSpent, Finds, IsEnd, most_left, read_behind, those_of};
 
 use crate::iterator::blobs::find_blob;
-use crate::iterator::records::{opens, scan_slot};
+use crate::iterator::records::{opens, scan_into};
 use crate::iterator::scan::{RecordContent, ScanEnd, ScannedRecord, SegmentScan};
 use crate::iterator::{Segment, read_slot, segment_in};
 use crate::logger::read_at::BasedBuf;
-use sled_codec::result::{DiskPtr, Lsn, PageId, Result};
+use sled_codec::result::{DiskPtr, Error, Lsn, PageId, Result};
 use sled_codec::serialization::{Checksum, LogKind};
 use sled_store::{Device, RunningConfig};
 use std::alloc::Global;
@@ -32,6 +32,8 @@ pub struct Rest {
     pub(crate) met: Vec<ScannedRecord>,
     /// How many of these records had their turn.
     pub(crate) given: usize,
+    /// A damaged record stands behind them, below the end.
+    pub(crate) damaged: bool,
     /// Nothing is given from here on.
     pub(crate) end: u64,
 }
@@ -46,6 +48,7 @@ impl Rest {
         ensures read { result.read ≡ 0 }
         ensures met { result.met.items ≡ [] }
         ensures given { result.given ≡ 0 }
+        ensures undamaged { result.damaged ≡ false }
     {
         Rest {
             strict,
@@ -53,6 +56,7 @@ impl Rest {
             read: 0,
             met: Vec::new(alloc),
             given: 0,
+            damaged: false,
             end,
         }
     }
@@ -64,8 +68,8 @@ impl Rest {
     ) -> Option<Result<(LogKind, PageId, Lsn, DiskPtr, u64)>>
         requires fits { CanGoOn config.old.config.segment_size self.old }
         ensures fits { CanGoOn config.old.config.segment_size self.new }
-        ensures gives { (items : List Item) (damaged : Bool) → IsLeft D.trace C.sum_of config.old self.old items damaged
-            → NextGives (IsLeft D.trace C.sum_of config.old self.new) items damaged result }
+        ensures gives { (items : List Item) (damage : Damage) → IsLeft D.trace C.sum_of config.old self.old items damage
+            → NextGives (IsLeft D.trace C.sum_of config.old self.new) items damage result }
         ensures ended { BehindLast result (IsSpent self.new) }
         ensures over { IsSpent self.old → result ≡ None }
         ensures fewer { OnSome result (most_left self.new < most_left self.old) }
@@ -83,16 +87,16 @@ impl Rest {
         }
     }
 
-    /// The next message, where one is left; else nothing is. `Corruption` comes where a damaged record is met in the next
-    /// segment, or one whose blob doesn't pass for it.
+    /// The next message, where one is left; else nothing is. `Corruption` comes where a damaged record is the next one that is
+    /// met, or one whose blob doesn't pass for it.
     fn next_message<D: Device, C: Checksum>(
         &mut self,
         config: &mut RunningConfig<D, C>,
     ) -> Result<Option<(LogKind, PageId, Lsn, DiskPtr, u64)>>
         requires fits { CanGoOn config.old.config.segment_size self.old }
         ensures fits { CanGoOn config.old.config.segment_size self.new }
-        ensures finds { (items : List Item) (damaged : Bool) → IsLeft D.trace C.sum_of config.old self.old items damaged
-            → Finds (IsLeft D.trace C.sum_of config.old self.new) IsEnd items damaged result }
+        ensures finds { (items : List Item) (damage : Damage) → IsLeft D.trace C.sum_of config.old self.old items damage
+            → Finds (IsLeft D.trace C.sum_of config.old self.new) IsEnd items damage result }
         ensures spent { IfOk result (λ o. IfNone o (IsSpent self.new)) }
         ensures over { IsSpent self.old → result ≡ Ok None }
         ensures fewer { IfOk result (λ o. OnSome o (most_left self.new < most_left self.old)) }
@@ -116,16 +120,16 @@ impl Rest {
     }
 
     /// The next message of those that were met in the segment that was read last. At the end, and at a batch that does not end below it,
-    /// nothing is left. `Corruption` comes where a blob doesn't pass for its record.
+    /// nothing is left. `Corruption` comes where a blob doesn't pass for its record, and behind them where a damaged record stands there.
     fn next_met<D: Device, C: Checksum>(
         &mut self,
         config: &mut RunningConfig<D, C>,
     ) -> Result<Option<(LogKind, PageId, Lsn, DiskPtr, u64)>>
         requires fits { CanGoOn config.old.config.segment_size self.old }
         ensures fits { CanGoOn config.old.config.segment_size self.new }
-        ensures finds { (items : List Item) (damaged : Bool) → IsLeft D.trace C.sum_of config.old self.old items damaged
-            → Finds (IsLeft D.trace C.sum_of config.old self.new) (IsLeft D.trace C.sum_of config.old self.new) items damaged result }
-        ensures none { IfOk result (λ o. IfNone o (length self.new.met.items ≤ self.new.given)) }
+        ensures finds { (items : List Item) (damage : Damage) → IsLeft D.trace C.sum_of config.old self.old items damage
+            → Finds (IsLeft D.trace C.sum_of config.old self.new) (IsLeft D.trace C.sum_of config.old self.new) items damage result }
+        ensures none { IfOk result (λ o. IfNone o (IsGiven self.new)) }
         ensures on { self.new.read < length self.new.segments.items → self.new.read ≡ self.old.read }
         ensures segments { self.new.segments ≡ self.old.segments }
         ensures over { IsSpent self.old → (result ≡ Ok None) × IsSpent self.new }
@@ -150,23 +154,26 @@ impl Rest {
                 Err(e) => return Err(e),
             }
         }
+        if self.damaged {
+            return Err(Error::Corruption { at: None });
+        }
         Ok(None)
     }
 
-    /// Reads the next segment, and keeps what is met in it. `Corruption` comes where a damaged record is met, before a batch
-    /// that does not end below the end. Where the header isn't there that was asked for, nothing is left.
+    /// Reads the next segment, and keeps what is met in it, or ahead of a damaged record in it before a batch that does not end
+    /// below the end. Where the header isn't there that was asked for, nothing is left.
     fn read_segment<D: Device, C: Checksum>(
         &mut self,
         config: &mut RunningConfig<D, C>,
     ) -> Result<()>
         requires fits { CanGoOn config.old.config.segment_size self.old }
         requires more { self.old.read < length self.old.segments.items }
-        requires done { length self.old.met.items ≤ self.old.given }
+        requires done { IsGiven self.old }
         ensures fits { CanGoOn config.old.config.segment_size self.new }
-        ensures ahead { (items : List Item) (damaged : Bool) → IsLeft D.trace C.sum_of config.old self.old items damaged
-            → ReadsOn (IsLeft D.trace C.sum_of config.old self.new) items damaged result }
+        ensures ahead { (items : List Item) (damage : Damage) → IsLeft D.trace C.sum_of config.old self.old items damage
+            → OnOk result (IsLeft D.trace C.sum_of config.old self.new items damage) }
+        ensures readable { IsCorruption result → ⊥ }
         ensures on { self.old.read < self.new.read }
-        ensures one { self.old.strict ≡ false → self.new.read ≡ self.old.read + 1 }
         ensures segments { self.new.segments ≡ self.old.segments }
         ensures no_more { OnOk result (most_left self.new ≤ most_left self.old) }
         ensures answers { DeviceAnswers result (D.faults config.old.device) (D.faults config.new.device) }
@@ -180,9 +187,15 @@ impl Rest {
                     self.finish();
                     return Ok(());
                 }
-                match scan_slot(config, &mut buf, &segment, self.end) {
-                    Ok(scan) => {
+                let mut scan = SegmentScan::begin(config.alloc());
+                match scan_into(config, &mut buf, &segment, self.end, &mut scan) {
+                    Ok(()) => {
                         self.keep(scan);
+                        Ok(())
+                    }
+                    Err(Error::Corruption { at: _ }) => {
+                        let place = segment.place + scan.stop;
+                        self.keep_damaged(scan, place);
                         Ok(())
                     }
                     Err(e) => Err(e),
@@ -210,12 +223,23 @@ impl Rest {
         self.given = 0;
     }
 
+    /// Keeps what was met ahead of a damaged record that lies at a place. Nothing is read behind it.
+    fn keep_damaged(&mut self, scan: SegmentScan, place: u64)
+        ensures kept { self.new ≡ record self.old { read = length self.old.segments.items; met = scan.met; given = 0; damaged = nat_lt place self.old.end } }
+    {
+        self.read = self.segments.len();
+        self.met = scan.met;
+        self.given = 0;
+        self.damaged = place < self.end;
+    }
+
     /// Leaves nothing.
     fn finish(&mut self)
-        ensures { self.new ≡ record self.old { read = length self.old.segments.items; given = length self.old.met.items } }
+        ensures { self.new ≡ record self.old { read = length self.old.segments.items; given = length self.old.met.items; damaged = false } }
     {
         self.read = self.segments.len();
         self.given = self.met.len();
+        self.damaged = false;
     }
 }
 

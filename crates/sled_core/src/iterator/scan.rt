@@ -1,5 +1,5 @@
 //! All that a reader meets in one segment, record by record (`specs/Scan.antt`).
-ghost use Rattle.std.specs.Prelude.{◌≡◌, ◌+◌, ◌%◌, ◌^◌, ◌≤◌, ◌<◌, IfOk, IfErr};
+ghost use Rattle.std.specs.Prelude.{◌≡◌, ◌+◌, ◌%◌, ◌^◌, ◌≤◌, ◌<◌, [], IfOk, IfErr};
 ghost use Rattle.std.specs.List.{All};
 ghost use Rattle.sled_codec.specs.Errors.{IsCorruption, IsDecodeError};
 ghost use Rattle.sled_core.specs.Reading.{file_of};
@@ -11,6 +11,7 @@ use sled_codec::result::{BlobPointer, DiskPtr, LogOffset, Lsn, PageId, Result};
 use sled_codec::serialization::{Checksum, LogKind, MessageKind, SegmentNumber};
 use sled_store::RunningConfig;
 use sled_store::segment::{MAX_MSG_HEADER_LEN, SEG_HEADER_LEN};
+use std::alloc::Global;
 
 /// What a record is to a reader of the log file, who asks for no blob.
 #[derive(Debug, Clone, Copy)]
@@ -65,6 +66,21 @@ pub struct SegmentScan {
     pub stop: u64,
     /// Why it ended there.
     pub ending: ScanEnd,
+}
+
+impl SegmentScan {
+    /// Nothing was met yet: the reading stands behind the header.
+    pub(crate) fn begin(alloc: Global) -> SegmentScan
+        ensures met { result.met.items ≡ [] }
+        ensures stop { result.stop ≡ 20 }
+        ensures ending { result.ending ≡ ScanEnd.Full }
+    {
+        SegmentScan {
+            met: Vec::new(alloc),
+            stop: SEG_HEADER_LEN as u64,
+            ending: ScanEnd::Full,
+        }
+    }
 }
 
 /// Returns all that is met in a segment, by place. The buffer has the bytes of its slot, and has them behind the call too. It asks that the slot begins

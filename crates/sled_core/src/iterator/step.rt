@@ -5,18 +5,15 @@ ghost use Rattle.sled_codec.specs.declared.serialization.message.MessageHeader.{
 ghost use Rattle.sled_codec.specs.declared.serialization.message.MessageKind.TheVariants as kind;
 ghost use Rattle.sled_codec.specs.Errors.{IsCorruption, IsDecodeError};
 ghost use Rattle.sled_codec.specs.Places.{part};
-ghost use Rattle.sled_codec.specs.Spelling.{SpellsMessageHeader};
 ghost use Rattle.sled_core.specs.Reading.{IsBare, IsLaid, IsMalformed, StandsAt, file_of, is_blob};
 ghost use Rattle.sled_core.specs.Scan.{HasPlace, IsStep, Says};
 
 use crate::iterator::scan::{RecordContent, ScanEnd, ScannedRecord, Step};
 use crate::iterator::sums::sum_in_place;
 use crate::logger::read_at::BasedBuf;
-use crate::logger::read_message::{has_sum, may_be, place_of};
+use crate::logger::read_message::{has_sum, header_of, may_be, place_of};
 use sled_codec::result::{DiskPtr, LogOffset, Result};
-use sled_codec::serialization::{
-    Checksum, LogKind, MessageHeader, MessageKind, SegmentNumber, Serialize,
-};
+use sled_codec::serialization::{Checksum, LogKind, MessageHeader, MessageKind, SegmentNumber};
 use sled_store::RunningConfig;
 use std::alloc::Global;
 
@@ -130,21 +127,6 @@ fn bytes_from(buf: &BasedBuf, at: u64) -> &[u8]
     ensures { result.now ≡ drop at buf.now.buf.items }
 {
     &buf.buf[(at as usize).min(buf.buf.len())..]
-}
-
-/// The header that bytes begin with, and how long its spelling is.
-#[inline(always)]
-fn header_of(alloc: Global, bytes: &[u8]) -> Option<(MessageHeader, usize)>
-    ensures found { IfSome result (λ x. SpellsMessageHeader (take x.1 bytes.now) x.0) }
-    ensures none { IfNone result ((front rest : List ℕ) (h : MessageHeader) → bytes.now ≡ front ++ rest → SpellsMessageHeader front h → ⊥) }
-    ensures inside { IfSome result (λ x. (8 ≤ x.1) × (x.1 ≤ length bytes.now)) }
-{
-    let mut rest = bytes;
-    let header = match MessageHeader::deserialize(alloc, &mut rest) {
-        Ok(header) => header,
-        Err(_) => return None,
-    };
-    Some((header, bytes.len() - rest.len()))
 }
 
 /// What a record of this header and this body is, which begins at an offset of the file, unless it is a Cap.

@@ -9,8 +9,8 @@ ghost use Rattle.sled_core.specs.Causes.{FaultAnswers};
 ghost use Rattle.sled_core.specs.Fits.{Awaits, Holds, IsOpen, KeepsAll, KeepsBuffers, KeepsTickets, device_of, fault_of, open_places};
 ghost use Rattle.sled_core.specs.Keeps.{KeepsOthers, KeepsSeen, Preserves, SamePosition};
 ghost use Rattle.sled_core.specs.OpenPlaces.{TakesOutPlaceOf};
-ghost use Rattle.sled_core.specs.OwnBlobs.{PreservesWithout, RemovedAnswers, RemovesBlob, own_blob};
-ghost use Rattle.sled_core.specs.Tickets.{IsPlaceOf};
+ghost use Rattle.sled_core.specs.OwnBlobs.{PreservesWithout, RemovedAnswers, RemovesBlob};
+ghost use Rattle.sled_core.specs.Tickets.{IsPlaceOf, own_blob};
 ghost use Rattle.sled_core.specs.Turned.{ChangesDevice};
 
 use crate::logger::Log;
@@ -24,7 +24,7 @@ use sled_store::blob_io::remove_blob;
 impl<D: Device, C: Checksum> Log<D, C> {
     /// Gives a message up: its record is written as one of kind `Canceled`, of the same length, and the log's history
     /// stays as it is. Where its item is in a blob that its own reservation made, that is removed first; the blob of a
-    /// rewritten pointer stays. Returns the place and the pointer that were kept for it. It takes no memory.
+    /// rewritten pointer stays, whatever its place. Returns the place and the pointer that were kept for it. It takes no memory.
     ///
     /// A blob that goes must be named by no completed message: the caller owes the log that no pointer is rewritten to the
     /// blob of a message that isn't completed.
@@ -50,7 +50,7 @@ impl<D: Device, C: Checksum> Log<D, C> {
         ensures position { SamePosition self.old self.new }
         ensures err { OnErr result (KeepsTickets self.old self.new × (IsSome (fault_of self.old) → self.new ≡ self.old)) }
     {
-        let own = own_blob(&ticket);
+        let own = ticket.own_blob;
         if let Some(fault) = self.fault {
             ticket.abandon();
             return Err(Error::Io(fault));
@@ -114,19 +114,5 @@ impl<D: Device, C: Checksum> Log<D, C> {
         let n = self.segment_of(place.unsigned_abs());
         self.abort_in(n, index, manifest);
         Ok((place, pointer))
-    }
-}
-
-/// The blob that a reservation made for its item, which has the name of its place. That of a rewritten pointer has another.
-fn own_blob(ticket: &Reservation) -> Option<BlobPointer>
-    ensures { result ≡ own_blob ticket.now }
-{
-    let DiskPtr::Blob(_, blob) = ticket.pointer() else {
-        return None;
-    };
-    if blob == ticket.lsn() {
-        Some(blob)
-    } else {
-        None
     }
 }

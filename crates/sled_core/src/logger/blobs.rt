@@ -1,5 +1,5 @@
 //! Messages whose items are in blobs: the blob is made before any room is claimed for the record.
-ghost use Rattle.std.specs.Prelude.{◌≡◌, ℕ, List, pos, true, false, Some, IfOk, OnOk, OnErr};
+ghost use Rattle.std.specs.Prelude.{◌≡◌, ℕ, List, pos, true, false, None, Some, IfOk, OnOk, OnErr};
 ghost use Rattle.sled_codec.specs.Kinds.{code_of};
 ghost use Rattle.sled_store.specs.Blobs.{UnlessFault, blob_bytes, making};
 ghost use Rattle.sled_store.specs.Device.{state_of};
@@ -10,7 +10,7 @@ ghost use Rattle.sled_core.specs.Causes.{RewriteAnswers};
 ghost use Rattle.sled_core.specs.Fits.{Awaits, IsLeastOpen, IsUnchanged, IsUsedUpFor, KeepsAll, device_of, fault_of, message_rewriting, next_place, open_for};
 ghost use Rattle.sled_core.specs.Keeps.{Preserves};
 ghost use Rattle.sled_core.specs.Manifests.{kind_for};
-ghost use Rattle.sled_core.specs.Tickets.{is_manifest_of};
+ghost use Rattle.sled_core.specs.Tickets.{is_manifest_of, own_blob};
 ghost use Rattle.sled_core.specs.Prepared.{next_here};
 ghost use Rattle.sled_core.specs.Reserves.{MadeAnswers, ReservesAs, StandsBehind};
 ghost use Rattle.sled_core.specs.Turned.{ChangesDevice};
@@ -32,7 +32,7 @@ const PLACE_LEN: usize = 8;
 
 impl<D: Device, C: Checksum> Log<D, C> {
     /// Keeps a place for a Replace of this page whose item stays in a blob that is there, and returns the ticket for it. Its record has the
-    /// blob's place. `abort` leaves the blob alone. The guard shows that a pin is out.
+    /// blob's place. `abort` leaves the blob alone, whatever its place. The guard shows that a pin is out.
     ///
     /// The caller owes the log that at each moment the page's state below the record's place is the single Replace of that blob, which no crash takes.
     ///
@@ -48,6 +48,7 @@ impl<D: Device, C: Checksum> Log<D, C> {
     ) -> Result<Reservation>
         ensures ticket { IfOk result (λ ticket. (item : List ℕ) → Awaits self.new ticket (message_rewriting self.old pid blob item)) }
         ensures manifest { IfOk result (λ ticket. is_manifest_of ticket ≡ false) }
+        ensures own { IfOk result (λ ticket. own_blob ticket ≡ None) }
         ensures behind { OnOk result (StandsBehind C.sum_of self.old self.new pid 8) }
         ensures others { (ticket : Reservation) (m : Message) → Awaits self.old ticket m → Awaits self.new ticket m }
         ensures answers { RewriteAnswers result (fault_of self.old) (IsUsedUpFor self.old pid 8) (open_for self.old pid 8) (IsLeastOpen self.old) }
@@ -103,7 +104,9 @@ impl<D: Device, C: Checksum> Log<D, C> {
                             page: pid,
                             blob: Some(place),
                         };
-                        Ok(self.append(&head, &purpose, &place, PLACE_LEN))
+                        let mut ticket = self.append(&head, &purpose, &place, PLACE_LEN);
+                        ticket.own_blob = Some(place);
+                        Ok(ticket)
                     }
                     Err(e) => Err(e),
                 }

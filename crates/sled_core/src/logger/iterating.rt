@@ -1,5 +1,5 @@
 //! The messages of a running log by place: those of the segments that the log has, up to its stable end.
-ghost use Rattle.std.specs.Prelude.{◌≡◌, ◌<◌, ◌++◌, ℕ, All, List, Bool, length, IfNone, IfSome, IfOk, IsOkUnless, None, OnOk, OnSome};
+ghost use Rattle.std.specs.Prelude.{◌≡◌, ◌<◌, ◌++◌, ℕ, All, List, length, IfNone, IfSome, IfOk, IsOkUnless, None, OnOk, OnSome};
 ghost use Rattle.sled_codec.specs.declared.result.Error.TheVariants.{OutOfMemory};
 ghost use Rattle.sled_store.specs.Accounts.{IsAccountant, machine_of};
 ghost use Rattle.sled_codec.specs.History.{History, Message};
@@ -7,7 +7,7 @@ ghost use Rattle.sled_store.specs.Device.{content_of, state_of};
 ghost use Rattle.sled_core.specs.Recoverable.{NoForeign};
 ghost use Rattle.sled_core.specs.Running.{Fits};
 ghost use Rattle.sled_core.specs.Ahead.{CanGoOn, HasEnds, IsLeft, IsSpent, most_left};
-ghost use Rattle.sled_core.specs.Iterates.{Item, NextGives, NextAnswers, BehindLast};
+ghost use Rattle.sled_core.specs.Iterates.{Item, Damage, NextGives, NextAnswers, BehindLast};
 ghost use Rattle.sled_core.specs.Iterators.{first_failure};
 ghost use Rattle.sled_core.specs.Keeps.{OnlyReads};
 ghost use Rattle.sled_core.specs.LogSegments.{list_of, segment_within, segments_among};
@@ -32,8 +32,11 @@ impl<D: Device, C: Checksum> Log<D, C> {
 
     /// Returns an iterator over the messages of the log by place, from the beginning of the segment that holds a place up to
     /// the stable end; a negative place counts as 0. It passes over messages that were given up, manifests, and messages whose blob is
-    /// gone. It ends at a batch that doesn't end below the stable end, and at a segment whose header isn't there or a record that doesn't read. A failure
-    /// of the device, which the log keeps, and lack of memory are items of it, and never its end.
+    /// gone. It ends at a batch that doesn't end below the stable end, and at a segment whose header isn't there or a record that doesn't read.
+    ///
+    /// What stands for no message but can't be passed over is an item of it, and never its end: a failure of the device, which the log
+    /// keeps; lack of memory; and damage, which is `Corruption` behind all messages that lie ahead of it: a record whose body has to
+    /// have 8 bytes and hasn't, and a blob that doesn't pass for its record, named where its checksum fails. Behind an error it has ended.
     ///
     /// It goes over the segments that the log has in its slots. A segment is read as a whole when its first message is
     /// asked for. The list of segments takes memory: where that is refused, `OutOfMemory` is the one item. Where the log keeps a failure of
@@ -82,8 +85,8 @@ impl<D: Device, C: Checksum> Log<D, C> {
     ) -> Option<Result<(LogKind, PageId, Lsn, DiskPtr, u64)>>
         requires fits { CanGoOn (segment_size_of self.old) rest.old }
         ensures fits { CanGoOn (segment_size_of self.old) rest.new }
-        ensures gives { (items : List Item) (damaged : Bool) → IsLeft D.trace C.sum_of (config_of self.old) rest.old items damaged
-            → NextGives (IsLeft D.trace C.sum_of (config_of self.old) rest.new) items damaged result }
+        ensures gives { (items : List Item) (damage : Damage) → IsLeft D.trace C.sum_of (config_of self.old) rest.old items damage
+            → NextGives (IsLeft D.trace C.sum_of (config_of self.old) rest.new) items damage result }
         ensures ended { BehindLast result (IsSpent rest.new) }
         ensures over { IsSpent rest.old → result ≡ None }
         ensures fewer { OnSome result (most_left rest.new < most_left rest.old) }

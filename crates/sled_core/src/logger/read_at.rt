@@ -92,9 +92,10 @@ impl<D: Device, C> ReadAt for RunningConfig<D, C> {
 }
 
 impl BasedBuf {
-    /// Returns one with no bytes.
+    /// Returns one with no bytes, at the beginning of the file.
     pub fn new(alloc: Global) -> BasedBuf
-        ensures { result.buf.items ≡ [] }
+        ensures bytes { result.buf.items ≡ [] }
+        ensures offset { result.offset ≡ 0 }
     {
         BasedBuf {
             buf: Vec::new(alloc),

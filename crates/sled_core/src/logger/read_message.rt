@@ -12,7 +12,7 @@ ghost use Rattle.sled_store.specs.Answers.{Counts, Fails};
 ghost use Rattle.sled_store.specs.Causes.{DeviceAnswers};
 ghost use Rattle.sled_store.specs.Blobs.{IsDamagedFor, NamesBlobAt, OnDamage};
 ghost use Rattle.sled_core.specs.Causes.{ItemAnswersOver, ReaderAnswers};
-ghost use Rattle.sled_core.specs.Reading.{HoldsAs, IsRecordRead, IsReading, IsWithItem, IsMalformed, IsUnreadable, IsUnreadableAs, IsFound, IsBare, file_read, data_of, is_blob};
+ghost use Rattle.sled_core.specs.Reading.{HoldsAs, IsRecordRead, IsReading, IsWithItem, IsMalformed, IsUnreadable, IsUnreadableAs, IsFound, IsBare, IsAnnounced, file_read, data_of, is_blob};
 
 use crate::iobuf::record::sum_behind;
 use crate::logger::read_at::{BasedBuf, ReadAt};
@@ -76,7 +76,8 @@ impl LogRead {
 ///
 /// `Corruption` where a record stands there that has to hold a place and does not, or whose blob has fewer than five
 /// bytes or is of another kind; and with the blob's place where the blob's checksum fails. `Io` where the device failed,
-/// and `OutOfMemory`.
+/// and `OutOfMemory`, which comes only where a header of this segment stands there and announces a record that ends within
+/// its slot.
 pub fn read_message<D: Device, C: Checksum>(
     config: &mut RunningConfig<D, C>,
     buf: Option<&BasedBuf>,
@@ -91,6 +92,8 @@ pub fn read_message<D: Device, C: Checksum>(
         (file_read buf.entry s.log.bytes) s.blobs.file lid number.0 }
     ensures named { let s = state_of (D.trace config.old.device) in OnDamage result (IsUnreadableAs C.sum_of config.old.config.segment_size
         (file_read buf.entry s.log.bytes) s.blobs.file lid number.0) }
+    ensures memory { let log = (state_of (D.trace config.old.device)).log.bytes in IfErr result (λ e. e ≡ Error.OutOfMemory
+        → IsAnnounced config.old.config.segment_size (file_read buf.entry log) lid number.0) }
     ensures answers { ItemAnswersOver D.trace D.faults C.sum_of result config.old config.new }
     ensures trace { D.trace config.new.device ≡ D.trace config.old.device }
     ensures config { config.new.config ≡ config.old.config }
@@ -131,7 +134,7 @@ fn with_item<D: Device, C: Checksum>(
 /// # Errors
 ///
 /// `Corruption` where a record stands there that has to hold a place and does not. `Io` where the device failed,
-/// and `OutOfMemory`.
+/// and `OutOfMemory`, as of `read_message`.
 pub fn read_record<D: Device, C: Checksum>(
     config: &mut RunningConfig<D, C>,
     buf: Option<&BasedBuf>,
@@ -144,6 +147,8 @@ pub fn read_record<D: Device, C: Checksum>(
         (file_read buf.entry (state_of (D.trace config.old.device)).log.bytes) lid number.0) }
     ensures malformed { IsCorruption result → IsMalformed C.sum_of config.old.config.segment_size
         (file_read buf.entry (state_of (D.trace config.old.device)).log.bytes) lid number.0 }
+    ensures memory { let log = (state_of (D.trace config.old.device)).log.bytes in IfErr result (λ e. e ≡ Error.OutOfMemory
+        → IsAnnounced config.old.config.segment_size (file_read buf.entry log) lid number.0) }
     ensures answers { DeviceAnswers result (D.faults config.old.device) (D.faults config.new.device) }
     ensures trace { D.trace config.new.device ≡ D.trace config.old.device }
     ensures config { config.new.config ≡ config.old.config }
@@ -168,6 +173,8 @@ fn find_in<D: Device, C: Checksum>(
     ensures none { IfOk result (λ o. IfNone o (IsBare config.old.config.segment_size
         (file_read buf.entry (state_of (D.trace config.old.device)).log.bytes) lid number.0)) }
     ensures valid { IfOk result (λ o. IfSome o (λ f. f.header.kind ≢ kind.Corrupted)) }
+    ensures memory { let log = (state_of (D.trace config.old.device)).log.bytes in IfErr result (λ e. e ≡ Error.OutOfMemory
+        → IsAnnounced config.old.config.segment_size (file_read buf.entry log) lid number.0) }
     ensures answers { DeviceAnswers result (D.faults config.old.device) (D.faults config.new.device) }
     ensures readable { IsCorruption result → ⊥ }
     ensures trace { D.trace config.new.device ≡ D.trace config.old.device }
@@ -189,6 +196,7 @@ fn read_found<C: Checksum>(checksum: &C, found: UnverifiedRecord) -> Result<LogR
     ensures malformed { (size : ℕ) (log : List ℕ) (lid number : ℕ) → IsFound size log lid number found → IsCorruption result
         → IsMalformed C.sum_of size log lid number }
     ensures errors { IfErr result IsDecodeError }
+    ensures memory { IfErr result (λ e. e ≢ Error.OutOfMemory) }
 {
     let UnverifiedRecord {
         header,
@@ -216,12 +224,13 @@ fn find_record<R: ReadAt>(
     ensures found { IfOk result (λ o. IfSome o (IsFound size (R.file reader.old) lid number.0)) }
     ensures none { IfOk result (λ o. IfNone o (IsBare size (R.file reader.old) lid number.0)) }
     ensures valid { IfOk result (λ o. IfSome o (λ f. f.header.kind ≢ kind.Corrupted)) }
+    ensures memory { IfErr result (λ e. e ≡ Error.OutOfMemory → IsAnnounced size (R.file reader.old) lid number.0) }
     ensures answers { DeviceAnswers result (R.faults reader.old) (R.faults reader.new) }
     ensures readable { IsCorruption result → ⊥ }
     ensures rest { R.rest reader.new ≡ R.rest reader.old }
 {
     let (head, count) = read_head(reader, lid)?;
-    match decode_head(alloc, &head[..])? {
+    match header_of(alloc, &head[..]) {
         Some((header, header_len)) => {
             if header_len > count {
                 return Ok(None);
@@ -255,6 +264,7 @@ fn find_announced<R: ReadAt>(
     ensures found { IfOk result (λ o. IfSome o (IsFound size (R.file reader.old) lid number.0)) }
     ensures none { IfOk result (λ o. IfNone o (IsBare size (R.file reader.old) lid number.0)) }
     ensures valid { IfOk result (λ o. IfSome o (λ f. f.header.kind ≢ kind.Corrupted)) }
+    ensures memory { IfErr result (λ e. e ≡ Error.OutOfMemory → IsAnnounced size (R.file reader.old) lid number.0) }
     ensures answers { DeviceAnswers result (R.faults reader.old) (R.faults reader.new) }
     ensures readable { IsCorruption result → ⊥ }
     ensures rest { R.rest reader.new ≡ R.rest reader.old }
@@ -298,21 +308,20 @@ fn blank() -> [u8; READ_AHEAD] {
     [0; READ_AHEAD]
 }
 
-/// The header that these bytes begin with, and how long its spelling is.
-fn decode_head(alloc: Global, head: &[u8]) -> Result<Option<(MessageHeader, usize)>>
-    requires { length head.now ≡ 32 }
-    ensures found { IfOk result (λ found. MatchOption found
-        ((front rest : List ℕ) (h : MessageHeader) → head.now ≡ front ++ rest → SpellsMessageHeader front h → ⊥)
-        (λ x. SpellsMessageHeader (take x.1 head.now) x.0 × (x.1 ≤ 32) × (8 ≤ x.1))) }
-    ensures bytes { (i : ℕ) → slice_index head.now i < 256 }
-    ensures errors { IfErr result (λ e. e ≡ Error.OutOfMemory) }
+/// The header that bytes begin with, and how long its spelling is. Reading one takes no memory.
+#[inline(always)]
+pub(crate) fn header_of(alloc: Global, bytes: &[u8]) -> Option<(MessageHeader, usize)>
+    ensures found { IfSome result (λ x. SpellsMessageHeader (take x.1 bytes.now) x.0) }
+    ensures none { IfNone result ((front rest : List ℕ) (h : MessageHeader) → bytes.now ≡ front ++ rest → SpellsMessageHeader front h → ⊥) }
+    ensures inside { IfSome result (λ x. (8 ≤ x.1) × (x.1 ≤ length bytes.now)) }
+    ensures bytes { (i : ℕ) → slice_index bytes.now i < 256 }
 {
-    let mut rest = head;
-    match MessageHeader::deserialize(alloc, &mut rest) {
-        Ok(header) => Ok(Some((header, head.len() - rest.len()))),
-        Err(Error::Corruption { at: _ }) => Ok(None),
-        Err(e) => Err(e),
-    }
+    let mut rest = bytes;
+    let header = match MessageHeader::deserialize(alloc, &mut rest) {
+        Ok(header) => header,
+        Err(_) => return None,
+    };
+    Some((header, bytes.len() - rest.len()))
 }
 
 /// Whether a record of this header may stand where there are so many bytes, for a segment.
@@ -393,6 +402,7 @@ fn reading_of(header: MessageHeader, body: Vec<u8>, len: u32) -> Result<LogRead>
     ensures reading { IfOk result (HoldsAs header body.items len) }
     ensures malformed { IsCorruption result → ((is_blob header.kind ≡ true) ⊎ (header.kind ≡ kind.BatchManifest)) × (length body.items ≢ 8) }
     ensures errors { IfErr result IsDecodeError }
+    ensures memory { IfErr result (λ e. e ≢ Error.OutOfMemory) }
 {
     match header.kind {
         MessageKind::Canceled => Ok(LogRead::Canceled(len)),
@@ -410,6 +420,7 @@ pub(crate) fn place_of(body: &[u8]) -> Result<Lsn>
     ensures place { IfOk result (SpellsSigned body.now) }
     ensures malformed { IsCorruption result → length body.now ≢ 8 }
     ensures errors { IfErr result IsDecodeError }
+    ensures memory { IfErr result (λ e. e ≢ Error.OutOfMemory) }
 {
     if body.len() != 8 {
         return Err(Error::Corruption { at: None });

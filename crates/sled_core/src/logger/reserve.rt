@@ -2,12 +2,12 @@
 ghost use Rattle.std.specs.Prelude.{◌≡◌, length, pos, true, false, None, IfOk, OnOk};
 ghost use Rattle.sled_codec.specs.History.{Message};
 ghost use Rattle.sled_core.specs.Causes.{ReserveAnswers};
-ghost use Rattle.sled_core.specs.Fits.{Awaits, FitsInline, IsLeastOpen, IsUsedUpFor, body_length, fault_of, in_blob_of, message_for, segment_size_of, target_of};
+ghost use Rattle.sled_core.specs.Fits.{Awaits, FitsInline, IsLeastOpen, IsUsedUpFor, blob_at, body_length, fault_of, in_blob_of, message_for, segment_size_of, target_of};
 ghost use Rattle.sled_core.specs.Keeps.{KeepsSeen, Preserves};
 ghost use Rattle.sled_core.specs.Manifests.{is_manifest, kind_for};
 ghost use Rattle.sled_core.specs.Reserves.{RefusalLeaves, ReservesAs, StandsBehind, TouchesBlob, reserve_causes};
 ghost use Rattle.sled_core.specs.Running.{IsStored};
-ghost use Rattle.sled_core.specs.Tickets.{is_manifest_of};
+ghost use Rattle.sled_core.specs.Tickets.{is_manifest_of, own_blob};
 
 use crate::iobuf::Purpose;
 use crate::iobuf::record::Head;
@@ -37,7 +37,7 @@ impl<D: Device, C: Checksum> Log<D, C> {
     /// batch (a `Skip` of the page `BATCH_MANIFEST_PID`) whose item hasn't 8 bytes,
     /// `PlacesUsedUp` where the record needs a further segment and that would not end below 2^63 in the log and in the file,
     /// `Held` with the least place of an open reservation where 127 are open in the buffer that the record would be of, and
-    /// `OutOfMemory`. After each of them the log is as it was; where the blob could not be had memory for, the next segment may
+    /// `OutOfMemory` where none of these is so. After each of them the log is as it was; where the blob could not be had memory for, the next segment may
     /// have been begun. `Io` for a blob where the device failed in this call, which the log keeps, and of kind `AlreadyExists` where
     /// there is a blob of that name, which it doesn't keep: the next segment may have been begun then too.
     pub fn reserve<T: Serialize>(
@@ -51,6 +51,8 @@ impl<D: Device, C: Checksum> Log<D, C> {
         ensures ticket { IfOk result (λ ticket. Awaits self.new ticket (message_for self.old kind pid (T.short (T.meaning item.now)))) }
         ensures stored { let m = message_for self.old kind pid (T.short (T.meaning item.now)) in OnOk result (IsStored D.trace C.sum_of self.new m) }
         ensures manifest { IfOk result (λ ticket. is_manifest_of ticket ≡ is_manifest kind pid) }
+        ensures own { let n = length (T.short (T.meaning item.now)) in
+            IfOk result (λ ticket. own_blob ticket ≡ blob_at (in_blob_of self.old n) (target_of self.old pid (body_length self.old n)).place) }
         ensures behind { let n = body_length self.old (length (T.short (T.meaning item.now))) in
             OnOk result (StandsBehind C.sum_of self.old self.new pid n) }
         ensures others { (ticket : Reservation) (m : Message) → Awaits self.old ticket m → Awaits self.new ticket m }

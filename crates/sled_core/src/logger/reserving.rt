@@ -1,16 +1,14 @@
 //! The parts of a reservation: whether its record has a place in the current segment, the room for it, and its placeholder.
-ghost use Rattle.std.specs.Prelude.{◌≡◌, ◌+◌, ◌-◌, ◌/◌, ◌^◌, ◌<◌, ◌≤◌, ◌++◌, ◌∷◌, [], drop, length, take, true, IsTrue, IfOk, OnOk, OnErr, ◌↔◌};
+ghost use Rattle.std.specs.Prelude.{◌≡◌, ◌+◌, ◌-◌, ◌/◌, ◌^◌, ◌<◌, ◌≤◌, ◌++◌, ◌∷◌, [], None, drop, length, take, true, IsTrue, IfOk, OnOk, OnErr, ◌↔◌};
 ghost use Rattle.sled_codec.specs.Spelling.{short_header_tail};
-ghost use Rattle.sled_store.specs.Accounts.{MayHandOut, NextAnswers};
-ghost use Rattle.sled_store.specs.SegmentStates.{handed_out};
 ghost use Rattle.sled_core.specs.Begun.{last_buffer};
 ghost use Rattle.sled_core.specs.Buffers.{placeholder_head, reserved_for};
 ghost use Rattle.sled_core.specs.Causes.{MakesRoom};
-ghost use Rattle.sled_core.specs.Fits.{FitsInline, IsLeastOpen, IsUnchanged, IsUsedUpFor, KeepsAll, current_of, line_of, machine_at, open_for, open_of, reserved_end, segment_size_of, stable_end};
+ghost use Rattle.sled_core.specs.Fits.{FitsInline, IsLeastOpen, IsUnchanged, IsUsedUpFor, KeepsAll, current_of, line_of, open_for, open_of, segment_size_of};
 ghost use Rattle.sled_core.specs.Manifests.{is_manifest, kind_for};
 ghost use Rattle.sled_core.specs.Prepared.{IsPrepared, PrepareAnswers};
-ghost use Rattle.sled_core.specs.Tickets.{is_manifest_of};
-ghost use Rattle.sled_core.specs.Turned.{ChangesLine, ChangesSlots, HasRoomForBatch, HasRoomIn, HasPlace, IsTicketFor, next_line, reserved_now};
+ghost use Rattle.sled_core.specs.Tickets.{is_manifest_of, own_blob};
+ghost use Rattle.sled_core.specs.Turned.{ChangesLine, ChangesSlots, HasRoomForBatch, HasRoomIn, HasPlace, IsTicketFor, reserved_now};
 ghost use Rattle.sled_core.specs.Waiting.{at_last};
 
 use crate::iobuf::Purpose;
@@ -23,7 +21,7 @@ use sled_codec::result::{DiskPtr, Error, PageId, Result};
 use sled_codec::serialization::message::{BATCH_MANIFEST_PID, message_kind};
 use sled_codec::serialization::{Checksum, LogKind, MessageKind, SegmentNumber, Serialize};
 use sled_store::Device;
-use sled_store::segment::{MAX_MSG_HEADER_LEN, SEG_HEADER_LEN};
+use sled_store::segment::MAX_MSG_HEADER_LEN;
 
 impl<D: Device, C: Checksum> Log<D, C> {
     /// Makes the log ready for a record with a body of this length, in the current segment or, where it has no room there,
@@ -48,7 +46,7 @@ impl<D: Device, C: Checksum> Log<D, C> {
             self.room_for(head.len + body_len, manifest)?;
             return Ok(());
         }
-        self.begin_segment(manifest)?;
+        self.begin_next(manifest)?;
         self.fill_head(purpose, body_len, head);
         Ok(())
     }
@@ -99,25 +97,6 @@ impl<D: Device, C: Checksum> Log<D, C> {
         self.behind[n - 1].buffer.make_room(len)
     }
 
-    /// Begins the next segment for a record, which will begin it. For a manifest it makes room for its batch.
-    pub(crate) fn begin_segment(&mut self, manifest: bool) -> Result<()>
-        ensures line { OnOk result (line_of self.new
-            ≡ next_line C.sum_of (segment_size_of self.old) (machine_at self.old) (stable_end self.old) (line_of self.old)) }
-        ensures machine { OnOk result (machine_at self.new
-            ≡ handed_out ((current_of self.old).parts.site.place + segment_size_of self.old) (machine_at self.old)) }
-        ensures room { OnOk result (HasRoomIn (last_buffer self.new.buffer self.new.behind.items) (segment_size_of self.old - 20)) }
-        ensures batch { OnOk result (manifest ≡ true → HasRoomForBatch self.new) }
-        ensures reserved { OnOk result (reserved_end self.new ≡ (current_of self.old).parts.site.place + segment_size_of self.old + 20) }
-        ensures rest { ChangesSlots self.old self.new }
-        ensures err { OnErr result (IsUnchanged self.old self.new) }
-        ensures answers { NextAnswers result
-            (MayHandOut (segment_size_of self.old) ((current_of self.old).parts.site.place + segment_size_of self.old) (machine_at self.old)) }
-    {
-        let (site, _) = self.current();
-        let to = site.place + self.config.config.segment_size + SEG_HEADER_LEN as u64;
-        self.begin_next(to, manifest)
-    }
-
     /// Lays out the placeholder of a record behind what is there in the current segment, and returns its ticket.
     #[inline(always)]
     pub(crate) fn append<T: Serialize>(
@@ -138,6 +117,7 @@ impl<D: Device, C: Checksum> Log<D, C> {
             ++ drop 4 (take head.now.len head.now.bytes))))) (line_of self.old) }
         ensures ticket { IsTicketFor self.old result purpose.now.blob (head.now.len + item_len) }
         ensures manifest { is_manifest_of result ≡ is_manifest purpose.now.log_kind purpose.now.page }
+        ensures own { own_blob result ≡ None }
         ensures reserved { self.new.reserved_to ≡ (current_of self.old).parts.site.place + length (current_of self.old).parts.bytes + head.now.len + item_len }
         ensures rest { ChangesSlots self.old self.new }
         ensures accountant { self.new.accountant ≡ self.old.accountant }

@@ -10,7 +10,7 @@ ghost use Rattle.sled_core.specs.Fits.{AddsBuffers, IsUnchanged, IsUsedUp, Keeps
 ghost use Rattle.sled_core.specs.Keeps.{Preserves, SamePosition, start_sealed};
 ghost use Rattle.sled_core.specs.Marked.{BeginsMarked};
 ghost use Rattle.sled_core.specs.Positions.{is_short};
-ghost use Rattle.sled_core.specs.Turned.{CanClose, ChangesLine, ChangesSlots, EndsApart, HasRoomForBatch, HasRoomIn, IsBegunView, next_line, promoted};
+ghost use Rattle.sled_core.specs.Turned.{CanClose, ChangesLine, ChangesSlots, HasRoomForBatch, HasRoomIn, IsBegunView, next_line, promoted};
 ghost use Rattle.sled_core.specs.Waiting.{at_last, holds_any, sealed_now, with_parts};
 
 use crate::iobuf::{IoBuf, SegmentPosition};
@@ -95,8 +95,7 @@ impl<D: Device, C: Checksum> Log<D, C> {
         ensures err { OnErr result (IsUnchanged self.old self.new) }
     {
         if self.is_short() {
-            let to = self.reserved_to;
-            return self.begin_next(to, false);
+            return self.begin_next(false);
         }
         self.seal_unfilled()
     }
@@ -123,19 +122,16 @@ impl<D: Device, C: Checksum> Log<D, C> {
         Ok(())
     }
 
-    /// Fills the current segment to its end, seals its buffer, and begins the next segment, in the slot that the accountant
-    /// hands out. What is reserved ends there then. All memory is taken before anything is changed, for a manifest that of its
-    /// batch too.
-    pub(crate) fn begin_next(&mut self, to: u64, manifest: bool) -> Result<()>
-        requires grows { reserved_end self.old ≤ to }
-        requires behind { current_begin self.old < to }
-        requires within { to ≤ (current_of self.old).parts.site.place + segment_size_of self.old + 20 }
-        requires apart { EndsApart self.old to }
+    /// Fills the current segment, which has more than its header, to its end, seals its buffer, and begins the next segment, in
+    /// the slot that the accountant hands out. What was reserved ends where it did. All memory is taken before anything is
+    /// changed, for a manifest that of its batch too.
+    pub(crate) fn begin_next(&mut self, manifest: bool) -> Result<()>
+        requires used { 20 < length (current_of self.old).parts.bytes }
         ensures line { OnOk result (line_of self.new
             ≡ next_line C.sum_of (segment_size_of self.old) (machine_at self.old) (stable_end self.old) (line_of self.old)) }
         ensures machine { OnOk result (machine_at self.new
             ≡ handed_out ((current_of self.old).parts.site.place + segment_size_of self.old) (machine_at self.old)) }
-        ensures reserved { OnOk result (self.new.reserved_to ≡ to) }
+        ensures reserved { reserved_end self.new ≡ reserved_end self.old }
         ensures room { OnOk result (HasRoomIn (last_buffer self.new.buffer self.new.behind.items) (segment_size_of self.old - 20)) }
         ensures batch { OnOk result (manifest ≡ true → HasRoomForBatch self.new) }
         ensures rest { ChangesSlots self.old self.new }
@@ -166,7 +162,6 @@ impl<D: Device, C: Checksum> Log<D, C> {
             site: SegmentPosition { place: next, slot },
             buffer,
         });
-        self.reserved_to = to;
         Ok(())
     }
 

@@ -5,6 +5,7 @@ ghost use Rattle.std.specs.Prelude.{◌≡◌, ◌<◌, ◌≤◌, ◌<ℤ◌, �
 ghost use Rattle.sled_store.specs.Script.{after_all, Performs};
 ghost use Rattle.sled_core.specs.Causes.{HeldAnswers, IsHeld, OnDone};
 ghost use Rattle.sled_core.specs.Fits.{KeepsTickets, NoneSealed, current_begin, device_of, fault_of, reserved_end, start_of, synced_end, waiting_of};
+ghost use Rattle.sled_core.specs.Fronts.{CameAround, WroteNone};
 ghost use Rattle.sled_core.specs.Keeps.{Preserves, SamePosition};
 ghost use Rattle.sled_core.specs.Marked.{KeepsSegment};
 ghost use Rattle.sled_core.specs.ReadBuffer.{IsUsedUpAt, IsWrittenPlace, SealsAround, SettleAnswers, WritesAround, held_at, settling};
@@ -31,7 +32,8 @@ impl<D: Device, C: Checksum> Log<D, C> {
         ensures answers { SettleAnswers result place (synced_end self.old) (reserved_end self.old) (held_at C.sum_of self.old place) (IsUsedUpAt self.old place)
             (fault_of self.new) (D.faults (device_of self.old)) (D.faults (device_of self.new)) }
         ensures seals { SealsAround result place self.old self.new }
-        ensures buffers { WritesAround C.sum_of result place self.old self.new }
+        ensures buffers { WritesAround C.sum_of result place self.old self.new
+            × OnErr result (CameAround D.trace C.sum_of (unsigned_abs place) self.old self.new) }
     {
         if place < 0 {
             return Ok(());
@@ -57,7 +59,7 @@ impl<D: Device, C: Checksum> Log<D, C> {
         ensures answers { HeldAnswers result (held_at C.sum_of self.old (pos place)) (IsUsedUpAt self.old (pos place)) None (fault_of self.new)
             (D.faults (device_of self.old)) (D.faults (device_of self.new)) }
         ensures seals { SealsAround result (pos place) self.old self.new }
-        ensures buffers { WritesAround C.sum_of result (pos place) self.old self.new }
+        ensures buffers { WritesAround C.sum_of result (pos place) self.old self.new × OnErr result (CameAround D.trace C.sum_of place self.old self.new) }
     {
         if place < self.synced_end() {
             return Ok(());
@@ -83,7 +85,7 @@ impl<D: Device, C: Checksum> Log<D, C> {
             (D.faults (device_of self.old)) (D.faults (device_of self.new)) }
         ensures start { start_of self.new ≡ start_of self.old }
         ensures without { OnOk result (waiting_of self.new ≡ without_around place (waiting_of self.old)) }
-        ensures same { OnErr result (waiting_of self.new ≡ waiting_of self.old) }
+        ensures same { OnErr result ((waiting_of self.new ≡ waiting_of self.old) × WroteNone D.trace self.old self.new) }
         ensures one { ((b : BufferAt) → Contains (waiting_of self.old) b → has_place place b ≡ true) → OnOk result (NoneSealed self.new) }
         ensures segment { KeepsSegment self.old self.new }
     {

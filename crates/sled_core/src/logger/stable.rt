@@ -1,18 +1,18 @@
 //! Making what was reserved durable up to a place, and closing a log.
 //!
 //! Both write buffers as `Log::flush` does (`specs/Stable.antt`).
-ghost use Rattle.std.specs.Prelude.{List, ℕ, ◌≡◌, ◌+◌, ◌≤◌, ◌<ℤ◌, pos, IfOk, OnOk, OnErr, Some, max};
-ghost use Rattle.std.specs.declared.io.Error.{Error as IoError};
+ghost use Rattle.std.specs.Prelude.{List, ℕ, [], ◌≡◌, ◌+◌, ◌≤◌, ◌<ℤ◌, pos, IfOk, OnOk, OnErr, max};
 ghost use Rattle.sled_codec.specs.History.{History, Message};
 ghost use Rattle.sled_store.specs.Device.{state_of};
 ghost use Rattle.sled_store.specs.Moments.{LeavesOnly};
 ghost use Rattle.sled_store.specs.Script.{after_all, Performs};
 ghost use Rattle.sled_core.specs.Causes.{OnDone};
 ghost use Rattle.sled_core.specs.Fits.{IsUsedUpBelow, KeepsTickets, config_of, device_of, fault_of, flushing, holding_below, reserved_end, segment_size_of, stable_end};
+ghost use Rattle.sled_core.specs.Fronts.{CameTo};
 ghost use Rattle.sled_core.specs.Keeps.{ConfigKept, Preserves, SamePosition, WritesBelow};
 ghost use Rattle.sled_core.specs.Recoverable.{LeavesRecoverable, RecoverableIfOwn};
 ghost use Rattle.sled_core.specs.Running.{Fits, end_below};
-ghost use Rattle.sled_core.specs.Stable.{held_for, stabilizing, stable_behind, target_for, IsNotReserved, StableAnswers, CloseAnswers};
+ghost use Rattle.sled_core.specs.Stable.{held_for, stabilizing, stable_behind, target_for, IsNotReserved, SparesDevice, StableAnswers, CloseAnswers};
 
 use crate::logger::Log;
 use sled_codec::result::{Error, Lsn, Result};
@@ -26,9 +26,10 @@ impl<D: Device, C: Checksum> Log<D, C> {
     ///
     /// # Errors
     ///
-    /// `Held` where one of these has an open reservation, with the least place of its open ones; `Io` and `OutOfMemory` as
-    /// of `flush`; `NotReserved` exactly where the place lies above both the stable end and
-    /// the greatest reserved place, and the log keeps no failure of its device: the log is as it was.
+    /// `Held` where one of these has an open reservation, with the least place of its open ones; `Io`, `PlacesUsedUp` and
+    /// `OutOfMemory` as of `flush`, and the last two only where the place is to be made durable; `NotReserved` exactly where
+    /// the place lies above both the stable end and the greatest reserved place, and the log keeps no failure of its device:
+    /// the log is as it was.
     pub fn make_stable(&mut self, lsn: Lsn) -> Result<usize>
         ensures answer { IfOk result (λ n. stable_end self.new ≡ stable_end self.old + n) }
         ensures target { OnOk result (lsn <ℤ pos (stable_end self.new)) }
@@ -42,9 +43,10 @@ impl<D: Device, C: Checksum> Log<D, C> {
         ensures answers { StableAnswers result lsn (stable_end self.old) (reserved_end self.old) (held_for C.sum_of self.old lsn)
             (IsUsedUpBelow self.old (target_for self.old lsn))
             (fault_of self.old) (fault_of self.new) (D.faults (device_of self.old)) (D.faults (device_of self.new)) }
-        ensures faulty { (e : IoError) → fault_of self.old ≡ Some e → self.new ≡ self.old }
+        ensures spares { SparesDevice D.faults (stabilizing C.sum_of self.old lsn) self.old self.new }
         ensures refused { IsNotReserved result → self.new ≡ self.old }
-        ensures buffers { WritesBelow C.sum_of result (target_for self.old lsn) self.old self.new }
+        ensures buffers { WritesBelow C.sum_of result (target_for self.old lsn) self.old self.new
+            × OnErr result (CameTo D.trace C.sum_of (target_for self.old lsn) self.old self.new) }
     {
         if let Some(e) = self.fault {
             return Err(Error::Io(e));
@@ -79,6 +81,7 @@ impl<D: Device, C: Checksum> Log<D, C> {
             → LeavesOnly (RecoverableIfOwn C.sum_of (segment_size_of self) H A f) (D.trace (device_of self)) (D.trace result.0.device) }
         ensures answers { CloseAnswers result.1 (holding_below C.sum_of self (reserved_end self)) (IsUsedUpBelow self (reserved_end self)) (fault_of self)
             (D.faults (device_of self)) (D.faults result.0.device) }
+        ensures idle { flushing C.sum_of self ≡ [] → D.faults result.0.device ≡ D.faults (device_of self) }
         ensures config { ConfigKept (config_of self) result.0 }
     {
         let mut log = self;

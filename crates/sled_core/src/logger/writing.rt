@@ -16,10 +16,11 @@ ghost use Rattle.sled_core.specs.Begun.{SegmentView, line_at, view_at};
 ghost use Rattle.sled_core.specs.Buffers.{first_open_in, open_in};
 ghost use Rattle.sled_core.specs.Causes.{Answers, FaultOrMemory, HeldAnswers, OnDone};
 ghost use Rattle.sled_core.specs.Fits.{Holds, IsUnchanged, IsUsedUp, IsUsedUpBelow, IsWritten, KeepsAll, KeepsTickets, NoneSealed, buffers_of, current_begin, current_of, device_of, fault_of, flushing, held_len, holding_below, line_of, pending_of, reserved_end, sealing_end, segment_size_of, stable_end, start_of, synced_end, waiting_of, writing_below, writing_pending};
-ghost use Rattle.sled_core.specs.Keeps.{LeavesAbove, LeavesSome, Preserves, SamePosition, SealsBelow, WritesBelow};
+ghost use Rattle.sled_core.specs.Fronts.{CameTo, WroteFront, WroteNone, syncs};
+ghost use Rattle.sled_core.specs.Keeps.{LeavesAbove, Preserves, SamePosition, SealsBelow, WritesBelow};
 ghost use Rattle.sled_core.specs.Marked.{BeginsMarked, KeepsSegment};
 ghost use Rattle.sled_core.specs.Running.{Fits, end_below};
-ghost use Rattle.sled_core.specs.Stable.{SyncsAll};
+ghost use Rattle.sled_core.specs.Stable.{SparesDevice, SyncsAll};
 ghost use Rattle.sled_core.specs.Turned.{ChangesDevice, IsReadyIn, promoted, ready_below, write_in, written_now};
 ghost use Rattle.sled_core.specs.Waiting.{BufferAt, holds_any, unwritten, without_pending};
 
@@ -57,7 +58,8 @@ impl<D: Device, C: Checksum> Log<D, C> {
         ensures start { start_of self.new ≡ start_of self.old }
         ensures answers { Answers result (fault_of self.old) (fault_of self.new) (D.faults (device_of self.old)) (D.faults (device_of self.new)) }
         ensures faulty { (e : IoError) → fault_of self.old ≡ Some e → self.new ≡ self.old }
-        ensures err { OnErr result ((synced_end self.new ≡ synced_end self.old) × (waiting_of self.new ≡ waiting_of self.old)) }
+        ensures err { OnErr result ((synced_end self.new ≡ synced_end self.old) × (waiting_of self.new ≡ waiting_of self.old)
+            × (syncs (D.trace (device_of self.new)) ≡ syncs (D.trace (device_of self.old)))) }
         ensures refused { UnlessFault result (D.trace (device_of self.old)) (D.trace (device_of self.new)) }
     {
         if let Some(e) = self.fault {
@@ -88,8 +90,8 @@ impl<D: Device, C: Checksum> Log<D, C> {
     ///
     /// # Errors
     ///
-    /// `Io` exactly where the log keeps a failure of its device; `PlacesUsedUp` where the next segment is to be begun and
-    /// would not end below 2^63 in the log and in the file; and `OutOfMemory`. The log is as it was.
+    /// `Io` exactly where the log keeps a failure of its device; `PlacesUsedUp` exactly where it keeps none, and the next segment
+    /// is to be begun and would not end below 2^63 in the log and in the file; and `OutOfMemory`. The log is as it was.
     pub fn roll_iobuf(&mut self) -> Result<usize>
         ensures answer { IfOk result (λ n. n ≡ held_len self.old) }
         ensures sealed { OnOk result (waiting_of self.new ≡ buffers_of C.sum_of self.old) }
@@ -122,9 +124,10 @@ impl<D: Device, C: Checksum> Log<D, C> {
     ///
     /// `Held` where a reservation is open, with the least place of those that are: the buffers below that one's are
     /// written, and its own is sealed. `Io` where the log keeps a failure of its device, or where the device failed in
-    /// this call: the log keeps that. `PlacesUsedUp` where the current buffer is to be sealed, no further record has room in
-    /// its segment, and the next one would not end below 2^63 in the log and in the file. `OutOfMemory`: the flush can be tried
-    /// again. Where no buffer was sealed, the stable end is where it was after each of them.
+    /// this call, which it can only where a buffer is to be written: the log keeps that. `PlacesUsedUp` where the current buffer
+    /// is to be sealed, no further record has room in its segment, and the next one would not end below 2^63 in the log and in
+    /// the file. `OutOfMemory`, where that isn't so: the flush can be tried again. Where no buffer was sealed, the stable end is
+    /// where it was after each of them.
     pub fn flush(&mut self) -> Result<usize>
         ensures answer { IfOk result (λ n. stable_end self.new ≡ stable_end self.old + n) }
         ensures synced { OnOk result (SyncsAll self.old self.new) }
@@ -138,8 +141,10 @@ impl<D: Device, C: Checksum> Log<D, C> {
         ensures position { SamePosition self.old self.new }
         ensures answers { HeldAnswers result (holding_below C.sum_of self.old (reserved_end self.old)) (IsUsedUpBelow self.old (reserved_end self.old))
             (fault_of self.old) (fault_of self.new) (D.faults (device_of self.old)) (D.faults (device_of self.new)) }
+        ensures spares { SparesDevice D.faults (flushing C.sum_of self.old) self.old self.new }
         ensures faulty { (e : IoError) → fault_of self.old ≡ Some e → self.new ≡ self.old }
-        ensures buffers { WritesBelow C.sum_of result (reserved_end self.old) self.old self.new }
+        ensures buffers { WritesBelow C.sum_of result (reserved_end self.old) self.old self.new
+            × OnErr result (CameTo D.trace C.sum_of (reserved_end self.old) self.old self.new) }
     {
         if let Some(kept) = self.fault {
             return Err(Error::Io(kept));
@@ -171,7 +176,9 @@ impl<D: Device, C: Checksum> Log<D, C> {
         ensures position { SamePosition self.old self.new }
         ensures answers { HeldAnswers result (holding_below C.sum_of self.old to) (IsUsedUpBelow self.old to) None (fault_of self.new)
             (D.faults (device_of self.old)) (D.faults (device_of self.new)) }
+        ensures idle { writing_below C.sum_of self.old to ≡ [] → D.faults (device_of self.new) ≡ D.faults (device_of self.old) }
         ensures buffers { WritesBelow C.sum_of result to self.old self.new }
+        ensures came { OnErr result (CameTo D.trace C.sum_of to self.old self.new) }
     {
         if self.current_begin() < to {
             self.seal()?;
@@ -196,7 +203,8 @@ impl<D: Device, C: Checksum> Log<D, C> {
         ensures none { ((b : BufferAt) → Contains (waiting_of self.old) b → b.place < to) → OnOk result (NoneSealed self.new) }
         ensures one { length (waiting_of self.old) ≤ 1 → OnErr result (synced_end self.new ≡ synced_end self.old) }
         ensures above { OnOk result (LeavesAbove C.sum_of to self.old self.new) }
-        ensures some { OnErr result (LeavesSome C.sum_of to self.old self.new) }
+        ensures front { OnErr result (WroteFront D.trace C.sum_of to self.old self.new) }
+        ensures idle { writing_below C.sum_of self.old to ≡ [] → D.faults (device_of self.new) ≡ D.faults (device_of self.old) }
     {
         while self.has_ready_below(to) {
             self.write_buffer(0, 0)?;
@@ -240,6 +248,7 @@ impl<D: Device, C: Checksum> Log<D, C> {
         ensures position { SamePosition self.old self.new }
         ensures answers { Answers result None (fault_of self.new) (D.faults (device_of self.old)) (D.faults (device_of self.new)) }
         ensures refused { UnlessFault result (D.trace (device_of self.old)) (D.trace (device_of self.new)) }
+        ensures unwritten { OnErr result (WroteNone D.trace self.old self.new) }
     {
         self.write_bytes(n, k)?;
         let (site, buffer) = nth(&self.site, &self.buffer, &self.behind, n);
@@ -260,6 +269,7 @@ impl<D: Device, C: Checksum> Log<D, C> {
         ensures rest { ChangesDevice self.old self.new }
         ensures snapshots { (state_of (D.trace (device_of self.new))).snapshots ≡ (state_of (D.trace (device_of self.old))).snapshots }
         ensures refused { OnErr result (fault_of self.new ≡ None → D.trace (device_of self.new) ≡ D.trace (device_of self.old)) }
+        ensures unsynced { OnErr result (syncs (D.trace (device_of self.new)) ≡ syncs (D.trace (device_of self.old))) }
     {
         let (site, buffer) = nth(&self.site, &self.buffer, &self.behind, n);
         let (from, to) = buffer.span(k);
@@ -312,6 +322,7 @@ fn write_out<D: Device>(device: &mut D, at: LogOffset, bytes: &[u8]) -> io::Resu
     ensures error { FailsOr OutOfMemory result }
     ensures names { (state_of (D.trace device.new)).snapshots ≡ (state_of (D.trace device.old)).snapshots }
     ensures calls { Performs (Wrote at bytes.now bytes.now ∷ Synced ∷ []) (D.trace device.old) (D.trace device.new) }
+    ensures unsynced { OnErr result (syncs (D.trace device.new) ≡ syncs (D.trace device.old)) }
 {
     device.write_at(at, bytes)?;
     device.sync()

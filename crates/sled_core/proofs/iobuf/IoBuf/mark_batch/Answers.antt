@@ -1,5 +1,5 @@
 -- The record has the peg as its body, and the sum of both.
-use Rattle.std.proofs.Common.{◌≡◌, ◌∙◌, ◌+◌, ◌≤◌, ℕ, List, length, sym, subst, max, drop, arith, ap}
+use Rattle.std.proofs.Common.{◌≡◌, ◌∙◌, ◌+◌, ◌≤◌, ℕ, List, length, sym, subst, max, drop, arith}
 use Rattle.sled_codec.specs.Written.{written}
 use Rattle.sled_codec.specs.Spelling.{low_bytes}
 use Rattle.sled_core.specs.declared.iobuf.Reserved.{Reserved}

@@ -24,6 +24,9 @@ returns-clause-reaches c s is r =
     let end = to_z w64 c.loop-further.end-bits in
     subst (λ items. Reaches s is end (turned items)) (sym c.in_default.ensures.unchanged.0) at
 
+pub returns-clause-beyond : goal.returns-clause-beyond
+returns-clause-beyond c = c.in_default.ensures.beyond
+
 pub returns-clause-end : goal.returns-clause-end
 returns-clause-end c s is r =
     let same = to_z-of_z w64 c.args.from c.ranges.from in

@@ -17,6 +17,15 @@ returns-then-is_beyond-clause-end c s is r =
     let ahead = turned (heap_items c.args.ahead.now) in
     reach_ends s is end ahead r (All-weaker (λ i. first.0.0 ≤ℤ i.0) (λ i. (end +ℤ pos 1) <ℤ i.0) (λ i le. omega (arith, ints)) ahead (lowest_of first _ (c.in_ok-low.ensures.greatest c.requires)))
 
+pub returns-then-is_beyond-clause-beyond : goal.returns-then-is_beyond-clause-beyond
+returns-then-is_beyond-clause-beyond c =
+    let first = c.in_ok-low.field-0.now in
+    let end = c.args.end in
+    let fits : SFits w64 first.0.0 = search rules in
+    let test = c.if-is_beyond.ensures in
+    let gap : (end +ℤ pos 1) <ℤ first.0.0 = omega (arith, ints) in
+    All-weaker (λ i. first.0.0 ≤ℤ i.0) (λ i. (end +ℤ pos 1) <ℤ i.0) (λ i le. omega (arith, ints)) (turned (heap_items c.args.ahead.now)) (lowest_of first _ (c.in_ok-low.ensures.greatest c.requires))
+
 pub returns-clause-reaches : goal.returns-clause-reaches
 returns-clause-reaches c s is r =
     let first = c.in_ok-low.field-0.now in

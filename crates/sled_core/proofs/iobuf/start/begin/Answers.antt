@@ -64,7 +64,7 @@ returns-in-Ok-take_slot-clause-buffer g c =
     let place = ap (λ (x : Beginning). x.place) is ∙ begins_place size (slots_of size len) (stable_place s.stable) (unused size (slots_of size len) s) s.active in
     let offset = ap (λ (x : Beginning). x.offset) is ∙ begins_offset size (slots_of size len) (stable_place s.stable) (unused size (slots_of size len) s) s.active in
     subst (λ n. IsFirstBuffer g.C.Checksum.sum_of n c.beginning_at-beginning.result.offset c.in-Ok.buffer) (sym place)
-    (subst (λ n. IsFirstBuffer g.C.Checksum.sum_of (place_at size (stable_place s.stable) s.active) n c.in-Ok.buffer) (sym offset) c.in-Ok.ensures.buffer)
+    (subst (λ n. IsFirstBuffer g.C.Checksum.sum_of (place_at size (stable_place s.stable) s.active) n c.in-Ok.buffer) (sym offset) (c.in-Ok.ensures.buffer c.in-Ok-start.ensures.answers.1.places))
 
 -- The segment may take the next slot.
 

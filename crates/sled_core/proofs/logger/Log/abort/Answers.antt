@@ -1,9 +1,9 @@
 -- The blob of the reservation's own goes, which leaves the segments of the log as they were, and then its message is given up there.
-use Rattle.std.proofs.Common.{◌≡◌, refl, sym, subst, ℤ, List, Option}
+use Rattle.std.proofs.Common.{◌≡◌, refl, sym, subst, List}
 use Rattle.sled_core.specs.Begun.{SegmentView}
 use Rattle.sled_core.specs.Fits.{AwaitsIn, line_of}
 use Rattle.sled_core.specs.Logged.{in_log}
-use Rattle.sled_core.specs.OwnBlobs.{PreservesWithout, own_blob}
+use Rattle.sled_core.specs.Tickets.{own_blob}
 use Rattle.sled_core.proofs.Holds.KeptCalls.{position_still}
 use Rattle.sled_core.proofs.Holds.WithoutBlob.{without_further, without_still}
 use Rattle.sled_core.proofs.Line.BlobRemoved.{removes_further, removes_nothing}
@@ -37,12 +37,11 @@ returns-in-Ok-clause-others g c = λ H other m holds awaits apart.
     c.give_up.ensures.others H other m (c.remove_own.ensures.keeps.history H holds) (subst (λ (l : List SegmentView). AwaitsIn l other (in_log m)) (sym same) awaits) apart
 
 pub returns-in-Ok-clause-device : goal.returns-in-Ok-clause-device
-returns-in-Ok-clause-device g c = removes_further g.D.Device.trace c.remove_own.result c.in-Ok.field-0 _ c.own_blob-own.result (own_blob c.args.ticket) c.args.self.now c.remove_own.new.self c.give_up.new.self c.in-Ok.is c.own_blob-own.ensures c.remove_own.ensures.device c.give_up.ensures.same.config
+returns-in-Ok-clause-device g c = removes_further g.D.Device.trace c.remove_own.result c.in-Ok.field-0 _ (own_blob c.args.ticket) (own_blob c.args.ticket) c.args.self.now c.remove_own.new.self c.give_up.new.self c.in-Ok.is refl c.remove_own.ensures.device c.give_up.ensures.same.config
 
 pub returns-in-Ok-clause-keeps : goal.returns-in-Ok-clause-keeps
 returns-in-Ok-clause-keeps g c =
-    let first = subst (λ (own : Option ℤ). PreservesWithout g.D.Device.trace g.C.Checksum.sum_of own c.args.self.now c.remove_own.new.self) c.own_blob-own.ensures c.remove_own.ensures.keeps in
-    without_further g.D.Device.trace g.C.Checksum.sum_of (own_blob c.args.ticket) c.args.self.now c.remove_own.new.self c.give_up.new.self first c.give_up.ensures.keeps
+    without_further g.D.Device.trace g.C.Checksum.sum_of (own_blob c.args.ticket) c.args.self.now c.remove_own.new.self c.give_up.new.self c.remove_own.ensures.keeps c.give_up.ensures.keeps
 
 pub returns-in-Ok-clause-place : goal.returns-in-Ok-clause-place
 returns-in-Ok-clause-place g c = c.give_up.ensures.place

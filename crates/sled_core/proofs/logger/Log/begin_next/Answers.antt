@@ -1,16 +1,14 @@
 -- The segment that is being filled is filled up, in the first buffer or in the last one behind it, and one more is begun behind it.
-use Rattle.std.proofs.Common.{Result, Ok, Err, IsErrAnd, OnOk, ◌≡◌, ◌⊎◌, ◌∙◌, ◌+◌, ◌-◌, ◌*◌, ◌<◌, ◌≤◌, ◌^◌, ◌-ℤ◌, sym, ap, refl, subst, arith, rules, ℕ, suc, false, pos, List, [], ◌∷◌, ◌++◌, length, length-append, map, set, deque_len, Some}
-use Rattle.std.specs.List.{All, slice_get}
-use Rattle.std.proofs.lemmas.List.Elements.{All-weaker}
+use Rattle.std.proofs.Common.{Result, Ok, Err, IsErrAnd, OnOk, ◌≡◌, ◌∙◌, ◌+◌, ◌-◌, ◌*◌, ◌<◌, ◌≤◌, ◌^◌, ◌-ℤ◌, sym, ap, refl, subst, arith, rules, ℕ, suc, false, pos, List, [], ◌∷◌, ◌++◌, length, length-append, map, set, deque_len, Some}
+use Rattle.std.specs.List.{slice_get}
 use Rattle.sled_core.specs.Begun.{AreFilled, FollowOn, SegmentView, begin_of, last_buffer, line_at, segment_view, view_at}
 use Rattle.sled_core.specs.declared.iobuf.IoBuf.{IoBuf}
 use Rattle.sled_core.specs.declared.iobuf.SegmentPosition.{SegmentPosition}
 use Rattle.sled_core.specs.declared.iobuf.Sealed.{Sealed}
 use Rattle.sled_core.specs.declared.logger.ready.ReadyBuffers.{ReadyBuffers}
 use Rattle.sled_core.specs.declared.logger.Log.{Log}
-use Rattle.sled_core.specs.declared.logger.batches.NotedBatch.{NotedBatch}
 use Rattle.sled_core.specs.declared.logger.segments.SegmentBuffer.{SegmentBuffer}
-use Rattle.sled_core.specs.Fits.{current_begin, current_of, line_of, machine_at, reserved_end, segment_size_of, stable_end}
+use Rattle.sled_core.specs.Fits.{current_of, line_of, machine_at, segment_size_of, stable_end}
 use Rattle.sled_core.specs.OpenPlaces.{open_manifests}
 use Rattle.sled_core.specs.ReadyBuffers.{AreReady, HasOwn}
 use Rattle.sled_core.specs.Turned.{CanClose, ChangesLine, HasRoomIn, IsBegunView, begun_view, next_line}
@@ -30,7 +28,6 @@ use Rattle.sled_store.specs.SegmentStates.{next_slot}
 use Rattle.sled_store.specs.declared.config.RunningConfig.{RunningConfig}
 use Rattle.sled_core.proofs.Line.Entered.{filled_last}
 use Rattle.sled_core.proofs.Line.Outcomes.{all_err}
-use Rattle.sled_core.proofs.Line.Segments.{line_segments}
 use Rattle.sled_core.proofs.Line.Unchanged.{left_alone, unchanged_still}
 use Rattle.sled_core.proofs.Line.Filling.{follow_in, follow_with, last_none, line_first, line_last, read_last}
 use Rattle.sled_core.proofs.Line.Nth.{last_behind, last_buffer_behind}
@@ -203,13 +200,7 @@ module _ {D C : Type 0} (sum : List ℕ → ℕ) (old mid : Log D C) (line : lin
       ∙ ap (λ (l : List SegmentView). l ++ segment_view s ∷ []) (is.line ∙ (λ i. at_last (closed_now sum (sizes i)) (line i)))
       ∙ ap (λ (v : SegmentView). at_last (closed_now sum its_size) (line_of old) ++ v ∷ []) view
 
-  -- what was noted lies below what is reserved then
-  begun_pegs : (to : ℕ) → reserved_end old ≤ to → All (λ (b : NotedBatch). b.peg < to) mid.noted.items
-  begun_pegs to grows =
-      let same = rest.reserved in
-      All-weaker (λ (b : NotedBatch). b.peg < mid.reserved_to) (λ (b : NotedBatch). b.peg < to) (λ b less. omega (arith, less, same, grows)) mid.noted.items mid.pegs
-
-  -- and as many manifests are open
+  -- as many manifests are open
   begun_counted : open_manifests (line_at mid.site b (ss ++ s ∷ [])) ≡ mid.manifests
   begun_counted =
       let all = ap open_manifests next_is ∙ manifests_next sum its_size (machine_at old) (stable_end old) (line_of old) in
@@ -217,8 +208,8 @@ module _ {D C : Type 0} (sum : List ℕ → ℕ) (old mid : Log D C) (line : lin
       let counted = mid.counted in
       omega (arith, all, same, counted)
 
-  begun_next : (to : ℕ) → reserved_end old ≤ to → current_begin old < to → to ≤ (current_of old).parts.site.place + its_size + 20 → (to ≡ reserved_end old) ⊎ ((current_of old).parts.site.place + its_size < to) → MayHandOut its_size s.site.place (machine_at old) → IsBegun its_size to mid.site b (ss ++ s ∷ [])
-  begun_next to grows low within moved may =
+  begun_next : 20 < length (current_of old).parts.bytes → MayHandOut its_size s.site.place (machine_at old) → IsBegun its_size mid.reserved_to mid.site b (ss ++ s ∷ [])
+  begun_next used may =
       let facts = current_facts old in
       let big : 256 ≤ its_size = old.config.config.least in
       let header = length-short_header sum (pos ((current_of old).parts.site.place + its_size)) (pos (stable_end old) -ℤ pos 1) in
@@ -241,8 +232,9 @@ module _ {D C : Type 0} (sum : List ℕ → ℕ) (old mid : Log D C) (line : lin
         slot_small = omega (arith, small_slot, sizes);
         waits = omega (arith, waits, sizes);
         follow = follow_one its_size (mid.site.place + its_size) ss s lies (omega (arith, long, big)) (omega (arith, place_end)) (omega (arith, slot_end, slot_is)) (subst (λ n. FollowOn n (mid.site.place + n) ss) sizes is.follow);
-        filled = subst (AreFilled its_size to) (sym next_is)
-            (filled_next sum its_size old.reserved_to to (machine_at old) (stable_end old) old.site.place (view_at old.site old.buffer) (map segment_view old.behind.items) (line_segments old) facts (omega (arith, big)) grows low within moved old.filled);
+        filled = subst (λ to. AreFilled its_size to (line_at mid.site b (ss ++ s ∷ []))) (sym rest.reserved)
+            (subst (AreFilled its_size old.reserved_to) (sym next_is)
+            (filled_next sum its_size old.reserved_to (machine_at old) (stable_end old) (view_at old.site old.buffer) (map segment_view old.behind.items) facts (omega (arith, big)) used old.filled));
       }
 
 -- Where it was refused, what is so where it was done isn't asked, and the log is as it was.
@@ -257,9 +249,6 @@ returns-in_err-buffer-clause-line g c = refused _ c.from_residual.result _ c.fro
 pub returns-in_err-buffer-clause-machine : goal.returns-in_err-buffer-clause-machine
 returns-in_err-buffer-clause-machine g c = refused _ c.from_residual.result _ c.from_residual.ensures.1
 
-pub returns-in_err-buffer-clause-reserved : goal.returns-in_err-buffer-clause-reserved
-returns-in_err-buffer-clause-reserved g c = refused _ c.from_residual.result _ c.from_residual.ensures.1
-
 pub returns-in_err-buffer-clause-room : goal.returns-in_err-buffer-clause-room
 returns-in_err-buffer-clause-room g c = refused _ c.from_residual.result _ c.from_residual.ensures.1
 
@@ -273,7 +262,7 @@ pub returns-in_err-room_to_close-clause-machine : goal.returns-in_err-room_to_cl
 returns-in_err-room_to_close-clause-machine g c = refused _ c.from_residual-in_err-room_to_close.result _ c.from_residual-in_err-room_to_close.ensures.1
 
 pub returns-in_err-room_to_close-clause-reserved : goal.returns-in_err-room_to_close-clause-reserved
-returns-in_err-room_to_close-clause-reserved g c = refused _ c.from_residual-in_err-room_to_close.result _ c.from_residual-in_err-room_to_close.ensures.1
+returns-in_err-room_to_close-clause-reserved g c = c.in_err-room_to_close.ensures.rest.reserved
 
 pub returns-in_err-room_to_close-clause-room : goal.returns-in_err-room_to_close-clause-room
 returns-in_err-room_to_close-clause-room g c = refused _ c.from_residual-in_err-room_to_close.result _ c.from_residual-in_err-room_to_close.ensures.1
@@ -288,7 +277,7 @@ pub returns-in_err-slot-clause-machine : goal.returns-in_err-slot-clause-machine
 returns-in_err-slot-clause-machine g c = refused _ c.from_residual-in_err-slot.result _ c.from_residual-in_err-slot.ensures.1
 
 pub returns-in_err-slot-clause-reserved : goal.returns-in_err-slot-clause-reserved
-returns-in_err-slot-clause-reserved g c = refused _ c.from_residual-in_err-slot.result _ c.from_residual-in_err-slot.ensures.1
+returns-in_err-slot-clause-reserved g c = c.in_ok-room_to_close.ensures.rest.reserved
 
 pub returns-in_err-slot-clause-room : goal.returns-in_err-slot-clause-room
 returns-in_err-slot-clause-room g c = refused _ c.from_residual-in_err-slot.result _ c.from_residual-in_err-slot.ensures.1
@@ -456,10 +445,10 @@ invariant_of-self-2 g c =
     let new_sizes : new_size ≡ segment_size_of mid = ap (λ x. x.config.segment_size) (kept_config g c) in
     let sizes : segment_size_of mid ≡ segment_size_of old = ap (λ x. x.config.segment_size) rest.config in
     let may = c.has_further.ensures.0 c.if-not-has_further.false in
-    let all : IsBegun (segment_size_of old) c.args.to mid.site b (ss ++ next g c ∷ []) =
-    begun_next sum old mid line rest b ss (closed g c) (next g c) (next_at g c) slot begun c.args.to c.requires.grows c.requires.behind c.requires.within c.requires.apart.ends may in
-    let are : IsBegun new_size c.args.to mid.site b c.push_back_reserved.new.self.items =
-    subst (λ n. IsBegun n c.args.to mid.site b c.push_back_reserved.new.self.items) (sym (new_sizes ∙ sizes)) (subst (λ (l : List SegmentBuffer). IsBegun (segment_size_of old) c.args.to mid.site b l) (sym c.push_back_reserved.ensures.items) all) in
+    let all : IsBegun (segment_size_of old) mid.reserved_to mid.site b (ss ++ next g c ∷ []) =
+    begun_next sum old mid line rest b ss (closed g c) (next g c) (next_at g c) slot begun c.requires.used may in
+    let are : IsBegun new_size mid.reserved_to mid.site b c.push_back_reserved.new.self.items =
+    subst (λ n. IsBegun n mid.reserved_to mid.site b c.push_back_reserved.new.self.items) (sym (new_sizes ∙ sizes)) (subst (λ (l : List SegmentBuffer). IsBegun (segment_size_of old) mid.reserved_to mid.site b l) (sym c.push_back_reserved.ensures.items) all) in
     record {
       in_segment = are.short;
       place_in_reach = are.place_small;
@@ -468,7 +457,7 @@ invariant_of-self-2 g c =
       follow = are.follow;
       filled = are.filled;
       account = subst (λ n. IsAccountant n c.next.new.self) (sym new_sizes) c.next.ensures.account;
-      pegs = begun_pegs sum old mid line rest b ss (closed g c) (next g c) (next_at g c) slot begun c.args.to c.requires.grows;
+      pegs = mid.pegs;
       by_place = mid.by_place;
       room = mid.room;
       counted = subst (λ (l : List SegmentBuffer). open_manifests (line_at mid.site b l) ≡ mid.manifests) (sym c.push_back_reserved.ensures.items) (begun_counted sum old mid line rest b ss (closed g c) (next g c) (next_at g c) slot begun);
@@ -485,6 +474,9 @@ pub returns-clause-rest : goal.returns-clause-rest
 returns-clause-rest g c =
     let rest = c.in_ok-room_to_close.ensures.rest in
     record { config = kept_config g (goal.at.returns-clause-rest g c).After-push_back_reserved ∙ rest.config; fault = rest.fault; pins = rest.pins; noted = rest.noted }
+
+pub returns-clause-reserved : goal.returns-clause-reserved
+returns-clause-reserved g c = c.in_ok-room_to_close.ensures.rest.reserved
 
 pub returns-clause-line : goal.returns-clause-line
 returns-clause-line g c =

@@ -1,4 +1,4 @@
-use Rattle.std.proofs.Common.{◌≡◌, ◌∙◌, ◌≤◌, ◌+◌, IfOk, OnOk, List, [], ◌∷◌, ℕ, max, subst, sym, arith, inl, inr, Option, Result, Ok, Err}
+use Rattle.std.proofs.Common.{◌≡◌, ◌∙◌, ◌≤◌, ◌+◌, IfOk, OnOk, List, [], ◌∷◌, ℕ, max, ap, subst, sym, arith, inl, inr, Option, Result, Ok, Err}
 use Rattle.std.specs.declared.io.Error.{Error as IoError}
 use Rattle.sled_codec.specs.declared.result.Error.{Error}
 use Rattle.sled_codec.specs.declared.result.Error.TheVariants.{Held, Io, OutOfMemory, PlacesUsedUp}
@@ -24,7 +24,7 @@ close_answers : {T : Type 0} (r : Result T Error) (held : Option ℕ) (used : Ty
 close_answers (Ok x) held used fault now before after (none, unused, old, new, same) = (none, unused, old, same)
 close_answers (Err (Io e)) held used fault now before after (inl kept) = inl (kept.0, kept.2)
 close_answers (Err (Io e)) held used fault now before after (inr failed) = inr (failed.0, failed.2, failed.3)
-close_answers (Err OutOfMemory) held used fault now before after (old, new, same) = (old, same)
+close_answers (Err OutOfMemory) held used fault now before after (unused, old, new, same) = (unused, old, same)
 close_answers (Err PlacesUsedUp) held used fault now before after (is, old, new, same) = (is, old, same)
 close_answers (Err (Held at)) held used fault now before after (place, unused, old, new, same) = (place, unused, old, same)
 close_answers (Err _) held used fault now before after answers = absurd answers
@@ -45,7 +45,7 @@ pub returns-clause-answer : goal.returns-clause-answer
 returns-clause-answer g c =
     let old = c.args.self in
     let new = c.flush-flushed.new.self in
-    grown c.flush-flushed.result _ old new _ (stable_end old) (stable_left g.C.Checksum.sum_of (reserved_end old) old new) c.flush-flushed.ensures.answer c.flush-flushed.ensures.buffers.above c.flush-flushed.ensures.synced
+    grown c.flush-flushed.result _ old new _ (stable_end old) (stable_left g.C.Checksum.sum_of (reserved_end old) old new) c.flush-flushed.ensures.answer c.flush-flushed.ensures.buffers.0.above c.flush-flushed.ensures.synced
 
 reached : {D C : Type 0} (r : Result ℕ Error) (old new : Log D C) (before : ℕ) → IfOk r (λ n. stable_end new ≡ before + n) → OnOk r (SyncsAll old new) → IfOk r (λ n. reserved_end old ≤ before + n)
 reached (Ok n) old new before grows all = let low = all.whole in let same = all.stable in omega (arith, low, grows, same)
@@ -63,6 +63,9 @@ returns-clause-answers g c =
     let new = c.flush-flushed.new.self in
     subst (λ (x : RunningConfig _ _). CloseAnswers c.flush-flushed.result (holding_below g.C.Checksum.sum_of old (reserved_end old)) (IsUsedUpBelow old (reserved_end old)) (fault_of old) (g.D.Device.faults (device_of old)) (g.D.Device.faults x.device)) (sym c.halt.ensures.config)
     (close_answers c.flush-flushed.result _ _ (fault_of old) (fault_of new) _ _ c.flush-flushed.ensures.answers)
+
+pub returns-clause-idle : goal.returns-clause-idle
+returns-clause-idle g c = λ none. ap (λ (x : RunningConfig g.row.D.Denot g.row.C.Denot). g.D.Device.faults x.device) c.halt.ensures.config ∙ c.flush-flushed.ensures.spares.idle none
 
 pub returns-clause-crash : goal.returns-clause-crash
 returns-clause-crash g c = λ H A f U fits.

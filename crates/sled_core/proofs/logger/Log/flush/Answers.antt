@@ -1,20 +1,37 @@
 -- All that was reserved is written.
-use Rattle.std.proofs.Common.{◌≡◌, ◌≤◌, arith, max, refl, subst}
+use Rattle.std.proofs.Common.{◌≡◌, ◌∙◌, ◌≤◌, ℕ, Option, None, Some, arith, max, refl, subst, sym}
+use Rattle.std.specs.declared.io.Error.{Error as IoError}
 use Rattle.sled_store.proofs.Traces.ScriptLemmas.{performs_nothing}
-use Rattle.sled_core.specs.Fits.{stable_end, synced_end}
+use Rattle.std.proofs.lemmas.Result.{err_from_is_err_and}
+use Rattle.sled_codec.specs.declared.result.Error.TheVariants.{Io}
+use Rattle.sled_core.specs.Fits.{fault_of, reserved_end, stable_end, synced_end}
 use Rattle.sled_core.specs.Running.{Fits, end_below}
 use Rattle.sled_core.proofs.Holds.KeptCalls.{kept_still}
 use Rattle.sled_core.proofs.Holds.RunningLemmas.{fits-acknowledged}
 use Rattle.sled_core.proofs.Line.LineEnds.{stable_kept}
 use Rattle.sled_core.proofs.Line.NoneLeft.{all_stable, all_written}
+use Rattle.sled_core.proofs.Line.SealFirst.{still_came, writes_err, writes_none, writes_ok}
 use Rattle.sled_core.proofs.logger.Log.flush.Given as given
 use Rattle.sled_core.proofs.logger.Log.flush.Goals as goal
+
+-- Where it got that far no failure is kept.
+no_fault : (kept : Option IoError) (e : IoError) (A : Type 0) → kept ≡ None → kept ≡ Some e → A
+no_fault kept e A none some = absurd (let bad : None ≡ Some e = sym none ∙ some in cc)
+
+pub returns-in-Some-clause-spares : goal.returns-in-Some-clause-spares
+returns-in-Some-clause-spares g c = record { faulty = λ e is. refl; idle = λ none. refl }
 
 pub returns-in-Some-clause-at_most : goal.returns-in-Some-clause-at_most
 returns-in-Some-clause-at_most g c = performs_nothing _ _ _ refl
 
 pub returns-in-Some-clause-keeps : goal.returns-in-Some-clause-keeps
 returns-in-Some-clause-keeps g c = kept_still g.D.Device.trace g.C.Checksum.sum_of c.args.self.now
+
+pub returns-in_err-write_below-clause-spares : goal.returns-in_err-write_below-clause-spares
+returns-in_err-write_below-clause-spares g c = record { faulty = λ e is. no_fault (fault_of c.args.self.now) e _ c.in_default.is is; idle = c.write_below.ensures.idle }
+
+pub returns-clause-spares : goal.returns-clause-spares
+returns-clause-spares g c = record { faulty = λ e is. no_fault (fault_of c.args.self.now) e _ c.in_default.is is; idle = c.write_below.ensures.idle }
 
 pub returns-clause-records : goal.returns-clause-records
 returns-clause-records g c = λ H holds.
@@ -35,6 +52,24 @@ returns-clause-acknowledges g c = λ H A f U fits.
     let later = c.write_below.ensures.keeps.fits H A f U fits in
     subst (λ n. Fits g.D.Device.trace g.C.Checksum.sum_of c.write_below.new.self H (max A (end_below n H)) f U) (stable g c)
     (record { reach = later.reach; parts = fits-acknowledged g.C.Checksum.sum_of _ _ _ _ _ _ _ _ _ H A f U later.parts _ _ later.batches; batches = later.batches; slots = later.slots; begun = later.begun; entries = later.entries })
+
+pub returns-in-Some-clause-buffers : goal.returns-in-Some-clause-buffers
+returns-in-Some-clause-buffers g c =
+    let old = c.args.self.now in
+    (writes_none g.C.Checksum.sum_of (reserved_end old) old (Io c.in-Some.kept) (λ held. held), still_came g.D.Device.trace g.C.Checksum.sum_of (reserved_end old) old)
+
+pub returns-in_err-write_below-clause-buffers : goal.returns-in_err-write_below-clause-buffers
+returns-in_err-write_below-clause-buffers g c =
+    let old = c.args.self.now in
+    let new = c.write_below.new.self in
+    let x = c.in_err-write_below.field-0.0 in
+    let e = err_from_is_err_and c.from_residual.result c.from_residual.ensures.1 in
+    rw (e.1, e.2) (writes_err (Unit {0}) ℕ g.C.Checksum.sum_of (reserved_end old) old new x c.in_err-write_below.ensures.buffers, c.in_err-write_below.ensures.came)
+
+pub returns-clause-buffers : goal.returns-clause-buffers
+returns-clause-buffers g c =
+    let old = c.args.self.now in
+    (writes_ok g.C.Checksum.sum_of (reserved_end old) old c.write_below.new.self c.in_ok-write_below.field-0 _ c.in_ok-write_below.ensures.buffers, tt)
 
 grows : (g : given.Over) (c : goal.After-stable_end g) → stable_end c.args.self.now ≤ stable_end c.write_below.new.self
 grows g c =

@@ -33,6 +33,7 @@ use Rattle.sled_core.proofs.Line.Facts.{nth_facts}
 use Rattle.sled_core.proofs.Line.LogSpans.{ended_buffers}
 use Rattle.sled_core.proofs.Reserve.Entries.{open_plain, reserved_in}
 use Rattle.sled_core.proofs.Reserve.Ranges.{at_there}
+use Rattle.sled_core.proofs.Line.LineEnds.{kept_same}
 use Rattle.sled_core.proofs.logger.Log.give_up.Given.{Over}
 use Rattle.sled_core.proofs.logger.Log.give_up.Goals as goal
 use Rattle.sled_codec.specs.Record.{short_record}
@@ -96,6 +97,7 @@ returns-clause-keeps g c =
       fits = λ H A f U fits. fits_ended old c.abort_in.new.self c.segment_of-n.result v at i r its own.own.open_yet (canceling g.C.Checksum.sum_of v.parts.bytes r) (canceling_short g.C.Checksum.sum_of v i r (nth_facts old c.segment_of-n.result v at) its own.own.open_yet) Canceled (c.abort_in.ensures.line v r at its) c.abort_in.ensures.rest g.D.Device.trace g.C.Checksum.sum_of H A f U
           (fits_aborted g.C.Checksum.sum_of old.config.config.segment_size (state_of (g.D.Device.trace old.config.device)) old.fault (line_of old) c.segment_of-n.result v at old.site.place (nth_facts old) i r its own.own.open_yet (machine_of old.accountant) (noted_in old) old.pins H A f U fits);
       noted = left_ended old c.abort_in.new.self c.segment_of-n.result v at i r its own.own.open_yet (canceling g.C.Checksum.sum_of v.parts.bytes r) (canceling_short g.C.Checksum.sum_of v i r (nth_facts old c.segment_of-n.result v at) its own.own.open_yet) Canceled (c.abort_in.ensures.line v r at its) c.abort_in.ensures.rest;
+      kept = kept_same old c.abort_in.new.self c.abort_in.ensures.rest.noted;
     }
 
 -- the body of a record is that of the message, whose pointer says whether it has its item in a blob

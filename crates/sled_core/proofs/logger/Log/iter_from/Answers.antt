@@ -18,7 +18,7 @@ over g c =
     (goes_over g.D.Device.trace g.C.Checksum.sum_of log c.args.lsn c.over_log.result c.in-Ok.segments.items
     (subst (λ n. AreSegments (segment_size_of log) (machine_at log) (begins_from (segment_size_of log) c.args.lsn) n c.in-Ok.segments.items) c.stable_end-end.ensures.is
     (subst (λ (z : ℤ). AreSegments (segment_size_of log) (machine_at log) (begins_from (segment_size_of log) z) c.stable_end-end.result c.in-Ok.segments.items) (to_z-of_z w64 c.args.lsn c.ranges.lsn) c.in-Ok.ensures.segments))
-    c.args.self refl c.over_log.ensures.borrows c.new.result c.over_log.ensures.rest c.new.ensures.strict (ap (λ v. v.items) c.new.ensures.segments) (c.new.ensures.end ∙ c.stable_end-end.ensures.is) c.new.ensures.read c.new.ensures.met c.new.ensures.given)
+    c.args.self refl c.over_log.ensures.borrows c.new.result c.over_log.ensures.rest c.new.ensures.strict (ap (λ v. v.items) c.new.ensures.segments) (c.new.ensures.end ∙ c.stable_end-end.ensures.is) c.new.ensures.read c.new.ensures.met c.new.ensures.given c.new.ensures.undamaged)
 
 pub returns-in-Ok-clause-goes_over : goal.returns-in-Ok-clause-goes_over
 returns-in-Ok-clause-goes_over = over

@@ -42,11 +42,11 @@ laid_long : (old head item new : List ℕ) (n : ℕ) → new ≡ (old ++ head) +
 laid_long old head item new n is long = omega (arith, ap length is, long, length-append (old ++ head) item, length-append old head, length-append head item)
 
 -- The segments are filled as they have to be.
-laid_filled : {D C : Type 0} (log : Log D C) (more : List ℕ) (r : Reserved) (to : ℕ) (line : List SegmentView) → line ≡ at_last (reserved_now more r) (line_of log) → r.state ≡ Open → 0 < length more → to ≡ (current_of log).parts.site.place + length (current_of log).parts.bytes + length more
+laid_filled : {D C : Type 0} (log : Log D C) (more : List ℕ) (r : Reserved) (to : ℕ) (line : List SegmentView) → line ≡ at_last (reserved_now more r) (line_of log) → r.state ≡ Open → r.from ≡ length (current_of log).parts.bytes → 0 < length more → to ≡ (current_of log).parts.site.place + length (current_of log).parts.bytes + length more
     → AreFilled log.config.config.segment_size to line
-laid_filled log more r to line is is_open some end =
+laid_filled log more r to line is is_open begins some end =
     subst (AreFilled log.config.config.segment_size to) (sym is)
-    (filled_reserved (λ _. 0) log.config.config.segment_size more r log.reserved_to to log.site.place (view_at log.site log.buffer) (map segment_view log.behind.items) (line_segments log) is_open some end log.filled).1
+    (filled_reserved (λ _. 0) log.config.config.segment_size more r log.reserved_to to log.site.place (view_at log.site log.buffer) (map segment_view log.behind.items) (line_segments log) is_open begins some end log.filled).1
 
 -- What was noted lies below what is reserved then, and as many manifests are open as are counted.
 laid_pegs : {D C : Type 0} (log : Log D C) (to n : ℕ) → to ≡ (current_of log).parts.site.place + length (current_of log).parts.bytes + n → All (λ (b : NotedBatch). b.peg < to) log.noted.items
@@ -84,7 +84,7 @@ invariant_of-self g c =
       filled = laid_filled log (head ++ item) _ c.args.to (line_at log.site c.append.new.self log.behind.items)
           (line_first (reserved_now (head ++ item) _) log.site log.buffer c.append.new.self log.behind.items none
           (reserved_view log.site log.buffer c.append.new.self head item _ c.append.ensures.bytes c.append.ensures.reserved c.append.ensures.from c.append.ensures.gone c.append.ensures.filled c.append.ensures.sealed))
-          refl (placeholder_some (take c.args.head.now.len c.args.head.now.bytes) item) (omega (arith, c.requires.end, long));
+          refl (sym bytes) (placeholder_some (take c.args.head.now.len c.args.head.now.bytes) item) (omega (arith, c.requires.end, long));
       account = log.account;
       pegs = laid_pegs log c.args.to (c.args.head.now.len + c.args.item_len) c.requires.end;
       by_place = log.by_place;
@@ -164,7 +164,7 @@ invariant_of-self-else-n-eq0 g c =
       follow = follow_with log.config.config.segment_size (log.site.place + log.config.config.segment_size) log.behind.items n s (record { site = s.site; buffer = new }) is.1 refl (omega (arith, made.len, bytes, fits)) log.follow;
       filled = laid_filled log (head ++ item) _ c.args.to (line_at log.site log.buffer (set log.behind.items n (record { site = s.site; buffer = new })))
           (laid_line log n s is.0 is.1 new head item _ made.bytes made.reserved made.from made.gone made.filled made.sealed)
-          refl (placeholder_some (take c.args.head.now.len c.args.head.now.bytes) item) (omega (arith, c.requires.end, long));
+          refl (sym bytes) (placeholder_some (take c.args.head.now.len c.args.head.now.bytes) item) (omega (arith, c.requires.end, long));
       account = log.account;
       pegs = laid_pegs log c.args.to (c.args.head.now.len + c.args.item_len) c.requires.end;
       by_place = log.by_place;

@@ -1,14 +1,16 @@
 -- Where nothing is written, the log is as it was; else the buffers up to the place are.
-use Rattle.std.proofs.Common.{◌∙◌, ◌<ℤ◌, pos, ◌≤ℤ◌, ◌<◌, ap, sym, subst, refl, arith, ◌≡◌, ◌≤◌, negsuc, ℤ, rules, SFits, inl, inr, List, None, ℕ, Option, Ok, Err, Some}
+use Rattle.std.proofs.Common.{◌∙◌, ◌<ℤ◌, pos, ◌≤ℤ◌, ◌<◌, ap, sym, subst, refl, arith, ◌≡◌, ◌≤◌, negsuc, ℤ, rules, SFits, of_z, to_z, inl, inr, List, None, ℕ, Option, Ok, Err, Some}
 use Rattle.std.specs.declared.io.Error.{Error as IoError}
 use Rattle.std.specs.Int.{w64}
 use Rattle.std.proofs.lemmas.Int.{ints, to_z-of_z, to_z_pos}
 use Rattle.std.proofs.lemmas.Result.{err_from_is_err_and}
+use Rattle.sled_codec.specs.declared.result.Error.TheVariants.{Io, NotReserved}
 use Rattle.sled_store.specs.Device.{Event}
 use Rattle.sled_store.specs.Script.{Performs, after_all}
 use Rattle.sled_store.proofs.Traces.ScriptLemmas.{performs_nothing}
 use Rattle.sled_core.specs.Causes.{HeldAnswers}
 use Rattle.sled_core.specs.Fits.{IsUsedUpBelow, fault_of, noted_in, reserved_end, stable_end}
+use Rattle.sled_core.specs.Fronts.{CameTo}
 use Rattle.sled_core.specs.Keeps.{WritesBelow}
 use Rattle.sled_core.specs.Running.{Fits}
 use Rattle.sled_core.specs.OpenBatches.{behind_batch}
@@ -17,7 +19,7 @@ use Rattle.sled_core.specs.declared.logger.Log.{Log}
 use Rattle.sled_core.proofs.Holds.KeptCalls.{kept_still, position_still, tickets_still}
 use Rattle.sled_core.proofs.Holds.RunningLemmas.{fits-acknowledged}
 use Rattle.sled_core.proofs.Line.LineEnds.{stable_kept, stable_reached}
-use Rattle.sled_core.proofs.Line.SealFirst.{unused_already, writes_already, writes_err, writes_ok}
+use Rattle.sled_core.proofs.Line.SealFirst.{still_came, unused_already, writes_already, writes_err, writes_none, writes_ok}
 use Rattle.sled_core.proofs.Stable.Places.{above_read, behind_read, behind_stable, done_as, held_up, holds_none, inside_read, reserved_in_reach, stable_answers, wrote_for}
 use Rattle.sled_core.proofs.logger.Log.make_stable.Given as given
 use Rattle.sled_core.proofs.logger.Log.make_stable.Goals as goal
@@ -27,6 +29,12 @@ returns-in-Some-clause-at_most g c = performs_nothing _ _ _ refl
 
 pub returns-in-Some-clause-keeps : goal.returns-in-Some-clause-keeps
 returns-in-Some-clause-keeps g c = kept_still g.D.Device.trace g.C.Checksum.sum_of c.args.self.now
+
+pub returns-in-Some-clause-buffers : goal.returns-in-Some-clause-buffers
+returns-in-Some-clause-buffers g c =
+    let old = c.args.self.now in
+    let to = target_for old c.args.lsn in
+    (writes_none g.C.Checksum.sum_of to old (Io c.in-Some.e) (λ held. held), still_came g.D.Device.trace g.C.Checksum.sum_of to old)
 
 -- The place is durable already.
 
@@ -45,7 +53,7 @@ returns-then-lsn-stable_offset-clause-answers g c =
     (inl (durable g c), (holds_none g.C.Checksum.sum_of old c.args.lsn (durable g c), unused_already (target_for old c.args.lsn) old (behind_stable g.C.Checksum.sum_of old c.args.lsn (durable g c)), c.in_default.is, c.in_default.is, refl))
 
 pub returns-then-lsn-stable_offset-clause-buffers : goal.returns-then-lsn-stable_offset-clause-buffers
-returns-then-lsn-stable_offset-clause-buffers g c = writes_already g.C.Checksum.sum_of (target_for c.args.self.now c.args.lsn) c.args.self.now 0 (behind_stable g.C.Checksum.sum_of c.args.self.now c.args.lsn (durable g c))
+returns-then-lsn-stable_offset-clause-buffers g c = (writes_already g.C.Checksum.sum_of (target_for c.args.self.now c.args.lsn) c.args.self.now 0 (behind_stable g.C.Checksum.sum_of c.args.self.now c.args.lsn (durable g c)), tt)
 
 -- It wasn't reserved.
 
@@ -54,6 +62,12 @@ overflow_cast-self g c = let reach = reserved_in_reach c.args.self.now in omega 
 
 pub returns-then-lsn-self-clause-at_most : goal.returns-then-lsn-self-clause-at_most
 returns-then-lsn-self-clause-at_most g c = performs_nothing _ _ _ refl
+
+pub returns-then-lsn-self-clause-buffers : goal.returns-then-lsn-self-clause-buffers
+returns-then-lsn-self-clause-buffers g c =
+    let old = c.args.self.now in
+    let to = target_for old c.args.lsn in
+    (writes_none g.C.Checksum.sum_of to old (NotReserved (to_z w64 (of_z w64 c.args.lsn))) (λ held. held), still_came g.D.Device.trace g.C.Checksum.sum_of to old)
 
 pub returns-then-lsn-self-clause-keeps : goal.returns-then-lsn-self-clause-keeps
 returns-then-lsn-self-clause-keeps g c = kept_still g.D.Device.trace g.C.Checksum.sum_of c.args.self.now
@@ -114,8 +128,11 @@ returns-in_err-write_below-clause-buffers g c =
     let new = c.write_below.new.self in
     let x = c.in_err-write_below.field-0.0 in
     let e = err_from_is_err_and c.from_residual.result c.from_residual.ensures.1 in
-    rw (e.1, e.2) (writes_err (Unit {0}) ℕ g.C.Checksum.sum_of (target_for c.args.self.now c.args.lsn) old new x
-    (subst (λ n. WritesBelow {T = Unit {0}} g.C.Checksum.sum_of (Err x) n old new) (to_is c.args.self.now c.args.lsn _ _ c.behind_batch-to.ensures.is (behind_read c.args.lsn _ _ (to_z-of_z w64 c.args.lsn c.ranges.lsn) (above g c))) c.in_err-write_below.ensures.buffers))
+    let to = to_is c.args.self.now c.args.lsn _ _ c.behind_batch-to.ensures.is (behind_read c.args.lsn _ _ (to_z-of_z w64 c.args.lsn c.ranges.lsn) (above g c)) in
+    rw (e.1, e.2) (
+      writes_err (Unit {0}) ℕ g.C.Checksum.sum_of (target_for c.args.self.now c.args.lsn) old new x (subst (λ n. WritesBelow {T = Unit {0}} g.C.Checksum.sum_of (Err x) n old new) to c.in_err-write_below.ensures.buffers),
+      subst (λ n. CameTo g.D.Device.trace g.C.Checksum.sum_of n old new) to c.in_err-write_below.ensures.came,
+    )
 
 -- It is written.
 
@@ -158,9 +175,11 @@ returns-clause-answers g c =
 pub returns-clause-buffers : goal.returns-clause-buffers
 returns-clause-buffers g c =
     let old = c.args.self.now in
-    let new = c.write_below.new.self in
-    writes_ok g.C.Checksum.sum_of (target_for c.args.self.now c.args.lsn) old new c.in_ok-write_below.field-0 _
-    (subst (λ n. WritesBelow {T = Unit {0}} g.C.Checksum.sum_of (Ok c.in_ok-write_below.field-0) n old new) (to_is c.args.self.now c.args.lsn _ _ c.behind_batch-to.ensures.is (behind_read c.args.lsn _ _ (to_z-of_z w64 c.args.lsn c.ranges.lsn) (above_done g c))) c.in_ok-write_below.ensures.buffers)
+    let new = c.write_below.new.self in (
+      writes_ok g.C.Checksum.sum_of (target_for c.args.self.now c.args.lsn) old new c.in_ok-write_below.field-0 _
+          (subst (λ n. WritesBelow {T = Unit {0}} g.C.Checksum.sum_of (Ok c.in_ok-write_below.field-0) n old new) (to_is c.args.self.now c.args.lsn _ _ c.behind_batch-to.ensures.is (behind_read c.args.lsn _ _ (to_z-of_z w64 c.args.lsn c.ranges.lsn) (above_done g c))) c.in_ok-write_below.ensures.buffers),
+      tt,
+    )
 
 grows : (g : given.Over) (c : goal.After-stable_end g) → stable_end c.args.self.now ≤ stable_end c.write_below.new.self
 grows g c =
@@ -218,8 +237,13 @@ returns-in_err-write_below-clause-position g c = c.in_err-write_below.ensures.po
 pub returns-in_err-write_below-clause-keeps : goal.returns-in_err-write_below-clause-keeps
 returns-in_err-write_below-clause-keeps g c = c.in_err-write_below.ensures.keeps
 
-pub returns-in_err-write_below-clause-faulty : goal.returns-in_err-write_below-clause-faulty
-returns-in_err-write_below-clause-faulty g c = λ e is. no_fault (fault_of c.args.self.now) e _ c.in_default.is is
+pub returns-in_err-write_below-clause-spares : goal.returns-in_err-write_below-clause-spares
+returns-in_err-write_below-clause-spares g c =
+    let old = c.args.self.now in
+    record {
+      faulty = λ e is. no_fault (fault_of old) e _ c.in_default.is is;
+      idle = λ none. c.write_below.ensures.idle (wrote_for g.C.Checksum.sum_of old c.args.lsn _ (to_is old c.args.lsn _ _ c.behind_batch-to.ensures.is (behind_read c.args.lsn _ _ (to_z-of_z w64 c.args.lsn c.ranges.lsn) (above g c))) (above g c) ∙ none);
+    }
 
 pub returns-clause-tickets : goal.returns-clause-tickets
 returns-clause-tickets g c = c.in_ok-write_below.ensures.tickets
@@ -230,11 +254,19 @@ returns-clause-position g c = c.in_ok-write_below.ensures.position
 pub returns-clause-keeps : goal.returns-clause-keeps
 returns-clause-keeps g c = c.in_ok-write_below.ensures.keeps
 
-pub returns-clause-faulty : goal.returns-clause-faulty
-returns-clause-faulty g c = λ e is. no_fault (fault_of c.args.self.now) e _ c.in_default.is is
+pub returns-clause-spares : goal.returns-clause-spares
+returns-clause-spares g c =
+    let old = c.args.self.now in
+    record {
+      faulty = λ e is. no_fault (fault_of old) e _ c.in_default.is is;
+      idle = λ none. c.write_below.ensures.idle (wrote_for g.C.Checksum.sum_of old c.args.lsn _ (to_is old c.args.lsn _ _ c.behind_batch-to.ensures.is (behind_read c.args.lsn _ _ (to_z-of_z w64 c.args.lsn c.ranges.lsn) (above_done g c))) (above_done g c) ∙ none);
+    }
 
-pub returns-then-lsn-stable_offset-clause-faulty : goal.returns-then-lsn-stable_offset-clause-faulty
-returns-then-lsn-stable_offset-clause-faulty g c = λ e is. refl
+pub returns-in-Some-clause-spares : goal.returns-in-Some-clause-spares
+returns-in-Some-clause-spares g c = record { faulty = λ e is. refl; idle = λ none. refl }
 
-pub returns-then-lsn-self-clause-faulty : goal.returns-then-lsn-self-clause-faulty
-returns-then-lsn-self-clause-faulty g c = λ e is. refl
+pub returns-then-lsn-stable_offset-clause-spares : goal.returns-then-lsn-stable_offset-clause-spares
+returns-then-lsn-stable_offset-clause-spares g c = record { faulty = λ e is. refl; idle = λ none. refl }
+
+pub returns-then-lsn-self-clause-spares : goal.returns-then-lsn-self-clause-spares
+returns-then-lsn-self-clause-spares g c = record { faulty = λ e is. refl; idle = λ none. refl }

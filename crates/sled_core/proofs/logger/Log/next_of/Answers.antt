@@ -26,6 +26,7 @@ returns-clause-log g c =
           history = λ H holds. holds_with_kept g.C.Checksum.sum_of _ _ _ _ _ _ _ _ _ _ _ (logged H) size refl refl (ap state_of reads.unwritten) kept holds;
           fits = λ H A f U fits. fits_with_kept g.C.Checksum.sum_of _ _ _ _ _ _ _ _ _ _ _ _ _ H A f U size refl refl refl (ap state_of reads.unwritten) kept fits;
           noted = noted_still old;
+          kept = omega arith;
         };
         tickets = record { awaits = λ ticket m awaits. awaits; opens = refl };
         position = record { position = ap (λ n. position_in n (current_of old) (machine_of old.accountant)) size; reserved = refl; pins = refl; size = size };

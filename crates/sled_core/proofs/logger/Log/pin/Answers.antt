@@ -13,4 +13,5 @@ returns-clause-keeps g c = record {
   history = λ H holds. holds;
   fits = λ H A f U fits. record { reach = fits.reach; parts = fits-pinned _ _ _ _ _ _ _ _ _ _ H A f U fits.parts _ (λ some. omega arith); batches = fits.batches; slots = fits.slots; begun = fits.begun; entries = fits.entries };
   noted = noted_still c.args.self.now;
+  kept = omega arith;
 }

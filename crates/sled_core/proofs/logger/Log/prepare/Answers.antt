@@ -8,7 +8,7 @@ use Rattle.sled_core.specs.Buffers.{record_size}
 use Rattle.sled_core.specs.Causes.{MakesRoom}
 use Rattle.sled_core.specs.Prepared.{PrepareAnswers, number_of}
 use Rattle.sled_core.specs.Turned.{HasPlace}
-use Rattle.sled_core.proofs.Line.Prepares.{IsHeadOf, head_size, here_further, here_open, next_open, next_used, prepared_here, prepared_next}
+use Rattle.sled_core.proofs.Line.Prepares.{IsHeadOf, head_size, here_further, here_open, next_open, next_up, next_used, prepared_here, prepared_next}
 use Rattle.sled_core.proofs.Line.Begins.{begins_same}
 use Rattle.sled_core.proofs.Line.Unchanged.{left_alone, unchanged_same}
 use Rattle.sled_core.proofs.logger.Log.prepare.Goals as goal
@@ -17,7 +17,7 @@ use Rattle.sled_core.proofs.logger.Log.prepare.Goals as goal
 
 room_refused : (e : Error) (used : Type 0) (count all : ℕ) (least : ℤ → Type 0) → MakesRoom {T = ℕ} (Err e) all least → (used → ⊥) → count ≡ all → PrepareAnswers {T = ℕ} (Err e) used count least
 room_refused (error.Held at) used count all least is not same = (not, same ∙ is.0, is.1)
-room_refused error.OutOfMemory used count all least is not same = omega (arith, is, same)
+room_refused error.OutOfMemory used count all least is not same = (not, omega (arith, is, same))
 room_refused (error.Io e) used count all least is not same = absurd is
 room_refused (error.Unsupported text) used count all least is not same = absurd is
 room_refused error.PlacesUsedUp used count all least is not same = absurd is
@@ -26,16 +26,16 @@ room_refused (error.NotReserved at) used count all least is not same = absurd is
 room_refused (error.CollectionNotFound name) used count all least is not same = absurd is
 room_refused (error.ReportableBug text) used count all least is not same = absurd is
 
-next_refused : (e : Error) (used may : Type 0) (count : ℕ) (least : ℤ → Type 0) → NextAnswers {T = ℕ} (Err e) may → ((may → ⊥) → used) → count ≡ 0 → PrepareAnswers {T = ℕ} (Err e) used count least
-next_refused error.OutOfMemory used may count least is all zero_open = omega (arith, zero_open)
-next_refused error.PlacesUsedUp used may count least is all zero_open = all is
-next_refused (error.Held at) used may count least is all zero_open = absurd is
-next_refused (error.Io e) used may count least is all zero_open = absurd is
-next_refused (error.Unsupported text) used may count least is all zero_open = absurd is
-next_refused (error.Corruption at) used may count least is all zero_open = absurd is
-next_refused (error.NotReserved at) used may count least is all zero_open = absurd is
-next_refused (error.CollectionNotFound name) used may count least is all zero_open = absurd is
-next_refused (error.ReportableBug text) used may count least is all zero_open = absurd is
+next_refused : (e : Error) (used may : Type 0) (count : ℕ) (least : ℤ → Type 0) → NextAnswers {T = ℕ} (Err e) may → ((may → ⊥) → used) → (used → may → ⊥) → count ≡ 0 → PrepareAnswers {T = ℕ} (Err e) used count least
+next_refused error.OutOfMemory used may count least is all back zero_open = ((λ u. back u is), omega (arith, zero_open))
+next_refused error.PlacesUsedUp used may count least is all back zero_open = all is
+next_refused (error.Held at) used may count least is all back zero_open = absurd is
+next_refused (error.Io e) used may count least is all back zero_open = absurd is
+next_refused (error.Unsupported text) used may count least is all back zero_open = absurd is
+next_refused (error.Corruption at) used may count least is all back zero_open = absurd is
+next_refused (error.NotReserved at) used may count least is all back zero_open = absurd is
+next_refused (error.CollectionNotFound name) used may count least is all back zero_open = absurd is
+next_refused (error.ReportableBug text) used may count least is all back zero_open = absurd is
 
 -- In the current segment.
 
@@ -69,17 +69,26 @@ returns-then-has_place-clause-answers g c =
 
 -- In a further one.
 
-pub returns-in_err-begin_segment-clause-answers : goal.returns-in_err-begin_segment-clause-answers
-returns-in_err-begin_segment-clause-answers g c =
+pub begin_next-requires : goal.begin_next-requires
+begin_next-requires g c =
+    let old = c.args.self.now in
+    let kept = c.args.purpose.now in
+    let n : ℕ = c.args.body_len in
+    let head = c.fill_head.new.head in
+    let long : head.len + n ≡ record_size (number_of old) kept.page n = head_size head kept n (number_of old) (record { bytes = c.fill_head.ensures.bytes; len = c.fill_head.ensures.len }) in
+    record { used = next_used g.D.Device.trace g.C.Checksum.sum_of old kept n c.requires (head.len + n) long (λ has. let bad : false ≡ true = c.if-has_place.ensures.1 has in cc) }
+
+pub returns-in_err-begin_next-clause-answers : goal.returns-in_err-begin_next-clause-answers
+returns-in_err-begin_next-clause-answers g c =
     let old = c.args.self.now in
     let kept = c.args.purpose.now in
     let n : ℕ = c.args.body_len in
     let head = c.fill_head.new.head in
     let long : head.len + n ≡ record_size (number_of old) kept.page n = head_size head kept n (number_of old) (record { bytes = c.fill_head.ensures.bytes; len = c.fill_head.ensures.len }) in
     let not : HasPlace old (head.len + n) → ⊥ = λ has. let bad : false ≡ true = c.if-has_place.ensures.1 has in cc in
-    let e = err_from_is_err_and c.from_residual-in_err-begin_segment.result c.from_residual-in_err-begin_segment.ensures.1 in
-    rw (e.1, e.2) (next_refused c.in_err-begin_segment.field-0.0 _ _ _ _ c.in_err-begin_segment.ensures.answers
-    (next_used g.D.Device.trace g.C.Checksum.sum_of old kept n c.requires (head.len + n) long not) (next_open g.D.Device.trace g.C.Checksum.sum_of old kept n c.requires (head.len + n) long not))
+    let e = err_from_is_err_and c.from_residual-in_err-begin_next.result c.from_residual-in_err-begin_next.ensures.1 in
+    rw (e.1, e.2) (next_refused c.in_err-begin_next.field-0.0 _ _ _ _ c.in_err-begin_next.ensures.answers
+    (next_up g.D.Device.trace g.C.Checksum.sum_of old kept n c.requires (head.len + n) long not) (λ used. used.1) (next_open g.D.Device.trace g.C.Checksum.sum_of old kept n c.requires (head.len + n) long not))
 
 pub returns-clause-prepared : goal.returns-clause-prepared
 returns-clause-prepared g c =
@@ -87,9 +96,9 @@ returns-clause-prepared g c =
     let kept = c.args.purpose.now in
     let n : ℕ = c.args.body_len in
     let head = c.fill_head.new.head in
-    let did = c.in_ok-begin_segment.ensures in
+    let did = c.in_ok-begin_next.ensures in
     let long : head.len + n ≡ record_size (number_of old) kept.page n = head_size head kept n (number_of old) (record { bytes = c.fill_head.ensures.bytes; len = c.fill_head.ensures.len }) in
-    prepared_next g.D.Device.trace g.C.Checksum.sum_of old kept n c.requires (head.len + n) long (λ has. let bad : false ≡ true = c.if-has_place.ensures.1 has in cc) c.begin_segment.new.self c.fill_head-2.new.head
+    prepared_next g.D.Device.trace g.C.Checksum.sum_of old kept n c.requires (head.len + n) long (λ has. let bad : false ≡ true = c.if-has_place.ensures.1 has in cc) c.begin_next.new.self c.fill_head-2.new.head
     (record { bytes = c.fill_head-2.ensures.bytes; len = c.fill_head-2.ensures.len }) did.line did.machine did.rest did.reserved did.room (λ is. did.batch (c.is_manifest-manifest.ensures ∙ is))
 
 pub returns-clause-answers : goal.returns-clause-answers
@@ -101,7 +110,7 @@ returns-clause-answers g c =
     let long : head.len + n ≡ record_size (number_of old) kept.page n = head_size head kept n (number_of old) (record { bytes = c.fill_head.ensures.bytes; len = c.fill_head.ensures.len }) in
     let not : HasPlace old (head.len + n) → ⊥ = λ has. let bad : false ≡ true = c.if-has_place.ensures.1 has in cc in
     let none = next_open g.D.Device.trace g.C.Checksum.sum_of old kept n c.requires (head.len + n) long not in
-    (λ used. used.1 c.in_ok-begin_segment.ensures.answers, omega (arith, none))
+    (λ used. used.1 c.in_ok-begin_next.ensures.answers, omega (arith, none))
 
 -- All that is kept besides is kept.
 
@@ -111,8 +120,8 @@ returns-in_err-room_for-clause-same g c = let did = c.in_err-room_for.ensures in
 pub returns-then-has_place-clause-same : goal.returns-then-has_place-clause-same
 returns-then-has_place-clause-same g c = let did = c.in_ok-room_for.ensures in unchanged_same c.args.self.now c.room_for.new.self (left_alone c.args.self.now c.room_for.new.self did.line did.rest)
 
-pub returns-in_err-begin_segment-clause-same : goal.returns-in_err-begin_segment-clause-same
-returns-in_err-begin_segment-clause-same g c = unchanged_same c.args.self.now c.begin_segment.new.self c.in_err-begin_segment.ensures.err
+pub returns-in_err-begin_next-clause-same : goal.returns-in_err-begin_next-clause-same
+returns-in_err-begin_next-clause-same g c = unchanged_same c.args.self.now c.begin_next.new.self c.in_err-begin_next.ensures.err
 
 pub returns-clause-same : goal.returns-clause-same
-returns-clause-same g c = let did = c.in_ok-begin_segment.ensures in begins_same g.D.Device.trace g.C.Checksum.sum_of c.args.self.now c.begin_segment.new.self did.line did.machine did.rest
+returns-clause-same g c = let did = c.in_ok-begin_next.ensures in begins_same g.D.Device.trace g.C.Checksum.sum_of c.args.self.now c.begin_next.new.self did.line did.machine did.rest

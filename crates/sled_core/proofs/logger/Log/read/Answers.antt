@@ -7,7 +7,7 @@ use Rattle.std.proofs.lemmas.Int.{ints, to_z-of_z}
 use Rattle.std.proofs.lemmas.Result.{err_from_is_err_and}
 use Rattle.sled_codec.specs.declared.result.DiskPtr.{DiskPtr}
 use Rattle.sled_codec.specs.declared.result.Error.{Error}
-use Rattle.sled_codec.specs.declared.result.Error.TheVariants.{Corruption}
+use Rattle.sled_codec.specs.declared.result.Error.TheVariants.{Corruption, Io}
 use Rattle.sled_codec.specs.Errors.{IsCorruption}
 use Rattle.sled_codec.specs.History.{Message, History}
 use Rattle.sled_codec.specs.Places.{MayBegin}
@@ -15,17 +15,19 @@ use Rattle.sled_codec.specs.Pointers.{lid_of}
 use Rattle.sled_store.specs.Device.{State, Trace, state_of}
 use Rattle.sled_store.specs.Script.{Performs, after_all}
 use Rattle.sled_store.proofs.Traces.ScriptLemmas.{performs_nothing}
-use Rattle.sled_core.specs.Causes.{OnDone}
+use Rattle.sled_core.specs.Causes.{IsHeld, OnDone}
 use Rattle.sled_core.specs.declared.logger.Log.{Log}
 use Rattle.sled_core.specs.declared.logger.read_message.LogRead.{LogRead}
 use Rattle.sled_core.specs.Fits.{HasRecordOf, Holds, device_of, fault_of, reserved_end, segment_size_of, synced_end}
 use Rattle.sled_core.specs.LogFile.{MessageStands}
+use Rattle.sled_core.specs.Fronts.{CameAround}
 use Rattle.sled_core.specs.ReadBuffer.{IsUsedUpAt, IsWrittenPlace, ReadAnswers, SealsAround, SettleAnswers, WritesAround, held_at, settling}
 use Rattle.sled_core.specs.Reading.{IsInline, IsNoPlace, GivesMessage}
 use Rattle.sled_core.specs.ReadPointer.{GivesBlob, IsDamageOf, IsStableBlob, place_read}
 use Rattle.sled_core.proofs.Holds.KeptCalls.{kept_further, kept_still, tickets_further}
 use Rattle.sled_core.proofs.Holds.ReachLemmas.{fits_holds}
 use Rattle.sled_core.proofs.Line.Advanced.{same_current}
+use Rattle.sled_core.proofs.Line.CameFar.{around_none, came_behind, seals_none, still_around}
 use Rattle.sled_core.proofs.Line.BlobReads.{IsReadable, gives_read, readable, reads_stable}
 use Rattle.sled_core.proofs.Line.KeptReads.{err_waits, gives_at_once, kept_readable}
 use Rattle.sled_core.proofs.Line.LogSpans.{same_buffers}
@@ -41,6 +43,11 @@ use Rattle.sled_core.proofs.logger.Log.read.Given as given
 use Rattle.sled_core.proofs.logger.Log.read.Goals.{Joined-then-lsn-lt0, then-lsn-lt0-via-then-lsn-lt0, then-lsn-lt0-via-else-lsn-lt0+then-not-may_begin}
 use Rattle.sled_core.proofs.logger.Log.read.Goals as goal
 
+-- Nothing was sealed.
+nothing_sealed : {D C : Type 0} (trace : D → Trace) (sum : List ℕ → ℕ) (log : Log D C) (at : ℤ) (e : Error) → (IsHeld {T = LogRead} (Err e) → ⊥)
+    → SealsAround {T = LogRead} (Err e) at log log × WritesAround {T = LogRead} sum (Err e) at log log × CameAround trace sum (unsigned_abs at) log log
+nothing_sealed trace sum log at e never = (seals_none log at e never, around_none log at e never sum, still_around trace sum (unsigned_abs at) log)
+
 -- Where the log keeps a failure nothing is done.
 
 pub returns-in-Some-clause-blob : goal.returns-in-Some-clause-blob
@@ -53,6 +60,9 @@ returns-in-Some-clause-calls g c = record { made = tt; damaged = λ is. absurd i
 
 pub returns-in-Some-clause-keeps : goal.returns-in-Some-clause-keeps
 returns-in-Some-clause-keeps g c = kept_still g.D.Device.trace g.C.Checksum.sum_of c.args.self.now
+
+pub returns-in-Some-clause-buffers : goal.returns-in-Some-clause-buffers
+returns-in-Some-clause-buffers g c = nothing_sealed g.D.Device.trace g.C.Checksum.sum_of c.args.self.now (place_read c.args.lsn c.args.ptr) (Io c.in-Some.e) (λ held. held)
 
 -- So it is where there is no such place.
 
@@ -94,6 +104,9 @@ returns-then-lsn-lt0-clause-calls g c = record {
   settled = tt;
   unwritten = λ _. refl;
 }
+
+pub returns-then-lsn-lt0-clause-buffers : goal.returns-then-lsn-lt0-clause-buffers
+returns-then-lsn-lt0-clause-buffers g c = nothing_sealed g.D.Device.trace g.C.Checksum.sum_of c.args.self.now (place_read c.args.lsn c.args.ptr) (Corruption None) (λ held. held)
 
 pub returns-then-lsn-lt0-clause-keeps : goal.returns-then-lsn-lt0-clause-keeps
 returns-then-lsn-lt0-clause-keeps g c = kept_still g.D.Device.trace g.C.Checksum.sum_of c.args.self.now
@@ -171,7 +184,8 @@ returns-in_err-settle_at-clause-buffers g c =
     let e = err_from_is_err_and c.from_residual.result c.from_residual.ensures.1 in
     rw (e.1, e.2) (
       seals_err (place_read c.args.lsn c.args.ptr) old mid c.in_err-settle_at.field-0.0 (subst (λ z. SealsAround {T = Unit {0}} (Err c.in_err-settle_at.field-0.0) z old mid) at c.in_err-settle_at.ensures.seals),
-      around_err (place_read c.args.lsn c.args.ptr) old mid sum c.in_err-settle_at.field-0.0 (subst (λ z. WritesAround {T = Unit {0}} sum (Err c.in_err-settle_at.field-0.0) z old mid) at c.in_err-settle_at.ensures.buffers),
+      around_err (place_read c.args.lsn c.args.ptr) old mid sum c.in_err-settle_at.field-0.0 (subst (λ z. WritesAround {T = Unit {0}} sum (Err c.in_err-settle_at.field-0.0) z old mid) at c.in_err-settle_at.ensures.buffers.0),
+      subst (λ z. CameAround g.D.Device.trace sum (unsigned_abs z) old mid) at c.in_err-settle_at.ensures.buffers.1,
     )
 
 pub returns-in_err-settle_at-clause-answers : goal.returns-in_err-settle_at-clause-answers
@@ -306,7 +320,11 @@ returns-clause-buffers g c =
     let same = same_buffers mid new c.read_settled.ensures.line in
     let free = read_held sum _ c.args.ptr c.read_settled.result _ _ _ _ c.read_settled.ensures.answers in (
       seals_read place old mid c.read_settled.result new tt (subst (λ z. SealsAround {T = Unit {0}} (Ok tt) z old mid) at c.in_ok-settle_at.ensures.seals) same.0 (same_current mid new c.read_settled.ensures.line) free,
-      around_read place old mid sum c.read_settled.result new tt (subst (λ z. WritesAround {T = Unit {0}} sum (Ok tt) z old mid) at c.in_ok-settle_at.ensures.buffers) same.0 same.1 free (segment_same mid new c.read_settled.ensures.line),
+      around_read place old mid sum c.read_settled.result new tt (subst (λ z. WritesAround {T = Unit {0}} sum (Ok tt) z old mid) at c.in_ok-settle_at.ensures.buffers.0) same.0 same.1 free (segment_same mid new c.read_settled.ensures.line),
+      came_behind g.D.Device.trace sum old mid new place tt c.read_settled.result (subst (λ z. WritesAround {T = Unit {0}} sum (Ok tt) z old mid) at c.in_ok-settle_at.ensures.buffers.0)
+          (subst (λ z. g.D.Device.trace (device_of mid) ≡ after_all (settling sum old z) (g.D.Device.trace (device_of old))) at c.in_ok-settle_at.ensures.calls)
+          (λ below. ap (λ (l : Log g.row.D.Denot g.row.C.Denot). g.D.Device.trace l.config.device) (subst (λ z. z <ℤ pos (synced_end old) → mid ≡ old) at c.in_ok-settle_at.ensures.still below))
+          same.0 same.1 c.read_settled.ensures.trace,
     )
 
 pub returns-clause-answers : goal.returns-clause-answers

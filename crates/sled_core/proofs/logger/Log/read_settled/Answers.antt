@@ -20,4 +20,5 @@ returns-clause-keeps g c =
       history = λ H holds. holds_with_kept g.C.Checksum.sum_of _ _ _ _ _ _ _ _ _ _ _ (logged H) size refl refl (ap state_of answer.trace) (none_or_kept _ _ c.requires.fault) holds;
       fits = λ H A f U fits. fits_with_kept g.C.Checksum.sum_of _ _ _ _ _ _ _ _ _ _ _ _ _ H A f U size refl refl refl (ap state_of answer.trace) (none_or_kept _ _ c.requires.fault) fits;
       noted = noted_still old;
+      kept = omega arith;
     }

@@ -38,6 +38,9 @@ returns-then-not-fits_inline-clause-ticket g c = (in_a_blob g c).ticket
 pub returns-then-not-fits_inline-clause-stored : goal.returns-then-not-fits_inline-clause-stored
 returns-then-not-fits_inline-clause-stored g c = (in_a_blob g c).stored
 
+pub returns-then-not-fits_inline-clause-own : goal.returns-then-not-fits_inline-clause-own
+returns-then-not-fits_inline-clause-own g c = (in_a_blob g c).own
+
 pub returns-then-not-fits_inline-clause-behind : goal.returns-then-not-fits_inline-clause-behind
 returns-then-not-fits_inline-clause-behind g c = (in_a_blob g c).behind
 
@@ -64,6 +67,9 @@ returns-clause-ticket g c = (in_record g c).ticket
 
 pub returns-clause-stored : goal.returns-clause-stored
 returns-clause-stored g c = (in_record g c).stored
+
+pub returns-clause-own : goal.returns-clause-own
+returns-clause-own g c = (in_record g c).own
 
 pub returns-clause-behind : goal.returns-clause-behind
 returns-clause-behind g c = (in_record g c).behind

@@ -7,12 +7,13 @@ use Rattle.sled_codec.specs.declared.result.Error.TheVariants.{Unsupported}
 use Rattle.sled_codec.specs.Spelling.{short_signed}
 use Rattle.sled_codec.specs.SpellingLaws.{short_spells-signed}
 use Rattle.sled_core.specs.declared.iobuf.Purpose.{Purpose}
+use Rattle.sled_core.specs.declared.reservation.Reservation.{Reservation}
 use Rattle.sled_core.specs.Causes.{ReserveCauses}
 use Rattle.sled_core.specs.Fits.{IsLeastOpen, IsUsedUpFor}
 use Rattle.sled_core.specs.Manifests.{kind_for}
 use Rattle.sled_core.specs.Prepared.{next_here}
 use Rattle.sled_core.specs.Reserves.{reserve_causes}
-use Rattle.sled_core.proofs.Line.BlobReserved.{TriesBlob, its_answers, its_device, its_message, its_stored, ready_behind, ready_place, refused_blob}
+use Rattle.sled_core.proofs.Line.BlobReserved.{TriesBlob, its_answers, its_device, its_message, its_stored, place_is, ready_behind, ready_place, refused_blob}
 use Rattle.sled_core.proofs.Line.Prepares.{IsLaid}
 use Rattle.sled_core.proofs.Line.Reserved.{never_io, prepare_refused, refused_same, reserved_ok, well_kept}
 use Rattle.sled_core.proofs.Line.Unchanged.{unchanged_still}
@@ -68,14 +69,15 @@ pub returns-in-Ok-make_blob : goal.returns-in-Ok-make_blob
 returns-in-Ok-make_blob g c =
     let faults = g.D.Device.faults in
     let made = c.make_blob.new.self in
-    let new = c.append.new.self in
+    let new = c.append-ticket.new.self in
     let item : List ℕ = g.T.Serialize.short (g.T.Serialize.meaning c.args.item.now) in
     let place : ℤ = to_z w64 (of_z w64 c.next_here-place.result) in
     let read : place ≡ c.next_here-place.result = to_z-of_z w64 c.next_here-place.result (record { sfits = c.next_here-place.type_inv }) in
     let is : kind_for c.args.kind c.args.pid true 8 ≡ Some c.in-Some.message_kind = sym c.kind_for.ensures ∙ c.in-Some.is in
     let prepared = c.in-Ok.ensures in
     let did = c.in-Ok-make_blob.ensures in
-    let laid = c.append.ensures in
+    let laid = c.append-ticket.ensures in
+    let ticket : Reservation = record c.append-ticket.result { own_blob = Some place } in
     let kept : Purpose = record { log_kind = c.args.kind; kind = c.in-Some.message_kind; page = c.args.pid; blob = Some place } in
     let tries : TriesBlob g.D.Device.trace g.C.Checksum.sum_of c.args.self.now c.prepare.new.self made c.args.kind c.args.pid c.in-Some.message_kind c.prepare.new.head place = record {
       ready = prepared.prepared;
@@ -87,7 +89,7 @@ returns-in-Ok-make_blob g c =
       at = read ∙ c.next_here-place.ensures;
     } in
     let ends = laid.reserved in
-    let is_laid : IsLaid g.D.Device.trace g.C.Checksum.sum_of c.args.self.now made new kept c.prepare.new.head (short_signed place) c.append.result = record {
+    let is_laid : IsLaid g.D.Device.trace g.C.Checksum.sum_of c.args.self.now made new kept c.prepare.new.head (short_signed place) ticket = record {
       ready = ready_behind tries faults item (Some place);
       known = is;
       spells = short_spells-signed place (subst (FitsSigned w64) (sym read) (record { sfits = c.next_here-place.type_inv }));
@@ -96,10 +98,10 @@ returns-in-Ok-make_blob g c =
       rest = laid.rest;
       accountant = laid.accountant;
       ends = omega (arith, ends);
-      own = laid.ticket;
+      own = record { index = laid.ticket.index; place = laid.ticket.place; pointer = laid.ticket.pointer; long = laid.ticket.long };
       manifest = laid.manifest;
     } in
     let same = laid.rest.config in
     reserved_ok faults is_laid item true (its_message tries faults item new did.done same) (its_stored tries faults item new did.done same)
-    (its_answers tries faults item new did.done same did.answers laid.rest.fault (subst IsSome (sym is) refl, prepared.answers.0, prepared.answers.1) c.append.result)
-    (its_device tries faults item new did.done same did.calls c.append.result)
+    (its_answers tries faults item new did.done same did.answers laid.rest.fault (subst IsSome (sym is) refl, prepared.answers.0, prepared.answers.1) ticket)
+    (its_device tries faults item new did.done same did.calls ticket) (ap Some (place_is tries faults item))

@@ -75,4 +75,4 @@ returns-in-Ok g c =
     reserved_ok g.D.Device.faults is_laid item false refl
     (inline_stored g.D.Device.trace g.C.Checksum.sum_of new (message_as old c.args.kind c.args.pid false (length item) item) tt)
     ((c.requires.fault, laid.rest.fault ∙ all.fault ∙ c.requires.fault, ap (λ (x : RunningConfig g.row.D.Denot g.row.C.Denot). g.D.Device.faults x.device) same), (subst IsSome (sym is) refl, room.0, room.1), λ goes. let clash : false ≡ true = goes in cc)
-    same
+    same laid.own

@@ -29,7 +29,7 @@ returns-in-Some-clause-keeps g c = kept_still g.D.Device.trace g.C.Checksum.sum_
 rewrite_refused : (e : Error) (used : Type 0) (count : ℕ) (least : ℤ → Type 0) → PrepareAnswers {T = Unit {0}} (Err e) used count least → RewriteAnswers {T = Reservation} (Err e) None used count least
 rewrite_refused error.PlacesUsedUp used count least is = (refl, is)
 rewrite_refused (error.Held place) used count least is = (refl, is.0, is.1, is.2)
-rewrite_refused error.OutOfMemory used count least is = (refl, is)
+rewrite_refused error.OutOfMemory used count least is = (refl, is.0, is.1)
 rewrite_refused (error.Io e) used count least is = absurd is
 rewrite_refused (error.Unsupported text) used count least is = absurd is
 rewrite_refused (error.Corruption place) used count least is = absurd is
@@ -79,6 +79,9 @@ returns-in-Ok-clause-behind g c = made_behind (its_laid g c)
 
 pub returns-in-Ok-clause-manifest : goal.returns-in-Ok-clause-manifest
 returns-in-Ok-clause-manifest g c = c.append.ensures.manifest
+
+pub returns-in-Ok-clause-own : goal.returns-in-Ok-clause-own
+returns-in-Ok-clause-own g c = c.append.ensures.own
 
 pub returns-in-Ok-clause-others : goal.returns-in-Ok-clause-others
 returns-in-Ok-clause-others g c = made_others (its_laid g c)

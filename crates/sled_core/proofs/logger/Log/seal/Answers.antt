@@ -1,5 +1,6 @@
 -- The current buffer is sealed: with its segment, where no further record has room there, and else alone.
-use Rattle.std.proofs.Common.{◌≡◌, ◌∙◌, ◌+◌, ◌≤◌, ap, sym, arith, inl, refl, ℕ, List, [], length, if◌then◌else◌, Bool}
+use Rattle.std.proofs.Common.{◌≡◌, ◌∙◌, ◌+◌, ◌≤◌, ap, sym, arith, ℕ, List, [], length, if◌then◌else◌, Bool}
+use Rattle.std.proofs.lemmas.Bool.Decides.{nat_tests}
 use Rattle.std.proofs.lemmas.List.{append-nil}
 use Rattle.std.proofs.lemmas.List.Elements.{All-nil}
 use Rattle.sled_core.specs.declared.logger.Log.{Log}
@@ -11,20 +12,17 @@ use Rattle.sled_core.proofs.Line.HeaderMarks.{begun_marked, none_begun}
 use Rattle.sled_core.proofs.Line.LogSpans.{seal_starts, turn_starts}
 use Rattle.sled_core.proofs.Line.Outcomes.{either, on_both, on_err, on_ok}
 use Rattle.sled_core.proofs.Line.Seals.{sealed_begins, sealed_buffers, sealed_current, sealed_keeps, sealed_position, sealed_same, sealed_tickets, sealed_waiting}
-use Rattle.sled_core.proofs.Line.Turns.{turns_begins, turns_buffers, turns_low, turns_position, turns_waiting, turns_within}
+use Rattle.sled_core.proofs.Line.Turns.{turns_begins, turns_buffers, turns_position, turns_waiting}
 use Rattle.sled_core.proofs.Line.Unchanged.{left_alone, unchanged_keeps, unchanged_position, unchanged_same, unchanged_tickets}
 use Rattle.sled_core.proofs.logger.Log.seal.Goals as goal
 
 -- Where no further record has room.
 
-pub begin_next-requires-clause-behind : goal.begin_next-requires-clause-behind
-begin_next-requires-clause-behind g c = turns_low c.args.self.now c.requires.some (sym c.is_short.ensures ∙ c.if-is_short.true)
-
-pub begin_next-requires-clause-within : goal.begin_next-requires-clause-within
-begin_next-requires-clause-within g c = let within = turns_within c.args.self.now in omega (arith, within)
-
-pub begin_next-requires-clause-apart : goal.begin_next-requires-clause-apart
-begin_next-requires-clause-apart g c = record { ends = inl refl }
+pub begin_next-requires : goal.begin_next-requires
+begin_next-requires g c =
+    let short = sym c.is_short.ensures ∙ c.if-is_short.true in
+    let big = c.args.self.now.config.config.least in
+    record { used = grind (arith, nat_tests, short, big) }
 
 pub returns-then-is_short-clause-waiting : goal.returns-then-is_short-clause-waiting
 returns-then-is_short-clause-waiting g c =
@@ -77,9 +75,8 @@ returns-then-is_short-clause-position g c =
     let old = c.args.self.now in
     let new = c.begin_next.new.self in
     let short = sym c.is_short.ensures ∙ c.if-is_short.true in
-    let turned = on_both c.begin_next.result _ _ _ (λ line machine. turns_position g.D.Device.trace g.C.Checksum.sum_of old new line machine did.rest c.requires.some short) did.line did.machine in
     either c.begin_next.result _ _ _ (λ keeps. keeps) (λ same. unchanged_position old new same)
-    (on_both c.begin_next.result _ _ _ (λ position reserved. position reserved) turned did.reserved) did.err
+    (on_both c.begin_next.result _ _ _ (λ line machine. turns_position g.D.Device.trace g.C.Checksum.sum_of old new line machine did.rest c.requires.some short did.reserved) did.line did.machine) did.err
 
 pub returns-then-is_short-clause-same : goal.returns-then-is_short-clause-same
 returns-then-is_short-clause-same g c =

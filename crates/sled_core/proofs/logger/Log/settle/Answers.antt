@@ -15,9 +15,9 @@ use Rattle.sled_core.specs.Waiting.{BufferStart}
 use Rattle.sled_core.proofs.Holds.KeptCalls.{kept_further, kept_still, position_further, tickets_further}
 use Rattle.sled_core.proofs.Line.Advanced.{same_current}
 use Rattle.sled_core.proofs.Line.LogSpans.{same_buffers}
-use Rattle.sled_core.proofs.Line.Outcomes.{answers_used, seal_answers, seal_not_done, seal_not_held}
+use Rattle.sled_core.proofs.Line.Outcomes.{answers_used, on_err, seal_answers, seal_not_done, seal_not_held}
 use Rattle.sled_core.proofs.Line.HeaderMarks.{none_begun, segment_same}
-use Rattle.sled_core.proofs.Line.SealsFor.{SealsFor, held_at_same, holds_reserved, seals_current, seals_still, settling_same, writes_around}
+use Rattle.sled_core.proofs.Line.SealsFor.{SealsFor, came_sealed, held_at_same, holds_reserved, seals_current, seals_still, settling_same, writes_around}
 use Rattle.sled_core.proofs.Line.Settles.{held_stable, stable_written}
 use Rattle.sled_core.proofs.logger.Log.settle.Given.{Over}
 use Rattle.sled_core.proofs.logger.Log.settle.Goals.{then-place-current_begin+in_ok-seal, else-place-current_begin}
@@ -47,7 +47,7 @@ returns-then-place-synced_end-clause-seals g c = record { still = λ _. refl; ap
 pub returns-then-place-synced_end-clause-buffers : goal.returns-then-place-synced_end-clause-buffers
 returns-then-place-synced_end-clause-buffers g c =
     let below : c.args.place < synced_end c.args.self.now = omega (arith, c.if-place-synced_end.true, c.synced_end.ensures.is) in
-    record { still = λ _. (refl, refl); written = λ behind. absurd (omega (arith, ints, below, behind)); held = λ is. absurd is; some = tt; marked = none_begun g.C.Checksum.sum_of c.args.self.now c.args.self.now refl }
+    (record { still = λ _. (refl, refl); written = λ behind. absurd (omega (arith, ints, below, behind)); held = λ is. absurd is; some = tt; marked = none_begun g.C.Checksum.sum_of c.args.self.now c.args.self.now refl }, tt)
 
 -- The current buffer could not be sealed.
 
@@ -79,7 +79,7 @@ returns-in_err-seal-clause-answers g c =
     let same = c.in_err-seal.ensures.err in
     let e = err_from_is_err_and c.from_residual.result c.from_residual.ensures.1 in
     rw (e.1, e.2) (seal_answers (Unit {0}) (Unit {0}) c.in_err-seal.field-0.0 _ c.in_err-seal.ensures.answers _ _ _ _ _
-    (λ used. (let up = c.if-place-current_begin.true in let is = c.current_begin.ensures.is in omega (arith, ints, up, is), used)) (same.fault ∙ c.requires.fault)
+    (λ used. (let up = c.if-place-current_begin.true in let is = c.current_begin.ensures.is in omega (arith, ints, up, is), used)) (λ used. used.1) (same.fault ∙ c.requires.fault)
     (ap (λ (x : RunningConfig g.row.D.Denot g.row.C.Denot). g.D.Device.faults x.device) same.config))
 
 pub returns-in_err-seal-clause-seals : goal.returns-in_err-seal-clause-seals
@@ -99,13 +99,17 @@ returns-in_err-seal-clause-seals g c =
 pub returns-in_err-seal-clause-buffers : goal.returns-in_err-seal-clause-buffers
 returns-in_err-seal-clause-buffers g c =
     let e = err_from_is_err_and c.from_residual.result c.from_residual.ensures.1 in
-    rw (e.1, e.2) (record {
-      still = λ below. absurd (omega (arith, ints, below, c.if-place-synced_end.false, c.synced_end.ensures.is));
-      written = λ _. tt;
-      held = λ is. absurd (seal_not_held (Unit {0}) (Unit {0}) c.in_err-seal.field-0.0 _ c.in_err-seal.ensures.answers is);
-      some = inl (same_buffers c.args.self.now c.seal.new.self c.in_err-seal.ensures.err.line);
-      marked = none_begun g.C.Checksum.sum_of c.args.self.now c.seal.new.self (segment_same c.args.self.now c.seal.new.self c.in_err-seal.ensures.err.line).place;
-    })
+    let same = same_buffers c.args.self.now c.seal.new.self c.in_err-seal.ensures.err.line in
+    rw (e.1, e.2) (
+      record {
+        still = λ below. absurd (omega (arith, ints, below, c.if-place-synced_end.false, c.synced_end.ensures.is));
+        written = λ _. tt;
+        held = λ is. absurd (seal_not_held (Unit {0}) (Unit {0}) c.in_err-seal.field-0.0 _ c.in_err-seal.ensures.answers is);
+        some = inl same;
+        marked = none_begun g.C.Checksum.sum_of c.args.self.now c.seal.new.self (segment_same c.args.self.now c.seal.new.self c.in_err-seal.ensures.err.line).place;
+      },
+      inl (same, ap (λ (x : RunningConfig g.row.D.Denot g.row.C.Denot). g.D.Device.trace x.device) c.in_err-seal.ensures.err.config),
+    )
 
 -- The buffer that has the place is sealed now.
 
@@ -207,5 +211,8 @@ returns-clause-seals g c =
 pub returns-clause-buffers : goal.returns-clause-buffers
 returns-clause-buffers g c =
     let did = c.write_around.ensures in
-    writes_around g.D.Device.trace g.C.Checksum.sum_of c.args.place c.args.self.now c.if-place-current_begin.self (seals g c) c.write_around.new.self did.start c.write_around.result
-    (omega (arith, c.if-place-synced_end.false, c.synced_end.ensures.is)) did.without did.same did.segment
+    let r = c.write_around.result in (
+      writes_around g.D.Device.trace g.C.Checksum.sum_of c.args.place c.args.self.now c.if-place-current_begin.self (seals g c) c.write_around.new.self did.start r
+          (omega (arith, c.if-place-synced_end.false, c.synced_end.ensures.is)) did.without (on_err r _ _ (λ failed. failed.0) did.same) did.segment,
+      on_err r _ _ (came_sealed g.D.Device.trace g.C.Checksum.sum_of c.args.place c.args.self.now c.if-place-current_begin.self (seals g c) c.write_around.new.self did.start) did.same,
+    )

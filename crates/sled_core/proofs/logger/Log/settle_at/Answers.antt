@@ -1,13 +1,16 @@
 -- A place that isn't negative is settled where it is stable or was reserved.
-use Rattle.std.proofs.Common.{◌≡◌, ◌<ℤ◌, ◌⊎◌, inl, inr, subst, refl, arith, pos, None}
+use Rattle.std.proofs.Common.{◌≡◌, ◌<ℤ◌, ◌⊎◌, inl, inr, subst, refl, arith, ℤ, of_z, pos, to_z, None, OnErr, unsigned_abs}
 use Rattle.std.specs.Int.{w64}
 use Rattle.std.proofs.lemmas.Int.{ints, to_z-of_z}
+use Rattle.sled_codec.specs.declared.result.Error.TheVariants.{NotReserved}
 use Rattle.sled_store.specs.Script.{after_all}
 use Rattle.sled_store.proofs.Traces.ScriptLemmas.{performs_nothing}
 use Rattle.sled_core.specs.Causes.{HeldAnswers, OnDone}
 use Rattle.sled_core.specs.Fits.{device_of, fault_of, reserved_end, synced_end}
+use Rattle.sled_core.specs.Fronts.{CameAround}
 use Rattle.sled_core.specs.ReadBuffer.{IsUsedUpAt, SealsAround, WritesAround, held_at, settling}
 use Rattle.sled_core.proofs.Holds.KeptCalls.{kept_still, position_still, tickets_still}
+use Rattle.sled_core.proofs.Line.CameFar.{around_none, still_around}
 use Rattle.sled_core.proofs.Line.Reads.{above_zero, at_place, settle_answers}
 use Rattle.sled_core.proofs.logger.Log.settle_at.Given as given
 use Rattle.sled_core.proofs.logger.Log.settle_at.Goals.{else-at-synced_end-via-then-at-synced_end+else-at-self, else-at-synced_end-via-else-at-synced_end}
@@ -51,7 +54,15 @@ pub returns-clause-seals : goal.returns-clause-seals
 returns-clause-seals g c = subst (λ z. SealsAround c.settle.result z c.args.self.now c.settle.new.self) (is_at g c) c.settle.ensures.seals
 
 pub returns-clause-buffers : goal.returns-clause-buffers
-returns-clause-buffers g c = subst (λ z. WritesAround g.C.Checksum.sum_of c.settle.result z c.args.self.now c.settle.new.self) (is_at g c) c.settle.ensures.buffers
+returns-clause-buffers g c =
+    subst (λ z. WritesAround g.C.Checksum.sum_of c.settle.result z c.args.self.now c.settle.new.self × OnErr c.settle.result (CameAround g.D.Device.trace g.C.Checksum.sum_of (unsigned_abs z) c.args.self.now c.settle.new.self))
+    (is_at g c) c.settle.ensures.buffers
+
+pub returns-then-at-self-clause-buffers : goal.returns-then-at-self-clause-buffers
+returns-then-at-self-clause-buffers g c =
+    let old = c.args.self.now in
+    let place : ℤ = to_z w64 (of_z w64 c.args.place) in
+    (around_none {T = Unit {0}} old c.args.place (NotReserved place) (λ held. held) g.C.Checksum.sum_of, still_around g.D.Device.trace g.C.Checksum.sum_of (unsigned_abs c.args.place) old)
 
 -- Where nothing was written its tickets and its position are as they were, and else as the writing leaves them.
 

@@ -1,14 +1,16 @@
-use Rattle.std.proofs.Common.{◌≡◌, ◌∙◌, ◌+◌, ◌<◌, ◌≤◌, ◌∷◌, ◌++◌, if◌then◌else◌, zero, suc, true, ℕ, List, [], Option, None, Some, length, map, refl, ap, sym, subst, arith, mod-lt}
+use Rattle.std.proofs.Common.{◌≡◌, ◌∙◌, ◌+◌, ◌-ℤ◌, ◌<◌, ◌≤◌, ◌∷◌, ◌++◌, pos, if◌then◌else◌, zero, suc, true, ℕ, List, [], Option, None, Some, length, map, refl, ap, sym, subst, arith, mod-lt}
 use Rattle.std.specs.List.{All}
 use Rattle.std.proofs.lemmas.List.Elements.{All-nil}
 use Rattle.std.proofs.Math.Nat.{suc-mul}
+use Rattle.sled_codec.proofs.Segments.{length-short_header}
 use Rattle.sled_codec.specs.History.{History}
+use Rattle.sled_codec.specs.Record.{short_header}
 use Rattle.sled_codec.specs.declared.result.Error.{Error}
 use Rattle.sled_codec.specs.declared.result.Error.TheVariants.{Corruption}
 use Rattle.sled_codec.specs.Errors.{IsCorrupt}
 use Rattle.sled_codec.specs.Snapshots.{SnapshotModel, model_of, stable_place}
 use Rattle.sled_store.specs.Accounts.{IsAccountant, machine_of}
-use Rattle.sled_store.specs.Causes.{StartRefuses}
+use Rattle.sled_store.specs.StartCauses.{StartRefuses}
 use Rattle.sled_store.specs.declared.config.Config.{Config}
 use Rattle.sled_store.specs.Device.{State, LogState, NamesState, Trace, state_of, at_rest}
 use Rattle.sled_store.specs.declared.segment.start.Beginning.{Beginning}
@@ -16,15 +18,17 @@ use Rattle.sled_store.specs.Script.{after_all}
 use Rattle.sled_store.specs.Begin.{IsStartable, beginning_of, offset_at, place_at, slots_of, unused}
 use Rattle.sled_store.specs.SegmentStates.{Machine}
 use Rattle.sled_store.specs.Started.{started}
+use Rattle.sled_core.specs.declared.iobuf.IoBuf.{IoBuf}
 use Rattle.sled_core.specs.declared.iobuf.Reserved.{Reserved}
 use Rattle.sled_core.specs.declared.iobuf.Sealed.{Sealed}
 use Rattle.sled_core.specs.declared.logger.batches.NotedBatch.{NotedBatch}
 use Rattle.sled_core.specs.declared.logger.segments.SegmentBuffer.{SegmentBuffer}
-use Rattle.sled_core.specs.Begun.{AreEntered, AreFilled, FollowOn, IsUnfilled, SegmentView, begin_of, line_at, segment_view, view_at}
+use Rattle.sled_core.specs.Begun.{AreEntered, AreFilled, FollowOn, IsUnfilled, IsUsed, SegmentView, begin_of, line_at, segment_view, view_at}
 use Rattle.sled_core.specs.Fits.{CloseBelow, FitsBatches, Holds, HoldsIn, HoldsLine, NoneOpenIn, line_end, log_parts, written_to}
+use Rattle.sled_core.specs.FirstBuffer.{IsFirstBuffer}
 use Rattle.sled_core.specs.FreeSlots.{HasSlots, begun_machine}
 use Rattle.sled_core.specs.Logged.{logged}
-use Rattle.sled_core.specs.OpenBatches.{AreByPlace, batch_of, not_whole}
+use Rattle.sled_core.specs.OpenBatches.{AreByPlace, batch_of, not_whole, stable_below}
 use Rattle.sled_core.specs.ReadyBuffers.{held_buffers, held_in, ready_in, ready_places}
 use Rattle.sled_core.specs.OpenPlaces.{open_manifests, open_manifests_in}
 use Rattle.sled_core.specs.Positions.{Position, is_short, next_segment_at, position_in}
@@ -66,10 +70,10 @@ start_slots size same some s old now startable file v at {m} machine =
     (subst (λ (l : List ℕ). HasSlots size (v ∷ []) l None m) (sym file)
     (subst (λ (x : Machine). HasSlots size (v ∷ []) (started_file size old s) None x) (sym machine) (begun_slots size some old s None startable v at)))
 
--- Nothing is entered where nothing is reserved and sealed.
-entered_none : (to place from : ℕ) (bs : List Sealed) (rs : List Reserved) → bs ≡ [] → rs ≡ [] → AreEntered to place from bs rs
-entered_none to place from [] rs none empty = λ some. absurd (let zero = ap (λ (xs : List Reserved). length xs) empty in omega (arith, some, zero))
-entered_none to place from (b ∷ bs) rs none empty = cc
+-- The segment in which a log begins has more than its header only where that was written.
+first_used : (sum : List ℕ → ℕ) (place offset : ℕ) (b : IoBuf) → IsFirstBuffer sum place offset b → IsUsed (place + offset) place (length b.bytes.items)
+first_used sum place zero b is = λ some. absurd (let long = ap length (is.header refl) ∙ length-short_header sum (pos place) (pos place -ℤ pos 1) in omega (arith, some, long))
+first_used sum place (suc n) b is = λ some. let long = is.resumed (omega arith) in omega (arith, some, long)
 
 -- A log goes on within its segment.
 offset_low : (size len : ℕ) (s : SnapshotModel) (b : Beginning) → b ≡ beginning_of size len s → 0 < size → b.offset < size
@@ -106,8 +110,14 @@ invariant_of-result g c =
           let at : begin_of (view_at (record { place = c.in-Ok.beginning.place; slot = c.in-Ok.beginning.slot }) c.in-Ok.buffer) ≡ c.in-Ok.beginning.offset = ap (λ (bs : List Sealed). sealed_end c.in-Ok.buffer.written_len bs) first.sealed ∙ first.from in
           let behind = c.in-Ok.buffer.behind in
           let begins = c.in-Ok.buffer.begins in
-          subst (λ (ss : List SegmentBuffer). AreFilled c.begin.new.config.config.segment_size (c.in-Ok.beginning.place + c.in-Ok.beginning.offset) (line_at (record { place = c.in-Ok.beginning.place; slot = c.in-Ok.beginning.slot }) c.in-Ok.buffer ss)) (sym c.no_segments.ensures)
-          (omega (arith, at, low, same), omega (arith, at, behind, begins), entered_none (c.in-Ok.beginning.place + c.in-Ok.beginning.offset) c.in-Ok.beginning.place c.in-Ok.buffer.written_len c.in-Ok.buffer.sealed.items c.in-Ok.buffer.reserved.items first.sealed first.reserved, subst IsUnfilled (sym first.filled) tt, omega (arith, ap (λ (rs : List Reserved). records_end rs (length c.in-Ok.buffer.bytes.items)) first.reserved)));
+          subst (λ (ss : List SegmentBuffer). AreFilled c.begin.new.config.config.segment_size (c.in-Ok.beginning.place + c.in-Ok.beginning.offset) (line_at (record { place = c.in-Ok.beginning.place; slot = c.in-Ok.beginning.slot }) c.in-Ok.buffer ss)) (sym c.no_segments.ensures) (
+            omega (arith, at, low, same),
+            omega (arith, at, behind, begins),
+            subst (AreEntered (c.in-Ok.beginning.place + c.in-Ok.beginning.offset) c.in-Ok.beginning.place) (sym first.reserved) tt,
+            subst IsUnfilled (sym first.filled) tt,
+            omega (arith, ap (λ (rs : List Reserved). records_end rs (length c.in-Ok.buffer.bytes.items)) first.reserved),
+            first_used g.C.Checksum.sum_of c.in-Ok.beginning.place c.in-Ok.beginning.offset c.in-Ok.buffer first,
+          ));
       account = subst (λ n. IsAccountant n c.in-Ok.accountant) (sym same) c.in-Ok.ensures.account;
       pegs = subst (All (λ (b : NotedBatch). b.peg < c.in-Ok.beginning.place + c.in-Ok.beginning.offset)) (sym c.new-in-Ok.ensures.items) (All-nil (λ (b : NotedBatch). b.peg < c.in-Ok.beginning.place + c.in-Ok.beginning.offset));
       by_place = subst (λ (l : List NotedBatch). AreByPlace 0 (map batch_of l)) (sym c.new-in-Ok.ensures.items) _;
@@ -239,6 +249,21 @@ returns-in-Ok-clause-begins g c =
       fault = refl;
       sized = ap (λ (x : Config). x.segment_size) c.begin.ensures.config;
     }
+
+-- Where nothing of the segment is on the device, its header is that of its place, and what is stable ends before it.
+marked_at : (sum : List ℕ → ℕ) (place offset slot : ℕ) (b : IoBuf) (ss : List SegmentBuffer) (noted : List NotedBatch) → IsFirstBuffer sum place offset b → ss ≡ [] → noted ≡ []
+    → let v : SegmentView = last_of (view_at (record { place = place; slot = slot }) b) (map segment_view ss) in
+    place + b.written_len ≡ v.parts.site.place → v.parts.bytes ≡ short_header sum (pos v.parts.site.place) (pos (stable_below (place + b.written_len) (not_whole (place + b.written_len) (map batch_of noted))) -ℤ pos 1)
+marked_at sum place offset slot b (s ∷ ss) noted first none empty at = cc
+marked_at sum place offset slot b [] (n ∷ ns) first none empty at = cc
+marked_at sum place offset slot b [] [] first none empty at =
+    let from = first.from in
+    first.header (omega (arith, at, from)) ∙ sym (ap (λ n. short_header sum (pos place) (pos n -ℤ pos 1)) at)
+
+pub returns-in-Ok-clause-marked : goal.returns-in-Ok-clause-marked
+returns-in-Ok-clause-marked g c = record {
+  header = marked_at g.C.Checksum.sum_of c.in-Ok.beginning.place c.in-Ok.beginning.offset c.in-Ok.beginning.slot c.in-Ok.buffer c.no_segments.result.items c.new-in-Ok.result.items c.in-Ok.ensures.buffer c.no_segments.ensures c.new-in-Ok.ensures.items;
+}
 
 pub returns-in-Ok-clause-config : goal.returns-in-Ok-clause-config
 returns-in-Ok-clause-config g c = record { config = c.begin.ensures.config; checksum = c.begin.ensures.checksum }

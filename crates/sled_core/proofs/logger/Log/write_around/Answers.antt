@@ -7,6 +7,7 @@ use Rattle.sled_store.proofs.Traces.ScriptLemmas.{performs_nothing}
 use Rattle.sled_core.specs.Fits.{segment_size_of, start_of}
 use Rattle.sled_core.proofs.Holds.KeptCalls.{kept_still}
 use Rattle.sled_core.specs.Marked.{KeepsSegment}
+use Rattle.sled_core.proofs.Line.CameFar.{on_err_both}
 use Rattle.sled_core.proofs.Line.HeaderMarks.{segment_same, segment_written}
 use Rattle.sled_core.proofs.Line.LogSpans.{same_buffers, written_starts}
 use Rattle.sled_core.proofs.Line.Outcomes.{answers_free, done_free, either, on_err, on_ok}
@@ -169,9 +170,12 @@ returns-clause-without g c =
     on_ok c.write_buffer.result _ _ (λ wrote. wrote_without c.args.self.now c.args.place looked c.around-k.result.0 c.around-k.result.1 c.if-at-buffer.false c.around-k.ensures.there c.around-k.ensures.point c.if-b.false (let none = c.if-b-gt0.false in omega (arith, none)) c.write_buffer.new.self wrote) (c.write_buffer.ensures.line looked.segment looked.among)
 
 pub returns-clause-same : goal.returns-clause-same
-returns-clause-same g c = on_err c.write_buffer.result _ _ (λ same. (same_buffers c.args.self.now c.write_buffer.new.self same).0) c.write_buffer.ensures.same
+returns-clause-same g c = on_err_both c.write_buffer.result _ _ _ (λ same none. ((same_buffers c.args.self.now c.write_buffer.new.self same).0, none)) c.write_buffer.ensures.same c.write_buffer.ensures.unwritten
 
 pub returns-clause-one : goal.returns-clause-one
 returns-clause-one g c = λ all.
     let looked = looks c.args.self.now c.args.place c.segment_of-n.result c.segment.result.0 c.segment.result.1.now c.requires.behind c.requires.sealed c.segment_of-n.ensures c.segment.ensures.view c.segment.ensures.place in
     on_ok c.write_buffer.result _ _ (λ wrote. wrote_all c.args.self.now c.args.place looked c.around-k.result.0 c.around-k.result.1 c.if-at-buffer.false c.around-k.ensures.there c.around-k.ensures.point c.if-b.false (let none = c.if-b-gt0.false in omega (arith, none)) c.write_buffer.new.self wrote all) (c.write_buffer.ensures.line looked.segment looked.among)
+
+pub returns-then-b-gt0-clause-same : goal.returns-then-b-gt0-clause-same
+returns-then-b-gt0-clause-same g c = (refl, record { synced = refl; still = λ sound. refl })

@@ -1,10 +1,14 @@
 -- The buffers that begin below the place are sealed first, and then written.
-use Rattle.std.proofs.Common.{◌≤◌, sym, subst, arith}
+use Rattle.std.proofs.Common.{◌∙◌, ◌≤◌, ap, sym, subst, arith, inr}
+use Rattle.std.proofs.lemmas.Result.{err_from_is_err_and}
+use Rattle.sled_store.specs.declared.config.RunningConfig.{RunningConfig}
 use Rattle.sled_core.specs.declared.logger.Log.{Log}
 use Rattle.sled_core.specs.Fits.{current_begin}
 use Rattle.sled_core.proofs.Holds.KeptCalls.{kept_further}
 use Rattle.sled_core.proofs.Line.HeaderMarks.{marked_same}
-use Rattle.sled_core.proofs.Line.SealFirst.{SealedFor, first_answers, first_calls, first_performs, first_position, first_tickets, sealed_already, sealed_first, sealed_past, some_below, unchanged_performs}
+use Rattle.sled_core.proofs.Line.CameFar.{front_leaves}
+use Rattle.sled_core.proofs.Line.Outcomes.{all_err, on_err, seal_answers}
+use Rattle.sled_core.proofs.Line.SealFirst.{SealedFor, first_answers, first_calls, first_performs, first_position, first_tickets, sealed_already, sealed_first, sealed_past, some_below, unchanged_came, unchanged_performs}
 use Rattle.sled_core.proofs.logger.Log.write_below.Given.{Over}
 use Rattle.sled_core.proofs.logger.Log.write_below.Goals.{then-current_begin-to+in_ok-seal, else-current_begin-to}
 use Rattle.sled_core.proofs.logger.Log.write_below.Goals as goal
@@ -14,6 +18,9 @@ seal-requires g c = record { some = some_below c.args.self.now c.args.to c.requi
 
 pub returns-in_err-seal-clause-at_most : goal.returns-in_err-seal-clause-at_most
 returns-in_err-seal-clause-at_most g c = unchanged_performs c.args.self.now c.seal.new.self c.in_err-seal.ensures.err g.D.Device.trace _
+
+pub returns-in_err-seal-clause-came : goal.returns-in_err-seal-clause-came
+returns-in_err-seal-clause-came g c = all_err c.from_residual.result _ (unchanged_came g.D.Device.trace g.C.Checksum.sum_of c.args.to c.args.self.now c.seal.new.self c.in_err-seal.ensures.err)
 
 pub write_sealed_below-requires-clause-sealed : goal.write_sealed_below-requires-clause-sealed
 write_sealed_below-requires-clause-sealed g c =
@@ -55,8 +62,26 @@ pub returns-clause-answers : goal.returns-clause-answers
 returns-clause-answers g c =
     first_answers g.D.Device.trace g.C.Checksum.sum_of c.args.to c.args.self.now c.if-current_begin-to.self c.write_sealed_below.new.self (ready g c) c.write_sealed_below.result g.D.Device.faults c.write_sealed_below.ensures.answers
 
+pub returns-in_err-seal-clause-answers : goal.returns-in_err-seal-clause-answers
+returns-in_err-seal-clause-answers g c =
+    let same = c.in_err-seal.ensures.err in
+    let e = err_from_is_err_and c.from_residual.result c.from_residual.ensures.1 in
+    rw (e.1, e.2) (seal_answers (Unit {0}) (Unit {0}) c.in_err-seal.field-0.0 _ c.in_err-seal.ensures.answers _ _ _ _ _
+    (λ used. (let up = c.if-current_begin-to.true in let is = c.current_begin.ensures.is in omega (arith, up, is), used)) (λ used. used.1) (same.fault ∙ c.requires.fault)
+    (ap (λ (x : RunningConfig g.row.D.Denot g.row.C.Denot). g.D.Device.faults x.device) same.config))
+
+pub returns-in_err-seal-clause-idle : goal.returns-in_err-seal-clause-idle
+returns-in_err-seal-clause-idle g c = λ _. ap (λ (x : RunningConfig g.row.D.Denot g.row.C.Denot). g.D.Device.faults x.device) c.in_err-seal.ensures.err.config
+
+pub returns-clause-idle : goal.returns-clause-idle
+returns-clause-idle g c = λ none. c.write_sealed_below.ensures.idle ((ready g c).writing ∙ none) ∙ ap g.D.Device.faults (ready g c).device
+
 pub returns-clause-buffers : goal.returns-clause-buffers
 returns-clause-buffers g c =
     let did = c.write_sealed_below.ensures in
-    (ready g c).writes c.write_sealed_below.new.self c.write_sealed_below.result did.current.0 did.none did.one did.above did.some
+    (ready g c).writes c.write_sealed_below.new.self c.write_sealed_below.result did.current.0 did.none did.one did.above
+    (on_err c.write_sealed_below.result _ _ (front_leaves g.D.Device.trace g.C.Checksum.sum_of c.args.to c.if-current_begin-to.self c.write_sealed_below.new.self) did.front)
     (marked_same g.C.Checksum.sum_of c.args.self.now c.if-current_begin-to.self c.write_sealed_below.new.self (ready g c).marked did.current.1.place did.current.1.bytes)
+
+pub returns-clause-came : goal.returns-clause-came
+returns-clause-came g c = on_err c.write_sealed_below.result _ _ (λ front. inr ((ready g c).fronts c.write_sealed_below.new.self front)) c.write_sealed_below.ensures.front

@@ -1,4 +1,4 @@
-use Rattle.std.proofs.Common.{◌≡◌, ◌∙◌, ◌≤◌, List, ℕ, ap, sym, subst, refl, arith, map, set, true, Option, None, Some, Err, inl, inr}
+use Rattle.std.proofs.Common.{◌≡◌, ◌∙◌, List, ℕ, ap, sym, subst, refl, arith, map, set, true, Option, None, Some, Err, inl, inr}
 use Rattle.std.specs.declared.io.Error.{Error as IoError}
 use Rattle.sled_codec.specs.declared.result.Error.{Error}
 use Rattle.sled_codec.specs.declared.result.Error.TheVariants.{Io, OutOfMemory}
@@ -19,6 +19,7 @@ use Rattle.sled_core.specs.declared.logger.batches.NotedBatch.{NotedBatch}
 use Rattle.sled_core.specs.declared.iobuf.Sealed.{Sealed}
 use Rattle.sled_core.specs.declared.logger.ready.ReadyBuffers.{ReadyBuffers}
 use Rattle.sled_core.specs.declared.logger.Log.{Log}
+use Rattle.sled_core.specs.Fronts.{WroteNone}
 use Rattle.sled_core.specs.Fits.{written_to, AwaitsIn, Holds, line_of, noted_in, segment_size_of}
 use Rattle.sled_core.specs.Logged.{logged, in_log}
 use Rattle.sled_core.specs.OpenBatches.{batch_of, not_whole}
@@ -32,9 +33,10 @@ use Rattle.sled_core.specs.Waiting.{last_of}
 use Rattle.sled_core.proofs.Holds.StoredItems.{items_same}
 use Rattle.sled_core.proofs.Line.Facts.{nth_facts}
 use Rattle.sled_core.proofs.Line.Faulty.{fits_with_same, holds_with_same}
-use Rattle.sled_core.proofs.Line.LineEnds.{noted_later, noted_same}
+use Rattle.sled_core.proofs.Line.LineEnds.{kept_same, noted_later, noted_same}
 use Rattle.sled_core.proofs.Line.LogWrites.{KeepsInvariants, crash_write, end_grows, fits_done, fits_failed, holds_done, holds_failed, keeps_invariants, line_after, line_left, names, noted_left, same_line, segments_written}
 use Rattle.sled_core.proofs.Line.OpenManifests.{manifests_promoted, set_same}
+use Rattle.sled_core.proofs.Line.Outcomes.{all_err}
 use Rattle.sled_core.proofs.Line.OpenPlaces.{places_promoted, set_places}
 use Rattle.sled_core.proofs.Line.Promotes.{awaits_promoted, last_promoted, last_set}
 use Rattle.sled_core.proofs.Line.Segments.{line_segments, nth_segment}
@@ -69,6 +71,12 @@ returns-in_err-write_bytes-clause-refused g c =
     let e = err_from_is_err_and c.from_residual.result c.from_residual.ensures.1 in
     rw (e.1, e.2) (unless_fault (Unit {0}) c.in_err-write_bytes.field-0.0 mid.fault (g.D.Device.faults old.config.device) (g.D.Device.faults mid.config.device) (g.D.Device.trace old.config.device) (g.D.Device.trace mid.config.device) did.answers did.refused)
 
+pub returns-in_err-write_bytes-clause-unwritten : goal.returns-in_err-write_bytes-clause-unwritten
+returns-in_err-write_bytes-clause-unwritten g c =
+    let did = c.in_err-write_bytes.ensures in
+    let none : WroteNone g.D.Device.trace c.args.self.now c.write_bytes.new.self = record { synced = did.unsynced; still = did.refused } in
+    all_err c.from_residual.result _ none
+
 pub returns-in_err-write_bytes-clause-keeps : goal.returns-in_err-write_bytes-clause-keeps
 unfolding Holds Fits
 returns-in_err-write_bytes-clause-keeps g c =
@@ -95,6 +103,7 @@ returns-in_err-write_bytes-clause-keeps g c =
       fits = λ H A f U fits. fits_with_same g.C.Checksum.sum_of _ _ _ _ _ _ _ _ _ _ _ _ H A f U kept_noted sizes (same_line old mid rest) slots rest.pins
           (fits_failed old c.args.n c.args.k r g.D.Device.trace g.C.Checksum.sum_of c.requires.fault (g.D.Device.trace mid.config.device) did.at_most mid.fault did.refused H A f U fits);
       noted = noted_later old mid items (let same = ap written_to (same_line old mid rest) in omega (arith, same));
+      kept = kept_same old mid items;
     }
 
 -- The segments that are left keep what the type of a log asks.
@@ -175,6 +184,7 @@ returns-clause-keeps g c =
       fits = λ H A f U fits. fits_with_same g.C.Checksum.sum_of _ _ _ _ _ _ _ _ _ _ _ _ H A f U (noted_left_is old c.args.n c.args.k r (noted_items old mid rest) line) sizes line slots rest.pins
           (fits_done old c.args.n c.args.k r g.D.Device.trace g.C.Checksum.sum_of c.requires.fault (g.D.Device.trace mid.config.device) did.calls mid.fault did.answers.1 H A f U fits);
       noted = noted_left_is old c.args.n c.args.k r (noted_items old mid rest) line ∙ ap (λ e. not_whole e (noted_in old)) (sym (ap written_to line));
+      kept = kept_same old mid (noted_items old mid rest);
     }
 
 pub returns-clause-tickets : goal.returns-clause-tickets

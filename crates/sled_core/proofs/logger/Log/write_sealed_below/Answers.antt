@@ -1,15 +1,16 @@
-use Rattle.std.proofs.Common.{rules, ◌≡◌, ◌∙◌, ◌+◌, true, sym, refl, arith, w64, SFits, List, subst}
+use Rattle.std.proofs.Common.{rules, ◌≡◌, ◌∙◌, ◌+◌, true, sym, refl, arith, w64, SFits}
 use Rattle.std.proofs.lemmas.Int.{to_z-of_z}
 use Rattle.std.proofs.lemmas.Result.{err_from_is_err_and}
 use Rattle.sled_store.proofs.Traces.ScriptLemmas.{performs_whole}
 use Rattle.sled_core.specs.Fits.{line_of, waiting_of}
 use Rattle.sled_core.specs.Turned.{ready_below}
 use Rattle.sled_core.proofs.Holds.KeptCalls.{kept_further}
-use Rattle.sled_core.proofs.Line.Advanced.{advanced_further, advanced_still, all_made, failed_further, failed_one, failed_position, failed_tickets, first_step, first_view, holds_up, past_left, ready_in, same_current, stuck_left, stuck_one, write_failed}
+use Rattle.sled_core.proofs.Line.Advanced.{advanced_further, advanced_still, all_made, failed_further, failed_one, failed_position, failed_tickets, failed_any, first_step, first_view, holds_up, past_left, ready_in, same_current, stuck_left, stuck_one, write_failed}
 use Rattle.sled_core.proofs.Line.Below.{IsStuck, begin_none, first_fewer, held_past, writes_past}
 use Rattle.sled_core.proofs.Line.HeaderMarks.{segment_further, segment_same}
-use Rattle.sled_core.proofs.Line.LogSpans.{IsLeft, leaves_above, leaves_some, same_buffers}
-use Rattle.sled_core.specs.Waiting.{BufferAt}
+use Rattle.sled_core.proofs.Line.CameFar.{wrote_front}
+use Rattle.sled_core.proofs.Line.LogSpans.{leaves_above, same_buffers}
+use Rattle.sled_core.proofs.Line.Outcomes.{all_err}
 use Rattle.sled_core.proofs.logger.Log.write_sealed_below.Given as given
 use Rattle.sled_core.proofs.logger.Log.write_sealed_below.Goals as goal
 
@@ -58,7 +59,7 @@ returns-in_err-write_buffer-clause-position g c = failed_position g.D.Device.tra
 pub returns-in_err-write_buffer-clause-answers : goal.returns-in_err-write_buffer-clause-answers
 returns-in_err-write_buffer-clause-answers g c =
     let e = err_from_is_err_and c.from_residual.result c.from_residual.ensures.1 in
-    rw (e.1, e.2) (write_failed (Unit {0}) (Unit {0}) c.in_err-write_buffer.field-0.0 _ ⊥ _ _ _ _ c.loop-self.invariant.advanced.counted c.in_err-write_buffer.ensures.answers)
+    rw (e.1, e.2) (write_failed (Unit {0}) (Unit {0}) c.in_err-write_buffer.field-0.0 _ ⊥ _ _ _ _ (λ never. never) c.loop-self.invariant.advanced.counted c.in_err-write_buffer.ensures.answers)
 
 pub returns-in_err-write_buffer-clause-current : goal.returns-in_err-write_buffer-clause-current
 returns-in_err-write_buffer-clause-current g c =
@@ -73,13 +74,15 @@ returns-in_err-write_buffer-clause-one g c = λ few.
     let e = err_from_is_err_and c.from_residual.result c.from_residual.ensures.1 in
     rw e.1 (failed_one g.D.Device.trace g.C.Checksum.sum_of g.D.Device.faults c.args.to c.args.self.now c.loop-self.self c.write_buffer.new.self c.loop-self.invariant.advanced (sym c.has_ready_below.ensures ∙ c.loop-self-test.true) c.in_err-write_buffer.ensures.same few)
 
-pub returns-in_err-write_buffer-clause-some : goal.returns-in_err-write_buffer-clause-some
-returns-in_err-write_buffer-clause-some g c =
+pub returns-in_err-write_buffer-clause-front : goal.returns-in_err-write_buffer-clause-front
+returns-in_err-write_buffer-clause-front g c =
     let same = same_buffers c.loop-self.self c.write_buffer.new.self c.in_err-write_buffer.ensures.same in
-    let so_far = c.loop-self.invariant.advanced in
-    let e = err_from_is_err_and c.from_residual.result c.from_residual.ensures.1 in
-    rw e.1 (leaves_some g.C.Checksum.sum_of c.args.to c.args.self.now c.write_buffer.new.self c.requires.sealed (same.1 ∙ so_far.start)
-    (subst (λ (l : List BufferAt). IsLeft c.args.to (waiting_of c.args.self.now) l) (sym same.0) so_far.left))
+    all_err c.from_residual.result _
+    (wrote_front g.D.Device.trace g.C.Checksum.sum_of g.D.Device.faults c.args.to c.args.self.now c.loop-self.self c.write_buffer.new.self c.requires.sealed c.loop-self.invariant.advanced same.0 same.1 c.in_err-write_buffer.ensures.unwritten)
+
+pub returns-in_err-write_buffer-clause-idle : goal.returns-in_err-write_buffer-clause-idle
+returns-in_err-write_buffer-clause-idle g c = λ none.
+    absurd (failed_any g.D.Device.trace g.C.Checksum.sum_of g.D.Device.faults c.args.to c.args.self.now c.loop-self.self c.requires.sealed c.loop-self.invariant.advanced (sym c.has_ready_below.ensures ∙ c.loop-self-test.true) none)
 
 -- An open reservation holds the rest up.
 
@@ -125,8 +128,13 @@ returns-then-synced_end-to-clause-current g c = (c.loop-self.invariant.advanced.
 pub returns-then-synced_end-to-clause-one : goal.returns-then-synced_end-to-clause-one
 returns-then-synced_end-to-clause-one g c = λ few. stuck_one g.D.Device.trace g.C.Checksum.sum_of g.D.Device.faults c.args.to c.args.self.now c.loop-self.self c.loop-self.invariant.advanced (stuck g c) few
 
-pub returns-then-synced_end-to-clause-some : goal.returns-then-synced_end-to-clause-some
-returns-then-synced_end-to-clause-some g c = leaves_some g.C.Checksum.sum_of c.args.to c.args.self.now c.loop-self.self c.requires.sealed c.loop-self.invariant.advanced.start c.loop-self.invariant.advanced.left
+pub returns-then-synced_end-to-clause-front : goal.returns-then-synced_end-to-clause-front
+returns-then-synced_end-to-clause-front g c =
+    let now = c.loop-self.self in
+    wrote_front g.D.Device.trace g.C.Checksum.sum_of g.D.Device.faults c.args.to c.args.self.now now now c.requires.sealed c.loop-self.invariant.advanced refl refl (record { synced = refl; still = λ sound. refl })
+
+pub returns-then-synced_end-to-clause-idle : goal.returns-then-synced_end-to-clause-idle
+returns-then-synced_end-to-clause-idle g c = λ _. c.loop-self.invariant.advanced.counted
 
 -- All that begins below the place is written.
 
@@ -175,3 +183,6 @@ returns-clause-above g c =
     let now = c.loop-self.self in
     leaves_above g.C.Checksum.sum_of c.args.to c.args.self.now now c.requires.sealed c.loop-self.invariant.advanced.start c.loop-self.invariant.advanced.left
     (past_left g.D.Device.trace g.C.Checksum.sum_of g.D.Device.faults c.args.to now (omega (arith, c.synced_end.ensures.is, c.if-synced_end-to.false)))
+
+pub returns-clause-idle : goal.returns-clause-idle
+returns-clause-idle g c = λ _. c.loop-self.invariant.advanced.counted

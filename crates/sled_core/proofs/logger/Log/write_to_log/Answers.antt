@@ -8,6 +8,8 @@ use Rattle.sled_core.proofs.Holds.KeptCalls.{kept_still}
 use Rattle.sled_core.proofs.Line.Buffers.{unwritten_promoted}
 use Rattle.sled_core.proofs.Line.LogSpans.{same_buffers, written_starts}
 use Rattle.sled_core.proofs.Line.LogWrites.{segments_written}
+use Rattle.sled_core.proofs.Line.Advanced.{same_synced}
+use Rattle.sled_core.proofs.Line.CameFar.{on_err_both}
 use Rattle.sled_core.proofs.Line.Outcomes.{either, on_ok}
 use Rattle.sled_core.proofs.logger.Log.write_to_log.Goals as goal
 
@@ -36,3 +38,9 @@ returns-clause-start g c =
     (λ is. written_starts old new (segment_size_of old) c.ready_at-n.result.0 r.segment c.ready_at-n.result.1 r.among is)
     (λ same. (same_buffers old new same).1)
     (c.write_buffer.ensures.line r.segment r.among) c.write_buffer.ensures.same
+
+pub returns-clause-err : goal.returns-clause-err
+returns-clause-err g c =
+    let old = c.args.self.now in
+    let new = c.write_buffer.new.self in
+    on_err_both c.write_buffer.result _ _ _ (λ same none. (same_synced old new same, (same_buffers old new same).0, none.synced)) c.write_buffer.ensures.same c.write_buffer.ensures.unwritten

@@ -1,4 +1,8 @@
-use Rattle.std.proofs.Common.{◌≡◌, ◌≢◌, ◌∙◌, ◌≤◌, ◌<◌, ◌+◌, ◌-◌, ◌%◌, ◌^◌, ℕ, List, length, true, ap, sym, arith}
+use Rattle.std.proofs.Common.{◌≡◌, ◌≢◌, ◌∙◌, ◌≤◌, ◌<◌, ◌+◌, ◌-◌, ◌%◌, ◌^◌, ℕ, List, length, length-take, take, true, ap, sym, arith}
+use Rattle.std.proofs.lemmas.Result.{err_from_is_err_and}
+use Rattle.sled_codec.specs.Places.{part}
+use Rattle.sled_codec.specs.Spelling.{SpellsMessageHeader}
+use Rattle.sled_core.specs.Reading.{IsAnnounced}
 use Rattle.sled_codec.specs.declared.serialization.message.MessageHeader.{MessageHeader}
 use Rattle.sled_codec.specs.declared.serialization.message.SegmentNumber.{SegmentNumber}
 use Rattle.sled_codec.specs.declared.serialization.message.MessageKind.TheVariants as kind
@@ -28,6 +32,28 @@ returns-then-not-is_offset-clause-none g c = λ sum h body len stands.
     let yes : c.is_offset.result ≡ true = c.is_offset.ensures.1 (omega (arith, long, small)) in
     let no = c.if-not-is_offset.true in
     cc
+
+-- What passes the tests is announced there.
+announced : (size : ℕ) (file : List ℕ) (lid number : ℕ) (head : List ℕ) (n : ℕ) (h : MessageHeader) → length head ≡ 32 → n ≤ 32 → take n head ≡ part file lid n → SpellsMessageHeader (take n head) h
+    → h.kind ≢ kind.Corrupted → h.segment_number.0 ≡ number → 0 < size → 8 ≤ n → n + h.len ≤ size - lid % size → IsAnnounced size file lid number
+announced size file lid number head n h long short is spelled valid numbered some least fits =
+    let count : length (take n head) ≡ n = omega (arith, length-take n head, long, short) in
+    record {
+      header = take n head;
+      announced = h;
+      spelled = spelled;
+      is = ap (part file lid) count ∙ sym is;
+      numbered = numbered;
+      valid = valid;
+      in_slot = omega (arith, count, fits, least, some);
+    }
+
+pub returns-in_err-body-clause-memory : goal.returns-in_err-body-clause-memory
+returns-in_err-body-clause-memory g c =
+    let may = c.may_be.ensures.0 c.if-not-may_be.false in
+    let e = err_from_is_err_and c.from_residual.result c.from_residual.ensures.1 in
+    rw (e.1, e.2) (λ _. announced c.args.size (g.R.ReadAt.file c.args.reader.now) c.args.lid c.args.number.0 c.args.head c.args.header_len c.args.header c.requires.long c.requires.short
+    (c.requires.head c.args.header_len c.requires.short c.requires.there) c.requires.found may.0 (ap (λ (x : SegmentNumber). x.0) may.1) c.requires.size.0 c.requires.some may.2)
 
 pub returns-in-Some-clause-found : goal.returns-in-Some-clause-found
 returns-in-Some-clause-found g c =

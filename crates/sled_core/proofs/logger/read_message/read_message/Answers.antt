@@ -1,5 +1,6 @@
-use Rattle.std.proofs.Common.{◌≡◌, ℕ, ℤ, List, Option, Result, Ok, Err, inl, inr, subst, to_z, of_z}
+use Rattle.std.proofs.Common.{◌≡◌, ℕ, ℤ, List, Option, Result, Ok, Err, inr, subst, to_z, of_z}
 use Rattle.std.specs.Int.{w64}
+use Rattle.std.specs.Prelude.{IfErr}
 use Rattle.std.proofs.lemmas.Int.{to_z-of_z}
 use Rattle.sled_store.specs.Blobs.{IsDamagedFor, NamesBlobAt, OnDamage}
 use Rattle.sled_store.specs.Device.{Trace, state_of}
@@ -7,6 +8,7 @@ use Rattle.sled_codec.specs.Errors.{IsCorruption}
 use Rattle.sled_codec.specs.declared.result.DiskPtr.{DiskPtr}
 use Rattle.sled_codec.specs.declared.result.Error.{Error}
 use Rattle.sled_codec.specs.declared.result.Error.TheVariants.{Corruption, Unsupported, Io, OutOfMemory, Held, NotReserved, PlacesUsedUp, CollectionNotFound, ReportableBug}
+use Rattle.sled_core.proofs.Read.ReadingLemmas.{announced_of}
 use Rattle.sled_core.proofs.logger.read_message.read_message.Goals as goal
 
 pub returns-in-Ok-DanglingBlob-clause-unreadable : goal.returns-in-Ok-DanglingBlob-clause-unreadable
@@ -26,6 +28,16 @@ returns-in-Ok-DanglingBlob-clause-unreadable g c = λ corrupt.
       damaged = subst (λ (t : Trace). IsDamagedFor g.C.Checksum.sum_of header.kind ((state_of t).blobs.file place)) c.read_record.ensures.trace
           (subst (λ p. IsDamagedFor g.C.Checksum.sum_of header.kind ((state_of (g.D.Device.trace c.read_record.new.config.device)).blobs.file p)) same (c.with_item.ensures.damaged corrupt));
     })
+
+-- Memory is taken for what is announced there.
+on_memory : {T : Type 0} (r : Result T Error) (P : Type 0) → P → IfErr r (λ e. e ≡ OutOfMemory → P)
+on_memory (Ok x) P is = tt
+on_memory (Err e) P is = λ _. is
+
+pub returns-in-Ok-DanglingBlob-clause-memory : goal.returns-in-Ok-DanglingBlob-clause-memory
+returns-in-Ok-DanglingBlob-clause-memory g c =
+    let reading = rw c.in-Ok-DanglingBlob.field-0-is at c.in-Ok-DanglingBlob.ensures.reading in
+    on_memory c.with_item.result _ (announced_of g.C.Checksum.sum_of _ _ _ _ _ _ _ reading.1)
 
 -- damage that has a name, by what is damaged then
 damaged_as : {T B : Type 0} {P Q : Option DiskPtr → Type 0} → (r : Result T Error) → (IsCorruption r → B) → (B → (at : Option DiskPtr) → P at → Q at) → OnDamage r P → OnDamage r Q

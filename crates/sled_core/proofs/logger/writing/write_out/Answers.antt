@@ -1,10 +1,13 @@
-use Rattle.std.proofs.Common.{[], ◌∷◌}
+use Rattle.std.proofs.Common.{[], ◌∷◌, ◌∙◌, ap}
 use Rattle.std.specs.declared.io.Error.{Error}
 use Rattle.std.specs.Prelude.{Result, Ok, Err}
 use Rattle.sled_store.specs.Answers.{Does}
 use Rattle.sled_store.specs.Device.{Event, Trace, Wrote, Synced}
 use Rattle.sled_store.specs.Script.{Performs}
+use Rattle.sled_core.specs.Fronts.{syncs}
 use Rattle.sled_store.proofs.Traces.ScriptLemmas.{performs_all, stop_call, performs_none}
+use Rattle.sled_core.proofs.Line.CameFar.{does_unsynced, left_unsynced}
+use Rattle.sled_core.proofs.Line.Outcomes.{all_err, on_err}
 use Rattle.sled_core.proofs.logger.writing.write_out.Goals as goal
 
 -- one call, whatever it answered
@@ -17,3 +20,11 @@ returns-in_err-write_at-clause-calls g c = stop_call (Wrote c.args.at c.args.byt
 
 pub returns-clause-calls : goal.returns-clause-calls
 returns-clause-calls g c = performs_all (Wrote c.args.at c.args.bytes.now c.args.bytes.now) (Synced ∷ []) _ _ _ c.in_ok-write_at.ensures.trace (one_call Synced c.sync.result _ _ c.sync.ensures.trace)
+
+-- Neither call is a sync that came.
+
+pub returns-in_err-write_at-clause-unsynced : goal.returns-in_err-write_at-clause-unsynced
+returns-in_err-write_at-clause-unsynced g c = all_err c.from_residual.result _ (left_unsynced (Wrote c.args.at c.args.bytes.now c.args.bytes.now) _ _ c.in_err-write_at.ensures.trace)
+
+pub returns-clause-unsynced : goal.returns-clause-unsynced
+returns-clause-unsynced g c = on_err c.sync.result _ _ (λ same. same ∙ ap syncs c.in_ok-write_at.ensures.trace) (does_unsynced Synced c.sync.result _ _ c.sync.ensures.trace)

@@ -49,6 +49,7 @@ returns-clause-knows c s is bs k =
     taken_known old _ e once i on further near
     (subst (λ z. (s : ℤ) (is : List (ℤ × ℤ)) → Reaches s is z ahead → Reaches s is e ahead') high c.take_in-self.ensures.reaches)
     (subst (λ z. (s : ℤ) (is : List (ℤ × ℤ)) → Reaches s is z ahead → IsContiguousEnd s is e) high c.take_in-self.ensures.end)
+    c.take_in-self.ensures.beyond
     (subst (λ z. (bs : List (ℤ × ℤ)) → AreWaiting bs z left → AreWaiting bs z left') twice c.drop_synced.ensures.awaits)
     (subst (λ z. AreInOrder left → All (λ b. z <ℤ b.1) left') twice c.drop_synced.ensures.open_yet)
     s is bs k

@@ -1,5 +1,5 @@
-use Rattle.std.proofs.Common.{◌≡◌, ◌-◌, ◌≤◌, List, Bool, length}
-use Rattle.sled_core.specs.Iterates.{Item}
+use Rattle.std.proofs.Common.{◌≡◌, ◌-◌, ◌≤◌, List, length}
+use Rattle.sled_core.specs.Iterates.{Item, Damage}
 use Rattle.sled_core.specs.Ahead.{CanGoOn, IsLeft, IsSpent, most_left}
 use Rattle.sled_core.proofs.iterator.rest.Rest.next_message.Given as goal
 
@@ -7,7 +7,7 @@ use Rattle.sled_core.proofs.iterator.rest.Rest.next_message.Given as goal
 abbrev pub invariant-loop-message : goal.invariant-loop-message
 invariant-loop-message g l =
     record {
-      left : (items : List Item) (damaged : Bool) → IsLeft g.D.Device.trace g.C.Checksum.sum_of l.fn.config l.fn.self items damaged → IsLeft g.D.Device.trace g.C.Checksum.sum_of l.fn.config l.self items damaged;
+      left : (items : List Item) (damage : Damage) → IsLeft g.D.Device.trace g.C.Checksum.sum_of l.fn.config l.fn.self items damage → IsLeft g.D.Device.trace g.C.Checksum.sum_of l.fn.config l.self items damage;
       fits : CanGoOn l.fn.config.config.segment_size l.self;
       spent : IsSpent l.fn.self → IsSpent l.self;
       no_more : most_left l.self ≤ most_left l.fn.self;

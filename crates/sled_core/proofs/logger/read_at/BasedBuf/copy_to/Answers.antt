@@ -1,5 +1,5 @@
-use Rattle.std.proofs.Common.{◌≡◌, ◌≤◌, ◌+◌, ◌-◌, ◌∙◌, ◌++◌, ℕ, List, length, take, drop, replicate, min, ap, sym, arith, rules}
-use Rattle.std.proofs.lemmas.List.{drop_at, drop-drop, drop_min, length-replicate}
+use Rattle.std.proofs.Common.{◌≡◌, ◌-◌, ◌∙◌, ◌++◌, ℕ, List, length, take, drop, min, ap, sym, rules}
+use Rattle.std.proofs.lemmas.List.{drop_min}
 use Rattle.sled_core.specs.Reading.{file_of}
 use Rattle.sled_core.proofs.Read.InSlot.{file_behind}
 use Rattle.sled_core.proofs.logger.read_at.BasedBuf.copy_to.Goals as goal

@@ -1,0 +1,99 @@
+-- A call that writes buffers and fails: as many are gone as it synced, and unless the device failed each of them was written whole.
+use Rattle.std.proofs.Common.{◌≡◌, ◌∙◌, ◌⊎◌, ◌≤◌, ◌<◌, ◌≤ℤ◌, ◌<ℤ◌, ◌*◌, ap, sym, refl, subst, arith, inl, inr, ℕ, ℤ, pos, Bool, true, false, nat_lt, if◌then◌else◌, List, ◌∷◌, ◌++◌, length, take, drop, None, Result, Ok, Err, OnOk, OnErr}
+use Rattle.std.specs.Prelude.{unsigned_abs}
+use Rattle.std.specs.declared.io.Error.{Error as IoError}
+use Rattle.std.proofs.Math.Seq.{take-append_seam}
+use Rattle.std.proofs.lemmas.Bool.Decides.{nat_tests}
+use Rattle.std.proofs.lemmas.Int.{ints}
+use Rattle.sled_codec.specs.declared.result.Error.{Error}
+use Rattle.sled_store.specs.Answers.{Does, Tears}
+use Rattle.sled_store.specs.Device.{Event, Trace, Wrote, Cut, Synced, BlobMade, BlobRemoved, SnapshotFilled, SnapshotPublished, SnapshotRemoved}
+use Rattle.sled_store.specs.Script.{after_all}
+use Rattle.sled_core.specs.Causes.{IsHeld}
+use Rattle.sled_core.specs.declared.logger.Log.{Log}
+use Rattle.sled_core.specs.Fits.{buffers_of, current_begin, device_of, fault_of, start_of, synced_end, waiting_of, writing_below}
+use Rattle.sled_core.specs.Fronts.{CameAround, WroteFront, WroteNone, syncs}
+use Rattle.sled_core.specs.Keeps.{LeavesSome, sealed_for, start_for, start_sealed}
+use Rattle.sled_core.specs.ReadBuffer.{SealsAround, WritesAround, settling}
+use Rattle.sled_core.specs.Waiting.{writes_below}
+use Rattle.sled_core.proofs.Line.Advanced.{Advanced, first_view, views_behind}
+use Rattle.sled_core.proofs.Line.Current.{current_writes}
+use Rattle.sled_core.proofs.Line.HeaderMarks.{none_begun}
+use Rattle.sled_core.proofs.Line.Segments.{line_segments}
+use Rattle.sled_core.proofs.Stable.EndLemmas.{or_beyond}
+
+-- What a failure leaves of a call is no sync,
+torn_unsynced : (e torn : Event) (t : Trace) → Tears e torn → syncs (torn ∷ t) ≡ syncs t
+torn_unsynced (Wrote at asked now) torn t tears = ap (λ (x : Event). syncs (x ∷ t)) tears.2
+torn_unsynced (Cut asked now) torn t tears = ap (λ (x : Event). syncs (x ∷ t)) tears.2
+torn_unsynced (BlobMade place asked now done) torn t tears = ap (λ (x : Event). syncs (x ∷ t)) tears.2
+torn_unsynced (BlobRemoved place done) torn t tears = ap (λ (x : Event). syncs (x ∷ t)) tears.1
+torn_unsynced (SnapshotFilled asked now) torn t tears = ap (λ (x : Event). syncs (x ∷ t)) tears.1
+torn_unsynced (SnapshotPublished number done) torn t tears = ap (λ (x : Event). syncs (x ∷ t)) tears.1
+torn_unsynced (SnapshotRemoved number done) torn t tears = ap (λ (x : Event). syncs (x ∷ t)) tears.1
+torn_unsynced _ torn t tears = absurd tears
+
+-- so nothing is synced by a call that failed.
+pub left_unsynced : {fault : Type 0} (e : Event) (old new : Trace) → (new ≡ old) ⊎ (fault × ((torn : Event) × Tears e torn × (new ≡ torn ∷ old))) → syncs new ≡ syncs old
+left_unsynced e old new (inl same) = ap syncs same
+left_unsynced e old new (inr left) = ap syncs left.1.2 ∙ torn_unsynced e left.1.0 old left.1.1
+
+pub does_unsynced : {T : Type 0} (e : Event) (r : Result T IoError) (old new : Trace) → Does e r old new → OnErr r (syncs new ≡ syncs old)
+does_unsynced e (Ok x) old new does = tt
+does_unsynced e (Err x) old new does = left_unsynced e old new does
+
+module _ {D C : Type 0} (trace : D → Trace) (sum : List ℕ → ℕ) (faults : D → ℕ) (to : ℕ) where
+  -- Some of the buffers that begin below a place were written, all of which are sealed, and then one wasn't.
+  module _ (old mid new : Log D C) (sealed : to ≤ current_begin old) (so_far : Advanced trace sum faults to old mid) (waiting : waiting_of new ≡ waiting_of mid) (start : start_of new ≡ start_of mid) where
+    not_current : nat_lt (current_begin old) to ≡ false
+    not_current = grind (arith, nat_tests, sealed)
+
+    done_is : so_far.done ≡ take (2 * so_far.count) (writing_below sum old to)
+    done_is =
+        let rest : List Event = writes_below to (waiting_of mid) in
+        let all : writing_below sum old to ≡ so_far.done ++ rest =
+        current_writes sum old.config.config.segment_size old.site.place to (first_view old) (views_behind old) (line_segments old) sealed ∙ so_far.whole in
+        sym ((λ i. take (sym so_far.pairs i) (all i)) ∙ take-append_seam so_far.done rest)
+
+    pub wrote_front : WroteNone trace mid new → WroteFront trace sum to old new
+    wrote_front none = record {
+      count = so_far.count;
+      left = waiting ∙ so_far.gone ∙ sym (ap (λ (o : Bool). drop so_far.count (if o then buffers_of sum old else waiting_of old)) not_current);
+      start = start ∙ so_far.start ∙ sym (ap (λ (o : Bool). if o then start_sealed old else start_of old) not_current);
+      synced = none.synced ∙ so_far.synced;
+      whole = λ sound. none.still sound ∙ so_far.came ∙ ap (λ (es : List Event). after_all es (trace (device_of old))) done_is;
+    }
+
+-- What is left is so many of them.
+pub front_leaves : {D C : Type 0} (trace : D → Trace) (sum : List ℕ → ℕ) (to : ℕ) (old new : Log D C) → WroteFront trace sum to old new → LeavesSome sum to old new
+front_leaves trace sum to old new front = inr (front.count, front.left, front.start)
+
+-- Two things are so of a call that failed, and what follows of both.
+pub on_err_both : {T E : Type 0} (r : Result T E) (A B P : Type 0) → (A → B → P) → OnErr r A → OnErr r B → OnErr r P
+on_err_both (Ok x) A B P f a b = tt
+on_err_both (Err e) A B P f a b = f a b
+
+-- How far a read came.
+module _ {D C : Type 0} (trace : D → Trace) (sum : List ℕ → ℕ) (old mid new : Log D C) where
+  -- Its place was on the device, or is, and then its record wasn't read.
+  pub came_behind : {T T' : Type 0} (lsn : ℤ) (x : T) (r : Result T' Error) → WritesAround {T = T} sum (Ok x) lsn old mid → trace (device_of mid) ≡ after_all (settling sum old lsn) (trace (device_of old))
+      → (lsn <ℤ pos (synced_end old) → trace (device_of mid) ≡ trace (device_of old)) → waiting_of new ≡ waiting_of mid → start_of new ≡ start_of mid → trace (device_of new) ≡ trace (device_of mid) → OnErr r (CameAround trace sum (unsigned_abs lsn) old new)
+  came_behind lsn x (Ok y) writes made still waiting start same = tt
+  came_behind lsn x (Err e) writes made still waiting start same = elim (or_beyond (pos (synced_end old)) lsn) [
+    | inl behind ↦ (
+        let above : pos 0 ≤ℤ lsn = omega (arith, ints, behind) in
+        let at : pos (unsigned_abs lsn) ≡ lsn = omega (arith, ints, above) in
+        inr (inr ((waiting ∙ (writes.written behind).0, start ∙ (writes.written behind).1), same ∙ made ∙ ap (λ z. after_all (settling sum old z) (trace (device_of old))) (sym at))))
+    | inr below ↦ inl ((waiting ∙ (writes.still below).0, start ∙ (writes.still below).1), same ∙ still below)
+  ]
+
+-- A read did nothing.
+module _ {T D C : Type 0} (log : Log D C) (lsn : ℤ) (e : Error) (never : IsHeld {T = T} (Err e) → ⊥) where
+  pub seals_none : SealsAround {T = T} (Err e) lsn log log
+  seals_none = record { still = λ _. refl; apart = λ _. refl; once = inl refl; held = λ held. absurd (never held); none = λ _. tt }
+
+  pub around_none : (sum : List ℕ → ℕ) → WritesAround {T = T} sum (Err e) lsn log log
+  around_none sum = record { still = λ _. (refl, refl); written = λ _. tt; held = λ held. absurd (never held); some = inl (refl, refl); marked = none_begun sum log log refl }
+
+pub still_around : {D C : Type 0} (trace : D → Trace) (sum : List ℕ → ℕ) (at : ℕ) (log : Log D C) → CameAround trace sum at log log
+still_around trace sum at log = inl ((refl, refl), refl)

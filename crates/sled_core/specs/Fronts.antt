@@ -1,0 +1,48 @@
+-- How far a call came that seals and writes buffers, and fails: as many buffers are gone as it synced.
+use Rattle.std.specs.Prelude.{◌≡◌, ◌⊎◌, ◌+◌, ◌*◌, ℕ, suc, pos, List, [], ◌∷◌, take, drop, None}
+use Rattle.sled_store.specs.Device.{Event, Trace, Synced}
+use Rattle.sled_store.specs.Script.{after_all}
+use Rattle.sled_core.specs.declared.logger.Log.{Log}
+use Rattle.sled_core.specs.Fits.{device_of, fault_of, start_of, waiting_of, writing_below}
+use Rattle.sled_core.specs.Keeps.{sealed_for, start_for}
+use Rattle.sled_core.specs.ReadBuffer.{LeavesSealed, LeavesUnsealed, LeavesWritten, settling}
+
+-- how many times the log file was synced
+abbrev pub syncs : Trace → ℕ
+syncs [] = 0
+syncs (Synced ∷ es) = suc (syncs es)
+syncs (_ ∷ es) = syncs es
+
+-- These calls that write buffers, one write and one sync for each, were made for so many at the front, whole, and no other call was.
+abbrev pub WritesWhole : ℕ → List Event → Trace → Trace → Type 0
+WritesWhole count es old new = new ≡ after_all (take (2 * count) es) old
+
+-- No buffer was written: nothing was synced, and unless the device failed nothing was asked of it.
+pub record WroteNone {D C : Type 0} (trace : D → Trace) (old new : Log D C) : Type 0 where
+  pub synced : syncs (trace (device_of new)) ≡ syncs (trace (device_of old))
+  pub still : fault_of new ≡ None → trace (device_of new) ≡ trace (device_of old)
+
+-- Those that begin below a place are sealed, and so many at the front were written; unless the device failed no other call was made.
+pub record WroteFront {D C : Type 0} (trace : D → Trace) (sum : List ℕ → ℕ) (to : ℕ) (old new : Log D C) : Type 0 where
+  pub count : ℕ
+  pub left : waiting_of new ≡ drop count (sealed_for sum to old)
+  pub start : start_of new ≡ start_for to old
+  pub synced : syncs (trace (device_of new)) ≡ count + syncs (trace (device_of old))
+  pub whole : fault_of new ≡ None → WritesWhole count (writing_below sum old to) (trace (device_of old)) (trace (device_of new))
+
+-- Nothing was done.
+pub record SealedNone {D C : Type 0} (trace : D → Trace) (old new : Log D C) : Type 0 where
+  pub waiting : waiting_of new ≡ waiting_of old
+  pub start : start_of new ≡ start_of old
+  pub still : trace (device_of new) ≡ trace (device_of old)
+
+-- How far a call came that writes up to a place.
+abbrev pub CameTo : {D C : Type 0} → (D → Trace) → (List ℕ → ℕ) → ℕ → Log D C → Log D C → Type 0
+CameTo trace sum to old new = SealedNone trace old new ⊎ WroteFront trace sum to old new
+
+-- How far a read of a place came: the buffer that has it was not sealed; or sealed, and not written; or written too, whole.
+abbrev pub CameAround : {D C : Type 0} → (D → Trace) → (List ℕ → ℕ) → ℕ → Log D C → Log D C → Type 0
+CameAround trace sum at old new =
+    (LeavesUnsealed sum at old new × (trace (device_of new) ≡ trace (device_of old)))
+    ⊎ (LeavesSealed sum at old new × WroteNone trace old new)
+    ⊎ (LeavesWritten sum at old new × (trace (device_of new) ≡ after_all (settling sum old (pos at)) (trace (device_of old))))
