@@ -1,5 +1,6 @@
 pub mod Afterwards
 pub mod Again
+pub mod Histories
 pub mod Iterates
 pub mod Moments
 pub mod Ordering

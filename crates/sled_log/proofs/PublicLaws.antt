@@ -1,4 +1,5 @@
--- What a crate above may rely on of histories and tables: a history of Replaces in the order of pages stays orderly, a message of a greater place is appended, and a table has the last message of each page.
+-- The lemmas by which a proof of a crate above cites the laws of histories and tables: a history of Replaces in the order of pages stays orderly, a message of a greater place is appended, and a table has the last message of each page.
+-- The laws are the interface (`src/laws.rt`): each says what a client may rely on, and its lemma here says the same. Those under "Helpers" have no law: they are about lists and sizes alone, and are here so that a client needn't write them again.
 use Rattle.std.specs.Prelude.{◌↔◌}
 use Rattle.std.proofs.Common.{⊎_elim, ◌≡◌, ◌∙◌, ◌<◌, ◌≤◌, ℕ, ◌&&◌, if◌then◌else◌, cond, nat_lt, List, [], ◌∷◌, ◌++◌, length, Option, Some, None, refl, sym, ap, subst, arith, pos}
 use Rattle.std.specs.List.{All, Contains}
@@ -9,17 +10,24 @@ use Rattle.sled_codec.specs.declared.serialization.message.LogKind.TheVariants.{
 use Rattle.sled_codec.specs.History.{Message, History, Completed, Step, begins_page, is_replace, is_link, later_or, last_beginning, entries_from, page_state, of_page, table, below, HasPage}
 use Rattle.sled_codec.specs.PageTables.{IsTable, entry_of, page_with}
 use Rattle.sled_codec.specs.Snapshots.{Page, Present, Free}
-use Rattle.sled_store.proofs.Segments.Elements.{no_element}
 use Rattle.sled_log.specs.Replaces.{HasLast, IsOfReplaces}
-use Rattle.sled_store.proofs.Histories.Ascending.{Ascends, apart_ascends, in_first, in_rest, in_cases, in_nothing, later_above}
+use Rattle.sled_store.proofs.Histories.Ascending.{Ascends, apart_ascends, later_above}
 use Rattle.sled_log.proofs.PageTable.PageRuns.{links_behind}
 use Rattle.sled_log.proofs.Sessions.MadeHistories.{below_in, from_below}
 use Rattle.sled_store.proofs.Histories.TableParts.{in_page, page_ascends, has_page}
+pub use Rattle.sled_log.proofs.Afterwards.OrderlyBelow.{orderly_below}
+pub use Rattle.sled_log.proofs.Histories.Beginnings.{below_begins}
+pub use Rattle.sled_log.proofs.Histories.LastBeginnings.{beginning_in_table, link_in_table, new_in_table}
+pub use Rattle.sled_log.proofs.Histories.PagesAlone.{batch_added, others_leave, own_added, own_apart, own_below, own_table}
 pub use Rattle.sled_log.proofs.Sessions.RunHistories.{orderly, none_orderly, completed, forgotten}
-pub use Rattle.sled_log.proofs.Sessions.MadeHistories.{new_there}
+pub use Rattle.sled_log.proofs.Sessions.MadeHistories.{new_there, none_made, orderly_added}
 pub use Rattle.sled_log.proofs.Sessions.RunLemmas.{may_be_left}
 pub use Rattle.sled_log.proofs.PageTable.TableCuts.{table_below}
-pub use Rattle.sled_store.proofs.Histories.TableParts.{from_page, from_table}
+pub use Rattle.sled_store.proofs.Histories.TableParts.{from_table}
+-- Helpers: what is an element of a list, of a filter, or of a page's messages below a cut, and that each message has a size.
+pub use Rattle.sled_log.proofs.Histories.Sizes.{has_size}
+pub use Rattle.sled_store.proofs.Histories.TableParts.{from_page}
+pub use Rattle.sled_store.proofs.Segments.Elements.{all_from_in, from_filter, in_cases, in_filter, in_first, in_nothing, in_one, in_rest, no_element, only_in}
 
 -- What is left below a cut is what begins there.
 pub kept_below : (H : History) (cut : ℕ) (m : Message) → Contains (below H cut).messages m ↔ (Contains H.messages m × (m.place < cut))

@@ -1,4 +1,5 @@
 pub mod Carried
+pub mod DeviceLemmas
 pub mod EndedBatches
 pub mod EndedTickets
 pub mod Endings

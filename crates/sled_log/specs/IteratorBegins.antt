@@ -1,5 +1,5 @@
 -- Where an iterator begins that no log makes: the segments are found and the tail is read, from a place on.
-use Rattle.std.specs.Prelude.{◌≡◌, ◌⊎◌, ℕ, ℤ, Bool, false, List, [], Option, Some, None, Err}
+use Rattle.std.specs.Prelude.{◌≡◌, ◌⊎◌, ℕ, ℤ, false, List, [], Option, Some, None, Err}
 use Rattle.std.specs.Borrow.{MutBor}
 use Rattle.sled_codec.specs.declared.result.Error.{Error}
 use Rattle.sled_store.specs.declared.config.RunningConfig.{RunningConfig}
@@ -7,19 +7,19 @@ use Rattle.sled_store.specs.Device.{Trace}
 use Rattle.sled_core.specs.Causes.{ItemAnswersOver}
 use Rattle.sled_core.specs.Keeps.{OnlyReads}
 use Rattle.sled_core.specs.declared.iterator.Segment.{Segment}
-use Rattle.sled_core.specs.Iterates.{Item, IsIteration}
+use Rattle.sled_core.specs.Iterates.{Item, Damage, IsIteration}
 use Rattle.sled_log.specs.Recovery.{Scanned, IsUnordered, IsOrdering, IsTail, IsDamagedTail, HaveGoodBlobs, tail_begins, tail_end, begun_below}
 -- the segment that holds the place from which an iterator begins; a negative one counts as 0
 pub use Rattle.sled_core.specs.LogSegments.{begins_from}
 
 -- what is ahead of an iterator where the tail ends there, or where no segment of it was read
-abbrev pub IsBegun : (List ℕ → ℕ) → ℕ → List ℕ → (ℤ → Option (List ℕ)) → List Segment → Option ℕ → (List Item → Bool → Type 0) → Type 0
-IsBegun sum size log blobs ordering None ahead = ahead [] false
+abbrev pub IsBegun : (List ℕ → ℕ) → ℕ → List ℕ → (ℤ → Option (List ℕ)) → List Segment → Option ℕ → (List Item → Damage → Type 0) → Type 0
+IsBegun sum size log blobs ordering None ahead = ahead [] None
 IsBegun sum size log blobs ordering (Some end) ahead =
-    (items : List Item) (damaged : Bool) → IsIteration sum size log blobs end false (begun_below end ordering) items damaged → ahead items damaged
+    (items : List Item) (damage : Damage) → IsIteration sum size log blobs end false (begun_below end ordering) items damage → ahead items damage
 
 -- The segments are found and the tail is read, from a place on, and what comes of it is ahead of an iterator.
-abbrev pub Begins : (List ℕ → ℕ) → ℕ → List ℕ → (ℤ → Option (List ℕ)) → ℕ → (List Item → Bool → Type 0) → Type 0
+abbrev pub Begins : (List ℕ → ℕ) → ℕ → List ℕ → (ℤ → Option (List ℕ)) → ℕ → (List Item → Damage → Type 0) → Type 0
 Begins sum size log blobs least ahead =
     (ordering : List Segment) × IsOrdering sum size log least ordering
     × ((scanned : List Scanned) × IsTail sum size log ordering (tail_begins size least ordering) scanned × HaveGoodBlobs sum blobs scanned

@@ -1,12 +1,16 @@
+pub mod Devices
 pub mod Endings
 pub mod Headline
 pub mod IteratorBegins
 pub mod Made
+pub mod OpenSteps
 pub mod Openings
 pub mod Ordering
 pub mod Orderly
 pub mod OwnPast
+pub mod PageHistories
 pub mod Passes
+pub mod ReadSteps
 pub mod Readings
 pub mod Recovery
 pub mod Refusals
@@ -19,4 +23,5 @@ pub mod RunStates
 pub mod Runs
 pub mod TicketActs
 pub mod TicketSteps
+pub mod WriteSteps
 pub mod WritesBack

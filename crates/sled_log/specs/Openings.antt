@@ -8,23 +8,7 @@ use Rattle.sled_log.specs.declared.session.command.Reply.{Reply}
 use Rattle.sled_log.specs.declared.session.command.Reply.TheVariants as reply
 use Rattle.sled_log.specs.RunPhases.{IsAt, IsRecoveredAt, Unstored, device_in, log_in, traces}
 use Rattle.sled_log.specs.RunStates.{DeviceView, LogView, length_of, started_on}
-use Rattle.sled_log.specs.Runs.{HasStarted, IsStartCause, StartFailed}
-
--- What it does to the device, and what is shown of the snapshot.
-abbrev pub StartActs : ℕ → DeviceView → SnapshotModel → Reply → DeviceView → Type 0
-StartActs size old s (reply.Opened stable active pages) new = HasStarted size old new s × (stable ≡ s.stable) × (active ≡ s.active) × (pages ≡ length s.pages)
-StartActs size old s (reply.Failed e) new = StartFailed size e old new s
-StartActs size old s _ new = ⊥
-
--- the log that is open then, on a snapshot and a log file of this length
-abbrev pub log_shown : ℕ → ℕ → SnapshotModel → Reply → Option LogView
-log_shown size len s (reply.Opened stable active pages) = Some (started_on size len s)
-log_shown size len s _ = None
-
--- why none is
-abbrev pub SaysWhy : Reply → ℕ → ℕ → Type 0
-SaysWhy (reply.Failed e) before after = IsStartCause e before after
-SaysWhy _ before after = Unit {0}
+use Rattle.sled_log.specs.OpenSteps.{SaysWhy, log_opened}
 
 -- nothing is reserved
 abbrev pub unreserved : History → ℕ → ℕ → Unstored
@@ -32,7 +16,7 @@ unreserved H A f = record { history = H; acknowledged = A; floor = f; tickets = 
 
 -- What a start makes of a table that was recovered.
 pub record HasStartedAt {D C : Type 0} (view : D → DeviceView) (sum : List ℕ → ℕ) (config : RunningConfig D C) (s : SnapshotModel) (result : Phase D C × Reply) (k : Unstored) : Type 0 where
-  pub log : log_in result.0 [] ≡ log_shown config.config.segment_size (length_of (view config.device)) s result.1
+  pub log : log_in result.0 [] ≡ log_opened config.config.segment_size (length_of (view config.device)) s result.1
   pub at : IsAt (traces view) sum result.0 k
   pub why : SaysWhy result.1 (view config.device).failures (device_in view result.0).failures
 

@@ -19,7 +19,7 @@ use Rattle.sled_log.specs.declared.session.command.Reply.TheVariants as reply
 use Rattle.sled_log.specs.Made.{IsMade}
 use Rattle.sled_log.specs.RunPhases.{Unstored, seen_log, traces}
 use Rattle.sled_log.specs.RunStates.{DeviceView, LogView, RunState, is_present, top, with_log}
-use Rattle.sled_log.specs.Runs.{ReadFailsFor, ReadStep, ReadsAt, read_around, read_at}
+use Rattle.sled_log.specs.ReadSteps.{FailsAt, ReadStep, ReadsAt, read_around, read_at}
 
 -- A log fits what a session keeps in mind, and zeros pass as no header.
 pub record IsRead {D C : Type 0} (trace : D → Trace) (sum : List ℕ → ℕ) (log : Log D C) (k : Unstored) : Type 0 where
@@ -50,8 +50,8 @@ abbrev pub IsItem : {D C : Type 0} → (D → DeviceView) → Log D C → LogVie
 IsItem view old l m new l' (Ok item) =
     (item.items ≡ m.bytes) × (l.fault ≡ None) × ReadsAt l (read_at m) (view (device_of old)) (view (device_of new)) × (l' ≡ read_around l (read_at m))
 IsItem view old l m new l' (Err e) =
-    (a : RunState)
-    → ReadFailsFor (segment_size_of old) a l (read_at m) e (view (device_of old)) (view (device_of new)) (with_log a (view (device_of new)) (Some l'))
+    l.fault ≡ None → (a : RunState)
+    → FailsAt (segment_size_of old) a l (read_at m) e (view (device_of old)) (view (device_of new)) (with_log a (view (device_of new)) (Some l'))
 
 -- A message of what a page is was read, where its place and its pointer were given, or that failed.
 pub record ReadsItem {D C : Type 0} (view : D → DeviceView) (sum : List ℕ → ℕ) (old : Log D C) (page : ℕ) (place : ℤ) (pointer : DiskPtr)

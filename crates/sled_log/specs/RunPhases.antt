@@ -16,6 +16,7 @@ use Rattle.sled_core.specs.Keeps.{ConfigKept}
 use Rattle.sled_core.specs.Reading.{IsInline}
 use Rattle.sled_core.specs.Recoverable.{LeavesRecoverable, NoHeaderOfZeros}
 use Rattle.sled_core.specs.Running.{Fits, IsStored, Ready}
+use Rattle.sled_core.specs.Tickets.{own_blob}
 use Rattle.sled_log.specs.declared.session.Session.{Session}
 use Rattle.sled_log.specs.declared.session.Phase.{Phase}
 use Rattle.sled_log.specs.declared.session.Phase.TheVariants.{Closed, Open}
@@ -26,13 +27,14 @@ use Rattle.sled_log.specs.declared.session.command.Reply.{Reply}
 use Rattle.sled_log.specs.Made.{IsMade, MayJoin}
 use Rattle.sled_log.specs.Refusals.{reason_of, refusal_for}
 use Rattle.sled_log.specs.RunStates.{DeviceView, LogView, RunState, ShowsActive, has_page, in_batch, open_messages, top}
-use Rattle.sled_log.specs.Runs.{IsOwn, Acts, Carries, IsStep}
+use Rattle.sled_log.specs.TicketSteps.{own_of}
+use Rattle.sled_log.specs.Runs.{Carries, IsOwn, IsStep}
 
 -- What is seen of what code has.
 
 -- what is seen of a device by what its traits show
-abbrev pub view_by : {D : Type 0} → (D → Trace) → (D → ℕ) → (D → Bool) → (D → Option ℕ) → D → DeviceView
-view_by trace faults stopped stops device = record { trace = trace device; failures = faults device; is_stopped = stopped device; stops_in = stops device }
+abbrev pub view_by : {D : Type 0} → (D → Trace) → (D → ℕ) → (D → Bool) → D → DeviceView
+view_by trace faults stopped device = record { trace = trace device; failures = faults device; is_stopped = stopped device }
 
 -- the traces of devices that are seen so
 abbrev pub traces : {D : Type 0} → (D → DeviceView) → D → Trace
@@ -112,6 +114,8 @@ pub record IsTicketFor {D C : Type 0} (trace : D → Trace) (sum : List ℕ → 
   pub kind : ticket.kind ≡ m.kind
   pub page : ticket.page ≡ m.page
   pub awaits : Awaits opened.log ticket.reservation m
+  -- the blob that it made is the one of its message's place, if that has one there
+  pub own : own_blob ticket.reservation ≡ own_of m
   pub stored : IsSafe trace sum opened.log m
   pub joins : m.page ≢ manifest_page → MayJoin H m
   pub begins_batch : m.page ≡ manifest_page → BeginsBatch opened.log m
@@ -158,10 +162,9 @@ IsAt trace sum (Open opened) k = IsOpenAt trace sum opened k
 -- A command that isn't refused leads from a phase to the next one: what holds there holds again, unless what is foreign was read or left.
 pub record Does {D C : Type 0} (view : D → DeviceView) (sum : List ℕ → ℕ) (phase : Phase D C) (command : Command) (result : Phase D C × Reply) (k : Unstored) : Type 0 where
   pub not_refused : reason_of result.1 ≡ None
-  pub acts : Acts sum (size_of phase) (stands view phase k) command result.1 (device_in view result.0)
-  pub step : IsOwn sum (size_of phase) (state_of (device_in view phase).trace) command result.1
-      → (l : Unstored) × IsStep sum (size_of phase) (stands view phase k) command result.1 (device_in view result.0) (stands view result.0 l)
-      × IsAt (traces view) sum result.0 l
+  pub next : Unstored
+  pub step : IsStep sum (size_of phase) (stands view phase k) command result.1 (device_in view result.0) (stands view result.0 next)
+  pub at : IsOwn sum (size_of phase) (state_of (device_in view phase).trace) command result.1 → IsAt (traces view) sum result.0 next
 
 abbrev pub CarriesOut : {D C : Type 0} → (D → DeviceView) → (List ℕ → ℕ) → Phase D C → Command → Phase D C × Reply → Type 0
 CarriesOut view sum phase command result =

@@ -1,5 +1,5 @@
 -- Where a run of commands stands between two commands.
-use Rattle.std.specs.Prelude.{◌≡◌, ◌≤◌, ◌<◌, ◌+◌, ◌-◌, ◌%◌, ◌^◌, ◌&&◌, ◌==◌, ◌∷◌, ◌++◌, nat_lt, nat_le, not, zero, suc, if◌then◌else◌, ℕ, ℤ, Bool, true, false, List, [], length, Option, None, Some}
+use Rattle.std.specs.Prelude.{◌≡◌, ◌≤◌, ◌<◌, ◌+◌, ◌-◌, ◌%◌, ◌^◌, ◌&&◌, ◌==◌, ◌∷◌, ◌++◌, nat_lt, nat_le, not, zero, suc, if◌then◌else◌, ℕ, ℤ, Bool, true, false, List, [], length, slice_get, Option, None, Some, Contains}
 use Rattle.std.specs.declared.io.Error.{Error as IoError}
 use Rattle.sled_codec.specs.declared.result.DiskPtr.{DiskPtr}
 use Rattle.sled_codec.specs.declared.result.DiskPtr.TheVariants.{Inline, Blob}
@@ -25,8 +25,6 @@ pub record DeviceView : Type 0 where
   pub failures : ℕ
   -- a call was stopped within, and no crash came since
   pub is_stopped : Bool
-  -- how many more calls that change or sync are done before one is stopped within, where one is to be
-  pub stops_in : Option ℕ
 
 -- how long its log file is
 abbrev pub length_of : DeviceView → ℕ
@@ -73,12 +71,11 @@ begins_on device = record { device = device; history = no_history; acknowledged 
 
 -- the same run, with a device as it is now and with this log or none
 abbrev pub with_log : RunState → DeviceView → Option LogView → RunState
-with_log a now log = record { device = now; history = a.history; acknowledged = a.acknowledged; floor = a.floor; log = log }
+with_log a now log = record a { device = now; log = log }
 
 -- the run behind a recovery: what lies past the cut is forgotten, and the cut is the floor
 abbrev pub recovered : RunState → DeviceView → SnapshotModel → Option LogView → RunState
-recovered a now s log =
-    record { device = now; history = below a.history (stable_place s.stable); acknowledged = a.acknowledged; floor = stable_place s.stable; log = log }
+recovered a now s log = record a { device = now; history = below a.history (stable_place s.stable); floor = stable_place s.stable; log = log }
 
 -- The log.
 
@@ -152,20 +149,9 @@ waiting_with l q = if is_behind l q then l.waiting ++ current_span l q ∷ [] el
 abbrev pub start_with : LogView → Position → BufferStart
 start_with l q = if is_behind l q then next_start l q else l.start
 
--- The log ready for a record that begins at a position, which it has none of, with the failure that it keeps: behind what fills the current segment, where the record begins a further one.
+-- The log ready for a record that begins at a position, which it has none of, with the failure that it keeps: behind what fills the current segment, where the record begins a further one. What was reserved ends where it did.
 abbrev pub made_ready : LogView → Position → Option IoError → LogView
-made_ready l q fault = record {
-  position = q;
-  synced = l.synced;
-  noted = l.noted;
-  end = if is_behind l q then q.place else l.end;
-  waiting = waiting_with l q;
-  start = start_with l q;
-  begun = l.begun;
-  fault = fault;
-  outstanding = l.outstanding;
-  tickets = l.tickets;
-}
+made_ready l q fault = record l { position = q; waiting = waiting_with l q; start = start_with l q; fault = fault }
 
 -- The sealed buffers, once those that begin below a place are sealed; and where the current one begins then.
 abbrev pub sealed_below : ℕ → LogView → List Span
@@ -251,6 +237,19 @@ abbrev pub has_message : ℕ → List (Option Message) → Bool
 has_message n [] = false
 has_message zero (t ∷ ts) = is_message t
 has_message (suc n) (t ∷ ts) = has_message n ts
+
+-- the messages of the tickets of the log that is open, by number
+abbrev pub tickets_in : Option LogView → List (Option Message)
+tickets_in None = []
+tickets_in (Some l) = l.tickets
+
+abbrev pub tickets_of : RunState → List (Option Message)
+tickets_of a = tickets_in a.log
+
+-- A batch has all that was completed, and the messages of all open tickets.
+pub record HasAll (a : RunState) (b : Batch) : Type 0 where
+  pub completed : (x : Message) → Contains a.history.messages x → x.place + x.size ≤ b.peg + 1
+  pub reserved : (n : ℕ) (x : Message) → slice_get (tickets_of a) n ≡ Some (Some x) → x.place + x.size ≤ b.peg + 1
 
 -- a batch is begun: its manifest has an open ticket
 abbrev pub in_batch : List (Option Message) → Bool

@@ -33,9 +33,8 @@ making_for sum None place bytes = []
 making_for sum (Some kind) place bytes = making place (blob_bytes sum (code_of kind) bytes)
 
 -- A reservation makes the blob of an item that goes to one.
-abbrev pub ReserveActs : (List ℕ → ℕ) → ℕ → Option LogView → LogKind → ℕ → List ℕ → DeviceView → Reply → DeviceView → Type 0
-ReserveActs sum size None kind page bytes old r new = new ≡ old
-ReserveActs sum size (Some l) kind page bytes old r new =
+abbrev pub ReserveActs : (List ℕ → ℕ) → ℕ → LogView → LogKind → ℕ → List ℕ → DeviceView → Reply → DeviceView → Type 0
+ReserveActs sum size l kind page bytes old r new =
     MatchBool (in_blob size (length bytes)) (BlobActs (making_for sum (kind_for kind page true 8) (pos (target_in size l page (body_in size (length bytes))).place) bytes) l.fault old r new) (new ≡ old)
 
 -- the blob that the reservation of a ticket made
@@ -49,6 +48,5 @@ RemoveActs None fault old r new = new ≡ old
 RemoveActs (Some place) fault old r new = BlobActs (removing (Some place)) fault old r new
 
 -- Where a message is given up, its own blob is removed.
-abbrev pub AbortActs : ℕ → Option LogView → DeviceView → Reply → DeviceView → Type 0
-AbortActs t None old r new = new ≡ old
-AbortActs t (Some l) old r new = RemoveActs (own_by (slice_get l.tickets t)) l.fault old r new
+abbrev pub AbortActs : ℕ → LogView → DeviceView → Reply → DeviceView → Type 0
+AbortActs t l old r new = RemoveActs (own_by (slice_get l.tickets t)) l.fault old r new

@@ -1,7 +1,9 @@
 -- What the commands come to that keep places for messages, complete these, give them up, and begin and end batches.
 use Rattle.std.specs.Prelude.{◌≡◌, ◌⊎◌, ◌+◌, ◌-◌, ◌<◌, ◌==◌, ◌∷◌, ◌++◌, ℕ, ℤ, pos, set, if◌then◌else◌, true, List, [], length, slice_get, Option, None, Some, Err}
+use Rattle.std.specs.Ordering.{int_eq}
 use Rattle.std.specs.declared.io.Error.{Error as IoError}
 use Rattle.sled_codec.specs.declared.result.DiskPtr.{DiskPtr}
+use Rattle.sled_codec.specs.declared.result.DiskPtr.TheVariants.{Inline, Blob}
 use Rattle.sled_codec.specs.declared.result.Error.{Error}
 use Rattle.sled_codec.specs.declared.result.Error.TheVariants.{Held, Io, OutOfMemory, PlacesUsedUp}
 use Rattle.sled_codec.specs.declared.serialization.message.LogKind.{LogKind}
@@ -13,7 +15,7 @@ use Rattle.sled_core.specs.Fits.{in_blob}
 use Rattle.sled_core.specs.Manifests.{manifest_page}
 use Rattle.sled_core.specs.OpenBatches.{with_batch}
 use Rattle.sled_core.specs.OpenPlaces.{places_from}
-use Rattle.sled_core.specs.OwnBlobs.{RemovedAnswers, own_in}
+use Rattle.sled_core.specs.OwnBlobs.{RemovedAnswers}
 use Rattle.sled_core.specs.Positions.{Position, behind_record}
 use Rattle.sled_core.specs.Reserves.{MadeAnswers}
 use Rattle.sled_log.specs.declared.session.command.Reply.{Reply}
@@ -26,15 +28,11 @@ IsAnswerFor m place pointer = (place ≡ pos m.place) × (pointer ≡ m.pointer)
 
 -- the log with a reservation for a message that begins at this position
 abbrev pub reserving : ℕ → LogView → Position → Message → LogView
-reserving size l q m = record {
+reserving size l q m = record l {
   position = behind_record size q m.size;
-  synced = l.synced;
-  noted = l.noted;
   end = m.place + m.size;
   waiting = waiting_with l q;
   start = start_with l q;
-  begun = l.begun;
-  fault = l.fault;
   outstanding = opens l ++ m.place ∷ [];
   tickets = l.tickets ++ Some m ∷ [];
 }
@@ -105,13 +103,11 @@ RewriteStep size a l page _ new b = ⊥
 
 -- the log with a ticket spent, with reservations open at these places, and this many pages begun
 abbrev pub spent : LogView → ℕ → List ℕ → ℕ → LogView
-spent l t places begun =
-    record { position = l.position; synced = l.synced; noted = l.noted; end = l.end; waiting = l.waiting; start = l.start; begun = begun; fault = l.fault; outstanding = places; tickets = set l.tickets t None }
+spent l t places begun = record l { begun = begun; outstanding = places; tickets = set l.tickets t None }
 
 -- the log with this failure kept
 abbrev pub keeping : IoError → LogView → LogView
-keeping e l =
-    record { position = l.position; synced = l.synced; noted = l.noted; end = l.end; waiting = l.waiting; start = l.start; begun = l.begun; fault = Some e; outstanding = l.outstanding; tickets = l.tickets }
+keeping e l = record l { fault = Some e }
 
 -- The message of an open reservation comes to the history. Where it is the first of its page, that is begun.
 pub record HasCompleted (a : RunState) (l : LogView) (t : ℕ) (place : ℤ) (pointer : DiskPtr) (new : DeviceView) (b : RunState) : Type 0 where
@@ -121,11 +117,9 @@ pub record HasCompleted (a : RunState) (l : LogView) (t : ℕ) (place : ℤ) (po
   pub answer : IsAnswerFor message place pointer
   pub history : History
   pub step : Step a.history (Completed message) history
-  pub leads : b ≡ record {
+  pub leads : b ≡ record a {
     device = new;
     history = history;
-    acknowledged = a.acknowledged;
-    floor = a.floor;
     log = Some (spent l t (places_without message.place (opens l)) (if message.page == l.begun then l.begun + 1 else l.begun));
   }
 
@@ -144,7 +138,11 @@ pub record HasAborted (a : RunState) (l : LogView) (t : ℕ) (place : ℤ) (poin
   pub answer : IsAnswerFor message place pointer
   pub leads : b ≡ with_log a new (Some (spent l t (places_without message.place (opens l)) l.begun))
 
--- the blob that a reservation made for a message
+-- the blob that the reservation of a session's message made, which lies at a place: its name is that place, while the item of a rewritten one stays in the blob of an earlier message
+abbrev pub own_in : ℤ → DiskPtr → Option ℤ
+own_in place (Inline lid) = None
+own_in place (Blob lid blob) = if int_eq blob place then Some blob else None
+
 abbrev pub own_of : Message → Option ℤ
 own_of m = own_in (pos m.place) m.pointer
 
@@ -177,8 +175,7 @@ batch_of l m = record { low = m.place; peg = l.end - 1 }
 
 -- the log with one more batch noted, by place
 abbrev pub noting : Batch → LogView → LogView
-noting batch l =
-    record { position = l.position; synced = l.synced; noted = with_batch batch l.noted; end = l.end; waiting = l.waiting; start = l.start; begun = l.begun; fault = l.fault; outstanding = l.outstanding; tickets = l.tickets }
+noting batch l = record l { noted = with_batch batch l.noted }
 
 -- A batch that was begun comes to the history, and is noted.
 pub record HasEnded (a : RunState) (l : LogView) (place : ℤ) (pointer : DiskPtr) (new : DeviceView) (b : RunState) : Type 0 where
@@ -187,11 +184,9 @@ pub record HasEnded (a : RunState) (l : LogView) (place : ℤ) (pointer : DiskPt
   pub answer : IsAnswerFor begun.message place pointer
   pub history : History
   pub step : Step a.history (Batched (batch_of l begun.message)) history
-  pub leads : b ≡ record {
+  pub leads : b ≡ record a {
     device = new;
     history = history;
-    acknowledged = a.acknowledged;
-    floor = a.floor;
     log = Some (noting (batch_of l begun.message) (spent l begun.ticket (places_without begun.message.place (opens l)) l.begun));
   }
 

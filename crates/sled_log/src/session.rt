@@ -37,20 +37,22 @@ pub struct Session<D, C> {
 }
 
 impl<D: CrashDevice, C: Checksum> Session<D, C> {
-    ghost use Rattle.std.specs.Prelude.{◌≡◌, map, None, IfOk, IsSome, MatchOption, OnErr};
+    ghost use Rattle.std.specs.Prelude.{◌≡◌, map, Bool, false, None, IfOk, IsSome, MatchOption, OnErr};
     ghost use Rattle.sled_codec.specs.PageTables.{IsTable};
     ghost use Rattle.sled_codec.specs.Snapshots.{page_of};
     ghost use Rattle.sled_store.specs.Device.{state_of, fresh};
-    ghost use Rattle.sled_log.specs.RunStates.{RunState, begins_on, top};
-    ghost use Rattle.sled_log.specs.Headline.{EndsWith, Recovers, past_of};
+    ghost use Rattle.sled_log.specs.Devices.{Devices, Leaves, StandsOver};
+    ghost use Rattle.sled_log.specs.RunStates.{DeviceView, RunState, begins_on, top};
+    ghost use Rattle.sled_log.specs.Headline.{Recovers};
     ghost use Rattle.sled_log.specs.Runs.{Carries, Runs};
     ghost use Rattle.sled_log.specs.RunPhases.{SomeStands, StandsAt, segment_size_in, view_by};
 
     /// Returns a session over a device that no log was written to, with no log open.
     pub fn new(alloc: Global, config: Config, device: D, checksum: C) -> Session<D, C>
         ensures size { segment_size_in result ≡ config.segment_size }
-        ensures begins { let view = view_by D.trace D.faults D.is_stopped D.stops_in in
+        ensures begins { let view = view_by D.trace D.faults D.is_stopped in
             state_of (D.trace device) ≡ fresh → StandsAt view C.sum_of result (begins_on (view device)) }
+        ensures over { let view = view_by D.trace D.faults D.is_stopped in StandsOver view result false (view device) }
     {
         let config = RunningConfig::new(alloc, config, device, checksum);
         Session {
@@ -70,12 +72,15 @@ impl<D: CrashDevice, C: Checksum> Session<D, C> {
     ///
     /// `AllocError` where memory for the replies was refused; nothing was done then. An error of a command is its reply.
     pub fn run(&mut self, commands: &[Command]) -> Result<Vec<Reply>, AllocError>
-        ensures headline { let view = view_by D.trace D.faults D.is_stopped D.stops_in in
+        ensures headline { let view = view_by D.trace D.faults D.is_stopped in
             (a : RunState) → StandsAt view C.sum_of self.old a → IfOk result (λ replies.
             Runs C.sum_of (segment_size_in self.old) (SomeStands D C view C.sum_of) a commands.now replies.items (StandsAt view C.sum_of self.new)) }
-        ensures recovers { let view = view_by D.trace D.faults D.is_stopped D.stops_in in
+        ensures recovers { let view = view_by D.trace D.faults D.is_stopped in
             (a : RunState) → StandsAt view C.sum_of self.old a → IfOk result (λ replies.
-            Recovers C.sum_of (segment_size_in self.old) (past_of a) commands.now replies.items (EndsWith view C.sum_of self.new)) }
+            Recovers C.sum_of (segment_size_in self.old) a commands.now replies.items (StandsAt view C.sum_of self.new)) }
+        ensures devices { let view = view_by D.trace D.faults D.is_stopped in
+            (on : Bool) (device : DeviceView) → StandsOver view self.old on device → IfOk result (λ replies.
+            Devices C.sum_of (segment_size_in self.old) on device commands.now replies.items (StandsOver view self.new)) }
         ensures size { segment_size_in self.new ≡ segment_size_in self.old }
         ensures refused { OnErr result (self.new ≡ self.old) }
     {
@@ -88,8 +93,10 @@ impl<D: CrashDevice, C: Checksum> Session<D, C> {
 
     /// Carries out a command, unless it is refused.
     fn step(&mut self, command: &Command) -> Reply
-        ensures step { let view = view_by D.trace D.faults D.is_stopped D.stops_in in (a : RunState) → StandsAt view C.sum_of self.old a
+        ensures step { let view = view_by D.trace D.faults D.is_stopped in (a : RunState) → StandsAt view C.sum_of self.old a
             → Carries C.sum_of (segment_size_in self.old) a command.now result (StandsAt view C.sum_of self.new) }
+        ensures device { let view = view_by D.trace D.faults D.is_stopped in (on : Bool) (device : DeviceView) → StandsOver view self.old on device
+            → Leaves C.sum_of (segment_size_in self.old) on device command.now result (StandsOver view self.new) }
         ensures size { segment_size_in self.new ≡ segment_size_in self.old }
     {
         let phase = self.phase.take().unwrap();
@@ -102,7 +109,7 @@ impl<D: CrashDevice, C: Checksum> Session<D, C> {
 
     /// Returns what each page is of which a message is completed, by number, where a log is open.
     pub fn pages(&self) -> Option<&[PageState]>
-        ensures table { let view = view_by D.trace D.faults D.is_stopped D.stops_in in (a : RunState) → StandsAt view C.sum_of self.now a
+        ensures table { let view = view_by D.trace D.faults D.is_stopped in (a : RunState) → StandsAt view C.sum_of self.now a
             → MatchOption result (a.log ≡ None) (λ pages. IsSome a.log × IsTable (map page_of pages.now) a.history top) }
     {
         match self.phase.as_ref()? {
@@ -113,14 +120,17 @@ impl<D: CrashDevice, C: Checksum> Session<D, C> {
 }
 
 impl<D: CrashDevice, C: Checksum + Drop> Session<D, C> {
-    ghost use Rattle.std.specs.Prelude.{◌≡◌};
-    ghost use Rattle.sled_log.specs.RunStates.{RunState};
+    ghost use Rattle.std.specs.Prelude.{◌≡◌, Bool};
+    ghost use Rattle.sled_log.specs.Devices.{StandsOver};
+    ghost use Rattle.sled_log.specs.RunStates.{DeviceView, RunState};
     ghost use Rattle.sled_log.specs.RunPhases.{StandsAt, view_by};
 
     /// Closes the log that is open, if one is, and returns the device. What isn't durable is lost. It takes no memory.
     pub fn end(self) -> D
-        ensures device { let view = view_by D.trace D.faults D.is_stopped D.stops_in in
+        ensures device { let view = view_by D.trace D.faults D.is_stopped in
             (a : RunState) → StandsAt view C.sum_of self a → a.device ≡ view result }
+        ensures over { let view = view_by D.trace D.faults D.is_stopped in
+            (on : Bool) (device : DeviceView) → StandsOver view self on device → device ≡ view result }
     {
         let Session { alloc: _, phase } = self;
         let phase = phase.unwrap();

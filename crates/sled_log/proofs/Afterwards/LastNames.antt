@@ -8,7 +8,7 @@ use Rattle.sled_codec.specs.declared.result.DiskPtr.TheVariants.{Blob}
 use Rattle.sled_codec.specs.History.{Message, History}
 use Rattle.sled_codec.specs.Snapshots.{SnapshotModel, stable_place}
 use Rattle.sled_store.specs.Blobs.{removing_blobs}
-use Rattle.sled_store.specs.Device.{Event, Wrote, Synced, BlobRemoved, SnapshotRemoved, LogState, NamesState, Temporary, State, log_step, step, renamed, unnamed, names_synced}
+use Rattle.sled_store.specs.Device.{Event, Wrote, Synced, BlobRemoved, SnapshotRemoved, LogState, NamesState, Temporary, State, log_step, placed_step, step, renamed, unnamed, names_synced, Placement}
 use Rattle.sled_store.specs.Durable.{IsSettledName}
 use Rattle.sled_store.proofs.Crashes.ForeignLemmas.{before_knows}
 use Rattle.sled_store.proofs.Crashes.LeavesLemmas.{remove_blob}
@@ -60,7 +60,7 @@ module _ (sum : List ℕ → ℕ) (size : ℕ) (H : History) (f cut : ℕ) (Allo
 
   -- The snapshots are those that recovery read, and their names are settled, as those of blobs are.
   module _ (blobs names : NamesState) (stand : BlobsStand sum H cut blobs) (items : KeepsEntries sum blobs H cut) (firm : names_synced blobs ≡ blobs) (settled : (n : ℤ) → IsSettledName names n) (first : SnapshotModel) (tables : AreRecoverableSnapshots sum size names.file H f first) where
-    abbrev device : LogState → Temporary → List (ℕ × List ℕ) → State
+    abbrev device : LogState → Temporary → List Placement → State
     device log temporary placed = record { log = log; blobs = blobs; snapshots = names; temporary = temporary; placed = placed }
 
     -- A table is published, and others are removed.
@@ -76,7 +76,7 @@ module _ (sum : List ℕ → ℕ) (size : ℕ) (H : History) (f cut : ℕ) (Allo
       removals_end (m ∷ ns) apart t is there keeps =
           removals_end ns (λ n at. apart n (in_rest m n ns at)) (step (SnapshotRemoved m true) t) (published_removed t.snapshots (pos cut) bytes names.file m (apart m (in_first m ns)) is) there keeps
 
-      publishing_end : (ns : List ℤ) → ((n : ℤ) → Contains ns n → n ≢ pos cut) → (log : LogState) (temporary : Temporary) (placed : List (ℕ × List ℕ)) → Ends (publishing_file bytes (pos cut) ++ (removing ns ++ es)) (device log temporary placed)
+      publishing_end : (ns : List ℤ) → ((n : ℤ) → Contains ns n → n ≢ pos cut) → (log : LogState) (temporary : Temporary) (placed : List Placement) → Ends (publishing_file bytes (pos cut) ++ (removing ns ++ es)) (device log temporary placed)
       publishing_end ns apart log temporary placed =
           removals_end ns apart (record { log = log; blobs = names_synced blobs; snapshots = names_synced named; temporary = record { bytes = bytes; asked = bytes }; placed = placed })
           (published_synced names (pos cut) bytes settled) (subst (BlobsStand sum H cut) (sym firm) stand) (subst (λ (s : NamesState). KeepsEntries sum s H cut) (sym firm) items)
@@ -90,7 +90,7 @@ module _ (sum : List ℕ → ℕ) (size : ℕ) (H : History) (f cut : ℕ) (Allo
       forgets : (t : State) → NamesEnd t → Ends forget t
       forgets t end = zeroing_end x.unread (removing_blobs places) (removing_end lie places above) t end
 
-      commits : (b : Bool) → x.is_new ≡ b → (log : LogState) (temporary : Temporary) (placed : List (ℕ × List ℕ)) → Ends ((if b then publishing sum x.model ns else []) ++ forget) (device log temporary placed)
+      commits : (b : Bool) → x.is_new ≡ b → (log : LogState) (temporary : Temporary) (placed : List Placement) → Ends ((if b then publishing sum x.model ns else []) ++ forget) (device log temporary placed)
       commits false is_old log temporary placed = forgets (device log temporary placed) (record { begin = settled_begin sum size H f Allowed names settled first tables (kept is_old); stand = stand; items = items })
       commits true is_new log temporary placed =
           let table = made is_new in
@@ -98,13 +98,13 @@ module _ (sum : List ℕ → ℕ) (size : ℕ) (H : History) (f cut : ℕ) (Allo
           subst (λ (k : ℤ). Ends (publishing_file (short_file sum x.model) k ++ (removing ns ++ forget)) (device log temporary placed)) (sym number)
           (publishing_end x.model table (allowed is_new) not_above forget forgets ns (apart is_new) log temporary placed)
 
-      fills : (r : Option (ℕ × ℕ)) (es : List Event) → ((log : LogState) (placed : List (ℕ × List ℕ)) (temporary : Temporary) → Ends es (device log temporary placed)) → (log : LogState) (temporary : Temporary) (placed : List (ℕ × List ℕ)) → Ends (shredding r ++ es) (device log temporary placed)
+      fills : (r : Option (ℕ × ℕ)) (es : List Event) → ((log : LogState) (placed : List Placement) (temporary : Temporary) → Ends es (device log temporary placed)) → (log : LogState) (temporary : Temporary) (placed : List Placement) → Ends (shredding r ++ es) (device log temporary placed)
       fills None es rest log temporary placed = rest log placed temporary
       fills (Some t) es rest log temporary placed =
           let zeros : List ℕ = replicate t.1 0 in
-          rest (log_step Synced (log_step (Wrote t.0 zeros zeros) log)) ((t.0, zeros) ∷ placed) temporary
+          rest (log_step Synced (log_step (Wrote t.0 zeros zeros) log)) (placed_step Synced (log_step (Wrote t.0 zeros zeros) log) (placed_step (Wrote t.0 zeros zeros) log placed)) temporary
 
-      pub writing_end : (log : LogState) (temporary : Temporary) (placed : List (ℕ × List ℕ)) → Ends (writing_back sum size x ns places) (device log temporary placed)
+      pub writing_end : (log : LogState) (temporary : Temporary) (placed : List Placement) → Ends (writing_back sum size x ns places) (device log temporary placed)
       writing_end log temporary placed =
           let publish : List Event = if x.is_new then publishing sum x.model ns else [] in
           subst (λ (es : List Event). Ends es (device log temporary placed)) (sym (append_assoc (shredding x.shred_range) publish forget))

@@ -7,7 +7,7 @@ use Rattle.sled_codec.specs.declared.serialization.message.MessageKind.{MessageK
 use Rattle.sled_codec.specs.History.{Message, History, CutFits}
 use Rattle.sled_codec.specs.Snapshots.{stable_place}
 use Rattle.sled_store.specs.Blobs.{IsBlob, removing_blobs}
-use Rattle.sled_store.specs.Device.{BlobRemoved, NamesState, Temporary, State, at_rest, unnamed, renamed, settled_files, LeavesName}
+use Rattle.sled_store.specs.Device.{BlobRemoved, NamesState, Temporary, State, at_rest, unnamed, renamed, settled_files, LeavesName, Placement}
 use Rattle.sled_store.specs.Foreign.{NoForeignNames}
 use Rattle.sled_store.specs.Script.{Along}
 use Rattle.sled_store.proofs.Crashes.ForeignLemmas.{NamesKnow, before_knows}
@@ -83,11 +83,11 @@ stand_gone sum size H cut blobs p knows above placed stand left leaves own_left 
 
 module _ (sum : List ℕ → ℕ) (size : ℕ) (H : History) (A f : ℕ) (orderly : IsOrderly H) (cut : ℕ × Option ℕ) where
   module _ (names : NamesState) (temporary : Temporary) (some : 256 ≤ size) (fits : CutFits H cut.0) (none : NoHeaderOfZeros sum) (begin : NamesBegin sum size H f (λ s. stable_place s.stable ≡ cut.0) names) where
-    abbrev device : NamesState → List ℕ → List (ℕ × List ℕ) → State
+    abbrev device : NamesState → List ℕ → List Placement → State
     device blobs log placed = record { log = at_rest log; blobs = blobs; snapshots = names; temporary = temporary; placed = placed }
 
     pub removing_along : (places : List ℤ) → ((p : ℤ) → Contains places p → IsAbove cut.0 p) → (blobs : NamesState) → BlobsStand sum H cut.0 blobs
-        → (log : List ℕ) (placed : List (ℕ × List ℕ)) → StopsAtCut sum size log some H A cut → Along (LeavesReadable sum size H A f) (removing_blobs places) (device blobs log placed)
+        → (log : List ℕ) (placed : List Placement) → StopsAtCut sum size log some H A cut → Along (LeavesReadable sum size H A f) (removing_blobs places) (device blobs log placed)
     removing_along [] above blobs stand log placed stops = stops_readable sum size H A f orderly cut blobs names temporary stand some fits none begin log placed stops
     removing_along (p ∷ ps) above blobs stand log placed stops =
         let knows : NamesKnow blobs (unnamed blobs p true) = (before_knows (BlobRemoved p true) (device blobs log placed) (remove_blob p)).blobs in
@@ -96,7 +96,7 @@ module _ (sum : List ℕ → ℕ) (size : ℕ) (H : History) (A f : ℕ) (orderl
         (stand_gone sum size H cut.0 blobs p knows (above p (in_first p ps)) stops.parts.placed stand) log placed stops)
 
     -- All that is taken away.
-    pub forgetting_along : (blobs : NamesState) → BlobsStand sum H cut.0 blobs → (unread log : List ℕ) (placed : List (ℕ × List ℕ)) → AreFree sum size log cut.0 unread → StopsAtCut sum size log some H A cut
+    pub forgetting_along : (blobs : NamesState) → BlobsStand sum H cut.0 blobs → (unread log : List ℕ) (placed : List Placement) → AreFree sum size log cut.0 unread → StopsAtCut sum size log some H A cut
         → (places : List ℤ) → ((p : ℤ) → Contains places p → IsAbove cut.0 p) → Along (LeavesReadable sum size H A f) (forgetting size unread places) (device blobs log placed)
     forgetting_along blobs stand unread log placed are_free stops places above =
         zeroing_along sum size H A f orderly cut blobs names temporary stand some fits none begin unread log placed are_free stops (removing_blobs places)

@@ -4,7 +4,7 @@ use Rattle.sled_codec.specs.declared.serialization.message.MessageKind.{MessageK
 use Rattle.sled_codec.specs.History.{History, CutFits}
 use Rattle.sled_codec.specs.Snapshots.{SnapshotModel, stable_place}
 use Rattle.sled_store.specs.Blobs.{IsBlob}
-use Rattle.sled_store.specs.Device.{Event, Wrote, Synced, LogState, NamesState, Temporary, State, Content, step, at_rest, overwritten, LeavesLog, LeavesName}
+use Rattle.sled_store.specs.Device.{Event, Wrote, Synced, LogState, NamesState, Temporary, State, Content, step, at_rest, overwritten, settled_again, LeavesLog, LeavesName, Placement}
 use Rattle.sled_store.specs.Foreign.{NoForeignLog, NoForeignNames}
 use Rattle.sled_store.specs.Script.{Along}
 use Rattle.sled_store.specs.SnapshotFiles.{IsSnapshotFile}
@@ -30,7 +30,7 @@ NamesBegin sum size H f Allowed names =
     (left : ℤ → Option (List ℕ)) → ((n : ℤ) → LeavesName names n (left n)) → NoForeignNames (λ bytes. (s : SnapshotModel) × IsSnapshotFile sum bytes s) names left
     → (first : SnapshotModel) × AreRecoverableSnapshots sum size left H f first × Allowed first
 
-abbrev pub LogStands : (List ℕ → ℕ) → ℕ → History → ℕ → ℕ × Option ℕ → (SnapshotModel → Type 0) → LogState → List (ℕ × List ℕ) → Type 0
+abbrev pub LogStands : (List ℕ → ℕ) → ℕ → History → ℕ → ℕ × Option ℕ → (SnapshotModel → Type 0) → LogState → List Placement → Type 0
 LogStands sum size H A cut Allowed log placed =
     (left : List ℕ) → LeavesLog log left → NoForeignLog sum size log placed left
     → (first : SnapshotModel) → ActiveFits size (stable_place first.stable) first.active → Allowed first → IsRecoverableLog sum size left H A first cut
@@ -77,13 +77,20 @@ module _ (sum : List ℕ → ℕ) (size : ℕ) (H : History) (A f : ℕ) where
 
     module _ (blobs names : NamesState) (temporary : Temporary) (stand : BlobsStand sum H cut.0 blobs) where
       -- the device, with a log file that is at rest
-      abbrev pub here : List ℕ → List (ℕ × List ℕ) → State
+      abbrev pub here : List ℕ → List Placement → State
       here log placed = record { log = at_rest log; blobs = blobs; snapshots = names; temporary = temporary; placed = placed }
 
+      -- zeros that were asked to be written, and then a sync
+      abbrev zeros_at : ℕ → ℕ → Placement
+      zeros_at at count = record { at = at; bytes = replicate count 0; since = [] }
+
+      abbrev with_zeros : List ℕ → ℕ → ℕ → List Placement → List Placement
+      with_zeros log at count placed = settled_again (overwritten log at (replicate count 0)) (zeros_at at count ∷ placed)
+
       -- Zeros are written, and synced, and then other calls are made.
-      filled_along : (Allowed : SnapshotModel → Type 0) → NamesBegin sum size H f Allowed names → (log : List ℕ) (placed : List (ℕ × List ℕ)) (at count : ℕ)
-          → LogStands sum size H A cut Allowed (after_write log at (replicate count 0) (replicate count 0)) ((at, replicate count 0) ∷ placed)
-          → (es : List Event) → Along P es (here (overwritten log at (replicate count 0)) ((at, replicate count 0) ∷ placed)) → Along P (Wrote at (replicate count 0) (replicate count 0) ∷ Synced ∷ es) (here log placed)
+      filled_along : (Allowed : SnapshotModel → Type 0) → NamesBegin sum size H f Allowed names → (log : List ℕ) (placed : List Placement) (at count : ℕ)
+          → LogStands sum size H A cut Allowed (after_write log at (replicate count 0) (replicate count 0)) (zeros_at at count ∷ placed)
+          → (es : List Event) → Along P es (here (overwritten log at (replicate count 0)) (with_zeros log at count placed)) → Along P (Wrote at (replicate count 0) (replicate count 0) ∷ Synced ∷ es) (here log placed)
       filled_along Allowed begin log placed at count stands es rest =
           let wrote : Event = Wrote at (replicate count 0) (replicate count 0) in
           along_call wrote (Synced ∷ es) (here log placed) (write at (replicate count 0))
@@ -92,8 +99,8 @@ module _ (sum : List ℕ → ℕ) (size : ℕ) (H : History) (A f : ℕ) where
       module _ (some : 256 ≤ size) (fits : CutFits H cut.0) (none : NoHeaderOfZeros sum) where
         -- The rest of the segment of the cut, under the snapshot that recovery began from.
         module _ (first : SnapshotModel) (begin : NamesBegin sum size H f (λ s. s ≡ first) names) (log : List ℕ) (is : IsRecoverableLog sum size log H A first cut) (active : ActiveFits size (stable_place first.stable) first.active) where
-          pub shredding_along : (placed : List (ℕ × List ℕ)) (es : List Event)
-              → ((new : List ℕ) (all : List (ℕ × List ℕ)) → IsShredded sum size log some H A first cut is fits active (at_rest new) → Along P es (here new all)) → Along P (shredding (shred_range_of size cut.0 cut.1) ++ es) (here log placed)
+          pub shredding_along : (placed : List Placement) (es : List Event)
+              → ((new : List ℕ) (all : List Placement) → IsShredded sum size log some H A first cut is fits active (at_rest new) → Along P es (here new all)) → Along P (shredding (shred_range_of size cut.0 cut.1) ++ es) (here log placed)
           shredding_along placed es rest = by cut.1 refl where
             by : (o : Option ℕ) → cut.1 ≡ o → Along P (shredding (shred_range_of size cut.0 o) ++ es) (here log placed)
             by None no_slot = rest log placed (full sum size log some H A first cut is fits active no_slot)
@@ -104,25 +111,25 @@ module _ (sum : List ℕ → ℕ) (size : ℕ) (H : History) (A f : ℕ) where
                 filled_along (λ s. s ≡ first) begin log placed at count
                 (λ left leaves own s fits_s same.
                 subst (λ (t : SnapshotModel). IsRecoverableLog sum size left H A t cut) (sym same)
-                (zeros_left sum size log some H A first cut is fits active slot has_slot at count refl (omega (arith, some)) zeros left (omega arith) leaves ((at, zeros) ∷ placed) own none))
-                es (rest (overwritten log at zeros) ((at, zeros) ∷ placed) (filled sum size log some H A first cut is fits active slot has_slot))
+                (zeros_left sum size log some H A first cut is fits active slot has_slot at count refl (omega (arith, some)) zeros left (omega arith) leaves (zeros_at at count ∷ placed) own none))
+                es (rest (overwritten log at zeros) (with_zeros log at count placed) (filled sum size log some H A first cut is fits active slot has_slot))
 
         -- The slots that were not read, under any snapshot that has the cut for its place.
         module _ (begin : NamesBegin sum size H f (λ s. stable_place s.stable ≡ cut.0) names) where
           -- before and behind all of them
-          pub stops_readable : (log : List ℕ) (placed : List (ℕ × List ℕ)) → StopsAtCut sum size log some H A cut → P (here log placed)
+          pub stops_readable : (log : List ℕ) (placed : List Placement) → StopsAtCut sum size log some H A cut → P (here log placed)
           stops_readable log placed stops =
               parts_readable (λ s. stable_place s.stable ≡ cut.0) (here log placed)
               (λ left leaves own s active place. subst (λ (l : List ℕ). IsRecoverableLog sum size l H A s cut) (sym (at_rest_left log left leaves)) (recoverable_at sum size log some H A cut stops fits s place active)) begin stand
 
-          pub zeroing_along : (slots log : List ℕ) (placed : List (ℕ × List ℕ)) → AreFree sum size log cut.0 slots → StopsAtCut sum size log some H A cut
-              → (es : List Event) → ((all : List (ℕ × List ℕ)) → Along P es (here (after_zeroing size slots (at_rest log)).bytes all)) → Along P (zeroing size slots ++ es) (here log placed)
+          pub zeroing_along : (slots log : List ℕ) (placed : List Placement) → AreFree sum size log cut.0 slots → StopsAtCut sum size log some H A cut
+              → (es : List Event) → ((all : List Placement) → Along P es (here (after_zeroing size slots (at_rest log)).bytes all)) → Along P (zeroing size slots ++ es) (here log placed)
           zeroing_along [] log placed are_free stops es rest = rest placed
           zeroing_along (slot ∷ slots) log placed are_free stops es rest =
               let zeros : List ℕ = replicate size 0 in
               let is_free = are_free slot (in_first slot slots) in
               filled_along (λ s. stable_place s.stable ≡ cut.0) begin log placed slot size
-              (λ left leaves own s active place. zeroing_left sum size log some H A cut stops fits s place active none slot is_free zeros left (omega arith) leaves ((slot, zeros) ∷ placed) own) (zeroing size slots ++ es)
-              (zeroing_along slots (overwritten log slot zeros) ((slot, zeros) ∷ placed)
+              (λ left leaves own s active place. zeroing_left sum size log some H A cut stops fits s place active none slot is_free zeros left (omega arith) leaves (zeros_at slot size ∷ placed) own) (zeroing size slots ++ es)
+              (zeroing_along slots (overwritten log slot zeros) (with_zeros log slot size placed)
               (λ other there. still_free sum size log some none H cut.0 slot other is_free (are_free other (in_rest slot other slots there)))
               (one_zeroed sum size log some H A cut stops none slot is_free) es rest)

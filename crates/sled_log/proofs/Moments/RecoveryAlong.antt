@@ -5,7 +5,7 @@ use Rattle.std.specs.Option.{unwrap_or}
 use Rattle.sled_codec.specs.History.{History, CutFits}
 use Rattle.sled_codec.specs.PageTables.{IsTable}
 use Rattle.sled_codec.specs.Snapshots.{SnapshotModel, stable_place}
-use Rattle.sled_store.specs.Device.{Event, State, Synced, NamesSynced, Content, Trace, state_of, content_of, step, names_synced}
+use Rattle.sled_store.specs.Device.{Event, State, Synced, NamesSynced, Content, Trace, state_of, content_of, step, names_synced, settled_again}
 use Rattle.sled_store.specs.Durable.{IsSettledName}
 use Rattle.sled_store.specs.Blobs.{MayGo}
 use Rattle.sled_store.specs.Moments.{Throughout}
@@ -109,7 +109,7 @@ module _ (sum : List ℕ → ℕ) (size : ℕ) (H : History) (A f : ℕ) (some :
         writing_along sum size H A f can.orderly can.cut some (cut_fits sum size (content_of (state_of old)) H A f some can x well) own.zeros
             (names_synced (state_of old).blobs) (stand_synced sum size H A f old kept own can) (synced_twice (state_of old).blobs)
             (names_synced (state_of old).snapshots) settled_names can.first can.snapshots (state_of old).log.bytes can.log x (concluded sum size (content_of (state_of old)) H A f some can x well fits)
-            (state_of old).temporary (state_of old).placed ns apart places above,
+            (state_of old).temporary (settled_again (state_of old).log.bytes (state_of old).placed) ns apart places above,
       ),
     )
 
@@ -125,7 +125,8 @@ module _ (sum : List ℕ → ℕ) (size : ℕ) (H : History) (A f : ℕ) (some :
             (sym (shreds sum size (content_of (state_of old)) H A f some can x well))
             (filling_along sum size H A f can.orderly can.cut some (cut_fits sum size (content_of (state_of old)) H A f some can x well) own.zeros
             (names_synced (state_of old).blobs) (stand_synced sum size H A f old kept own can) (synced_twice (state_of old).blobs)
-            (names_synced (state_of old).snapshots) settled_names can.first can.snapshots (state_of old).log.bytes can.log (state_of old).temporary (state_of old).placed),
+            (names_synced (state_of old).snapshots) settled_names can.first can.snapshots (state_of old).log.bytes can.log (state_of old).temporary
+            (settled_again (state_of old).log.bytes (state_of old).placed)),
       ),
     )
 

@@ -2,7 +2,7 @@
 use Rattle.std.proofs.Common.{◌≡◌, ◌+◌, ◌%◌, ◌≤◌, ℕ, List, length, replicate, Option, Some, None}
 use Rattle.sled_codec.specs.History.{History, CutFits}
 use Rattle.sled_codec.specs.Snapshots.{SnapshotModel, stable_place}
-use Rattle.sled_store.specs.Device.{LeavesLog, overwritten}
+use Rattle.sled_store.specs.Device.{LeavesLog, overwritten, Placement}
 use Rattle.sled_store.specs.Foreign.{NoForeignLog}
 use Rattle.sled_core.specs.declared.iterator.Segment.{Segment}
 use Rattle.sled_core.specs.Recoverable.{ActiveFits, NoHeaderOfZeros, IsRecoverableLog}
@@ -21,7 +21,7 @@ module _ (sum : List ℕ → ℕ) (size : ℕ) (old : List ℕ) (some : 256 ≤ 
   module _ (slot : ℕ) (has_slot : cut.1 ≡ Some slot) (at count : ℕ) (from_cut : at ≡ slot + cut.0 % size) where
     -- Zeros are written behind the cut, and a crash comes.
     pub zeros_left : at + count ≤ slot + size → (now left : List ℕ) → length now ≤ length (replicate {A = ℕ} count 0) → LeavesLog (after_write old at (replicate count 0) now) left
-        → (placed : List (ℕ × List ℕ)) → NoForeignLog sum size (after_write old at (replicate count 0) now) placed left → NoHeaderOfZeros sum → IsRecoverableLog sum size left H A first cut
+        → (placed : List Placement) → NoForeignLog sum size (after_write old at (replicate count 0) now) placed left → NoHeaderOfZeros sum → IsRecoverableLog sum size left H A first cut
     zeros_left to_end now left no_more leaves placed only_own none =
         let its = cut_segment sum size old some H A first cut is active slot has_slot in
         zeros_behind_cut sum size old some H A first cut is fits slot has_slot its.0 its.1 its.2 its.3 at count from_cut to_end now left no_more leaves only_own none
@@ -46,7 +46,7 @@ module _ (sum : List ℕ → ℕ) (size : ℕ) (old : List ℕ) (some : 256 ≤ 
 
   -- Zeros are written over a slot in which no segment below the cut lies, under a snapshot with the cut for its place, and a crash comes.
   module _ (next : SnapshotModel) (place : stable_place next.stable ≡ cut.0) (as_cut : next.active ≡ cut.1) (at count : ℕ) (now left : List ℕ) (no_more : length now ≤ length (replicate {A = ℕ} count 0))
-      (leaves : LeavesLog (after_write old at (replicate count 0) now) left) {placed : List (ℕ × List ℕ)} (only_own : NoForeignLog sum size (after_write old at (replicate count 0) now) placed left) (none : NoHeaderOfZeros sum)
+      (leaves : LeavesLog (after_write old at (replicate count 0) now) left) {placed : List Placement} (only_own : NoForeignLog sum size (after_write old at (replicate count 0) now) placed left) (none : NoHeaderOfZeros sum)
       (slot : ℕ) (slot_at : slot % size ≡ 0) (begin : slot ≤ at) (end : at + count ≤ slot + size) (free : (s : Segment) → IsFoundSegment sum size old 0 s → s.slot ≡ slot → cut.0 ≤ s.place) where
     -- where the reading of the segment of the cut ends at the cut
     pub unread_left : (z : Scanned) → EndsAtCut sum size old some is.scanned cut z → IsRecoverableLog sum size left H A next cut

@@ -8,8 +8,9 @@ use Rattle.sled_codec.specs.History.{Message, History, table, CutFits}
 use Rattle.sled_codec.specs.Places.{part}
 use Rattle.sled_codec.specs.Record.{IsHeader}
 use Rattle.sled_codec.specs.Snapshots.{SnapshotModel, stable_place}
-use Rattle.sled_store.specs.Device.{LeavesLog}
-use Rattle.sled_store.specs.Foreign.{at_first, NoForeignLog}
+use Rattle.sled_store.specs.Device.{LeavesLog, Placement}
+use Rattle.sled_store.specs.Foreign.{NoForeignLog}
+use Rattle.sled_store.specs.Readers.{at_start}
 use Rattle.sled_store.proofs.Segments.Elements.{in_first, in_rest, in_cases, in_nothing, in_filter, from_filter}
 use Rattle.sled_store.proofs.Segments.TableEntries.{from_table}
 use Rattle.sled_core.specs.declared.iterator.Segment.{Segment}
@@ -41,7 +42,7 @@ rises_kept p (s ∷ ss) rises = by (p s) (rises_kept p ss rises.1) where
 
 module _ (sum : List ℕ → ℕ) (size : ℕ) (old : List ℕ) (some : 256 ≤ size) (H : History) (A : ℕ) (cut : ℕ × Option ℕ) (o : IsOfCut sum size old H A cut) (at count : ℕ) (now left : List ℕ)
     (no_more : length now ≤ length (replicate {A = ℕ} count 0)) (leaves : LeavesLog (after_write old at (replicate count 0) now) left)
-    {placed : List (ℕ × List ℕ)} (only_own : NoForeignLog sum size (after_write old at (replicate count 0) now) placed left) (none : NoHeaderOfZeros sum) where
+    {placed : List Placement} (only_own : NoForeignLog sum size (after_write old at (replicate count 0) now) placed left) (none : NoHeaderOfZeros sum) where
   -- A segment whose header stands is read again: what was met, or the beginning of it. Where the reading doesn't end for a record that is broken, all is as before.
   pub record IsReread (t y : Scanned) : Type 0 where
     pub segment : y.segment ≡ t.segment
@@ -79,7 +80,7 @@ module _ (sum : List ℕ → ℕ) (size : ℕ) (old : List ℕ) (some : 256 ≤ 
     y_scan = subst (λ n. IsScan sum size left n t.segment.place reads.found reads.stop reads.why) (sym here) (reads.path, reads.end)
 
     old_path : IsPath sum size old (k * size) t.segment.place 20 reads.found reads.stop
-    old_path = path_stood sum size old at count now left no_more leaves only_own k t.segment.place t.segment.mark header 20 reads.found reads.stop at_first reads.path
+    old_path = path_stood sum size old at count now left no_more leaves only_own k t.segment.place t.segment.mark header 20 reads.found reads.stop at_start reads.path
 
     same_as : IsEnd sum size old (k * size) t.segment.place reads.stop reads.why → y ≡ t
     same_as ended = one_scan sum size old y t refl (subst (λ n. IsScan sum size old n t.segment.place reads.found reads.stop reads.why) (sym here) (old_path, ended)) scan
@@ -87,7 +88,7 @@ module _ (sum : List ℕ → ℕ) (size : ℕ) (old : List ℕ) (some : 256 ≤ 
     by : (why : ScanEnd) → reads.why ≡ why → IsEnd sum size left (k * size) t.segment.place reads.stop why → (y ≡ t) ⊎ (reads.why ≡ Broken)
     by Full test full = inl (same_as (subst (λ (w : ScanEnd). IsEnd sum size old (k * size) t.segment.place reads.stop w) (sym test) full))
     by Capped test (room, (h, body, len, s, is_cap)) =
-        let comes = comes_on sum size old at count now left no_more leaves only_own k t.segment.place t.segment.mark header 20 reads.found reads.stop at_first reads.path in
+        let comes = comes_on sum size old at count now left no_more leaves only_own k t.segment.place t.segment.mark header 20 reads.found reads.stop at_start reads.path in
         let before = stood sum size old at count now left no_more leaves only_own k t.segment.place t.segment.mark header reads.stop comes (omega (arith, room)) h body len s in
         inl (same_as (subst (λ (w : ScanEnd). IsEnd sum size old (k * size) t.segment.place reads.stop w) (sym test) (room, (h, body, len, before, is_cap))))
     by Broken test broken = inr test

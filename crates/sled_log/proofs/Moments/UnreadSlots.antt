@@ -3,7 +3,7 @@ use Rattle.std.proofs.Common.{◌≡◌, ◌⊎◌, ◌∙◌, ◌%◌, ◌≤�
 use Rattle.std.specs.List.{Contains}
 use Rattle.sled_codec.specs.History.{History, CutFits}
 use Rattle.sled_codec.specs.Snapshots.{SnapshotModel, stable_place}
-use Rattle.sled_store.specs.Device.{LeavesLog, overwritten, at_rest}
+use Rattle.sled_store.specs.Device.{LeavesLog, overwritten, at_rest, Placement}
 use Rattle.sled_store.specs.Foreign.{NoForeignLog}
 use Rattle.sled_store.proofs.LogFile.OverwrittenLemmas.{length-overwritten}
 use Rattle.sled_store.proofs.Segments.Elements.{in_first, in_rest}
@@ -72,7 +72,7 @@ module _ (sum : List ℕ → ℕ) (size : ℕ) (old : List ℕ) (some : 256 ≤ 
 
     -- Zeros are written over a slot that is free, and a crash comes.
     pub zeroing_left : NoHeaderOfZeros sum → (slot : ℕ) → IsFree sum size old cut.0 slot → (now left : List ℕ) → length now ≤ length (replicate {A = ℕ} size 0) → LeavesLog (after_write old slot (replicate size 0) now) left
-        → (placed : List (ℕ × List ℕ)) → NoForeignLog sum size (after_write old slot (replicate size 0) now) placed left → IsRecoverableLog sum size left H A next cut
+        → (placed : List Placement) → NoForeignLog sum size (after_write old slot (replicate size 0) now) placed left → IsRecoverableLog sum size left H A next cut
     zeroing_left none slot is_free now left no_more leaves placed only_own = by stops.stops where
       by : StopsIn sum size old some H A cut stops.parts → IsRecoverableLog sum size left H A next cut
       by (inl (z, ends)) =

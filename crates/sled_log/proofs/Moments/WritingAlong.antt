@@ -5,7 +5,7 @@ use Rattle.std.specs.Option.{unwrap_or}
 use Rattle.std.proofs.lemmas.List.{append-nil, append_assoc}
 use Rattle.sled_codec.specs.History.{History, CutFits}
 use Rattle.sled_codec.specs.Snapshots.{SnapshotModel, stable_place}
-use Rattle.sled_store.specs.Device.{Event, SnapshotFilled, SnapshotPublished, SnapshotRemoved, NamesSynced, NamesState, Temporary, State, at_rest, unnamed, renamed, names_synced}
+use Rattle.sled_store.specs.Device.{Event, SnapshotFilled, SnapshotPublished, SnapshotRemoved, NamesSynced, NamesState, Temporary, State, at_rest, unnamed, renamed, names_synced, Placement}
 use Rattle.sled_store.specs.Durable.{IsSettledName}
 use Rattle.sled_store.specs.Script.{Along}
 use Rattle.sled_store.proofs.Crashes.LeavesLemmas.{fill, publish, remove_snapshot}
@@ -36,7 +36,7 @@ module _ (sum : List ℕ → ℕ) (size : ℕ) (H : History) (A f : ℕ) (orderl
   P = LeavesReadable sum size H A f
 
   -- the device, with a log file that is at rest
-  abbrev device : NamesState → Temporary → List ℕ → List (ℕ × List ℕ) → State
+  abbrev device : NamesState → Temporary → List ℕ → List Placement → State
   device names temporary log placed = record { log = at_rest log; blobs = blobs; snapshots = names; temporary = temporary; placed = placed }
 
   -- The snapshots are those that recovery read, and their names are settled.
@@ -61,14 +61,14 @@ module _ (sum : List ℕ → ℕ) (size : ℕ) (H : History) (A f : ℕ) (orderl
       under t active (inr at) = recoverable_at sum size log some H A cut stops fits t at active
 
       -- the others are removed
-      removals_along : (es : List Event) (ns : List ℤ) (now : NamesState) (placed : List (ℕ × List ℕ)) → ((n : ℤ) → Contains ns n → n ≢ pos cut.0) → IsPublished now names.file (pos cut.0) bytes
+      removals_along : (es : List Event) (ns : List ℤ) (now : NamesState) (placed : List Placement) → ((n : ℤ) → Contains ns n → n ≢ pos cut.0) → IsPublished now names.file (pos cut.0) bytes
           → ((last : NamesState) → IsPublished last names.file (pos cut.0) bytes → Along P es (device last filled log placed)) → Along P (removing ns ++ es) (device now filled log placed)
       removals_along es [] now placed apart is rest = rest now is
       removals_along es (m ∷ ns) now placed apart is rest =
           along_call sum size H A f (SnapshotRemoved m true) (removing ns ++ es) (device now filled log placed) (remove_snapshot m)
           (removals_along es ns (unnamed now m true) placed (λ n there. apart n (in_rest m n ns there)) (published_removed now (pos cut.0) bytes names.file m (apart m (in_first m ns)) is) rest)
 
-      pub publishing_along : (es : List Event) (ns : List ℤ) (temporary : Temporary) (placed : List (ℕ × List ℕ)) → ((n : ℤ) → Contains ns n → n ≢ pos cut.0)
+      pub publishing_along : (es : List Event) (ns : List ℤ) (temporary : Temporary) (placed : List Placement) → ((n : ℤ) → Contains ns n → n ≢ pos cut.0)
           → ((last : NamesState) → NamesBegin sum size H f (λ t. stable_place t.stable ≡ cut.0) last → Along P es (device last filled log placed))
           → Along P (publishing_file bytes (pos cut.0) ++ (removing ns ++ es)) (device names temporary log placed)
       publishing_along es ns temporary placed apart rest =
@@ -84,7 +84,7 @@ module _ (sum : List ℕ → ℕ) (size : ℕ) (H : History) (A f : ℕ) (orderl
           ))
 
     -- All calls that write it back.
-    pub writing_along : (log : List ℕ) (is : IsRecoverableLog sum size log H A first cut) (x : RecoveryResult) → IsConcluded sum size H first cut log x → (temporary : Temporary) (placed : List (ℕ × List ℕ))
+    pub writing_along : (log : List ℕ) (is : IsRecoverableLog sum size log H A first cut) (x : RecoveryResult) → IsConcluded sum size H first cut log x → (temporary : Temporary) (placed : List Placement)
         → (ns : List ℤ) → (x.is_new ≡ true → (n : ℤ) → Contains ns n → n ≢ pos cut.0) → (places : List ℤ) → ((p : ℤ) → Contains places p → IsAbove cut.0 p)
         → Along P (writing_back sum size x ns places) (device names temporary log placed)
     writing_along log is x concluded temporary placed ns apart places above =
@@ -99,11 +99,11 @@ module _ (sum : List ℕ → ℕ) (size : ℕ) (H : History) (A f : ℕ) (orderl
         Shredded : List ℕ → Type 0
         Shredded new = IsShredded sum size log some H A first cut is fits tables.active (at_rest new)
 
-        forgets : (new : List ℕ) (all : List (ℕ × List ℕ)) → Shredded new → (last : NamesState) (other : Temporary) → NamesBegin sum size H f (λ t. stable_place t.stable ≡ cut.0) last → Along P forget (device last other new all)
+        forgets : (new : List ℕ) (all : List Placement) → Shredded new → (last : NamesState) (other : Temporary) → NamesBegin sum size H f (λ t. stable_place t.stable ≡ cut.0) last → Along P forget (device last other new all)
         forgets new all shredded last other begin =
             forgetting_along sum size H A f orderly cut last other some fits none begin blobs stand x.unread new all (λ slot there. shredded.free slot (concluded.unread slot there)) shredded.stops places above
 
-        by : (new : List ℕ) (all : List (ℕ × List ℕ)) → Shredded new → (b : Bool) → x.is_new ≡ b → Along P ((if b then publishing sum x.model ns else []) ++ forget) (device names temporary new all)
+        by : (new : List ℕ) (all : List Placement) → Shredded new → (b : Bool) → x.is_new ≡ b → Along P ((if b then publishing sum x.model ns else []) ++ forget) (device names temporary new all)
         by new all shredded false is_old = forgets new all shredded names temporary (settled_begin sum size H f (λ t. stable_place t.stable ≡ cut.0) names settled first tables (concluded.kept is_old))
         by new all shredded true is_new =
             let table = concluded.made is_new in
@@ -112,14 +112,14 @@ module _ (sum : List ℕ → ℕ) (size : ℕ) (H : History) (A f : ℕ) (orderl
             (publishing_along x.model table is.not_below new shredded.same_cut shredded.stops forget ns temporary all (apart is_new) (λ last begin. forgets new all shredded last _ begin))
 
     -- Nothing was written.
-    pub settled_readable : (log : List ℕ) → IsRecoverableLog sum size log H A first cut → (temporary : Temporary) (placed : List (ℕ × List ℕ)) → P (device names temporary log placed)
+    pub settled_readable : (log : List ℕ) → IsRecoverableLog sum size log H A first cut → (temporary : Temporary) (placed : List Placement) → P (device names temporary log placed)
     settled_readable log is temporary placed =
         parts_readable sum size H A f orderly cut (λ t. t ≡ first) (device names temporary log placed)
         (λ left leaves own_left t active same. subst (λ (l : List ℕ). IsRecoverableLog sum size l H A t cut) (sym (at_rest_left log left leaves)) (subst (λ (u : SnapshotModel). IsRecoverableLog sum size log H A u cut) (sym same) is))
         (settled_begin sum size H f (λ t. t ≡ first) names settled first tables refl) stand
 
     -- The rest of the segment of the cut is filled, and that is all.
-    pub filling_along : (log : List ℕ) → IsRecoverableLog sum size log H A first cut → (temporary : Temporary) (placed : List (ℕ × List ℕ)) → Along P (shredding (shred_range_of size cut.0 cut.1)) (device names temporary log placed)
+    pub filling_along : (log : List ℕ) → IsRecoverableLog sum size log H A first cut → (temporary : Temporary) (placed : List Placement) → Along P (shredding (shred_range_of size cut.0 cut.1)) (device names temporary log placed)
     filling_along log is temporary placed =
         subst (λ (es : List Event). Along P es (device names temporary log placed)) (append-nil (shredding (shred_range_of size cut.0 cut.1)))
         (shredding_along sum size H A f orderly cut blobs names temporary stand some fits none first (settled_begin sum size H f (λ t. t ≡ first) names settled first tables refl) log is tables.active placed []

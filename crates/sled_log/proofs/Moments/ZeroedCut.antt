@@ -10,8 +10,9 @@ use Rattle.sled_codec.specs.Places.{part}
 use Rattle.sled_codec.specs.Pointers.{lid_of}
 use Rattle.sled_codec.specs.Record.{IsHeader}
 use Rattle.sled_codec.specs.Snapshots.{SnapshotModel}
-use Rattle.sled_store.specs.Device.{LeavesLog}
-use Rattle.sled_store.specs.Foreign.{at_first, NoForeignLog}
+use Rattle.sled_store.specs.Device.{LeavesLog, Placement}
+use Rattle.sled_store.specs.Foreign.{NoForeignLog}
+use Rattle.sled_store.specs.Readers.{at_start}
 use Rattle.sled_store.proofs.Segments.Elements.{in_first, in_cases, in_nothing}
 use Rattle.sled_store.proofs.Segments.TableEntries.{from_table}
 use Rattle.sled_core.specs.declared.iterator.Segment.{Segment}
@@ -160,7 +161,7 @@ module _ (sum : List ℕ → ℕ) (size : ℕ) (old : List ℕ) (some : 256 ≤ 
             message_moved sum size old left lid (m.place / size) m (kept sum size old at count now left no_more leaves lid m.size there apart) (omega (arith, there, long)) stands
         stands_left o s (Blob lid place) pointer offset beside stands = tt
 
-    module _ {placed : List (ℕ × List ℕ)} (only_own : NoForeignLog sum size (after_write old at (replicate count 0) now) placed left) (none : NoHeaderOfZeros sum) where
+    module _ {placed : List Placement} (only_own : NoForeignLog sum size (after_write old at (replicate count 0) now) placed left) (none : NoHeaderOfZeros sum) where
       -- Other segments.
 
       others : (t : Scanned) → Contains is.scanned t → t.segment.place ≢ z.segment.place → IsScanned sum size left t
@@ -217,14 +218,14 @@ module _ (sum : List ℕ → ℕ) (size : ℕ) (old : List ℕ) (some : 256 ≤ 
           (λ u at_u. is.truth z u its.there (subst (λ (l : List ScannedRecord). Contains l u) (sym reads.whole) (Contains-append_left reads.found reads.rest u at_u))) x met
 
       old_path : IsPath sum size old (k * size) z.segment.place 20 reads.found reads.stop
-      old_path = path_stood sum size old at count now left no_more leaves only_own k z.segment.place z.segment.mark header 20 reads.found reads.stop at_first reads.path
+      old_path = path_stood sum size old at count now left no_more leaves only_own k z.segment.place z.segment.mark header 20 reads.found reads.stop at_start reads.path
 
       -- where it doesn't end for a record that is broken, it ended so before
       old_end : (why : ScanEnd) → IsEnd sum size left (k * size) z.segment.place reads.stop why → (why ≡ Broken) ⊎ IsEnd sum size old (k * size) z.segment.place reads.stop why
       unfolding EndsThere
       old_end Full full = inr full
       old_end Capped (room, (h, body, len, s, is_cap)) =
-          let comes = comes_on sum size old at count now left no_more leaves only_own k z.segment.place z.segment.mark header 20 reads.found reads.stop at_first reads.path in
+          let comes = comes_on sum size old at count now left no_more leaves only_own k z.segment.place z.segment.mark header 20 reads.found reads.stop at_start reads.path in
           inr (room, (h, body, len, stood sum size old at count now left no_more leaves only_own k z.segment.place z.segment.mark header reads.stop comes (omega (arith, room)) h body len s, is_cap))
       old_end Broken broken = inl refl
 

@@ -5,8 +5,9 @@ use Rattle.std.proofs.lemmas.Bool.{cases_eq, cases_order}
 use Rattle.sled_codec.specs.History.{History}
 use Rattle.sled_codec.specs.Places.{part}
 use Rattle.sled_codec.specs.Record.{IsHeader}
-use Rattle.sled_store.specs.Device.{LeavesLog}
-use Rattle.sled_store.specs.Foreign.{IsReached, at_first, NoForeignLog}
+use Rattle.sled_store.specs.Device.{LeavesLog, Placement}
+use Rattle.sled_store.specs.Foreign.{NoForeignLog}
+use Rattle.sled_store.specs.Readers.{ReadsTo, at_start}
 use Rattle.sled_store.proofs.Segments.Elements.{in_first, in_rest, in_cases, in_nothing}
 use Rattle.sled_core.specs.declared.iterator.Segment.{Segment}
 use Rattle.sled_core.specs.declared.iterator.scan.ScannedRecord.{ScannedRecord}
@@ -14,6 +15,7 @@ use Rattle.sled_core.specs.Recoverable.{NoHeaderOfZeros, IsOfHistory}
 use Rattle.sled_core.specs.Scan.{IsFoundSegment, IsMet, IsPath, IsScan}
 use Rattle.sled_core.proofs.Read.FoundLemmas.{found_there}
 use Rattle.sled_core.proofs.Torn.TornLemmas.{after_write}
+use Rattle.sled_core.proofs.Torn.TornRecords.{says_plain}
 use Rattle.sled_core.proofs.Torn.ZeroedSlots.{kept, header_stood, same, reached_behind}
 use Rattle.sled_core.proofs.Torn.ZeroedScans.{scan_same}
 use Rattle.sled_log.specs.Recovery.{IsOrdering, Scanned, IsScanned}
@@ -45,7 +47,7 @@ module _ (sum : List ℕ → ℕ) (size : ℕ) (old : List ℕ) (at count : ℕ)
 
 -- Only what the log wrote passes as its own.
 module _ (sum : List ℕ → ℕ) (size : ℕ) (old : List ℕ) (at count : ℕ) (now left : List ℕ) (no_more : length now ≤ length (replicate {A = ℕ} count 0)) (leaves : LeavesLog (after_write old at (replicate count 0) now) left)
-    {placed : List (ℕ × List ℕ)} (only_own : NoForeignLog sum size (after_write old at (replicate count 0) now) placed left) (none : NoHeaderOfZeros sum) where
+    {placed : List Placement} (only_own : NoForeignLog sum size (after_write old at (replicate count 0) now) placed left) (none : NoHeaderOfZeros sum) where
   -- A segment that is found was there before.
   pub found_before : (least : ℕ) (s : Segment) → IsFoundSegment sum size left least s → IsFoundSegment sum size old least s
   found_before least s is =
@@ -58,17 +60,16 @@ module _ (sum : List ℕ → ℕ) (size : ℕ) (old : List ℕ) (at count : ℕ)
 
   -- What is met from where a reader comes to is of the history.
   module _ (H : History) (k place : ℕ) (mark : ℤ) (header : IsHeader sum (part left (k * size) 20) (pos place) mark) where
-    path_truth : (from : ℕ) → IsReached sum size (place / size) (part left (k * size) size) 20 from → (ms : List ScannedRecord) (next : ℕ) → IsPath sum size left (k * size) place from ms next
+    path_truth : (from : ℕ) → ReadsTo sum size (place / size) (part left (k * size) size) 20 from → (ms : List ScannedRecord) (next : ℕ) → IsPath sum size left (k * size) place from ms next
         → ((x : ScannedRecord) → Contains ms x → IsOfHistory sum size old H x) → (x : ScannedRecord) → Contains ms x → IsOfHistory sum size left H x
     unfolding IsMet
     path_truth from comes [] next path truth x there = absurd (in_nothing x there)
     path_truth from comes (m ∷ ms) next path truth x there =
         let room = path.0 in
-        let below : from < size = omega (arith, room) in
         let met = path.2 in
         let long = met.2.in_file in
-        let alike = same sum size old at count now left no_more leaves only_own k place mark header from comes below met.0 met.1 m.len met.2 in
-        let behind = reached_behind sum size old at count now left no_more leaves only_own k place mark header from comes below met.0 met.1 m.len met.2 in
+        let alike = same sum size old at count now left no_more leaves only_own k place mark header from comes room met.0 met.1 m.len met.2 in
+        let behind = reached_behind sum size old at count now left no_more leaves only_own k place mark header from comes room met.0 met.1 m.len met.2 (says_plain met.0 met.1 (k * size + from) m.what met.3) in
         ⊎_elim
         (λ is. subst (IsOfHistory sum size left H) is (of_left sum size old left H (k * size + from) (place / size) m alike long met (truth m (in_first m ms))))
         (λ later. path_truth (from + m.len) behind ms next path.3 (λ y at_y. truth y (in_rest m y ms at_y)) x later)
@@ -82,7 +83,7 @@ module _ (sum : List ℕ → ℕ) (size : ℕ) (old : List ℕ) (at count : ℕ)
       let here : t.segment.slot ≡ k * size = slot_index size t.segment.slot found.slot in
       let header = subst (λ n. IsHeader sum (part left n 20) (pos t.segment.place) t.segment.mark) here found.header in
       let path = subst (λ n. IsPath sum size left n t.segment.place 20 t.met t.stop) here scan.0 in
-      path_truth H k t.segment.place t.segment.mark header 20 at_first t.met t.stop path truth
+      path_truth H k t.segment.place t.segment.mark header 20 at_start t.met t.stop path truth
 
   module _ (some : 256 ≤ size) (slot : ℕ) (slot_at : slot % size ≡ 0) (begins : slot + 20 ≤ at) (ends : at + count ≤ slot + size) where
     pub ordering_stays : (least : ℕ) (ss : List Segment) → IsOrdering sum size old least ss → IsOrdering sum size left least ss

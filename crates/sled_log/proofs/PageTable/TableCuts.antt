@@ -34,7 +34,7 @@ no_pages_at_first H =
 -- What lies below a place.
 
 -- a filter that keeps all that a second one keeps
-filter_twice : {X : Type 0} (p q : X → Bool) → ((x : X) → p x ≡ true → q x ≡ true) → (xs : List X) → filter p (filter q xs) ≡ filter p xs
+pub filter_twice : {X : Type 0} (p q : X → Bool) → ((x : X) → p x ≡ true → q x ≡ true) → (xs : List X) → filter p (filter q xs) ≡ filter p xs
 filter_twice p q weaker [] = refl
 filter_twice p q weaker (x ∷ xs) = by_tests (p x) (q x) refl refl (weaker x) (filter_twice p q weaker xs) where
   by_tests : (s t : Bool) → p x ≡ s → q x ≡ t → (s ≡ true → t ≡ true) → filter p (filter q xs) ≡ filter p xs → filter p (cond t (x ∷ filter q xs) (filter q xs)) ≡ cond s (x ∷ filter p xs) (filter p xs)

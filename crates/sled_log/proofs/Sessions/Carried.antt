@@ -1,12 +1,14 @@
 -- What a command comes to that isn't refused: what its refusal would say, and how a reservation is carried out.
-use Rattle.std.proofs.Common.{◌≡◌, nat_le, nat_lt, arith, subst, ℕ, pos, Bool, true, false, List, [], length, Option, Some, None, refl, sym, inl, inr}
+use Rattle.std.proofs.Common.{◌≡◌, nat_le, nat_lt, arith, subst, ℕ, pos, Bool, true, false, List, [], ◌∷◌, length, Option, Some, None, refl, sym, inl, inr}
 use Rattle.std.specs.Bool.{MatchBool}
-use Rattle.std.specs.Prelude.{Vec, not}
+use Rattle.std.specs.Prelude.{Vec, not, ◌&&◌}
 use Rattle.std.specs.declared.alloc.Global.{Global}
 use Rattle.std.proofs.lemmas.Bool.Decides.{nat_tests}
 use Rattle.sled_codec.specs.declared.serialization.message.LogKind.{LogKind}
 use Rattle.sled_codec.specs.declared.serialization.message.LogKind.TheVariants as does
 use Rattle.sled_codec.specs.Spelling.{short_bytes}
+use Rattle.sled_store.specs.Device.{Trace, StopAsked}
+use Rattle.sled_store.proofs.Traces.StopLemmas.{asked_behind}
 use Rattle.sled_core.specs.declared.logger.Log.{Log}
 use Rattle.sled_core.specs.Fits.{in_blob, segment_size_of}
 use Rattle.sled_core.specs.Manifests.{kind_for, manifest_page}
@@ -16,6 +18,7 @@ use Rattle.sled_log.specs.declared.session.opened.Opened.{Opened}
 use Rattle.sled_log.specs.declared.session.command.Command.{Command}
 use Rattle.sled_log.specs.declared.session.command.Command.TheVariants as command
 use Rattle.sled_log.specs.declared.session.command.Refusal.{Refusal}
+use Rattle.sled_log.specs.declared.session.command.Refusal.TheVariants as why
 use Rattle.sled_log.specs.declared.session.command.Reply.{Reply}
 use Rattle.sled_log.specs.declared.session.command.Reply.TheVariants as reply
 use Rattle.sled_log.specs.Refusals.{is_absent, is_busy, reason_of, refusal_for, when}
@@ -23,7 +26,7 @@ use Rattle.sled_log.specs.Reservations.{HasTried, MayReserve}
 use Rattle.sled_log.specs.RunStates.{DeviceView, LogView, RunState, body_in, in_batch, is_present, page_now, target_in}
 use Rattle.sled_log.specs.TicketActs.{BlobActs, ReserveActs, making_for}
 use Rattle.sled_log.specs.TicketSteps.{blank_manifest}
-use Rattle.sled_log.specs.Runs.{Acts, ActsBy, IsStep, StepBy}
+use Rattle.sled_log.specs.Runs.{IsStep, StepBy}
 use Rattle.sled_log.specs.RunPhases.{Does, Unstored, device_in, seen, size_of, stands}
 
 -- Where no reason is told the first one doesn't fit, and none of the others is told.
@@ -31,17 +34,18 @@ pub passes : (b : Bool) (w : Refusal) (o : Option Refusal) → when b w o ≡ No
 passes true w o none = cc
 passes false w o none = (refl, none)
 
--- A reply that refuses nothing is one of what the command comes to.
-pub acting : (sum : List ℕ → ℕ) (size : ℕ) (a : RunState) (c : Command) (r : Reply) (new : DeviceView) → reason_of r ≡ None → ActsBy sum size a c r new → Acts sum size a c r new
-acting sum size a c (reply.Refused w) new none acts = cc
-acting sum size a c r new none acts = acts
+-- A stop that isn't refused is asked of a device that isn't stopped.
+pub asked_going : (stopped : Bool) (n : ℕ) (old new : Trace) (o : Option Refusal) → when (stopped && true) why.Stopped o ≡ None → new ≡ asked_behind stopped n old → new ≡ StopAsked n ∷ old
+asked_going true n old new o free asked = cc
+asked_going false n old new o free asked = asked
 
+-- A reply that refuses nothing is one of what the command comes to.
 pub stepping : (sum : List ℕ → ℕ) (size : ℕ) (a : RunState) (c : Command) (r : Reply) (new : DeviceView) (b : RunState) → reason_of r ≡ None → StepBy sum size a a.log c r new b → IsStep sum size a c r new b
 stepping sum size a c (reply.Refused w) new b none steps = cc
 stepping sum size a c r new b none steps = steps
 
 -- A reservation of an item that goes to no blob leaves the device alone.
-alone : (sum : List ℕ → ℕ) (size : ℕ) (l : LogView) (kind : LogKind) (page : ℕ) (bytes : List ℕ) (old : DeviceView) (r : Reply) (new : DeviceView) → in_blob size (length bytes) ≡ false → ReserveActs sum size (Some l) kind page bytes old r new → new ≡ old
+alone : (sum : List ℕ → ℕ) (size : ℕ) (l : LogView) (kind : LogKind) (page : ℕ) (bytes : List ℕ) (old : DeviceView) (r : Reply) (new : DeviceView) → in_blob size (length bytes) ≡ false → ReserveActs sum size l kind page bytes old r new → new ≡ old
 alone sum size l kind page bytes old r new short acts =
     let acting : Type 0 = BlobActs (making_for sum (kind_for kind page true 8) (pos (target_in size l page (body_in size (length bytes))).place) bytes) l.fault old r new in
     subst (λ (b : Bool). MatchBool b acting (new ≡ old)) short acts
@@ -96,23 +100,27 @@ module _ {D C : Type 0} (view : D → DeviceView) (sum : List ℕ → ℕ) (old 
     pub replace_does : (item : Vec ℕ Global) → HasTried view sum old does.Replace page (short_bytes item.items) new result k → Does view sum (Open old) (command.Replace page item) (Open new, result) k
     replace_does item tried = record {
       not_refused = tried.not_refused;
-      acts = acting sum size a (command.Replace page item) result now tried.not_refused tried.acts;
-      step = λ own. (tried.tickets, stepping sum size a (command.Replace page item) result now (stands view (Open new) tried.tickets) tried.not_refused tried.step, tried.at);
+      next = tried.tickets;
+      step = stepping sum size a (command.Replace page item) result now (stands view (Open new) tried.tickets) tried.not_refused (tried.acts, tried.step);
+      at = λ own. tried.at;
     }
 
     pub link_does : (item : Vec ℕ Global) → HasTried view sum old does.Link page (short_bytes item.items) new result k → Does view sum (Open old) (command.Link page item) (Open new, result) k
     link_does item tried = record {
       not_refused = tried.not_refused;
-      acts = acting sum size a (command.Link page item) result now tried.not_refused tried.acts;
-      step = λ own. (tried.tickets, stepping sum size a (command.Link page item) result now (stands view (Open new) tried.tickets) tried.not_refused tried.step, tried.at);
+      next = tried.tickets;
+      step = stepping sum size a (command.Link page item) result now (stands view (Open new) tried.tickets) tried.not_refused (tried.acts, tried.step);
+      at = λ own. tried.at;
     }
 
     -- that of a Free has no item
     pub free_does : HasTried view sum old does.Free page [] new result k → Does view sum (Open old) (command.Free page) (Open new, result) k
     free_does tried = record {
       not_refused = tried.not_refused;
-      acts = acting sum size a (command.Free page) result now tried.not_refused (alone sum size l does.Free page [] a.device result now (not_in_blob old.log 0 (let big = old.log.config.config.least in omega (arith, big))) tried.acts);
-      step = λ own. (tried.tickets, stepping sum size a (command.Free page) result now (stands view (Open new) tried.tickets) tried.not_refused tried.step, tried.at);
+      next = tried.tickets;
+      step = stepping sum size a (command.Free page) result now (stands view (Open new) tried.tickets) tried.not_refused
+          (alone sum size l does.Free page [] a.device result now (not_in_blob old.log 0 (let big = old.log.config.config.least in omega (arith, big))) tried.acts, tried.step);
+      at = λ own. tried.at;
     }
 
 -- A manifest has its item in its record.
@@ -133,6 +141,8 @@ module _ {D C : Type 0} (view : D → DeviceView) (sum : List ℕ → ℕ) (old 
       let now : DeviceView = device_in view (Open new) in
       record {
         not_refused = tried.not_refused;
-        acts = acting sum size a command.BeginBatch result now tried.not_refused (alone sum size (seen old k.tickets) does.Skip manifest_page blank_manifest a.device result now (manifest_inline old.log) tried.acts);
-        step = λ own. (tried.tickets, stepping sum size a command.BeginBatch result now (stands view (Open new) tried.tickets) tried.not_refused tried.step, tried.at);
+        next = tried.tickets;
+        step = stepping sum size a command.BeginBatch result now (stands view (Open new) tried.tickets) tried.not_refused
+            (alone sum size (seen old k.tickets) does.Skip manifest_page blank_manifest a.device result now (manifest_inline old.log) tried.acts, tried.step);
+        at = λ own. tried.at;
       }

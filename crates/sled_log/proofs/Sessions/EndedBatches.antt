@@ -105,12 +105,9 @@ module _ {D C : Type 0} (view : D → DeviceView) (sum : List ℕ → ℕ) (old 
       let pages = ap (λ p. map page_of p.items) takes.pages in
       record {
         not_refused = refl;
-        acts = ap (λ (y : Log D C). view (config_of y).device) is;
-        step = λ own. (
-          left view sum old k at n m there mid ticket takes k.history,
-          (answers, (begun, failed_leads view sum old k at n m there mid ticket takes log mid.pages is pages x answers)),
-          failed_open view sum old k at n m there mid ticket takes log mid.pages is pages x answers,
-        );
+        next = left view sum old k at n m there mid ticket takes k.history;
+        step = (ap (λ (y : Log D C). view (config_of y).device) is, (answers, (begun, failed_leads view sum old k at n m there mid ticket takes log mid.pages is pages x answers)));
+        at = λ own. failed_open view sum old k at n m there mid ticket takes log mid.pages is pages x answers;
       }
   end_fails log T _ answers is = absurd answers
 
@@ -147,9 +144,9 @@ module _ {D C : Type 0} (view : D → DeviceView) (sum : List ℕ → ℕ) (old 
         let same = messages_stay H' step in
         record {
           not_refused = refl;
-          acts = ap (λ c. view c.device) notes.config;
-          step = λ own. (
-            left view sum old k at n m there mid ticket takes H',
+          next = left view sum old k at n m there mid ticket takes H';
+          step = (
+            ap (λ c. view c.device) notes.config,
             record {
               begun = begun;
               fault = fault;
@@ -158,11 +155,11 @@ module _ {D C : Type 0} (view : D → DeviceView) (sum : List ℕ → ℕ) (old 
               step = step;
               leads = λ i. record { device = view (config_of log).device; history = H'; acknowledged = k.acknowledged; floor = k.floor; log = Some (ended_view i) };
             },
-            ended_open view sum old k at n m there mid ticket takes log mid.pages notes.pins position fault others safe opens_left H' at.unmarked
-                (made_still k.history H' same at.made) fits
-                (subst (λ p. IsTable (map page_of p.items) H' top) (sym takes.pages) (table_still k.history H' same (map page_of old.pages.items) top at.table))
-                (λ x ne may. joins_still k.history H' same x may)
-                (λ x of ne was. absurd (ne (manifest ∙ sym of)))
-                (subst (λ ms. All (λ x. x.place + x.size ≤ reserved_end old.log) ms) (sym same) at.ends),
           );
+          at = λ own. ended_open view sum old k at n m there mid ticket takes log mid.pages notes.pins position fault others safe opens_left H' at.unmarked
+              (made_still k.history H' same at.made) fits
+              (subst (λ p. IsTable (map page_of p.items) H' top) (sym takes.pages) (table_still k.history H' same (map page_of old.pages.items) top at.table))
+              (λ x ne may. joins_still k.history H' same x may)
+              (λ x of ne was. absurd (ne (manifest ∙ sym of)))
+              (subst (λ ms. All (λ x. x.place + x.size ≤ reserved_end old.log) ms) (sym same) at.ends);
         }

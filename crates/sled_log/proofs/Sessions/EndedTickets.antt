@@ -23,11 +23,11 @@ use Rattle.sled_core.specs.Causes.{FaultAnswers}
 use Rattle.sled_core.specs.Fits.{Awaits, KeepsBuffers, KeepsTickets, config_of, device_of, fault_of, noted_in, open_places, pins_of, position_of, reserved_end, segment_size_of}
 use Rattle.sled_core.specs.Keeps.{KeepsSeen, SamePosition}
 use Rattle.sled_core.specs.OpenPlaces.{TakesOut}
-use Rattle.sled_core.specs.OwnBlobs.{AreBeside, IsBeside, PreservesWithout, RemovedAnswers, RemovesBlob, own_blob, own_in, removing}
+use Rattle.sled_core.specs.OwnBlobs.{AreBeside, IsBeside, PreservesWithout, RemovedAnswers, RemovesBlob, removing}
 use Rattle.sled_core.specs.Manifests.{is_manifest, manifest_page}
 use Rattle.sled_core.specs.Running.{Fits}
-use Rattle.sled_core.specs.Tickets.{is_manifest_of, place_of}
-use Rattle.sled_core.proofs.PublicLaws.{awaited, fits_apart, fits_holds, inline_alone}
+use Rattle.sled_core.specs.Tickets.{is_manifest_of, own_blob, place_of}
+use Rattle.sled_core.proofs.PublicLaws.{awaited, fits_apart, fits_holds}
 use Rattle.sled_core.proofs.Read.FoundLemmas.{pos_injective}
 use Rattle.sled_log.specs.declared.session.opened.Opened.{Opened}
 use Rattle.sled_log.specs.declared.session.opened.Ticket.{Ticket}
@@ -42,13 +42,13 @@ use Rattle.sled_log.specs.Made.{IsMade, MayJoin}
 use Rattle.sled_log.specs.Refusals.{when}
 use Rattle.sled_log.specs.RunPhases.{AreRising, BeginsBatch, Does, HasBatch, HasTickets, IsOpenAt, IsSafe, IsTicketFor, Unstored, device_in, seen, seen_log, stands, traces}
 use Rattle.sled_log.specs.RunStates.{DeviceView, RunState, has_message, has_ticket, open_messages, opens, places_without, top, with_log}
-use Rattle.sled_log.specs.Runs.{IsStep, Acts}
+use Rattle.sled_log.specs.Runs.{IsStep}
 use Rattle.sled_log.specs.TicketActs.{RemoveActs, own_by}
-use Rattle.sled_log.specs.TicketSteps.{IsAnswerFor, spent}
+use Rattle.sled_log.specs.TicketSteps.{IsAnswerFor, own_of, spent}
 use Rattle.sled_log.proofs.Sessions.Endings.{one_there}
 use Rattle.sled_log.proofs.Sessions.MadeHistories.{came, join_still, made_completed}
 use Rattle.sled_log.proofs.Sessions.MadeTables.{page_of_replace, table_completed}
-use Rattle.sled_log.proofs.Sessions.OpenApart.{all_beside, none_there, ticket_beside}
+use Rattle.sled_log.proofs.Sessions.OpenApart.{all_beside, inline_none, none_there, ticket_beside}
 use Rattle.sled_log.proofs.Sessions.SpentTickets.{spent_places, spent_tickets, taken_out, ticket_there}
 use Rattle.sled_log.proofs.Sessions.TicketsSeen.{message_there}
 
@@ -152,17 +152,21 @@ module _ {D C : Type 0} (view : D → DeviceView) (sum : List ℕ → ℕ) (old 
     nothing_there : m.page ≢ manifest_page → (x : Message) → Contains k.history.messages x → x.place ≡ m.place → ⊥
     nothing_there changes = none_there (traces view) sum old.log k.history (fits_holds (traces view) sum old.log k.history k.acknowledged k.floor at.unmarked at.fits) ticket.reservation m awaits_it (is_message changes)
 
-    own_is : own_in (pos m.place) m.pointer ≡ own_blob ticket.reservation
-    own_is = let says = awaited old.log ticket.reservation m awaits_it in λ i. own_in (says.0 i) (says.1 i)
+    own_is : own_of m ≡ own_blob ticket.reservation
+    own_is = sym had.own ∙ ap (λ (t : Ticket). own_blob t.reservation) same_ticket
+
+    -- a manifest has none
+    manifest_alone : m.page ≡ manifest_page → own_blob ticket.reservation ≡ None
+    manifest_alone manifest = sym own_is ∙ inline_none (pos m.place) m.pointer (had.begins_batch manifest).inline
 
     pub beside_history : AreBeside (own_blob ticket.reservation) k.history
     beside_history = ⊎_elim
-        (λ manifest. subst (λ (o : Option ℤ). AreBeside o k.history) (sym (inline_alone old.log ticket.reservation m awaits_it (had.begins_batch manifest).inline)) (λ x among. tt))
+        (λ manifest. subst (λ (o : Option ℤ). AreBeside o k.history) (sym (manifest_alone manifest)) (λ x among. tt))
         (λ message. subst (λ (o : Option ℤ). AreBeside o k.history) own_is (all_beside k.history m m.pointer (nothing_there message) at.made)) (cases_eq m.page manifest_page)
 
     pub beside_ticket : (j : ℕ) (x : Message) → (x.place ≡ m.place → ⊥) → IsTicketFor (traces view) sum old k.history j x → IsBeside (own_blob ticket.reservation) x
     beside_ticket j x apart is = ⊎_elim
-        (λ manifest. subst (λ (o : Option ℤ). IsBeside o x) (sym (inline_alone old.log ticket.reservation m awaits_it (had.begins_batch manifest).inline)) tt)
+        (λ manifest. subst (λ (o : Option ℤ). IsBeside o x) (sym (manifest_alone manifest)) tt)
         (λ message. subst (λ (o : Option ℤ). IsBeside o x) own_is (ticket_beside k.history m m.pointer (nothing_there message) (traces view) sum old j x is apart)) (cases_eq m.page manifest_page)
 
     busy : mid.busy.items ≡ set old.busy.items m.page false
@@ -241,10 +245,10 @@ module _ {D C : Type 0} (view : D → DeviceView) (sum : List ℕ → ℕ) (old 
           subst (λ (o : Option IoError). RemovedAnswers {T = Unit {0}} (Err (error.Io x)) (own_blob ticket.reservation) (fault_of old.log) o before.failures after.failures) fault did.answers in
           record {
             not_refused = refl;
-            acts = removes_own (reply.Failed (error.Io x)) (fault_of old.log) before after (removal_failed (own_blob ticket.reservation) (fault_of old.log) before after x
-                (λ none. ap (λ c. view c.device) (did.removes.none none)) did.removes.calls cause (λ some. ap (λ (y : Log D C). view (config_of y).device) (did.err.1 some)));
-            step = λ own. (
-              left k.history,
+            next = left k.history;
+            step = (
+              removes_own (reply.Failed (error.Io x)) (fault_of old.log) before after (removal_failed (own_blob ticket.reservation) (fault_of old.log) before after x
+                  (λ none. ap (λ c. view c.device) (did.removes.none none)) did.removes.calls cause (λ some. ap (λ (y : Log D C). view (config_of y).device) (did.err.1 some))),
               record {
                 message = m;
                 reserved = there;
@@ -268,8 +272,8 @@ module _ {D C : Type 0} (view : D → DeviceView) (sum : List ℕ → ℕ) (old 
                   });
                 };
               },
-              kept_open x fault did.err.0 did.seen.noted did.position pages_are (did.keeps.fits k.history k.acknowledged k.floor at.unmarked at.fits beside_history),
             );
+            at = λ own. kept_open x fault did.err.0 did.seen.noted did.position pages_are (did.keeps.fits k.history k.acknowledged k.floor at.unmarked at.fits beside_history);
           }
       abort_fails T _ did pages_are = absurd did.answers
 
@@ -277,8 +281,9 @@ module _ {D C : Type 0} (view : D → DeviceView) (sum : List ℕ → ℕ) (old 
           → Does view sum (Open old) (command.Complete n) (Open now, reply.Failed e) k
       complete_fails T (error.Io x) answers is pages_are = record {
         not_refused = refl;
-        acts = ap (λ (y : Log D C). view (config_of y).device) is;
-        step = λ own. (left k.history, (answers, failed_leads is pages_are x answers), failed_open is pages_are x answers);
+        next = left k.history;
+        step = (ap (λ (y : Log D C). view (config_of y).device) is, (answers, failed_leads is pages_are x answers));
+        at = λ own. failed_open is pages_are x answers;
       }
       complete_fails T _ answers is pages_are = absurd answers
 
@@ -332,11 +337,11 @@ module _ {D C : Type 0} (view : D → DeviceView) (sum : List ℕ → ℕ) (old 
             let seen_is = ended_view (length old.pages.items) (as_many pages_are) in
             record {
               not_refused = refl;
-              acts = removes_own (reply.Done place pointer) (fault_of old.log) (view (config_of old.log).device) (view (config_of log).device)
-                  (removal_done (own_blob ticket.reservation) (fault_of old.log) (view (config_of old.log).device) (view (config_of log).device) place pointer
-                  (λ none. ap (λ c. view c.device) (did.removes.none none)) did.removes.done did.answers.2);
-              step = λ own. (
-                left k.history,
+              next = left k.history;
+              step = (
+                removes_own (reply.Done place pointer) (fault_of old.log) (view (config_of old.log).device) (view (config_of log).device)
+                    (removal_done (own_blob ticket.reservation) (fault_of old.log) (view (config_of old.log).device) (view (config_of log).device) place pointer
+                    (λ none. ap (λ c. view c.device) (did.removes.none none)) did.removes.done did.answers.2),
                 record {
                   message = m;
                   reserved = there;
@@ -344,9 +349,9 @@ module _ {D C : Type 0} (view : D → DeviceView) (sum : List ℕ → ℕ) (old 
                   answer = answer;
                   leads = λ i. record { device = view (config_of log).device; history = k.history; acknowledged = k.acknowledged; floor = k.floor; log = Some (seen_is i) };
                 },
-                ended_open same.pins position fault others safe opens_left k.history at.unmarked at.made (did.keeps.fits k.history k.acknowledged k.floor at.unmarked at.fits beside_history)
-                    (subst (λ (ps : List Page). IsTable ps k.history top) (sym pages_are) at.table) (λ x ne may. may) (λ x of ne begun. begun_still same.noted x begun) at.ends,
               );
+              at = λ own. ended_open same.pins position fault others safe opens_left k.history at.unmarked at.made (did.keeps.fits k.history k.acknowledged k.floor at.unmarked at.fits beside_history)
+                  (subst (λ (ps : List Page). IsTable ps k.history top) (sym pages_are) at.table) (λ x ne may. may) (λ x of ne begun. begun_still same.noted x begun) at.ends;
             }
 
         -- It comes to the history.
@@ -368,9 +373,9 @@ module _ {D C : Type 0} (view : D → DeviceView) (sum : List ℕ → ℕ) (old 
             let seen_is = ended_view (if m.page == length old.pages.items then length old.pages.items + 1 else length old.pages.items) begun in
             record {
               not_refused = refl;
-              acts = ap (λ c. view c.device) config;
-              step = λ own. (
-                left H',
+              next = left H';
+              step = (
+                ap (λ c. view c.device) config,
                 record {
                   message = m;
                   reserved = there;
@@ -380,11 +385,11 @@ module _ {D C : Type 0} (view : D → DeviceView) (sum : List ℕ → ℕ) (old 
                   step = step;
                   leads = λ i. record { device = view (config_of log).device; history = H'; acknowledged = k.acknowledged; floor = k.floor; log = Some (seen_is i) };
                 },
-                ended_open same.pins position fault others safe opens_left H' (m ∷ at.unmarked) made fits table (λ x ne next. join_still k.history H' m x may step ne next) (λ x of ne begun. begun_still same.noted x begun)
-                    (all_from_in (λ x. x.place + x.size ≤ reserved_end old.log) H'.messages (λ x among. ⊎_elim
-                    (λ is. subst (λ (z : Message). z.place + z.size ≤ reserved_end old.log) is had.ends)
-                    (λ was. All-contains (λ z. z.place + z.size ≤ reserved_end old.log) k.history.messages x at.ends was) (came k.history H' m step x among))),
               );
+              at = λ own. ended_open same.pins position fault others safe opens_left H' (m ∷ at.unmarked) made fits table (λ x ne next. join_still k.history H' m x may step ne next) (λ x of ne begun. begun_still same.noted x begun)
+                  (all_from_in (λ x. x.place + x.size ≤ reserved_end old.log) H'.messages (λ x among. ⊎_elim
+                  (λ is. subst (λ (z : Message). z.place + z.size ≤ reserved_end old.log) is had.ends)
+                  (λ was. All-contains (λ z. z.place + z.size ≤ reserved_end old.log) k.history.messages x at.ends was) (came k.history H' m step x among)));
             }
 
 -- Room for a page.
@@ -399,6 +404,7 @@ module _ {D C : Type 0} (view : D → DeviceView) (sum : List ℕ → ℕ) (old 
       kind = had.kind;
       page = had.page;
       awaits = subst (λ (x : Log D C). Awaits x had.ticket.reservation m) (sym kept.log) had.awaits;
+      own = had.own;
       stored = subst (λ (x : Log D C). IsSafe (traces view) sum x m) (sym kept.log) had.stored;
       joins = had.joins;
       begins_batch = λ is. subst (λ (x : Log D C). BeginsBatch x m) (sym kept.log) (had.begins_batch is);
@@ -444,18 +450,16 @@ module _ {D C : Type 0} (view : D → DeviceView) (sum : List ℕ → ℕ) (old 
       let same : (segment_size_of new.log, stands view (Open new) k) ≡ (segment_size_of old.log, stands view (Open old) k) = λ i. (segment_size_of (kept.log i), room_stands i) in
       record {
         not_refused = did.not_refused;
-        acts = subst (λ (z : ℕ × RunState). Acts sum z.0 z.1 (command.Complete n) result.1 (device_in view result.0)) same did.acts;
-        step = λ own. let came_to = did.step tt in (
-          came_to.0,
-          subst (λ (z : ℕ × RunState). IsStep sum z.0 z.1 (command.Complete n) result.1 (device_in view result.0) (stands view result.0 came_to.0)) same came_to.1,
-          came_to.2,
-        );
+        next = did.next;
+        step = subst (λ (z : ℕ × RunState). IsStep sum z.0 z.1 (command.Complete n) result.1 (device_in view result.0) (stands view result.0 did.next)) same did.step;
+        at = λ own. did.at tt;
       }
 
   -- and where memory for it was refused nothing is done.
   pub room_fails : (n : ℕ) → fault_of old.log ≡ None → IsOpenAt (traces view) sum old k → Does view sum (Open old) (command.Complete n) (Open new, reply.Failed error.OutOfMemory) k
   room_fails n whole at = record {
     not_refused = refl;
-    acts = ap (λ (y : Log D C). view (config_of y).device) kept.log;
-    step = λ own. (k, (whole, room_stands), room_open at);
+    next = k;
+    step = (ap (λ (y : Log D C). view (config_of y).device) kept.log, (whole, room_stands));
+    at = λ own. room_open at;
   }

@@ -1,7 +1,7 @@
 -- The headline of a run follows from what each of its commands comes to.
-use Rattle.std.proofs.Common.{◌≡◌, ◌∙◌, ◌⊎◌, ◌+◌, ◌-◌, ◌≤◌, ◌<◌, nat_lt, if◌then◌else◌, arith, rules, ℕ, ℤ, pos, max, Bool, true, false, List, [], ◌∷◌, ◌++◌, length, Option, None, Some, refl, sym, ap, subst, inl, inr}
+use Rattle.std.proofs.Common.{◌≡◌, ◌∙◌, ◌⊎◌, ◌+◌, ◌-◌, ◌≤◌, ◌<◌, ◌==◌, nat_lt, if◌then◌else◌, arith, rules, ℕ, ℤ, pos, max, Bool, true, false, List, [], ◌∷◌, ◌++◌, length, Option, None, Some, refl, sym, ap, subst, inl, inr}
 use Rattle.std.specs.List.{Contains}
-use Rattle.std.specs.Prelude.{◌≤ℤ◌, IsTrue, set, slice_get}
+use Rattle.std.specs.Prelude.{◌≤ℤ◌, ◌<ℤ◌, IsTrue, set, slice_get}
 use Rattle.std.specs.declared.io.Error.{Error as IoError}
 use Rattle.std.proofs.lemmas.Int.{ints}
 use Rattle.std.proofs.lemmas.List.Elements.{All-contains}
@@ -12,7 +12,8 @@ use Rattle.sled_codec.specs.declared.result.Error.TheVariants as error
 use Rattle.sled_codec.specs.declared.serialization.message.LogKind.{LogKind}
 use Rattle.sled_codec.specs.declared.serialization.message.LogKind.TheVariants as does
 use Rattle.sled_codec.specs.Spelling.{short_bytes}
-use Rattle.sled_codec.specs.History.{Batched, Completed, History, Message, Step}
+use Rattle.sled_codec.specs.History.{Batched, Completed, History, HistoryEvent, Message, Step}
+use Rattle.sled_store.specs.declared.device.choice.Choice.{Choice}
 use Rattle.sled_store.specs.Device.{State, state_of}
 use Rattle.sled_store.specs.Moments.{IsLater}
 use Rattle.sled_core.specs.Fits.{reserved_end}
@@ -28,11 +29,14 @@ use Rattle.sled_log.specs.declared.session.command.Command.TheVariants as comman
 use Rattle.sled_log.specs.declared.session.command.Refusal.{Refusal}
 use Rattle.sled_log.specs.declared.session.command.Reply.{Reply}
 use Rattle.sled_log.specs.declared.session.command.Reply.TheVariants as reply
-use Rattle.sled_log.specs.Headline.{Acknowledges, Moves, Past, Recovers, Reserves, Restores, Stays, past_of, tickets_in}
-use Rattle.sled_log.specs.RunStates.{DeviceView, LogView, RunState, body_in, made_ready, message_at, opens, page_now, places_without, rewriting_at, sealed_around, spans_without, start_around, target_in, with_log}
-use Rattle.sled_log.specs.Runs.{CrashStep, FlushStep, HaltStep, HasStopped, HasWrittenTo, IsOwn, IsStartCause, IsStep, OpenStep, ReadFailsFor, ReadStep, ReadStops, ReadsAll, Runs, StableStep, StepBy, StopStep, StopsStep, WriteStep, flushed, read_around, read_at, stable_from, target_by, told}
+use Rattle.sled_log.specs.Headline.{Acknowledges, Comes, Moves, Recovers, Reserves, Restores, Stays}
+use Rattle.sled_log.specs.OpenSteps.{HasOpened, IsStartCause, OpenStep, log_opened}
+use Rattle.sled_log.specs.ReadSteps.{FailsAt, ReadStep, ReadStops, ReadsAll, read_around, read_at}
+use Rattle.sled_log.specs.RunStates.{DeviceView, HasAll, LogView, RunState, body_in, length_of, made_ready, message_at, opens, page_now, places_without, rewriting_at, sealed_around, spans_without, start_around, start_below, target_in, tickets_in, tickets_of, with_log}
+use Rattle.sled_log.specs.Runs.{CrashStep, HaltStep, IsOwn, IsStep, Runs, StepBy, StopStep, told}
 use Rattle.sled_log.specs.RunPhases.{IsAt, SomeStands, StandsAt, StandsAtPhase, Unstored, seen, stands, traces}
-use Rattle.sled_log.specs.TicketSteps.{AbortStep, CompleteStep, EndStep, HasReserved, RefusedStep, ReserveStep, RewriteStep, batch_of, blank_manifest, keeping, spent}
+use Rattle.sled_log.specs.WriteSteps.{FailsTo, FlushStep, HasWrittenTo, KeepsFailing, StableStep, WriteStep, flushed, left_from, stable_from, target_by}
+use Rattle.sled_log.specs.TicketSteps.{AbortStep, CompleteStep, EndStep, HasReserved, RefusedStep, ReserveStep, RewriteStep, batch_of, blank_manifest, keeping, noting, spent}
 use Rattle.sled_log.proofs.Sessions.Reading.{sized}
 use Rattle.sled_log.proofs.Sessions.RunLemmas.{start_cause_of}
 
@@ -75,54 +79,70 @@ module _ (sum : List ℕ → ℕ) (size : ℕ) (device : DeviceView) (H : Histor
   at_log log = record { device = device; history = H; acknowledged = A; floor = f; log = log }
 
   -- Nothing changed.
-  same : (log : Option LogView) (new : DeviceView) (b : RunState) → b ≡ at_log log → Stays (past_of (at_log log)) (past_of b) × Led (at_log log) new b
-  same log new b is = (subst (λ (x : RunState). Stays (past_of (at_log log)) (past_of x)) (sym is) (inl refl, refl), inl is)
+  same : (log : Option LogView) (new : DeviceView) (b : RunState) → b ≡ at_log log → Stays (at_log log) b × Led (at_log log) new b
+  same log new b is = (subst (Stays (at_log log)) (sym is) (inl refl, refl), inl is)
 
   -- The log is another, with the same tickets, with none, or with one that is spent.
   keeps : (log after : Option LogView) (new : DeviceView) (b : RunState) → b ≡ with_log (at_log log) new after
-      → (tickets_in after ≡ tickets_in log) ⊎ (tickets_in after ≡ []) ⊎ ((t : ℕ) × (tickets_in after ≡ set (tickets_in log) t None)) → Stays (past_of (at_log log)) (past_of b) × Led (at_log log) new b
-  keeps log after new b is tickets = (subst (λ (x : RunState). Stays (past_of (at_log log)) (past_of x)) (sym is) (tickets, refl), inr (ap (λ (x : RunState). x.device) is))
+      → (tickets_in after ≡ tickets_in log) ⊎ (tickets_in after ≡ []) ⊎ ((t : ℕ) × (tickets_in after ≡ set (tickets_in log) t None)) → Stays (at_log log) b × Led (at_log log) new b
+  keeps log after new b is tickets = (subst (Stays (at_log log)) (sym is) (tickets, refl), inr (ap (λ (x : RunState). x.device) is))
 
-  crash : (log : Option LogView) (r : Reply) (new : DeviceView) (b : RunState) → CrashStep (at_log log) r new b → Stays (past_of (at_log log)) (past_of b) × Led (at_log log) new b
-  crash log (reply.Crashed taken) new b step = keeps log None new b step (inr (inl refl))
-  crash log (reply.Failed error.OutOfMemory) new b step = same log new b step
-  crash log _ new b step = absurd step
+  crash : (log : Option LogView) (choice : Choice) (r : Reply) (new : DeviceView) (b : RunState) → CrashStep (at_log log) choice r new b → Stays (at_log log) b × Led (at_log log) new b
+  crash log choice (reply.Crashed taken) new b step = keeps log None new b step.1 (inr (inl refl))
+  crash log choice (reply.Failed error.OutOfMemory) new b step = same log new b step.1
+  crash log choice _ new b step = absurd step.0
 
-  stop : (log : Option LogView) (r : Reply) (new : DeviceView) (b : RunState) → StopStep (at_log log) r new b → Stays (past_of (at_log log)) (past_of b) × Led (at_log log) new b
-  stop log reply.Armed new b step = keeps log log new b step (inl refl)
-  stop log _ new b step = absurd step
+  stop : (log : Option LogView) (n : ℕ) (r : Reply) (new : DeviceView) (b : RunState) → StopStep (at_log log) n r new b → Stays (at_log log) b × Led (at_log log) new b
+  stop log n reply.Armed new b step = keeps log log new b step.1 (inl refl)
+  stop log n _ new b step = absurd step
 
-  halt : (log : Option LogView) (r : Reply) (new : DeviceView) (b : RunState) → HaltStep (at_log log) r new b → Stays (past_of (at_log log)) (past_of b) × Led (at_log log) new b
-  halt log reply.Halted new b step = keeps log None new b step (inr (inl refl))
+  halt : (log : Option LogView) (r : Reply) (new : DeviceView) (b : RunState) → HaltStep (at_log log) r new b → Stays (at_log log) b × Led (at_log log) new b
+  halt log reply.Halted new b step = keeps log None new b step.1 (inr (inl refl))
   halt log _ new b step = absurd step
 
-  -- An opening.
-  opening : (r : Reply) (new : DeviceView) (b : RunState) → OpenStep sum size (at_log None) r new b → Moves sum size (past_of (at_log None)) command.Open r (past_of b) × (b.device ≡ new)
-  opening (reply.Opened stable active pages) new b step = (
-    (step.snapshot, step.shown, subst (λ (x : RunState). Restores sum size (past_of (at_log None)) step.snapshot (past_of x)) (sym step.leads) (step.good.good, refl)),
-    ap (λ (x : RunState). x.device) step.leads,
-  )
-  opening (reply.Failed e) new b (inl not) =
-      let now : b.device ≡ new = ap (λ (x : RunState). x.device) not.leads in (
-        (subst (λ (d : DeviceView). IsStartCause e device.failures d.failures) (sym now) (start_cause_of e device.failures new.failures not.cause), inl (keeps None None new b not.leads (inl refl)).0),
-        now,
-      )
-  opening (reply.Failed e) new b (inr only) = (
-    (subst (λ (x : RunState). IsStartCause e device.failures x.device.failures) (sym only.leads) only.cause, inr (only.snapshot, subst (λ (x : RunState). Restores sum size (past_of (at_log None)) only.snapshot (past_of x)) (sym only.leads) (only.good.good, refl))),
-    ap (λ (x : RunState). x.device) only.leads,
-  )
-  opening _ new b step = absurd step
+  -- An opening of a device on which only what the log itself wrote passes as its own.
+  module _ (own : IsOwn sum size (state_of device.trace) command.Open (reply.Failed error.OutOfMemory)) where
+    restores : (r : Reply) (new : DeviceView) (b : RunState) (opened : HasOpened sum size (at_log None) r new b) → Restores sum size (at_log None) opened.opens.snapshot b
+    restores r new b opened =
+        let goes = opened.good own in
+        subst (λ (x : RunState). Restores sum size (at_log None) opened.opens.snapshot x) (sym goes.leads) (goes.good, none r, refl)
+      where
+        none : (q : Reply) → tickets_in (log_opened size (length_of opened.opens.mid) opened.opens.snapshot q) ≡ []
+        none (reply.Opened stable active pages) = refl
+        none _ = refl
+
+    opened_device : (r : Reply) (new : DeviceView) (b : RunState) → HasOpened sum size (at_log None) r new b → b.device ≡ new
+    opened_device r new b opened = ap (λ (x : RunState). x.device) (opened.good own).leads
+
+    opening : (r : Reply) (new : DeviceView) (b : RunState) → OpenStep sum size (at_log None) r new b → Moves sum size (at_log None) command.Open r b × (b.device ≡ new)
+    opening (reply.Opened stable active pages) new b step = (
+      (step.opens.snapshot, step.opens.starts.0, restores (reply.Opened stable active pages) new b step),
+      opened_device (reply.Opened stable active pages) new b step,
+    )
+    opening (reply.Failed e) new b (inl not) =
+        let now : b.device ≡ new = ap (λ (x : RunState). x.device) not.leads in (
+          (subst (λ (d : DeviceView). IsStartCause e device.failures d.failures) (sym now) (start_cause_of e device.failures new.failures (not.cause own)), inl (keeps None None new b not.leads (inl refl)).0),
+          now,
+        )
+    opening (reply.Failed e) new b (inr only) =
+        let now = opened_device (reply.Failed e) new b only in (
+          (subst (λ (d : DeviceView). IsStartCause e device.failures d.failures) (sym now) (only.good own).why, inr (only.opens.snapshot, restores (reply.Failed e) new b only)),
+          now,
+        )
+    opening _ new b step = absurd step.opens.starts
 
   module _ (l : LogView) where
     abbrev a : RunState
     a = at_log (Some l)
 
-    abbrev p : Past
-    p = past_of a
+    -- Where the log keeps a failure nothing changed.
+    keeping_on : (e : Error) (new : DeviceView) (b : RunState) → KeepsFailing a l e new b → Stays a b × Led a new b
+    keeping_on (error.Io e) new b step = same (Some l) new b step.2
+    keeping_on _ new b step = absurd step
 
     -- Reservations.
 
-    refused : (q : Position) (e : Error) (new : DeviceView) (b : RunState) → RefusedStep size a l q e b → Stays p (past_of b) × Led a new b
+    refused : (q : Position) (e : Error) (new : DeviceView) (b : RunState) → RefusedStep size a l q e b → Stays a b × Led a new b
     refused q (error.Io e) new b step = same (Some l) new b step.1
     refused q error.OutOfMemory new b step = same (Some l) new b step.1
     refused q error.PlacesUsedUp new b step = same (Some l) new b step.2
@@ -130,19 +150,19 @@ module _ (sum : List ℕ → ℕ) (size : ℕ) (device : DeviceView) (H : Histor
     refused q _ new b step = absurd step
 
     reserves : (q : Position) (m : Message) (n : ℕ) (place : ℤ) (pointer : DiskPtr) (new : DeviceView) (b : RunState) → HasReserved size a l q m n place pointer new b
-        → Reserves p m.kind m.page m.bytes (reply.Reserved n place pointer) (past_of b) × Led a new b
+        → Reserves a m.kind m.page m.bytes (reply.Reserved n place pointer) b × Led a new b
     reserves q m n place pointer new b has = (
-      (m, refl, refl, refl, sym has.answer.0, sym has.answer.1, has.number, subst (λ (x : RunState). past_of x ≡ record p { device = x.device; tickets = l.tickets ++ Some m ∷ [] }) (sym has.leads) refl),
+      (m, refl, refl, refl, sym has.answer.0, sym has.answer.1, has.number, ap tickets_of has.leads, subst (λ (x : RunState). x ≡ record a { device = x.device; log = x.log }) (sym has.leads) refl),
       inr (ap (λ (x : RunState). x.device) has.leads),
     )
 
-    reserve : (kind : LogKind) (page : ℕ) (bytes : List ℕ) (r : Reply) (new : DeviceView) (b : RunState) → ReserveStep size a l kind page bytes r new b → Reserves p kind page bytes r (past_of b) × Led a new b
+    reserve : (kind : LogKind) (page : ℕ) (bytes : List ℕ) (r : Reply) (new : DeviceView) (b : RunState) → ReserveStep size a l kind page bytes r new b → Reserves a kind page bytes r b × Led a new b
     reserve kind page bytes (reply.Reserved n place pointer) new b has = reserves (target_in size l page (body_in size (length bytes))) (message_at size l kind page bytes) n place pointer new b has
     reserve kind page bytes (reply.Failed e) new b (inl step) = refused (target_in size l page (body_in size (length bytes))) e new b step
     reserve kind page bytes (reply.Failed e) new b (inr blob) = keeps (Some l) (Some (made_ready l (target_in size l page (body_in size (length bytes))) blob.1.kept)) new b blob.1.leads (inl refl)
     reserve kind page bytes _ new b step = absurd step
 
-    rewrite : (page : ℕ) (r : Reply) (new : DeviceView) (b : RunState) → RewriteStep size a l page r new b → Moves sum size p (command.Rewrite page) r (past_of b) × Led a new b
+    rewrite : (page : ℕ) (r : Reply) (new : DeviceView) (b : RunState) → RewriteStep size a l page r new b → Moves sum size a (command.Rewrite page) r b × Led a new b
     rewrite page (reply.Reserved n place pointer) new b has =
         let kept = reserves (target_in size l page 8) (rewriting_at size l page has.blob has.message.bytes) n place pointer new b has.reserved in
         ((has.message, has.is, kept.0), kept.1)
@@ -151,86 +171,82 @@ module _ (sum : List ℕ → ℕ) (size : ℕ) (device : DeviceView) (H : Histor
 
     -- Tickets are spent.
 
-    complete : (t : ℕ) (r : Reply) (new : DeviceView) (b : RunState) → CompleteStep a l t r new b → Moves sum size p (command.Complete t) r (past_of b) × Led a new b
-    complete t (reply.Done place pointer) new b has = (
+    comes : (t : ℕ) (m : Message) (event : HistoryEvent) (H' : History) (log : LogView) (new : DeviceView) (b : RunState) → slice_get l.tickets t ≡ Some (Some m) → Step H event H' → log.tickets ≡ set l.tickets t None
+        → b ≡ record a { device = new; history = H'; log = Some log } → Comes a t m event b × Led a new b
+    comes t m event H' log new b there step spends leads = (
       (
-        has.message,
-        has.reserved,
-        subst (λ (x : RunState). Step H (Completed has.message) x.history) (sym has.leads) has.step,
-        subst (λ (x : RunState). past_of x ≡ record p { device = x.device; tickets = set l.tickets t None; history = x.history }) (sym has.leads) refl,
+        there,
+        subst (λ (x : RunState). Step H event x.history) (sym leads) step,
+        ap tickets_of leads ∙ spends,
+        subst (λ (x : RunState). x ≡ record a { device = x.device; history = x.history; log = x.log }) (sym leads) refl,
       ),
-      inr (ap (λ (x : RunState). x.device) has.leads),
+      inr (ap (λ (x : RunState). x.device) leads),
     )
+
+    complete : (t : ℕ) (r : Reply) (new : DeviceView) (b : RunState) → CompleteStep a l t r new b → Moves sum size a (command.Complete t) r b × Led a new b
+    complete t (reply.Done place pointer) new b has =
+        let came = comes t has.message (Completed has.message) has.history (spent l t (places_without has.message.place (opens l)) (if has.message.page == l.begun then l.begun + 1 else l.begun)) new b has.reserved has.step refl has.leads in
+        ((has.message, came.0), came.1)
     complete t (reply.Failed (error.Io e)) new b step = keeps (Some l) (Some (spent l t (opens l) l.begun)) new b step.1 (inr (inr (t, refl)))
     complete t (reply.Failed error.OutOfMemory) new b step = same (Some l) new b step.1
     complete t _ new b step = absurd step
 
-    abort : (t : ℕ) (r : Reply) (new : DeviceView) (b : RunState) → AbortStep a l t r new b → Moves sum size p (command.Abort t) r (past_of b) × Led a new b
+    abort : (t : ℕ) (r : Reply) (new : DeviceView) (b : RunState) → AbortStep a l t r new b → Moves sum size a (command.Abort t) r b × Led a new b
     abort t (reply.Done place pointer) new b has = keeps (Some l) (Some (spent l t (places_without has.message.place (opens l)) l.begun)) new b has.leads (inr (inr (t, refl)))
     abort t (reply.Failed (error.Io e)) new b fails = keeps (Some l) (Some (keeping e (spent l t (opens l) l.begun))) new b fails.leads (inr (inr (t, refl)))
     abort t _ new b step = absurd step
 
-    end : EndsIn H l → (r : Reply) (new : DeviceView) (b : RunState) → EndStep a l r new b → Moves sum size p command.EndBatch r (past_of b) × Led a new b
+    end : EndsIn H l → (r : Reply) (new : DeviceView) (b : RunState) → EndStep a l r new b → Moves sum size a command.EndBatch r b × Led a new b
     end ends (reply.Done place pointer) new b has =
         let t : ℕ = has.begun.ticket in
-        let m : Message = has.begun.message in (
-          (
-            t,
-            m,
-            batch_of l m,
-            has.begun.reserved,
-            has.begun.manifest,
-            sym has.answer.0,
-            refl,
-            λ x there. (let le = ends.completed x there in omega (arith, le)),
-            λ n x there. (let le = ends.reserved n x there in omega (arith, le)),
-            subst (λ (x : RunState). Step H (Batched (batch_of l m)) x.history) (sym has.leads) has.step,
-            subst (λ (x : RunState). past_of x ≡ record p { device = x.device; tickets = set l.tickets t None; history = x.history }) (sym has.leads) refl,
-          ),
-          inr (ap (λ (x : RunState). x.device) has.leads),
-        )
+        let m : Message = has.begun.message in
+        let came = comes t m (Batched (batch_of l m)) has.history (noting (batch_of l m) (spent l t (places_without m.place (opens l)) l.begun)) new b has.begun.reserved has.step refl has.leads in
+        let all : HasAll a (batch_of l m) = record {
+          completed = λ x there. (let le = ends.completed x there in omega (arith, le));
+          reserved = λ n x there. (let le = ends.reserved n x there in omega (arith, le));
+        } in
+        ((t, m, batch_of l m, has.begun.manifest, sym has.answer.0, refl, all, came.0), came.1)
     end ends (reply.Failed (error.Io e)) new b step = keeps (Some l) (Some (spent l step.1.0.ticket (opens l) l.begun)) new b step.1.1 (inr (inr (step.1.0.ticket, refl)))
     end ends _ new b step = absurd step
 
     -- Writing.
 
-    written : (Meant : Message → Type 0) (to n : ℕ) (new : DeviceView) (b : RunState) → ((m : Message) → Contains H.messages m → Meant m → m.place < stable_from to l) → HasWrittenTo a l to n new b
-        → Acknowledges p Meant (past_of b) × Led a new b
+    written : (Meant : Message → Type 0) (to n : ℕ) (new : DeviceView) (b : RunState) → ((m : Message) → Contains H.messages m → Meant m → m.place < stable_from to l) → HasWrittenTo size a l to n new b
+        → Acknowledges a Meant b × Led a new b
     written Meant to n new b low has =
         let end : ℕ = end_below (stable_from to l) H in
-        let here : Acknowledges p Meant (record p { device = new; acknowledged = max A end }) = (
+        let here : Acknowledges a Meant (record a { device = new; acknowledged = max A end; log = Some (flushed l (left_from to l) (start_below to l) None) }) = (
           omega arith,
           λ m there meant. (let le = message_acknowledged (stable_from to l) H m there (low m there meant) in omega (arith, le)),
           refl,
+          refl,
         ) in
-        (subst (λ (x : RunState). Acknowledges p Meant (past_of x)) (sym has.leads) here, inr (ap (λ (x : RunState). x.device) has.leads))
+        (subst (Acknowledges a Meant) (sym has.leads) here, inr (ap (λ (x : RunState). x.device) has.leads))
 
-    stopped : (to : ℕ) (fault : Option IoError) (new : DeviceView) (b : RunState) → HasStopped a l to fault new b → Stays p (past_of b) × Led a new b
-    stopped to fault new b has = keeps (Some l) (Some (flushed l has.waiting has.start fault)) new b has.leads (inl refl)
+    fails_to : (to : ℕ) (e : Error) (new : DeviceView) (b : RunState) → FailsTo size a l to e new b → Stays a b × Led a new b
+    fails_to to e new b step = elim step.came.2 [ inl sealed ↦ keeps (Some l) _ new b sealed (inl refl) | inr none ↦ keeps (Some l) _ new b none.1 (inl refl) ]
 
-    stops : (to : ℕ) (e : Error) (new : DeviceView) (b : RunState) → StopsStep size a l to e new b → Stays p (past_of b) × Led a new b
-    stops to (error.Io e) new b step = stopped to (Some e) new b step.1
-    stops to error.OutOfMemory new b step = stopped to None new b step.2
-    stops to error.PlacesUsedUp new b step = stopped to None new b step.4
-    stops to (error.Held at) new b step = stopped to None new b step.3
-    stops to _ new b step = absurd step
-
-    flush : EndsIn H l → (r : Reply) (new : DeviceView) (b : RunState) → FlushStep sum size a l r new b → Moves sum size p command.Flush r (past_of b) × Led a new b
+    flush : EndsIn H l → (r : Reply) (new : DeviceView) (b : RunState) → FlushStep sum size a l r new b → Moves sum size a command.Flush r b × Led a new b
     flush ends (reply.Flushed n) new b has =
         written (λ m. Unit {0}) l.end n new b (λ m there meant. (let some = ends.sized m there in let le = All-contains (λ (x : Message). x.place + x.size ≤ stable_from l.end l) H.messages m has.all there in omega (arith, some, le))) has.written
-    flush ends (reply.Failed e) new b step = stops l.end e new b step
+    flush ends (reply.Failed e) new b (inl kept) = keeping_on e new b kept
+    flush ends (reply.Failed e) new b (inr fails) = fails_to l.end e new b fails
     flush ends _ new b step = absurd step
 
-    stable : (place : ℤ) (r : Reply) (new : DeviceView) (b : RunState) → StableStep size a l place r new b → Moves sum size p (command.Stable place) r (past_of b) × Led a new b
+    stable_fails : (place : ℤ) (e : Error) (new : DeviceView) (b : RunState) → KeepsFailing a l e new b ⊎ ((place <ℤ pos l.end) × FailsTo size a l (target_by l place) e new b) → Stays a b × Led a new b
+    stable_fails place e new b (inl kept) = keeping_on e new b kept
+    stable_fails place e new b (inr fails) = fails_to (target_by l place) e new b fails.1
+
+    stable : (place : ℤ) (r : Reply) (new : DeviceView) (b : RunState) → StableStep size a l place r new b → Moves sum size a (command.Stable place) r b × Led a new b
     stable place (reply.Flushed n) new b has = written (λ m. pos m.place ≤ℤ place) (target_by l place) n new b (λ m there meant. omega (arith, ints, meant, has.2)) has.1
     stable place (reply.Failed (error.NotReserved at)) new b step = same (Some l) new b step.5
-    stable place (reply.Failed e) new b step = stops (target_by l place) e new b step
+    stable place (reply.Failed e) new b step = stable_fails place e new b step
     stable place _ new b step = absurd step
 
-    write : (i : ℕ) (r : Reply) (new : DeviceView) (b : RunState) → WriteStep a l i r new b → Stays p (past_of b) × Led a new b
-    write i reply.Written new b step = keeps (Some l) _ new b step.1 (inl refl)
-    write i (reply.Failed (error.Io e)) new b step = keeps (Some l) _ new b step.1 (inl refl)
-    write i (reply.Failed error.OutOfMemory) new b step = keeps (Some l) _ new b step.2 (inl refl)
+    write : (i : ℕ) (r : Reply) (new : DeviceView) (b : RunState) → WriteStep a l i r new b → Stays a b × Led a new b
+    write i reply.Written new b step = keeps (Some l) _ new b step.3 (inl refl)
+    write i (reply.Failed e) new b (inl kept) = keeping_on e new b kept
+    write i (reply.Failed e) new b (inr fails) = keeps (Some l) _ new b fails.came.1 (inl refl)
     write i _ new b step = absurd step
 
     -- Reading.
@@ -245,55 +261,51 @@ module _ (sum : List ℕ → ℕ) (size : ℕ) (device : DeviceView) (H : Histor
     reads o [] old new end all = ap (λ (x : LogView). x.tickets) all.2
     reads o (m ∷ ms) old new end all = reads (read_around o (read_at m)) ms all.0 new end all.2 ∙ around o (read_at m)
 
-    fails : (o : LogView) → o.tickets ≡ l.tickets → (at : ℕ) (e : Error) (old new : DeviceView) (b : RunState) → ReadFailsFor size a o at e old new b → Stays p (past_of b) × Led a new b
-    fails o is at (error.Io e) old new b step = keeps (Some l) _ new b step.1.leads (inl is)
-    fails o is at error.OutOfMemory old new b step = keeps (Some l) _ new b step.2.leads (inl is)
-    fails o is at error.PlacesUsedUp old new b step = keeps (Some l) _ new b step.4.leads (inl is)
-    fails o is at (error.Held place) old new b step = keeps (Some l) _ new b step.3.leads (inl is)
-    fails o is at _ old new b step = absurd step
+    fails_at : (o : LogView) → o.tickets ≡ l.tickets → (at : ℕ) (e : Error) (old new : DeviceView) (b : RunState) → FailsAt size a o at e old new b → Stays a b × Led a new b
+    fails_at o is at e old new b step = elim step.came [
+      | inl some ↦ elim some.1 [ inl none ↦ keeps (Some l) _ new b none (inl is) | inr sealed ↦ keeps (Some l) _ new b sealed (inl is) ]
+      | inr written ↦ keeps (Some l) _ new b written.1 (inl is)
+    ]
 
-    read_stops : (ms : List Message) (e : Error) (new : DeviceView) (b : RunState) → ReadStops size a l ms e new b → Stays p (past_of b) × Led a new b
-    read_stops ms e new b step = fails step.log (reads l step.done device step.mid step.log step.so_far) (read_at step.message) e step.mid new b step.fails
-
-    read : (ms : List Message) (r : Reply) (new : DeviceView) (b : RunState) → ReadStep size a l ms r new b → Stays p (past_of b) × Led a new b
+    read : (ms : List Message) (r : Reply) (new : DeviceView) (b : RunState) → ReadStep size a l ms r new b → Stays a b × Led a new b
     read ms (reply.Page items) new b step = keeps (Some l) (Some step.log) new b step.leads (inl (reads l ms device new step.log step.reads))
-    read ms reply.FreePage new b step = same (Some l) new b step.leads
-    read ms (reply.Failed error.OutOfMemory) new b (inl none) = same (Some l) new b none.1
-    read ms (reply.Failed error.OutOfMemory) new b (inr step) = read_stops ms error.OutOfMemory new b step
-    read ms (reply.Failed e) new b step = read_stops ms e new b step
+    read ms reply.FreePage new b step = same (Some l) new b step.2
+    read ms (reply.Failed e) new b (inl kept) = keeping_on e new b kept
+    read ms (reply.Failed error.OutOfMemory) new b (inr (inl none)) = same (Some l) new b none.2
+    read ms (reply.Failed e) new b (inr (inl none)) = absurd none
+    read ms (reply.Failed e) new b (inr (inr step)) = fails_at step.log (reads l step.done device step.mid step.log step.so_far) (read_at step.message) e step.mid new b step.fails
     read ms _ new b step = absurd step
 
   -- Each command.
-  by_log : (log : Option LogView) (c : Command) (r : Reply) (new : DeviceView) (b : RunState) → Known (at_log log) → StepBy sum size (at_log log) log c r new b
-      → Moves sum size (past_of (at_log log)) c r (past_of b) × Led (at_log log) new b
-  by_log log (command.Crash choice) r new b ends step = crash log r new b step
-  by_log log (command.Stop n) r new b ends step = stop log r new b step
-  by_log None command.Open r new b ends step = let done = opening r new b step in (done.0, inr done.1)
-  by_log (Some l) (command.Replace page item) r new b ends step = reserve l does.Replace page (short_bytes item.items) r new b step
-  by_log (Some l) (command.Link page item) r new b ends step = reserve l does.Link page (short_bytes item.items) r new b step
-  by_log (Some l) (command.Free page) r new b ends step = reserve l does.Free page [] r new b step
-  by_log (Some l) (command.Rewrite page) r new b ends step = rewrite l page r new b step
-  by_log (Some l) command.BeginBatch r new b ends step = reserve l does.Skip manifest_page blank_manifest r new b step
-  by_log (Some l) command.EndBatch r new b ends step = end l (ends l refl) r new b step
-  by_log (Some l) (command.Complete t) r new b ends step = complete l t r new b step
-  by_log (Some l) (command.Abort t) r new b ends step = abort l t r new b step
-  by_log (Some l) (command.Write i) r new b ends step = write l i r new b step
-  by_log (Some l) command.Flush r new b ends step = flush l (ends l refl) r new b step
-  by_log (Some l) (command.Stable place) r new b ends step = stable l place r new b step
-  by_log (Some l) (command.Read page) r new b ends step = read l (page_now H page) r new b step
-  by_log (Some l) command.Halt r new b ends step = halt (Some l) r new b step
-  by_log log _ r new b ends step = absurd step
+  by_log : (log : Option LogView) (c : Command) (r : Reply) (new : DeviceView) (b : RunState) → Known (at_log log) → IsOwn sum size (state_of device.trace) c r → StepBy sum size (at_log log) log c r new b
+      → Moves sum size (at_log log) c r b × Led (at_log log) new b
+  by_log log (command.Crash choice) r new b ends own step = crash log choice r new b step
+  by_log log (command.Stop n) r new b ends own step = stop log n r new b step
+  by_log None command.Open r new b ends own step = let done = opening own r new b step in (done.0, inr done.1)
+  by_log (Some l) (command.Replace page item) r new b ends own step = reserve l does.Replace page (short_bytes item.items) r new b step.1
+  by_log (Some l) (command.Link page item) r new b ends own step = reserve l does.Link page (short_bytes item.items) r new b step.1
+  by_log (Some l) (command.Free page) r new b ends own step = reserve l does.Free page [] r new b step.1
+  by_log (Some l) (command.Rewrite page) r new b ends own step = rewrite l page r new b step.1
+  by_log (Some l) command.BeginBatch r new b ends own step = reserve l does.Skip manifest_page blank_manifest r new b step.1
+  by_log (Some l) command.EndBatch r new b ends own step = end l (ends l refl) r new b step.1
+  by_log (Some l) (command.Complete t) r new b ends own step = complete l t r new b step.1
+  by_log (Some l) (command.Abort t) r new b ends own step = abort l t r new b step.1
+  by_log (Some l) (command.Write i) r new b ends own step = write l i r new b step
+  by_log (Some l) command.Flush r new b ends own step = flush l (ends l refl) r new b step
+  by_log (Some l) (command.Stable place) r new b ends own step = stable l place r new b step
+  by_log (Some l) (command.Read page) r new b ends own step = read l (page_now H page) r new b step
+  by_log (Some l) command.Halt r new b ends own step = halt (Some l) r new b step
+  by_log log _ r new b ends own step = absurd step
 
-  opened_device : (log : Option LogView) (r : Reply) (new : DeviceView) (b : RunState) → StepBy sum size (at_log log) log command.Open r new b → b.device ≡ new
-  opened_device None r new b step = (opening r new b step).1
-  opened_device (Some l) r new b step = absurd step
+  led_by : (log : Option LogView) (r : Reply) (new : DeviceView) (b : RunState) → IsOwn sum size (state_of device.trace) command.Open r → StepBy sum size (at_log log) log command.Open r new b → b.device ≡ new
+  led_by None r new b own step = (opening own r new b step).1
+  led_by (Some l) r new b own step = absurd step
 
   -- A failure of a device that is stopped is told as that.
-  stop_told : (log : Option LogView) (c : Command) (e : IoError) (new : DeviceView) (b : RunState) → StepBy sum size (at_log log) log c (reply.Failed (error.Io e)) new b → new.is_stopped ≡ true
-      → Moves sum size (past_of (at_log log)) c (reply.Failed (error.Io e)) (past_of b) → Moves sum size (past_of (at_log log)) c reply.Stopped (past_of b)
-  stop_told log command.Open e new b step is moves =
-      (subst (λ (d : DeviceView). IsTrue d.is_stopped) (sym (opened_device log (reply.Failed (error.Io e)) new b step)) is, moves.1)
-  stop_told log _ e new b step is moves = moves
+  stop_told : (log : Option LogView) (c : Command) (e : IoError) (new : DeviceView) (b : RunState) → IsOwn sum size (state_of device.trace) c (reply.Failed (error.Io e)) → StepBy sum size (at_log log) log c (reply.Failed (error.Io e)) new b
+      → new.is_stopped ≡ true → Moves sum size (at_log log) c (reply.Failed (error.Io e)) b → Moves sum size (at_log log) c reply.Stopped b
+  stop_told log command.Open e new b own step is moves = (subst (λ (d : DeviceView). IsTrue d.is_stopped) (sym (led_by log (reply.Failed (error.Io e)) new b own step)) is, moves.1)
+  stop_told log _ e new b own step is moves = moves
 
 -- What holds of a reply holds of how it is told, where it holds of a stop that a failure is told as.
 tells : (M : Reply → Type 0) (b : Bool) (r : Reply) → M r → ((e : IoError) → r ≡ reply.Failed (error.Io e) → b ≡ true → M reply.Stopped) → M (told b r)
@@ -303,22 +315,22 @@ tells M false r holds stops = holds
 
 module _ (sum : List ℕ → ℕ) (size : ℕ) where
   -- A command that is refused changes nothing.
-  refused_moves : (p q : Past) (c : Command) (w : Refusal) → Stays p q → Moves sum size p c (reply.Refused w) q
+  refused_moves : (p q : RunState) (c : Command) (w : Refusal) → Stays p q → Moves sum size p c (reply.Refused w) q
   refused_moves p q command.Open w stays = stays
   refused_moves p q command.EndBatch w stays = stays
   refused_moves p q _ w stays = stays
 
-  answered : (a : RunState) (c : Command) (came : Reply) (new : DeviceView) (b : RunState) → Known a → IsStep sum size a c came new b
-      → Moves sum size (past_of a) c (told new.is_stopped came) (past_of b) × Led a new b
-  answered a c (reply.Refused w) new b ends is =
-      let kept = same sum size a.device a.history a.acknowledged a.floor a.log new b is in
-      (tells (λ r. Moves sum size (past_of a) c r (past_of b)) new.is_stopped (reply.Refused w) (refused_moves (past_of a) (past_of b) c w kept.0) (λ e no. cc), kept.1)
-  answered a c came new b ends step =
-      let moves = by_log sum size a.device a.history a.acknowledged a.floor a.log c came new b ends step in
+  answered : (a : RunState) (c : Command) (came : Reply) (new : DeviceView) (b : RunState) → Known a → IsOwn sum size (state_of a.device.trace) c came → IsStep sum size a c came new b
+      → Moves sum size a c (told new.is_stopped came) b × Led a new b
+  answered a c (reply.Refused w) new b ends own is =
+      let kept = same sum size a.device a.history a.acknowledged a.floor a.log new b is.1 in
+      (tells (λ r. Moves sum size a c r b) new.is_stopped (reply.Refused w) (refused_moves a b c w kept.0) (λ e no. cc), kept.1)
+  answered a c came new b ends own step =
+      let moves = by_log sum size a.device a.history a.acknowledged a.floor a.log c came new b ends own step in
       let stops = λ (e : IoError) (is : came ≡ reply.Failed (error.Io e)) (stopped : new.is_stopped ≡ true).
-      stop_told sum size a.device a.history a.acknowledged a.floor a.log c e new b (subst (λ (r : Reply). StepBy sum size a a.log c r new b) is step) stopped
-      (subst (λ (r : Reply). Moves sum size (past_of a) c r (past_of b)) is moves.0) in
-      (tells (λ r. Moves sum size (past_of a) c r (past_of b)) new.is_stopped came moves.0 stops, moves.1)
+      stop_told sum size a.device a.history a.acknowledged a.floor a.log c e new b (subst (IsOwn sum size (state_of a.device.trace) c) is own) (subst (λ (r : Reply). StepBy sum size a a.log c r new b) is step) stopped
+      (subst (λ (r : Reply). Moves sum size a c r b) is moves.0) in
+      (tells (λ r. Moves sum size a c r b) new.is_stopped came moves.0 stops, moves.1)
 
   later : (a : RunState) (new : DeviceView) (b : RunState) → IsLater a.device.trace new.trace → Led a new b → IsLater a.device.trace b.device.trace
   later a new b on (inl same) = subst (λ (x : RunState). IsLater a.device.trace x.device.trace) (sym same) ([], refl)
@@ -332,20 +344,21 @@ module _ (sum : List ℕ → ℕ) (size : ℕ) where
   own_told s _ b came own = tt
 
   -- So a run comes to what the headline says.
-  pub recovers : {D C : Type 0} (view : D → DeviceView) (Leads : RunState → Type 0) (End : Past → Type 0) → ((b : RunState) → Leads b → End (past_of b))
-      → (a : RunState) (cs : List Command) (rs : List Reply) → SomeStands D C view sum a → Runs sum size (SomeStands D C view sum) a cs rs Leads → Recovers sum size (past_of a) cs rs End
+  pub recovers : {D C : Type 0} (view : D → DeviceView) (Leads : RunState → Type 0) → (a : RunState) (cs : List Command) (rs : List Reply) → SomeStands D C view sum a → Runs sum size (SomeStands D C view sum) a cs rs Leads
+      → Recovers sum size a cs rs Leads
   unfolding Runs Recovers
-  recovers view Leads End over a [] [] at runs = over a runs
-  recovers view Leads End over a (c ∷ cs) (r ∷ rs) at runs = λ own.
+  recovers view Leads a [] [] at runs = runs
+  recovers view Leads a (c ∷ cs) (r ∷ rs) at runs = λ own.
       let came : Reply = runs.came in
       let new : DeviceView = runs.new in
-      let done = runs.step (own_told (state_of a.device.trace) c new.is_stopped came (subst (IsOwn sum size (state_of a.device.trace) c) runs.is_told own)) in
-      let b : RunState = done.0 in
-      let moves = answered a c came new b (known view sum at.0 a at.1) done.1 in (
-        past_of b,
+      let b : RunState = runs.after in
+      let its = own_told (state_of a.device.trace) c new.is_stopped came (subst (IsOwn sum size (state_of a.device.trace) c) runs.is_told own) in
+      let leads = runs.leads its in
+      let moves = answered a c came new b (known view sum at.0 a at.1) its runs.step in (
+        b,
         later a new b runs.later moves.1,
-        subst (λ (x : Reply). Moves sum size (past_of a) c x (past_of b)) (sym runs.is_told) moves.0,
-        recovers view Leads End over b cs rs done.2.0 done.2.1,
+        subst (λ (x : Reply). Moves sum size a c x b) (sym runs.is_told) moves.0,
+        recovers view Leads b cs rs leads.0 leads.1,
       )
-  recovers view Leads End over a [] (r ∷ rs) at runs = absurd runs
-  recovers view Leads End over a (c ∷ cs) [] at runs = absurd runs
+  recovers view Leads a [] (r ∷ rs) at runs = absurd runs
+  recovers view Leads a (c ∷ cs) [] at runs = absurd runs

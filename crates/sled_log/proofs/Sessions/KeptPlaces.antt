@@ -22,7 +22,7 @@ use Rattle.sled_core.specs.Positions.{Position, behind_record}
 use Rattle.sled_core.specs.Reading.{IsInline}
 use Rattle.sled_core.specs.Reserves.{StandsBehind}
 use Rattle.sled_core.specs.Running.{IsStored}
-use Rattle.sled_core.specs.Tickets.{place_of, pointer_of}
+use Rattle.sled_core.specs.Tickets.{own_blob, place_of, pointer_of}
 use Rattle.sled_core.specs.Waiting.{spans}
 use Rattle.sled_core.proofs.PublicLaws.{awaited, awaited_small, fits_reach, noted_pegs, target_above as put_above}
 use Rattle.sled_core.proofs.Reserve.ReserveLemmas.{there_append, there_last}
@@ -34,7 +34,7 @@ use Rattle.sled_log.specs.Made.{HasReplaceBelow, JoinsWithBlob, MayJoin}
 use Rattle.sled_log.specs.Reservations.{HoldsTicket, MayReserve}
 use Rattle.sled_log.specs.RunPhases.{AreRising, BeginsBatch, HasBatch, HasTickets, IsOpenAt, IsTicketFor, Unstored, device_in, seen, stands, traces}
 use Rattle.sled_log.specs.RunStates.{DeviceView, has_page, is_present, open_messages, page_now, target_in, top}
-use Rattle.sled_log.specs.TicketSteps.{HasReserved}
+use Rattle.sled_log.specs.TicketSteps.{HasReserved, own_of}
 use Rattle.sled_log.proofs.Sessions.SafeItems.{safe_on}
 use Rattle.sled_log.proofs.Sessions.TicketsSeen.{page_has}
 use Rattle.sled_log.proofs.Sessions.ReservedPlaces.{beside_count, in_reach, reserved_below, start_with_seen, waiting_seen}
@@ -64,6 +64,7 @@ pub record KeptPlace {D C : Type 0} (trace : D → Trace) (sum : List ℕ → �
   pub place : m.place ≡ (target_of old m.page n).place
   pub size : m.size ≡ size_for old m.page n
   pub ticket : Awaits new reservation m
+  pub own : own_blob reservation ≡ own_of m
   pub stored : IsStored trace sum new m
   pub behind : StandsBehind sum old new m.page n
   pub others : (ticket : Reservation) (x : Message) → Awaits old ticket x → Awaits new ticket x
@@ -133,6 +134,7 @@ module _ {D C : Type 0} (view : D → DeviceView) (sum : List ℕ → ℕ) (old 
           kind = is.kind;
           page = is.page;
           awaits = kept.others is.ticket.reservation m is.awaits;
+          own = is.own;
           stored = safe_on (traces view) sum old.log new.log m kept.keeps.goes_on is.stored;
           joins = is.joins;
           begins_batch = λ of. let begun = is.begins_batch of in record { kind = begun.kind; inline = begun.inline; apart = λ b known. begun.apart b (subst (λ (bs : List Batch). Contains bs b) kept.seen.noted known) };
@@ -153,6 +155,7 @@ module _ {D C : Type 0} (view : D → DeviceView) (sum : List ℕ → ℕ) (old 
           kind = refl;
           page = refl;
           awaits = kept.ticket;
+          own = kept.own;
           stored = λ none. kept.stored;
           joins = joins;
           begins_batch = begins;

@@ -13,6 +13,8 @@ use Rattle.sled_store.proofs.Histories.Ascending.{in_first, in_rest, in_cases, i
 use Rattle.sled_store.proofs.Histories.TableParts.{from_page, split_at, earlier_below}
 use Rattle.sled_store.proofs.Segments.TableEntries.{beginning_there}
 use Rattle.sled_log.specs.Made.{HasBlobIn, HasReplaceBelow, IsMade, JoinsWithBlob, MayJoin}
+use Rattle.sled_log.specs.Orderly.{IsOrderly}
+use Rattle.sled_log.specs.PageHistories.{MayAdd}
 use Rattle.sled_log.specs.RunStates.{page_now, top}
 use Rattle.sled_log.proofs.Afterwards.OrderlyBelow.{orderly_below, table_of_page}
 use Rattle.sled_log.proofs.PageTable.TableCuts.{below_same}
@@ -247,7 +249,7 @@ module _ (H H' : History) (m : Message) (adds : AddsMessage H m H') where
   still_grounded x on = record { own = ⊎_elim inl (λ has. inr (still_replaced has)) on.own; lower = λ page lt. still_replaced (on.lower page lt) }
 
   -- what a test keeps that the message fails
-  kept_without : (p : Message → Bool) → p m ≡ false → filter p H'.messages ≡ filter p H.messages
+  pub kept_without : (p : Message → Bool) → p m ≡ false → filter p H'.messages ≡ filter p H.messages
   kept_without p fails =
       ap (filter p) adds.new ∙ filter-append p adds.before (m ∷ adds.after)
       ∙ ap (λ (b : Bool). filter p adds.before ++ cond b (m ∷ filter p adds.after) (filter p adds.after)) fails
@@ -275,11 +277,12 @@ module _ (H H' : History) (m : Message) (adds : AddsMessage H m H') where
   lower_same cut page le =
       ap page_state (kept_without (λ x. (x.page == page) && nat_lt x.place cut) (and_right (m.page == page) (nat_lt m.place cut) (le-ltb m.place cut le)))
 
-  module _ (may : MayJoin H m) where
+  -- Where it lies behind all of its page.
+  module _ (changes : ChangesPage m.kind) (later : (x : Message) → Contains H.messages x → x.page ≡ m.page → x.place < m.place) where
     -- no later one is of its page
     none_later : (cut : ℕ) (x : Message) → Contains adds.after x → ((x.page == m.page) && nat_lt x.place cut) ≡ false
     none_later cut x there = ⊎_elim
-        (λ of. absurd (omega (arith, adds.higher x there, may.later x (subst (λ (ms : List Message). Contains ms x) (sym adds.old) (Contains-append_right adds.before adds.after x there)) of)))
+        (λ of. absurd (omega (arith, adds.higher x there, later x (subst (λ (ms : List Message). Contains ms x) (sym adds.old) (Contains-append_right adds.before adds.after x there)) of)))
         (λ ne. and_left (x.page == m.page) (nat_lt x.place cut) (ne_eqb x.page m.page ne)) (cases_eq x.page m.page)
 
     -- its page has it behind those that it had
@@ -289,45 +292,62 @@ module _ (H H' : History) (m : Message) (adds : AddsMessage H m H') where
         kept_last (λ x. (x.page == m.page) && nat_lt x.place cut) (and_from (m.page == m.page) (nat_lt m.place cut) (eq-eqb m.page m.page refl) (lt-ltb m.place cut lt)) (none_later cut)
 
     own_lower : (cut : ℕ) → All (λ x. x.place < m.place) (of_page H.messages cut m.page)
-    own_lower cut = all_from_in (λ x. x.place < m.place) (of_page H.messages cut m.page) (λ x there. let found = from_page H.messages cut m.page x there in may.later x found.0 found.1)
+    own_lower cut = all_from_in (λ x. x.place < m.place) (of_page H.messages cut m.page) (λ x there. let found = from_page H.messages cut m.page x there in later x found.0 found.1)
 
     own_table : (cut : ℕ) → m.place < cut → table H' cut m.page ≡ joined m.kind m (table H cut m.page)
     unfolding table
-    own_table cut lt = ap page_state (own_last cut lt) ∙ state_push (of_page H.messages cut m.page) m (own_lower cut) may.changes
+    own_table cut lt = ap page_state (own_last cut lt) ∙ state_push (of_page H.messages cut m.page) m (own_lower cut) changes
 
-    -- all of its page lies below such a cut
-    own_whole : (cut : ℕ) → m.place < cut → table H cut m.page ≡ page_now H m.page
+    -- all that its page had lies below it
+    own_earlier : (cut : ℕ) → m.place < cut → table H cut m.page ≡ table H m.place m.page
     unfolding table
-    own_whole cut lt = ap page_state (of_page_same H.messages cut top m.page (λ x there of. let under = may.later x there of in let high = may.low in (omega (arith, under, lt), omega (arith, under, high))))
+    own_earlier cut lt = ap page_state (of_page_same H.messages cut m.place m.page (λ x there of. let under = later x there of in (omega (arith, under, lt), under)))
 
-    few_still : IsMade H → (cut page : ℕ) → length (table H' cut page) ≤ 255
-    few_still made cut page = ⊎_elim same (λ ne. omega (arith, ap (λ (l : List Message). length l) (others_same cut page ne), made.orderly.few cut page)) (cases_eq m.page page) where
+  -- Where it may come to an orderly history.
+  module _ (may : MayAdd H m) where
+    few_still : IsOrderly H → (cut page : ℕ) → length (table H' cut page) ≤ 255
+    few_still orderly cut page = ⊎_elim same (λ ne. omega (arith, ap (λ (l : List Message). length l) (others_same cut page ne), orderly.few cut page)) (cases_eq m.page page) where
       beyond : m.place < cut → length (table H' cut m.page) ≤ 255
       beyond lt =
-          let few = joined_few m.kind m (table H cut m.page) (made.orderly.few cut m.page) (λ link. let short = may.few link in omega (arith, short, ap (λ (l : List Message). length l) (own_whole cut lt))) in
-          omega (arith, few, ap (λ (l : List Message). length l) (own_table cut lt))
+          let few = joined_few m.kind m (table H cut m.page) (orderly.few cut m.page) (λ link. let short = may.few link in omega (arith, short, ap (λ (l : List Message). length l) (own_earlier may.changes may.later cut lt))) in
+          omega (arith, few, ap (λ (l : List Message). length l) (own_table may.changes may.later cut lt))
 
       same : m.page ≡ page → length (table H' cut page) ≤ 255
       same of = ⊎_elim
           (λ lt. subst (λ (n : ℕ). length (table H' cut n) ≤ 255) of (beyond lt))
-          (λ le. omega (arith, ap (λ (l : List Message). length l) (lower_same cut page le), made.orderly.few cut page)) (cases_lt m.place cut)
+          (λ le. omega (arith, ap (λ (l : List Message). length l) (lower_same cut page le), orderly.few cut page)) (cases_lt m.place cut)
 
-    grounded : IsMade H → (x : Message) → Contains H'.messages x → HasGround H' x
-    grounded made x there = still_grounded x (⊎_elim
+    grounded : IsOrderly H → (x : Message) → Contains H'.messages x → HasGround H' x
+    grounded orderly x there = still_grounded x (⊎_elim
         (λ is. subst (λ (z : Message). HasGround H z) is (record { own = may.own; lower = may.lower }))
-        (grounds H made.orderly.formed x) (came_in x there))
+        (grounds H orderly.formed x) (came_in x there))
+
+    -- it leaves an orderly one
+    stays_orderly : IsOrderly H → LieApart H'.messages → IsOrderly H'
+    stays_orderly orderly apart = record {
+      formed = record {
+        apart = apart;
+        kinds = each (λ x. ChangesPage x.kind) may.changes orderly.formed.kinds;
+        begun = begun_from H' apart (grounded orderly);
+        pages = each (λ x. x.page ≢ 2 ^ 64 - 1) may.page orderly.formed.pages;
+      };
+      few = few_still orderly;
+    }
+
+  module _ (may : MayJoin H m) where
+    can_add : MayAdd H m
+    can_add = record {
+      changes = may.changes;
+      page = λ same. let small = may.small in omega (arith, small, same);
+      own = may.own;
+      lower = may.lower;
+      later = may.later;
+      few = λ link. let short = may.few link in omega (arith, short, ap (λ (l : List Message). length l) (own_earlier may.changes may.later top may.low));
+    }
 
     joins : IsMade H → LieApart H'.messages → IsMade H'
     joins made apart = record {
-      orderly = record {
-        formed = record {
-          apart = apart;
-          kinds = each (λ x. ChangesPage x.kind) may.changes made.orderly.formed.kinds;
-          begun = begun_from H' apart (grounded made);
-          pages = each (λ x. x.page ≢ 2 ^ 64 - 1) (λ same. let small = may.small in omega (arith, small, same)) made.orderly.formed.pages;
-        };
-        few = few_still made;
-      };
+      orderly = stays_orderly can_add made.orderly apart;
       blobs = λ x there. ⊎_elim
           (λ is. subst (λ (z : Message). HasBlobIn H' z z.pointer) is (blob_joined H H' m m.pointer stays_in comes_in may.blob))
           (λ was. blob_among H H' x x.pointer stays_in (made.blobs x was)) (came_in x there);
@@ -349,6 +369,11 @@ module _ (H H' : History) (m : Message) (adds : AddsMessage H m H') where
       on : HasGround H' n
       on = still_grounded n (record { own = next.own; lower = next.lower })
 
+-- An orderly history stays orderly behind a message that may come, where its record lies apart from the others.
+pub orderly_added : (H H' : History) (m : Message) → IsOrderly H → MayAdd H m → Step H (Completed m) H' → LieApart H'.messages → IsOrderly H'
+unfolding Step
+orderly_added H H' m orderly may step apart = stays_orderly H H' m step may orderly apart
+
 -- A message that may come leaves one, where its record lies apart from the others.
 pub made_completed : (H H' : History) (m : Message) → IsMade H → MayJoin H m → Step H (Completed m) H' → LieApart H'.messages → IsMade H'
 unfolding Step
@@ -367,7 +392,7 @@ page_others H H' m step page ne = others_same H H' m step top page ne
 -- and its own is the one that it makes of it
 pub page_joined : (H H' : History) (m : Message) → MayJoin H m → Step H (Completed m) H' → page_now H' m.page ≡ joined m.kind m (page_now H m.page)
 unfolding Step
-page_joined H H' m may step = own_table H H' m step may top may.low
+page_joined H H' m may step = own_table H H' m step may.changes may.later top may.low
 
 -- a message of the history is there still, and so is the new one, and no other
 pub stays : (H H' : History) (m : Message) → Step H (Completed m) H' → (x : Message) → Contains H.messages x → Contains H'.messages x

@@ -17,7 +17,7 @@ use Rattle.sled_core.specs.Begun.{SegmentView}
 use Rattle.sled_core.specs.Fits.{Awaits, Holds, line_of, noted_in}
 use Rattle.sled_core.specs.Logged.{logged}
 use Rattle.sled_core.specs.Manifests.{manifest_page}
-use Rattle.sled_core.specs.OwnBlobs.{AreBeside, IsBeside, own_in}
+use Rattle.sled_core.specs.OwnBlobs.{AreBeside, IsBeside}
 use Rattle.sled_core.specs.Reading.{IsInline}
 use Rattle.sled_core.specs.Tickets.{index_of, is_manifest_of}
 use Rattle.sled_core.proofs.Line.Ends.{holds_completed}
@@ -27,6 +27,7 @@ use Rattle.sled_core.proofs.Read.FoundLemmas.{pos_injective}
 use Rattle.sled_log.specs.Made.{HasBlobIn, IsMade, JoinsWithBlob}
 use Rattle.sled_log.specs.declared.session.opened.Opened.{Opened}
 use Rattle.sled_log.specs.RunPhases.{IsTicketFor}
+use Rattle.sled_log.specs.TicketSteps.{own_in}
 
 -- A message can be put in at its place only where no other lies there.
 put_apart : (H H' : History) (m : Message) → AddsMessage H m H' → (x : Message) → Contains H.messages x → x.place ≡ m.place → ⊥
@@ -46,6 +47,11 @@ none_there trace sum log H holds ticket m awaits message =
     (sym awaits.own.manifest ∙ message) (logged H) holds in
     let real = adds_real H m done.0 (subst (λ (x : Message). AddsMessage (logged H) x done.0) (sym awaits.message) done.1) in
     put_apart H real.0 m real.1
+
+-- A message that has its item in its record has no blob.
+pub inline_none : (place : ℤ) (p : DiskPtr) → IsInline p → own_in place p ≡ None
+inline_none place (Inline lid) is = refl
+inline_none place (Blob lid blob) is = absurd is
 
 -- A message is beside what a ticket of a place made, where its blob, if it has one, has another name.
 beside_from : (place : ℤ) (p : DiskPtr) (x : Message) → ((lid : ℕ) (q : ℤ) → x.pointer ≡ Blob lid q → q ≢ place) → IsBeside (own_in place p) x

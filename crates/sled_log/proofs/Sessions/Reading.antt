@@ -1,5 +1,5 @@
 -- What a read leaves of a log, as it is seen.
-use Rattle.std.proofs.Common.{◌≡◌, ◌∙◌, ◌≤◌, ◌<◌, ◌+◌, ◌⊎◌, ◌&&◌, inl, inr, ℕ, ℤ, pos, Bool, true, false, nat_lt, nat_le, if◌then◌else◌, List, [], ◌∷◌, ◌++◌, length, map, Option, Some, None, Result, Ok, Err, refl, sym, ap, subst, arith, append_assoc, get_or, to_z, of_z}
+use Rattle.std.proofs.Common.{◌≡◌, ◌∙◌, ◌≤◌, ◌<◌, ◌+◌, ◌⊎◌, ◌&&◌, inl, inr, ℕ, ℤ, pos, Bool, true, false, nat_lt, nat_le, if◌then◌else◌, List, [], ◌∷◌, ◌++◌, length, map, Option, Some, None, Result, Ok, Err, OnErr, refl, sym, ap, subst, arith, append_assoc, get_or, to_z, of_z}
 use Rattle.std.specs.Prelude.{Vec, unsigned_abs}
 use Rattle.std.specs.Int.{w64}
 use Rattle.std.specs.List.{All, Contains}
@@ -23,7 +23,8 @@ use Rattle.sled_codec.specs.Snapshots.{Entry, Page, Present, Uninitialized, page
 use Rattle.sled_store.specs.Device.{Event, Trace}
 use Rattle.sled_store.specs.Script.{Performs, after_all}
 use Rattle.sled_store.proofs.Segments.TableEntries.{from_table}
-use Rattle.sled_core.specs.Causes.{IsFault, IsFaultAt}
+use Rattle.sled_store.proofs.Traces.ScriptLemmas.{performs_nothing}
+use Rattle.sled_core.specs.Causes.{IsFault, IsFaultAt, OnDone}
 use Rattle.sled_core.specs.Reading.{GivesMessage, IsInline}
 use Rattle.sled_core.specs.ReadPointer.{GivesBlobOrWaits, IsKeptBlob, place_read}
 use Rattle.sled_core.specs.declared.logger.read_message.LogRead.{LogRead}
@@ -34,6 +35,7 @@ use Rattle.sled_core.proofs.Line.LineEnds.{noted_still}
 use Rattle.sled_core.specs.Fits.{HasRecordOf, buffers_of, current_begin, current_of, device_of, fault_of, held_len, next_place, noted_in, reserved_end, segment_size_of, start_of, synced_end, waiting_of}
 use Rattle.sled_core.specs.Keeps.{SamePosition, start_sealed}
 use Rattle.sled_core.specs.OpenPlaces.{first_between}
+use Rattle.sled_core.specs.Fronts.{CameAround, syncs}
 use Rattle.sled_core.specs.ReadBuffer.{IsUsedUpAt, ReadAnswers, Settles, WritesAround, held_at, sealed_at, settling, start_at}
 use Rattle.sled_core.specs.SealedBuffers.{writing}
 use Rattle.sled_core.specs.Waiting.{BufferAt, BufferStart, Span, has_place, held_around, span_of, spans, unless_held, without_around, write_around}
@@ -49,11 +51,12 @@ use Rattle.sled_log.specs.Made.{HasBlobIn, IsMade}
 use Rattle.sled_log.specs.declared.session.Phase.TheVariants.{Open}
 use Rattle.sled_log.specs.declared.session.opened.Opened.{Opened}
 use Rattle.sled_log.specs.declared.session.command.Reply.TheVariants as reply
-use Rattle.sled_log.proofs.Sessions.Writing.{IsHeldBy, StaysPut, all_held, first_seen, flush_out, next_start_seen, over, shows_waiting, span_seen, still_open}
+use Rattle.sled_log.proofs.Sessions.Writing.{IsHeldBy, StaysPut, all_held, first_seen, flush_in, flush_out, if_held, next_start_seen, over, shows_waiting, span_seen, still_open}
 use Rattle.sled_log.specs.Readings.{IsOfPage, IsRead, KeepsOpen, ReadsEntries, ReadsItem, page_told}
 use Rattle.sled_log.specs.RunPhases.{IsOpenAt, Unstored, seen, seen_log, stands, traces}
-use Rattle.sled_log.specs.RunStates.{DeviceView, LogView, RunState, current_span, first_waiting, held, is_present, next_start, opens, page_now, sealed_around, spans_without, start_around, top, with_log}
-use Rattle.sled_log.specs.Runs.{ReadFails, ReadFailsFor, ReadStep, ReadStops, ReadsAll, ReadsAt, ShowsBuffers, flushed, held_around_place, holding_read, item_bytes, read_around, read_at}
+use Rattle.sled_log.specs.RunStates.{DeviceView, EndsInReach, LogView, RunState, current_span, first_waiting, held, is_present, next_start, opens, page_now, sealed_around, spans_without, start_around, top, with_log}
+use Rattle.sled_log.specs.ReadSteps.{FailsAt, ReadStep, ReadsAll, ReadsAt, held_around_place, holding_read, read_around, read_at, reading_around}
+use Rattle.sled_log.specs.WriteSteps.{IsWhy, ShowsBuffers, WritesSome, flushed}
 
 -- Buffers that have a place.
 
@@ -144,7 +147,7 @@ module _ {D C : Type 0} (log : Log D C) (sum : List ℕ → ℕ) (at begun : ℕ
         | inr none ↦ ap f (shows_empty sum log (omega (arith, none)))
       ]
 
-  calls_seen : settling sum log (pos at) ≡ (if nat_lt at l.synced then [] else write_around at (sealed_at sum at log))
+  calls_seen : settling sum log (pos at) ≡ reading_around l at (sealed_at sum at log)
   calls_seen = ap (λ (es : List Event). if nat_lt at l.synced then [] else es) (of_sealed (write_around at) (write_front at))
 
   holding_seen : held_at sum log (pos at) ≡ holding_read l at
@@ -221,49 +224,79 @@ module _ {D C : Type 0} (view : D → DeviceView) (sum : List ℕ → ℕ) (old 
   }
 
   -- the calls that bring its place to the device
-  settling_seen : settling sum old (place_read (pos m.place) m.pointer) ≡ (if nat_lt at before.synced then [] else write_around at (sealed_at sum at old))
+  settling_seen : settling sum old (place_read (pos m.place) m.pointer) ≡ reading_around before at (sealed_at sum at old)
   settling_seen = ap (settling sum old) of.read ∙ calls_seen old sum at begun k of.read_below
 
-  -- It failed.
+  -- It failed, where the log kept no failure.
 
-  read_fails : {T : Type 0} (e : Error) (a : RunState) (fault : Option IoError) → Settles {T = T} (traces view) sum (Err e) (pos m.place) m.pointer old new → WritesAround {T = T} sum (Err e) (pos at) old new → fault_of new ≡ fault
-      → ReadFails a before at fault old_view new_view (with_log a new_view (Some after))
-  read_fails e a fault settles writes kept = record {
-    buffers = sealed_at sum at old;
-    shown = shows old sum at begun k of.read_below;
-    calls = subst (λ (es : List Event). Performs es old_view.trace new_view.trace) settling_seen settles.at_most;
-    waiting = spans (waiting_of new);
-    start = start_of new;
-    left = elim writes.some [
-      | inl same ↦ inl (ap spans same.0, same.1)
-      | inr (inl sealed) ↦ inr (inl (ap spans sealed.0 ∙ (shows old sum at begun k of.read_below).are, sealed.1 ∙ start_seen old sum at begun k of.read_below))
-      | inr (inr written) ↦ inr (inr (ap spans written.0 ∙ without_around_seen old sum at begun k of.read_below, written.1 ∙ start_seen old sum at begun k of.read_below))
-    ];
-    leads = ap (λ (x : LogView). with_log a new_view (Some x)) (leaves (spans (waiting_of new)) (start_of new) fault refl refl kept);
-  }
-
-  failed_at : (blobs : ℤ → Option (List ℕ)) (e : Error) → Settles {T = LogRead} (traces view) sum (Err e) (pos m.place) m.pointer old new → WritesAround {T = LogRead} sum (Err e) (pos at) old new
+  why_at : (blobs : ℤ → Option (List ℕ)) (e : Error)
       → ReadAnswers {T = LogRead} sum blobs m.pointer (Err e) (pos at) (synced_end old) (reserved_end old) (held_at sum old (pos at)) (IsUsedUpAt old (pos at)) (fault_of old) (fault_of new) old_view.failures new_view.failures
-      → IsWhole m.pointer m (fault_of old) e → (a : RunState) → ReadFailsFor (segment_size_of old) a before at e old_view new_view (with_log a new_view (Some after))
-  failed_at blobs (error.Io x) settles writes answers whole a = elim (not_missed blobs m.pointer m x _ (fault_of old) (fault_of new) old_view.failures new_view.failures whole answers) [
-    | inl kept ↦ (inl (kept.0, refl, kept.2), read_fails (error.Io x) a (Some x) settles writes kept.1)
-    | inr failed ↦ (inr (failed.0, refl, failed.2, failed.3), read_fails (error.Io x) a (Some x) settles writes failed.1)
+      → IsWhole m.pointer m (fault_of old) e → fault_of old ≡ None
+      → IsWhy e (holding_read before at) ((current_begin old ≤ at) × (EndsInReach (segment_size_of old) before.position → ⊥)) (fault_of new) old_view.failures new_view.failures
+  why_at blobs (error.Io x) answers whole none = elim (not_missed blobs m.pointer m x _ (fault_of old) (fault_of new) old_view.failures new_view.failures whole answers) [
+    | inl kept ↦ absurd (let bad : None ≡ Some x = sym none ∙ kept.0 in cc)
+    | inr failed ↦ (failed.1, failed.3, failed.2)
   ]
-  failed_at blobs error.OutOfMemory settles writes answers whole a = (answers.1, answers.3, read_fails error.OutOfMemory a None settles writes answers.2)
-  failed_at blobs error.PlacesUsedUp settles writes answers whole a =
+  why_at blobs error.OutOfMemory answers whole none =
+      let unused = answers.1 in
+      (λ needs. needs.1 (flush_in old sum begun k.tickets (λ used. unused ((let low = needs.0 in omega (arith, ints, low)), used))), answers.3, answers.4)
+  why_at blobs error.PlacesUsedUp answers whole none =
       let used = answers.1 in
-      (answers.2, (let low = used.0 in omega (arith, ints, low)), flush_out old sum begun k.tickets used.1, answers.4, read_fails error.PlacesUsedUp a None settles writes answers.3)
-  failed_at blobs (error.Held place) settles writes answers whole a =
+      (((let low = used.0 in omega (arith, ints, low)), flush_out old sum begun k.tickets used.1), answers.3, answers.4)
+  why_at blobs (error.Held place) answers whole none =
       let up = answers.1 in
-      (answers.3, (up.0, sym (holding_seen old sum at begun k of.read_below) ∙ up.1, up.2), answers.5, read_fails (error.Held place) a None settles writes answers.4)
-  failed_at blobs (error.NotReserved place) settles writes answers whole a = let high = answers.2 in let low = of.read_below in absurd (omega (arith, ints, high, low))
-  failed_at blobs (error.Corruption place) settles writes answers whole a = absurd (not_damaged m.pointer m (fault_of old) place whole)
-  failed_at blobs _ settles writes answers whole a = absurd answers
+      let unused = answers.2 in (
+        (up.0, sym (holding_seen old sum at begun k of.read_below) ∙ up.1, up.2),
+        (λ needs. needs.1 (flush_in old sum begun k.tickets (λ used. unused ((let low = needs.0 in omega (arith, ints, low)), used)))),
+        answers.4,
+        answers.5,
+      )
+  why_at blobs (error.NotReserved place) answers whole none = let high = answers.2 in let low = of.read_below in absurd (omega (arith, ints, high, low))
+  why_at blobs (error.Corruption place) answers whole none = absurd (not_damaged m.pointer m (fault_of old) place whole)
+  why_at blobs _ answers whole none = absurd answers
+
+  failed_at : (blobs : ℤ → Option (List ℕ)) (e : Error) → Performs (settling sum old (place_read (pos m.place) m.pointer)) old_view.trace new_view.trace → CameAround (traces view) sum at old new
+      → ReadAnswers {T = LogRead} sum blobs m.pointer (Err e) (pos at) (synced_end old) (reserved_end old) (held_at sum old (pos at)) (IsUsedUpAt old (pos at)) (fault_of old) (fault_of new) old_view.failures new_view.failures
+      → IsWhole m.pointer m (fault_of old) e → fault_of old ≡ None → OnDone {T = LogRead} (Err e) (new_view.trace ≡ after_all (settling sum old (place_read (pos m.place) m.pointer)) old_view.trace)
+      → (a : RunState) → FailsAt (segment_size_of old) a before at e old_view new_view (with_log a new_view (Some after))
+  failed_at blobs e made came answers whole none done a =
+      let seen_so = shows old sum at begun k of.read_below in
+      let some : syncs new_view.trace ≡ syncs old_view.trace → (fault_of new ≡ None → new_view.trace ≡ old_view.trace) → WritesSome before (sealed_around at before) (reading_around before at) 0 e (fault_of new) old_view new_view =
+      λ synced still. record {
+        buffers = sealed_at sum at old;
+        shown = seen_so;
+        made = subst (λ (es : List Event). Performs es old_view.trace new_view.trace) settling_seen made;
+        synced = omega (arith, synced);
+        whole = still;
+        held = if_held LogRead e _ _ (λ all. all ∙ ap (λ (es : List Event). after_all es old_view.trace) settling_seen) done;
+      } in
+      let over_it : LogView → RunState = λ x. with_log a new_view (Some x) in
+      record {
+        sound = none;
+        fault = fault_of new;
+        why = why_at blobs e answers whole none;
+        came = elim came [
+          | inl same ↦ inl (
+            some (ap syncs same.1) (λ sound. same.1),
+            inl (ap over_it (leaves (spans (waiting_of old)) (start_of old) (fault_of new) (ap spans same.0.0) same.0.1 refl)),
+          )
+          | inr (inl sealed) ↦ inl (
+            some sealed.1.synced sealed.1.still,
+            inr (ap over_it (leaves (sealed_around at before) (start_around at before) (fault_of new) (ap spans sealed.0.0 ∙ seen_so.are) (sealed.0.1 ∙ start_seen old sum at begun k of.read_below) refl)),
+          )
+          | inr (inr written) ↦ inr (
+            record { buffers = sealed_at sum at old; shown = seen_so; made = written.1 ∙ ap (λ (es : List Event). after_all es old_view.trace) (calls_seen old sum at begun k of.read_below) },
+            (ap over_it (leaves (spans_without at (sealed_around at before)) (start_around at before) (fault_of new)
+                (ap spans written.0.0 ∙ without_around_seen old sum at begun k of.read_below) (written.0.1 ∙ start_seen old sum at begun k of.read_below) refl)),
+          )
+        ];
+      }
 
   -- what is told of a read of a pointer, and of the place that it brings to the device
   abbrev AnswersAt : (ℤ → Option (List ℕ)) → Result LogRead Error → DiskPtr → ℤ → Type 0
   AnswersAt blobs r p z = WritesAround sum r z old new
       × ReadAnswers sum blobs p r z (synced_end old) (reserved_end old) (held_at sum old z) (IsUsedUpAt old z) (fault_of old) (fault_of new) old_view.failures new_view.failures
+      × OnErr r (CameAround (traces view) sum (unsigned_abs z) old new)
 
   abbrev pub Told : (ℤ → Option (List ℕ)) → Result LogRead Error → ℤ → DiskPtr → Type 0
   Told blobs r z p = Settles (traces view) sum r z p old new × AnswersAt blobs r p (place_read z p)
@@ -274,11 +307,11 @@ module _ {D C : Type 0} (view : D → DeviceView) (sum : List ℕ → ℕ) (old 
       let own = subst (λ (x : ℤ × DiskPtr). Told blobs r x.0 x.1) (λ i. (sym here i, sym points i)) told in
       (own.0, subst (AnswersAt blobs r m.pointer) of.read own.1)
 
-  pub read_failed : (blobs : ℤ → Option (List ℕ)) (e : Error) (z : ℤ) (p : DiskPtr) → pos m.place ≡ z → m.pointer ≡ p → Told blobs (Err e) z p → IsWhole p m (fault_of old) e
-      → (a : RunState) → ReadFailsFor (segment_size_of old) a before at e old_view new_view (with_log a new_view (Some after))
-  read_failed blobs e z p here points told whole a =
+  pub read_failed : (blobs : ℤ → Option (List ℕ)) (e : Error) (z : ℤ) (p : DiskPtr) → pos m.place ≡ z → m.pointer ≡ p → Told blobs (Err e) z p → IsWhole p m (fault_of old) e → fault_of old ≡ None
+      → (a : RunState) → FailsAt (segment_size_of old) a before at e old_view new_view (with_log a new_view (Some after))
+  read_failed blobs e z p here points told whole none a =
       let own = told_own blobs (Err e) z p here points told in
-      failed_at blobs e own.0 own.1.0 own.1.1 (subst (λ (x : DiskPtr). IsWhole x m (fault_of old) e) (sym points) whole) a
+      failed_at blobs e own.0.at_most own.1.2 own.1.1 (subst (λ (x : DiskPtr). IsWhole x m (fault_of old) e) (sym points) whole) none own.0.made a
 
   -- It was read.
 
@@ -300,10 +333,12 @@ module _ {D C : Type 0} (view : D → DeviceView) (sum : List ℕ → ℕ) (old 
       let answers = own.1.1 in (
         answers.3,
         record {
-          buffers = sealed_at sum at old;
-          shown = shows old sum at begun k of.read_below;
-          made = own.0.made ∙ ap (λ (es : List Event). after_all es old_view.trace) settling_seen;
           free = sym (holding_seen old sum at begun k of.read_below) ∙ answers.1;
+          writes = record {
+            buffers = sealed_at sum at old;
+            shown = shows old sum at begun k of.read_below;
+            made = own.0.made ∙ ap (λ (es : List Event). after_all es old_view.trace) settling_seen;
+          };
           failures = answers.5;
         },
         around r own.1.0 (answers.4 ∙ sym answers.3),
@@ -316,10 +351,12 @@ reads_more : (done : List Message) (m : Message) (l end : LogView) (old mid new 
 reads_more [] m l end old mid new is more = (
   new,
   record {
-    buffers = more.buffers;
-    shown = subst (λ (x : LogView). ShowsBuffers (opens x) (sealed_around (read_at m) x) more.buffers) is.2 more.shown;
-    made = more.made ∙ (λ i. after_all (if nat_lt (read_at m) (is.2 i).synced then [] else write_around (read_at m) more.buffers) (is.0 i));
     free = subst (λ (x : LogView). holding_read x (read_at m) ≡ None) is.2 more.free;
+    writes = record {
+      buffers = more.writes.buffers;
+      shown = subst (λ (x : LogView). ShowsBuffers (opens x) (sealed_around (read_at m) x) more.writes.buffers) is.2 more.writes.shown;
+      made = more.writes.made ∙ (λ i. after_all (reading_around (is.2 i) (read_at m) more.writes.buffers) (is.0 i));
+    };
     failures = more.failures ∙ is.1;
   },
   (refl, refl, ap (λ (x : LogView). read_around x (read_at m)) is.2),
@@ -338,35 +375,59 @@ pub record AreRead (l : LogView) (ms : List Message) (rest : List Entry) (old no
   pub split : ms ≡ done ++ left
   pub entries : map entry_of left ≡ rest
   pub reads : ReadsAll l done old now l'
-  pub items_are : item_bytes items ≡ map (λ m. m.bytes) done
-  pub fault : (done ≡ []) ⊎ (l.fault ≡ None)
+  pub items_are : map (λ v. v.items) items ≡ map (λ m. m.bytes) done
+  pub sound : l'.fault ≡ None
 
 -- So many of a page's entries are read.
 pub record HasReadSome {D C : Type 0} (view : D → DeviceView) (sum : List ℕ → ℕ) (old : Log D C) (page : ℕ) (entries : List Entry) (now : Log D C) (items : List (Vec ℕ Global)) (rest : List Entry) : Type 0 where
+  pub free : fault_of old ≡ None
   pub only : KeepsOpen (traces view) sum old now
   pub so_far : (k : Unstored) (ms : List Message) (begun : ℕ) → IsRead (traces view) sum old k → All (IsOfPage k.history (reserved_end old) page) ms → map entry_of ms ≡ entries
       → AreRead (seen_log old begun k.tickets) ms rest (view (device_of old)) (view (device_of now)) items (seen_log now begun k.tickets)
 
--- a read that stopped is a step
-stops_step : (n : ℕ) (a : RunState) (l : LogView) (ms : List Message) (e : Error) (new : DeviceView) (b : RunState) → ReadStops n a l ms e new b → ReadStep n a l ms (reply.Failed e) new b
-stops_step n a l ms error.OutOfMemory new b stops = inr stops
-stops_step n a l ms _ new b stops = stops
+-- of what a page is that is present there is a first message
+first_there : (ms : List Message) → is_present ms ≡ true → (m : Message) × (rest : List Message) × (ms ≡ m ∷ rest)
+first_there [] present = cc
+first_there (m ∷ ms) present = (m, ms, refl)
+
+-- a read keeps what failure is kept
+fault_around : (l : LogView) (at : ℕ) → (read_around l at).fault ≡ l.fault
+fault_around l at = by (nat_lt at l.synced) where
+  by : (o : Bool) → (if o then l else flushed l (spans_without at (sealed_around at l)) (start_around at l) l.fault).fault ≡ l.fault
+  by true = refl
+  by false = refl
+
+-- a log that keeps no failure is seen as one of which nothing was written
+still_seen : {D C : Type 0} (log : Log D C) (begun : ℕ) (tickets : List (Option Message)) → fault_of log ≡ None
+    → seen_log log begun tickets ≡ flushed (seen_log log begun tickets) (spans (waiting_of log)) (start_of log) None
+still_seen log begun tickets none =
+    let l : LogView = seen_log log begun tickets in
+    λ i. record l { synced = first_seen log i; noted = (noted_still log ∙ ap (λ n. not_whole n (noted_in log)) (first_seen log)) i; fault = none i }
 
 module _ {D C : Type 0} (view : D → DeviceView) (sum : List ℕ → ℕ) (old : Log D C) (page : ℕ) where
   -- nothing was done
   pub only_same : KeepsOpen (traces view) sum old old
   only_same = record { keeps = kept_still (traces view) sum old; tickets = record { awaits = λ ticket m awaits. awaits; opens = refl }; position = position_still old; free = λ none. none }
 
-  pub none_read : (entries : List Entry) → HasReadSome view sum old page entries old [] entries
-  none_read entries = record {
+  pub none_read : (entries : List Entry) → fault_of old ≡ None → HasReadSome view sum old page entries old [] entries
+  none_read entries free = record {
+    free = free;
     only = only_same;
-    so_far = λ k ms begun is all are. record { done = []; left = ms; split = refl; entries = are; reads = (refl, refl, refl); items_are = refl; fault = inl refl };
+    so_far = λ k ms begun is all are. record { done = []; left = ms; split = refl; entries = are; reads = (refl, refl, refl); items_are = refl; sound = free };
   }
 
-  pub unread : (entries : List Entry) → ReadsEntries view sum old page entries old (Err error.OutOfMemory)
-  unread entries = record {
+  -- for want of memory for the list of items
+  pub unread : (entries : List Entry) → fault_of old ≡ None → ReadsEntries view sum old page entries old (Err error.OutOfMemory)
+  unread entries free = record {
     only = only_same;
-    step = λ k ms begun a is all are present device log. inl (sym device, λ i. record { device = sym device i; history = a.history; acknowledged = a.acknowledged; floor = a.floor; log = sym log i });
+    step = λ k ms begun a is all are present device log. inr (inl (free, sym device, λ i. record a { device = sym device i; log = sym log i }));
+  }
+
+  -- or since the log keeps a failure
+  pub kept_unread : (entries : List Entry) (x : IoError) → fault_of old ≡ Some x → ReadsEntries view sum old page entries old (Err (error.Io x))
+  kept_unread entries x kept = record {
+    only = only_same;
+    step = λ k ms begun a is all are present device log. inl (kept, sym device, λ i. record a { device = sym device i; log = sym log i });
   }
 
   module _ (entries : List Entry) (mid : Log D C) (items : List (Vec ℕ Global)) where
@@ -417,6 +478,7 @@ module _ {D C : Type 0} (view : D → DeviceView) (sum : List ℕ → ℕ) (old 
     pub one_more : (new : Log D C) (e : Entry) (rest : List Entry) (item : Vec ℕ Global) → HasReadSome view sum old page entries mid items (e ∷ rest) → ReadsItem view sum mid page (to_z w64 (of_z w64 e.0)) e.1 new (Ok item)
         → HasReadSome view sum old page entries new (items ++ item ∷ []) rest
     one_more new e rest item some reads = record {
+      free = some.free;
       only = further new some.only reads.only;
       so_far = λ k ms begun is all are.
           let came = some.so_far k ms begun is all are in
@@ -432,10 +494,7 @@ module _ {D C : Type 0} (view : D → DeviceView) (sum : List ℕ → ℕ) (old 
             reads = subst (λ (x : LogView). ReadsAll l (came.done ++ one.message ∷ []) (view (device_of old)) (view (device_of new)) x) (sym got.3)
                 (reads_more came.done one.message l now (view (device_of old)) (view (device_of mid)) (view (device_of new)) came.reads got.2);
             items_are = map-append (λ (v : Vec ℕ Global). v.items) items (item ∷ []) ∙ (λ i. came.items_are i ++ got.0 i ∷ []) ∙ sym (map-append (λ (m : Message). m.bytes) came.done (one.message ∷ []));
-            fault = inr (elim came.fault [
-              | inl none ↦ (let same : now ≡ l = (subst (λ ds. ReadsAll l ds (view (device_of old)) (view (device_of mid)) now) none came.reads).2 in ap (λ (x : LogView). x.fault) (sym same) ∙ got.1)
-              | inr free ↦ free
-            ]);
+            sound = ap (λ (x : LogView). x.fault) got.3 ∙ fault_around now (read_at one.message) ∙ came.sound;
           };
     }
 
@@ -448,7 +507,7 @@ module _ {D C : Type 0} (view : D → DeviceView) (sum : List ℕ → ℕ) (old 
           let one = next k.history ms came.done came.left e rest came.split came.entries some.only.position all in
           let l : LogView = seen_log old begun k.tickets in
           let b : RunState = with_log a (view (device_of new)) (Some (seen_log new begun k.tickets)) in
-          stops_step (segment_size_of old) a l ms why (view (device_of new)) b (record {
+          inr (inr (record {
             done = came.done;
             message = one.message;
             rest = one.later;
@@ -456,9 +515,9 @@ module _ {D C : Type 0} (view : D → DeviceView) (sum : List ℕ → ℕ) (old 
             mid = view (device_of mid);
             log = seen_log mid begun k.tickets;
             so_far = subst (λ (x : DeviceView). ReadsAll l came.done x (view (device_of mid)) (seen_log mid begun k.tickets)) (sym device) came.reads;
-            fails = subst (λ n. ReadFailsFor n a (seen_log mid begun k.tickets) (read_at one.message) why (view (device_of mid)) (view (device_of new)) b) some.only.position.size
-                (reads.item k one.message begun (is_read k some.only is) one.of one.place one.pointer a);
-          });
+            fails = subst (λ n. FailsAt n a (seen_log mid begun k.tickets) (read_at one.message) why (view (device_of mid)) (view (device_of new)) b) some.only.position.size
+                (reads.item k one.message begun (is_read k some.only is) one.of one.place one.pointer came.sound a);
+          }));
     }
 
     pub all_read : (vs : Vec (Vec ℕ Global) Global) → vs.items ≡ items → HasReadSome view sum old page entries mid items [] → ReadsEntries view sum old page entries mid (Ok vs)
@@ -470,8 +529,8 @@ module _ {D C : Type 0} (view : D → DeviceView) (sum : List ℕ → ℕ) (old 
           let done : ms ≡ came.done = came.split ∙ ap (λ xs. came.done ++ xs) (none_left came.left came.entries) ∙ append-nil came.done in
           record {
             present = present;
-            fault = elim came.fault [ inl none ↦ absurd (let bad = subst (λ xs. is_present xs ≡ true) (done ∙ none) present in cc) | inr free ↦ free ];
-            items_are = ap item_bytes items_is ∙ came.items_are ∙ ap (map (λ m. m.bytes)) (sym done);
+            sound = some.free;
+            items_are = ap (map (λ (v : Vec ℕ Global). v.items)) items_is ∙ came.items_are ∙ ap (map (λ m. m.bytes)) (sym done);
             log = seen_log mid begun k.tickets;
             reads = subst (λ xs. ReadsAll l xs a.device (view (device_of mid)) (seen_log mid begun k.tickets)) (sym done) (subst (λ (x : DeviceView). ReadsAll l came.done x (view (device_of mid)) (seen_log mid begun k.tickets)) (sym device) came.reads);
             leads = refl;

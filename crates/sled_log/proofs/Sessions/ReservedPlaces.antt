@@ -11,7 +11,6 @@ use Rattle.sled_core.specs.declared.logger.Log.{Log}
 use Rattle.sled_core.specs.Fits.{FitsInline, IsLeastOpen, IsUsedUpFor, current_begin, current_of, fault_of, in_blob, is_moved, line_of, next_place, open_for, open_of, open_places, position_of, reserved_end, segment_size_of, start_behind, start_of, waiting_behind, waiting_of}
 use Rattle.sled_core.specs.OpenPlaces.{places_from}
 use Rattle.sled_core.specs.Positions.{Position, is_short, next_segment_at, position_in}
-use Rattle.sled_core.specs.Prepared.{reserved_ready}
 use Rattle.sled_core.specs.Waiting.{at_last, closed_now, spans, unwritten}
 use Rattle.sled_core.proofs.Line.Entered.{filled_last}
 use Rattle.sled_core.proofs.Line.Facts.{current_facts}
@@ -134,17 +133,6 @@ module _ {D C : Type 0} (log : Log D C) (begun : ℕ) (tickets : List (Option Me
     by false is =
         ap (λ (b : Bool). spans (if b then unwritten (at_last (closed_now sum size) (line_of log)) else waiting_of log)) is
         ∙ sym (ap (λ (b : Bool). if b then spans (waiting_of log) ++ current_span l q ∷ [] else spans (waiting_of log)) is)
-
-  -- and where what was reserved ends, once the log is ready for the record
-  pub end_seen : reserved_ready log page n ≡ (if is_behind l q then q.place else reserved_end log)
-  end_seen = ap (λ (b : Bool). if b then q.place else reserved_end log) moved_seen
-
-  -- which is never further in front
-  pub end_grows : reserved_end log ≤ reserved_ready log page n
-  end_grows = by (is_moved log page n) where
-    by : (o : Bool) → reserved_end log ≤ (if o then q.place else reserved_end log)
-    by true = reserved_below
-    by false = omega arith
 
   -- It needs no further segment, or that ends in reach, exactly where the segment of the record does.
   pub in_reach : (IsUsedUpFor log page n → ⊥) → EndsInReach size q

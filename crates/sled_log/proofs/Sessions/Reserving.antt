@@ -1,5 +1,6 @@
 -- What a reservation makes of a session: the tickets with the one that comes, or all as it was, or the log ready for a record that it has none of.
 use Rattle.std.proofs.Common.{◌≡◌, ◌≢◌, ◌∙◌, ◌≤◌, ◌<◌, ◌+◌, ◌==◌, inl, inr, ℕ, ℤ, pos, Bool, true, false, if◌then◌else◌, List, [], ◌∷◌, length, map, get_or, Option, is_some, is_err, Some, None, Result, Ok, Err, Vec, Global, refl, sym, ap, subst, arith}
+use Rattle.std.proofs.lemmas.Bool.Decides.{Decides-int_eq}
 use Rattle.std.specs.Bool.{MatchBool}
 use Rattle.std.specs.Prelude.{IsSome, OnOk}
 use Rattle.std.specs.List.{Contains, slice_get}
@@ -47,9 +48,9 @@ use Rattle.sled_log.specs.Reservations.{HasTried, HoldsTicket, MakesRoom, MayRes
 use Rattle.sled_log.specs.RunPhases.{HasBatch, IsOpenAt, IsSafe, Unstored, device_in, seen, seen_log, stands, traces}
 use Rattle.sled_log.specs.RunStates.{DeviceView, LogView, RunState, has_page, open_messages, target_in, top}
 use Rattle.sled_log.specs.TicketActs.{BlobActs, ReserveActs, making_for}
-use Rattle.sled_log.specs.TicketSteps.{HasRecordPlace, RefusedStep, ReserveStep}
+use Rattle.sled_log.specs.TicketSteps.{HasRecordPlace, RefusedStep, ReserveStep, own_in}
 use Rattle.sled_log.proofs.Sessions.KeptPlaces.{HasHeld, KeptPlace, held_manifest, held_message, over_log, with_ticket}
-use Rattle.sled_log.proofs.Sessions.ReservedPlaces.{beside_count, beside_least, body_fits, end_grows, end_seen, in_reach, out_of_reach, start_with_seen, waiting_seen}
+use Rattle.sled_log.proofs.Sessions.ReservedPlaces.{beside_count, beside_least, body_fits, in_reach, out_of_reach, start_with_seen, waiting_seen}
 use Rattle.sled_log.proofs.Sessions.RunLemmas.{on_success}
 use Rattle.sled_log.proofs.Sessions.SafeItems.{safe_on}
 
@@ -96,7 +97,7 @@ blob_same es fault old new (error.Io x) same = (performs_nothing es old.trace ne
 blob_same es fault old new error.OutOfMemory same = (ap (λ (d : DeviceView). d.trace) same, ap (λ (d : DeviceView). d.failures) same)
 blob_same es fault old new _ same = same
 
-pub acts_same : (sum : List ℕ → ℕ) (size : ℕ) (l : LogView) (kind : LogKind) (page : ℕ) (bytes : List ℕ) (old new : DeviceView) (e : Error) → new ≡ old → ReserveActs sum size (Some l) kind page bytes old (reply.Failed e) new
+pub acts_same : (sum : List ℕ → ℕ) (size : ℕ) (l : LogView) (kind : LogKind) (page : ℕ) (bytes : List ℕ) (old new : DeviceView) (e : Error) → new ≡ old → ReserveActs sum size l kind page bytes old (reply.Failed e) new
 acts_same sum size l kind page bytes old new e same = either (in_blob size (length bytes)) _ _ (λ goes. blob_same _ l.fault old new e same) (λ stays. same)
 
 -- what holds of the calls that make a blob for a kind that is there
@@ -136,7 +137,7 @@ module _ {D C : Type 0} (view : D → DeviceView) (sum : List ℕ → ℕ) (old 
 
   -- Where it was made,
   pub made_acts : (reservation : Reservation) (number : ℕ) (place : ℤ) (pointer : DiskPtr) → ReservesAs (traces view) (counts view) sum (Ok reservation) kind page bytes goes body old new
-      → ReserveActs sum (segment_size_of old) (Some there) kind page bytes (view old.config.device) (reply.Reserved number place pointer) (view new.config.device)
+      → ReserveActs sum (segment_size_of old) there kind page bytes (view old.config.device) (reply.Reserved number place pointer) (view new.config.device)
   made_acts reservation number place pointer came = either goes _ _
       (λ is. (
         making_by (λ es. (view new.config.device).trace ≡ after_all es (view old.config.device).trace) sum (kind_for kind page true 8) blob_place bytes (kind_there is came.answers.1.0) (blob_made Reservation (Ok reservation) goes is came.device).done,
@@ -161,6 +162,11 @@ module _ {D C : Type 0} (view : D → DeviceView) (sum : List ℕ → ℕ) (old 
 
 -- Where a place was kept.
 
+-- The blob that a reservation makes has the place of its message.
+own_here : (b : Bool) (place lid : ℕ) → blob_at b place ≡ own_in (pos place) (pointer_as (blob_at b place) lid)
+own_here false place lid = refl
+own_here true place lid = sym (ap (λ (o : Bool). if o then Some (pos place) else None) ((Decides-int_eq (pos place) (pos place)).1 refl))
+
 -- A reservation that succeeds keeps one for its message.
 pub kept_place : {D C : Type 0} (trace : D → Trace) (faults : D → ℕ) (sum : List ℕ → ℕ) (old new : Log D C) (kind : LogKind) (page : ℕ) (bytes : List ℕ) (reservation : Reservation)
     → ReservesAs trace faults sum (Ok reservation) kind page bytes (in_blob_of old (length bytes)) (body_length old (length bytes)) old new
@@ -169,6 +175,7 @@ kept_place trace faults sum old new kind page bytes reservation came = record {
   place = refl;
   size = refl;
   ticket = came.ticket;
+  own = came.own ∙ own_here (in_blob_of old (length bytes)) (target_of old page (body_length old (length bytes))).place (lid_at (target_of old page (body_length old (length bytes))));
   stored = came.stored;
   behind = came.behind;
   others = came.others;
@@ -208,7 +215,7 @@ module _ {D C : Type 0} (view : D → DeviceView) (sum : List ℕ → ℕ) (old 
       let number : ℕ = length old.tickets.items in
       subst (λ r. HasTried view sum old kind page bytes new r k) (sym holds.told) (record {
         not_refused = refl;
-        acts = subst (λ (x : Log D C). ReserveActs sum (segment_size_of old.log) (Some (seen old k.tickets)) kind page bytes (view old.log.config.device) (reply.Reserved number (place_of reservation) (pointer_of reservation)) (view x.config.device)) (sym holds.log)
+        acts = subst (λ (x : Log D C). ReserveActs sum (segment_size_of old.log) (seen old k.tickets) kind page bytes (view old.log.config.device) (reply.Reserved number (place_of reservation) (pointer_of reservation)) (view x.config.device)) (sym holds.log)
             (made_acts view sum old.log log kind page bytes (length old.pages.items) k.tickets reservation number (place_of reservation) (pointer_of reservation) came);
         tickets = with_ticket k its;
         step = held.reserved;
@@ -264,6 +271,7 @@ still_at trace sum old new k still pages tickets busy batch at =
               kind = is.kind;
               page = is.page;
               awaits = still.awaits is.ticket.reservation m is.awaits;
+              own = is.own;
               stored = still.safe m is.stored;
               joins = is.joins;
               begins_batch = λ of. let begun = is.begins_batch of in record { kind = begun.kind; inline = begun.inline; apart = λ b known. begun.apart b (subst (λ (bs : List Batch). Contains bs b) still.noted known) };
@@ -294,12 +302,12 @@ unchanged_holds trace sum old new unchanged keeps = record {
 }
 
 -- and one that was made ready for a record.
-ready_holds : {D C : Type 0} (trace : D → Trace) (sum : List ℕ → ℕ) (old new : Log D C) (begun : ℕ) (tickets : List (Option Message)) (page n : ℕ) → FitsInline (segment_size_of old) n → IsMadeReady sum old new page n → Preserves trace sum old new → StillHolds trace sum old new
-ready_holds trace sum old new begun tickets page n inline made keeps = record {
+ready_holds : {D C : Type 0} (trace : D → Trace) (sum : List ℕ → ℕ) (old new : Log D C) (page n : ℕ) → IsMadeReady sum old new page n → Preserves trace sum old new → StillHolds trace sum old new
+ready_holds trace sum old new page n made keeps = record {
   fits = keeps.fits;
   awaits = made.tickets.awaits;
   opens = made.tickets.opens;
-  grown = let end = made.reserved in let up = end_grows old begun tickets sum page n inline in omega (arith, end, up);
+  grown = let end = made.reserved in omega (arith, end);
   pins = made.seen.pins;
   noted = made.seen.noted;
   sound = keeps.goes_on.sound;
@@ -377,7 +385,6 @@ module _ {D C : Type 0} (view : D → DeviceView) (sum : List ℕ → ℕ) (old 
   ready_tried : (e : Error) → Came e → blob ≡ true → IsMadeReady sum old.log log page n → fault_of old.log ≡ None → BlobActs (making_for sum (kind_for kind page true 8) (pos q.place) bytes) l.fault a.device (reply.Failed e) now
       → HasRecordPlace size l q e → MadeAnswers {T = Unit {0}} (Err e) ((state_of a.device.trace).blobs.file (pos q.place)) (fault_of log) a.device.failures now.failures → HasTried view sum old kind page bytes after (reply.Failed e) k
   ready_tried e came is made none acts room cause =
-      let end = made.reserved ∙ end_seen old.log begun k.tickets sum page n fits in
       let waiting = ap spans made.seals.0 ∙ waiting_seen old.log begun k.tickets sum page n fits in
       let start = made.seals.1 ∙ start_with_seen old.log begun k.tickets sum page n fits in
       record {
@@ -400,7 +407,7 @@ module _ {D C : Type 0} (view : D → DeviceView) (sum : List ℕ → ℕ) (old 
                 position = made.position i;
                 synced = made.seen.synced i;
                 noted = made.seen.noted i;
-                end = end i;
+                end = made.reserved i;
                 waiting = waiting i;
                 start = start i;
                 begun = begun;
@@ -411,7 +418,7 @@ module _ {D C : Type 0} (view : D → DeviceView) (sum : List ℕ → ℕ) (old 
             };
           },
         );
-        at = still_at (traces view) sum old after k (ready_holds (traces view) sum old.log log begun k.tickets page n fits made came.keeps) refl refl (λ p. refl) refl at;
+        at = still_at (traces view) sum old after k (ready_holds (traces view) sum old.log log page n made came.keeps) refl refl (λ p. refl) refl at;
       }
 
   -- a device that failed, or a blob of that name
@@ -475,7 +482,7 @@ room_tried {D = D} {C = C} view sum old mid new kind page bytes result k room tr
     let run : Log D C → ℕ → RunState = λ x begun. record { device = view x.config.device; history = k.history; acknowledged = k.acknowledged; floor = k.floor; log = Some (seen_log x begun k.tickets) } in
     record {
       not_refused = tried.not_refused;
-      acts = by_room old mid (λ x begun. ReserveActs sum (segment_size_of x) (Some (seen_log x begun k.tickets)) kind page bytes (view x.config.device) result now) room tried.acts;
+      acts = by_room old mid (λ x begun. ReserveActs sum (segment_size_of x) (seen_log x begun k.tickets) kind page bytes (view x.config.device) result now) room tried.acts;
       tickets = tried.tickets;
       step = by_room old mid (λ x begun. ReserveStep (segment_size_of x) (run x begun) (seen_log x begun k.tickets) kind page bytes result now (stands view (phase.Open new) tried.tickets)) room tried.step;
       at = tried.at;

@@ -1,6 +1,9 @@
 -- A page that is one item in a blob: its message may come again behind all that was reserved, with the item of that blob, which no crash takes.
-use Rattle.std.proofs.Common.{◌≡◌, ◌≢◌, ◌∙◌, ◌<◌, ℕ, ℤ, Bool, true, false, if◌then◌else◌, List, [], ◌∷◌, Err, None, Ok, Some, ap, arith, inl, inr, length, refl, subst, sym}
+use Rattle.std.proofs.Common.{◌≡◌, ◌≢◌, ◌∙◌, ◌<◌, ℕ, ℤ, pos, Bool, true, false, if◌then◌else◌, List, [], ◌∷◌, Err, None, Ok, Some, ap, arith, inl, inr, length, refl, subst, sym}
 use Rattle.std.specs.List.{Contains}
+use Rattle.std.specs.Ordering.{int_eq}
+use Rattle.std.proofs.lemmas.Bool.Decides.{Decides-int_eq}
+use Rattle.std.proofs.lemmas.Int.{ints}
 use Rattle.std.proofs.lemmas.List.Elements.{All-contains}
 use Rattle.std.proofs.lemmas.Option.{same_Some}
 use Rattle.sled_codec.specs.declared.result.DiskPtr.{DiskPtr}
@@ -15,11 +18,12 @@ use Rattle.sled_store.proofs.Segments.TableEntries.{from_table}
 use Rattle.sled_core.specs.declared.logger.Log.{Log}
 use Rattle.sled_core.specs.declared.reservation.Reservation.{Reservation}
 use Rattle.sled_core.specs.Causes.{RewriteAnswers}
-use Rattle.sled_core.specs.Fits.{Awaits, FitsInline, IsLeastOpen, IsUnchanged, IsUsedUpFor, KeepsAll, fault_of, message_rewriting, next_place, open_for, segment_size_of}
+use Rattle.sled_core.specs.Fits.{Awaits, FitsInline, IsLeastOpen, IsUnchanged, IsUsedUpFor, KeepsAll, fault_of, message_rewriting, next_place, open_for, segment_size_of, target_of}
 use Rattle.sled_core.specs.Keeps.{KeepsSeen, Preserves}
 use Rattle.sled_core.specs.Manifests.{manifest_page}
 use Rattle.sled_core.specs.Reserves.{StandsBehind}
 use Rattle.sled_core.specs.Running.{Fits, IsStored}
+use Rattle.sled_core.specs.Tickets.{own_blob}
 use Rattle.sled_core.proofs.PublicLaws.{can_rewrite, fits_reach, target_above}
 use Rattle.sled_log.specs.declared.session.Phase.TheVariants.{Open}
 use Rattle.sled_log.specs.declared.session.command.Command.TheVariants as command
@@ -31,8 +35,8 @@ use Rattle.sled_log.specs.Refusals.{has_no_blob, is_busy, reason_of, refusal_for
 use Rattle.sled_log.specs.Reservations.{HoldsTicket, MakesRoom}
 use Rattle.sled_log.specs.RunPhases.{Does, IsOpenAt, Unstored, device_in, seen, seen_log, stands, traces}
 use Rattle.sled_log.specs.RunStates.{DeviceView, RunState, blob_in, is_present, one_blob, page_now, target_in, top}
-use Rattle.sled_log.specs.TicketSteps.{RefusedStep, RewriteStep}
-use Rattle.sled_log.proofs.Sessions.Carried.{acting, passes, stepping}
+use Rattle.sled_log.specs.TicketSteps.{RefusedStep, RewriteStep, own_of}
+use Rattle.sled_log.proofs.Sessions.Carried.{passes, stepping}
 use Rattle.sled_log.proofs.Sessions.KeptPlaces.{KeptPlace, held_message, over_log, with_ticket}
 use Rattle.sled_log.proofs.Sessions.MadeHistories.{of_page_same}
 use Rattle.sled_log.proofs.Sessions.ReservedPlaces.{beside_least, out_of_reach}
@@ -95,13 +99,27 @@ module _ {D C : Type 0} (trace : D → Trace) (sum : List ℕ → ℕ) (opened :
       (subst (λ ms. Contains ms one.message) (sym (table_now trace sum opened.log k.history k.acknowledged k.floor at.unmarked at.fits at.made page)) there))
       one.replaces one.points)
 
-  -- and its blob is at the place of a message of the history below it.
-  pub rewriting_joins : JoinsWithBlob k.history (message_rewriting opened.log page blob one.message.bytes) (message_rewriting opened.log page blob one.message.bytes).pointer
-  rewriting_joins =
+  -- and its blob is at the place of a message of the history below it,
+  rewriting_below : (x : Message) × Contains k.history.messages x × (x.place < (target_of opened.log page 8).place) × (blob ≡ pos x.place)
+  rewriting_below =
       let has = subst (HasBlobIn k.history one.message) one.points (at.made.blobs one.message found.0) in
       let reach = All-contains (λ y. y.place < next_place opened.log) k.history.messages has.0 (fits_reach trace sum opened.log k.history k.acknowledged k.floor at.unmarked at.fits) has.1 in
       let up = target_above opened.log page 8 (let least = opened.log.config.config.least in omega (arith, least)) in
-      inr (has.0, has.1, omega (arith, reach, up), has.3)
+      (has.0, has.1, omega (arith, reach, up), has.3)
+
+  pub rewriting_joins : JoinsWithBlob k.history (message_rewriting opened.log page blob one.message.bytes) (message_rewriting opened.log page blob one.message.bytes).pointer
+  rewriting_joins = inr rewriting_below
+
+  -- and not at its own.
+  pub rewriting_apart : own_of (message_rewriting opened.log page blob one.message.bytes) ≡ None
+  rewriting_apart =
+      let below = rewriting_below in
+      let place : ℕ = (target_of opened.log page 8).place in
+      by place (λ same. (let at_other = below.3 in let low = below.2 in let is : pos below.0.place ≡ pos place = sym at_other ∙ same in absurd (omega (arith, ints, low, is)))) (int_eq blob (pos place)) refl
+    where
+      by : (place : ℕ) → (blob ≡ pos place → ⊥) → (o : Bool) → int_eq blob (pos place) ≡ o → (if o then Some blob else None) ≡ None
+      by place other true is = absurd (other ((Decides-int_eq blob (pos place)).0 is))
+      by place other false is = refl
 
 -- What a Rewrite comes to: the device is left alone.
 pub record HasTriedAgain {D C : Type 0} (view : D → DeviceView) (sum : List ℕ → ℕ) (old : Opened D C) (page : ℕ) (new : Opened D C) (result : Reply) (k : Unstored) : Type 0 where
@@ -119,8 +137,9 @@ rewrite_does view sum old page new result k tried =
     let now : DeviceView = device_in view (Open new) in
     record {
       not_refused = tried.not_refused;
-      acts = acting sum size a (command.Rewrite page) result now tried.not_refused tried.device;
-      step = λ own. (tried.tickets, stepping sum size a (command.Rewrite page) result now (stands view (Open new) tried.tickets) tried.not_refused tried.step, tried.at);
+      next = tried.tickets;
+      step = stepping sum size a (command.Rewrite page) result now (stands view (Open new) tried.tickets) tried.not_refused (tried.device, tried.step);
+      at = λ own. tried.at;
     }
 
 -- Where it isn't refused, the page is one item in a blob and has no open ticket.
@@ -186,7 +205,7 @@ module _ {D C : Type 0} (view : D → DeviceView) (sum : List ℕ → ℕ) (old 
     })
 
     -- The place that it kept has a ticket.
-    module _ (blob : ℤ) (one : one_blob (page_now k.history page) ≡ Some blob) (reservation : Reservation) (awaits : (item : List ℕ) → Awaits log reservation (message_rewriting mid.log page blob item))
+    module _ (blob : ℤ) (one : one_blob (page_now k.history page) ≡ Some blob) (reservation : Reservation) (awaits : (item : List ℕ) → Awaits log reservation (message_rewriting mid.log page blob item)) (own : own_blob reservation ≡ None)
         (answers : RewriteAnswers (Ok reservation) (fault_of mid.log) (IsUsedUpFor mid.log page 8) (open_for mid.log page 8) (IsLeastOpen mid.log)) (behind : StandsBehind sum mid.log log page 8)
         (others : (ticket : Reservation) (m : Message) → Awaits mid.log ticket m → Awaits log ticket m) where
       its_one : IsOneBlob (page_now k.history page) blob
@@ -203,6 +222,7 @@ module _ {D C : Type 0} (view : D → DeviceView) (sum : List ℕ → ℕ) (old 
         place = refl;
         size = refl;
         ticket = awaits its_one.message.bytes;
+        own = own ∙ sym (rewriting_apart (traces view) sum mid k at_mid page blob its_one);
         stored = keeps.goes_on.items none its (rewriting_stored (traces view) sum mid k at_mid page blob its_one);
         behind = behind;
         others = others;

@@ -10,12 +10,13 @@ use Rattle.sled_codec.specs.History.{History, no_history}
 use Rattle.sled_store.specs.declared.device.choice.Choice.{Choice}
 use Rattle.sled_store.specs.declared.config.RunningConfig.{RunningConfig}
 use Rattle.sled_store.specs.Blobs.{ItemAnswers}
-use Rattle.sled_store.specs.Causes.{StartRefuses}
+use Rattle.sled_store.specs.StartCauses.{StartRefuses}
 use Rattle.sled_store.specs.Chosen.{MayBeChosen, MayBeLeft}
 use Rattle.sled_store.specs.Device.{Event, Left, Trace, State, Content, Crashed, Settled, state_of, fresh, step, content_left, Leaves, names_at_rest}
 use Rattle.sled_store.specs.Moments.{IsLater}
 use Rattle.sled_store.specs.Noted.{left_of}
 use Rattle.sled_store.specs.Script.{Performs, Along}
+use Rattle.sled_store.specs.Stops.{KeepsToStop}
 use Rattle.sled_store.proofs.LogFile.LogLemmas.{at_rest_left}
 use Rattle.sled_store.proofs.Names.NamesLemmas.{settled_name_left, settled_name_at_rest}
 use Rattle.sled_store.proofs.Traces.ScriptLemmas.{performs_throughout}
@@ -35,7 +36,8 @@ use Rattle.sled_log.specs.declared.session.command.Reply.{Reply}
 use Rattle.sled_log.specs.declared.session.command.Reply.TheVariants as reply
 use Rattle.sled_log.specs.Refusals.{reason_of, refusal_for, when}
 use Rattle.sled_log.specs.RunStates.{DeviceView, RunState}
-use Rattle.sled_log.specs.Runs.{Acts, Carries, IsCause, IsOwn, IsStartCause, IsStep, told}
+use Rattle.sled_log.specs.OpenSteps.{IsCause, IsStartCause}
+use Rattle.sled_log.specs.Runs.{Carries, IsOwn, IsStep, told}
 use Rattle.sled_log.specs.RunPhases.{AnswersIn, CarriesOut, Does, IsAt, IsClosedAt, IsOpenAt, RunsOn, StandsIn, Unstored, device_in, running, size_of, stands, traces}
 use Rattle.sled_log.proofs.Sessions.MadeHistories.{none_made}
 
@@ -139,7 +141,7 @@ pub start_cause : (e : Error) (startable in_reach unwritten : Type 0) (before af
 start_cause (error.Io e) startable in_reach unwritten before after refuses whole = refuses
 start_cause error.OutOfMemory startable in_reach unwritten before after refuses whole = refuses
 start_cause (error.Corruption at) startable in_reach unwritten before after refuses whole = absurd (whole tt)
-start_cause error.PlacesUsedUp startable in_reach unwritten before after refuses whole = refuses.2
+start_cause error.PlacesUsedUp startable in_reach unwritten before after refuses whole = refuses.3
 start_cause _ startable in_reach unwritten before after refuses whole = absurd refuses
 
 -- Phases.
@@ -157,15 +159,17 @@ closed_at trace sum opened k at = record { made = at.made; left = fits_leaves tr
 pub halted : {D C : Type 0} (view : D → DeviceView) (sum : List ℕ → ℕ) (opened : Opened D C) (config : RunningConfig D C) → config ≡ config_of opened.log → CarriesOut view sum (phase.Open opened) command.Halt (phase.Closed config, reply.Halted)
 halted view sum opened config is = λ k at free. record {
   not_refused = refl;
-  acts = ap (λ (x : RunningConfig _ _). view x.device) is;
-  step = λ own. (k, refl, subst (λ (x : RunningConfig _ _). IsClosedAt sum x.config.segment_size (traces view x.device) k) (sym is) (closed_at (traces view) sum opened k at));
+  next = k;
+  step = (ap (λ (x : RunningConfig _ _). view x.device) is, refl);
+  at = λ own. subst (λ (x : RunningConfig _ _). IsClosedAt sum x.config.segment_size (traces view x.device) k) (sym is) (closed_at (traces view) sum opened k at);
 }
 
 -- A crash from any phase.
 module _ {D C : Type 0} (view : D → DeviceView) (sum : List ℕ → ℕ) (from : Phase D C) (config : RunningConfig D C) (choice copy : Choice) (result : Phase D C × Reply) (taken : Bool) where
-  abbrev Crashes : DeviceView → DeviceView → Left → Type 0
-  Crashes old new l = (IsTrue taken ↔ MayBeLeft l (state_of old.trace))
-      × (new ≡ record { trace = Crashed (if taken then l else Settled []) ∷ old.trace; failures = old.failures; is_stopped = false; stops_in = None })
+  abbrev Crashes : Unstored → RunState → DeviceView → DeviceView → Left → Type 0
+  Crashes k to new old l = ((IsTrue taken ↔ MayBeLeft l (state_of old.trace))
+      × (new ≡ record { trace = Crashed (if taken then l else Settled []) ∷ old.trace; failures = old.failures; is_stopped = false }))
+      × (to ≡ record { device = new; history = k.history; acknowledged = k.acknowledged; floor = k.floor; log = None })
 
   abbrev Own : ℕ → DeviceView → Left → Type 0
   Own size old l = NoForeign sum size (state_of old.trace) (content_left (if taken then l else Settled []) (state_of old.trace))
@@ -194,28 +198,24 @@ module _ {D C : Type 0} (view : D → DeviceView) (sum : List ℕ → ℕ) (from
       new = device_in view result.0
 
       by : (k : Unstored) → Does view sum (phase.Closed config) (command.Crash copy) result k → Does view sum from (command.Crash choice) result k
-      by k does = record {
+      by k does = let to : RunState = stands view result.0 does.next in record {
         not_refused = does.not_refused;
-        acts = subst (λ (r : Reply). Acts sum (size_of from) (stands view from k) (command.Crash choice) r new) (sym told_is)
-            (subst (λ (d : DeviceView). Crashes d new (left_of choice)) from_device (subst (Crashes (view config.device) new) same
-            (subst (λ (r : Reply). Acts sum config.config.segment_size (stands view (phase.Closed config) k) (command.Crash copy) r new) told_is does.acts)));
-        step = λ own.
+        next = does.next;
+        step = subst (λ (r : Reply). IsStep sum (size_of from) (stands view from k) (command.Crash choice) r new to) (sym told_is)
+            (subst (λ (d : DeviceView). Crashes k to new d (left_of choice)) from_device (subst (Crashes k to new (view config.device)) same
+            (subst (λ (r : Reply). IsStep sum config.config.segment_size (stands view (phase.Closed config) k) (command.Crash copy) r new to) told_is does.step)));
+        at = λ own.
             let here : Own (size_of from) (device_in view from) (left_of choice) = subst (λ (r : Reply). IsOwn sum (size_of from) (state_of (device_in view from).trace) (command.Crash choice) r) told_is own in
             let there : Own config.config.segment_size (view config.device) (left_of copy) =
             subst (Own config.config.segment_size (view config.device)) (sym same) (subst (λ (d : DeviceView). Own config.config.segment_size d (left_of choice)) (sym from_device) (subst (λ n. Own n (device_in view from) (left_of choice)) (sym sizes) here)) in
-            let done = does.step (subst (λ (r : Reply). IsOwn sum config.config.segment_size (state_of (view config.device).trace) (command.Crash copy) r) (sym told_is) there) in (
-              done.0,
-              subst (λ (r : Reply). IsStep sum (size_of from) (stands view from k) (command.Crash choice) r new (stands view result.0 done.0)) (sym told_is)
-                  (subst (λ (r : Reply). IsStep sum config.config.segment_size (stands view (phase.Closed config) k) (command.Crash copy) r new (stands view result.0 done.0)) told_is done.1),
-              done.2,
-            );
+            does.at (subst (λ (r : Reply). IsOwn sum config.config.segment_size (state_of (view config.device).trace) (command.Crash copy) r) (sym told_is) there);
       }
 
 -- A command that is carried out is told, or it was refused.
 module _ {D C : Type 0} (view : D → DeviceView) (sum : List ℕ → ℕ) (from : Phase D C) (c : Command) where
   pub answered : (to : Phase D C) (came : Reply) → CarriesOut view sum from c (to, came) → IsLater (device_in view from).trace (device_in view to).trace
-      → ((k : Unstored) → IsAt (traces view) sum from k → None ≡ refusal_for (stands view from k) c) → AnswersIn view sum from c (to, told (device_in view to).is_stopped came)
-  answered to came carries later free a stands_in =
+      → KeepsToStop (device_in view to).trace (device_in view to).is_stopped → ((k : Unstored) → IsAt (traces view) sum from k → None ≡ refusal_for (stands view from k) c) → AnswersIn view sum from c (to, told (device_in view to).is_stopped came)
+  answered to came carries later stops free a stands_in =
       let k : Unstored = stands_in.0 in
       let none = free k stands_in.2 in
       let does = carries k stands_in.2 (sym none) in
@@ -225,8 +225,10 @@ module _ {D C : Type 0} (view : D → DeviceView) (sum : List ℕ → ℕ) (from
         came = came;
         is_told = refl;
         later = later;
-        acts = does.acts;
-        step = λ own. let done = does.step own in (stands view to done.0, done.1, (done.0, refl, done.2));
+        stops = stops;
+        after = stands view to does.next;
+        step = does.step;
+        leads = λ own. (does.next, refl, does.at own);
       })
     where
       told_reason : (stopped : Bool) (r : Reply) → reason_of (told stopped r) ≡ reason_of r
@@ -234,8 +236,8 @@ module _ {D C : Type 0} (view : D → DeviceView) (sum : List ℕ → ℕ) (from
       told_reason true r = refl
       told_reason false r = refl
 
-  pub refused : (w : Refusal) → ((k : Unstored) → IsAt (traces view) sum from k → Some w ≡ refusal_for (stands view from k) c) → AnswersIn view sum from c (from, reply.Refused w)
-  refused w because a stands_in =
+  pub refused : (w : Refusal) → KeepsToStop (device_in view from).trace (device_in view from).is_stopped → ((k : Unstored) → IsAt (traces view) sum from k → Some w ≡ refusal_for (stands view from k) c) → AnswersIn view sum from c (from, reply.Refused w)
+  refused w stops because a stands_in =
       let k : Unstored = stands_in.0 in
       subst (λ (x : RunState). Carries sum (size_of from) x c (reply.Refused w) (StandsIn view sum from)) (sym stands_in.1) (record {
         refused = because k stands_in.2;
@@ -243,8 +245,10 @@ module _ {D C : Type 0} (view : D → DeviceView) (sum : List ℕ → ℕ) (from
         came = reply.Refused w;
         is_told = as_told (device_in view from).is_stopped;
         later = later_same (device_in view from).trace;
-        acts = refl;
-        step = λ own. (stands view from k, refl, (k, refl, stands_in.2));
+        stops = stops;
+        after = stands view from k;
+        step = (refl, refl);
+        leads = λ own. (k, refl, stands_in.2);
       })
     where
       as_told : (stopped : Bool) → reply.Refused w ≡ told stopped (reply.Refused w)

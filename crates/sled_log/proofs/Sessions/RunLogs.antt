@@ -11,7 +11,7 @@ use Rattle.sled_core.proofs.PublicLaws.{acknowledged_least, batch_acknowledged, 
 use Rattle.sled_core.proofs.Start.GoodStarted.{good_started}
 use Rattle.sled_core.proofs.Start.Places.{goes_on_at}
 use Rattle.sled_log.specs.RunStates.{ShowsActive}
-use Rattle.sled_log.specs.Runs.{starting}
+use Rattle.sled_log.specs.OpenSteps.{starting}
 
 -- the higher the place, the more is acknowledged once all below it is durable
 pub end_rises : (low high : ℕ) (H : History) → low ≤ high → end_below low H ≤ end_below high H

@@ -50,9 +50,11 @@ carries_over sum size a c r over carries = record {
   new = carries.new;
   came = carries.came;
   is_told = carries.is_told;
+  stops = carries.stops;
   later = carries.later;
-  acts = carries.acts;
-  step = λ own. let done = carries.step own in (done.0, done.1, over done.0 done.2);
+  after = carries.after;
+  step = carries.step;
+  leads = λ own. over carries.after (carries.leads own);
 }
 
 -- A session that carries out a command in its phase carries it out.

@@ -161,6 +161,7 @@ module _ {D C : Type 0} (trace : D → Trace) (sum : List ℕ → ℕ) (old new 
         kind = had.kind;
         page = had.page;
         awaits = still had.ticket x had.awaits apart;
+        own = had.own;
         stored = safe j x apart had;
         joins = λ changes. joins x (page_apart j x at) (had.joins changes);
         begins_batch = λ is. begun x is (page_apart j x at) (had.begins_batch is);

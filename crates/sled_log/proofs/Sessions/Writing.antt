@@ -1,6 +1,6 @@
 -- What writing buffers comes to in a session: what is seen of those that are written and of those that are left, what holds them up, and where the run stands then.
-use Rattle.std.proofs.Common.{◌≡◌, ◌∙◌, ◌≤◌, ◌<◌, ◌+◌, ◌-◌, ◌==◌, ◌⊎◌, inl, inr, nat_lt, if◌then◌else◌, max, ℕ, pos, zero, suc, Bool, true, false, List, [], ◌∷◌, ◌++◌, length, map, drop, Option, None, Some, ap, sym, subst, refl, arith}
-use Rattle.std.specs.Prelude.{Err, IsSome}
+use Rattle.std.proofs.Common.{◌≡◌, ◌∙◌, ◌≤◌, ◌<◌, ◌+◌, ◌-◌, ◌*◌, ◌^◌, ◌==◌, ◌⊎◌, inl, inr, nat_lt, if◌then◌else◌, max, ℕ, pos, zero, suc, Bool, true, false, List, [], ◌∷◌, ◌++◌, length, map, take, drop, Option, None, Some, ap, sym, subst, refl, arith}
+use Rattle.std.specs.Prelude.{Err}
 use Rattle.std.specs.List.{All, Contains}
 use Rattle.std.specs.declared.io.Error.{Error as IoError}
 use Rattle.std.proofs.lemmas.Bool.Decides.{nat_tests}
@@ -11,13 +11,15 @@ use Rattle.sled_codec.specs.declared.result.Error.{Error}
 use Rattle.sled_codec.specs.declared.result.Error.TheVariants as error
 use Rattle.sled_codec.specs.History.{Batch, History, Message}
 use Rattle.sled_store.specs.Accounts.{machine_of}
+use Rattle.sled_store.specs.Blobs.{UnlessFault}
 use Rattle.sled_store.specs.Device.{Event, Trace}
 use Rattle.sled_store.specs.Script.{Performs, after_all}
 use Rattle.sled_core.specs.Begun.{begin_of, segment_view, view_at}
 use Rattle.sled_core.specs.Causes.{Answers, HeldAnswers, OnDone}
 use Rattle.sled_core.specs.declared.logger.Log.{Log}
-use Rattle.sled_core.specs.Fits.{FirstWaits, IsUsedUp, KeepsTickets, buffers_of, current_begin, current_of, fault_of, held_len, holding_below, noted_in, open_places, pending_of, position_of, reserved_end, sealing_end, segment_size_of, stable_end, start_of, synced_end, waiting_of, writing_below}
-use Rattle.sled_core.specs.Keeps.{LeavesAbove, LeavesSome, Preserves, SamePosition, sealed_for, start_for, start_sealed}
+use Rattle.sled_core.specs.Fits.{FirstWaits, IsUsedUp, IsUsedUpBelow, KeepsTickets, buffers_of, current_begin, current_of, device_of, fault_of, held_len, holding_below, noted_in, open_places, pending_of, position_of, reserved_end, sealing_end, segment_size_of, stable_end, start_of, synced_end, waiting_of, writing_below}
+use Rattle.sled_core.specs.Fronts.{CameTo, WritesWhole, syncs}
+use Rattle.sled_core.specs.Keeps.{LeavesAbove, Preserves, SamePosition, sealed_for, start_for, start_sealed}
 use Rattle.sled_core.specs.OpenPlaces.{first_between}
 use Rattle.sled_core.specs.Positions.{next_segment_at, is_short}
 use Rattle.sled_core.specs.Running.{Fits, end_below}
@@ -32,11 +34,10 @@ use Rattle.sled_core.proofs.Line.Shows.{buffers_add}
 use Rattle.sled_core.proofs.PublicLaws.{buffers_held, first_waits, shows_current, shows_empty, shows_long}
 use Rattle.sled_core.proofs.Reached.OpenBatch.{whole_not}
 use Rattle.sled_log.specs.declared.session.opened.Opened.{Opened}
-use Rattle.sled_log.specs.declared.session.command.Reply.TheVariants as reply
 use Rattle.sled_log.specs.declared.session.command.Refusal.{Refusal}
 use Rattle.sled_log.specs.Refusals.{when}
 use Rattle.sled_log.specs.RunPhases.{IsOpenAt, IsTicketFor, Unstored, seen_log}
-use Rattle.sled_log.specs.Runs.{CallsMade, HasStopped, HasWrittenTo, ShowsBuffers, StopsStep, WriteStep, WritesTo, flushed, holding, left_from, stable_from, synced_from, writes_free}
+use Rattle.sled_log.specs.WriteSteps.{FailsTo, HasWrittenTo, IfHeld, IsWhy, KeepsFailing, ShowsBuffers, flushed, holding, left_from, stable_from, synced_from, writes_free, written_below}
 use Rattle.sled_log.proofs.Sessions.SafeItems.{safe_on}
 use Rattle.sled_log.specs.RunStates.{DeviceView, EndsInReach, LogView, RunState, count_unheld, current_span, first_waiting, held, held_among, next_start, opens, pending_in_view, sealed_below, spans_below, spans_from, start_below, with_log, without_unheld}
 
@@ -193,6 +194,36 @@ module _ {D C : Type 0} (log : Log D C) (sum : List ℕ → ℕ) (begun : ℕ) (
         let high = ends.slot in
         used.1 (record { place = omega (arith, low, begins); offset = omega (arith, high, slot) })
 
+  -- Where it needs none, the segment ends in reach in which the next record would begin.
+  pub flush_in : (IsUsedUp log → ⊥) → EndsInReach size l.position
+  flush_in free = by (is_short size (length (current_of log).parts.bytes)) refl where
+    by : (o : Bool) → is_short size (length (current_of log).parts.bytes) ≡ o → EndsInReach size l.position
+    by true short =
+        let at : l.position ≡ next_segment_at size (current_of log).parts.site.place (machine_of log.accountant) =
+        ap (λ (b : Bool). if b then next_segment_at size (current_of log).parts.site.place (machine_of log.accountant)
+        else record { place = (current_of log).parts.site.place + length (current_of log).parts.bytes; begins = (current_of log).parts.site.place; slot = (current_of log).parts.site.slot; machine = machine_of log.accountant }) short in
+        let begins = ap (λ x. x.begins) at in
+        let slot = ap (λ x. x.slot) at in
+        record {
+          place = elim (cases_lt (l.position.begins + size) (2 ^ 63)) [
+            | inl below ↦ below
+            | inr above ↦ absurd (free (short, λ may. let low = may.place in omega (arith, low, begins, above)))
+          ];
+          slot = elim (cases_lt (l.position.slot + size) (2 ^ 63)) [
+            | inl below ↦ below
+            | inr above ↦ absurd (free (short, λ may. let low = may.offset in omega (arith, low, slot, above)))
+          ];
+        }
+    by false long =
+        let at : l.position ≡ record { place = (current_of log).parts.site.place + length (current_of log).parts.bytes; begins = (current_of log).parts.site.place; slot = (current_of log).parts.site.slot; machine = machine_of log.accountant } =
+        ap (λ (b : Bool). if b then next_segment_at size (current_of log).parts.site.place (machine_of log.accountant)
+        else record { place = (current_of log).parts.site.place + length (current_of log).parts.bytes; begins = (current_of log).parts.site.place; slot = (current_of log).parts.site.slot; machine = machine_of log.accountant }) long in
+        let begins = ap (λ x. x.begins) at in
+        let slot = ap (λ x. x.slot) at in
+        let place_small = (current_facts log).place_small in
+        let slot_small = (current_facts log).slot_small in
+        record { place = omega (arith, begins, place_small); slot = omega (arith, slot, slot_small) }
+
   -- What is open of it holds its buffers up.
   pub all_held : All (IsHeldBy (opens l)) (buffers_of sum log)
   all_held = buffers_held sum log
@@ -272,14 +303,14 @@ module _ {D C : Type 0} (log : Log D C) (sum : List ℕ → ℕ) (begun : ℕ) (
                 ∙ below_front to (spans (waiting_of log)) (record { place = current_begin log; end = sealing_end log; lid = (start_of log).lid }) (grind (arith, nat_tests, is))
             by false is (inr none) = ap (λ (bs : List BufferAt). spans_below to (spans bs)) (shows_empty sum log (omega (arith, none)))
 
-      abbrev pub writes_to : WritesTo to l
-      writes_to = record {
-        buffers = begun_below to (buffers_of sum log);
-        shown = record {
-          are = flushed_seen;
-          long = below_all HasLength to (buffers_of sum log) (shows_long sum log);
-          held = below_all (IsHeldBy (opens l)) to (buffers_of sum log) all_held;
-        };
+      abbrev pub its_buffers : List BufferAt
+      its_buffers = begun_below to (buffers_of sum log)
+
+      pub shows_below : ShowsBuffers (opens l) (written_below to l) its_buffers
+      shows_below = record {
+        are = flushed_seen;
+        long = below_all HasLength to (buffers_of sum log) (shows_long sum log);
+        held = below_all (IsHeldBy (opens l)) to (buffers_of sum log) all_held;
       }
 
       pub holding_seen : holding_below sum log to ≡ holding to l
@@ -296,13 +327,6 @@ module _ {D C : Type 0} (log : Log D C) (sum : List ℕ → ℕ) (begun : ℕ) (
         pub synced_seen : LeavesAbove sum to log new → synced_end new ≡ synced_from to l
         synced_seen above = let waiting = left_seen above in let first = above.start ∙ start_seen in first_seen new ∙ (λ i. first_waiting (waiting i) (first i))
 
-        abbrev SomeLeft : List Span → BufferStart → Type 0
-        SomeLeft waiting start = ((waiting ≡ l.waiting) × (start ≡ l.start)) ⊎ ((n : ℕ) × (waiting ≡ drop n (sealed_below to l)) × (start ≡ start_below to l))
-
-        some_seen : LeavesSome sum to log new → SomeLeft (spans (waiting_of new)) (start_of new)
-        some_seen (inl same) = inl (ap spans same.0, same.1)
-        some_seen (inr some_left) = inr (some_left.0, ap spans some_left.1 ∙ drop_seen some_left.0 (sealed_for sum to log) ∙ ap (λ (ss : List Span). drop some_left.0 ss) sealed_seen, some_left.2 ∙ start_seen)
-
         -- Where the run stands then.
         module _ (device now : DeviceView) (H : History) (A f : ℕ) (position : StaysPut log new) where
           noted_seen : LeavesAbove sum to log new → noted_in new ≡ not_whole (synced_from to l) (noted_in log)
@@ -311,17 +335,21 @@ module _ {D C : Type 0} (log : Log D C) (sum : List ℕ → ℕ) (begun : ℕ) (
           pub stable_seen : LeavesAbove sum to log new → stable_end new ≡ stable_from to l
           stable_seen above = let ends = synced_seen above in let noted = noted_seen above in λ i. stable_below (ends i) (noted i)
 
-          pub has_written : (n : ℕ) → fault_of log ≡ None → fault_of new ≡ None → holding_below sum log to ≡ None → stable_end new ≡ stable_end log + n → to ≤ synced_end new → A ≤ stable_end log
-              → LeavesAbove sum to log new → HasWrittenTo (before new device now H A f position) l to n now (after new device now H A f position (max A (end_below (stable_end new) H)))
-          has_written n none still free answer whole past above =
+          pub has_written : (n : ℕ) → fault_of log ≡ None → fault_of new ≡ None → (IsUsedUpBelow log to → ⊥) → holding_below sum log to ≡ None → now.trace ≡ after_all (writes_free its_buffers) device.trace → now.failures ≡ device.failures
+              → stable_end new ≡ stable_end log + n → to ≤ synced_end new → A ≤ stable_end log → LeavesAbove sum to log new
+              → HasWrittenTo size (before new device now H A f position) l to n now (after new device now H A f position (max A (end_below (stable_end new) H)))
+          has_written n none still unused free made failures answer whole past above =
               let ends = synced_seen above in
               let noted = noted_seen above in
               let stable = stable_seen above in
               let waiting = left_seen above in
               let first : start_of new ≡ start_below to l = above.start ∙ start_seen in
               record {
-                fault = none;
+                sound = none;
+                in_reach = λ less. flush_in (λ used. unused (less, used));
                 free = sym holding_seen ∙ free;
+                writes = record { buffers = its_buffers; shown = shows_below; made = made };
+                failures = failures;
                 growth = sym answer ∙ stable;
                 reaches = omega (arith, whole, ends);
                 more = omega (arith, past, answer, stable);
@@ -334,45 +362,99 @@ module _ {D C : Type 0} (log : Log D C) (sum : List ℕ → ℕ) (begun : ℕ) (
                 };
               }
 
-          pub has_stopped : LeavesSome sum to log new → HasStopped (before new device now H A f position) l to (fault_of new) now (after new device now H A f position A)
-          has_stopped left = record {
-            waiting = spans (waiting_of new);
-            start = start_of new;
-            left = some_seen left;
-            leads = leaves new device now H A f position (spans (waiting_of new)) (start_of new) (fault_of new) refl refl refl;
+          -- It failed.
+          pub fails_to : (trace : D → Trace) (e : Error) → device.trace ≡ trace (device_of log) → now.trace ≡ trace (device_of new) → fault_of log ≡ None
+              → IsWhy e (holding to l) ((current_begin log < to) × (EndsInReach size l.position → ⊥)) (fault_of new) device.failures now.failures → Performs (writes_free its_buffers) device.trace now.trace
+              → IfHeld e (now.trace ≡ after_all (writes_free its_buffers) device.trace) → CameTo trace sum to log new
+              → FailsTo size (before new device now H A f position) l to e now (after new device now H A f position A)
+          fails_to trace e was is none why made held came = record {
+            sound = none;
+            fault = fault_of new;
+            why = why;
+            came = elim came [
+              | inl same ↦ (
+                  let still : now.trace ≡ device.trace = is ∙ same.still ∙ sym was in (
+                    0,
+                    record {
+                      buffers = its_buffers;
+                      shown = shows_below;
+                      made = made;
+                      synced = (let same_syncs : syncs now.trace ≡ syncs device.trace = ap syncs still in omega (arith, same_syncs));
+                      whole = λ sound. still;
+                      held = held;
+                    },
+                    inr (refl, leaves new device now H A f position (spans (waiting_of log)) (start_of log) (fault_of new) (ap spans same.waiting) same.start refl),
+                  ))
+              | inr front ↦ (
+                front.count,
+                record {
+                  buffers = its_buffers;
+                  shown = shows_below;
+                  made = made;
+                  synced = ap syncs is ∙ front.synced ∙ ap (λ (t : Trace). front.count + syncs t) (sym was);
+                  whole = λ sound. is ∙ front.whole sound ∙ (λ i. after_all (take (2 * front.count) (writes_seen i)) (sym was i));
+                  held = held;
+                },
+                inl (leaves new device now H A f position (drop front.count (sealed_below to l)) (start_below to l) (fault_of new)
+                    (ap spans front.left ∙ drop_seen front.count (sealed_for sum to log) ∙ ap (λ (ss : List Span). drop front.count ss) sealed_seen) (front.start ∙ start_seen) refl),
+              )
+            ];
           }
 
--- Why it failed.
+-- Why a call failed: the log kept a failure, or it kept none.
+pub kept_or_none : (T : Type 0) (e : Error) (held : Option ℕ) (used : Type 0) (old new : Option IoError) (before after : ℕ) → HeldAnswers {T = T} (Err e) held used old new before after
+    → ((x : IoError) × (e ≡ error.Io x) × (old ≡ Some x)) ⊎ (old ≡ None)
+kept_or_none T (error.Io x) held used old new before after (inl kept) = inl (x, refl, kept.0)
+kept_or_none T (error.Io x) held used old new before after (inr failed) = inr failed.0
+kept_or_none T error.OutOfMemory held used old new before after answers = inr answers.1
+kept_or_none T error.PlacesUsedUp held used old new before after answers = inr answers.1
+kept_or_none T (error.Held at) held used old new before after answers = inr answers.2
+kept_or_none T _ held used old new before after answers = absurd answers
 
--- the calls that were made then
-pub calls_failed : (T : Type 0) (es : List Event) (fault now : Option IoError) (e : Error) (held : Option ℕ) (used : Type 0) (old new : DeviceView) → OnDone {T = T} (Err e) (new.trace ≡ after_all es old.trace) → Performs es old.trace new.trace
-    → (IsSome fault → new ≡ old) → HeldAnswers {T = T} (Err e) held used fault now old.failures new.failures → CallsMade es fault old (reply.Failed e) new
-calls_failed T es fault now (error.Held at) held used old new done made kept answers = (done, answers.4)
-calls_failed T es fault now _ held used old new done made kept answers = (made, kept)
+-- Where it kept none, this is why.
+pub why_of : (T : Type 0) (e : Error) (held up : Option ℕ) (used needs : Type 0) (old new : Option IoError) (before after : ℕ) → old ≡ None → held ≡ up → (used → needs) → ((used → ⊥) → needs → ⊥) → HeldAnswers {T = T} (Err e) held used old new before after → IsWhy e up needs new before after
+why_of T (error.Io x) held up used needs old new before after none same out back (inl kept) = absurd (let bad : None ≡ Some x = sym none ∙ kept.0 in cc)
+why_of T (error.Io x) held up used needs old new before after none same out back (inr failed) = (failed.1, failed.3, failed.2)
+why_of T error.OutOfMemory held up used needs old new before after none same out back answers = (back answers.0, answers.2, answers.3)
+why_of T error.PlacesUsedUp held up used needs old new before after none same out back answers = (out answers.0, answers.2, answers.3)
+why_of T (error.Held at) held up used needs old new before after none same out back answers = ((answers.0.0, sym same ∙ answers.0.1, answers.0.2), back answers.1, answers.3, answers.4)
+why_of T _ held up used needs old new before after none same out back answers = absurd answers
 
--- It fails for the failure that the log keeps then, for want of memory or of a further segment, or where it is held up.
-pub writing_stops : (width : ℕ) (a : RunState) (l : LogView) (to : ℕ) (T : Type 0) (e : Error) (held : Option ℕ) (used : Type 0) (fault : Option IoError) (new : DeviceView) (b : RunState)
-    → held ≡ holding to l → (used → (l.start.place < to) × (EndsInReach width l.position → ⊥)) → HeldAnswers {T = T} (Err e) held used l.fault fault a.device.failures new.failures → HasStopped a l to fault new b → StopsStep width a l to e new b
-writing_stops width a l to T (error.Io x) held used fault new b same out (inl kept) stops = (inl (kept.0, refl, kept.2), subst (λ (f : Option IoError). HasStopped a l to f new b) kept.1 stops)
-writing_stops width a l to T (error.Io x) held used fault new b same out (inr failed) stops = (inr (failed.0, refl, failed.2, failed.3), subst (λ (f : Option IoError). HasStopped a l to f new b) failed.1 stops)
-writing_stops width a l to T error.OutOfMemory held used fault new b same out answers stops = (answers.0, answers.2, subst (λ (f : Option IoError). HasStopped a l to f new b) answers.1 stops)
-writing_stops width a l to T error.PlacesUsedUp held used fault new b same out answers stops = (answers.1, (out answers.0).0, (out answers.0).1, answers.3, subst (λ (f : Option IoError). HasStopped a l to f new b) answers.2 stops)
-writing_stops width a l to T (error.Held at) held used fault new b same out answers stops =
-    (answers.2, (answers.0.0, sym same ∙ answers.0.1, answers.0.2), answers.4, subst (λ (f : Option IoError). HasStopped a l to f new b) answers.3 stops)
-writing_stops width a l to T _ held used fault new b same out answers stops = absurd answers
+-- Where it was held up all was made that was to be.
+pub if_held : (T : Type 0) (e : Error) (P Q : Type 0) → (P → Q) → OnDone {T = T} (Err e) P → IfHeld e Q
+if_held T (error.Held at) P Q more done = more done
+if_held T _ P Q more done = tt
 
--- One buffer is written, or that fails for the failure that the log keeps then, or for want of memory.
-pub write_stops : (a : RunState) (l : LogView) (i : ℕ) (T : Type 0) (e : Error) (fault : Option IoError) (new : DeviceView) (b : RunState)
-    → Answers {T = T} (Err e) l.fault fault a.device.failures new.failures → b ≡ with_log a new (Some (flushed l l.waiting l.start fault)) → WriteStep a l i (reply.Failed e) new b
-write_stops a l i T (error.Io x) fault new b (inl kept) leads = (inl (kept.0, refl, kept.2), subst (λ (f : Option IoError). b ≡ with_log a new (Some (flushed l l.waiting l.start f))) kept.1 leads)
-write_stops a l i T (error.Io x) fault new b (inr failed) leads = (inr (failed.0, refl, failed.2, failed.3), subst (λ (f : Option IoError). b ≡ with_log a new (Some (flushed l l.waiting l.start f))) failed.1 leads)
-write_stops a l i T error.OutOfMemory fault new b answers leads = (answers.0, answers.2, subst (λ (f : Option IoError). b ≡ with_log a new (Some (flushed l l.waiting l.start f))) answers.1 leads)
-write_stops a l i T _ fault new b answers leads = absurd answers
+-- A call that nothing holds up, and that needs no further segment.
+pub held_none : (T : Type 0) (e : Error) (old new : Option IoError) (before after : ℕ) → Answers {T = T} (Err e) old new before after → HeldAnswers {T = T} (Err e) None ⊥ old new before after
+held_none T (error.Io x) old new before after answers = answers
+held_none T error.OutOfMemory old new before after answers = (λ never. never, answers.0, answers.1, answers.2)
+held_none T _ old new before after answers = absurd answers
 
--- its calls were made up to one that failed
-pub write_failed : (T : Type 0) (es : List Event) (fault now : Option IoError) (e : Error) (old new : DeviceView) → Performs es old.trace new.trace → (IsSome fault → new ≡ old) → Answers {T = T} (Err e) fault now old.failures new.failures → CallsMade es fault old (reply.Failed e) new
-write_failed T es fault now (error.Held at) old new made kept answers = absurd answers
-write_failed T es fault now _ old new made kept answers = (made, kept)
+-- it isn't held up
+pub never_held : (T : Type 0) (e : Error) (old new : Option IoError) (before after : ℕ) (P : Type 0) → Answers {T = T} (Err e) old new before after → IfHeld e P
+never_held T (error.Held at) old new before after P answers = absurd answers
+never_held T _ old new before after P answers = tt
+
+-- A write that was refused, and not for a failure of the device, asked nothing of it.
+pub spared : (T : Type 0) (e : Error) (old new : Option IoError) (before after : ℕ) (t now : Trace) → old ≡ None → new ≡ None → Answers {T = T} (Err e) old new before after → UnlessFault {T = T} (Err e) t now → now ≡ t
+spared T (error.Io x) old new before after t now none sound (inl kept) still = absurd (let bad : None ≡ Some x = sym none ∙ kept.0 in cc)
+spared T (error.Io x) old new before after t now none sound (inr failed) still = absurd (let bad : None ≡ Some x = sym sound ∙ failed.1 in cc)
+spared T error.OutOfMemory old new before after t now none sound answers still = still
+spared T _ old new before after t now none sound answers still = absurd answers
+
+-- A log that keeps a failure is as it was.
+pub keeps_failing : {D C : Type 0} (log new : Log D C) (begun : ℕ) (tickets : List (Option Message)) (device now : DeviceView) (H : History) (A f : ℕ) (e : Error) (x : IoError) → e ≡ error.Io x → fault_of log ≡ Some x → new ≡ log → now ≡ device
+    → KeepsFailing (record { device = device; history = H; acknowledged = A; floor = f; log = Some (seen_log log begun tickets) }) (seen_log log begun tickets) e now
+    (record { device = now; history = H; acknowledged = A; floor = f; log = Some (seen_log new begun tickets) })
+keeps_failing log new begun tickets device now H A f e x is kept same still =
+    let a : RunState = record { device = device; history = H; acknowledged = A; floor = f; log = Some (seen_log log begun tickets) } in
+    let b : RunState = record { device = now; history = H; acknowledged = A; floor = f; log = Some (seen_log new begun tickets) } in
+    subst (λ (y : Error). KeepsFailing a (seen_log log begun tickets) y now b) (sym is) (
+      kept,
+      still,
+      λ i. record { device = still i; history = H; acknowledged = A; floor = f; log = Some (seen_log (same i) begun tickets) },
+    )
 
 -- a command that isn't refused has an index that fits
 pub index_fits : (stopped above : Bool) (w v : Refusal) → when stopped w (when above v None) ≡ None → above ≡ false
@@ -396,6 +478,7 @@ module _ {D C : Type 0} (trace : D → Trace) (sum : List ℕ → ℕ) (opened :
     kind = is.kind;
     page = is.page;
     awaits = tickets.awaits is.ticket.reservation m is.awaits;
+    own = is.own;
     stored = safe_on trace sum opened.log log m keeps.goes_on is.stored;
     joins = is.joins;
     begins_batch = λ batch. let begun = is.begins_batch batch in

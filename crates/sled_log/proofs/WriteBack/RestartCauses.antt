@@ -25,7 +25,7 @@ pub flush_fails : (T S : Type 0) (e : Error) (held : Option ℕ) (used : Type 0)
     → FlushFails {T = S} (Err e) used old before after
 flush_fails T S (error.Io x) held used old new before after free (inl kept) = inl (kept.0, kept.2)
 flush_fails T S (error.Io x) held used old new before after free (inr failed) = inr (failed.0, failed.2, failed.3)
-flush_fails T S error.OutOfMemory held used old new before after free answers = (answers.0, answers.2)
+flush_fails T S error.OutOfMemory held used old new before after free answers = (answers.0, answers.1, answers.3)
 flush_fails T S error.PlacesUsedUp held used old new before after free answers = (answers.0, answers.1, answers.3)
 flush_fails T S (error.Held at) held used old new before after free answers = let some : Some answers.0.0 ≡ None = sym answers.0.1 ∙ free in cc
 flush_fails T S _ held used old new before after free answers = absurd answers

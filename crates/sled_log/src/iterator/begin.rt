@@ -111,6 +111,7 @@ fn rest_of<D, C>(config: &RunningConfig<D, C>, segments: Vec<Segment>, end: Opti
     ensures read { result.read ≡ 0 }
     ensures met { result.met.items ≡ [] }
     ensures given { result.given ≡ 0 }
+    ensures undamaged { result.damaged ≡ false }
 {
     let mut segments = segments;
     let end = end.unwrap_or(0);

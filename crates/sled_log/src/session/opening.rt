@@ -1,9 +1,11 @@
 //! Opening a log on what a recovery gives.
-ghost use Rattle.std.specs.Prelude.{◌≡◌};
+ghost use Rattle.std.specs.Prelude.{◌≡◌, false};
 ghost use Rattle.sled_codec.specs.Snapshots.{model_of};
 ghost use Rattle.sled_log.specs.declared.session.command.Command.TheVariants as told;
+ghost use Rattle.sled_log.specs.Devices.{TouchesIn, is_open, opens_after};
 ghost use Rattle.sled_log.specs.RunPhases.{CarriesOut, RunsOn, device_in, running, view_by};
-ghost use Rattle.sled_log.specs.Openings.{StartActs, Starts};
+ghost use Rattle.sled_log.specs.OpenSteps.{HasStarted};
+ghost use Rattle.sled_log.specs.Openings.{Starts};
 
 use crate::session::Phase;
 use crate::session::command::Reply;
@@ -15,7 +17,8 @@ use sled_store::{CrashDevice, RunningConfig};
 
 /// Recovers what the device has, and opens a log on it.
 pub(crate) fn open<D: CrashDevice, C: Checksum>(config: RunningConfig<D, C>) -> (Phase<D, C>, Reply)
-    ensures step { CarriesOut (view_by D.trace D.faults D.is_stopped D.stops_in) C.sum_of (Phase.Closed config) told.Open result }
+    ensures step { CarriesOut (view_by D.trace D.faults D.is_stopped) C.sum_of (Phase.Closed config) told.Open result }
+    ensures device { TouchesIn (view_by D.trace D.faults D.is_stopped) C.sum_of (Phase.Closed config) told.Open result.0 result.1 }
     ensures on { RunsOn D.trace config (running result.0) }
 {
     let mut config = config;
@@ -30,9 +33,10 @@ fn start<D: CrashDevice, C: Checksum>(
     config: RunningConfig<D, C>,
     snapshot: Snapshot,
 ) -> (Phase<D, C>, Reply)
-    ensures acts { let view = view_by D.trace D.faults D.is_stopped D.stops_in in
-        StartActs config.config.segment_size (view config.device) (model_of snapshot) result.1 (device_in view result.0) }
-    ensures starts { Starts (view_by D.trace D.faults D.is_stopped D.stops_in) C.sum_of config (model_of snapshot) result }
+    ensures acts { let view = view_by D.trace D.faults D.is_stopped in
+        HasStarted config.config.segment_size result.1 (view config.device) (model_of snapshot) (device_in view result.0) }
+    ensures starts { Starts (view_by D.trace D.faults D.is_stopped) C.sum_of config (model_of snapshot) result }
+    ensures opens { is_open result.0 ≡ opens_after false told.Open result.1 }
     ensures on { RunsOn D.trace config (running result.0) }
 {
     let alloc = config.alloc();

@@ -18,7 +18,7 @@ use std::alloc::Global;
 
 /// Reads what a page is.
 pub(crate) fn read<D: CrashDevice, C: Checksum>(opened: &mut Opened<D, C>, page: PageId) -> Reply
-    ensures step { CarriesOut (view_by D.trace D.faults D.is_stopped D.stops_in) C.sum_of
+    ensures step { CarriesOut (view_by D.trace D.faults D.is_stopped) C.sum_of
         (Phase.Open opened.old) (told.Read page) (Phase.Open opened.new, result) }
     ensures on { RunsOn D.trace (config_of opened.old.log) (config_of opened.new.log) }
 {
@@ -37,7 +37,7 @@ pub(crate) fn read<D: CrashDevice, C: Checksum>(opened: &mut Opened<D, C>, page:
     }
 }
 
-/// Reads the messages of a page, its Replace first.
+/// Reads the messages of a page, its Replace first. A failure that the log keeps comes before all.
 fn read_entries<D: CrashDevice, C: Checksum>(
     alloc: Global,
     log: &mut Log<D, C>,
@@ -45,9 +45,12 @@ fn read_entries<D: CrashDevice, C: Checksum>(
     base: &Entry,
     frags: &[Entry],
 ) -> Result<Vec<Vec<u8>>>
-    ensures reads { ReadsEntries (view_by D.trace D.faults D.is_stopped D.stops_in) C.sum_of log.old page (base.now ∷ frags.now) log.new result }
+    ensures reads { ReadsEntries (view_by D.trace D.faults D.is_stopped) C.sum_of log.old page (base.now ∷ frags.now) log.new result }
     ensures on { RunsOn D.trace (config_of log.old) (config_of log.new) }
 {
+    if let Some(e) = log.failure() {
+        return Err(Error::Io(e));
+    }
     let mut items = Vec::with_capacity(alloc, frags.len() + 1)?;
     items.push_reserved(read_item(log, page, base.0, base.1)?);
     for frag in frags {
@@ -63,7 +66,7 @@ fn read_item<D: CrashDevice, C: Checksum>(
     place: Lsn,
     pointer: DiskPtr,
 ) -> Result<Vec<u8>>
-    ensures reads { ReadsItem (view_by D.trace D.faults D.is_stopped D.stops_in) C.sum_of log.old page place pointer log.new result }
+    ensures reads { ReadsItem (view_by D.trace D.faults D.is_stopped) C.sum_of log.old page place pointer log.new result }
     ensures on { RunsOn D.trace (config_of log.old) (config_of log.new) }
 {
     match log.read(page, place, pointer)? {

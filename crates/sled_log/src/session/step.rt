@@ -1,7 +1,9 @@
 //! One command of a session, carried out in its phase (`specs/RunPhases.antt`).
 ghost use Rattle.std.specs.Prelude.{Bool, ◌≡◌};
+ghost use Rattle.sled_store.specs.Stops.{KeepsToStop};
 ghost use Rattle.sled_core.specs.Fits.{config_of};
 ghost use Rattle.sled_log.specs.declared.session.command.Command.TheVariants as command;
+ghost use Rattle.sled_log.specs.Devices.{ToldIn, TouchesIn};
 ghost use Rattle.sled_log.specs.Refusals.{is_crash, refusal_for, refused_closed};
 ghost use Rattle.sled_log.specs.Runs.{told};
 ghost use Rattle.sled_log.specs.RunPhases.{AnswersIn, CarriesOut, IsAt, RunsOn, Unstored, device_in, running, stands, view_by};
@@ -23,7 +25,8 @@ pub(crate) fn step<D: CrashDevice, C: Checksum>(
     phase: Phase<D, C>,
     command: &Command,
 ) -> (Phase<D, C>, Reply)
-    ensures step { AnswersIn (view_by D.trace D.faults D.is_stopped D.stops_in) C.sum_of phase command.now result }
+    ensures step { AnswersIn (view_by D.trace D.faults D.is_stopped) C.sum_of phase command.now result }
+    ensures device { ToldIn (view_by D.trace D.faults D.is_stopped) C.sum_of phase command.now result.0 result.1 }
     ensures on { RunsOn D.trace (running phase) (running result.0) }
 {
     if let Some(why) = refusal(&phase, command) {
@@ -36,7 +39,8 @@ pub(crate) fn step<D: CrashDevice, C: Checksum>(
 
 /// Why a command is refused, if it is.
 fn refusal<D: CrashDevice, C: Checksum>(phase: &Phase<D, C>, command: &Command) -> Option<Refusal>
-    ensures why { let view = view_by D.trace D.faults D.is_stopped D.stops_in in (k : Unstored) → IsAt D.trace C.sum_of phase.now k
+    ensures asked { KeepsToStop (D.trace (running phase.now).device) (D.is_stopped (running phase.now).device) }
+    ensures why { let view = view_by D.trace D.faults D.is_stopped in (k : Unstored) → IsAt D.trace C.sum_of phase.now k
         → result ≡ refusal_for (stands view phase.now k) command.now }
 {
     if is_stopped(phase) && !is_crash(command) {
@@ -77,9 +81,10 @@ fn is_crash(command: &Command) -> bool
     matches!(command, Command::Crash(_))
 }
 
-/// Whether the device is stopped.
+/// Whether the device is stopped, which it is only where that was asked.
 fn is_stopped<D: CrashDevice, C: Checksum>(phase: &Phase<D, C>) -> bool
-    ensures { result ≡ D.is_stopped (running phase.now).device }
+    ensures stopped { result ≡ D.is_stopped (running phase.now).device }
+    ensures asked { KeepsToStop (D.trace (running phase.now).device) (D.is_stopped (running phase.now).device) }
 {
     match phase {
         Phase::Closed(config) => config.device.stopped(),
@@ -89,11 +94,13 @@ fn is_stopped<D: CrashDevice, C: Checksum>(phase: &Phase<D, C>) -> bool
 
 /// What is told of a reply: a failure of a device that is stopped is that.
 fn tell<D: CrashDevice, C: Checksum>(phase: &Phase<D, C>, reply: Reply) -> Reply
-    ensures { result ≡ told (D.is_stopped (running phase.now).device) reply }
+    ensures told { result ≡ told (D.is_stopped (running phase.now).device) reply }
+    ensures asked { KeepsToStop (D.trace (running phase.now).device) (D.is_stopped (running phase.now).device) }
 {
+    let is_stopped = is_stopped(phase);
     match reply {
         Reply::Failed(Error::Io(e)) => {
-            if is_stopped(phase) {
+            if is_stopped {
                 Reply::Stopped
             } else {
                 Reply::Failed(Error::Io(e))
@@ -108,7 +115,8 @@ fn carry_out<D: CrashDevice, C: Checksum>(
     phase: Phase<D, C>,
     command: &Command,
 ) -> (Phase<D, C>, Reply)
-    ensures step { CarriesOut (view_by D.trace D.faults D.is_stopped D.stops_in) C.sum_of phase command.now result }
+    ensures step { CarriesOut (view_by D.trace D.faults D.is_stopped) C.sum_of phase command.now result }
+    ensures device { TouchesIn (view_by D.trace D.faults D.is_stopped) C.sum_of phase command.now result.0 result.1 }
     ensures on { RunsOn D.trace (running phase) (running result.0) }
 {
     match phase {
@@ -122,7 +130,8 @@ fn carry_out_closed<D: CrashDevice, C: Checksum>(
     config: RunningConfig<D, C>,
     command: &Command,
 ) -> (Phase<D, C>, Reply)
-    ensures step { CarriesOut (view_by D.trace D.faults D.is_stopped D.stops_in) C.sum_of (Phase.Closed config) command.now result }
+    ensures step { CarriesOut (view_by D.trace D.faults D.is_stopped) C.sum_of (Phase.Closed config) command.now result }
+    ensures device { TouchesIn (view_by D.trace D.faults D.is_stopped) C.sum_of (Phase.Closed config) command.now result.0 result.1 }
     ensures on { RunsOn D.trace config (running result.0) }
 {
     match command {
@@ -142,7 +151,8 @@ fn carry_out_open<D: CrashDevice, C: Checksum>(
     opened: Opened<D, C>,
     command: &Command,
 ) -> (Phase<D, C>, Reply)
-    ensures step { CarriesOut (view_by D.trace D.faults D.is_stopped D.stops_in) C.sum_of (Phase.Open opened) command.now result }
+    ensures step { CarriesOut (view_by D.trace D.faults D.is_stopped) C.sum_of (Phase.Open opened) command.now result }
+    ensures device { TouchesIn (view_by D.trace D.faults D.is_stopped) C.sum_of (Phase.Open opened) command.now result.0 result.1 }
     ensures on { RunsOn D.trace (config_of opened.log) (running result.0) }
 {
     let mut opened = opened;
@@ -169,8 +179,10 @@ fn carry_out_open<D: CrashDevice, C: Checksum>(
 
 /// Has the device of a log stop.
 fn stop_open<D: CrashDevice, C: Checksum>(opened: &mut Opened<D, C>, n: u64) -> Reply
-    ensures step { CarriesOut (view_by D.trace D.faults D.is_stopped D.stops_in) C.sum_of
+    ensures step { CarriesOut (view_by D.trace D.faults D.is_stopped) C.sum_of
         (Phase.Open opened.old) (command.Stop n) (Phase.Open opened.new, result) }
+    ensures device { TouchesIn (view_by D.trace D.faults D.is_stopped) C.sum_of
+        (Phase.Open opened.old) (command.Stop n) (Phase.Open opened.new) result }
     ensures on { RunsOn D.trace (config_of opened.old.log) (config_of opened.new.log) }
 {
     opened.log.stop_after(n);
@@ -182,7 +194,8 @@ fn crash_open<D: CrashDevice, C: Checksum>(
     opened: Opened<D, C>,
     choice: &Choice,
 ) -> (Phase<D, C>, Reply)
-    ensures step { CarriesOut (view_by D.trace D.faults D.is_stopped D.stops_in) C.sum_of (Phase.Open opened) (command.Crash choice.now) result }
+    ensures step { CarriesOut (view_by D.trace D.faults D.is_stopped) C.sum_of (Phase.Open opened) (command.Crash choice.now) result }
+    ensures device { TouchesIn (view_by D.trace D.faults D.is_stopped) C.sum_of (Phase.Open opened) (command.Crash choice.now) result.0 result.1 }
     ensures on { RunsOn D.trace (config_of opened.log) (running result.0) }
 {
     match choice.try_clone() {
@@ -196,7 +209,8 @@ fn crash<D: CrashDevice, C: Checksum>(
     config: RunningConfig<D, C>,
     choice: &Choice,
 ) -> (Phase<D, C>, Reply)
-    ensures step { CarriesOut (view_by D.trace D.faults D.is_stopped D.stops_in) C.sum_of (Phase.Closed config) (command.Crash choice.now) result }
+    ensures step { CarriesOut (view_by D.trace D.faults D.is_stopped) C.sum_of (Phase.Closed config) (command.Crash choice.now) result }
+    ensures device { TouchesIn (view_by D.trace D.faults D.is_stopped) C.sum_of (Phase.Closed config) (command.Crash choice.now) result.0 result.1 }
     ensures on { RunsOn D.trace config (running result.0) }
 {
     match choice.try_clone() {
@@ -211,7 +225,8 @@ fn crash_now<D: CrashDevice, C: Checksum>(
     choice: Choice,
 ) -> (Phase<D, C>, Reply)
     ensures crashed { (taken : Bool) × (result.1 ≡ Reply.Crashed taken) }
-    ensures step { CarriesOut (view_by D.trace D.faults D.is_stopped D.stops_in) C.sum_of (Phase.Closed config) (command.Crash choice) result }
+    ensures step { CarriesOut (view_by D.trace D.faults D.is_stopped) C.sum_of (Phase.Closed config) (command.Crash choice) result }
+    ensures device { TouchesIn (view_by D.trace D.faults D.is_stopped) C.sum_of (Phase.Closed config) (command.Crash choice) result.0 result.1 }
     ensures on { RunsOn D.trace config (running result.0) }
 {
     let mut config = config;

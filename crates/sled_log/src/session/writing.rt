@@ -13,7 +13,7 @@ use sled_store::CrashDevice;
 
 /// Writes one of the sealed buffers that can be written, and syncs it.
 pub(crate) fn write<D: CrashDevice, C: Checksum>(opened: &mut Opened<D, C>, i: usize) -> Reply
-    ensures step { CarriesOut (view_by D.trace D.faults D.is_stopped D.stops_in) C.sum_of
+    ensures step { CarriesOut (view_by D.trace D.faults D.is_stopped) C.sum_of
         (Phase.Open opened.old) (told.Write i) (Phase.Open opened.new, result) }
     ensures on { RunsOn D.trace (config_of opened.old.log) (config_of opened.new.log) }
 {
@@ -28,7 +28,7 @@ pub(crate) fn write<D: CrashDevice, C: Checksum>(opened: &mut Opened<D, C>, i: u
 
 /// Writes all that was reserved, and syncs it.
 pub(crate) fn flush<D: CrashDevice, C: Checksum>(opened: &mut Opened<D, C>) -> Reply
-    ensures step { CarriesOut (view_by D.trace D.faults D.is_stopped D.stops_in) C.sum_of
+    ensures step { CarriesOut (view_by D.trace D.faults D.is_stopped) C.sum_of
         (Phase.Open opened.old) told.Flush (Phase.Open opened.new, result) }
     ensures on { RunsOn D.trace (config_of opened.old.log) (config_of opened.new.log) }
 {
@@ -40,7 +40,7 @@ pub(crate) fn flush<D: CrashDevice, C: Checksum>(opened: &mut Opened<D, C>) -> R
 
 /// Makes the message at a place durable, and all before it.
 pub(crate) fn stabilize<D: CrashDevice, C: Checksum>(opened: &mut Opened<D, C>, place: Lsn) -> Reply
-    ensures step { CarriesOut (view_by D.trace D.faults D.is_stopped D.stops_in) C.sum_of
+    ensures step { CarriesOut (view_by D.trace D.faults D.is_stopped) C.sum_of
         (Phase.Open opened.old) (told.Stable place) (Phase.Open opened.new, result) }
     ensures on { RunsOn D.trace (config_of opened.old.log) (config_of opened.new.log) }
 {

@@ -154,7 +154,7 @@ returns-in-Err-clause-did g c =
     let counted : g.D.Device.faults config.device ≡ g.D.Device.faults (device_of c.flush-flushed.new.self) = ap (λ (x : RunningConfig _ _). g.D.Device.faults x.device) is in
     inl (
       subst (λ (t : Trace). Performs (flushing sum log) (trace (device_of log)) t) (sym same) c.flush-flushed.ensures.at_most,
-      λ some. let kept = some_of (fault_of log) some in same ∙ ap (λ l. trace l.config.device) (c.flush-flushed.ensures.faulty kept.0 kept.1),
+      λ some. let kept = some_of (fault_of log) some in same ∙ ap (λ l. trace l.config.device) (c.flush-flushed.ensures.spares.faulty kept.0 kept.1),
       subst (λ n. FlushFails {T = Snapshot} (Err c.in-Err.e) (IsUsedUpBelow log (reserved_end log)) (fault_of log) (g.D.Device.faults (device_of log)) n) (sym counted)
           (flush_fails ℕ Snapshot c.in-Err.e (holding_below sum log (reserved_end log)) (IsUsedUpBelow log (reserved_end log)) (fault_of log) (fault_of c.flush-flushed.new.self) _ _ (none_holding log sum c.requires.ended) c.in-Err.ensures.answers),
     )

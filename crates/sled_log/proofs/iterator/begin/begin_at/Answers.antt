@@ -49,7 +49,7 @@ returns-in-Ok-tail_end-clause-begins g c =
     let tail = subst (λ n. IsTail sum size log ss n xs) begins here.0 in
     let inside = λ (x : Segment) (in_all : Contains ss x). (all_ready sum size log least ss c.in-Ok.ensures.small c.in-Ok.ensures.ordering x in_all).inside in
     let r = c.rest_of.ensures in
-    let begun = left_begun g.D.Device.trace sum c.args.config.now c.rest_of.result r.strict ss c.in-Ok-tail_end.end r.segments r.end r.read r.met r.given inside in
+    let begun = left_begun g.D.Device.trace sum c.args.config.now c.rest_of.result r.strict ss c.in-Ok-tail_end.end r.segments r.end r.read r.met r.given r.undamaged inside in
     (ss, c.in-Ok.ensures.ordering, (xs, tail, here.1, subst (λ (o : Option ℕ). IsBegun sum size log blobs ss o (IsLeft g.D.Device.trace sum c.args.config.now c.rest_of.result)) (sym found.3) begun))
 
 pub returns-in-Ok-tail_end-clause-fits : goal.returns-in-Ok-tail_end-clause-fits

@@ -21,8 +21,8 @@ returns-in-Ok-clause-begins g c =
     let from : c.begins_from.result ≡ begins_from size c.args.lsn = c.begins_from.ensures.is ∙ ap (begins_from size) (to_z-of_z w64 c.args.lsn c.ranges.lsn) in
     let here = subst (λ n. Begins sum size s.log.bytes s.blobs.file n (IsLeft trace sum c.args.config.now r)) from c.in-Ok.ensures.begins in
     begins_as sum size s.log.bytes s.blobs.file (begins_from size c.args.lsn) (IsLeft trace sum c.args.config.now r) (IsAhead trace sum c.new.result)
-    (λ items damaged left. left_ahead trace sum c.new.result c.begin_at.new.config r (file_ahead trace sum c.new.result c.args.config c.begin_at.new.config c.new.ensures.borrows) c.new.ensures.rest items damaged
-    (left_still trace sum c.args.config.now c.begin_at.new.config r items damaged c.in-Ok.ensures.reads left))
+    (λ items damage left. left_ahead trace sum c.new.result c.begin_at.new.config r (file_ahead trace sum c.new.result c.args.config c.begin_at.new.config c.new.ensures.borrows) c.new.ensures.rest items damage
+    (left_still trace sum c.args.config.now c.begin_at.new.config r items damage c.in-Ok.ensures.reads left))
     here
 
 pub returns-in-Err-clause-corrupt : goal.returns-in-Err-clause-corrupt

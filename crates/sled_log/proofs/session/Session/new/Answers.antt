@@ -7,6 +7,7 @@ use Rattle.sled_log.specs.RunStates.{begins_on}
 use Rattle.sled_log.specs.RunPhases.{Unstored, view_by}
 use Rattle.sled_log.proofs.Sessions.RunLemmas.{fresh_closed}
 use Rattle.sled_log.proofs.Sessions.SessionLemmas.{stands_at}
+use Rattle.sled_log.proofs.Sessions.DeviceLemmas.{over_begun}
 use Rattle.sled_log.proofs.session.Session.new.Goals as goal
 
 pub returns-clause-size : goal.returns-clause-size
@@ -14,7 +15,7 @@ returns-clause-size g c = ap (λ (x : Config). x.segment_size) c.new-config.ensu
 
 pub returns-clause-begins : goal.returns-clause-begins
 returns-clause-begins g c = λ none.
-    let view = view_by g.D.Device.trace g.D.Device.faults g.D.CrashDevice.is_stopped g.D.CrashDevice.stops_in in
+    let view = view_by g.D.Device.trace g.D.Device.faults g.D.CrashDevice.is_stopped in
     let sum = g.C.Checksum.sum_of in
     let trace = g.D.Device.trace in
     let made = c.new-config.result in
@@ -23,3 +24,8 @@ returns-clause-begins g c = λ none.
     let fresh_yet : state_of (trace made.device) ≡ fresh = ap (λ x. state_of (trace x)) same ∙ none in
     let k : Unstored = record { history = no_history; acknowledged = 0; floor = 0; tickets = [] } in
     stands_at view sum _ _ _ refl (k, ap (λ x. begins_on (view x)) (sym same), fresh_closed sum config.segment_size config.least (let most = config.most in omega (arith, most)) (trace made.device) fresh_yet)
+
+pub returns-clause-over : goal.returns-clause-over
+returns-clause-over g c =
+    let view = view_by g.D.Device.trace g.D.Device.faults g.D.CrashDevice.is_stopped in
+    over_begun view _ _ c.new-config.result refl (ap view c.new-config.ensures.device)

@@ -3,7 +3,7 @@ use Rattle.std.specs.Int.{w64, cast_signed, cast_unsigned}
 use Rattle.sled_codec.specs.Snapshots.{page_of}
 use Rattle.sled_core.specs.Fits.{Awaits, open_places}
 use Rattle.sled_core.specs.OpenPlaces.{TakesOut}
-use Rattle.sled_core.specs.OwnBlobs.{own_blob}
+use Rattle.sled_core.specs.Tickets.{own_blob}
 use Rattle.sled_core.specs.Running.{Fits}
 use Rattle.sled_core.proofs.PublicLaws.{awaited, awaited_small, fits_holds, place_back}
 use Rattle.sled_codec.specs.declared.result.DiskPtr.{DiskPtr}
@@ -14,7 +14,7 @@ use Rattle.sled_log.proofs.session.ending.abort.Goals as goal
 
 pub returns-in_default-clause-step : goal.returns-in_default-clause-step
 returns-in_default-clause-step g c = λ k at asked.
-    let view = view_by g.D.Device.trace g.D.Device.faults g.D.CrashDevice.is_stopped g.D.CrashDevice.stops_in in
+    let view = view_by g.D.Device.trace g.D.Device.faults g.D.CrashDevice.is_stopped in
     let old = c.args.opened.now in
     let its = open_there (view old.log.config.device).is_stopped c.args.number k.tickets asked in
     let taken = takes_it view g.C.Checksum.sum_of old k at c.args.number its.0 its.1 c.take_open.new.opened c.take_open.result c.take_open.ensures in
@@ -22,7 +22,7 @@ returns-in_default-clause-step g c = λ k at asked.
 
 pub returns-in-Err-clause-step : goal.returns-in-Err-clause-step
 returns-in-Err-clause-step g c = λ k at asked.
-    let view = view_by g.D.Device.trace g.D.Device.faults g.D.CrashDevice.is_stopped g.D.CrashDevice.stops_in in
+    let view = view_by g.D.Device.trace g.D.Device.faults g.D.CrashDevice.is_stopped in
     let sum = g.C.Checksum.sum_of in
     let old = c.args.opened.now in
     let mid = c.take_open.new.opened in
@@ -38,7 +38,7 @@ returns-in-Err-clause-step g c = λ k at asked.
 
 pub returns-in-Ok-clause-step : goal.returns-in-Ok-clause-step
 returns-in-Ok-clause-step g c = λ k at asked.
-    let view = view_by g.D.Device.trace g.D.Device.faults g.D.CrashDevice.is_stopped g.D.CrashDevice.stops_in in
+    let view = view_by g.D.Device.trace g.D.Device.faults g.D.CrashDevice.is_stopped in
     let old = c.args.opened.now in
     let mid = c.take_open.new.opened in
     let new = c.abort.new.self in

@@ -18,12 +18,12 @@ use Rattle.sled_log.proofs.session.ending.complete.Goals as goal
 
 pub returns-then-is_err-clause-step : goal.returns-then-is_err-clause-step
 returns-then-is_err-clause-step g c = λ k at asked.
-    let view = view_by g.D.Device.trace g.D.Device.faults g.D.CrashDevice.is_stopped g.D.CrashDevice.stops_in in
+    let view = view_by g.D.Device.trace g.D.Device.faults g.D.CrashDevice.is_stopped in
     room_fails view g.C.Checksum.sum_of c.args.opened.now c.room_for.new.opened c.room_for.ensures.kept k c.args.number (on_failure c.room_for.result _ (sym c.is_err.ensures.value ∙ c.if-is_err.true) c.room_for.ensures.whole) at
 
 pub returns-in_default-clause-step : goal.returns-in_default-clause-step
 returns-in_default-clause-step g c = λ k at asked.
-    let view = view_by g.D.Device.trace g.D.Device.faults g.D.CrashDevice.is_stopped g.D.CrashDevice.stops_in in
+    let view = view_by g.D.Device.trace g.D.Device.faults g.D.CrashDevice.is_stopped in
     let sum = g.C.Checksum.sum_of in
     let given = c.args.opened.now in
     let old = c.room_for.new.opened in
@@ -34,7 +34,7 @@ returns-in_default-clause-step g c = λ k at asked.
 -- A manifest's ticket was refused before.
 pub returns-then-is_manifest-clause-step : goal.returns-then-is_manifest-clause-step
 returns-then-is_manifest-clause-step g c = λ k at asked.
-    let view = view_by g.D.Device.trace g.D.Device.faults g.D.CrashDevice.is_stopped g.D.CrashDevice.stops_in in
+    let view = view_by g.D.Device.trace g.D.Device.faults g.D.CrashDevice.is_stopped in
     let sum = g.C.Checksum.sum_of in
     let given = c.args.opened.now in
     let old = c.room_for.new.opened in
@@ -55,7 +55,7 @@ apply-requires g c =
 
 pub returns-in-Err-clause-step : goal.returns-in-Err-clause-step
 returns-in-Err-clause-step g c = λ k at asked.
-    let view = view_by g.D.Device.trace g.D.Device.faults g.D.CrashDevice.is_stopped g.D.CrashDevice.stops_in in
+    let view = view_by g.D.Device.trace g.D.Device.faults g.D.CrashDevice.is_stopped in
     let sum = g.C.Checksum.sum_of in
     let given = c.args.opened.now in
     let old = c.room_for.new.opened in
@@ -69,7 +69,7 @@ returns-in-Err-clause-step g c = λ k at asked.
 
 pub returns-in-Ok-clause-step : goal.returns-in-Ok-clause-step
 returns-in-Ok-clause-step g c = λ k at asked.
-    let view = view_by g.D.Device.trace g.D.Device.faults g.D.CrashDevice.is_stopped g.D.CrashDevice.stops_in in
+    let view = view_by g.D.Device.trace g.D.Device.faults g.D.CrashDevice.is_stopped in
     let sum = g.C.Checksum.sum_of in
     let trace = g.D.Device.trace in
     let given = c.args.opened.now in

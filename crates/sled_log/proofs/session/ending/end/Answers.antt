@@ -31,7 +31,7 @@ peg_read z mid old is same fits = to_z-of_z w64 z fits ∙ is ∙ ap (λ l. pos 
 
 -- how a run sees a device
 abbrev seen_by : (g : Over) → g.row.D.Denot → DeviceView
-seen_by g = view_by g.D.Device.trace g.D.Device.faults g.D.CrashDevice.is_stopped g.D.CrashDevice.stops_in
+seen_by g = view_by g.D.Device.trace g.D.Device.faults g.D.CrashDevice.is_stopped
 
 -- The ticket of a batch's manifest was taken, and the greatest place that was reserved was read.
 module _ (g : Over) (c : After-reserved_offset-peg g) where

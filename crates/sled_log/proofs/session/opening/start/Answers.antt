@@ -16,14 +16,14 @@ use Rattle.sled_log.proofs.session.opening.start.Goals as goal
 pub returns-in-Ok-clause-acts : goal.returns-in-Ok-clause-acts
 returns-in-Ok-clause-acts g c = (
   record {
-    startable = c.in-Ok.ensures.answers.0;
-    in_reach = c.in-Ok.ensures.answers.1;
-    made = ap (λ l. g.D.Device.trace l.config.device) c.pin-guard.ensures.taken ∙ c.in-Ok.ensures.made;
-    failures = ap (λ l. g.D.Device.faults l.config.device) c.pin-guard.ensures.taken ∙ c.in-Ok.ensures.answers.2;
+    stable_is = refl;
+    active_is = refl;
+    pages_are = (let long : c.len-pages.result ≡ length c.args.snapshot.pt.items = search rules in let shown : length c.args.snapshot.pt.items ≡ length (model_of c.args.snapshot).pages = simp length-map in long ∙ shown);
   },
-  refl,
-  refl,
-  (let long : c.len-pages.result ≡ length c.args.snapshot.pt.items = search rules in let shown : length c.args.snapshot.pt.items ≡ length (model_of c.args.snapshot).pages = simp length-map in long ∙ shown),
+  c.in-Ok.ensures.answers.0,
+  c.in-Ok.ensures.answers.1,
+  ap (λ l. g.D.Device.trace l.config.device) c.pin-guard.ensures.taken ∙ c.in-Ok.ensures.made,
+  ap (λ l. g.D.Device.faults l.config.device) c.pin-guard.ensures.taken ∙ c.in-Ok.ensures.answers.2,
 )
 
 pub returns-in-Ok-clause-starts : goal.returns-in-Ok-clause-starts

@@ -12,7 +12,7 @@ use Rattle.sled_log.proofs.session.reading.read.Goals as goal
 -- src/session/reading.rt:20:1
 pub returns-in-Ok-clause-step : goal.returns-in-Ok-clause-step
 returns-in-Ok-clause-step g c = λ k at free.
-    let view = view_by g.D.Device.trace g.D.Device.faults g.D.CrashDevice.is_stopped g.D.CrashDevice.stops_in in
+    let view = view_by g.D.Device.trace g.D.Device.faults g.D.CrashDevice.is_stopped in
     let sum = g.C.Checksum.sum_of in
     let opened = c.args.opened.now in
     let new = c.read_entries.new.log in
@@ -23,14 +23,15 @@ returns-in-Ok-clause-step g c = λ k at free.
     let reads = subst (λ l. ReadsEntries view sum opened.log c.args.page (base ∷ l) new (Ok c.in-Ok.items)) c.deref-in-Present.ensures.value c.in-Ok.ensures.reads in
     record {
       not_refused = refl;
-      acts = tt;
-      step = λ own. (k, page_read view sum opened c.args.page k at new base frags (Ok c.in-Ok.items) has reads, open_still view sum opened c.args.page k at new base frags (Ok c.in-Ok.items) has reads);
+      next = k;
+      step = page_read view sum opened c.args.page k at new base frags (Ok c.in-Ok.items) has reads;
+      at = λ own. open_still view sum opened c.args.page k at new base frags (Ok c.in-Ok.items) has reads;
     }
 
 -- src/session/reading.rt:20:1
 pub returns-in-Err-clause-step : goal.returns-in-Err-clause-step
 returns-in-Err-clause-step g c = λ k at free.
-    let view = view_by g.D.Device.trace g.D.Device.faults g.D.CrashDevice.is_stopped g.D.CrashDevice.stops_in in
+    let view = view_by g.D.Device.trace g.D.Device.faults g.D.CrashDevice.is_stopped in
     let sum = g.C.Checksum.sum_of in
     let opened = c.args.opened.now in
     let new = c.read_entries.new.log in
@@ -41,8 +42,9 @@ returns-in-Err-clause-step g c = λ k at free.
     let reads = subst (λ l. ReadsEntries view sum opened.log c.args.page (base ∷ l) new (Err c.in-Err.e)) c.deref-in-Present.ensures.value c.in-Err.ensures.reads in
     record {
       not_refused = refl;
-      acts = tt;
-      step = λ own. (k, page_read view sum opened c.args.page k at new base frags (Err c.in-Err.e) has reads, open_still view sum opened c.args.page k at new base frags (Err c.in-Err.e) has reads);
+      next = k;
+      step = page_read view sum opened c.args.page k at new base frags (Err c.in-Err.e) has reads;
+      at = λ own. open_still view sum opened c.args.page k at new base frags (Err c.in-Err.e) has reads;
     }
 
 -- src/session/reading.rt:20:1
@@ -55,8 +57,9 @@ returns-in-Free-clause-step g c = λ k at free.
     let freed = page_free k.history (map page_of opened.pages.items) c.args.page c.in-Free.field-0 c.in-Free.field-1 at.made at.table has in
     record {
       not_refused = refl;
-      acts = tt;
-      step = λ own. (k, record { message = freed.message; is = freed.are; frees = freed.frees; unread = refl; leads = refl }, at);
+      next = k;
+      step = ((freed.message, freed.are, freed.frees), refl, refl);
+      at = λ own. at;
     }
 
 -- src/session/reading.rt:20:1

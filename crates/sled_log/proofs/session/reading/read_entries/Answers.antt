@@ -8,35 +8,41 @@ use Rattle.sled_codec.specs.declared.result.DiskPtr.TheVariants.{Inline}
 use Rattle.sled_codec.specs.Snapshots.{Entry}
 use Rattle.sled_log.specs.Readings.{ReadsEntries}
 use Rattle.sled_log.specs.RunPhases.{view_by}
-use Rattle.sled_log.proofs.Sessions.Reading.{HasReadSome, all_read, none_read, one_failed, one_more, unread}
+use Rattle.sled_log.proofs.Sessions.Reading.{HasReadSome, all_read, kept_unread, none_read, one_failed, one_more, unread}
 use Rattle.sled_log.proofs.session.reading.read_entries.Given as given
 use Rattle.sled_log.proofs.session.reading.read_entries.Goals as goal
+
+-- The log keeps a failure.
+pub returns-in-Some-clause-reads : goal.returns-in-Some-clause-reads
+returns-in-Some-clause-reads g c =
+    let view = view_by g.D.Device.trace g.D.Device.faults g.D.CrashDevice.is_stopped in
+    kept_unread view g.C.Checksum.sum_of c.args.log.now c.args.page (c.args.base.now ∷ c.args.frags.now) c.in-Some.e (sym c.failure.ensures ∙ c.in-Some.is)
 
 -- src/session/reading.rt:47:21
 pub returns-in_err-items-clause-reads : goal.returns-in_err-items-clause-reads
 returns-in_err-items-clause-reads g c =
-    let view = view_by g.D.Device.trace g.D.Device.faults g.D.CrashDevice.is_stopped g.D.CrashDevice.stops_in in
+    let view = view_by g.D.Device.trace g.D.Device.faults g.D.CrashDevice.is_stopped in
     let gives = err_from_is_err_and c.from_residual.result c.from_residual.ensures.1 in
-    rw (gives.1, gives.2) (unread view g.C.Checksum.sum_of c.args.log.now c.args.page (c.args.base.now ∷ c.args.frags.now))
+    rw (gives.1, gives.2) (unread view g.C.Checksum.sum_of c.args.log.now c.args.page (c.args.base.now ∷ c.args.frags.now) (sym c.failure.ensures ∙ c.in_default.is))
 
 -- src/session/reading.rt:48:25
 pub returns-in_err-read_item-clause-reads : goal.returns-in_err-read_item-clause-reads
 returns-in_err-read_item-clause-reads g c =
-    let view = view_by g.D.Device.trace g.D.Device.faults g.D.CrashDevice.is_stopped g.D.CrashDevice.stops_in in
+    let view = view_by g.D.Device.trace g.D.Device.faults g.D.CrashDevice.is_stopped in
     let old = c.args.log.now in
     let entries : List Entry = c.args.base.now ∷ c.args.frags.now in
     let gives = err_from_is_err_and c.from_residual-in_err-read_item.result c.from_residual-in_err-read_item.ensures.1 in
-    rw (gives.1, gives.2) (one_failed view g.C.Checksum.sum_of old c.args.page entries old [] c.read_item.new.log c.args.base.now c.args.frags.now c.in_err-read_item.field-0.0 (none_read view g.C.Checksum.sum_of old c.args.page entries) c.in_err-read_item.ensures.reads)
+    rw (gives.1, gives.2) (one_failed view g.C.Checksum.sum_of old c.args.page entries old [] c.read_item.new.log c.args.base.now c.args.frags.now c.in_err-read_item.field-0.0 (none_read view g.C.Checksum.sum_of old c.args.page entries (sym c.failure.ensures ∙ c.in_default.is)) c.in_err-read_item.ensures.reads)
 
 -- src/session/reading.rt:49:5
 pub loop-frag-init : goal.loop-frag-init
 loop-frag-init g c =
-    let view = view_by g.D.Device.trace g.D.Device.faults g.D.CrashDevice.is_stopped g.D.CrashDevice.stops_in in
+    let view = view_by g.D.Device.trace g.D.Device.faults g.D.CrashDevice.is_stopped in
     let old = c.args.log.now in
     let entries : List Entry = c.args.base.now ∷ c.args.frags.now in
     record {
       some = subst (λ (l : List (Vec ℕ Global)). HasReadSome view g.C.Checksum.sum_of old c.args.page entries c.read_item.new.log l c.args.frags.now) (sym {A = List (Vec ℕ Global)} (c.push_reserved.ensures.items ∙ ap (λ (l : List (Vec ℕ Global)). l ++ c.in_ok-read_item.field-0 ∷ []) c.in_ok-items.ensures.items))
-          (one_more view g.C.Checksum.sum_of old c.args.page entries old [] c.read_item.new.log c.args.base.now c.args.frags.now c.in_ok-read_item.field-0 (none_read view g.C.Checksum.sum_of old c.args.page entries) c.in_ok-read_item.ensures.reads);
+          (one_more view g.C.Checksum.sum_of old c.args.page entries old [] c.read_item.new.log c.args.base.now c.args.frags.now c.in_ok-read_item.field-0 (none_read view g.C.Checksum.sum_of old c.args.page entries (sym c.failure.ensures ∙ c.in_default.is)) c.in_ok-read_item.ensures.reads);
       len = search rules;
       room = search rules;
     }
@@ -48,9 +54,9 @@ left xs i lt = let next : i + 1 ≡ suc i = omega arith in drop-cons xs i (pos 0
 -- src/session/reading.rt:50:29
 -- what came of the next message, where that was not read
 failed : (g : given.Over) (c : goal.After-drop-items-in_err-read_item-2 g)
-    → ReadsEntries (view_by g.D.Device.trace g.D.Device.faults g.D.CrashDevice.is_stopped g.D.CrashDevice.stops_in) g.C.Checksum.sum_of c.args.log.now c.args.page (c.args.base.now ∷ c.args.frags.now) c.read_item-in-loop-frag.new.log (Err c.in_err-read_item-2.field-0.0)
+    → ReadsEntries (view_by g.D.Device.trace g.D.Device.faults g.D.CrashDevice.is_stopped) g.C.Checksum.sum_of c.args.log.now c.args.page (c.args.base.now ∷ c.args.frags.now) c.read_item-in-loop-frag.new.log (Err c.in_err-read_item-2.field-0.0)
 failed g c =
-    let view = view_by g.D.Device.trace g.D.Device.faults g.D.CrashDevice.is_stopped g.D.CrashDevice.stops_in in
+    let view = view_by g.D.Device.trace g.D.Device.faults g.D.CrashDevice.is_stopped in
     let old = c.args.log.now in
     let entries : List Entry = c.args.base.now ∷ c.args.frags.now in
     let now = c.loop-frag in
@@ -73,7 +79,7 @@ push_reserved-requires-in-loop-frag g c = let len = c.loop-frag.invariant.len in
 -- src/session/reading.rt:49:5
 pub loop-frag-preserved : goal.loop-frag-preserved
 loop-frag-preserved g c =
-    let view = view_by g.D.Device.trace g.D.Device.faults g.D.CrashDevice.is_stopped g.D.CrashDevice.stops_in in
+    let view = view_by g.D.Device.trace g.D.Device.faults g.D.CrashDevice.is_stopped in
     let old = c.args.log.now in
     let entries : List Entry = c.args.base.now ∷ c.args.frags.now in
     let now = c.loop-frag in
@@ -95,7 +101,7 @@ loop-frag-preserved g c =
 -- src/session/reading.rt:37:1
 pub returns-clause-reads : goal.returns-clause-reads
 returns-clause-reads g c =
-    let view = view_by g.D.Device.trace g.D.Device.faults g.D.CrashDevice.is_stopped g.D.CrashDevice.stops_in in
+    let view = view_by g.D.Device.trace g.D.Device.faults g.D.CrashDevice.is_stopped in
     let old = c.args.log.now in
     let now = c.loop-frag in
     let end = c.loop-frag-test.false in

@@ -7,7 +7,7 @@ use Rattle.sled_log.proofs.session.reading.read_entries.Given as goal
 
 abbrev pub invariant-loop-frag : goal.invariant-loop-frag
 invariant-loop-frag g l = record {
-  some : HasReadSome (view_by g.D.Device.trace g.D.Device.faults g.D.CrashDevice.is_stopped g.D.CrashDevice.stops_in) g.C.Checksum.sum_of l.fn.log l.page (l.base ∷ l.frags) l.log l.items.items (drop l.frag-index l.frags);
+  some : HasReadSome (view_by g.D.Device.trace g.D.Device.faults g.D.CrashDevice.is_stopped) g.C.Checksum.sum_of l.fn.log l.page (l.base ∷ l.frags) l.log l.items.items (drop l.frag-index l.frags);
   len : vec_len l.items ≡ l.frag-index + 1;
   room : length l.frags + 1 ≤ vec_capacity l.items;
 }

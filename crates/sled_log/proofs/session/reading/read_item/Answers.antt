@@ -19,7 +19,7 @@ pub returns-in_err-item-clause-reads : goal.returns-in_err-item-clause-reads
 returns-in_err-item-clause-reads g c =
     let trace = g.D.Device.trace in
     let sum = g.C.Checksum.sum_of in
-    let view = view_by g.D.Device.trace g.D.Device.faults g.D.CrashDevice.is_stopped g.D.CrashDevice.stops_in in
+    let view = view_by g.D.Device.trace g.D.Device.faults g.D.CrashDevice.is_stopped in
     let old = c.args.log.now in
     let new = c.read.new.self in
     let blobs = (state_of (trace (device_of new))).blobs.file in
@@ -29,13 +29,13 @@ returns-in_err-item-clause-reads g c =
     let gives = err_from_is_err_and c.from_residual.result c.from_residual.ensures.1 in
     rw (gives.1, gives.2) (record {
       only = record { keeps = c.read.ensures.keeps; tickets = c.read.ensures.tickets; position = c.read.ensures.position; free = was_free old new c.read.ensures.refused.faulty };
-      item = λ k m begun is of here points a.
+      item = λ k m begun is of here points none a.
           let at = here ∙ sym (to_z-of_z w64 c.args.place c.ranges.place) in
           let whole = is_whole trace sum old k c.args.page m place is of at c.args.pointer e points
           (came.undamaged k.history k.acknowledged k.floor is.unmarked m is.fits of.there (has_record old k.history (reserved_end old) c.args.page m of) at points)
           (came.blob k.history k.acknowledged k.floor is.unmarked m is.fits is.zeros).kept in
           read_failed view sum old new k c.args.page m begun of (stays_put trace sum old new c.read.ensures.tickets c.read.ensures.position c.read.ensures.keeps) blobs e place c.args.pointer at points
-          (came.calls, (came.buffers.1, came.answers)) whole a;
+          (came.calls, (came.buffers.1, came.answers, came.buffers.2)) whole none a;
     })
 
 -- src/session/reading.rt:60:1
@@ -43,7 +43,7 @@ pub returns-in-Inline-clause-reads : goal.returns-in-Inline-clause-reads
 returns-in-Inline-clause-reads g c =
     let trace = g.D.Device.trace in
     let sum = g.C.Checksum.sum_of in
-    let view = view_by g.D.Device.trace g.D.Device.faults g.D.CrashDevice.is_stopped g.D.CrashDevice.stops_in in
+    let view = view_by g.D.Device.trace g.D.Device.faults g.D.CrashDevice.is_stopped in
     let old = c.args.log.now in
     let new = c.read.new.self in
     let blobs = (state_of (trace (device_of new))).blobs.file in
@@ -62,7 +62,7 @@ returns-in-Inline-clause-reads g c =
             | inr x ↦ (subst (GivesMessage m) x.3 gives).2
           ] in
           let read = was_read view sum old new k c.args.page m begun of (stays_put trace sum old new c.read.ensures.tickets c.read.ensures.position c.read.ensures.keeps) blobs r place c.args.pointer at points
-          (came.calls, (came.buffers.1, came.answers)) in
+          (came.calls, (came.buffers.1, came.answers, came.buffers.2)) in
           (bytes, read.0, read.1, read.2);
     }
 

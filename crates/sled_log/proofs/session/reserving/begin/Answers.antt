@@ -18,7 +18,7 @@ manifest_written log = subst (λ (b : Bool). kind_for does.Skip manifest_page b 
 -- Without room for a ticket nothing is done.
 pub returns-then-is_err-clause-step : goal.returns-then-is_err-clause-step
 returns-then-is_err-clause-step g c = λ k at asked.
-    let view = view_by g.D.Device.trace g.D.Device.faults g.D.CrashDevice.is_stopped g.D.CrashDevice.stops_in in
+    let view = view_by g.D.Device.trace g.D.Device.faults g.D.CrashDevice.is_stopped in
     let sum = g.C.Checksum.sum_of in
     let old = c.args.opened.now in
     let mid = c.room_for_ticket.new.opened in
@@ -32,7 +32,7 @@ hold_manifest-requires g c =
 -- The place that the log kept has a ticket.
 pub returns-in-Ok-clause-step : goal.returns-in-Ok-clause-step
 returns-in-Ok-clause-step g c = λ k at asked.
-    let view = view_by g.D.Device.trace g.D.Device.faults g.D.CrashDevice.is_stopped g.D.CrashDevice.stops_in in
+    let view = view_by g.D.Device.trace g.D.Device.faults g.D.CrashDevice.is_stopped in
     let sum = g.C.Checksum.sum_of in
     let old = c.args.opened.now in
     let mid = c.room_for_ticket.new.opened in
@@ -44,6 +44,7 @@ returns-in-Ok-clause-step g c = λ k at asked.
       ticket = c.in-Ok.ensures.ticket;
       stored = c.in-Ok.ensures.stored;
       manifest = c.in-Ok.ensures.manifest;
+      own = c.in-Ok.ensures.own;
       behind = c.in-Ok.ensures.behind;
       others = c.reserve.ensures.others;
       answers = c.in-Ok.ensures.answers;
@@ -57,7 +58,7 @@ returns-in-Ok-clause-step g c = λ k at asked.
 -- A log that kept no place is as it was.
 pub returns-in-Err-clause-step : goal.returns-in-Err-clause-step
 returns-in-Err-clause-step g c = λ k at asked.
-    let view = view_by g.D.Device.trace g.D.Device.faults g.D.CrashDevice.is_stopped g.D.CrashDevice.stops_in in
+    let view = view_by g.D.Device.trace g.D.Device.faults g.D.CrashDevice.is_stopped in
     let sum = g.C.Checksum.sum_of in
     let old = c.args.opened.now in
     let mid = c.room_for_ticket.new.opened in
@@ -69,6 +70,7 @@ returns-in-Err-clause-step g c = λ k at asked.
       ticket = tt;
       stored = tt;
       manifest = tt;
+      own = tt;
       behind = tt;
       others = c.reserve.ensures.others;
       answers = c.in-Err.ensures.answers;

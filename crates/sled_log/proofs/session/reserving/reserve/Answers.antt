@@ -9,7 +9,7 @@ use Rattle.sled_log.proofs.session.reserving.reserve.Goals as goal
 -- Without room for a ticket nothing is done.
 pub returns-then-is_err-clause-step : goal.returns-then-is_err-clause-step
 returns-then-is_err-clause-step g c = λ k at may.
-    roomless_tried (view_by g.D.Device.trace g.D.Device.faults g.D.CrashDevice.is_stopped g.D.CrashDevice.stops_in) g.C.Checksum.sum_of c.args.opened.now c.room_for.new.opened c.args.kind c.args.page
+    roomless_tried (view_by g.D.Device.trace g.D.Device.faults g.D.CrashDevice.is_stopped) g.C.Checksum.sum_of c.args.opened.now c.room_for.new.opened c.args.kind c.args.page
     (g.T.Serialize.short (g.T.Serialize.meaning c.args.item.now)) k c.room_for.ensures.room (on_failure c.room_for.result _ (sym c.is_err.ensures.value ∙ c.if-is_err.true) c.room_for.ensures.whole) at
 
 pub hold-requires-clause-room : goal.hold-requires-clause-room
@@ -27,7 +27,7 @@ hold-requires-clause-message g c = noted_page c.room_for.new.opened.busy c.args.
 -- The place that the log kept has a ticket.
 pub returns-in-Ok-clause-step : goal.returns-in-Ok-clause-step
 returns-in-Ok-clause-step g c = λ k at may.
-    let view = view_by g.D.Device.trace g.D.Device.faults g.D.CrashDevice.is_stopped g.D.CrashDevice.stops_in in
+    let view = view_by g.D.Device.trace g.D.Device.faults g.D.CrashDevice.is_stopped in
     let sum = g.C.Checksum.sum_of in
     let bytes = g.T.Serialize.short (g.T.Serialize.meaning c.args.item.now) in
     let old = c.args.opened.now in
@@ -39,6 +39,7 @@ returns-in-Ok-clause-step g c = λ k at may.
       ticket = c.in-Ok.ensures.ticket;
       stored = c.in-Ok.ensures.stored;
       manifest = c.in-Ok.ensures.manifest;
+      own = c.in-Ok.ensures.own;
       behind = c.in-Ok.ensures.behind;
       others = c.reserve.ensures.others;
       answers = c.in-Ok.ensures.answers;
@@ -55,7 +56,7 @@ returns-in-Ok-clause-step g c = λ k at may.
 -- A log that kept no place is as it was, or ready for a record that it has none of.
 pub returns-in-Err-clause-step : goal.returns-in-Err-clause-step
 returns-in-Err-clause-step g c = λ k at may.
-    let view = view_by g.D.Device.trace g.D.Device.faults g.D.CrashDevice.is_stopped g.D.CrashDevice.stops_in in
+    let view = view_by g.D.Device.trace g.D.Device.faults g.D.CrashDevice.is_stopped in
     let sum = g.C.Checksum.sum_of in
     let bytes = g.T.Serialize.short (g.T.Serialize.meaning c.args.item.now) in
     let old = c.args.opened.now in
@@ -68,6 +69,7 @@ returns-in-Err-clause-step g c = λ k at may.
       ticket = tt;
       stored = tt;
       manifest = tt;
+      own = tt;
       behind = tt;
       others = c.reserve.ensures.others;
       answers = c.in-Err.ensures.answers;

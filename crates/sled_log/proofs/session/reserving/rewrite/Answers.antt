@@ -12,7 +12,7 @@ use Rattle.sled_log.proofs.session.reserving.rewrite.Goals as goal
 -- Without room for a ticket nothing is done.
 pub returns-then-is_err-clause-step : goal.returns-then-is_err-clause-step
 returns-then-is_err-clause-step g c = λ k at asked.
-    let view = view_by g.D.Device.trace g.D.Device.faults g.D.CrashDevice.is_stopped g.D.CrashDevice.stops_in in
+    let view = view_by g.D.Device.trace g.D.Device.faults g.D.CrashDevice.is_stopped in
     let old = c.args.opened.now in
     let mid = c.room_for.new.opened in
     rewrite_does view g.C.Checksum.sum_of old c.args.page mid _ k
@@ -33,7 +33,7 @@ hold-requires-clause-message g c = noted_page c.room_for.new.opened.busy c.args.
 -- The place that the log kept has a ticket.
 pub returns-in-Ok-clause-step : goal.returns-in-Ok-clause-step
 returns-in-Ok-clause-step g c = λ k at asked.
-    let view = view_by g.D.Device.trace g.D.Device.faults g.D.CrashDevice.is_stopped g.D.CrashDevice.stops_in in
+    let view = view_by g.D.Device.trace g.D.Device.faults g.D.CrashDevice.is_stopped in
     let sum = g.C.Checksum.sum_of in
     let old = c.args.opened.now in
     let mid = c.room_for.new.opened in
@@ -41,7 +41,7 @@ returns-in-Ok-clause-step g c = λ k at asked.
     let ticket = subst (λ z. (item : List ℕ) → Awaits c.rewrite_blob_pointer.new.self c.in-Ok.reservation (message_rewriting mid.log c.args.page z item)) (to_z-of_z w64 c.in-Some.blob fits) c.in-Ok.ensures.ticket in
     rewrite_does view sum old c.args.page c.hold.new.opened c.hold.result k
     (held_again view sum old mid k c.args.page c.room_for.ensures.room at c.rewrite_blob_pointer.new.self c.rewrite_blob_pointer.ensures.same c.rewrite_blob_pointer.ensures.keeps
-    c.in-Some.blob (sym (c.blob_of.ensures k at) ∙ c.in-Some.is) c.in-Ok.reservation ticket c.in-Ok.ensures.answers c.in-Ok.ensures.behind c.rewrite_blob_pointer.ensures.others
+    c.in-Some.blob (sym (c.blob_of.ensures k at) ∙ c.in-Some.is) c.in-Ok.reservation ticket c.in-Ok.ensures.own c.in-Ok.ensures.answers c.in-Ok.ensures.behind c.rewrite_blob_pointer.ensures.others
     c.hold.new.opened c.hold.result c.hold.ensures.held
     (enough c.room_for.result old mid _ (sym c.is_err.ensures.value ∙ c.if-is_err.false) c.room_for.ensures.enough c.room_for.ensures.room.log c.in-Ok.ensures.answers.0).1
     (hold-requires-clause-message g c.before) (rewrite_may view old k c.args.page asked).1)
@@ -49,7 +49,7 @@ returns-in-Ok-clause-step g c = λ k at asked.
 -- A log that kept no place is as it was.
 pub returns-in-Err-clause-step : goal.returns-in-Err-clause-step
 returns-in-Err-clause-step g c = λ k at asked.
-    let view = view_by g.D.Device.trace g.D.Device.faults g.D.CrashDevice.is_stopped g.D.CrashDevice.stops_in in
+    let view = view_by g.D.Device.trace g.D.Device.faults g.D.CrashDevice.is_stopped in
     let sum = g.C.Checksum.sum_of in
     let old = c.args.opened.now in
     let mid = c.room_for.new.opened in

@@ -1,5 +1,5 @@
 -- Each command is carried out by a function of its own.
-use Rattle.std.proofs.Common.{SFits, rules, ◌≡◌, refl, sym, subst, Bool, None, Some}
+use Rattle.std.proofs.Common.{SFits, rules, ◌≡◌, refl, sym, ap, subst, Bool, None, Some}
 use Rattle.std.specs.Int.{w64}
 use Rattle.std.proofs.lemmas.Int.{to_z-of_z}
 use Rattle.sled_core.specs.Fits.{config_of}
@@ -15,6 +15,8 @@ use Rattle.sled_log.specs.Refusals.{when}
 use Rattle.sled_log.specs.RunPhases.{CarriesOut, RunsOn, view_by}
 use Rattle.sled_log.proofs.Sessions.Carried.{free_does, free_may, link_does, link_may, passes, replace_does, replace_may}
 use Rattle.sled_log.proofs.Sessions.RunLemmas.{carried, halted, runs_on_same}
+use Rattle.sled_log.specs.Devices.{TouchesIn}
+use Rattle.sled_log.proofs.Sessions.DeviceLemmas.{goes_on, halts, touched, touched_refused, went_on}
 use Rattle.sled_log.proofs.session.step.carry_out_open.Goals.{in-Replace, in-Link, in-Free, in-Rewrite, in-BeginBatch, in-EndBatch, in-Complete, in-Abort, in-Write, in-Flush, in-Stable, in-Read, in-Stop, in-Open}
 use Rattle.sled_log.proofs.session.step.carry_out_open.Goals as goal
 
@@ -24,17 +26,17 @@ never_open b w v free = let some = (passes b w (Some v) free).1 in cc
 
 pub returns-in-Halt-clause-step : goal.returns-in-Halt-clause-step
 returns-in-Halt-clause-step g c =
-    let view = view_by g.D.Device.trace g.D.Device.faults g.D.CrashDevice.is_stopped g.D.CrashDevice.stops_in in
+    let view = view_by g.D.Device.trace g.D.Device.faults g.D.CrashDevice.is_stopped in
     carried view g.C.Checksum.sum_of (phase.Open c.args.opened) command.Halt c.args.command.now (phase.Closed c.halt.result, reply.Halted) c.in-Halt.is (halted view g.C.Checksum.sum_of c.args.opened c.halt.result c.halt.ensures)
 
 pub returns-in-Crash-clause-step : goal.returns-in-Crash-clause-step
 returns-in-Crash-clause-step g c =
-    let view = view_by g.D.Device.trace g.D.Device.faults g.D.CrashDevice.is_stopped g.D.CrashDevice.stops_in in
+    let view = view_by g.D.Device.trace g.D.Device.faults g.D.CrashDevice.is_stopped in
     carried view g.C.Checksum.sum_of (phase.Open c.args.opened) (command.Crash c.in-Crash.choice) c.args.command.now c.crash_open.result c.in-Crash.is c.crash_open.ensures.step
 
 pub returns-clause-step : goal.returns-clause-step
 returns-clause-step g c =
-    let view = view_by g.D.Device.trace g.D.Device.faults g.D.CrashDevice.is_stopped g.D.CrashDevice.stops_in in
+    let view = view_by g.D.Device.trace g.D.Device.faults g.D.CrashDevice.is_stopped in
     let sum = g.C.Checksum.sum_of in
     let old = c.args.opened in
     let cmd : Command = c.args.command.now in
@@ -83,4 +85,41 @@ returns-clause-on g c =
       | in-Link w ↦ subst Goes (sym w.opened-is) w.reserve-reply-in-Link.ensures.on
       | in-Free w ↦ subst Goes (sym w.opened-is) w.reserve-reply-in-Free.ensures.on
       | in-Open w ↦ subst Goes (sym w.opened-is) (runs_on_same g.D.Device.trace (config_of old.log) (config_of old.log) refl)
+    ]
+
+-- What each does to the device.
+pub returns-in-Halt-clause-device : goal.returns-in-Halt-clause-device
+returns-in-Halt-clause-device g c =
+    let view = view_by g.D.Device.trace g.D.Device.faults g.D.CrashDevice.is_stopped in
+    touched view g.C.Checksum.sum_of (phase.Open c.args.opened) command.Halt c.args.command.now (phase.Closed c.halt.result) reply.Halted c.in-Halt.is (halts view g.C.Checksum.sum_of c.args.opened c.halt.result c.halt.ensures)
+
+pub returns-in-Crash-clause-device : goal.returns-in-Crash-clause-device
+returns-in-Crash-clause-device g c =
+    let view = view_by g.D.Device.trace g.D.Device.faults g.D.CrashDevice.is_stopped in
+    touched view g.C.Checksum.sum_of (phase.Open c.args.opened) (command.Crash c.in-Crash.choice) c.args.command.now c.crash_open.result.0 c.crash_open.result.1 c.in-Crash.is c.crash_open.ensures.device
+
+pub returns-clause-device : goal.returns-clause-device
+returns-clause-device g c =
+    let view = view_by g.D.Device.trace g.D.Device.faults g.D.CrashDevice.is_stopped in
+    let sum = g.C.Checksum.sum_of in
+    let old = c.args.opened in
+    let cmd : Command = c.args.command.now in
+    let Goal : Opened g.row.D.Denot g.row.C.Denot → Reply → Type 0 = λ o r. TouchesIn view sum (phase.Open old) cmd (phase.Open o) r in
+    let put : (o : Opened g.row.D.Denot g.row.C.Denot) (r : Reply) → c.match-command.opened ≡ o → c.match-command.reply ≡ r → Goal o r → Goal c.match-command.opened c.match-command.reply =
+    λ o r opened_is reply_is done. subst (λ x. Goal x c.match-command.reply) (sym opened_is) (subst (Goal o) (sym reply_is) done) in
+    elim c.match-command.branch [
+      | in-Complete w ↦ put w.complete-reply.new.opened w.complete-reply.result w.opened-is w.reply-is (went_on view sum old w.complete-reply.new.opened cmd w.complete-reply.result (ap goes_on w.in-Complete.is) w.complete-reply.ensures.on)
+      | in-BeginBatch w ↦ put w.begin-reply.new.opened w.begin-reply.result w.opened-is w.reply-is (went_on view sum old w.begin-reply.new.opened cmd w.begin-reply.result (ap goes_on w.in-BeginBatch.is) w.begin-reply.ensures.on)
+      | in-EndBatch w ↦ put w.end-reply.new.opened w.end-reply.result w.opened-is w.reply-is (went_on view sum old w.end-reply.new.opened cmd w.end-reply.result (ap goes_on w.in-EndBatch.is) w.end-reply.ensures.on)
+      | in-Abort w ↦ put w.abort-reply.new.opened w.abort-reply.result w.opened-is w.reply-is (went_on view sum old w.abort-reply.new.opened cmd w.abort-reply.result (ap goes_on w.in-Abort.is) w.abort-reply.ensures.on)
+      | in-Write w ↦ put w.write-reply.new.opened w.write-reply.result w.opened-is w.reply-is (went_on view sum old w.write-reply.new.opened cmd w.write-reply.result (ap goes_on w.in-Write.is) w.write-reply.ensures.on)
+      | in-Flush w ↦ put w.flush-reply.new.opened w.flush-reply.result w.opened-is w.reply-is (went_on view sum old w.flush-reply.new.opened cmd w.flush-reply.result (ap goes_on w.in-Flush.is) w.flush-reply.ensures.on)
+      | in-Stable w ↦ put w.stabilize-reply.new.opened w.stabilize-reply.result w.opened-is w.reply-is (went_on view sum old w.stabilize-reply.new.opened cmd w.stabilize-reply.result (ap goes_on w.in-Stable.is) w.stabilize-reply.ensures.on)
+      | in-Read w ↦ put w.read-reply.new.opened w.read-reply.result w.opened-is w.reply-is (went_on view sum old w.read-reply.new.opened cmd w.read-reply.result (ap goes_on w.in-Read.is) w.read-reply.ensures.on)
+      | in-Replace w ↦ put w.reserve-reply.new.opened w.reserve-reply.result w.opened-is w.reply-is (went_on view sum old w.reserve-reply.new.opened cmd w.reserve-reply.result (ap goes_on w.in-Replace.is) w.reserve-reply.ensures.on)
+      | in-Rewrite w ↦ put w.rewrite-reply.new.opened w.rewrite-reply.result w.opened-is w.reply-is (went_on view sum old w.rewrite-reply.new.opened cmd w.rewrite-reply.result (ap goes_on w.in-Rewrite.is) w.rewrite-reply.ensures.on)
+      | in-Link w ↦ put w.reserve-reply-in-Link.new.opened w.reserve-reply-in-Link.result w.opened-is w.reply-is (went_on view sum old w.reserve-reply-in-Link.new.opened cmd w.reserve-reply-in-Link.result (ap goes_on w.in-Link.is) w.reserve-reply-in-Link.ensures.on)
+      | in-Free w ↦ put w.reserve-reply-in-Free.new.opened w.reserve-reply-in-Free.result w.opened-is w.reply-is (went_on view sum old w.reserve-reply-in-Free.new.opened cmd w.reserve-reply-in-Free.result (ap goes_on w.in-Free.is) w.reserve-reply-in-Free.ensures.on)
+      | in-Stop w ↦ put w.stop_open-reply.new.opened w.stop_open-reply.result w.opened-is w.reply-is (touched view sum (phase.Open old) (command.Stop w.in-Stop.n) cmd (phase.Open w.stop_open-reply.new.opened) w.stop_open-reply.result w.in-Stop.is w.stop_open-reply.ensures.device)
+      | in-Open w ↦ put old (reply.Refused why.Open) w.opened-is w.reply-is (touched_refused view sum (phase.Open old) cmd why.Open)
     ]

@@ -14,19 +14,15 @@ returns-clause-step g c = λ k at free.
     let left = c.crash-taken.ensures.left in
     let faults = c.crash-taken.ensures.faults in
     let stopped = c.crash-taken.ensures.stopped in
-    let stops = c.crash-taken.ensures.stops in
     record {
       not_refused = refl;
-      acts = (c.crash-taken.ensures.taken, λ i. record { trace = left i; failures = faults i; is_stopped = stopped i; stops_in = stops i });
-      step = λ own. (
-        k,
-        refl,
-        record {
-          made = at.made;
-          left = crash_recoverable sum c.args.config.config.segment_size k.history k.acknowledged k.floor old new (if taken then left_of c.args.choice else Settled []) at.left left
-              (may_be_left old c.args.choice taken c.crash-taken.ensures.taken.0) own;
-        },
-      );
+      next = k;
+      step = ((c.crash-taken.ensures.taken, λ i. record { trace = left i; failures = faults i; is_stopped = stopped i }), refl);
+      at = λ own. record {
+        made = at.made;
+        left = crash_recoverable sum c.args.config.config.segment_size k.history k.acknowledged k.floor old new (if taken then left_of c.args.choice else Settled []) at.left left
+            (may_be_left old c.args.choice taken c.crash-taken.ensures.taken.0) own;
+      };
     }
 
 pub returns-clause-on : goal.returns-clause-on
@@ -34,3 +30,11 @@ returns-clause-on g c = record {
   later = later_one (g.D.Device.trace c.args.config.device) (g.D.Device.trace c.crash-taken.new.self) _ c.crash-taken.ensures.left;
   kept = record { config = refl; checksum = refl };
 }
+
+pub returns-clause-device : goal.returns-clause-device
+returns-clause-device g c =
+    let did = c.crash-taken.ensures in
+    record {
+      touches = (did.taken, λ i. record { trace = did.left i; failures = did.faults i; is_stopped = did.stopped i });
+      opens = refl;
+    }

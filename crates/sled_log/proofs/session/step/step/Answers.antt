@@ -1,18 +1,31 @@
 -- A command is refused, or carried out and told.
 use Rattle.std.proofs.Common.{sym, subst}
 use Rattle.sled_log.specs.declared.session.command.Reply.{Reply}
+use Rattle.sled_log.specs.declared.session.command.Reply.TheVariants as reply
 use Rattle.sled_log.specs.RunPhases.{AnswersIn, view_by}
 use Rattle.sled_log.proofs.Sessions.RunLemmas.{answered, refused}
+use Rattle.sled_log.specs.Devices.{ToldIn}
+use Rattle.sled_log.proofs.Sessions.DeviceLemmas.{told_refused, touched_refused}
 use Rattle.sled_log.proofs.session.step.step.Goals as goal
 
 pub returns-in-Some-clause-step : goal.returns-in-Some-clause-step
 returns-in-Some-clause-step g c =
-    let view = view_by g.D.Device.trace g.D.Device.faults g.D.CrashDevice.is_stopped g.D.CrashDevice.stops_in in
-    refused view g.C.Checksum.sum_of c.args.phase c.args.command.now c.in-Some.why c.in-Some.ensures.why
+    let view = view_by g.D.Device.trace g.D.Device.faults g.D.CrashDevice.is_stopped in
+    refused view g.C.Checksum.sum_of c.args.phase c.args.command.now c.in-Some.why c.in-Some.ensures.asked c.in-Some.ensures.why
 
 pub returns-clause-step : goal.returns-clause-step
 returns-clause-step g c =
-    let view = view_by g.D.Device.trace g.D.Device.faults g.D.CrashDevice.is_stopped g.D.CrashDevice.stops_in in
+    let view = view_by g.D.Device.trace g.D.Device.faults g.D.CrashDevice.is_stopped in
     let next = c.carry_out-next.result in
-    subst (λ (r : Reply). AnswersIn view g.C.Checksum.sum_of c.args.phase c.args.command.now (next.0, r)) (sym c.tell-told.ensures)
-    (answered view g.C.Checksum.sum_of c.args.phase c.args.command.now next.0 next.1 c.carry_out-next.ensures.step c.carry_out-next.ensures.on.later c.in_default.ensures.why)
+    subst (λ (r : Reply). AnswersIn view g.C.Checksum.sum_of c.args.phase c.args.command.now (next.0, r)) (sym c.tell-told.ensures.told)
+    (answered view g.C.Checksum.sum_of c.args.phase c.args.command.now next.0 next.1 c.carry_out-next.ensures.step c.carry_out-next.ensures.on.later c.tell-told.ensures.asked c.in_default.ensures.why)
+
+pub returns-in-Some-clause-device : goal.returns-in-Some-clause-device
+returns-in-Some-clause-device g c =
+    let view = view_by g.D.Device.trace g.D.Device.faults g.D.CrashDevice.is_stopped in
+    record { came = reply.Refused c.in-Some.why; is_told = told_refused _ _; is = touched_refused view g.C.Checksum.sum_of c.args.phase c.args.command.now c.in-Some.why }
+
+pub returns-clause-device : goal.returns-clause-device
+returns-clause-device g c =
+    let next = c.carry_out-next.result in
+    record { came = next.1; is_told = c.tell-told.ensures.told; is = c.carry_out-next.ensures.device }

@@ -2,21 +2,23 @@
 use Rattle.std.proofs.Common.{refl, sym, ◌∙◌, length, Some}
 use Rattle.sled_core.specs.Waiting.{spans}
 use Rattle.sled_log.specs.RunPhases.{view_by}
+use Rattle.sled_log.proofs.Sessions.Carried.{asked_going}
 use Rattle.sled_log.proofs.Sessions.Writing.{still_open}
 use Rattle.sled_log.proofs.session.step.stop_open.Goals as goal
 
 pub returns-clause-step : goal.returns-clause-step
 returns-clause-step g c = λ k at free.
     let trace = g.D.Device.trace in
-    let view = view_by g.D.Device.trace g.D.Device.faults g.D.CrashDevice.is_stopped g.D.CrashDevice.stops_in in
+    let view = view_by g.D.Device.trace g.D.Device.faults g.D.CrashDevice.is_stopped in
     let opened = c.args.opened.now in
     let new = c.stop_after.new.self in
     let did = c.stop_after.ensures in
+    let asked = asked_going (view opened.log.config.device).is_stopped c.args.n _ _ _ free did.trace in
     record {
       not_refused = refl;
-      acts = λ i. record { trace = did.trace i; failures = did.faults i; is_stopped = did.stopped i; stops_in = did.stops i };
-      step = λ own. (
-        k,
+      next = k;
+      step = (
+        λ i. record { trace = asked i; failures = did.faults i; is_stopped = did.stopped i },
         (λ i. record {
           device = view new.config.device;
           history = k.history;
@@ -35,6 +37,11 @@ returns-clause-step g c = λ k at free.
             tickets = k.tickets;
           });
         }),
-        still_open trace g.C.Checksum.sum_of opened new k k.acknowledged at did.tickets did.position (λ none. sym did.rest.fault ∙ none) did.keeps (did.keeps.fits k.history k.acknowledged k.floor at.unmarked at.fits),
       );
+      at = λ own. still_open trace g.C.Checksum.sum_of opened new k k.acknowledged at did.tickets did.position (λ none. sym did.rest.fault ∙ none) did.keeps (did.keeps.fits k.history k.acknowledged k.floor at.unmarked at.fits);
     }
+
+pub returns-clause-device : goal.returns-clause-device
+returns-clause-device g c =
+    let did = c.stop_after.ensures in
+    record { touches = λ i. record { trace = did.trace i; failures = did.faults i; is_stopped = did.stopped i }; opens = refl }

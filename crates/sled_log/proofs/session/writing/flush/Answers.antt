@@ -1,27 +1,23 @@
 -- All that was reserved is written and synced, and all completed messages are acknowledged, unless a reservation is open, memory or a further segment is wanting, the device fails, or the log keeps a failure.
-use Rattle.std.proofs.Common.{◌≡◌, ◌<◌, ◌∙◌, max, ℕ, List, length, arith, subst, sym, refl, ap}
-use Rattle.std.specs.Prelude.{Err}
+use Rattle.std.proofs.Common.{◌≡◌, ◌<◌, ◌∙◌, inl, inr, max, ℕ, List, length, arith, subst, sym, refl, ap}
 use Rattle.sled_store.specs.Device.{Event, state_of}
 use Rattle.sled_store.specs.Script.{Performs, after_all}
-use Rattle.sled_core.specs.Causes.{OnDone}
 use Rattle.sled_core.specs.Fits.{IsKept, IsUsedUpBelow, current_begin, device_of, fault_of, held_len, holding_below, reserved_end, segment_size_of, stable_end, synced_end}
 use Rattle.sled_core.specs.Logged.{logged}
 use Rattle.sled_core.specs.Running.{Fits, end_below}
 use Rattle.sled_core.proofs.Holds.ReachLemmas.{fits_holds, fits_stable}
 use Rattle.sled_core.proofs.PublicLaws.{written_past}
-use Rattle.sled_log.specs.RunPhases.{seen, stands, view_by}
+use Rattle.sled_log.specs.RunPhases.{seen, view_by}
 use Rattle.sled_log.specs.RunStates.{LogView}
-use Rattle.sled_log.specs.Runs.{stable_from}
-use Rattle.sled_log.specs.declared.session.Phase.TheVariants as phase
-use Rattle.sled_log.proofs.Sessions.Writing.{calls_failed, flush_out, has_stopped, has_written, holding_seen, some_reserved, stable_seen, stays_put, still_open, was_free, writes_seen, writes_to, writing_stops}
-use Rattle.sled_log.proofs.WriteBack.RestartCauses.{some_of}
+use Rattle.sled_log.specs.WriteSteps.{stable_from}
+use Rattle.sled_log.proofs.Sessions.Writing.{fails_to, flush_in, flush_out, has_written, holding_seen, if_held, keeps_failing, kept_or_none, some_reserved, stable_seen, stays_put, still_open, was_free, why_of, writes_seen}
 use Rattle.sled_log.proofs.session.writing.flush.Goals as goal
 
 pub returns-in-Ok-clause-step : goal.returns-in-Ok-clause-step
 returns-in-Ok-clause-step g c = λ k at free.
     let trace = g.D.Device.trace in
     let sum = g.C.Checksum.sum_of in
-    let view = view_by g.D.Device.trace g.D.Device.faults g.D.CrashDevice.is_stopped g.D.CrashDevice.stops_in in
+    let view = view_by g.D.Device.trace g.D.Device.faults g.D.CrashDevice.is_stopped in
     let opened = c.args.opened.now in
     let old = opened.log in
     let new = c.flush.new.self in
@@ -32,7 +28,7 @@ returns-in-Ok-clause-step g c = λ k at free.
     let some : current_begin old < to → 0 < held_len old = some_reserved old sum begun k.tickets to (omega arith) in
     let holds = fits_holds trace sum old H k.acknowledged k.floor at.unmarked at.fits in
     let past = fits_stable trace sum old H k.acknowledged k.floor at.unmarked at.fits in
-    let above = c.in-Ok.ensures.buffers.above in
+    let above = c.in-Ok.ensures.buffers.0.above in
     let answers = c.in-Ok.ensures.answers in
     let position = c.flush.ensures.position in
     let put = stays_put trace sum old new c.flush.ensures.tickets position c.flush.ensures.keeps in
@@ -42,20 +38,18 @@ returns-in-Ok-clause-step g c = λ k at free.
     let reached : ℕ = max k.acknowledged (end_below (stable_end new) H) in
     record {
       not_refused = refl;
-      acts = (writes_to old sum begun k.tickets to some, (c.in-Ok.ensures.calls ∙ ap (λ (es : List Event). after_all es (trace (device_of old))) (writes_seen old sum begun k.tickets to some), answers.4));
-      step = λ own. (
-        record { history = H; acknowledged = reached; floor = k.floor; tickets = k.tickets },
-        record {
-          written = has_written old sum begun k.tickets to some new (view old.config.device) (view new.config.device) H k.acknowledged k.floor put c.in-Ok.grown answers.2 answers.3 answers.0 c.in-Ok.ensures.answer c.in-Ok.ensures.synced.whole past above;
-          all = λ i d lt. let low = written_past trace sum new H (c.in-Ok.ensures.records H holds) i d lt in omega (arith, low, ends);
-          site = new.site;
-          from = new.buffer.written_len;
-          at = ends;
-          kept = kept;
-        },
-        still_open trace sum opened new k reached at c.flush.ensures.tickets position (was_free old new c.flush.ensures.faulty) c.flush.ensures.keeps
-            (subst (λ n. Fits trace sum new H (max k.acknowledged (end_below n H)) k.floor at.unmarked) (sym c.in-Ok.ensures.synced.stable) (c.in-Ok.ensures.acknowledges H k.acknowledged k.floor at.unmarked at.fits)),
-      );
+      next = record { history = H; acknowledged = reached; floor = k.floor; tickets = k.tickets };
+      step = record {
+        written = has_written old sum begun k.tickets to some new (view old.config.device) (view new.config.device) H k.acknowledged k.floor put c.in-Ok.grown answers.2 answers.3 answers.1 answers.0
+            (c.in-Ok.ensures.calls ∙ ap (λ (es : List Event). after_all es (trace (device_of old))) (writes_seen old sum begun k.tickets to some)) answers.4 c.in-Ok.ensures.answer c.in-Ok.ensures.synced.whole past above;
+        all = λ i d lt. let low = written_past trace sum new H (c.in-Ok.ensures.records H holds) i d lt in omega (arith, low, ends);
+        site = new.site;
+        from = new.buffer.written_len;
+        at = ends;
+        kept = kept;
+      };
+      at = λ own. still_open trace sum opened new k reached at c.flush.ensures.tickets position (was_free old new c.flush.ensures.faulty) c.flush.ensures.keeps
+          (subst (λ n. Fits trace sum new H (max k.acknowledged (end_below n H)) k.floor at.unmarked) (sym c.in-Ok.ensures.synced.stable) (c.in-Ok.ensures.acknowledges H k.acknowledged k.floor at.unmarked at.fits));
     }
 
 -- a flush that failed changes nothing of the history
@@ -63,7 +57,7 @@ pub returns-in-Err-clause-step : goal.returns-in-Err-clause-step
 returns-in-Err-clause-step g c = λ k at free.
     let trace = g.D.Device.trace in
     let sum = g.C.Checksum.sum_of in
-    let view = view_by g.D.Device.trace g.D.Device.faults g.D.CrashDevice.is_stopped g.D.CrashDevice.stops_in in
+    let view = view_by g.D.Device.trace g.D.Device.faults g.D.CrashDevice.is_stopped in
     let opened = c.args.opened.now in
     let old = opened.log in
     let new = c.flush.new.self in
@@ -73,21 +67,21 @@ returns-in-Err-clause-step g c = λ k at free.
     let to = reserved_end old in
     let some : current_begin old < to → 0 < held_len old = some_reserved old sum begun k.tickets to (omega arith) in
     let position = c.flush.ensures.position in
-    let same = writes_seen old sum begun k.tickets to some in
+    let device = view old.config.device in
+    let now = view new.config.device in
+    let held = holding_below sum old to in
+    let used : Type 0 = IsUsedUpBelow old to in
     record {
       not_refused = refl;
-      acts = (
-        writes_to old sum begun k.tickets to some,
-        calls_failed ℕ _ (fault_of old) (fault_of new) c.in-Err.e (holding_below sum old to) (IsUsedUpBelow old to) (view old.config.device) (view new.config.device)
-            (subst (λ (es : List Event). OnDone {T = ℕ} (Err c.in-Err.e) (trace (device_of new) ≡ after_all es (trace (device_of old)))) same c.in-Err.ensures.calls)
-            (subst (λ (es : List Event). Performs es (trace (device_of old)) (trace (device_of new))) same c.flush.ensures.at_most)
-            (λ some. let kept = some_of (fault_of old) some in ap (λ x. view x.config.device) (c.flush.ensures.faulty kept.0 kept.1)) c.in-Err.ensures.answers,
-      );
-      step = λ own. (
-        k,
-        writing_stops (segment_size_of old) (stands view (phase.Open opened) k) l to ℕ c.in-Err.e (holding_below sum old to) (IsUsedUpBelow old to) (fault_of new) (view new.config.device) _
-            (holding_seen old sum begun k.tickets to some) (λ used. (used.0, flush_out old sum begun k.tickets used.1)) c.in-Err.ensures.answers
-            (has_stopped old sum begun k.tickets to some new (view old.config.device) (view new.config.device) H k.acknowledged k.floor (stays_put trace sum old new c.flush.ensures.tickets position c.flush.ensures.keeps) c.in-Err.ensures.buffers.some),
-        still_open trace sum opened new k k.acknowledged at c.flush.ensures.tickets position (was_free old new c.flush.ensures.faulty) c.flush.ensures.keeps (c.flush.ensures.keeps.fits H k.acknowledged k.floor at.unmarked at.fits),
-      );
+      next = k;
+      step = elim (kept_or_none ℕ c.in-Err.e held used (fault_of old) (fault_of new) device.failures now.failures c.in-Err.ensures.answers) [
+        | inl kept ↦ (
+            let same = c.flush.ensures.faulty kept.0 kept.2 in
+            inl (keeps_failing old new begun k.tickets device now H k.acknowledged k.floor c.in-Err.e kept.0 kept.1 kept.2 same (ap (λ x. view x.config.device) same)))
+        | inr none ↦ inr (fails_to old sum begun k.tickets to some new device now H k.acknowledged k.floor (stays_put trace sum old new c.flush.ensures.tickets position c.flush.ensures.keeps) trace c.in-Err.e refl refl none
+            (why_of ℕ c.in-Err.e held _ used _ (fault_of old) (fault_of new) device.failures now.failures none (holding_seen old sum begun k.tickets to some) (λ used. (used.0, flush_out old sum begun k.tickets used.1)) (λ free needs. needs.1 (flush_in old sum begun k.tickets (λ used. free (needs.0, used)))) c.in-Err.ensures.answers)
+            (subst (λ (es : List Event). Performs es (trace (device_of old)) (trace (device_of new))) (writes_seen old sum begun k.tickets to some) c.flush.ensures.at_most)
+            (if_held ℕ c.in-Err.e _ _ (λ done. done ∙ ap (λ (es : List Event). after_all es (trace (device_of old))) (writes_seen old sum begun k.tickets to some)) c.in-Err.ensures.calls) c.in-Err.ensures.buffers.1)
+      ];
+      at = λ own. still_open trace sum opened new k k.acknowledged at c.flush.ensures.tickets position (was_free old new c.flush.ensures.faulty) c.flush.ensures.keeps (c.flush.ensures.keeps.fits H k.acknowledged k.floor at.unmarked at.fits);
     }

@@ -10,7 +10,7 @@ use Rattle.sled_core.specs.Stable.{target_for}
 use Rattle.sled_core.proofs.Holds.ReachLemmas.{fits_stable}
 use Rattle.sled_log.specs.RunPhases.{Does, view_by}
 use Rattle.sled_log.proofs.Sessions.NotedSeen.{target_written}
-use Rattle.sled_log.proofs.Sessions.Writing.{has_written, holding_seen, over, stable_seen, stays_put, still_open, was_free, writes_to}
+use Rattle.sled_log.proofs.Sessions.Writing.{has_written, holding_seen, over, stable_seen, stays_put, still_open, was_free}
 use Rattle.sled_log.proofs.Sessions.MadeStable.{held_seen, some_known, stabilizing_seen, stable_failed}
 use Rattle.sled_log.specs.declared.session.Phase.TheVariants as phase
 use Rattle.sled_log.specs.declared.session.command.Command.TheVariants as told
@@ -21,7 +21,7 @@ pub returns-in-Ok-clause-step : goal.returns-in-Ok-clause-step
 returns-in-Ok-clause-step g c = λ k at free.
     let trace = g.D.Device.trace in
     let sum = g.C.Checksum.sum_of in
-    let view = view_by g.D.Device.trace g.D.Device.faults g.D.CrashDevice.is_stopped g.D.CrashDevice.stops_in in
+    let view = view_by g.D.Device.trace g.D.Device.faults g.D.CrashDevice.is_stopped in
     let opened = c.args.opened.now in
     let place : ℤ = to_z w64 (of_z w64 c.args.place) in
     let old = opened.log in
@@ -30,7 +30,7 @@ returns-in-Ok-clause-step g c = λ k at free.
     let H = k.history in
     let to = target_for old place in
     let answers = c.in-Ok.ensures.answers in
-    let above = c.in-Ok.ensures.buffers.above in
+    let above = c.in-Ok.ensures.buffers.0.above in
     let fits = c.in-Ok.ensures.acknowledges H k.acknowledged k.floor at.unmarked at.fits in
     let some : current_begin old < to → 0 < held_len old = some_known old sum begun k.tickets place answers.0 in
     let past = fits_stable trace sum old H k.acknowledged k.floor at.unmarked at.fits in
@@ -41,17 +41,15 @@ returns-in-Ok-clause-step g c = λ k at free.
     let done : Does view sum (phase.Open opened) (told.Stable place) (phase.Open (over opened new), reply.Flushed c.in-Ok.more) k =
     record {
       not_refused = refl;
-      acts = (writes_to old sum begun k.tickets to some, (c.in-Ok.ensures.made ∙ ap (λ (es : List Event). after_all es (trace (device_of old))) (stabilizing_seen old sum begun k.tickets place), answers.1.4));
-      step = λ own. (
-        record { history = H; acknowledged = reached; floor = k.floor; tickets = k.tickets },
-        (
-          answers.0,
-          has_written old sum begun k.tickets to some new (view old.config.device) (view new.config.device) H k.acknowledged k.floor put c.in-Ok.more answers.1.2 answers.1.3 unheld c.in-Ok.ensures.answer
-              (target_written old new place c.make_stable.ensures.keeps.noted c.in-Ok.ensures.target) past above,
-          subst (λ n. place <ℤ pos n) (stable_seen old sum begun k.tickets to some new (view old.config.device) (view new.config.device) H k.acknowledged k.floor put above) c.in-Ok.ensures.target,
-        ),
-        still_open trace sum opened new k reached at c.make_stable.ensures.tickets position (was_free old new c.make_stable.ensures.faulty) c.make_stable.ensures.keeps fits,
+      next = record { history = H; acknowledged = reached; floor = k.floor; tickets = k.tickets };
+      step = (
+        answers.0,
+        has_written old sum begun k.tickets to some new (view old.config.device) (view new.config.device) H k.acknowledged k.floor put c.in-Ok.more answers.1.2 answers.1.3 answers.1.1 unheld
+            (c.in-Ok.ensures.made ∙ ap (λ (es : List Event). after_all es (trace (device_of old))) (stabilizing_seen old sum begun k.tickets place)) answers.1.4 c.in-Ok.ensures.answer
+            (target_written old new place c.make_stable.ensures.keeps.noted c.in-Ok.ensures.target) past above,
+        subst (λ n. place <ℤ pos n) (stable_seen old sum begun k.tickets to some new (view old.config.device) (view new.config.device) H k.acknowledged k.floor put above) c.in-Ok.ensures.target,
       );
+      at = λ own. still_open trace sum opened new k reached at c.make_stable.ensures.tickets position (was_free old new c.make_stable.ensures.spares.faulty) c.make_stable.ensures.keeps fits;
     } in
     subst (λ (z : ℤ). Does view sum (phase.Open opened) (told.Stable z) (phase.Open (over opened new), reply.Flushed c.in-Ok.more) k) (to_z-of_z w64 c.args.place c.ranges.place) done
 
@@ -60,23 +58,19 @@ pub returns-in-Err-clause-step : goal.returns-in-Err-clause-step
 returns-in-Err-clause-step g c = λ k at free.
     let trace = g.D.Device.trace in
     let sum = g.C.Checksum.sum_of in
-    let view = view_by g.D.Device.trace g.D.Device.faults g.D.CrashDevice.is_stopped g.D.CrashDevice.stops_in in
+    let view = view_by g.D.Device.trace g.D.Device.faults g.D.CrashDevice.is_stopped in
     let opened = c.args.opened.now in
     let old = opened.log in
     let new = c.make_stable.new.self in
     let position = c.make_stable.ensures.position in
     let place : ℤ = to_z w64 (of_z w64 c.args.place) in
     let fails = stable_failed view sum old new (length opened.pages.items) k.tickets place k.history k.acknowledged k.floor (stays_put trace sum old new c.make_stable.ensures.tickets position c.make_stable.ensures.keeps) c.in-Err.e c.in-Err.ensures.answers c.in-Err.ensures.made c.make_stable.ensures.at_most
-    c.make_stable.ensures.faulty c.in-Err.ensures.refused
-    c.in-Err.ensures.buffers.some in
+    c.make_stable.ensures.spares.faulty c.in-Err.ensures.refused c.in-Err.ensures.buffers.1 in
     let done : Does view sum (phase.Open opened) (told.Stable place) (phase.Open (over opened new), reply.Failed c.in-Err.e) k =
     record {
       not_refused = refl;
-      acts = fails.0;
-      step = λ own. (
-        k,
-        fails.1,
-        still_open trace sum opened new k k.acknowledged at c.make_stable.ensures.tickets position (was_free old new c.make_stable.ensures.faulty) c.make_stable.ensures.keeps (c.make_stable.ensures.keeps.fits k.history k.acknowledged k.floor at.unmarked at.fits),
-      );
+      next = k;
+      step = fails;
+      at = λ own. still_open trace sum opened new k k.acknowledged at c.make_stable.ensures.tickets position (was_free old new c.make_stable.ensures.spares.faulty) c.make_stable.ensures.keeps (c.make_stable.ensures.keeps.fits k.history k.acknowledged k.floor at.unmarked at.fits);
     } in
     subst (λ (z : ℤ). Does view sum (phase.Open opened) (told.Stable z) (phase.Open (over opened new), reply.Failed c.in-Err.e) k) (to_z-of_z w64 c.args.place c.ranges.place) done

@@ -1,14 +1,12 @@
 -- A buffer that nothing holds up is written, unless memory is wanting, the device fails, or the log keeps a failure.
-use Rattle.std.proofs.Common.{◌≡◌, ◌∙◌, ◌≤◌, ◌&&◌, nat_le, true, false, ap, refl, arith, length}
+use Rattle.std.proofs.Common.{◌≡◌, ◌∙◌, ◌≤◌, ◌&&◌, inl, inr, nat_le, true, false, None, ap, refl, arith, length}
 use Rattle.std.proofs.lemmas.Bool.Decides.{nat_tests}
 use Rattle.sled_core.specs.Fits.{fault_of, waiting_of}
 use Rattle.sled_core.specs.Waiting.{spans}
-use Rattle.sled_log.specs.RunPhases.{seen, stands, view_by}
+use Rattle.sled_log.specs.RunPhases.{seen, view_by}
 use Rattle.sled_log.specs.RunStates.{LogView, opens, pending_in_view, without_unheld}
-use Rattle.sled_log.specs.declared.session.Phase.TheVariants as phase
 use Rattle.sled_log.specs.declared.session.command.Refusal.TheVariants as why
-use Rattle.sled_log.proofs.Sessions.Writing.{index_fits, leaves, pending_seen, shows_waiting, stays_put, still_open, was_free, waiting_held, without_seen, write_failed, write_stops}
-use Rattle.sled_log.proofs.WriteBack.RestartCauses.{some_of}
+use Rattle.sled_log.proofs.Sessions.Writing.{held_none, index_fits, keeps_failing, kept_or_none, leaves, never_held, pending_seen, shows_waiting, spared, stays_put, still_open, waiting_held, was_free, why_of, without_seen}
 use Rattle.sled_log.proofs.session.writing.write.Goals as goal
 
 -- an index that isn't refused fits
@@ -25,7 +23,7 @@ pub returns-in-Ok-clause-step : goal.returns-in-Ok-clause-step
 returns-in-Ok-clause-step g c = λ k at free.
     let trace = g.D.Device.trace in
     let sum = g.C.Checksum.sum_of in
-    let view = view_by g.D.Device.trace g.D.Device.faults g.D.CrashDevice.is_stopped g.D.CrashDevice.stops_in in
+    let view = view_by g.D.Device.trace g.D.Device.faults g.D.CrashDevice.is_stopped in
     let opened = c.args.opened.now in
     let old = opened.log in
     let new = c.write_to_log.new.self in
@@ -34,36 +32,54 @@ returns-in-Ok-clause-step g c = λ k at free.
     let left : spans (waiting_of new) ≡ without_unheld (opens l) c.args.i l.waiting = ap spans c.in-Ok.ensures.written ∙ without_seen (opens l) c.args.i (waiting_of old) (waiting_held old sum (length opened.pages.items) k.tickets) in
     record {
       not_refused = refl;
-      acts = (waiting_of old, shows_waiting old sum (length opened.pages.items) k.tickets, (c.in-Ok.ensures.calls, answers.2));
-      step = λ own. (
-        k,
-        (answers.0, leaves old sum (length opened.pages.items) k.tickets new (view old.config.device) (view new.config.device) k.history k.acknowledged k.floor (stays_put trace sum old new c.write_to_log.ensures.tickets c.write_to_log.ensures.position c.write_to_log.ensures.keeps) _ _ _ left c.write_to_log.ensures.start answers.1),
-        still_open trace sum opened new k k.acknowledged at c.write_to_log.ensures.tickets c.write_to_log.ensures.position (was_free old new c.write_to_log.ensures.faulty) c.write_to_log.ensures.keeps (c.write_to_log.ensures.keeps.fits k.history k.acknowledged k.floor at.unmarked at.fits),
+      next = k;
+      step = (
+        answers.0,
+        record { buffers = waiting_of old; shown = shows_waiting old sum (length opened.pages.items) k.tickets; made = c.in-Ok.ensures.calls },
+        answers.2,
+        leaves old sum (length opened.pages.items) k.tickets new (view old.config.device) (view new.config.device) k.history k.acknowledged k.floor (stays_put trace sum old new c.write_to_log.ensures.tickets c.write_to_log.ensures.position c.write_to_log.ensures.keeps) _ _ _ left c.write_to_log.ensures.start answers.1,
       );
+      at = λ own. still_open trace sum opened new k k.acknowledged at c.write_to_log.ensures.tickets c.write_to_log.ensures.position (was_free old new c.write_to_log.ensures.faulty) c.write_to_log.ensures.keeps (c.write_to_log.ensures.keeps.fits k.history k.acknowledged k.floor at.unmarked at.fits);
     }
 
 pub returns-in-Err-clause-step : goal.returns-in-Err-clause-step
 returns-in-Err-clause-step g c = λ k at free.
     let trace = g.D.Device.trace in
     let sum = g.C.Checksum.sum_of in
-    let view = view_by g.D.Device.trace g.D.Device.faults g.D.CrashDevice.is_stopped g.D.CrashDevice.stops_in in
+    let view = view_by g.D.Device.trace g.D.Device.faults g.D.CrashDevice.is_stopped in
     let opened = c.args.opened.now in
     let old = opened.log in
     let new = c.write_to_log.new.self in
     let l : LogView = seen opened k.tickets in
     let left : spans (waiting_of new) ≡ l.waiting = ap spans c.in-Err.ensures.err.1 in
+    let device = view old.config.device in
+    let now = view new.config.device in
+    let begun = length opened.pages.items in
+    let put = stays_put trace sum old new c.write_to_log.ensures.tickets c.write_to_log.ensures.position c.write_to_log.ensures.keeps in
+    let answers = held_none (Unit {0}) c.in-Err.e (fault_of old) (fault_of new) device.failures now.failures c.in-Err.ensures.answers in
     record {
       not_refused = refl;
-      acts = (
-        waiting_of old,
-        shows_waiting old sum (length opened.pages.items) k.tickets,
-        write_failed (Unit {0}) _ (fault_of old) (fault_of new) c.in-Err.e (view old.config.device) (view new.config.device) c.write_to_log.ensures.at_most
-            (λ some. let kept = some_of (fault_of old) some in ap (λ x. view x.config.device) (c.write_to_log.ensures.faulty kept.0 kept.1)) c.in-Err.ensures.answers,
-      );
-      step = λ own. (
-        k,
-        write_stops (stands view (phase.Open opened) k) l c.args.i (Unit {0}) c.in-Err.e (fault_of new) (view new.config.device) _ c.in-Err.ensures.answers
-            (leaves old sum (length opened.pages.items) k.tickets new (view old.config.device) (view new.config.device) k.history k.acknowledged k.floor (stays_put trace sum old new c.write_to_log.ensures.tickets c.write_to_log.ensures.position c.write_to_log.ensures.keeps) _ _ _ left c.write_to_log.ensures.start refl),
-        still_open trace sum opened new k k.acknowledged at c.write_to_log.ensures.tickets c.write_to_log.ensures.position (was_free old new c.write_to_log.ensures.faulty) c.write_to_log.ensures.keeps (c.write_to_log.ensures.keeps.fits k.history k.acknowledged k.floor at.unmarked at.fits),
-      );
+      next = k;
+      step = elim (kept_or_none (Unit {0}) c.in-Err.e None ⊥ (fault_of old) (fault_of new) device.failures now.failures answers) [
+        | inl kept ↦ (
+            let same = c.write_to_log.ensures.faulty kept.0 kept.2 in
+            inl (keeps_failing old new begun k.tickets device now k.history k.acknowledged k.floor c.in-Err.e kept.0 kept.1 kept.2 same (ap (λ x. view x.config.device) same)))
+        | inr none ↦ inr (record {
+          sound = none;
+          fault = fault_of new;
+          why = why_of (Unit {0}) c.in-Err.e None None ⊥ ⊥ (fault_of old) (fault_of new) device.failures now.failures none refl (λ never. never) (λ free. free) answers;
+          came = (
+            record {
+              buffers = waiting_of old;
+              shown = shows_waiting old sum begun k.tickets;
+              made = c.write_to_log.ensures.at_most;
+              synced = (let same = c.in-Err.ensures.err.2 in omega (arith, same));
+              whole = λ sound. spared (Unit {0}) c.in-Err.e (fault_of old) (fault_of new) device.failures now.failures device.trace now.trace none sound c.in-Err.ensures.answers c.in-Err.ensures.refused;
+              held = never_held (Unit {0}) c.in-Err.e (fault_of old) (fault_of new) device.failures now.failures _ c.in-Err.ensures.answers;
+            },
+            leaves old sum begun k.tickets new device now k.history k.acknowledged k.floor put _ _ _ left c.write_to_log.ensures.start refl,
+          );
+        })
+      ];
+      at = λ own. still_open trace sum opened new k k.acknowledged at c.write_to_log.ensures.tickets c.write_to_log.ensures.position (was_free old new c.write_to_log.ensures.faulty) c.write_to_log.ensures.keeps (c.write_to_log.ensures.keeps.fits k.history k.acknowledged k.floor at.unmarked at.fits);
     }

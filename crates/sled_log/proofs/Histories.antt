@@ -1,0 +1,4 @@
+pub mod Beginnings
+pub mod LastBeginnings
+pub mod PagesAlone
+pub mod Sizes

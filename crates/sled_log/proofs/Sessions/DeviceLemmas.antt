@@ -1,0 +1,155 @@
+-- What the commands of a run do to its device goes on, one behind another; and each phase does what is claimed of a command.
+use Rattle.std.proofs.Common.{◌≡◌, ◌∙◌, ℕ, Bool, true, false, List, [], ◌∷◌, ◌++◌, if◌then◌else◌, Option, None, Some, refl, sym, ap, subst}
+use Rattle.std.specs.Prelude.{◌↔◌, IsTrue}
+use Rattle.sled_store.specs.declared.device.choice.Choice.{Choice}
+use Rattle.sled_store.specs.Chosen.{MayBeLeft}
+use Rattle.sled_store.specs.Device.{Left, Settled, Crashed, state_of}
+use Rattle.sled_store.specs.Noted.{left_of}
+use Rattle.sled_store.specs.declared.config.RunningConfig.{RunningConfig}
+use Rattle.sled_store.specs.Moments.{IsLater}
+use Rattle.sled_log.specs.declared.session.Session.{Session}
+use Rattle.sled_log.specs.declared.session.Phase.{Phase}
+use Rattle.sled_log.specs.declared.session.Phase.TheVariants as phase
+use Rattle.sled_log.specs.declared.session.opened.Opened.{Opened}
+use Rattle.sled_log.specs.declared.session.command.Command.{Command}
+use Rattle.sled_log.specs.declared.session.command.Command.TheVariants as command
+use Rattle.sled_log.specs.declared.session.command.Refusal.{Refusal}
+use Rattle.sled_log.specs.declared.session.command.Reply.{Reply}
+use Rattle.sled_log.specs.declared.session.command.Reply.TheVariants as reply
+use Rattle.sled_log.specs.Devices.{Devices, IsOver, Leaves, StandsOver, ToldIn, Touches, TouchesIn, is_open, opens_after}
+use Rattle.sled_log.specs.RunStates.{DeviceView}
+use Rattle.sled_log.specs.Runs.{told}
+use Rattle.sled_core.specs.Fits.{config_of}
+use Rattle.sled_log.specs.RunPhases.{RunsOn, device_in, running, segment_size_in, size_in, size_of, traces}
+use Rattle.sled_log.proofs.Sessions.RunLemmas.{later_same}
+
+-- Another claim of where a command leads.
+leaves_over : {Leads Next : Bool → DeviceView → Type 0} (sum : List ℕ → ℕ) (size : ℕ) (was : Bool) (old : DeviceView) (c : Command) (r : Reply)
+    → ((now : Bool) (new : DeviceView) → Leads now new → Next now new) → Leaves sum size was old c r Leads → Leaves sum size was old c r Next
+leaves_over sum size was old c r over leaves = record {
+  new = leaves.new;
+  came = leaves.came;
+  is_told = leaves.is_told;
+  touches = leaves.touches;
+  leads = over (opens_after was c leaves.came) leaves.new leaves.leads;
+}
+
+module _ (sum : List ℕ → ℕ) (size : ℕ) (Leads : Bool → DeviceView → Type 0) where
+  -- Nothing was carried out yet.
+  pub devices_none : (was : Bool) (old : DeviceView) → Leads was old → Devices sum size was old [] [] Leads
+  unfolding Devices
+  devices_none was old at = at
+
+  -- One command more is carried out.
+  pub devices_more : (Next : Bool → DeviceView → Type 0) (c : Command) (r : Reply) → ((was : Bool) (old : DeviceView) → Leads was old → Leaves sum size was old c r Next)
+      → (was : Bool) (old : DeviceView) (cs : List Command) (rs : List Reply) → Devices sum size was old cs rs Leads → Devices sum size was old (cs ++ c ∷ []) (rs ++ r ∷ []) Next
+  unfolding Devices
+  devices_more Next c r more was old [] [] so_far = leaves_over sum size was old c r (λ now new at. at) (more was old so_far)
+  devices_more Next c r more was old (d ∷ ds) (q ∷ qs) so_far = leaves_over sum size was old d q (λ now new s. devices_more Next c r more now new ds qs s) so_far
+  devices_more Next c r more was old [] (q ∷ qs) so_far = absurd so_far
+  devices_more Next c r more was old (d ∷ ds) [] so_far = absurd so_far
+
+-- What is told of a command that a session carries out in its phase.
+module _ {D C : Type 0} (view : D → DeviceView) (sum : List ℕ → ℕ) (session : Session D C) where
+  pub over_at : (p : Phase D C) → session.phase ≡ Some p → StandsOver view session (is_open p) (device_in view p)
+  unfolding StandsOver
+  over_at p is = subst (λ (x : Option (Phase D C)). IsOver view x (is_open p) (device_in view p)) (sym is) (refl, refl)
+
+  pub over_in : (p : Phase D C) → session.phase ≡ Some p → (on : Bool) (device : DeviceView) → StandsOver view session on device → (on ≡ is_open p) × (device ≡ device_in view p)
+  unfolding StandsOver
+  over_in p is on device over = subst (λ (x : Option (Phase D C)). IsOver view x on device) is over
+
+-- A session that begins has no log open.
+pub over_begun : {D C : Type 0} (view : D → DeviceView) (session : Session D C) (device : DeviceView) (config : RunningConfig D C) → session.phase ≡ Some (phase.Closed config) → view config.device ≡ device → StandsOver view session false device
+over_begun view session device config is same = subst (λ (d : DeviceView). StandsOver view session false d) same (over_at view (λ l. 0) session (phase.Closed config) is)
+
+pub left_at : {D C : Type 0} (view : D → DeviceView) (sum : List ℕ → ℕ) (old new : Session D C) (p next : Phase D C) (c : Command) (r : Reply) → old.phase ≡ Some p → new.phase ≡ Some next
+    → ToldIn view sum p c next r → (was : Bool) (device : DeviceView) → StandsOver view old was device → Leaves sum (segment_size_in old) was device c r (StandsOver view new)
+left_at {D} {C} view sum old new p next c r was_at is_at told_in was device over =
+    let here = over_in view sum old p was_at was device over in
+    subst (λ (n : ℕ). Leaves sum n was device c r (StandsOver view new)) (sym (ap size_in was_at))
+    (subst (λ (b : Bool). Leaves sum (size_of p) b device c r (StandsOver view new)) (sym here.0)
+    (subst (λ (d : DeviceView). Leaves sum (size_of p) (is_open p) d c r (StandsOver view new)) (sym here.1)
+    (record {
+      new = device_in view next;
+      came = told_in.came;
+      is_told = told_in.is_told;
+      touches = told_in.is.touches;
+      leads = subst (λ (b : Bool). StandsOver view new b (device_in view next)) told_in.is.opens (over_at view sum new next is_at);
+    })))
+
+-- A refusal leaves the phase.
+pub touched_refused : {D C : Type 0} (view : D → DeviceView) (sum : List ℕ → ℕ) (p : Phase D C) (c : Command) (w : Refusal) → TouchesIn view sum p c p (reply.Refused w)
+touched_refused view sum (phase.Closed config) c w = record { touches = refl; opens = closed c }
+  where
+    closed : (d : Command) → false ≡ opens_after false d (reply.Refused w)
+    closed command.Open = refl
+    closed command.Halt = refl
+    closed (command.Crash choice) = refl
+    closed d = refl
+touched_refused view sum (phase.Open opened) c w = record { touches = later_same (device_in view (phase.Open opened)).trace; opens = stays c }
+  where
+    stays : (d : Command) → true ≡ opens_after true d (reply.Refused w)
+    stays command.Open = refl
+    stays command.Halt = refl
+    stays (command.Crash choice) = refl
+    stays d = refl
+
+-- and is told as it is
+pub told_refused : (b : Bool) (w : Refusal) → reply.Refused w ≡ told b (reply.Refused w)
+told_refused true w = refl
+told_refused false w = refl
+
+-- the same command under another name
+pub touched : {D C : Type 0} (view : D → DeviceView) (sum : List ℕ → ℕ) (p : Phase D C) (c d : Command) (next : Phase D C) (r : Reply) → d ≡ c → TouchesIn view sum p c next r → TouchesIn view sum p d next r
+touched view sum p c d next r is in_phase = subst (λ (x : Command). TouchesIn view sum p x next r) (sym is) in_phase
+
+-- a command that the log of a session is asked for, or that is refused while one is open
+abbrev pub goes_on : Command → Bool
+goes_on (command.Crash choice) = false
+goes_on (command.Stop n) = false
+goes_on command.Halt = false
+goes_on c = true
+
+touched_later : (sum : List ℕ → ℕ) (size : ℕ) (c : Command) (r : Reply) (old new : DeviceView) → goes_on c ≡ true → IsLater old.trace new.trace → Touches sum size true c r old new
+touched_later sum size c (reply.Refused w) old new is later = later
+touched_later sum size (command.Crash choice) r old new is later = cc
+touched_later sum size (command.Stop n) r old new is later = cc
+touched_later sum size command.Halt r old new is later = cc
+touched_later sum size c r old new is later = later
+
+still_open : (c : Command) (r : Reply) → goes_on c ≡ true → true ≡ opens_after true c r
+still_open command.Open (reply.Opened stable active pages) is = refl
+still_open (command.Crash choice) r is = cc
+still_open command.Halt r is = cc
+still_open c r is = refl
+
+-- The calls of a log are added to what was asked of its device.
+pub went_on : {D C : Type 0} (view : D → DeviceView) (sum : List ℕ → ℕ) (old new : Opened D C) (c : Command) (r : Reply) → goes_on c ≡ true
+    → RunsOn (traces view) (config_of old.log) (config_of new.log) → TouchesIn view sum (phase.Open old) c (phase.Open new) r
+went_on view sum old new c r is on = record {
+  touches = touched_later sum (size_of (phase.Open old)) c r (device_in view (phase.Open old)) (device_in view (phase.Open new)) is on.later;
+  opens = still_open c r is;
+}
+
+-- A crash of a copied choice is one of the choice, from any phase.
+module _ {D C : Type 0} (view : D → DeviceView) (sum : List ℕ → ℕ) (from : Phase D C) (config : RunningConfig D C) (choice copy : Choice) (next : Phase D C) (r : Reply) (taken : Bool) where
+  abbrev Crashes : DeviceView → DeviceView → Left → Type 0
+  Crashes old new l = (IsTrue taken ↔ MayBeLeft l (state_of old.trace))
+      × (new ≡ record { trace = Crashed (if taken then l else Settled []) ∷ old.trace; failures = old.failures; is_stopped = false })
+
+  from_any : (p : Phase D C) → Crashes (device_in view p) (device_in view next) (left_of choice) → is_open next ≡ false → TouchesIn view sum p (command.Crash choice) next (reply.Crashed taken)
+  from_any (phase.Closed c) crashes closed = record { touches = crashes; opens = closed }
+  from_any (phase.Open opened) crashes closed = record { touches = crashes; opens = closed }
+
+  pub touched_crash : config ≡ running from → left_of copy ≡ left_of choice → r ≡ reply.Crashed taken → TouchesIn view sum (phase.Closed config) (command.Crash copy) next r → TouchesIn view sum from (command.Crash choice) next r
+  touched_crash is same told_is touched =
+      let here : TouchesIn view sum (phase.Closed config) (command.Crash copy) next (reply.Crashed taken) = subst (TouchesIn view sum (phase.Closed config) (command.Crash copy) next) told_is touched in
+      let from_device : view config.device ≡ device_in view from = ap (λ (x : RunningConfig D C). view x.device) is in
+      let crashes : Crashes (view config.device) (device_in view next) (left_of copy) = here.touches in
+      subst (TouchesIn view sum from (command.Crash choice) next) (sym told_is)
+      (from_any from (subst (λ (d : DeviceView). Crashes d (device_in view next) (left_of choice)) from_device (subst (Crashes (view config.device) (device_in view next)) same crashes)) here.opens)
+
+-- A log that is given up leaves its device.
+pub halts : {D C : Type 0} (view : D → DeviceView) (sum : List ℕ → ℕ) (opened : Opened D C) (config : RunningConfig D C) → config ≡ config_of opened.log → TouchesIn view sum (phase.Open opened) command.Halt (phase.Closed config) reply.Halted
+halts view sum opened config is = record { touches = ap (λ (x : RunningConfig _ _). view x.device) is; opens = refl }

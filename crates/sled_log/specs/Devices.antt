@@ -1,0 +1,80 @@
+-- What a run does to its device, whatever that has: also behind damage, and where what is foreign was read, of which `Runs` claims nothing.
+use Rattle.std.specs.Prelude.{◌≡◌, ◌∷◌, if◌then◌else◌, ℕ, Bool, true, false, List, [], Option, None, Some}
+use Rattle.sled_store.specs.Device.{StopAsked}
+use Rattle.sled_store.specs.Moments.{IsLater}
+use Rattle.sled_log.specs.declared.session.Session.{Session}
+use Rattle.sled_log.specs.declared.session.Phase.{Phase}
+use Rattle.sled_log.specs.declared.session.Phase.TheVariants.{Closed, Open}
+use Rattle.sled_log.specs.declared.session.command.Command.{Command}
+use Rattle.sled_log.specs.declared.session.command.Command.TheVariants as command
+use Rattle.sled_log.specs.declared.session.command.Reply.{Reply}
+use Rattle.sled_log.specs.declared.session.command.Reply.TheVariants as reply
+use Rattle.sled_log.specs.RunStates.{DeviceView}
+use Rattle.sled_log.specs.OpenSteps.{OpenActs}
+use Rattle.sled_log.specs.Runs.{CrashActs, told}
+use Rattle.sled_log.specs.RunPhases.{device_in, size_of}
+
+-- whether a log is open behind a command, by whether one was
+abbrev pub opens_after : Bool → Command → Reply → Bool
+opens_after was command.Open (reply.Opened stable active pages) = true
+opens_after was command.Halt reply.Halted = false
+opens_after was (command.Crash choice) (reply.Crashed taken) = false
+opens_after was c r = was
+
+-- a stop is asked of a device, unless it is stopped
+abbrev pub to_stop : ℕ → DeviceView → DeviceView
+to_stop n old = record old { trace = if old.is_stopped then old.trace else StopAsked n ∷ old.trace }
+
+module _ (sum : List ℕ → ℕ) (size : ℕ) where
+  -- What a command does to the device, by whether a log is open. While none is, just an opening, a stop and a crash do anything: an opening that meets damage
+  -- has synced the device, and wrote nothing. While one is open, the calls of the log are added to what was asked of the device.
+  abbrev pub Touches : Bool → Command → Reply → DeviceView → DeviceView → Type 0
+  Touches false c (reply.Refused w) old new = new ≡ old
+  Touches false command.Open r old new = OpenActs sum size old r new
+  Touches false (command.Crash choice) r old new = CrashActs choice old r new
+  Touches false (command.Stop n) r old new = new ≡ to_stop n old
+  Touches false c r old new = new ≡ old
+  Touches true c (reply.Refused w) old new = IsLater old.trace new.trace
+  Touches true (command.Crash choice) r old new = CrashActs choice old r new
+  Touches true (command.Stop n) r old new = new ≡ to_stop n old
+  Touches true command.Halt r old new = new ≡ old
+  Touches true c r old new = IsLater old.trace new.trace
+
+  -- A command that is told so did this to the device, and what is claimed of where that leads holds.
+  pub record Leaves (was : Bool) (old : DeviceView) (c : Command) (r : Reply) (Leads : Bool → DeviceView → Type 0) : Type 0 where
+    pub new : DeviceView
+    pub came : Reply
+    pub is_told : r ≡ told new.is_stopped came
+    pub touches : Touches was c came old new
+    pub leads : Leads (opens_after was c came) new
+
+  -- These commands are answered by these replies, one for each, and this is what they do to the device, one behind another.
+  unfoldable pub Devices : Bool → DeviceView → List Command → List Reply → (Bool → DeviceView → Type 0) → Type 0
+  Devices was old [] [] Ends = Ends was old
+  Devices was old (c ∷ cs) (r ∷ rs) Ends = Leaves was old c r (λ now new. Devices now new cs rs Ends)
+  Devices was old [] (r ∷ rs) Ends = ⊥
+  Devices was old (c ∷ cs) [] Ends = ⊥
+
+-- a log is open in a phase
+abbrev pub is_open : {D C : Type 0} → Phase D C → Bool
+is_open (Closed config) = false
+is_open (Open opened) = true
+
+-- What a command does to the device of a phase, and whether a log is open then.
+pub record TouchesIn {D C : Type 0} (view : D → DeviceView) (sum : List ℕ → ℕ) (phase : Phase D C) (c : Command) (next : Phase D C) (r : Reply) : Type 0 where
+  pub touches : Touches sum (size_of phase) (is_open phase) c r (device_in view phase) (device_in view next)
+  pub opens : is_open next ≡ opens_after (is_open phase) c r
+
+-- The same of a command that was told.
+pub record ToldIn {D C : Type 0} (view : D → DeviceView) (sum : List ℕ → ℕ) (phase : Phase D C) (c : Command) (next : Phase D C) (r : Reply) : Type 0 where
+  pub came : Reply
+  pub is_told : r ≡ told (device_in view next).is_stopped came
+  pub is : TouchesIn view sum phase c next came
+
+abbrev pub IsOver : {D C : Type 0} → (D → DeviceView) → Option (Phase D C) → Bool → DeviceView → Type 0
+IsOver view None on device = ⊥
+IsOver view (Some phase) on device = (on ≡ is_open phase) × (device ≡ device_in view phase)
+
+-- A session has a log open or not, over a device that is seen so.
+unfoldable pub StandsOver : {D C : Type 0} → (D → DeviceView) → Session D C → Bool → DeviceView → Type 0
+StandsOver view session on device = IsOver view session.phase on device

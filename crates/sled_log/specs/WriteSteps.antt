@@ -1,0 +1,170 @@
+-- What the commands come to that write: a flush, a write up to a place, and that of one buffer; and why a log fails.
+use Rattle.std.specs.Prelude.{◌≡◌, ◌⊎◌, ◌+◌, ◌≤◌, ◌≤ℤ◌, ◌<ℤ◌, ◌<◌, ◌%◌, ◌^◌, ◌∷◌, ℕ, ℤ, pos, max, IsTrue, List, [], drop, Option, None, Some}
+use Rattle.std.specs.List.{All}
+use Rattle.std.specs.declared.io.Error.{Error as IoError}
+use Rattle.sled_codec.specs.declared.result.Error.{Error}
+use Rattle.sled_codec.specs.declared.result.Error.TheVariants.{Held, Io, NotReserved, OutOfMemory, PlacesUsedUp}
+use Rattle.sled_store.specs.Device.{Event, state_of}
+use Rattle.sled_store.specs.Answers.{is_fault}
+use Rattle.sled_store.specs.Script.{Performs, after_all}
+use Rattle.sled_core.specs.declared.iobuf.SegmentPosition.{SegmentPosition}
+use Rattle.sled_core.specs.Fits.{IsKept}
+use Rattle.sled_core.specs.Fronts.{WritesWhole, syncs}
+use Rattle.sled_core.specs.Logged.{logged}
+use Rattle.sled_core.specs.OpenBatches.{behind_batch, not_whole, stable_below}
+use Rattle.sled_core.specs.SealedBuffers.{writing}
+use Rattle.sled_core.specs.Stable.{behind_place}
+use Rattle.sled_core.specs.Waiting.{BufferAt, BufferStart, HasLength, Span, spans, unless_held, write_pending}
+use Rattle.sled_core.specs.Running.{end_below}
+use Rattle.sled_log.specs.declared.session.command.Reply.{Reply}
+use Rattle.sled_log.specs.declared.session.command.Reply.TheVariants as reply
+use Rattle.sled_log.specs.RunStates.{DeviceView, EndsInReach, LogView, RunState, first_waiting, held, held_among, opens, sealed_below, spans_below, spans_from, stable_of, start_below, with_log, without_unheld}
+
+-- Failures.
+
+-- A log that keeps a failure answers it, and does nothing.
+abbrev pub KeepsFailing : RunState → LogView → Error → DeviceView → RunState → Type 0
+KeepsFailing a l (Io e) new b = (l.fault ≡ Some e) × (new ≡ a.device) × (b ≡ a)
+KeepsFailing a l _ new b = ⊥
+
+-- Why a log that keeps none fails, and the one that it keeps then: the device failed, which is counted; or a further segment is needed, and there is none in
+-- reach; or else memory was refused, or the buffers were held up by a reservation that is open.
+abbrev pub IsWhy : Error → Option ℕ → Type 0 → Option IoError → ℕ → ℕ → Type 0
+IsWhy (Io e) held used fault before after = (fault ≡ Some e) × IsTrue (is_fault e) × (after ≡ (before + 1) % 2 ^ 64)
+IsWhy OutOfMemory held used fault before after = (used → ⊥) × (fault ≡ None) × (after ≡ before)
+IsWhy (Held at) held used fault before after = ((place : ℕ) × (held ≡ Some place) × (at ≡ pos place)) × (used → ⊥) × (fault ≡ None) × (after ≡ before)
+IsWhy PlacesUsedUp held used fault before after = used × (fault ≡ None) × (after ≡ before)
+IsWhy _ held used fault before after = ⊥
+
+-- It failed so, and this came of it.
+pub record Fails (l : LogView) (e : Error) (held : Option ℕ) (used : Type 0) (old new : DeviceView) (Came : Option IoError → Type 0) : Type 0 where
+  pub sound : l.fault ≡ None
+  pub fault : Option IoError
+  pub why : IsWhy e held used fault old.failures new.failures
+  pub came : Came fault
+
+-- so it is where buffers were held up
+abbrev pub IfHeld : Error → Type 0 → Type 0
+IfHeld (Held at) P = P
+IfHeld _ P = Unit {0}
+
+-- Writing.
+
+-- These buffers of a log, with its open reservations at these places, are seen so: each as a whole, and what holds it up.
+pub record ShowsBuffers (places : List ℕ) (ss : List Span) (bs : List BufferAt) : Type 0 where
+  pub are : spans bs ≡ ss
+  pub long : All HasLength bs
+  pub held : All (λ b. b.held ≡ held places (record { place = b.place; end = b.end; lid = b.lid })) bs
+
+-- All of these calls were made, on buffers that are seen so.
+pub record Writes (l : LogView) (ss : List Span) (calls : List BufferAt → List Event) (old new : DeviceView) : Type 0 where
+  pub buffers : List BufferAt
+  pub shown : ShowsBuffers (opens l) ss buffers
+  pub made : new.trace ≡ after_all (calls buffers) old.trace
+
+-- They were made up to one that failed: so many buffers were written, as many as were synced. Unless the device failed each of these is whole, and no other
+-- call was made; and where they were held up, all were made that are in front of that.
+pub record WritesSome (l : LogView) (ss : List Span) (calls : List BufferAt → List Event) (count : ℕ) (e : Error) (fault : Option IoError)
+    (old new : DeviceView) : Type 0 where
+  pub buffers : List BufferAt
+  pub shown : ShowsBuffers (opens l) ss buffers
+  pub made : Performs (calls buffers) old.trace new.trace
+  pub synced : syncs new.trace ≡ count + syncs old.trace
+  pub whole : fault ≡ None → WritesWhole count (calls buffers) old.trace new.trace
+  pub held : IfHeld e (new.trace ≡ after_all (calls buffers) old.trace)
+
+-- the log with these buffers left, the current one from there on, and this failure kept: all before the first of them is on the device
+abbrev pub flushed : LogView → List Span → BufferStart → Option IoError → LogView
+flushed l waiting start fault =
+    record l { synced = first_waiting waiting start; noted = not_whole (first_waiting waiting start) l.noted; waiting = waiting; start = start; fault = fault }
+
+-- the run goes on with that log
+abbrev pub LeavesLog : RunState → LogView → DeviceView → RunState → List Span → BufferStart → Option IoError → Type 0
+LeavesLog a l new b waiting start fault = b ≡ with_log a new (Some (flushed l waiting start fault))
+
+-- the calls that write buffers, one write and one sync for each, up to the first that is held up
+abbrev pub writes_free : List BufferAt → List Event
+writes_free [] = []
+writes_free (b ∷ bs) = unless_held b.held (writing b.lid b.bytes (writes_free bs))
+
+-- the buffers that begin below a place, those that are left behind them, and the least place of an open reservation that holds the first ones up
+abbrev pub written_below : ℕ → LogView → List Span
+written_below to l = spans_below to (sealed_below to l)
+
+abbrev pub left_from : ℕ → LogView → List Span
+left_from to l = spans_from to (sealed_below to l)
+
+abbrev pub holding : ℕ → LogView → Option ℕ
+holding to l = held_among (opens l) (written_below to l)
+
+-- once those are written, all before this is on the device, and the stable end lies before this
+abbrev pub synced_from : ℕ → LogView → ℕ
+synced_from to l = first_waiting (left_from to l) (start_below to l)
+
+abbrev pub stable_from : ℕ → LogView → ℕ
+stable_from to l = stable_below (synced_from to l) (not_whole (synced_from to l) l.noted)
+
+-- All that begins below a place is written and synced. Each completed message of what is stable then is acknowledged, and what is answered is by how much the
+-- stable end grew.
+pub record HasWrittenTo (size : ℕ) (a : RunState) (l : LogView) (to n : ℕ) (new : DeviceView) (b : RunState) : Type 0 where
+  pub sound : l.fault ≡ None
+  pub in_reach : l.start.place < to → EndsInReach size l.position
+  pub free : holding to l ≡ None
+  pub writes : Writes l (written_below to l) writes_free a.device new
+  pub failures : new.failures ≡ a.device.failures
+  pub growth : stable_of l + n ≡ stable_from to l
+  pub reaches : to ≤ synced_from to l
+  pub more : a.acknowledged ≤ stable_from to l
+  pub leads : b ≡ record a {
+    device = new;
+    acknowledged = max a.acknowledged (end_below (stable_from to l) a.history);
+    log = Some (flushed l (left_from to l) (start_below to l) None);
+  }
+
+-- That failed: those that begin below the place are sealed, and so many at the front are written; or none was sealed, nor written.
+abbrev pub FailsTo : ℕ → RunState → LogView → ℕ → Error → DeviceView → RunState → Type 0
+FailsTo size a l to e new b =
+    Fails l e (holding to l) ((l.start.place < to) × (EndsInReach size l.position → ⊥)) a.device new (λ fault.
+    (count : ℕ) × WritesSome l (written_below to l) writes_free count e fault a.device new
+    × (LeavesLog a l new b (drop count (sealed_below to l)) (start_below to l) fault ⊎ ((count ≡ 0) × LeavesLog a l new b l.waiting l.start fault)))
+
+-- All that was reserved is written, so all completed messages are on the device: their records are, as the log has them, without the items that blobs have.
+pub record HasFlushed (sum : List ℕ → ℕ) (size : ℕ) (a : RunState) (l : LogView) (n : ℕ) (new : DeviceView) (b : RunState) : Type 0 where
+  pub written : HasWrittenTo size a l l.end n new b
+  pub all : All (λ m. m.place + m.size ≤ stable_from l.end l) a.history.messages
+  -- the segment in which the stable end lies, and how much of it is written
+  pub site : SegmentPosition
+  pub from : ℕ
+  pub at : site.place + from ≡ stable_from l.end l
+  pub kept : IsKept sum size site from (state_of new.trace) (logged a.history)
+
+abbrev pub FlushStep : (List ℕ → ℕ) → ℕ → RunState → LogView → Reply → DeviceView → RunState → Type 0
+FlushStep sum size a l (reply.Flushed n) new b = HasFlushed sum size a l n new b
+FlushStep sum size a l (reply.Failed e) new b = KeepsFailing a l e new b ⊎ FailsTo size a l l.end e new b
+FlushStep sum size a l _ new b = ⊥
+
+-- a place is stable, or was reserved
+abbrev pub IsKnownPlace : LogView → ℤ → Type 0
+IsKnownPlace l place = (place <ℤ pos (stable_of l)) ⊎ (place <ℤ pos l.end)
+
+-- up to where has to be written for a place to be stable: behind it, and behind the peg of a batch that has it
+abbrev pub target_by : LogView → ℤ → ℕ
+target_by l place = behind_batch (behind_place place) l.noted
+
+abbrev pub StableStep : ℕ → RunState → LogView → ℤ → Reply → DeviceView → RunState → Type 0
+StableStep size a l place (reply.Flushed n) new b =
+    IsKnownPlace l place × HasWrittenTo size a l (target_by l place) n new b × (place <ℤ pos (stable_from (target_by l place) l))
+StableStep size a l place (reply.Failed (NotReserved at)) new b =
+    (at ≡ place) × (pos (stable_of l) ≤ℤ place) × (pos l.end ≤ℤ place) × (l.fault ≡ None) × (new ≡ a.device) × (b ≡ a)
+StableStep size a l place (reply.Failed e) new b = KeepsFailing a l e new b ⊎ ((place <ℤ pos l.end) × FailsTo size a l (target_by l place) e new b)
+StableStep size a l place _ new b = ⊥
+
+-- One sealed buffer is written, the i-th of those that nothing holds up.
+abbrev pub WriteStep : RunState → LogView → ℕ → Reply → DeviceView → RunState → Type 0
+WriteStep a l i reply.Written new b =
+    (l.fault ≡ None) × Writes l l.waiting (write_pending i) a.device new × (new.failures ≡ a.device.failures)
+    × LeavesLog a l new b (without_unheld (opens l) i l.waiting) l.start None
+WriteStep a l i (reply.Failed e) new b =
+    KeepsFailing a l e new b
+    ⊎ Fails l e None ⊥ a.device new (λ fault. WritesSome l l.waiting (write_pending i) 0 e fault a.device new × LeavesLog a l new b l.waiting l.start fault)
+WriteStep a l i _ new b = ⊥
