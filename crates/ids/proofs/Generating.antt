@@ -18,20 +18,22 @@ use Rattle.sled_store.specs.declared.config.RunningConfig.{RunningConfig}
 use Rattle.sled_store.specs.Device.{Trace, state_of}
 use Rattle.sled_store.specs.Moments.{Throughout}
 use Rattle.sled_store.specs.Script.{Performs, after_all}
-use Rattle.sled_store.proofs.PublicLaws.{joined, started}
+use Rattle.sled_store.proofs.PublicLaws.{joined, later_same, started}
 use Rattle.sled_core.specs.declared.logger.Log.{Log}
 use Rattle.sled_core.specs.declared.reservation.Reservation.{Reservation}
 use Rattle.sled_core.specs.Causes.{FaultAnswers, HeldAnswers, ReserveAnswers, ReserveCauses}
-use Rattle.sled_core.specs.Fits.{FitsInline, IsUsedUp as NeedsFurther, IsUsedUpBelow, buffers_of, config_of, current_begin, current_of, device_of, fault_of, flushing, machine_at, position_behind, position_of, is_moved, next_place, open_for, open_of, open_places, reserved_end, segment_size_of, synced_end}
-use Rattle.sled_core.specs.Positions.{Position, is_short, next_segment_at}
+use Rattle.sled_core.specs.Fits.{FitsInline, IsUnchanged, IsUsedUp as NeedsFurther, IsUsedUpBelow, buffers_of, config_of, current_begin, current_of, device_of, fault_of, flushing, machine_at, position_behind, position_of, is_moved, next_place, open_for, open_of, open_places, reserved_end, segment_size_of, synced_end, writing_below}
+use Rattle.sled_core.specs.Fronts.{CameTo, WritesWhole}
+use Rattle.sled_core.specs.Positions.{Position, is_short, next_segment_at, position_in}
 use Rattle.sled_core.specs.Keeps.{ConfigKept, GoesOn, Preserves}
 use Rattle.sled_core.specs.OpenPlaces.{TakesOut, places_from}
 use Rattle.sled_core.specs.Running.{Fits, end_below}
+use Rattle.sled_core.specs.Waiting.{last_of}
 use Rattle.sled_core.proofs.PublicLaws.{current_count, fits_apart, fits_leaves, fits_reach, inline_message, message_acknowledged, target_above}
 use Rattle.ids.specs.Bounds.{GivesFrom, HasBound}
 use Rattle.ids.specs.declared.generator.IdGenerator.{IdGenerator}
 use Rattle.sled_log.specs.RunStates.{EndsInReach}
-use Rattle.ids.specs.Generators.{Generates, GivesOn, HasAsked, HasBounds, HasRoom, IsUsedUp, NextFails, WritesBuffers, further_length, next_position, asked_of, block_of, bound_of, kept_fault, running, size_of}
+use Rattle.ids.specs.Generators.{Generates, GivesOn, HasAsked, HasBounds, HasRoom, IsUsedUp, NextFails, OnRefusal, WritesBuffers, further_length, next_position, asked_of, block_of, bound_of, kept_fault, running, size_of}
 use Rattle.ids.proofs.BoundLemmas.{bound_there, bounds_added, has_size, most_added, reserves_less, reserves_still}
 use Rattle.ids.proofs.Moments.{gives_less, gives_now, gives_throughout, through_less}
 
@@ -64,6 +66,7 @@ module _ {D C : Type 0} (trace : D → Trace) (sum : List ℕ → ℕ) where
     generates = λ generates. generates;
     keeps = λ generates. started (GivesFrom sum (size_of g) (bound_of g) (asked_of g + block_of g)) (trace (running g).device)
         (gives_less sum (size_of g) (bound_of g) (bound_of g) (asked_of g) (asked_of g + block_of g) (state_of (trace (running g).device)) (omega arith) (omega arith) (generates_gives g generates));
+    later = later_same (trace (running g).device);
     config = record { config = refl; checksum = refl };
   }
 
@@ -189,6 +192,10 @@ out_of_reach log used reach = by used.0 reach where
       let high = ends.slot in
       used.1 (record { place = omega (arith, low, begins); offset = omega (arith, high, slot) })
 
+-- Where nothing is another, the next record may begin where it might.
+pub position_still : {D C : Type 0} (old new : Log D C) → IsUnchanged old new → position_of new ≡ position_of old
+position_still old new same = λ i. position_in (same.config i).config.segment_size (last_of (current_of old) (same.line i)) (same.machine i)
+
 -- A number has always room in a record.
 pub number_fits : (size n : ℕ) → 256 ≤ size → n < 2 ^ 64 → FitsInline size (length (short_number n))
 number_fits size n least small = let short = (length-short_number n small).1 in omega (arith, short, least)
@@ -199,6 +206,19 @@ number_fits size n least small = let short = (length-short_number n small).1 in 
 on_success : {T : Type 0} (result : Result T Error) (P : Type 0) → P → OnOk result P
 on_success (Ok x) P holds = holds
 on_success (Err e) P holds = tt
+
+-- and of one that was refused what it needs
+on_refusal : {T : Type 0} (result : Result T Error) (P : Type 0) → P → OnRefusal result P
+on_refusal (Ok x) P holds = tt
+on_refusal (Err (error.Io e)) P holds = tt
+on_refusal (Err error.OutOfMemory) P holds = holds
+on_refusal (Err error.PlacesUsedUp) P holds = holds
+on_refusal (Err (error.Held at)) P holds = holds
+on_refusal (Err (error.Unsupported text)) P holds = holds
+on_refusal (Err (error.Corruption at)) P holds = holds
+on_refusal (Err (error.NotReserved at)) P holds = holds
+on_refusal (Err (error.CollectionNotFound name)) P holds = holds
+on_refusal (Err (error.ReportableBug text)) P holds = holds
 
 -- Within a block it begins where it would have.
 pub within_block : {D C : Type 0} (g : IdGenerator D C) → g.next < g.bound → position_of g.log ≡ next_position g
@@ -213,13 +233,34 @@ within_block g less = by (nat_lt g.next g.bound) refl where
 -- Nothing was.
 pub none_written : {T : Type 0} (result : Result T Error) (old new : Trace) → new ≡ old → WritesBuffers result old new
 unfolding Performs
-none_written result old new same = record { to = 0; buffers = []; made = on_success result (new ≡ old) same; at_most = same }
+none_written result old new same =
+    record { to = 0; buffers = []; made = on_success result (new ≡ old) same; at_most = same; whole = on_refusal result ((count : ℕ) × WritesWhole count [] old new) (0, same) }
+
+-- A flush that is refused what it needs wrote so many buffers whole.
+whole_to : {D C : Type 0} (trace : D → Trace) (sum : List ℕ → ℕ) (to : ℕ) (old new : Log D C) → fault_of new ≡ None → CameTo trace sum to old new
+    → (count : ℕ) × WritesWhole count (writing_below sum old to) (trace (device_of old)) (trace (device_of new))
+whole_to trace sum to old new sound (inl none) = (0, none.still)
+whole_to trace sum to old new sound (inr front) = (front.count, front.whole sound)
+
+pub flush_whole : (S T : Type 0) {D C : Type 0} (trace : D → Trace) (sum : List ℕ → ℕ) (mid new : Log D C) (e : Error) (held : Option ℕ) (used : Type 0) (old : Option IoError) (before now : ℕ)
+    → HeldAnswers {T = S} (Err e) held used old (fault_of new) before now → CameTo trace sum (reserved_end mid) mid new
+    → OnRefusal {T = T} (Err e) ((count : ℕ) × WritesWhole count (flushing sum mid) (trace (device_of mid)) (trace (device_of new)))
+flush_whole S T trace sum mid new (error.Io e) held used old before now answers came = tt
+flush_whole S T trace sum mid new error.OutOfMemory held used old before now answers came = whole_to trace sum (reserved_end mid) mid new answers.2 came
+flush_whole S T trace sum mid new error.PlacesUsedUp held used old before now answers came = whole_to trace sum (reserved_end mid) mid new answers.2 came
+flush_whole S T trace sum mid new (error.Held at) held used old before now answers came = whole_to trace sum (reserved_end mid) mid new answers.3 came
+flush_whole S T trace sum mid new (error.Unsupported text) held used old before now answers came = absurd answers
+flush_whole S T trace sum mid new (error.Corruption at) held used old before now answers came = absurd answers
+flush_whole S T trace sum mid new (error.NotReserved at) held used old before now answers came = absurd answers
+flush_whole S T trace sum mid new (error.CollectionNotFound name) held used old before now answers came = absurd answers
+flush_whole S T trace sum mid new (error.ReportableBug text) held used old before now answers came = absurd answers
 
 -- A flush writes the buffers that begin below the end of what was reserved.
 pub flush_written : {T D C : Type 0} (trace : D → Trace) (sum : List ℕ → ℕ) (old mid : IdGenerator D C) → running mid ≡ running old → (result : Result T Error) (new : Trace) → OnOk result (new ≡ after_all (flushing sum mid.log) (trace (running mid).device))
-    → Performs (flushing sum mid.log) (trace (running mid).device) new → WritesBuffers result (trace (running old).device) new
-flush_written trace sum old mid same result new made at_most = subst (λ x. WritesBuffers result (trace x.device) new) same
-    (record { to = reserved_end mid.log; buffers = buffers_of sum mid.log; made = made; at_most = at_most })
+    → Performs (flushing sum mid.log) (trace (running mid).device) new → OnRefusal result ((count : ℕ) × WritesWhole count (flushing sum mid.log) (trace (running mid).device) new)
+    → WritesBuffers result (trace (running old).device) new
+flush_written trace sum old mid same result new made at_most whole = subst (λ x. WritesBuffers result (trace x.device) new) same
+    (record { to = reserved_end mid.log; buffers = buffers_of sum mid.log; made = made; at_most = at_most; whole = whole })
 
 -- Where the log keeps a failure, it writes nothing.
 pub faulty_still : {D C : Type 0} (old mid : IdGenerator D C) (new : Log D C) → running mid ≡ running old → kept_fault mid ≡ kept_fault old → ((e : IoError) → fault_of mid.log ≡ Some e → new ≡ mid.log) → IsSome (kept_fault old) → config_of new ≡ running old
@@ -319,7 +360,7 @@ reserve_fails (error.ReportableBug text) used so least causes up written inline 
 pub flush_fails : (e : Error) (held : Option ℕ) (used so : Type 0) (old new : Option IoError) (before now : ℕ) → (old ≡ None → used → so) → held ≡ None
     → HeldAnswers {T = ℕ} (Err e) held used old new before now → NextFails e so old new before now
 flush_fails (error.Io e) held used so old new before now up free answers = answers
-flush_fails error.OutOfMemory held used so old new before now up free answers = answers
+flush_fails error.OutOfMemory held used so old new before now up free answers = (answers.1, answers.2, answers.3)
 flush_fails error.PlacesUsedUp held used so old new before now up free answers = (up answers.1 answers.0, answers.2 ∙ sym answers.1, answers.3)
 flush_fails (error.Held at) held used so old new before now up free answers = absurd (some_place answers.0.0 (sym free ∙ answers.0.1))
 flush_fails (error.Unsupported text) held used so old new before now up free answers = absurd answers

@@ -1,4 +1,6 @@
 mod BoundLemmas
+mod FirstPlaces
+mod FoundBounds
 mod Generating
 mod Moments
 mod Opening

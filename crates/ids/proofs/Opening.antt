@@ -12,7 +12,7 @@ use Rattle.sled_store.specs.Device.{State, Trace, content_of, state_of}
 use Rattle.sled_store.specs.Moments.{LeavesOnly, Throughout}
 use Rattle.sled_store.specs.Begin.{IsInReach, IsStartable}
 use Rattle.sled_store.specs.Blobs.{ItemAnswers}
-use Rattle.sled_store.specs.Causes.{StartRefuses}
+use Rattle.sled_store.specs.StartCauses.{StartRefuses}
 use Rattle.sled_store.proofs.PublicLaws.{joined}
 use Rattle.sled_core.specs.declared.logger.Log.{Log}
 use Rattle.sled_core.specs.Fits.{device_of}
@@ -27,8 +27,8 @@ use Rattle.sled_log.specs.Restores.{Restores}
 use Rattle.sled_log.proofs.PublicLaws.{kept_below, orderly, table_below}
 use Rattle.ids.specs.Bounds.{GivesFrom, HasMost, IsLastBound, IsOfBounds, Reserves}
 use Rattle.ids.specs.Generators.{CanOpen, HasBounds}
-use Rattle.ids.specs.Openings.{HasStarted, StartFailed}
-use Rattle.ids.specs.Readings.{HasTable, IsIdle, IsOpenError}
+use Rattle.ids.specs.Openings.{HasOpened, HasStarted, ReadFailed, StartFailed}
+use Rattle.ids.specs.Readings.{AnswersBound, CountsError, HasTable, IsBoundRead, IsIdle, IsOpenError, IsReadError}
 use Rattle.ids.proofs.BoundLemmas.{bounds_below, last_enough, most_below, reserves_below, reserves_less}
 use Rattle.ids.proofs.Moments.{gives_throughout}
 
@@ -178,6 +178,25 @@ module _ (sum : List ℕ → ℕ) (size again : ℕ) (same : again ≡ size) (ol
     startable = subst (λ k. IsStartable k len s) same startable;
     in_reach = subst (λ k. IsInReach k len s) same in_reach;
     made = subst (λ k. HasMadeStart k s mid new) same made;
+  }
+
+  -- A generator begins with the bound that stands there then; the log says the size of segments a third time.
+  pub was_opened : HasMadeStart again s mid new → IsStartable again len s → IsInReach again len s → (third n : ℕ) → third ≡ size → IsBoundRead sum third (state_of new).log.bytes s.pages n → HasOpened sum size n old new
+  unfolding was_started
+  was_opened made startable in_reach third n sized bound = record {
+    started = was_started made startable in_reach;
+    bound = subst (λ (k : ℕ). IsBoundRead sum k (state_of new).log.bytes s.pages n) sized bound;
+  }
+
+  -- or it couldn't be read.
+  pub not_read : HasMadeStart again s mid new → IsStartable again len s → IsInReach again len s → (third : ℕ) → third ≡ size → (e : Error) (before now : ℕ) → IsReadError e
+      → AnswersBound (Err e) (IsBoundRead sum third (state_of new).log.bytes s.pages) → CountsError e before now → ReadFailed sum size e old new before now
+  unfolding was_started
+  not_read made startable in_reach third sized e before now known damaged counts = record {
+    started = was_started made startable in_reach;
+    known = known;
+    damaged = subst (λ (k : ℕ). AnswersBound (Err e) (IsBoundRead sum k (state_of new).log.bytes s.pages)) sized damaged;
+    counts = counts;
   }
 
 -- In a log that begins nothing was reserved.

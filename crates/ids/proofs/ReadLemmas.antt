@@ -10,6 +10,7 @@ use Rattle.std.specs.declared.io.Error.{Error as IoError}
 use Rattle.sled_codec.specs.declared.result.Error.{Error}
 use Rattle.sled_codec.specs.declared.result.Error.TheVariants as error
 use Rattle.sled_codec.specs.declared.serialization.snapshot.PageState.{PageState}
+use Rattle.sled_codec.specs.declared.serialization.message.MessageHeader.{MessageHeader}
 use Rattle.sled_codec.specs.Errors.{IsCorrupt, IsCorruption}
 use Rattle.sled_codec.specs.History.{History, Message, table}
 use Rattle.sled_codec.specs.PageTables.{entry_of}
@@ -22,7 +23,7 @@ use Rattle.sled_store.specs.Device.{Trace}
 use Rattle.sled_core.specs.declared.logger.Log.{Log}
 use Rattle.sled_core.specs.declared.logger.read_message.LogRead.{LogRead}
 use Rattle.sled_core.specs.declared.logger.read_message.LogRead.TheVariants as read
-use Rattle.sled_core.specs.Reading.{GivesMessage, IsNoPlace, data_of}
+use Rattle.sled_core.specs.Reading.{GivesMessage, IsInline, IsNoPlace}
 use Rattle.sled_core.specs.ReadBuffer.{IsUsedUpAt, ReadAnswers, RefusesPlace, Settles, held_at}
 use Rattle.sled_core.specs.Causes.{IsFault}
 use Rattle.sled_core.specs.Fits.{FirstWaits, HasRecordOf, current_begin, device_of, fault_of, reserved_end, segment_size_of, synced_end}
@@ -30,17 +31,27 @@ use Rattle.sled_core.proofs.PublicLaws.{first_waits, kept_still}
 use Rattle.sled_log.specs.Replaces.{HasLast}
 use Rattle.sled_log.proofs.PublicLaws.{table_has_last, table_has_page}
 use Rattle.ids.specs.Bounds.{IsLastBound, IsLastMessage}
-use Rattle.ids.specs.Readings.{CountsError, CountsFailure, HasTable, HoldsAt, IsIdle, IsOpenError, IsReadError, OnlyRead}
+use Rattle.ids.specs.Readings.{BeginsWith, CountsError, CountsFailure, HasTable, HoldsAt, IsIdle, IsNumberIn, IsOpenError, IsReadError, OnlyRead}
 
--- the item of a message that was read
-pub gives_data : (m : Message) (r : LogRead) → GivesMessage m r → data_of r ≡ Some m.bytes
-gives_data m (read.Inline h bytes len) gives = ap (λ (b : List ℕ). Some b) gives.2
-gives_data m (read.Blob h bytes place len) gives = ap (λ (b : List ℕ). Some b) gives.2
-gives_data m (read.Canceled len) gives = absurd gives
-gives_data m (read.Cap number) gives = absurd gives
-gives_data m read.Corrupted gives = absurd gives
-gives_data m (read.DanglingBlob h place len) gives = absurd gives
-gives_data m (read.BatchManifest peg len) gives = absurd gives
+-- A message that has its item in its record is read with that,
+pub inline_read : (m : Message) (r : LogRead) → GivesMessage m r → IsInline m.pointer → ((h : MessageHeader) (item : Vec ℕ Global) (len : ℕ) → r ≡ read.Inline h item len → ⊥) → ⊥
+inline_read m (read.Inline h item len) gives inline not = not h item len refl
+inline_read m (read.Blob h item place len) gives inline not = subst IsInline gives.3.1 inline
+inline_read m (read.Canceled len) gives inline not = gives
+inline_read m (read.Cap number) gives inline not = gives
+inline_read m read.Corrupted gives inline not = gives
+inline_read m (read.DanglingBlob h place len) gives inline not = gives
+inline_read m (read.BatchManifest peg len) gives inline not = gives
+
+-- and nothing else that is read has a number in its record.
+pub no_number : (r : LogRead) (n : ℕ) → IsNumberIn r n → ((h : MessageHeader) (item : Vec ℕ Global) (len : ℕ) → r ≡ read.Inline h item len → ⊥) → ⊥
+no_number (read.Inline h item len) n is not = not h item len refl
+no_number (read.Blob h item place len) n is not = is
+no_number (read.Canceled len) n is not = is
+no_number (read.Cap number) n is not = is
+no_number read.Corrupted n is not = is
+no_number (read.DanglingBlob h place len) n is not = is
+no_number (read.BatchManifest peg len) n is not = is
 
 -- a number at the front of bytes that are one is that one
 pub same_number : (bytes front rest : List ℕ) (v n : ℕ) → SpellsNumber bytes n → SpellsNumber front v → bytes ≡ front ++ rest → v ≡ n
@@ -53,6 +64,17 @@ pub decoded : (result : Result ℕ Error) (bytes left : List ℕ) (n : ℕ) → 
     → (IsCorruption result → (front rest : List ℕ) (v : ℕ) → bytes ≡ front ++ rest → Unit {0} → SpellsNumber front v → ⊥) → IfErr result (λ e. e ≡ error.Corruption None) → IfOk result (λ v. v ≡ n) × OnErr result ⊥
 decoded (Ok v) bytes left n whole ok corrupt damage = (same_number bytes ok.0 left v n whole ok.1 ok.2, tt)
 decoded (Err e) bytes left n whole ok corrupt damage = (tt, corrupt (subst IsCorrupt (sym damage) tt) bytes [] n (sym (append-nil bytes)) tt whole)
+
+-- The number that is decoded is at the front,
+pub spells_front : (result : Result ℕ Error) (bytes item left : List ℕ) → bytes ≡ item → IfOk result (λ v. (front : List ℕ) × SpellsNumber front v × (bytes ≡ front ++ left)) → IfOk result (BeginsWith item)
+spells_front (Ok v) bytes item left same ok = (ok.0, left, ok.1, sym same ∙ ok.2)
+spells_front (Err e) bytes item left same ok = tt
+
+-- and where none is decoded there is none.
+pub spells_none : (result : Result ℕ Error) (bytes item : List ℕ) → bytes ≡ item → (IsCorruption result → (front rest : List ℕ) (v : ℕ) → bytes ≡ front ++ rest → Unit {0} → SpellsNumber front v → ⊥)
+    → IfErr result (λ e. e ≡ error.Corruption None) → OnErr result ((n : ℕ) → BeginsWith item n → ⊥)
+spells_none (Ok v) bytes item same corrupt damage = tt
+spells_none (Err e) bytes item same corrupt damage = λ n b. corrupt (subst IsCorrupt (sym damage) tt) b.0 b.1 n (same ∙ b.3) tt b.2
 
 -- what holds of no error
 pub no_error : (P : Error → Type 0) (result : Result ℕ Error) → OnErr result ⊥ → IfErr result P
@@ -128,28 +150,28 @@ module _ {D C : Type 0} (trace : D → Trace) (sum : List ℕ → ℕ) (lsn : �
   current_synced : current_begin old ≡ synced_end old
   current_synced = sym (subst (FirstWaits (synced_end old) (current_begin old)) idle.unsealed (first_waits old))
 
-  -- Nothing holds it, and it needs no further segment.
-  pub read_known : (blobs : ℤ → Option (List ℕ)) (before now : ℕ) (e : Error)
+  -- Nothing holds it, it needs no further segment, and its place was reserved where it is on the device.
+  pub read_known : lsn <ℤ pos (synced_end old) → (blobs : ℤ → Option (List ℕ)) (before now : ℕ) (e : Error)
       → ReadAnswers {T = LogRead} sum blobs (ptr.Inline lid) (Err e) lsn (synced_end old) (reserved_end old) (held_at sum old lsn) (IsUsedUpAt old lsn) (fault_of old) (fault_of new) before now → IsReadError e
-  read_known blobs before now (error.Io e) answers = tt
-  read_known blobs before now error.OutOfMemory answers = tt
-  read_known blobs before now (error.Corruption at) answers = tt
-  read_known blobs before now (error.NotReserved at) answers = tt
-  read_known blobs before now error.PlacesUsedUp answers =
+  read_known there blobs before now (error.Io e) answers = tt
+  read_known there blobs before now error.OutOfMemory answers = tt
+  read_known there blobs before now (error.Corruption at) answers = tt
+  read_known there blobs before now (error.NotReserved at) answers = absurd (let up = answers.1 in omega (arith, ints, there, up))
+  read_known there blobs before now error.PlacesUsedUp answers =
       let low = answers.0 in
       let up = answers.1.0 in
       let end = idle.reserved in
       let begin = current_synced in
       absurd (omega (arith, ints, low, up, end, begin))
-  read_known blobs before now (error.Held at) answers =
+  read_known there blobs before now (error.Held at) answers =
       let low = answers.0 in
       let end = idle.reserved in
       absurd (some_place answers.1.0 (sym (none_holds lsn (synced_end old) _ (omega (arith, ints, low, end))) ∙ answers.1.1)) where
         some_place : (place : ℕ) → None ≡ Some place → ⊥
         some_place place is = cc
-  read_known blobs before now (error.Unsupported text) answers = absurd answers
-  read_known blobs before now (error.CollectionNotFound name) answers = absurd answers
-  read_known blobs before now (error.ReportableBug text) answers = absurd answers
+  read_known there blobs before now (error.Unsupported text) answers = absurd answers
+  read_known there blobs before now (error.CollectionNotFound name) answers = absurd answers
+  read_known there blobs before now (error.ReportableBug text) answers = absurd answers
 
 -- damage is a reason
 pub damage_known : (result : Result ℕ Error) → IfErr result (λ e. e ≡ error.Corruption None) → IfErr result IsReadError
@@ -233,7 +255,7 @@ module _ (sum : List ℕ → ℕ) (blobs : ℤ → Option (List ℕ)) (lid : ℕ
   -- it counts a failure of the device, and nothing else
   pub read_counts : (e : Error) → old ≡ None → ReadAnswers {T = LogRead} sum blobs (ptr.Inline lid) (Err e) lsn stable end held used old new before now → CountsError e before now
   read_counts (error.Io e) none answers = fails_now e old new before now none answers
-  read_counts error.OutOfMemory none answers = answers.3
+  read_counts error.OutOfMemory none answers = answers.4
   read_counts error.PlacesUsedUp none answers = answers.4
   read_counts (error.Held at) none answers = answers.5
   read_counts (error.NotReserved at) none answers = answers.5

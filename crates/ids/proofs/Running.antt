@@ -1,8 +1,10 @@
 -- Runs of a generator go on, one command behind another.
-use Rattle.std.proofs.Common.{ℕ, List, [], ◌∷◌, ◌++◌}
+use Rattle.std.proofs.Common.{ℕ, List, [], ◌∷◌, ◌++◌, Option}
 use Rattle.ids.specs.declared.run.Command.{Command}
 use Rattle.ids.specs.declared.run.Reply.{Reply}
-use Rattle.ids.specs.IdRuns.{Carries, IdRuns, IdState}
+use Rattle.sled_log.specs.RunStates.{DeviceView}
+use Rattle.ids.specs.IdDevices.{Devices, Leaves}
+use Rattle.ids.specs.IdRuns.{Carries, GeneratorView, IdRuns, IdState}
 
 module _ (sum : List ℕ → ℕ) (size : ℕ) (Between UsedUp : IdState → Type 0) where
   -- A command was carried out, and more is known of where it leads.
@@ -43,3 +45,44 @@ module _ (sum : List ℕ → ℕ) (size : ℕ) (Between UsedUp : IdState → Typ
       (λ b both. (both.0, runs_over Leads Next over b ds qs both.1)) a d q runs
   runs_over Leads Next over a [] (q ∷ qs) runs = absurd runs
   runs_over Leads Next over a (d ∷ ds) [] runs = absurd runs
+
+-- What the commands do to the device goes on, too.
+module _ (sum : List ℕ → ℕ) (size : ℕ) where
+  -- More is known of where a command leads.
+  left_over : (Leads Next : Option GeneratorView → DeviceView → Type 0) → ((now : Option GeneratorView) (new : DeviceView) → Leads now new → Next now new)
+      → (g : Option GeneratorView) (old : DeviceView) (c : Command) (r : Reply) → Leaves sum size g old c r Leads → Leaves sum size g old c r Next
+  left_over Leads Next over g old c r leaves = record {
+    new = leaves.new;
+    now = leaves.now;
+    later = leaves.later;
+    acts = leaves.acts;
+    shows = leaves.shows;
+    leads = over leaves.now leaves.new leaves.leads;
+  }
+
+  -- Nothing was carried out yet.
+  pub devices_none : (g : Option GeneratorView) (device : DeviceView) (Leads : Option GeneratorView → DeviceView → Type 0) → Leads g device → Devices sum size g device [] [] Leads
+  unfolding Devices
+  devices_none g device Leads leads = leads
+
+  -- One command more was.
+  pub devices_more : (Leads Next : Option GeneratorView → DeviceView → Type 0) (c : Command) (r : Reply) → ((g : Option GeneratorView) (old : DeviceView) → Leads g old → Leaves sum size g old c r Next)
+      → (g : Option GeneratorView) (old : DeviceView) (cs : List Command) (rs : List Reply) → Devices sum size g old cs rs Leads → Devices sum size g old (cs ++ c ∷ []) (rs ++ r ∷ []) Next
+  unfolding Devices
+  devices_more Leads Next c r more g old [] [] devices = more g old devices
+  devices_more Leads Next c r more g old (d ∷ ds) (q ∷ qs) devices =
+      left_over (λ now new. Devices sum size now new ds qs Leads) (λ now new. Devices sum size now new (ds ++ c ∷ []) (qs ++ r ∷ []) Next)
+      (λ now new so_far. devices_more Leads Next c r more now new ds qs so_far) g old d q devices
+  devices_more Leads Next c r more g old [] (q ∷ qs) devices = absurd devices
+  devices_more Leads Next c r more g old (d ∷ ds) [] devices = absurd devices
+
+  -- What is claimed of where they lead implies more.
+  pub devices_over : (Leads Next : Option GeneratorView → DeviceView → Type 0) → ((now : Option GeneratorView) (new : DeviceView) → Leads now new → Next now new)
+      → (g : Option GeneratorView) (old : DeviceView) (cs : List Command) (rs : List Reply) → Devices sum size g old cs rs Leads → Devices sum size g old cs rs Next
+  unfolding Devices
+  devices_over Leads Next over g old [] [] devices = over g old devices
+  devices_over Leads Next over g old (d ∷ ds) (q ∷ qs) devices =
+      left_over (λ now new. Devices sum size now new ds qs Leads) (λ now new. Devices sum size now new ds qs Next)
+      (λ now new so_far. devices_over Leads Next over now new ds qs so_far) g old d q devices
+  devices_over Leads Next over g old [] (q ∷ qs) devices = absurd devices
+  devices_over Leads Next over g old (d ∷ ds) [] devices = absurd devices

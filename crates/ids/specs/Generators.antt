@@ -6,13 +6,14 @@ use Rattle.sled_codec.specs.declared.result.Error.TheVariants.{Io, OutOfMemory, 
 use Rattle.sled_codec.specs.History.{Message, History}
 use Rattle.sled_codec.specs.Spelling.{short_number}
 use Rattle.sled_store.specs.Device.{Trace, State, content_of}
-use Rattle.sled_store.specs.Moments.{Throughout}
+use Rattle.sled_store.specs.Moments.{IsLater, Throughout}
 use Rattle.sled_store.specs.Script.{Performs, after_all}
 use Rattle.sled_store.specs.declared.config.RunningConfig.{RunningConfig}
 use Rattle.sled_core.specs.declared.logger.Log.{Log}
 use Rattle.sled_core.specs.Causes.{IsFault}
 use Rattle.sled_core.specs.Keeps.{ConfigKept}
 use Rattle.sled_core.specs.Fits.{IsUsedUpBelow, IsUsedUpFor, config_of, fault_of, position_behind, position_of, reserved_end, segment_size_of}
+use Rattle.sled_core.specs.Fronts.{WritesWhole}
 use Rattle.sled_core.specs.Positions.{Position}
 use Rattle.sled_core.specs.Recoverable.{NoForeign}
 use Rattle.sled_core.specs.Running.{Fits}
@@ -94,6 +95,7 @@ pub record GivesOn {D C : Type 0} (trace : D → Trace) (sum : List ℕ → ℕ)
   pub block : block_of new ≡ block_of old
   pub generates : Generates trace sum old → Generates trace sum new
   pub keeps : Generates trace sum old → Throughout (GivesFrom sum (size_of old) (bound_of old) (asked_of old + block_of old)) (trace (running old).device) (trace (running new).device)
+  pub later : IsLater (trace (running old).device) (trace (running new).device)
   pub config : ConfigKept (running old) (running new)
 
 -- what a generator that was opened runs on, or what came back where none was
@@ -139,6 +141,12 @@ pub record HasAsked {D C : Type 0} (old new : IdGenerator D C) : Type 0 where
   pub room : IsUsedUpFor (log_of old) 0 (further_length old) → ⊥
   pub position : position_of (log_of new) ≡ position_behind (log_of old) 0 (further_length old)
 
+-- Nothing was asked for; or the block of the identifier that comes was, by one record at most: its bound is the greatest that is in the log's history.
+abbrev pub MayHaveAsked : {D C : Type 0} → IdGenerator D C → IdGenerator D C → Type 0
+MayHaveAsked old new =
+    ((asked_of new ≡ asked_of old) × (position_of (log_of new) ≡ position_of (log_of old)))
+    ⊎ ((asked_of new ≡ next_bound old) × (position_of (log_of new) ≡ next_position old))
+
 -- Why none was given out: the log keeps a failure, or the device failed in this call; or memory was refused, while the log keeps none; or places are used up, where this is so.
 abbrev pub NextFails : Error → Type 0 → Option IoError → Option IoError → ℕ → ℕ → Type 0
 NextFails (Io e) used old new before after = IsFault e old new before after
@@ -151,12 +159,20 @@ abbrev pub NextAnswers : {T D C : Type 0} → (D → ℕ) → Result T Error →
 NextAnswers faults (Ok id) old new = (kept_fault new ≡ kept_fault old) × (faults (running new).device ≡ faults (running old).device)
 NextAnswers faults (Err e) old new = NextFails e (IsUsedUp old) (kept_fault old) (kept_fault new) (faults (running old).device) (faults (running new).device)
 
--- Buffers of a log were written that begin below a place, one write and one sync for each: all of them where the call succeeds, and else up to a call that failed.
+-- what holds of a call that was refused what it needs, while its device didn't fail
+abbrev pub OnRefusal : {T : Type 0} → Result T Error → Type 0 → Type 0
+OnRefusal (Ok x) P = Unit {0}
+OnRefusal (Err (Io e)) P = Unit {0}
+OnRefusal (Err e) P = P
+
+-- Buffers of a log were written that begin below a place, one write and one sync for each: all of them where the call succeeds, and else up to a call that
+-- failed. Where the device didn't fail, so many of them were written whole, and no other call was made.
 pub record WritesBuffers {T : Type 0} (result : Result T Error) (old new : Trace) : Type 0 where
   pub to : ℕ
   pub buffers : List BufferAt
   pub made : OnOk result (new ≡ after_all (writes_below to buffers) old)
   pub at_most : Performs (writes_below to buffers) old new
+  pub whole : OnRefusal result ((count : ℕ) × WritesWhole count (writes_below to buffers) old new)
 
 -- A generator can be opened on this device: what was given out isn't given again, and what a recovery reads is what the log itself wrote.
 pub record CanOpen (sum : List ℕ → ℕ) (size n most : ℕ) (device : State) : Type 0 where

@@ -1,8 +1,9 @@
 -- What stands behind where a run of a generator stands: a device, or a generator that is open.
-use Rattle.std.specs.Prelude.{◌≡◌, ◌⊎◌, ◌≤◌, ℕ, List, None, Some}
+use Rattle.std.specs.Prelude.{◌≡◌, ◌⊎◌, ◌≤◌, ℕ, List, Option, None, Some}
 use Rattle.sled_store.specs.Device.{state_of}
 use Rattle.sled_store.specs.declared.config.RunningConfig.{RunningConfig}
 use Rattle.sled_core.specs.Fits.{position_of}
+use Rattle.sled_core.specs.Keeps.{ConfigKept}
 use Rattle.sled_log.specs.RunPhases.{traces}
 use Rattle.sled_log.specs.RunStates.{DeviceView}
 use Rattle.ids.specs.declared.generator.IdGenerator.{IdGenerator}
@@ -12,6 +13,7 @@ use Rattle.ids.specs.declared.run.step.Phase.{Phase}
 use Rattle.ids.specs.declared.run.step.Phase.TheVariants.{Closed, Open}
 use Rattle.ids.specs.Bounds.{GivesFrom}
 use Rattle.ids.specs.Generators.{Generates, IsUsedUp, asked_of, block_of, bound_of, kept_fault, log_of, next_of, running, size_of}
+use Rattle.ids.specs.IdDevices.{Leaves}
 use Rattle.ids.specs.IdRuns.{Carries, GeneratorView, IdState}
 
 -- what is seen of a generator
@@ -58,10 +60,20 @@ abbrev pub StandsAt : {D C : Type 0} → (D → DeviceView) → (List ℕ → �
 StandsAt view sum (Closed config) a = IsClosedAt view sum config a
 StandsAt view sum (Open g) a = IsOpenAt view sum g a
 
--- A command was carried out in a phase, and led to another one, of the same size of segments.
+-- what is seen of its generator, if one is open
+abbrev pub seen_in : {D C : Type 0} → Phase D C → Option GeneratorView
+seen_in (Closed config) = None
+seen_in (Open g) = Some (seen g)
+
+-- its generator and its device are seen so
+abbrev pub IsOver : {D C : Type 0} → (D → DeviceView) → Phase D C → Option GeneratorView → DeviceView → Type 0
+IsOver view phase g device = (g ≡ seen_in phase) × (device ≡ view (running_in phase).device)
+
+-- A command was carried out in a phase, and led to another one, with the same configuration; and it did this to the device, whatever that has.
 pub record CarriesOut {D C : Type 0} (view : D → DeviceView) (sum : List ℕ → ℕ) (phase : Phase D C) (c : Command) (result : Phase D C × Reply) : Type 0 where
   pub step : (a : IdState) → StandsAt view sum phase a → Carries sum (size_in phase) (SomeUsedUp D C view sum) a c result.1 (StandsAt view sum result.0)
-  pub sized : size_in result.0 ≡ size_in phase
+  pub device : Leaves sum (size_in phase) (seen_in phase) (view (running_in phase).device) c result.1 (IsOver view result.0)
+  pub kept : ConfigKept (running_in phase) (running_in result.0)
 
 -- where a run ends on a device: no identifier below the next one is given again
 pub record EndsAt (sum : List ℕ → ℕ) (size : ℕ) (device : DeviceView) (a : IdState) : Type 0 where

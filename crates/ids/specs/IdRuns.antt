@@ -1,11 +1,11 @@
 -- Runs of a generator: what its commands come to, one behind another, and what each does to the device.
-use Rattle.std.specs.Prelude.{◌≡◌, ◌↔◌, ◌≤◌, ◌<◌, ◌+◌, ◌-◌, ◌^◌, ◌∷◌, [], ℕ, Bool, false, IsSome, IsTrue, nat_lt, if◌then◌else◌, max, min, List, length, Option, None, Some, Ok, Err}
+use Rattle.std.specs.Prelude.{◌≡◌, ◌⊎◌, ◌↔◌, ◌≤◌, ◌<◌, ◌+◌, ◌-◌, ◌^◌, ◌∷◌, [], ℕ, Bool, false, IsSome, IsTrue, nat_lt, if◌then◌else◌, max, min, List, length, Option, None, Some, Ok, Err}
 use Rattle.std.specs.Int.NonZero.{non_zero_u64_get}
 use Rattle.std.specs.declared.io.Error.{Error as IoError}
 use Rattle.sled_codec.specs.declared.result.Error.TheVariants.{OutOfMemory}
 use Rattle.sled_codec.specs.Spelling.{short_number}
 use Rattle.sled_store.specs.Chosen.{MayBeLeft}
-use Rattle.sled_store.specs.Device.{State, Left, Settled, Crashed, state_of, content_of, content_left}
+use Rattle.sled_store.specs.Device.{State, Left, Settled, StopAsked, Crashed, state_of, content_of, content_left}
 use Rattle.sled_store.specs.Moments.{IsLater}
 use Rattle.sled_store.specs.Noted.{left_of}
 use Rattle.sled_core.specs.Positions.{Position, behind_record, placed_at, size_at}
@@ -49,7 +49,7 @@ begins_at device n most = record { device = device; next = n; most = most; gener
 
 -- the same over another device, with a generator or none open
 abbrev pub stands_at : IdState → DeviceView → Option GeneratorView → IdState
-stands_at a device generator = record { device = device; next = a.next; most = a.most; generator = generator }
+stands_at a device generator = record a { device = device; generator = generator }
 
 -- what a crash leaves that takes what was chosen, or doesn't
 abbrev pub left_by : Left → Bool → Left
@@ -94,11 +94,12 @@ pub record HasGiven (size : ℕ) (v w : GeneratorView) : Type 0 where
   pub fault : w.fault ≡ v.fault
   pub position : w.position ≡ position_next size v
 
--- It gave none: the same one comes next, and it may have asked for a further block.
-pub record HasNotGiven (v w : GeneratorView) : Type 0 where
+-- It gave none: the same one comes next, and it asked for the block of that one, which is asked for once, or for nothing.
+pub record HasNotGiven (size : ℕ) (v w : GeneratorView) : Type 0 where
   pub next : w.next ≡ v.next
   pub bound : w.bound ≡ v.bound
   pub asked : w.asked ≤ v.asked + v.block
+  pub once : ((w.asked ≡ v.asked) × (w.position ≡ v.position)) ⊎ ((w.asked ≡ bound_next v) × (w.position ≡ position_next size v))
   pub block : w.block ≡ v.block
 
 -- What a command does to the device, whatever that has.
@@ -109,23 +110,23 @@ OpenActs sum size old reply.Opened new = HasStarted sum size old.trace new.trace
 OpenActs sum size old (reply.Failed e) new = OpenFails sum size e old.trace new.trace old.failures new.failures
 OpenActs sum size old r new = ⊥
 
--- Buffers of the log are written. Within a block no call is made, and none fails; nor is one by a log that keeps a failure.
+-- Buffers of the log are written, each whole unless the device failed. Within a block no call is made, and none fails; nor is one where a failure is kept.
 abbrev pub NextActs : GeneratorView → DeviceView → Reply → DeviceView → Type 0
 NextActs v old (reply.Given id) new = WritesBuffers {T = ℕ} (Ok id) old.trace new.trace × (new.failures ≡ old.failures) × (v.next < v.bound → new ≡ old)
 NextActs v old (reply.Failed e) new = WritesBuffers {T = ℕ} (Err e) old.trace new.trace × (v.bound ≤ v.next) × (IsSome v.fault → new ≡ old)
 NextActs v old r new = ⊥
 
--- The device crashed: what was chosen was taken exactly where a crash may leave that, and else what was synced. It is no longer stopped, nor is it to be.
+-- The device crashed: what was chosen was taken exactly where a crash may leave that, and else what was synced. It is no longer stopped.
 abbrev pub CrashActs : Left → DeviceView → Reply → DeviceView → Type 0
 CrashActs chosen old (reply.Crashed taken) new =
     (IsTrue taken ↔ MayBeLeft chosen (state_of old.trace))
-    × (new ≡ record { trace = Crashed (left_by chosen taken) ∷ old.trace; failures = old.failures; is_stopped = false; stops_in = None })
+    × (new ≡ record { trace = Crashed (left_by chosen taken) ∷ old.trace; failures = old.failures; is_stopped = false })
 CrashActs chosen old (reply.Failed OutOfMemory) new = new ≡ old
 CrashActs chosen old r new = ⊥
 
--- it is to be stopped within a call
+-- It is to be stopped within a call, where it isn't stopped yet.
 abbrev pub to_stop : ℕ → DeviceView → DeviceView
-to_stop n old = record { trace = old.trace; failures = old.failures; is_stopped = old.is_stopped; stops_in = Some n }
+to_stop n old = record old { trace = if old.is_stopped then old.trace else StopAsked n ∷ old.trace }
 
 -- A command is refused exactly where a generator is open that was to be opened, or none is that was to be used; then it leaves the device as it was, as those do that aren't for it.
 abbrev pub Acts : (List ℕ → ℕ) → ℕ → DeviceView → Option GeneratorView → Command → Reply → DeviceView → Type 0
@@ -157,7 +158,7 @@ abbrev pub NextStep : (IdState → Type 0) → ℕ → IdState → GeneratorView
 NextStep UsedUp size a v (reply.Given id) new b = (id ≡ v.next) × (a.next ≤ id) × (id ≤ a.most)
     × (w : GeneratorView) × HasGiven size v w × (b ≡ record { device = new; next = id + 1; most = a.most + v.block; generator = Some w })
 NextStep UsedUp size a v (reply.Failed e) new b =
-    (w : GeneratorView) × HasNotGiven v w × NextFails e (UsedUp a) v.fault w.fault a.device.failures new.failures
+    (w : GeneratorView) × HasNotGiven size v w × NextFails e (UsedUp a) v.fault w.fault a.device.failures new.failures
     × (b ≡ record { device = new; next = a.next; most = a.most + v.block; generator = Some w })
 NextStep UsedUp size a v r new b = ⊥
 
@@ -168,7 +169,7 @@ CrashStep a r new b = b ≡ stands_at a new a.generator
 
 -- A further block has so many identifiers.
 abbrev pub with_block : ℕ → GeneratorView → GeneratorView
-with_block n v = record { next = v.next; bound = v.bound; asked = v.asked; block = n; fault = v.fault; position = v.position }
+with_block n v = record v { block = n }
 
 -- What a command comes to: one that is refused changes nothing.
 abbrev pub IsStep : (IdState → Type 0) → ℕ → IdState → Option GeneratorView → Command → Reply → DeviceView → IdState → Type 0

@@ -1,5 +1,6 @@
 pub mod Bounds
 pub mod Generators
+pub mod IdDevices
 pub mod IdPhases
 pub mod IdRuns
 pub mod Openings

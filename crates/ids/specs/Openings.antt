@@ -2,14 +2,17 @@
 use Rattle.std.specs.Prelude.{◌≡◌, ◌⊎◌, ℕ, List, length, Result, Ok, Err}
 use Rattle.sled_codec.specs.declared.result.Error.{Error}
 use Rattle.sled_codec.specs.declared.serialization.snapshot.Snapshot.{Snapshot}
+use Rattle.sled_codec.specs.Errors.{IsCorrupt}
 use Rattle.sled_codec.specs.Snapshots.{SnapshotModel}
 use Rattle.sled_store.specs.Begin.{IsInReach, IsStartable}
 use Rattle.sled_store.specs.Blobs.{ItemAnswers}
-use Rattle.sled_store.specs.Causes.{StartRefuses}
+use Rattle.sled_store.specs.StartCauses.{StartRefuses}
 use Rattle.sled_store.specs.Device.{Trace, state_of}
 use Rattle.sled_core.specs.Starts.{HasMadeStart, StartCalls}
 use Rattle.sled_log.specs.Restores.{ComesOf, Restores}
-use Rattle.ids.specs.Readings.{CountsError, IsReadError}
+use Rattle.ids.specs.declared.generator.IdGenerator.{IdGenerator}
+use Rattle.ids.specs.Generators.{next_of}
+use Rattle.ids.specs.Readings.{CountsError, IsBoundRead, IsReadError}
 
 -- The recovery failed: its calls were made up to one that failed, and where it met damage nothing was written.
 pub record RecoveryFailed (sum : List ℕ → ℕ) (size : ℕ) (e : Error) (old new : Trace) (before after : ℕ) : Type 0 where
@@ -33,10 +36,16 @@ pub record HasStarted (sum : List ℕ → ℕ) (size : ℕ) (old new : Trace) : 
   pub in_reach : IsInReach size (length (state_of mid).log.bytes) snapshot
   pub made : HasMadeStart size snapshot mid new
 
--- So it was, and the bound could not be read.
+-- So it was, and this number is the bound that stands in the log file then.
+pub record HasOpened (sum : List ℕ → ℕ) (size n : ℕ) (old new : Trace) : Type 0 where
+  pub started : HasStarted sum size old new
+  pub bound : IsBoundRead sum size (state_of new).log.bytes started.snapshot.pages n
+
+-- A log was started so, and the bound could not be read; damage is answered only where none stands there.
 pub record ReadFailed (sum : List ℕ → ℕ) (size : ℕ) (e : Error) (old new : Trace) (before after : ℕ) : Type 0 where
   pub started : HasStarted sum size old new
   pub known : IsReadError e
+  pub damaged : IsCorrupt e → (n : ℕ) → IsBoundRead sum size (state_of new).log.bytes started.snapshot.pages n → ⊥
   pub counts : CountsError e before after
 
 -- Why no generator was opened, and what was asked of the device until then.
@@ -44,7 +53,7 @@ abbrev pub OpenFails : (List ℕ → ℕ) → ℕ → Error → (old new : Trace
 OpenFails sum size e old new before after =
     RecoveryFailed sum size e old new before after ⊎ StartFailed sum size e old new before after ⊎ ReadFailed sum size e old new before after
 
--- A generator was opened by the calls of a recovery and of a start; or none was.
-abbrev pub OpenActs : {T R : Type 0} → (List ℕ → ℕ) → ℕ → Result T (Error × R) → (old new : Trace) (before after : ℕ) → Type 0
-OpenActs sum size (Ok g) old new before after = HasStarted sum size old new × (after ≡ before)
+-- A generator was opened by the calls of a recovery and of a start, and begins with the bound that stands there; or none was.
+abbrev pub OpenActs : {D C R : Type 0} → (List ℕ → ℕ) → ℕ → Result (IdGenerator D C) (Error × R) → (old new : Trace) (before after : ℕ) → Type 0
+OpenActs sum size (Ok g) old new before after = HasOpened sum size (next_of g) old new × (after ≡ before)
 OpenActs sum size (Err e) old new before after = OpenFails sum size e.0 old new before after

@@ -1,9 +1,9 @@
 //! A generator of identifiers over a log (`specs/Bounds.antt`).
-ghost use Rattle.std.specs.Prelude.{◌≡◌, ◌≤◌, ◌<◌, ◌+◌, ◌^◌, ◌-◌, [], ℕ, nat_lt, if◌then◌else◌, max, None, Some, IsSome, IfOk, IfErr, OnErr, OnOk};
+ghost use Rattle.std.specs.Prelude.{◌≡◌, ◌≤◌, ◌<◌, ◌+◌, ◌^◌, ◌-◌, [], ◌∷◌, ℕ, nat_lt, if◌then◌else◌, max, None, Some, IsSome, IfOk, IfErr, OnErr, OnOk};
 ghost use Rattle.std.specs.Int.NonZero.{non_zero_u64_get};
 ghost use Rattle.sled_core.specs.Fits.{open_places, pins_of, position_of};
 ghost use Rattle.sled_core.specs.Keeps.{ConfigKept};
-ghost use Rattle.sled_store.specs.Device.{state_of};
+ghost use Rattle.sled_store.specs.Device.{StopAsked, state_of};
 ghost use Rattle.sled_store.specs.Moments.{IsLater, Throughout};
 ghost use Rattle.ids.specs.Bounds.{GivesFrom};
 
@@ -45,15 +45,17 @@ pub struct IdGenerator<D, C> {
 impl<D: Device, C: Checksum> IdGenerator<D, C> {
     ghost use Rattle.ids.specs.Openings.{OpenActs};
     ghost use Rattle.ids.specs.Readings.{IsOpenError};
-    ghost use Rattle.ids.specs.Generators.{CanOpen, CountsFault, Generates, GivesOn, HasAsked, HasRoom, NextAnswers, SameBlock, SameNext, WritesBuffers, asked_of, block_of, bound_of, further_bound, kept_fault, log_of, next_bound, next_of, next_position, running, running_after, size_of};
+    ghost use Rattle.ids.specs.Generators.{CanOpen, CountsFault, Generates, GivesOn, HasAsked, HasRoom, MayHaveAsked, NextAnswers, SameBlock, SameNext, WritesBuffers, asked_of, block_of, bound_of, further_bound, kept_fault, log_of, next_bound, next_of, next_position, running, running_after, size_of};
 
     /// Recovers what the device has, begins a log on it, and returns a generator that goes on from the greatest bound that is found; from 0
-    /// on a device that was never written to. Its blocks have 100 identifiers.
+    /// on a device that was never written to. Its blocks have 100 identifiers. Whatever the device has, it begins with the number that stands for the bound
+    /// of page 0 of the table that was recovered, and with 0 where that has no page.
     ///
     /// # Errors
     ///
     /// `Io` where the device failed, `OutOfMemory`, and `PlacesUsedUp` where no further segment ends below 2^63. `Corruption` where the device has what
-    /// no generator and no crash can have left. The configuration comes back with each of them, and no identifier is given twice after it.
+    /// no generator and no crash can have left: a recovery meets damage, no log can begin on what it gives, or what stands there for the bound is no number.
+    /// The configuration comes back with each of them, and no identifier is given twice after it.
     pub fn open(
         config: RunningConfig<D, C>,
     ) -> std::result::Result<IdGenerator<D, C>, (Error, RunningConfig<D, C>)>
@@ -110,11 +112,13 @@ impl<D: Device, C: Checksum> IdGenerator<D, C> {
     /// # Errors
     ///
     /// `Io` where the log keeps a failure of its device, or where the device failed in this call; `OutOfMemory`; `PlacesUsedUp` where no identifier is left
-    /// below 2^64 - 1, or the log has no further segment that ends below 2^63. No identifier is lost: after `OutOfMemory` the call can be tried again.
+    /// below 2^64 - 1, or the log has no further segment that ends below 2^63. No identifier is lost: after `OutOfMemory` the call can be tried again, and what
+    /// was asked for then isn't asked for again: however often it is tried, the log gets one message for a block.
     pub fn next(&mut self) -> Result<u64>
         ensures given { IfOk result (λ id. (id ≡ next_of self.old) × (next_of self.new ≡ id + 1)) }
         ensures takes { OnOk result (bound_of self.new ≡ next_bound self.old) }
         ensures kept { OnErr result ((next_of self.new ≡ next_of self.old) × (bound_of self.new ≡ bound_of self.old)) }
+        ensures once { OnErr result (MayHaveAsked self.old self.new) }
         ensures within { next_of self.old < bound_of self.old → (OnErr result ⊥) × (log_of self.new ≡ log_of self.old) }
         ensures asks { OnOk result (asked_of self.new ≡ max (asked_of self.old) (next_bound self.old)) }
         ensures room { OnOk result (HasRoom self.old) }
@@ -139,7 +143,7 @@ impl<D: Device, C: Checksum> IdGenerator<D, C> {
         ensures end { OnOk result (bound_of self.new ≡ next_bound self.old) }
         ensures whole { next_of self.old < bound_of self.old → (OnErr result ⊥) × (self.new ≡ self.old) }
         ensures same { next_of self.new ≡ next_of self.old }
-        ensures same_end { OnErr result (bound_of self.new ≡ bound_of self.old) }
+        ensures refused { OnErr result ((bound_of self.new ≡ bound_of self.old) × MayHaveAsked self.old self.new) }
         ensures asked { OnOk result (asked_of self.new ≡ max (asked_of self.old) (next_bound self.old)) }
         ensures room { OnOk result (HasRoom self.old) }
         ensures position { OnOk result (position_of (log_of self.new) ≡ next_position self.old) }
@@ -171,6 +175,7 @@ impl<D: Device, C: Checksum> IdGenerator<D, C> {
         ensures still { bound_of self.old < asked_of self.old → self.new ≡ self.old }
         ensures left { OnOk result (bound_of self.old < 2 ^ 64 - 1) }
         ensures asked { OnOk result (asked_of self.old ≡ bound_of self.old → HasAsked self.old self.new) }
+        ensures refused { OnErr result ((asked_of self.new ≡ asked_of self.old) × (position_of (log_of self.new) ≡ position_of (log_of self.old))) }
         ensures unwritten { running self.new ≡ running self.old }
         ensures further { OnOk result (bound_of self.new < asked_of self.new) }
         ensures rest { SameBlock self.old self.new }
@@ -223,8 +228,8 @@ impl<D: CrashDevice, C: Checksum> IdGenerator<D, C> {
 
     /// Has the device stop within a call, as `CrashDevice::stop_after`. Nothing else of the generator is another.
     pub fn stop_after(&mut self, n: u64)
-        ensures stops { D.stops_in (running self.new).device ≡ Some n }
-        ensures trace { D.trace (running self.new).device ≡ D.trace (running self.old).device }
+        ensures trace { D.trace (running self.new).device
+            ≡ (if D.is_stopped (running self.old).device then D.trace (running self.old).device else StopAsked n ∷ D.trace (running self.old).device) }
         ensures faults { D.faults (running self.new).device ≡ D.faults (running self.old).device }
         ensures stopped { D.is_stopped (running self.new).device ≡ D.is_stopped (running self.old).device }
         ensures same { SameBlock self.old self.new }

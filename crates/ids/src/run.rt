@@ -1,8 +1,10 @@
 //! Whole runs of a generator, with restarts and crashes (`specs/IdRuns.antt`).
-ghost use Rattle.std.specs.Prelude.{◌≡◌, ℕ, IfOk, OnErr};
+ghost use Rattle.std.specs.Prelude.{◌≡◌, ℕ, IfOk, None, OnErr};
+ghost use Rattle.sled_core.specs.Keeps.{ConfigKept};
 ghost use Rattle.sled_store.specs.Device.{state_of};
 ghost use Rattle.ids.specs.Bounds.{GivesFrom};
 ghost use Rattle.sled_log.specs.RunPhases.{view_by};
+ghost use Rattle.ids.specs.IdDevices.{Devices};
 ghost use Rattle.ids.specs.IdRuns.{IdRuns, begins_at};
 ghost use Rattle.ids.specs.IdPhases.{EndsAt, SomeStands, SomeUsedUp};
 
@@ -58,7 +60,9 @@ pub enum Reply {
 /// For every list of commands, restarts and crashes among them, within a call of the device and within a recovery too: the identifiers
 /// that are given out strictly ascend, so that none comes twice, and a generator fails to open only for a failure of the device, lack of memory, or
 /// where places are used up. Each command makes the calls that it is for, and no others: within a block none, for a further block those of a log's flush,
-/// those of a recovery and of a start where a generator is opened.
+/// those of a recovery and of a start where a generator is opened. So it is whatever the device has: where a recovery meets damage, it syncs the device and
+/// writes nothing, and what the commands behind that do to the device is said all the same, up to what comes back. There is one reply for each command.
+/// The configuration comes back with the size of segments and the checksum that it had.
 ///
 /// # Errors
 ///
@@ -67,10 +71,13 @@ pub fn run<D: CrashDevice, C: Checksum>(
     config: RunningConfig<D, C>,
     commands: &[Command],
 ) -> (RunningConfig<D, C>, Result<Vec<Reply>, AllocError>)
-    ensures ascends { let size = config.config.segment_size in let view = view_by D.trace D.faults D.is_stopped D.stops_in in
+    ensures ascends { let size = config.config.segment_size in let view = view_by D.trace D.faults D.is_stopped in
         (n most : ℕ) → GivesFrom C.sum_of size n most (state_of (D.trace config.device)) → IfOk result.1 (λ replies.
         IdRuns C.sum_of size (SomeStands D C view C.sum_of size) (SomeUsedUp D C view C.sum_of)
         (begins_at (view config.device) n most) commands.now replies.items (EndsAt C.sum_of size (view result.0.device))) }
+    ensures devices { let view = view_by D.trace D.faults D.is_stopped in IfOk result.1 (λ replies.
+        Devices C.sum_of config.config.segment_size None (view config.device) commands.now replies.items (λ g device. device ≡ view result.0.device)) }
+    ensures config { ConfigKept config result.0 }
     ensures refused { OnErr result.1 (result.0 ≡ config) }
 {
     let alloc = config.alloc();
@@ -84,5 +91,6 @@ pub fn run<D: CrashDevice, C: Checksum>(
         phase = next;
         replies.push_reserved(reply);
     }
-    (close(phase), Ok(replies))
+    let config = close(phase);
+    (config, Ok(replies))
 }

@@ -21,7 +21,7 @@ pub(crate) fn step<D: CrashDevice, C: Checksum>(
     phase: Phase<D, C>,
     command: &Command,
 ) -> (Phase<D, C>, Reply)
-    ensures { CarriesOut (view_by D.trace D.faults D.is_stopped D.stops_in) C.sum_of phase command.now result }
+    ensures { CarriesOut (view_by D.trace D.faults D.is_stopped) C.sum_of phase command.now result }
 {
     match phase {
         Phase::Closed(config) => step_closed(config, command),
@@ -34,7 +34,7 @@ fn step_closed<D: CrashDevice, C: Checksum>(
     config: RunningConfig<D, C>,
     command: &Command,
 ) -> (Phase<D, C>, Reply)
-    ensures { CarriesOut (view_by D.trace D.faults D.is_stopped D.stops_in) C.sum_of (Phase.Closed config) command.now result }
+    ensures { CarriesOut (view_by D.trace D.faults D.is_stopped) C.sum_of (Phase.Closed config) command.now result }
 {
     match command {
         Command::Open => open(config),
@@ -55,7 +55,7 @@ fn step_open<D: CrashDevice, C: Checksum>(
     generator: IdGenerator<D, C>,
     command: &Command,
 ) -> (Phase<D, C>, Reply)
-    ensures { CarriesOut (view_by D.trace D.faults D.is_stopped D.stops_in) C.sum_of (Phase.Open generator) command.now result }
+    ensures { CarriesOut (view_by D.trace D.faults D.is_stopped) C.sum_of (Phase.Open generator) command.now result }
 {
     match command {
         Command::Open => (Phase::Open(generator), Reply::Refused),
@@ -77,7 +77,7 @@ fn step_open<D: CrashDevice, C: Checksum>(
 
 /// Opens a generator.
 fn open<D: CrashDevice, C: Checksum>(config: RunningConfig<D, C>) -> (Phase<D, C>, Reply)
-    ensures { CarriesOut (view_by D.trace D.faults D.is_stopped D.stops_in) C.sum_of (Phase.Closed config) told.Open result }
+    ensures { CarriesOut (view_by D.trace D.faults D.is_stopped) C.sum_of (Phase.Closed config) told.Open result }
 {
     match IdGenerator::open(config) {
         Ok(generator) => (Phase::Open(generator), Reply::Opened),
@@ -87,7 +87,7 @@ fn open<D: CrashDevice, C: Checksum>(config: RunningConfig<D, C>) -> (Phase<D, C
 
 /// Has a generator give an identifier out.
 fn next<D: CrashDevice, C: Checksum>(generator: IdGenerator<D, C>) -> (Phase<D, C>, Reply)
-    ensures { CarriesOut (view_by D.trace D.faults D.is_stopped D.stops_in) C.sum_of (Phase.Open generator) told.Next result }
+    ensures { CarriesOut (view_by D.trace D.faults D.is_stopped) C.sum_of (Phase.Open generator) told.Next result }
 {
     let mut generator = generator;
     match generator.next() {
@@ -101,7 +101,7 @@ fn crash_open<D: CrashDevice, C: Checksum>(
     generator: IdGenerator<D, C>,
     choice: &Choice,
 ) -> (Phase<D, C>, Reply)
-    ensures { CarriesOut (view_by D.trace D.faults D.is_stopped D.stops_in) C.sum_of (Phase.Open generator) (told.Crash choice.now) result }
+    ensures { CarriesOut (view_by D.trace D.faults D.is_stopped) C.sum_of (Phase.Open generator) (told.Crash choice.now) result }
 {
     match choice.try_clone() {
         Ok(choice) => crash_now(generator.close(), choice),
@@ -114,7 +114,7 @@ fn crash<D: CrashDevice, C: Checksum>(
     config: RunningConfig<D, C>,
     choice: &Choice,
 ) -> (Phase<D, C>, Reply)
-    ensures { CarriesOut (view_by D.trace D.faults D.is_stopped D.stops_in) C.sum_of (Phase.Closed config) (told.Crash choice.now) result }
+    ensures { CarriesOut (view_by D.trace D.faults D.is_stopped) C.sum_of (Phase.Closed config) (told.Crash choice.now) result }
 {
     match choice.try_clone() {
         Ok(choice) => crash_now(config, choice),
@@ -128,7 +128,7 @@ fn crash_now<D: CrashDevice, C: Checksum>(
     choice: Choice,
 ) -> (Phase<D, C>, Reply)
     ensures crashed { (taken : Bool) × (result.1 ≡ Reply.Crashed taken) }
-    ensures step { CarriesOut (view_by D.trace D.faults D.is_stopped D.stops_in) C.sum_of (Phase.Closed config) (told.Crash choice) result }
+    ensures step { CarriesOut (view_by D.trace D.faults D.is_stopped) C.sum_of (Phase.Closed config) (told.Crash choice) result }
 {
     let mut config = config;
     let taken = config.device.crash(choice);

@@ -1,9 +1,15 @@
-use Rattle.std.proofs.Common.{◌∙◌, ◌<ℤ◌, pos, Ok, Err, arith, subst, sym}
+use Rattle.std.proofs.Common.{◌∙◌, ◌/◌, ◌<ℤ◌, ℕ, ℤ, pos, Ok, Err, arith, subst, sym}
+use Rattle.std.specs.Prelude.{unsigned_abs}
 use Rattle.std.specs.Int.{w64}
 use Rattle.std.proofs.lemmas.Int.{ints, to_z-of_z}
-use Rattle.sled_core.specs.Fits.{synced_end}
+use Rattle.sled_codec.specs.declared.result.DiskPtr.TheVariants.{Inline}
+use Rattle.sled_store.specs.Device.{State, state_of}
+use Rattle.sled_core.specs.Fits.{device_of, segment_size_of, synced_end}
+use Rattle.sled_core.specs.ReadPointer.{IsDamageAt}
+use Rattle.sled_core.specs.Reading.{IsNoPlace, IsReading}
 use Rattle.sled_core.proofs.PublicLaws.{fits_holds}
-use Rattle.ids.specs.Readings.{IsOpenError}
+use Rattle.ids.specs.Readings.{AnswersBound, IsBoundBy, IsOpenError}
+use Rattle.ids.proofs.FoundBounds.{answers_none, answers_read}
 use Rattle.ids.proofs.ReadLemmas.{counts_damage, damage_known, no_error, none_holds, on_ok, read_counts, read_fails, read_known, read_still, read_unwritten, record_there}
 use Rattle.ids.proofs.reading.read_number.Goals as goal
 
@@ -18,7 +24,7 @@ returns-in-Ok-clause-number g c = λ H m cut n holds place pointer.
     let sum = g.C.Checksum.sum_of in
     let log = c.args.log.now in
     let gives = c.in-Ok.ensures.message H m (fits_holds trace sum log H holds.acknowledged holds.floor holds.unmarked holds.fits) holds.last.there (record_there trace sum log H m cut n holds) (place ∙ sym (to_z-of_z w64 c.args.place c.ranges.place)) (pointer ∙ c.in-Inline.is) tt in
-    (c.number_in.ensures.number m n gives holds.last.has).0
+    (c.number_in.ensures.number m n gives holds.inline holds.last.has).0
 
 pub returns-in-Ok-clause-errors : goal.returns-in-Ok-clause-errors
 returns-in-Ok-clause-errors g c = λ H m cut n holds place pointer.
@@ -26,7 +32,7 @@ returns-in-Ok-clause-errors g c = λ H m cut n holds place pointer.
     let sum = g.C.Checksum.sum_of in
     let log = c.args.log.now in
     let gives = c.in-Ok.ensures.message H m (fits_holds trace sum log H holds.acknowledged holds.floor holds.unmarked holds.fits) holds.last.there (record_there trace sum log H m cut n holds) (place ∙ sym (to_z-of_z w64 c.args.place c.ranges.place)) (pointer ∙ c.in-Inline.is) tt in
-    no_error IsOpenError c.number_in.result (c.number_in.ensures.number m n gives holds.last.has).1
+    no_error IsOpenError c.number_in.result (c.number_in.ensures.number m n gives holds.inline holds.last.has).1
 
 pub returns-in-Ok-clause-fault : goal.returns-in-Ok-clause-fault
 returns-in-Ok-clause-fault g c = on_ok _ c.number_in.result (λ free. c.in-Ok.ensures.answers.4)
@@ -38,7 +44,7 @@ pub returns-in-Ok-clause-unwritten : goal.returns-in-Ok-clause-unwritten
 returns-in-Ok-clause-unwritten g c = λ idle. read_unwritten g.D.Device.trace g.C.Checksum.sum_of _ c.in-Inline.lid c.args.log.now c.read.new.self idle (Ok c.in-Ok.read) c.in-Ok.ensures.calls c.in-Ok.ensures.refused
 
 pub returns-in-Ok-clause-known : goal.returns-in-Ok-clause-known
-returns-in-Ok-clause-known g c = λ idle. damage_known c.number_in.result c.number_in.ensures.damage
+returns-in-Ok-clause-known g c = λ idle there. damage_known c.number_in.result c.number_in.ensures.damage
 
 -- It was not.
 
@@ -61,4 +67,30 @@ pub returns-in-Err-clause-unwritten : goal.returns-in-Err-clause-unwritten
 returns-in-Err-clause-unwritten g c = λ idle. read_unwritten g.D.Device.trace g.C.Checksum.sum_of _ c.in-Inline.lid c.args.log.now c.read.new.self idle (Err c.in-Err.e) c.in-Err.ensures.calls c.in-Err.ensures.refused
 
 pub returns-in-Err-clause-known : goal.returns-in-Err-clause-known
-returns-in-Err-clause-known g c = λ idle. read_known g.D.Device.trace g.C.Checksum.sum_of _ c.in-Inline.lid c.args.log.now c.read.new.self idle _ _ _ c.in-Err.e c.in-Err.ensures.answers
+returns-in-Err-clause-known g c = λ idle there. read_known g.D.Device.trace g.C.Checksum.sum_of _ c.in-Inline.lid c.args.log.now c.read.new.self idle
+    (subst (λ (z : ℤ). z <ℤ pos (synced_end c.args.log.now)) (sym (to_z-of_z w64 c.args.place c.ranges.place)) there) _ _ _ c.in-Err.e c.in-Err.ensures.answers
+
+-- What stands there is answered.
+
+pub returns-in-Ok-clause-bound : goal.returns-in-Ok-clause-bound
+returns-in-Ok-clause-bound g c =
+    let sum = g.C.Checksum.sum_of in
+    let log = c.args.log.now in
+    let size : ℕ = segment_size_of log in
+    let s : State = state_of (g.D.Device.trace (device_of c.read.new.self)) in
+    let same = to_z-of_z w64 c.args.place c.ranges.place in
+    let came = c.in-Ok.ensures in
+    subst (λ p. AnswersBound c.number_in.result (IsBoundBy sum size s.log.bytes c.args.place p)) (sym c.in-Inline.is)
+    (answers_read sum size s c.args.place c.in-Inline.lid c.in-Ok.read c.number_in.result
+    (subst (λ (z : ℤ). IsReading sum size s.log.bytes s.blobs.file c.in-Inline.lid (unsigned_abs z / size) c.in-Ok.read) same came.reading)
+    (λ none. (came.refused.no_place came.answers.3 (subst (λ (z : ℤ). IsNoPlace size z c.in-Inline.lid) (sym same) none)).0)
+    c.number_in.ensures.spelled c.number_in.ensures.none)
+
+pub returns-in-Err-clause-bound : goal.returns-in-Err-clause-bound
+returns-in-Err-clause-bound g c =
+    let sum = g.C.Checksum.sum_of in
+    let size : ℕ = segment_size_of c.args.log.now in
+    let s : State = state_of (g.D.Device.trace (device_of c.read.new.self)) in
+    subst (λ p. AnswersBound (Err c.in-Err.e) (IsBoundBy sum size s.log.bytes c.args.place p)) (sym c.in-Inline.is)
+    (answers_none sum size s c.args.place c.in-Inline.lid c.in-Err.e
+    (subst (λ (z : ℤ). IsDamageAt sum size s z (Inline c.in-Inline.lid) c.in-Err.e) (to_z-of_z w64 c.args.place c.ranges.place) c.in-Err.ensures.corrupt))

@@ -1,7 +1,11 @@
-use Rattle.std.proofs.Common.{rules, ◌∙◌, SFits, ap, sym}
+use Rattle.std.proofs.Common.{rules, ◌∙◌, ◌<ℤ◌, ℕ, ℤ, pos, List, None, SFits, ap, subst, sym}
 use Rattle.std.specs.Int.{w64}
 use Rattle.std.proofs.lemmas.Int.{to_z-of_z}
-use Rattle.sled_codec.specs.Snapshots.{Entry}
+use Rattle.sled_codec.specs.declared.result.Error.TheVariants.{Corruption}
+use Rattle.sled_codec.specs.Snapshots.{Entry, page_of}
+use Rattle.sled_core.specs.Fits.{segment_size_of, synced_end}
+use Rattle.ids.specs.Readings.{AnswersBound, IsBoundBy, IsBoundIn, LiesBelow, file_of}
+use Rattle.ids.proofs.FoundBounds.{answers_free}
 use Rattle.ids.proofs.ReadLemmas.{read_still, same_base}
 use Rattle.ids.proofs.reading.read_page.Goals as goal
 
@@ -19,3 +23,24 @@ returns-in-Present-clause-errors g c = λ H m cut n holds is.
 
 pub returns-in-Free-clause-only : goal.returns-in-Free-clause-only
 returns-in-Free-clause-only g c = read_still g.D.Device.trace g.C.Checksum.sum_of c.args.log.now
+
+pub returns-in-Present-clause-known : goal.returns-in-Present-clause-known
+returns-in-Present-clause-known g c = λ idle there.
+    let end : ℕ = synced_end c.args.log.now in
+    let fits : SFits w64 c.in-Present.base.0 = search rules in
+    let low : c.in-Present.base.0 <ℤ pos end = subst (λ p. LiesBelow end (page_of p)) c.in-Present.is there in
+    c.read_number.ensures.known idle (subst (λ (z : ℤ). z <ℤ pos end) (sym (to_z-of_z w64 c.in-Present.base.0 fits)) low)
+
+-- The bound is that of its Replace.
+
+pub returns-in-Present-clause-bound : goal.returns-in-Present-clause-bound
+returns-in-Present-clause-bound g c =
+    let sum = g.C.Checksum.sum_of in
+    let size : ℕ = segment_size_of c.args.log.now in
+    let file : List ℕ = file_of g.D.Device.trace c.read_number.new.log in
+    let fits : SFits w64 c.in-Present.base.0 = search rules in
+    subst (λ p. AnswersBound c.read_number.result (IsBoundIn sum size file (page_of p))) (sym c.in-Present.is)
+    (subst (λ (z : ℤ). AnswersBound c.read_number.result (IsBoundBy sum size file z c.in-Present.base.1)) (to_z-of_z w64 c.in-Present.base.0 fits) c.read_number.ensures.bound)
+
+pub returns-in-Free-clause-bound : goal.returns-in-Free-clause-bound
+returns-in-Free-clause-bound g c = answers_free g.C.Checksum.sum_of (segment_size_of c.args.log.now) (file_of g.D.Device.trace c.args.log.now) c.args.page.now (Corruption None) c.in-Free.is

@@ -9,7 +9,7 @@ use Rattle.sled_core.specs.OpenPlaces.{open_places_along}
 use Rattle.sled_core.specs.Reserves.{reserve_causes}
 use Rattle.sled_core.proofs.PublicLaws.{awaited, comes_inline, goes_on_further, not_in_blob, refused_inline}
 use Rattle.ids.specs.Generators.{IsUsedUp, further_bound}
-use Rattle.ids.proofs.Generating.{generates_has, gives_still, has_asked, has_generates, has_still, has_throughout, none_for, none_behind, ends_well, number_fits, reserve_fails}
+use Rattle.ids.proofs.Generating.{generates_has, gives_still, has_asked, has_generates, has_still, has_throughout, none_for, none_behind, ends_well, number_fits, position_still, reserve_fails}
 use Rattle.ids.proofs.Moments.{through_less}
 use Rattle.ids.proofs.generator.IdGenerator.ask.Goals as goal
 
@@ -50,6 +50,7 @@ returns-in-Err-clause-gives_on g c =
       generates = λ generates. has_generates trace sum _ (has_still trace sum old.log c.reserve.new.self old.bound old.asked c.in-Err.ensures.keeps (omega (arith, same)) (generates_has trace sum old generates));
       keeps = λ generates. through_less sum _ old.bound old.bound old.asked (old.asked + old.block) _ _ (omega arith) (omega arith)
           (has_throughout trace sum old.log c.reserve.new.self old.bound old.asked (generates_has trace sum old generates) c.in-Err.ensures.keeps.goes_on);
+      later = c.in-Err.ensures.keeps.goes_on.later;
       config = c.in-Err.ensures.keeps.goes_on.config;
     }
 
@@ -71,6 +72,13 @@ returns-in-Err-clause-unwritten g c =
     let old = c.args.self.now in
     let size = number_fits _ c.saturating_add-asked.result (config_of old.log).config.least c.saturating_add-asked.type_inv in
     (refused_inline g.C.Checksum.sum_of old.log c.reserve.new.self 0 _ _ (not_in_blob old.log _ size) c.in-Err.e c.in-Err.ensures.left).config
+
+pub returns-in-Err-clause-refused : goal.returns-in-Err-clause-refused
+returns-in-Err-clause-refused g c =
+    let old = c.args.self.now in
+    let size = number_fits _ c.saturating_add-asked.result (config_of old.log).config.least c.saturating_add-asked.type_inv in
+    let still = refused_inline g.C.Checksum.sum_of old.log c.reserve.new.self 0 _ _ (not_in_blob old.log _ size) c.in-Err.e c.in-Err.ensures.left in
+    (refl, position_still old.log c.reserve.new.self still)
 
 -- The bound was reserved and completed.
 
@@ -115,6 +123,7 @@ returns-in-Ok-complete-clause-gives_on g c =
       ticket = c.in-Ok.ensures.ticket;
       stored = c.in-Ok.ensures.stored;
       manifest = c.in-Ok.ensures.manifest;
+      own = c.in-Ok.ensures.own;
       behind = c.in-Ok.ensures.behind;
       others = c.in-Ok.ensures.others;
       answers = c.in-Ok.ensures.answers;
@@ -131,6 +140,7 @@ returns-in-Ok-complete-clause-gives_on g c =
           (λ H A f U fits. c.in-Ok-complete.ensures.fits H A f U _ fits came.ticket came.stored (omega (arith, pins, pinned))));
       keeps = λ generates. through_less sum _ old.bound old.bound old.asked (old.asked + old.block) _ _ (omega arith) (omega arith)
           (has_throughout trace sum old.log c.complete.new.self old.bound old.asked (generates_has trace sum old generates) both);
+      later = both.later;
       config = both.config;
     }
 
@@ -149,6 +159,7 @@ returns-in-Ok-complete-clause-asked g c = λ same.
       ticket = c.in-Ok.ensures.ticket;
       stored = c.in-Ok.ensures.stored;
       manifest = c.in-Ok.ensures.manifest;
+      own = c.in-Ok.ensures.own;
       behind = c.in-Ok.ensures.behind;
       others = c.in-Ok.ensures.others;
       answers = c.in-Ok.ensures.answers;
@@ -174,6 +185,7 @@ returns-in-Ok-complete-clause-unwritten g c =
       ticket = c.in-Ok.ensures.ticket;
       stored = c.in-Ok.ensures.stored;
       manifest = c.in-Ok.ensures.manifest;
+      own = c.in-Ok.ensures.own;
       behind = c.in-Ok.ensures.behind;
       others = c.in-Ok.ensures.others;
       answers = c.in-Ok.ensures.answers;

@@ -21,5 +21,6 @@ returns-clause-goes_on g c =
       block = keeps.block;
       generates = λ generates. has_generates trace sum _ (generates_has trace sum c.take_block.new.self (keeps.generates generates));
       keeps = keeps.keeps;
+      later = keeps.later;
       config = keeps.config;
     }

@@ -1,15 +1,16 @@
 use Rattle.std.proofs.Common.{rules, ◌∙◌, inl, inr, ◌<◌, ◌^◌, ℕ, ap, refl, subst, sym, arith}
 use Rattle.sled_codec.specs.Snapshots.{model_of, stable_place}
-use Rattle.sled_store.specs.Device.{state_of}
+use Rattle.sled_store.specs.Device.{Trace, state_of}
 use Rattle.sled_store.specs.Moments.{IsLater, Throughout}
 use Rattle.sled_store.proofs.PublicLaws.{later_both}
-use Rattle.sled_core.specs.Fits.{device_of, fault_of, open_places, pins_of}
+use Rattle.sled_core.specs.Fits.{device_of, fault_of, open_places, pins_of, segment_size_of, synced_end}
 use Rattle.sled_core.proofs.PublicLaws.{kept_further, none_is_empty, reads_recoverable}
 use Rattle.ids.specs.Bounds.{GivesFrom}
-use Rattle.ids.specs.Openings.{HasStarted, OpenFails}
-use Rattle.ids.specs.Readings.{CountsError}
+use Rattle.ids.specs.Openings.{OpenFails}
+use Rattle.ids.specs.Readings.{CountsError, IsBoundRead}
+use Rattle.ids.proofs.FirstPlaces.{begins_past, first_below}
 use Rattle.ids.proofs.Generating.{has_generates}
-use Rattle.ids.proofs.Opening.{begins_idle, begun_table, can_recover, found_bounds, going_on, not_started, recovered, recovering, recovery_fails, sized_back, start_fails, starting, was_started}
+use Rattle.ids.proofs.Opening.{begins_idle, begun_table, can_recover, found_bounds, going_on, not_read, not_started, recovered, recovering, recovery_fails, sized_back, start_fails, starting, was_opened}
 use Rattle.ids.proofs.generator.IdGenerator.open.Goals as goal
 
 -- The recovery failed.
@@ -152,9 +153,12 @@ returns-in-Ok-read_bound-clause-acts g c =
     let s = model_of c.in-Ok.snapshot in
     let begins = c.in-Ok-start.ensures.begins in
     let answers = c.in-Ok-start.ensures.answers in
-    let started = was_started sum size config.config.segment_size (ap (λ x. x.segment_size) c.in-Ok.ensures.config.config) (trace c.args.config.device) (trace config.device) (trace (device_of log)) s c.in-Ok.ensures.ok c.in-Ok-start.ensures.made answers.0 answers.1 in
-    let still = ap (λ x. trace (device_of x)) c.pin-guard.ensures.taken ∙ c.read_bound.ensures.unwritten (begins_idle _ _ s log begins) in (
-      subst (HasStarted sum size (trace c.args.config.device)) (sym still) started,
+    let same = ap (λ x. x.segment_size) c.in-Ok.ensures.config.config in
+    let pinned = ap (λ x. trace (device_of x)) c.pin-guard.ensures.taken in
+    let still = pinned ∙ c.read_bound.ensures.unwritten (begins_idle _ _ s log begins) in
+    let bound = subst (λ (t : Trace). IsBoundRead sum (segment_size_of log) (state_of t).log.bytes s.pages c.in-Ok-read_bound.bound) (sym pinned) c.in-Ok-read_bound.ensures.bound in (
+      was_opened sum size config.config.segment_size same (trace c.args.config.device) (trace config.device) (trace (device_of c.pin-guard.new.self)) s c.in-Ok.ensures.ok (still ∙ c.in-Ok-start.ensures.made) answers.0 answers.1
+          (segment_size_of log) c.in-Ok-read_bound.bound (begins.sized ∙ same) bound,
       ap (λ x. faults (device_of x)) c.pin-guard.ensures.taken ∙ c.in-Ok-read_bound.ensures.answers begins.fault ∙ answers.2 ∙ c.in-Ok.ensures.answers,
     )
 
@@ -218,14 +222,16 @@ returns-clause-acts g c =
     let begins = c.in-Ok-start.ensures.begins in
     let answers = c.in-Ok-start.ensures.answers in
     let idle = begins_idle _ _ s log begins in
-    let started = was_started sum size config.config.segment_size (ap (λ x. x.segment_size) c.in-Ok.ensures.config.config) (trace c.args.config.device) (trace config.device) (trace (device_of log)) s c.in-Ok.ensures.ok c.in-Ok-start.ensures.made answers.0 answers.1 in
+    let same = ap (λ x. x.segment_size) c.in-Ok.ensures.config.config in
+    let still = c.read_bound.ensures.unwritten idle in
+    let least = config.config.least in
+    let past = begins_past config.config.segment_size (stable_place s.stable) s.active (omega (arith, least)) in
+    let end = begins.synced in
+    let below = first_below _ _ (stable_place s.stable) (synced_end log) s.pages answers.0.placed (omega (arith, past, end)) in
     let counts = subst (λ k. CountsError c.in-Err-read_bound.e k (faults (device_of c.read_bound.new.log))) (answers.2 ∙ c.in-Ok.ensures.answers) (c.in-Err-read_bound.ensures.answers begins.fault) in
     subst (λ x. OpenFails sum size c.in-Err-read_bound.e (trace c.args.config.device) (trace x.device) (faults c.args.config.device) (faults x.device)) (sym c.halt.ensures.config)
-    (inr (inr (record {
-      started = subst (HasStarted sum size (trace c.args.config.device)) (sym (c.read_bound.ensures.unwritten idle)) started;
-      known = c.in-Err-read_bound.ensures.known idle;
-      counts = counts;
-    })))
+    (inr (inr (not_read sum size config.config.segment_size same (trace c.args.config.device) (trace config.device) (trace (device_of c.read_bound.new.log)) s c.in-Ok.ensures.ok (still ∙ c.in-Ok-start.ensures.made) answers.0 answers.1
+    (segment_size_of log) (begins.sized ∙ same) c.in-Err-read_bound.e (faults c.args.config.device) (faults (device_of c.read_bound.new.log)) (c.in-Err-read_bound.ensures.known idle below) c.in-Err-read_bound.ensures.bound counts)))
 
 pub returns-clause-later : goal.returns-clause-later
 returns-clause-later g c =

@@ -1,9 +1,10 @@
-use Rattle.std.proofs.Common.{◌≡◌, ◌∙◌, ◌<◌, ◌≤◌, nat_lt, if◌then◌else◌, max, ap, arith, refl, subst, sym, ℕ, Bool, true, false}
+use Rattle.std.proofs.Common.{◌≡◌, ◌∙◌, inl, inr, ◌<◌, ◌≤◌, nat_lt, if◌then◌else◌, max, ap, arith, refl, subst, sym, ℕ, Bool, true, false}
 use Rattle.std.proofs.lemmas.Bool.Decides.{nat_tests}
+use Rattle.sled_store.proofs.PublicLaws.{later_both}
 use Rattle.sled_core.proofs.PublicLaws.{none_holding, none_is_empty}
-use Rattle.sled_core.specs.Fits.{device_of, fault_of}
+use Rattle.sled_core.specs.Fits.{IsUsedUpBelow, device_of, fault_of, holding_below, reserved_end}
 use Rattle.ids.specs.Generators.{IsUsedUp, NextFails, further_bound}
-use Rattle.ids.proofs.Generating.{asked_then, config_then, faulty_still, flush_fails, flush_written, generates_has, gives_still, had_room, has_flushed, has_generates, has_still, next_begins, none_written, used_up, within_block}
+use Rattle.ids.proofs.Generating.{asked_then, config_then, faulty_still, flush_fails, flush_whole, flush_written, generates_has, gives_still, had_room, has_flushed, has_generates, has_still, next_begins, none_written, used_up, within_block}
 use Rattle.ids.proofs.generator.IdGenerator.take_block.Goals as goal
 
 -- The block isn't used up.
@@ -33,12 +34,13 @@ returns-in-Ok-flush-clause-keeps g c =
       block = first.block;
       generates = λ generates. has_generates trace sum _ (has_flushed trace sum mid.log c.flush.new.self mid.bound mid.asked mid.ahead flushed.synced.whole flushed.position.reserved flushed.acknowledges (generates_has trace sum mid (first.generates generates)));
       keeps = λ generates. asked_then trace sum c.args.self.now mid c.flush.new.self (ap (λ x. x.segment_size) first.config.config) c.ask.ensures.rest.bound first.asked (first.generates generates) flushed.keeps.goes_on (first.keeps generates);
+      later = later_both _ _ _ first.later flushed.keeps.goes_on.later;
       config = config_then first.config flushed.keeps.goes_on.config;
     }
 
 pub returns-in-Ok-flush-clause-writes : goal.returns-in-Ok-flush-clause-writes
 returns-in-Ok-flush-clause-writes g c =
-    flush_written g.D.Device.trace g.C.Checksum.sum_of c.args.self.now c.ask.new.self c.ask.ensures.unwritten _ _ c.in-Ok-flush.ensures.calls c.in-Ok-flush.ensures.at_most
+    flush_written g.D.Device.trace g.C.Checksum.sum_of c.args.self.now c.ask.new.self c.ask.ensures.unwritten _ _ c.in-Ok-flush.ensures.calls c.in-Ok-flush.ensures.at_most tt
 
 pub returns-in-Ok-flush-clause-room : goal.returns-in-Ok-flush-clause-room
 returns-in-Ok-flush-clause-room g c =
@@ -64,6 +66,7 @@ returns-in-Err-flush-clause-keeps g c =
       block = first.block;
       generates = λ generates. has_generates trace sum _ (has_still trace sum mid.log c.flush.new.self mid.bound mid.asked failed.keeps (omega (arith, same)) (generates_has trace sum mid (first.generates generates)));
       keeps = λ generates. asked_then trace sum c.args.self.now mid c.flush.new.self (ap (λ x. x.segment_size) first.config.config) c.ask.ensures.rest.bound first.asked (first.generates generates) failed.keeps.goes_on (first.keeps generates);
+      later = later_both _ _ _ first.later failed.keeps.goes_on.later;
       config = config_then first.config failed.keeps.goes_on.config;
     }
 
@@ -80,10 +83,17 @@ returns-in-Err-flush-clause-causes g c =
     (flush_fails c.in-Err-flush.failed _ _ (IsUsedUp old) _ _ _ _ up (none_holding mid.log sum ended) c.in-Err-flush.ensures.answers))
 
 pub returns-in-Err-flush-clause-writes : goal.returns-in-Err-flush-clause-writes
-returns-in-Err-flush-clause-writes g c = flush_written g.D.Device.trace g.C.Checksum.sum_of c.args.self.now c.ask.new.self c.ask.ensures.unwritten _ _ tt c.in-Err-flush.ensures.at_most
+returns-in-Err-flush-clause-writes g c =
+    let trace = g.D.Device.trace in
+    let sum = g.C.Checksum.sum_of in
+    let mid = c.ask.new.self in
+    let failed = c.in-Err-flush.ensures in
+    flush_written trace sum c.args.self.now mid c.ask.ensures.unwritten _ _ tt failed.at_most
+    (flush_whole ℕ (Unit {0}) trace sum mid.log c.flush.new.self c.in-Err-flush.failed (holding_below sum mid.log (reserved_end mid.log)) (IsUsedUpBelow mid.log (reserved_end mid.log)) (fault_of mid.log)
+    (g.D.Device.faults (device_of mid.log)) (g.D.Device.faults (device_of c.flush.new.self)) failed.answers failed.buffers.1)
 
 pub returns-in-Err-flush-clause-faulty : goal.returns-in-Err-flush-clause-faulty
-returns-in-Err-flush-clause-faulty g c = λ some. faulty_still c.args.self.now c.ask.new.self c.flush.new.self c.ask.ensures.unwritten c.in-Ok.ensures.answers.0 c.in-Err-flush.ensures.faulty some
+returns-in-Err-flush-clause-faulty g c = λ some. faulty_still c.args.self.now c.ask.new.self c.flush.new.self c.ask.ensures.unwritten c.in-Ok.ensures.answers.0 c.in-Err-flush.ensures.spares.faulty some
 
 -- The end of the block of the identifier that comes, by numbers alone: where the block is used up it is what was asked for.
 end_of : (next bound asked further now : ℕ) → bound ≤ next → now ≡ (if nat_lt bound asked then asked else further) → now ≡ (if nat_lt next bound then bound else (if nat_lt bound asked then asked else further))
@@ -113,3 +123,18 @@ returns-in-Ok-flush-clause-asked g c =
     let more = c.in-Ok.ensures.further in
     let up : old.asked ≤ now = no_less old.bound old.asked (further_bound old) now (omega (arith, same, more)) c.in-Ok.ensures.end in
     subst (λ (n : ℕ). now ≡ max old.asked n) (returns-in-Ok-flush-clause-end g c) (omega (arith, up))
+
+-- It was asked for, once.
+pub returns-in-Err-flush-clause-refused : goal.returns-in-Err-flush-clause-refused
+returns-in-Err-flush-clause-refused g c =
+    let old = c.args.self.now in
+    let none = c.if-self.false in (
+      c.ask.ensures.rest.bound,
+      inr (
+        end_of old.next old.bound old.asked (further_bound old) c.ask.new.self.asked (omega (arith, none)) c.in-Ok.ensures.end,
+        c.in-Err-flush.ensures.position.position ∙ next_begins old c.ask.new.self c.ask.ensures.still c.in-Ok.ensures.asked (λ less. omega (arith, less, none)),
+      ),
+    )
+
+pub returns-in-Err-clause-refused : goal.returns-in-Err-clause-refused
+returns-in-Err-clause-refused g c = (c.ask.ensures.rest.bound, inl c.in-Err.ensures.refused)

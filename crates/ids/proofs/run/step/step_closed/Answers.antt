@@ -10,21 +10,21 @@ use Rattle.ids.proofs.run.step.step_closed.Goals as goal
 
 pub returns-in-Stop : goal.returns-in-Stop
 returns-in-Stop g c =
-    let view = view_by g.D.Device.trace g.D.Device.faults g.D.CrashDevice.is_stopped g.D.CrashDevice.stops_in in
+    let view = view_by g.D.Device.trace g.D.Device.faults g.D.CrashDevice.is_stopped in
     let old = c.args.config in
     let new : RunningConfig g.row.D.Denot g.row.C.Denot = record { config = old.config; device = c.stop_after.new.self; checksum = old.checksum; alloc = old.alloc } in
     let did = c.stop_after.ensures in
     subst (λ told. CarriesOut view g.C.Checksum.sum_of (Closed old) told (Closed new, reply.Armed)) (sym c.in-Stop.is)
-    (arms_closed view g.C.Checksum.sum_of old new c.in-Stop.n refl (λ i. record { trace = did.trace i; failures = did.faults i; is_stopped = did.stopped i; stops_in = did.stops i }))
+    (arms_closed view g.C.Checksum.sum_of old new c.in-Stop.n (record { config = refl; checksum = refl }) (λ i. record { trace = did.trace i; failures = did.faults i; is_stopped = did.stopped i }))
 
 -- none is open that was to be used
 pub returns-in-Next : goal.returns-in-Next
 returns-in-Next g c =
-    let view = view_by g.D.Device.trace g.D.Device.faults g.D.CrashDevice.is_stopped g.D.CrashDevice.stops_in in
+    let view = view_by g.D.Device.trace g.D.Device.faults g.D.CrashDevice.is_stopped in
     let old = c.args.config in
     let sum = g.C.Checksum.sum_of in
     elim c.in-Next.is [
-      | inl next ↦ subst (λ told. CarriesOut view sum (Closed old) told (Closed old, reply.Refused)) (sym next) (stays_closed view sum old told.Next reply.Refused (λ d. (refl, refl)) (λ a. refl))
-      | inr (inl close) ↦ subst (λ told. CarriesOut view sum (Closed old) told (Closed old, reply.Refused)) (sym close) (stays_closed view sum old told.Close reply.Refused (λ d. (refl, refl)) (λ a. refl))
-      | inr (inr block) ↦ subst (λ told. CarriesOut view sum (Closed old) told (Closed old, reply.Refused)) (sym block.1) (stays_closed view sum old (told.SetBlock block.0) reply.Refused (λ d. (refl, refl)) (λ a. refl))
+      | inl next ↦ subst (λ told. CarriesOut view sum (Closed old) told (Closed old, reply.Refused)) (sym next) (stays_closed view sum old told.Next reply.Refused (λ d. (refl, refl)) (λ a. refl) refl)
+      | inr (inl close) ↦ subst (λ told. CarriesOut view sum (Closed old) told (Closed old, reply.Refused)) (sym close) (stays_closed view sum old told.Close reply.Refused (λ d. (refl, refl)) (λ a. refl) refl)
+      | inr (inr block) ↦ subst (λ told. CarriesOut view sum (Closed old) told (Closed old, reply.Refused)) (sym block.1) (stays_closed view sum old (told.SetBlock block.0) reply.Refused (λ d. (refl, refl)) (λ a. refl) refl)
     ]
