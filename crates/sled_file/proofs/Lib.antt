@@ -1,0 +1,4 @@
+pub mod CrcLemmas
+pub mod CrcTables
+pub mod FileLemmas
+pub mod TraceLemmas

@@ -1,0 +1,4 @@
+pub mod CallRecords
+pub mod Calls
+pub mod Crc
+pub mod Mirrors

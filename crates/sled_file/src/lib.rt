@@ -1,0 +1,25 @@
+//! A log's device over the files of a folder, and the checksum of sled's own files.
+//!
+//! What is read is what was found at the opening and written since; each call that changes or syncs is the call
+//! on the files that it means, and is noted. The trace of the device is read off these notes
+//! (`specs/Calls.antt`). What has to be believed of the files stands in this crate's README.
+#![tactic(auto)]
+
+mod calls;
+mod crc32;
+pub mod device;
+mod faults;
+mod folder;
+mod host;
+mod mirror;
+mod opening;
+mod start;
+#[cfg(test)]
+mod tests;
+
+pub use crc32::Crc32;
+pub use device::FileDevice;
+pub use folder::Folder;
+pub use host::HostFolder;
+pub use opening::{OpenError, Progress, Untold, open, open_told, read};
+pub use start::{Start, Unknown};
