@@ -6,7 +6,7 @@ use case_lines::texts::Text;
 use sled_log::device::PlaceSum;
 use sled_log::own::{LeftFiles, Past, nothing_is_foreign};
 use sled_store::device::foreign::names::{NamedFile, NamesPast};
-use sled_store::device::foreign::{LogPast, LogWrite};
+use sled_store::device::foreign::{LogNote, LogPast, LogWrite};
 use std::alloc::Global;
 
 /// Writes what came of a line.
@@ -37,9 +37,7 @@ impl Case {
         Case {
             past: Past {
                 log: LogPast {
-                    settled: Vec::new(alloc),
-                    since: Vec::new(alloc),
-                    ever: Vec::new(alloc),
+                    notes: Vec::new(alloc),
                 },
                 blobs: no_names(alloc),
                 snapshots: no_names(alloc),
@@ -70,13 +68,9 @@ impl Case {
     // Adds a word to a part of the log file; whether it was taken.
     fn add(&mut self, alloc: Global, part: &str, word: &str) -> bool {
         match part {
-            "settled" => put(&mut self.past.log.settled, bytes(alloc, word)),
+            "wrote" => push_note(&mut self.past.log.notes, wrote(alloc, word)),
+            "settled" => push_note(&mut self.past.log.notes, settled(alloc, word)),
             "left" => put(&mut self.left.log, bytes(alloc, word)),
-            "before" => push_write(&mut self.past.log.ever, write(alloc, word)),
-            "since" => {
-                push_write(&mut self.past.log.since, write(alloc, word))
-                    && push_write(&mut self.past.log.ever, write(alloc, word))
-            }
             _ => self.add_file(part, file(alloc, word)),
         }
     }
@@ -114,10 +108,10 @@ fn put(to: &mut Vec<u8>, bytes: Option<Vec<u8>>) -> bool {
     }
 }
 
-// Adds a write, where there is one.
-fn push_write(to: &mut Vec<LogWrite>, write: Option<LogWrite>) -> bool {
-    match write {
-        Some(write) => to.push(write).is_ok(),
+// Adds a note, where there is one.
+fn push_note(to: &mut Vec<LogNote>, note: Option<LogNote>) -> bool {
+    match note {
+        Some(note) => to.push(note).is_ok(),
         None => false,
     }
 }
@@ -134,13 +128,20 @@ fn push_file(to: &mut Vec<NamedFile>, file: Option<NamedFile>) -> bool {
 fn is_part(word: &str) -> bool {
     word.starts_with("blobs_")
         || word.starts_with("snapshots_")
-        || matches!(word, "settled" | "left" | "before" | "since")
+        || matches!(word, "wrote" | "settled" | "left")
 }
 
 // A write: `OFFSET:HEX`.
-fn write(alloc: Global, word: &str) -> Option<LogWrite> {
+fn wrote(alloc: Global, word: &str) -> Option<LogNote> {
     let (at, text) = word.split_once(':')?;
-    Some(LogWrite::new(number(at)?, bytes(alloc, text)?))
+    let write = LogWrite::new(number(at)?, bytes(alloc, text)?);
+    Some(LogNote::Wrote(write))
+}
+
+// What the log file was at a sync, or was left as: `HEX`.
+fn settled(alloc: Global, word: &str) -> Option<LogNote> {
+    let bytes = bytes(alloc, word)?;
+    Some(LogNote::Settled(bytes))
 }
 
 // A file under a name: `NAME:HEX`.
