@@ -1,6 +1,7 @@
 pub mod Along
 pub mod ChangesBack
 pub mod Events
+pub mod FirmContent
 pub mod ItemsStay
 pub mod Leaves
 pub mod Over

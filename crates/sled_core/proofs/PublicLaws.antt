@@ -14,7 +14,6 @@ use Rattle.sled_store.specs.Begin.{offset_at, place_at}
 use Rattle.sled_store.specs.Device.{Trace, State, Content, Left, Leaves, Crashed, state_of, content_of, content_left, names_at_rest, step}
 use Rattle.sled_store.proofs.LogFile.LogLemmas.{at_rest_left}
 use Rattle.sled_store.proofs.Names.NamesLemmas.{settled_name_left, settled_name_at_rest}
-use Rattle.sled_store.proofs.Crashes.SettledLemmas.{read_left}
 use Rattle.sled_core.specs.declared.logger.Log.{Log}
 use Rattle.sled_core.specs.Fits.{KeepsAll, stable_end, FirstWaits, FitsInline, HasRecordOf, NoneOpen, NoneOpenIn, IsUnchanged, IsWritten, synced_end, segment_size_of, buffers_of, current_begin, current_of, held_len, holding_below, is_moved, line_of, machine_at, message_rewriting, next_place, noted_in, reserved_end, sealing_end, start_behind, start_of, target_of, waiting_behind, waiting_of}
 use Rattle.sled_core.specs.Logged.{logged}
@@ -151,16 +150,13 @@ ready_with_less sum size device s H A less f le ready = record {
   entries = ready.entries;
   below = ready.below;
   names = ready.names;
+  own = ready.own;
   own_names = ready.own_names;
   passes = (let passes = ready.passes in omega (arith, le, passes));
   left = leaves_less sum size H less A f device le ready.left;
 }
 
 module _ (sum : List ℕ → ℕ) (size : ℕ) (H : History) (A f : ℕ) where
-  -- What is read now can be recovered where whatever a crash leaves can.
-  pub reads_recoverable : (trace : Trace) → LeavesRecoverable sum size H A f (state_of trace) → NoForeign sum size (state_of trace) (content_of (state_of trace)) → Recoverable sum size (content_of (state_of trace)) H A f
-  reads_recoverable trace leaves own = leaves (content_of (state_of trace)) (read_left trace) own
-
   -- Behind a crash another one leaves just what it left.
   pub crashed_leaves : (left : Left) (s : State) → Recoverable sum size (content_left left s) H A f → LeavesRecoverable sum size H A f (step (Crashed left) s)
   crashed_leaves left s can content leaves own =

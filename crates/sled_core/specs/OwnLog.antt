@@ -2,6 +2,8 @@
 use Rattle.std.specs.Prelude.{◌≡◌, ◌≢◌, ◌≤◌, ◌<◌, ◌+◌, ◌*◌, ◌/◌, ℕ, ℤ, pos, true, List, [], ◌∷◌, length, All, Contains}
 use Rattle.sled_codec.specs.Places.{part}
 use Rattle.sled_codec.specs.Record.{IsHeader}
+use Rattle.sled_store.specs.Device.{State}
+use Rattle.sled_store.specs.Foreign.{HeaderWasPlaced, RecordWasPlaced}
 use Rattle.sled_store.specs.Readers.{Reads, IsOwnRange}
 use Rattle.sled_core.specs.Begun.{SegmentView}
 use Rattle.sled_core.specs.declared.iobuf.Sealed.{Sealed}
@@ -36,3 +38,11 @@ module _ (sum : List ℕ → ℕ) (size : ℕ) (Header : ℕ → List ℕ → Ty
   pub record ReadsOwn (log : List ℕ) (slot : ℕ) : Type 0 where
     pub header : (lsn mark : ℤ) → IsHeader sum (part log (slot * size) 20) lsn mark → Header (slot * size) (part log (slot * size) 20)
     pub records : (lsn : ℕ) (mark : ℤ) (at len : ℕ) → IsHeader sum (part log (slot * size) 20) (pos lsn) mark → Reads sum size (lsn / size) (part log (slot * size) size) 20 at len → Own (lsn / size) (slot * size + at) (part log (slot * size + at) len)
+
+-- So it is with what was placed on a device, in each slot of its file as it is read,
+abbrev pub ReadsPlaced : (List ℕ → ℕ) → ℕ → State → Type 0
+ReadsPlaced sum size s = (slot : ℕ) → ReadsOwn sum size (HeaderWasPlaced s.placed) (RecordWasPlaced sum size s.placed) s.log.bytes slot
+
+-- and with all slots of a log that has these segments.
+abbrev pub HasPlacedFile : (List ℕ → ℕ) → ℕ → State → List SegmentView → Type 0
+HasPlacedFile sum size s line = IsOwnFile sum size (HeaderWasPlaced s.placed) (RecordWasPlaced sum size s.placed) s.log.bytes line

@@ -26,6 +26,7 @@ use Rattle.sled_core.specs.Scan.{IsFoundSegment, IsMet, IsPath}
 use Rattle.sled_core.specs.Tail.{IsOrdering, Scanned, IsScanned, AreScanned, IsTail, tail_begins, tail_end, open_at, stops_in, cut_of, least_place}
 use Rattle.sled_core.specs.LogFile.{MessageStands}
 use Rattle.sled_core.specs.Good.{HasOwnBlob}
+use Rattle.sled_core.specs.OwnNames.{ReadsStayOwn}
 
 -- The premise on a checksum.
 
@@ -38,6 +39,12 @@ pub record NoForeign (sum : List ℕ → ℕ) (size : ℕ) (past : State) (left 
   pub log : NoForeignLog sum size past.log past.placed left.log
   pub blobs : NoForeignNames (λ bytes. (k : MessageKind) × (item : List ℕ) × IsBlob sum bytes k item) past.blobs left.blobs
   pub snapshots : NoForeignNames (λ bytes. (s : SnapshotModel) × IsSnapshotFile sum bytes s) past.snapshots left.snapshots
+  pub zeros : NoHeaderOfZeros sum
+
+-- What is read now is the log's own: only what the log itself wrote passes as its own in the log file, and under the names whose bytes are synced; and zeros pass as no header. So it is where nothing that is read is foreign. (Of a file that was never synced nothing is asked: a call that failed may have left any bytes in it, and no message of a log names it.)
+pub record ReadsOnlyOwn (sum : List ℕ → ℕ) (size : ℕ) (s : State) : Type 0 where
+  pub log : NoForeignLog sum size s.log s.placed s.log.bytes
+  pub names : ReadsStayOwn sum s
   pub zeros : NoHeaderOfZeros sum
 
 -- The snapshots.

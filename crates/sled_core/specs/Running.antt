@@ -19,6 +19,7 @@ use Rattle.sled_core.specs.FreeSlots.{HasSlots}
 use Rattle.sled_core.specs.Logged.{logged}
 use Rattle.sled_core.specs.Good.{HasOwnBlob}
 use Rattle.sled_core.specs.OpenBatches.{stable_below}
+use Rattle.sled_core.specs.OwnLog.{HasPlacedFile, ReadsPlaced}
 use Rattle.sled_core.specs.OwnNames.{ReadsStayOwn}
 use Rattle.sled_core.specs.Recoverable.{ActiveFits, BlobIsBelow, AreRecoverableSnapshots, AreRecoverableBlobs, NoBatchBegins, NoBatchEnds, NoHeaderOfZeros, LeavesRecoverable, BlobsAreBelow}
 use Rattle.sled_core.specs.Reached.{StandsAmong, StandsActive}
@@ -110,6 +111,8 @@ pub record FitsWith (sum : List ℕ → ℕ) (noted : List Batch) (size : ℕ) (
   pub slots : HasSlots size line device.log.bytes fault m
   -- the segments before the first of these have their headers
   pub begun : fault ≡ None → AreBegun sum size device.log.bytes (first_place line) m
+  -- all that a reader reads in them was placed by the log
+  pub own : fault ≡ None → NoHeaderOfZeros sum → HasPlacedFile sum size device line
   pub entries : HaveEntries sum size device.snapshots.file (logged H) m
 
 -- The log fits this history, the end of what was acknowledged, the floor and the messages that were not marked yet.
@@ -127,7 +130,8 @@ pub record IsReadyFor (sum : List ℕ → ℕ) (size : ℕ) (device : State) (s 
   -- the blob of each message lies no higher than it
   pub below : BlobsAreBelow H
   pub names : NamesFit sum size device.snapshots (logged H) f ready.first
-  -- what is read under names is the log's own
+  -- what is read of the log file and under names is the log's own
+  pub own : NoHeaderOfZeros sum → ReadsPlaced sum size device
   pub own_names : ReadsStayOwn sum device
   pub passes : A ≤ stable_place s.stable
   pub left : LeavesRecoverable sum size H A f device

@@ -27,7 +27,7 @@ ghost use Rattle.sled_core.specs.Keeps.{GoesOn, KeepsSeen, Preserves};
 ghost use Rattle.sled_core.specs.Reasons.{ReserveFails, TellsOf, WriteFails};
 ghost use Rattle.sled_core.specs.Reading.{IsInline};
 ghost use Rattle.sled_core.specs.Ready.{IsReady};
-ghost use Rattle.sled_core.specs.Recoverable.{NoForeign, Recoverable, RecoverableIfOwn, LeavesRecoverable, NoHeaderOfZeros};
+ghost use Rattle.sled_core.specs.Recoverable.{NoForeign, ReadsOnlyOwn, Recoverable, RecoverableIfOwn, LeavesRecoverable, NoHeaderOfZeros};
 ghost use Rattle.sled_core.specs.OnFile.{HasSegment};
 ghost use Rattle.sled_core.specs.OpenPlaces.{first_between, places_from};
 ghost use Rattle.sled_core.specs.Reserves.{RefusalLeaves, ReservesAs, StandsBehind, TouchesBlob, reserve_causes};
@@ -269,10 +269,21 @@ pub fn an_empty_device_is_ready<C: Checksum>()
 /// crash is the log's own.
 pub fn a_crash_leaves_what_can_be_recovered<C: Checksum>()
     ensures now { (size : ℕ) (H : History) (A f : ℕ) (trace : Trace) → LeavesRecoverable C.sum_of size H A f (state_of trace)
-        → NoForeign C.sum_of size (state_of trace) (content_of (state_of trace)) → Recoverable C.sum_of size (content_of (state_of trace)) H A f }
+        → ReadsOnlyOwn C.sum_of size (state_of trace) → Recoverable C.sum_of size (content_of (state_of trace)) H A f }
     ensures crash { (size : ℕ) (H : History) (A f : ℕ) (trace : Trace) (left : Left) → LeavesRecoverable C.sum_of size H A f (state_of trace)
         → Leaves (state_of trace) (content_left left (state_of trace)) → NoForeign C.sum_of size (state_of trace) (content_left left (state_of trace))
         → Recoverable C.sum_of size (content_left left (state_of trace)) H A f × LeavesRecoverable C.sum_of size H A f (state_of (Crashed left ∷ trace)) }
+{}
+
+/// Where nothing that is read is foreign, what is read is the log's own.
+pub fn what_is_not_foreign_is_the_logs_own()
+    ensures { (sum : List ℕ → ℕ) (size : ℕ) (s : State) → NoForeign sum size s (content_of s) → ReadsOnlyOwn sum size s }
+{}
+
+/// What is read of the device of a log that fits a history is the log's own, as long as the log keeps no failure.
+pub fn what_a_log_reads_is_its_own<D: Device, C: Checksum>()
+    ensures { (log : Log D C) (H : History) (A f : ℕ) (U : List Message) → Fits D.trace C.sum_of log H A f U → fault_of log ≡ None → NoHeaderOfZeros C.sum_of
+        → ReadsOnlyOwn C.sum_of (segment_size_of log) (state_of (D.trace (device_of log))) }
 {}
 
 /// On an empty device nothing is foreign.

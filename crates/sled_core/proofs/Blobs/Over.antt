@@ -111,5 +111,6 @@ module _ (sum : List ℕ → ℕ) (size : ℕ) (device : State) (blobs snapshots
       batches = fits.batches;
       slots = fits.slots;
       begun = fits.begun;
+      own = fits.own;
       entries = subst (λ (file : ℤ → Option (List ℕ)). HaveEntries sum size file (logged H) m) (sym changes.same_files) fits.entries;
     }

@@ -14,7 +14,7 @@ use Rattle.sled_store.proofs.Crashes.LeavesLemmas.{write}
 use Rattle.sled_store.specs.OwnParts.{BeginsAt}
 use Rattle.sled_store.specs.Readers.{Reads}
 use Rattle.sled_store.proofs.Own.ReaderLemmas.{read_begins, read_same, reads_reached}
-use Rattle.sled_store.proofs.Own.ReachedLemmas.{record_some, begins, same_record, same_len, first_step, goes_on}
+use Rattle.sled_store.proofs.Own.ReachedLemmas.{record_some, begins, same_len, first_step, goes_on}
 use Rattle.sled_store.proofs.LogFile.OverwrittenLemmas.{overwritten-end}
 use Rattle.sled_core.specs.Own.{IsReachedToEnd}
 use Rattle.sled_core.specs.Recoverable.{NoForeign}

@@ -4,10 +4,9 @@ use Rattle.std.proofs.Common.{◌≤◌, ℕ, ℤ, List, [], ◌∷◌, map, Opt
 use Rattle.sled_codec.specs.History.{Message, History}
 use Rattle.sled_codec.specs.Snapshots.{SnapshotModel}
 use Rattle.sled_store.specs.Device.{Trace, Content, NamesState, State, state_of}
-use Rattle.sled_store.specs.Accounts.{machine_of}
 use Rattle.sled_core.specs.declared.logger.Log.{Log}
 use Rattle.sled_core.specs.Begun.{SegmentParts, SegmentView}
-use Rattle.sled_core.specs.Fits.{LogParts, line_of, log_parts, noted_in, parts_in}
+use Rattle.sled_core.specs.Fits.{LogParts, line_of, log_parts, parts_in}
 use Rattle.sled_core.specs.Logged.{logged}
 use Rattle.sled_core.specs.OpenBatches.{stable_below}
 use Rattle.sled_core.specs.Recoverable.{AreRecoverableSnapshots, LeavesRecoverable, Recoverable}
@@ -45,6 +44,7 @@ module _ (sum : List ℕ → ℕ) (size f lower : ℕ) (low : lower ≤ f) where
       entries = ready.entries;
       below = ready.below;
       names = names_low (logged H) device.snapshots ready.ready.first ready.names;
+      own = ready.own;
       own_names = ready.own_names;
       passes = (let passes = ready.passes in omega (arith, le, passes));
       left = leaves_claimed device ready.left;
@@ -85,5 +85,6 @@ module _ (sum : List ℕ → ℕ) (H : History) (A less f lower : ℕ) (U : List
     batches = fits.batches;
     slots = fits.slots;
     begun = fits.begun;
+    own = fits.own;
     entries = fits.entries;
   }

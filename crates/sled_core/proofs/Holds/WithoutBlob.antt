@@ -1,5 +1,5 @@
 -- A call that goes on without a blob keeps all that a log held and what it fitted of histories that don't name that: where it is followed by one that keeps all, and where there is no such blob.
-use Rattle.std.proofs.Common.{◌≡◌, ◌≤◌, ◌∙◌, is_some, false, true, ℕ, ℤ, List, Option, None, Some, Result, Ok, Err, ap, refl, sym, subst, inl, inr, arith}
+use Rattle.std.proofs.Common.{◌≡◌, ◌≤◌, ◌∙◌, is_some, false, true, ℕ, ℤ, List, Option, None, Some, Result, Ok, Err, ap, sym, subst, inl, inr, arith}
 use Rattle.std.specs.Prelude.{IsSome}
 use Rattle.std.specs.declared.io.Error.{Error as IoError}
 use Rattle.sled_codec.specs.declared.result.Error.{Error}

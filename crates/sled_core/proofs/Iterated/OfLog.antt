@@ -11,9 +11,8 @@ use Rattle.sled_codec.specs.Places.{part}
 use Rattle.sled_codec.specs.Record.{IsHeader}
 use Rattle.sled_codec.specs.Snapshots.{SnapshotModel}
 use Rattle.sled_codec.specs.WellFormed.{LieApart}
-use Rattle.sled_store.specs.Device.{State, Trace, content_of, state_of}
+use Rattle.sled_store.specs.Device.{State, Trace, state_of}
 use Rattle.sled_store.specs.SegmentStates.{Machine, is_free, slot_at}
-use Rattle.sled_store.proofs.Crashes.SettledLemmas.{name_read_left}
 use Rattle.sled_store.proofs.Names.OneBegin.{one_begin}
 use Rattle.sled_core.specs.declared.iterator.log_iter.LogIter.{LogIter}
 use Rattle.sled_core.specs.declared.logger.Log.{Log}
@@ -28,9 +27,10 @@ use Rattle.sled_core.specs.Logged.{in_log, logged}
 use Rattle.sled_core.specs.OnFile.{item_of}
 use Rattle.sled_core.specs.OpenBatches.{stable_below}
 use Rattle.sled_core.specs.Reached.{ReachesIn, StandsAmong}
-use Rattle.sled_core.specs.Recoverable.{NoForeign, PassesIfThere}
+use Rattle.sled_core.specs.Recoverable.{NoHeaderOfZeros, PassesIfThere}
 use Rattle.sled_core.specs.Running.{FitsWith}
 use Rattle.sled_core.specs.Tail.{least_place, place_of_mark}
+use Rattle.sled_core.proofs.Blobs.FirmContent.{blobs_read, firm_files, firm_leaves, firm_own}
 use Rattle.sled_core.proofs.Holds.BufferEnds.{written_behind}
 use Rattle.sled_core.proofs.Holds.FitsBatches.{stable_noted}
 use Rattle.sled_core.proofs.Holds.WholeHistory.{whole_apart}
@@ -89,12 +89,12 @@ module _ {D C : Type 0} (trace : D → Trace) (sum : List ℕ → ℕ) (log : Lo
   abbrev some : 256 ≤ size
   some = log.config.config.least
 
-  module _ (fits : FitsWith sum (noted_in log) size state log.fault line m log.pins H A f U) (none : log.fault ≡ None) (own : NoForeign sum size state (content_of state)) where
+  module _ (fits : FitsWith sum (noted_in log) size state log.fault line m log.pins H A f U) (none : log.fault ≡ None) (zeros : NoHeaderOfZeros sum) where
     abbrev first : SnapshotModel
     first = fits.parts.holds.begun.first
 
     among : StandsAmong sum size state.log.bytes log.site log.buffer.written_len (map begun_segment (map parts_in (map segment_view log.behind.items))) fits.reach H first
-    among = among_alike (logged H) H (logged_twice H) sum size state.log.bytes log.site log.buffer.written_len (map begun_segment (map parts_in (map segment_view log.behind.items))) fits.reach first (fits.parts.among none own.zeros)
+    among = among_alike (logged H) H (logged_twice H) sum size state.log.bytes log.site log.buffer.written_len (map begun_segment (map parts_in (map segment_view log.behind.items))) fits.reach first (fits.parts.among none zeros)
 
     -- the stable end is that of the history
     same_end : stable_below (synced_end log) H.batches ≡ stable_end log
@@ -159,7 +159,7 @@ module _ {D C : Type 0} (trace : D → Trace) (sum : List ℕ → ℕ) (log : Lo
 
     -- each blob that is there passes for its message
     good : (n : Message) → Contains H.messages n → PassesIfThere sum state.blobs.file n n.pointer
-    good = (fits.parts.blobs state.blobs.file (name_read_left state.blobs) own.blobs).named
+    good = (blobs_read sum state.blobs H (stable_below fits.reach H.batches) (fits.parts.blobs (firm_files sum state.blobs) (firm_leaves sum state.blobs) (firm_own sum state.blobs (fits.parts.own_names none).of_blobs))).named
 
     apart_messages : LieApart H.messages
     apart_messages = logged_apart H (whole_apart sum size log.site state log.fault log.buffer.bytes.items log.buffer.written_len log.buffer.sealed.items log.buffer.reserved.items (logged H) fits.parts.holds log.in_segment)

@@ -9,6 +9,7 @@ use Rattle.std.proofs.lemmas.List.Elements.{All-head, All-tail}
 use Rattle.sled_codec.proofs.Segments.{length-short_header}
 use Rattle.sled_codec.specs.History.{Batch, History, Message}
 use Rattle.sled_codec.specs.Record.{short_header}
+use Rattle.sled_store.specs.Foreign.{HeaderWasPlaced, RecordWasPlaced}
 use Rattle.sled_store.specs.Accounts.{AreSlots}
 use Rattle.sled_store.specs.declared.config.RunningConfig.{RunningConfig}
 use Rattle.sled_store.specs.Device.{State, Trace, state_of}
@@ -54,6 +55,7 @@ use Rattle.sled_core.proofs.Sealed.Ended.{ends_rise, ends_up}
 use Rattle.sled_core.proofs.Reserve.Ranges.{at_there}
 use Rattle.sled_core.proofs.Flush.Completed.{grows}
 use Rattle.sled_core.proofs.Line.Entered.{filled_last}
+use Rattle.sled_core.proofs.OwnLog.Calls.{own_next}
 
 -- the first of them is no longer than this
 abbrev FirstShort : ℕ → List SegmentView → Type 0
@@ -262,6 +264,7 @@ module _ (sum : List ℕ → ℕ) (size : ℕ) where
         batches = batches_next (logged H) fits.batches;
         slots = slots_next fits.slots;
         begun = λ none. begun_next (fits.begun none);
+        own = λ none zeros. own_next sum size (HeaderWasPlaced device.placed) (RecordWasPlaced sum size device.placed) device.log.bytes m stable (v ∷ vs) (fits.own none zeros);
         entries = entries_next (logged H) (line_holds sum size device fault (v ∷ vs) fits.reach pins H A f U fits.parts) fits.entries;
       }
 

@@ -1,5 +1,5 @@
 -- A call that writes buffers and fails: as many are gone as it synced, and unless the device failed each of them was written whole.
-use Rattle.std.proofs.Common.{◌≡◌, ◌∙◌, ◌⊎◌, ◌≤◌, ◌<◌, ◌≤ℤ◌, ◌<ℤ◌, ◌*◌, ap, sym, refl, subst, arith, inl, inr, ℕ, ℤ, pos, Bool, true, false, nat_lt, if◌then◌else◌, List, ◌∷◌, ◌++◌, length, take, drop, None, Result, Ok, Err, OnOk, OnErr}
+use Rattle.std.proofs.Common.{◌≡◌, ◌∙◌, ◌⊎◌, ◌≤◌, ◌<◌, ◌≤ℤ◌, ◌<ℤ◌, ◌*◌, ap, sym, refl, arith, inl, inr, ℕ, ℤ, pos, Bool, false, nat_lt, if◌then◌else◌, List, ◌∷◌, ◌++◌, take, drop, Result, Ok, Err, OnErr}
 use Rattle.std.specs.Prelude.{unsigned_abs}
 use Rattle.std.specs.declared.io.Error.{Error as IoError}
 use Rattle.std.proofs.Math.Seq.{take-append_seam}
@@ -7,13 +7,13 @@ use Rattle.std.proofs.lemmas.Bool.Decides.{nat_tests}
 use Rattle.std.proofs.lemmas.Int.{ints}
 use Rattle.sled_codec.specs.declared.result.Error.{Error}
 use Rattle.sled_store.specs.Answers.{Does, Tears}
-use Rattle.sled_store.specs.Device.{Event, Trace, Wrote, Cut, Synced, BlobMade, BlobRemoved, SnapshotFilled, SnapshotPublished, SnapshotRemoved}
+use Rattle.sled_store.specs.Device.{Event, Trace, Wrote, Cut, BlobMade, BlobRemoved, SnapshotFilled, SnapshotPublished, SnapshotRemoved}
 use Rattle.sled_store.specs.Script.{after_all}
 use Rattle.sled_core.specs.Causes.{IsHeld}
 use Rattle.sled_core.specs.declared.logger.Log.{Log}
-use Rattle.sled_core.specs.Fits.{buffers_of, current_begin, device_of, fault_of, start_of, synced_end, waiting_of, writing_below}
+use Rattle.sled_core.specs.Fits.{buffers_of, current_begin, device_of, start_of, synced_end, waiting_of, writing_below}
 use Rattle.sled_core.specs.Fronts.{CameAround, WroteFront, WroteNone, syncs}
-use Rattle.sled_core.specs.Keeps.{LeavesSome, sealed_for, start_for, start_sealed}
+use Rattle.sled_core.specs.Keeps.{LeavesSome, start_sealed}
 use Rattle.sled_core.specs.ReadBuffer.{SealsAround, WritesAround, settling}
 use Rattle.sled_core.specs.Waiting.{writes_below}
 use Rattle.sled_core.proofs.Line.Advanced.{Advanced, first_view, views_behind}

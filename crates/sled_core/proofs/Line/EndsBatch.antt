@@ -6,6 +6,7 @@ use Rattle.std.proofs.Math.Nat.{suc-mul}
 use Rattle.std.proofs.lemmas.Bool.{cases_lt}
 use Rattle.std.proofs.lemmas.List.Elements.{All-contains, Contains-append_cases}
 use Rattle.sled_codec.specs.History.{Batch, History, Message}
+use Rattle.sled_store.specs.Foreign.{HeaderWasPlaced, RecordWasPlaced}
 use Rattle.sled_store.specs.Device.{State}
 use Rattle.sled_store.specs.SegmentStates.{Machine}
 use Rattle.sled_store.proofs.Segments.Elements.{in_first, in_rest}
@@ -32,6 +33,7 @@ use Rattle.sled_core.proofs.Line.Facts.{IsSegment}
 use Rattle.sled_core.proofs.Line.LineEnds.{end_set, first_set}
 use Rattle.sled_core.proofs.Line.Noted.{mark_fits, mark_holds, mark_placed}
 use Rattle.sled_core.proofs.Line.OlderSlots.{entries_noted}
+use Rattle.sled_core.proofs.OwnLog.Calls.{own_ended}
 use Rattle.sled_core.proofs.Reserve.Ranges.{at_there, chain_within}
 
 -- one of these parts is of one of the segments
@@ -165,5 +167,6 @@ module _ (sum : List ℕ → ℕ) (size : ℕ) (device : State) (fault : Option 
         batches = batches_now (logged H) holds fits.batches;
         slots = slots_set size line device.log.bytes fault machine n v (ended_now i r (marking sum v.parts.bytes r peg) Manifest v) there (λ j. v.parts.site) fits.slots;
         begun = λ none. subst (λ p. AreBegun sum size device.log.bytes p machine) (sym (first_set line n v (ended_now i r (marking sum v.parts.bytes r peg) Manifest v) there (λ j. v.parts.site))) (fits.begun none);
+        own = λ none zeros. own_ended sum size (HeaderWasPlaced device.placed) (RecordWasPlaced sum size device.placed) device.log.bytes line n v i r (marking sum v.parts.bytes r peg) Manifest there (fits.own none zeros);
         entries = entries_noted sum size device.snapshots.file (logged H) (noted_history (logged H) b) machine refl fits.entries;
       }

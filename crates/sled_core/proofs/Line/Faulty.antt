@@ -84,6 +84,7 @@ fits_with_kept sum noted size size' device new fault now line line' m m' pins pi
     batches = fits.batches;
     slots = slots_line_faulty size line device.log.bytes new.log.bytes fault m fits.slots e now is;
     begun = λ none. cc;
+    own = λ none zeros. cc;
     entries = subst (λ (s : State). HaveEntries sum size s.snapshots.file (logged H) m) (sym d) fits.entries;
   }
 ])

@@ -6,6 +6,7 @@ use Rattle.sled_core.specs.Manifests.{kind_for}
 use Rattle.sled_codec.specs.Spelling.{short_header_tail}
 use Rattle.sled_codec.specs.History.{Message}
 use Rattle.sled_codec.specs.declared.serialization.message.MessageKind.{MessageKind}
+use Rattle.sled_store.specs.Foreign.{HeaderWasPlaced, RecordWasPlaced}
 use Rattle.sled_store.specs.Accounts.{machine_of}
 use Rattle.sled_store.specs.Device.{Trace, state_of}
 use Rattle.sled_store.specs.SegmentStates.{Machine}
@@ -33,6 +34,7 @@ use Rattle.sled_core.proofs.Line.Moves.{fits_as, holds_as}
 use Rattle.sled_core.proofs.Line.OpenPlaces.{places_reserved}
 use Rattle.sled_core.proofs.Line.Reserves.{HasPlaceFor, awaits_reserved, line_fits_reserved, line_reserved, slots_reserved}
 use Rattle.sled_core.proofs.Line.Targets.{record_short}
+use Rattle.sled_core.proofs.OwnLog.Calls.{own_reserved}
 use Rattle.sled_core.proofs.Reserve.Heads.{length-short_header_tail}
 use Rattle.sled_core.proofs.Reserve.ReserveLemmas.{head_whole, more_long, stands}
 use Rattle.sled_core.proofs.Sealed.Ended.{ends_up}
@@ -195,6 +197,7 @@ module _ {D C : Type 0} (trace : D → Trace) (sum : List ℕ → ℕ) (old new 
               (let same = end_last its_size (reserved_now more r) (λ _. refl) v vs in omega (arith, same)) its.batches;
           slots = slots_reserved sum its_size more r (line_of old) (state_of (trace (device_of old))).log.bytes (fault_of old) (machine_at old) its.slots;
           begun = λ none. subst (λ p. AreBegun sum its_size (state_of (trace (device_of old))).log.bytes p (machine_at old)) (sym (first_at_last (reserved_now more r) (λ _. refl) (line_of old))) (its.begun none);
+          own = λ none zeros. own_reserved sum its_size (HeaderWasPlaced (state_of (trace (device_of old))).placed) (RecordWasPlaced sum its_size (state_of (trace (device_of old))).placed) (state_of (trace (device_of old))).log.bytes more r (line_of old) (its.own none zeros);
           entries = its.entries;
         });
     noted = noted_later old new rest.noted (let same = reserves_synced in omega (arith, same));

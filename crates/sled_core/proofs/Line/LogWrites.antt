@@ -36,6 +36,7 @@ use Rattle.sled_core.proofs.Line.Fillings.{log_recorded}
 use Rattle.sled_core.proofs.Line.Segments.{AreSegments, filled_promoted, filled_written, follow_segments, line_segments, promoted_waits, run_written, segments_promoted, set_segment, written_segment}
 use Rattle.sled_core.proofs.Line.Writes.{along_write, buffer_begin, buffer_bytes, buffer_calls, buffer_synced, calls_are, fits_write, holds_write, passes_line, slots_write}
 use Rattle.sled_core.proofs.Line.WrittenSlots.{begun_write}
+use Rattle.sled_core.proofs.OwnLog.PlacedWrite.{placed_left}
 
 module _ {D C : Type 0} (log : Log D C) (n k : ℕ) (r : IsReadyIn (line_of log) n k) where
   abbrev line : List SegmentView
@@ -183,6 +184,7 @@ module _ {D C : Type 0} (log : Log D C) (n k : ℕ) (r : IsReadyIn (line_of log)
         batches = fits.batches;
         slots = slots_line_faulty size line device.log.bytes (state_of new).log.bytes log.fault slots fits.slots some.0 now some.1;
         begun = λ none. let never = some.1 in cc;
+        own = λ none zeros. let never = some.1 in cc;
         entries = subst (λ (s : NamesState). HaveEntries sum size s.file (logged H) slots) (sym (names new came).1) fits.entries;
       }
     ]
@@ -214,6 +216,8 @@ module _ {D C : Type 0} (log : Log D C) (n k : ℕ) (r : IsReadyIn (line_of log)
           slots = slots_write sum size log.config.config.least device log.fault whole v k r.buffer r.there r.ready log.site.place line (line_segments log) n r.among slots None fits.slots;
           begun = λ none. begun_write sum size log.config.config.least device log.fault whole v k r.buffer r.there r.ready log.site.place line (line_segments log) n r.among slots fits.slots (logged H)
               (line_holds sum size device log.fault line fits.reach log.pins H A f U fits.parts) (fits.begun whole);
+          own = λ none zeros. placed_left sum size log.config.config.least device log.fault whole v k r.buffer r.there r.ready log.site.place line (line_segments log) n r.among slots fits.slots (logged H)
+              (line_holds sum size device log.fault line fits.reach log.pins H A f U fits.parts) zeros (fits.own whole zeros);
           entries = fits.entries;
         }))
 

@@ -4,6 +4,7 @@ use Rattle.std.specs.declared.io.Error.{Error as IoError}
 use Rattle.std.proofs.lemmas.Bool.Decides.{nat_tests}
 use Rattle.std.proofs.lemmas.List.{map-append}
 use Rattle.sled_codec.specs.History.{History, Message}
+use Rattle.sled_store.specs.Foreign.{HeaderWasPlaced, RecordWasPlaced}
 use Rattle.sled_store.specs.Device.{State, Trace, state_of}
 use Rattle.sled_store.specs.SegmentStates.{Machine}
 use Rattle.sled_store.specs.Accounts.{machine_of}
@@ -33,6 +34,7 @@ use Rattle.sled_core.proofs.Line.Last.{All-at_last, at_last_same, at_last_twice,
 use Rattle.sled_core.proofs.Line.LineEnds.{end_at_last, end_last, first_at_last, kept_same, noted_later, noted_same}
 use Rattle.sled_core.proofs.Line.Moves.{fits_as, holds_as}
 use Rattle.sled_core.proofs.Line.OpenPlaces.{places_sealed}
+use Rattle.sled_core.proofs.OwnLog.Calls.{own_sealed}
 use Rattle.sled_core.proofs.Sealed.Appended.{end_one}
 
 -- The current buffer holds something, in a segment of this size.
@@ -160,6 +162,7 @@ module _ {D C : Type 0} (trace : D → Trace) (sum : List ℕ → ℕ) (old new 
               (let same = end_last size sealed_now (λ _. refl) v vs in omega (arith, same)) fits.batches;
           slots = slots_sealed size (line_of old) (state_of (trace (device_of old))).log.bytes (fault_of old) (machine_at old) fits.slots;
           begun = λ none. subst (λ p. AreBegun sum size (state_of (trace (device_of old))).log.bytes p (machine_at old)) (sym (first_at_last sealed_now (λ _. refl) (line_of old))) (fits.begun none);
+          own = λ none zeros. own_sealed sum size (HeaderWasPlaced (state_of (trace (device_of old))).placed) (RecordWasPlaced sum size (state_of (trace (device_of old))).placed) (state_of (trace (device_of old))).log.bytes (line_of old) (fits.own none zeros);
           entries = fits.entries;
         });
     noted = noted_later old new rest.noted (let same = sealed_synced in omega (arith, same));

@@ -7,7 +7,6 @@ use Rattle.sled_codec.specs.Places.{part}
 use Rattle.sled_store.specs.Device.{overwritten}
 use Rattle.sled_store.specs.Readers.{ReadsTo}
 use Rattle.sled_core.specs.declared.iobuf.ReservationState.{ReservationState}
-use Rattle.sled_core.specs.declared.iobuf.ReservationState.TheVariants.{Padding}
 use Rattle.sled_core.specs.declared.iobuf.Reserved.{Reserved}
 use Rattle.sled_core.specs.declared.iobuf.Sealed.{Sealed}
 use Rattle.sled_core.specs.declared.iobuf.SegmentPosition.{SegmentPosition}

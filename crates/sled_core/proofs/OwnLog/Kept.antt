@@ -1,5 +1,5 @@
 -- A write to the log file leaves own what lies beside it: what a reader reads of another slot, also with zeros behind the file's end, and what is written of another segment.
-use Rattle.std.proofs.Common.{◌≡◌, ◌⊎◌, ◌∙◌, ◌≤◌, ◌<◌, ◌+◌, ◌-◌, ◌*◌, ◌/◌, ℕ, ℤ, pos, max, List, [], ◌++◌, length, take, drop, replicate, get_or, sym, ap, refl, subst, arith, inl, inr, length-take, length-drop}
+use Rattle.std.proofs.Common.{◌≡◌, ◌⊎◌, ◌∙◌, ◌≤◌, ◌<◌, ◌+◌, ◌-◌, ◌*◌, ◌/◌, ℕ, ℤ, pos, max, List, [], length, take, drop, get_or, sym, ap, subst, arith, inl, inr, length-take, length-drop}
 use Rattle.std.proofs.lemmas.Grind.{same_number_lists}
 use Rattle.std.proofs.lemmas.List.{drop-take, take-take, drop-drop, get_or-take, get_or-drop}
 use Rattle.sled_codec.specs.Places.{part}
@@ -8,7 +8,6 @@ use Rattle.sled_store.specs.Device.{overwritten}
 use Rattle.sled_store.specs.Readers.{Reads, IsOwnRange}
 use Rattle.sled_store.proofs.LogFile.LooseLemmas.{end_of-some}
 use Rattle.sled_store.proofs.LogFile.OverwrittenLemmas.{length-overwritten}
-use Rattle.sled_store.proofs.Own.ReaderLemmas.{SameFrom}
 use Rattle.sled_store.proofs.Own.RangeLemmas.{range_stays}
 use Rattle.sled_core.specs.LogFile.{padded}
 use Rattle.sled_core.specs.OwnLog.{HasOwnSlot}

@@ -1,7 +1,7 @@
 -- All slots of a log are own behind the write of a sealed buffer of one of its segments, and once those at the front have gone that are wholly on the device.
-use Rattle.std.proofs.Common.{◌≡◌, ◌≢◌, ◌⊎◌, ◌∙◌, ◌≤◌, ◌<◌, ◌+◌, ◌*◌, ◌/◌, ◌%◌, ℕ, zero, suc, max, List, [], ◌∷◌, length, set, take, drop, Option, Some, sym, ap, refl, subst, arith, inl, inr, length-take}
+use Rattle.std.proofs.Common.{◌≡◌, ◌≢◌, ◌⊎◌, ◌∙◌, ◌≤◌, ◌<◌, ◌+◌, ◌*◌, ◌/◌, ℕ, zero, suc, max, List, [], ◌∷◌, length, set, take, drop, Some, sym, ap, refl, subst, arith, inl, inr, length-take}
 use Rattle.std.specs.List.{All, Contains, slice_get}
-use Rattle.std.proofs.lemmas.Bool.{cases_lt, cases_order}
+use Rattle.std.proofs.lemmas.Bool.{cases_order}
 use Rattle.std.proofs.lemmas.List.Elements.{All-cons, All-head, All-tail}
 use Rattle.sled_codec.specs.Places.{part}
 use Rattle.sled_store.specs.Device.{overwritten}
@@ -10,11 +10,10 @@ use Rattle.sled_store.proofs.Segments.Elements.{in_cases, in_first, in_rest}
 use Rattle.sled_store.proofs.Segments.FilledLemmas.{slot_before}
 use Rattle.sled_core.specs.Begun.{SegmentView}
 use Rattle.sled_core.specs.declared.iobuf.Sealed.{Sealed}
-use Rattle.sled_core.specs.declared.iobuf.SegmentPosition.{SegmentPosition}
 use Rattle.sled_core.specs.LogFile.{HasHeader}
-use Rattle.sled_core.specs.OwnLog.{AreWritten, HasOwnSlot, IsOwnFile, IsOwnSegment}
+use Rattle.sled_core.specs.OwnLog.{HasOwnSlot, IsOwnFile, IsOwnSegment}
 use Rattle.sled_core.specs.Recoverable.{NoHeaderOfZeros}
-use Rattle.sled_core.specs.SealedBuffers.{behind_run, run_end, sealed_end, written_at}
+use Rattle.sled_core.specs.SealedBuffers.{sealed_end, written_at}
 use Rattle.sled_core.specs.Turned.{written_now}
 use Rattle.sled_core.proofs.OwnLog.Kept.{HeadersStay, RecordsStay, range_kept, slot_kept}
 use Rattle.sled_core.proofs.OwnLog.SealedRanges.{behind_front, front_written, written_behind}

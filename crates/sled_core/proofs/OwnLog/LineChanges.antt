@@ -1,5 +1,5 @@
 -- All slots of a log stay own where a call changes its segments alone: one of them, in which no buffer is written by that; or a further one is begun.
-use Rattle.std.proofs.Common.{◌≡◌, ◌≢◌, ◌∙◌, ◌<◌, ◌*◌, ℕ, zero, suc, List, [], ◌∷◌, ◌++◌, set, Option, Some, sym, ap, refl, subst, arith, inl, inr}
+use Rattle.std.proofs.Common.{◌≡◌, ◌∙◌, ℕ, zero, suc, List, [], ◌∷◌, ◌++◌, set, Some, sym, ap, refl, subst, arith, inl, inr}
 use Rattle.std.specs.List.{All, Contains, slice_get}
 use Rattle.std.proofs.lemmas.List.Elements.{All-cons, All-head, All-tail}
 use Rattle.sled_store.proofs.Segments.Elements.{in_cases, in_first, in_nothing, in_rest}

@@ -1,5 +1,5 @@
 -- All slots of a log are own once a sealed buffer of one of its segments is written and synced, and those segments at the front have gone that are wholly on the device, where what was written is.
-use Rattle.std.proofs.Common.{◌≡◌, ◌≢◌, ◌⊎◌, ◌∙◌, ◌≤◌, ◌<◌, ◌+◌, ◌*◌, ◌/◌, ◌%◌, ap, sym, refl, subst, arith, inl, inr, ℕ, zero, suc, max, true, List, [], ◌∷◌, ◌++◌, length, take, drop, set, Option, None, Some}
+use Rattle.std.proofs.Common.{◌≡◌, ◌≢◌, ◌⊎◌, ◌≤◌, ◌<◌, ◌+◌, ◌*◌, ◌/◌, ap, refl, subst, arith, inl, inr, ℕ, zero, suc, max, true, List, [], ◌∷◌, ◌++◌, length, take, drop, set, Option, None, Some}
 use Rattle.std.specs.List.{All, slice_get}
 use Rattle.std.specs.declared.io.Error.{Error as IoError}
 use Rattle.std.proofs.Math.Nat.{suc-mul}
@@ -157,19 +157,19 @@ module _ (sum : List ℕ → ℕ) (size : ℕ) (big : 256 ≤ size) (device : St
       let up = written_within size u.parts.site.place u facts in
       rise_further u.parts.written_len u.parts.sealed (length u.parts.bytes) size facts.short (ends_rise u.parts.written_len u.parts.reserved u.parts.sealed (length u.parts.bytes) facts.are (omega (arith, up, begins)) begins)
 
+  -- Behind the header a buffer has its records,
+  pub begun : max 20 begin ≤ begin + length asked
+  begun =
+      let e = ends in
+      with_part sum size device fault line n v H holds among (λ stays own segment. (
+      let up = behind_header sum size v.parts.site device.log.bytes v.parts.bytes v.parts.written_len v.parts.reserved (take k v.parts.sealed) b (drop (suc k) v.parts.sealed) segment.place_begins segment.slot_begins is.place_small is.slot_small
+      are_split rise_split inside (ready_closed b ready) segment.stand in
+      omega (arith, up, e)))
+
   module _ (headers : HeadersStay sum size Header Header' Own Own' device.log.bytes (v.parts.site.slot + begin) asked some_bytes twenty) (records : RecordsStay sum size Header Header' Own Own' device.log.bytes (v.parts.site.slot + begin) asked some_bytes twenty)
       (headed : begin ≡ 0 → Header' v.parts.site.slot (take 20 asked))
       (laid : (at len : ℕ) → Reads sum size (v.parts.site.place / size) (part new v.parts.site.slot size) (max 20 begin) at len → at + len ≤ begin + length asked → Own' (v.parts.site.place / size) (v.parts.site.slot + at) (part (part new v.parts.site.slot size) at len)) where
-    -- Behind the header a buffer has its records,
-    begun : max 20 begin ≤ begin + length asked
-    begun =
-        let e = ends in
-        with_part sum size device fault line n v H holds among (λ stays own segment. (
-        let up = behind_header sum size v.parts.site device.log.bytes v.parts.bytes v.parts.written_len v.parts.reserved (take k v.parts.sealed) b (drop (suc k) v.parts.sealed) segment.place_begins segment.slot_begins is.place_small is.slot_small
-        are_split rise_split inside (ready_closed b ready) segment.stand in
-        omega (arith, up, e)))
-
-    -- which a reader reads.
+    -- A reader reads them.
     to_end : begin + length asked < size → ReadsTo sum size (v.parts.site.place / size) (part new v.parts.site.slot size) (max 20 begin) (begin + length asked)
     to_end low =
         let e = ends in

@@ -1,5 +1,5 @@
 -- In a settled log file nothing is foreign just where what is read of each slot was placed.
-use Rattle.std.proofs.Common.{◌≡◌, ◌+◌, ◌*◌, ℕ, List, drop, inl}
+use Rattle.std.proofs.Common.{◌+◌, ◌*◌, ℕ, List, drop, inl}
 use Rattle.sled_store.specs.Device.{LogState, Placement, at_rest}
 use Rattle.sled_store.specs.Foreign.{HeaderWasPlaced, IsWhole, NoForeignLog, RecordWasPlaced}
 use Rattle.sled_store.proofs.Crashes.ForeignLemmas.{take_again}

@@ -1,9 +1,8 @@
 -- What was placed is so behind a write that is synced, where it stands then; and so is what the write itself laid down.
-use Rattle.std.proofs.Common.{◌≡◌, ◌⊎◌, ◌∙◌, ◌≤◌, ◌<◌, ◌+◌, ◌-◌, ◌/◌, ◌%◌, ℕ, max, List, [], ◌∷◌, length, take, drop, sym, ap, refl, subst, arith}
-use Rattle.std.specs.List.{Contains}
+use Rattle.std.proofs.Common.{◌≡◌, ◌⊎◌, ◌∙◌, ◌≤◌, ◌<◌, ◌+◌, ◌-◌, ◌%◌, ℕ, max, List, [], ◌∷◌, length, take, drop, sym, ap, refl, arith}
 use Rattle.std.proofs.lemmas.List.Elements.{All-nil}
 use Rattle.sled_codec.specs.Places.{part}
-use Rattle.sled_store.specs.Device.{Placement, State, Synced, Wrote, overwritten, settled_again, step}
+use Rattle.sled_store.specs.Device.{Placement, State, Synced, Wrote, overwritten, step}
 use Rattle.sled_store.specs.Foreign.{HeaderWasPlaced, RecordWasPlaced}
 use Rattle.sled_store.specs.Readers.{Reads}
 use Rattle.sled_store.proofs.Crashes.ForeignLemmas.{take_again}

@@ -1,7 +1,6 @@
 -- Where a segment is read to its end, for want of room or for a Cap, nothing is read behind it, also with zeros behind the end of the file.
-use Rattle.std.proofs.Common.{◌≡◌, ◌≢◌, ◌∙◌, ◌≤◌, ◌<◌, ◌+◌, ◌*◌, ◌/◌, ◌%◌, ℕ, ℤ, pos, List, length, drop, get_or, sym, ap, refl, subst, arith, length-take, length-drop}
+use Rattle.std.proofs.Common.{◌≡◌, ◌≢◌, ◌∙◌, ◌≤◌, ◌<◌, ◌+◌, ◌*◌, ◌/◌, ℕ, ℤ, pos, List, length, drop, get_or, sym, ap, refl, subst, arith, length-take, length-drop}
 use Rattle.std.proofs.Math.Nat.{mul-mod_left}
-use Rattle.sled_codec.specs.declared.serialization.message.MessageKind.TheVariants.{Cap}
 use Rattle.sled_codec.specs.Kinds.{kind_of}
 use Rattle.sled_codec.specs.Places.{part}
 use Rattle.sled_codec.specs.Record.{IsHeader, IsRecord}
@@ -52,7 +51,7 @@ module _ (sum : List ℕ → ℕ) (size : ℕ) (Header : ℕ → List ℕ → Ty
       )
 
   -- So the slot is own of a segment that is read to its end, where what is read of it in the file is.
-  reads_inside : (number first at : ℕ) (text : List ℕ) → ReadsTo sum size number text first at → first ≤ length text → at ≤ length text
+  pub reads_inside : (number first at : ℕ) (text : List ℕ) → ReadsTo sum size number text first at → first ≤ length text → at ≤ length text
   reads_inside number first at text at_start low = low
   reads_inside number first at text (reads_past mid len k page body comes room plain fits is) low = fits
 

@@ -1,8 +1,7 @@
 -- A slot is own, also with zeros behind the end of its file, where what is read of it in the file is, and a reader comes to an offset in it behind which nothing is read: there is a Cap, or no room, or zeros.
-use Rattle.std.proofs.Common.{◌≡◌, ◌≢◌, ◌⊎◌, ◌∙◌, ◌≤◌, ◌<◌, ◌+◌, ◌-◌, ◌*◌, ◌/◌, ℕ, ℤ, pos, List, length, take, drop, get_or, sym, ap, subst, arith, inl, inr, length-take, length-drop}
+use Rattle.std.proofs.Common.{◌≡◌, ◌∙◌, ◌≤◌, ◌<◌, ◌+◌, ◌-◌, ◌*◌, ◌/◌, ℕ, ℤ, pos, List, length, take, drop, get_or, sym, ap, subst, arith, inl, inr, length-take, length-drop}
 use Rattle.std.proofs.lemmas.Bool.{cases_lt}
 use Rattle.std.proofs.lemmas.List.{get_or-take, get_or-drop}
-use Rattle.sled_codec.specs.declared.serialization.message.MessageKind.{MessageKind}
 use Rattle.sled_codec.specs.declared.serialization.message.MessageKind.TheVariants.{Cap}
 use Rattle.sled_codec.specs.Places.{part}
 use Rattle.sled_codec.specs.Record.{IsRecord, IsHeader}

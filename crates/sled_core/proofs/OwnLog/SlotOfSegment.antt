@@ -1,5 +1,5 @@
 -- The slot of a segment that isn't wholly on the device is own: a reader comes to where the first gap is, and reads nothing there.
-use Rattle.std.proofs.Common.{◌≡◌, ◌≤◌, ◌<◌, ◌+◌, ◌*◌, ◌/◌, ℕ, pos, false, List, [], ◌∷◌, subst, arith, inl, inr}
+use Rattle.std.proofs.Common.{◌≡◌, ◌≤◌, ◌<◌, ◌*◌, ◌/◌, ℕ, pos, false, List, [], ◌∷◌, subst, arith, inl, inr}
 use Rattle.std.specs.List.{All}
 use Rattle.std.proofs.lemmas.Bool.{cases_lt}
 use Rattle.sled_codec.specs.Places.{part}

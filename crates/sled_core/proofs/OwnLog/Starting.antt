@@ -1,23 +1,22 @@
 -- What a start does to a log file leaves own what is read of each slot: it writes zeros over whole slots, syncs, and cuts slots off the end.
-use Rattle.std.proofs.Common.{◌≡◌, ◌≢◌, ◌⊎◌, ◌∙◌, ◌≤◌, ◌<◌, ◌+◌, ◌-◌, ◌*◌, ◌/◌, ℕ, ℤ, pos, min, List, [], ◌∷◌, length, take, drop, replicate, sym, ap, subst, arith, inl, inr, length-take, length-drop}
+use Rattle.std.proofs.Common.{◌≡◌, ◌≢◌, ◌∙◌, ◌≤◌, ◌<◌, ◌+◌, ◌-◌, ◌*◌, ◌/◌, ℕ, ℤ, pos, List, length, take, drop, replicate, sym, ap, subst, arith, inl, inr, length-take, length-drop}
 use Rattle.std.proofs.lemmas.Bool.{cases_lt, cases_order}
 use Rattle.std.proofs.lemmas.List.{length-replicate}
 use Rattle.sled_codec.specs.Places.{part}
 use Rattle.sled_codec.specs.Record.{IsHeader}
 use Rattle.sled_codec.proofs.Segments.{length-short_header}
-use Rattle.sled_store.specs.Device.{Cut, Placement, State, Synced, Wrote, step}
+use Rattle.sled_store.specs.Device.{Cut, State, Synced, Wrote, step}
 use Rattle.sled_store.specs.Foreign.{HeaderWasPlaced, RecordWasPlaced}
 use Rattle.sled_store.specs.Readers.{Reads}
 use Rattle.sled_store.proofs.Crashes.ForeignLemmas.{take_again}
 use Rattle.sled_store.proofs.Crashes.StoodLemmas.{header_settled, record_settled}
 use Rattle.sled_store.proofs.LogFile.LogLemmas.{part_cut}
 use Rattle.sled_store.proofs.Segments.FilledLemmas.{slot_before}
-use Rattle.sled_core.specs.OwnLog.{ReadsOwn}
+use Rattle.sled_core.specs.OwnLog.{ReadsPlaced}
 use Rattle.sled_core.specs.Recoverable.{NoHeaderOfZeros}
 use Rattle.sled_core.proofs.OwnLog.Kept.{HeadersStay, RecordsStay}
 use Rattle.sled_core.proofs.OwnLog.NoneForeign.{WasPlaced}
-use Rattle.sled_core.proofs.OwnLog.Placed.{asked_now, header_among, record_among}
-use Rattle.sled_core.proofs.OwnLog.Recovering.{AllPlaced}
+use Rattle.sled_core.proofs.OwnLog.Placed.{header_among, record_among}
 use Rattle.sled_core.proofs.OwnLog.Zeroed.{other_own, own_read, slot_zeroed}
 
 module _ (sum : List ℕ → ℕ) (size : ℕ) (none : NoHeaderOfZeros sum) (big : 32 ≤ size) where
@@ -56,7 +55,7 @@ module _ (sum : List ℕ → ℕ) (size : ℕ) (none : NoHeaderOfZeros sum) (big
         (slot_zeroed sum size (HeaderWasPlaced s.placed) (HeaderWasPlaced (after (slot * size + 0)).placed) (RecordWasPlaced sum size s.placed) (RecordWasPlaced sum size (after (slot * size + 0)).placed) s.log.bytes slot 0 size some big twenty
         (headers_at (slot * size + 0)) (records_at (slot * size + 0)) (omega arith) none (λ i. 0))
 
-    pub slot_overwritten : AllPlaced sum size none big s → AllPlaced sum size none big (step (Wrote (slot * size) zeros zeros) s)
+    pub slot_overwritten : ReadsPlaced sum size s → ReadsPlaced sum size (step (Wrote (slot * size) zeros zeros) s)
     slot_overwritten own j = elim (cases_order j slot) [
       | inl same ↦ subst (WasPlaced sum size (after (slot * size)).placed (after (slot * size)).log.bytes) (sym same)
           (let at : slot * size + 0 ≡ slot * size = omega arith in subst (λ n. WasPlaced sum size (after n).placed (after n).log.bytes slot) at this)
@@ -64,7 +63,7 @@ module _ (sum : List ℕ → ℕ) (size : ℕ) (none : NoHeaderOfZeros sum) (big
     ]
 
   -- The file is synced.
-  pub file_synced : (s : State) → AllPlaced sum size none big s → AllPlaced sum size none big (step Synced s)
+  pub file_synced : (s : State) → ReadsPlaced sum size s → ReadsPlaced sum size (step Synced s)
   file_synced s own slot = record {
     header = λ lsn mark is. header_settled s.log.bytes s.placed (slot * size) (part s.log.bytes (slot * size) 20) ((own slot).header lsn mark is) (take_again 20 (drop (slot * size) s.log.bytes));
     records = λ lsn mark at len is r.
@@ -81,7 +80,7 @@ module _ (sum : List ℕ → ℕ) (size : ℕ) (none : NoHeaderOfZeros sum) (big
         let count : i + n - i ≡ n = omega arith in
         ap (λ k. take k (drop i short)) (sym count) ∙ part_cut s.log.bytes (last * size) i (i + n) (omega (arith, low, inside)) low ∙ ap (λ k. take k (drop i s.log.bytes)) count
 
-    pub slots_cut : AllPlaced sum size none big s → AllPlaced sum size none big (step (Cut (last * size) (last * size)) s)
+    pub slots_cut : ReadsPlaced sum size s → ReadsPlaced sum size (step (Cut (last * size) (last * size)) s)
     slots_cut own slot = elim (cases_lt slot last) [
       | inl below ↦ (
           let far = slot_before size slot last below in

@@ -1,5 +1,5 @@
 -- A sealed buffer of a segment is written, to where its records end: it is own, and so are the ranges of its segment beside it.
-use Rattle.std.proofs.Common.{◌≡◌, ◌⊎◌, ◌∙◌, ◌≤◌, ◌<◌, ◌+◌, ◌-◌, ◌%◌, ℕ, zero, suc, max, nat_lt, true, false, if◌then◌else◌, List, length, take, drop, Option, Some, sym, ap, refl, subst, arith, inl, inr, length-take, length-drop}
+use Rattle.std.proofs.Common.{◌≡◌, ◌⊎◌, ◌∙◌, ◌≤◌, ◌<◌, ◌+◌, ◌-◌, ◌%◌, ℕ, max, nat_lt, if◌then◌else◌, List, length, take, drop, Some, sym, ap, refl, subst, arith, inl, inr, length-take, length-drop}
 use Rattle.std.specs.List.{slice_get}
 use Rattle.std.proofs.lemmas.Bool.Decides.{nat_tests}
 use Rattle.sled_codec.specs.Places.{part}

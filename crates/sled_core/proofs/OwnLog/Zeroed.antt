@@ -1,10 +1,8 @@
 -- Zeros are written over the rest of a slot, from where a reader comes to, or over all of it: what is read of that slot is own, and so is what is read of each other one, as it was.
-use Rattle.std.proofs.Common.{◌≡◌, ◌≢◌, ◌⊎◌, ◌∙◌, ◌≤◌, ◌<◌, ◌+◌, ◌-◌, ◌*◌, ◌/◌, ℕ, ℤ, pos, max, List, [], ◌∷◌, length, take, drop, replicate, get_or, sym, ap, refl, subst, arith, inl, inr, length-take, length-drop}
+use Rattle.std.proofs.Common.{◌≡◌, ◌≢◌, ◌∙◌, ◌≤◌, ◌<◌, ◌+◌, ◌-◌, ◌*◌, ◌/◌, ℕ, ℤ, pos, List, [], ◌∷◌, length, drop, replicate, sym, refl, subst, arith, inl, inr, length-take, length-drop}
 use Rattle.std.proofs.lemmas.Bool.{cases_lt, cases_order}
-use Rattle.std.proofs.lemmas.List.{length-replicate}
 use Rattle.sled_codec.specs.Places.{part}
 use Rattle.sled_codec.specs.Record.{IsHeader}
-use Rattle.sled_codec.proofs.Segments.{length-short_header}
 use Rattle.sled_store.specs.Device.{overwritten}
 use Rattle.sled_store.specs.Readers.{Reads, ReadsTo}
 use Rattle.sled_store.proofs.LogFile.LooseLemmas.{end_of-some}

@@ -1,7 +1,10 @@
 -- An empty device is ready for a log in which nothing happened, and whatever a crash leaves of it can be recovered.
-use Rattle.std.proofs.Common.{◌≡◌, ◌≤◌, ◌<◌, ◌^◌, ◌∙◌, ℕ, ℤ, List, [], Option, Some, None, refl, sym, subst, arith, inl}
+use Rattle.std.proofs.Common.{◌≡◌, ◌≤◌, ◌<◌, ◌*◌, ◌^◌, ◌∙◌, ℕ, ℤ, pos, List, [], length, drop, Option, Some, None, refl, sym, ap, subst, arith, inl, length-take, length-drop}
 use Rattle.sled_codec.specs.History.{no_history}
+use Rattle.sled_codec.specs.Places.{part}
+use Rattle.sled_codec.specs.Record.{IsHeader}
 use Rattle.sled_codec.specs.Snapshots.{empty_model}
+use Rattle.sled_codec.proofs.Segments.{length-short_header}
 use Rattle.sled_store.specs.Device.{Content, State, fresh, at_rest, names_at_rest, LeavesName}
 use Rattle.sled_store.proofs.LogFile.LogLemmas.{at_rest_left}
 use Rattle.sled_store.proofs.Names.NamesLemmas.{settled_name_left, settled_name_at_rest}
@@ -31,6 +34,12 @@ none_listed sum size snapshots none = record {
   none_some : (bytes : List ℕ) → None ≡ Some bytes → ⊥
   none_some bytes is = cc
 
+-- an empty file has no header of a segment
+no_header : (sum : List ℕ → ℕ) (at : ℕ) (lsn mark : ℤ) → IsHeader sum (part [] at 20) lsn mark → ⊥
+no_header sum at lsn mark is =
+    let twenty : length (part [] at 20) ≡ 20 = ap length is.is ∙ length-short_header sum lsn mark in
+    omega (arith, twenty, length-take {A = ℕ} 20 (drop at []), length-drop {A = ℕ} at [])
+
 -- no message needs a blob
 no_blobs : (sum : List ℕ → ℕ) (blobs : ℤ → Option (List ℕ)) → AreRecoverableBlobs sum blobs no_history 0
 no_blobs sum blobs = record { needed = λ page m there. absurd (no_entry 0 page m there); named = λ m there. absurd (in_nothing m there) }
@@ -54,6 +63,7 @@ fresh_ready sum size large small = record {
   entries = λ page m there. absurd (no_entry 0 page m there);
   below = λ m there. absurd (in_nothing m there);
   names = λ left leaves own. none_listed sum size left (λ n. none_left n (left n) (leaves n));
+  own = λ zeros slot. record { header = λ lsn mark is. absurd (no_header sum (slot * size) lsn mark is); records = λ lsn mark at len is r. absurd (no_header sum (slot * size) (pos lsn) mark is) };
   own_names = record { of_blobs = own_at_rest (IsAnyBlob sum) (λ n. None); of_snapshots = own_at_rest (IsAnySnapshot sum) (λ n. None) };
   passes = omega arith;
   left = fresh_leaves sum size large small;

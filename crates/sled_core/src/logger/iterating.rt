@@ -3,8 +3,8 @@ ghost use Rattle.std.specs.Prelude.{◌≡◌, ◌<◌, ◌++◌, ℕ, All, List
 ghost use Rattle.sled_codec.specs.declared.result.Error.TheVariants.{OutOfMemory};
 ghost use Rattle.sled_store.specs.Accounts.{IsAccountant, machine_of};
 ghost use Rattle.sled_codec.specs.History.{History, Message};
-ghost use Rattle.sled_store.specs.Device.{content_of, state_of};
-ghost use Rattle.sled_core.specs.Recoverable.{NoForeign};
+ghost use Rattle.sled_store.specs.Device.{state_of};
+ghost use Rattle.sled_core.specs.Recoverable.{NoHeaderOfZeros};
 ghost use Rattle.sled_core.specs.Running.{Fits};
 ghost use Rattle.sled_core.specs.Ahead.{CanGoOn, HasEnds, IsLeft, IsSpent, most_left};
 ghost use Rattle.sled_core.specs.Iterates.{Item, Damage, NextGives, NextAnswers, BehindLast};
@@ -42,8 +42,7 @@ impl<D: Device, C: Checksum> Log<D, C> {
     /// asked for. The list of segments takes memory: where that is refused, `OutOfMemory` is the one item. Where the log keeps a failure of
     /// its device, that is.
     pub fn iter_from(&mut self, lsn: Lsn) -> LogIter<'_, D, C>
-        ensures messages { let s = state_of (D.trace (device_of self.old)) in
-            (H : History) (A f : ℕ) (U : List Message) → Fits D.trace C.sum_of self.old H A f U → NoForeign C.sum_of (segment_size_of self.old) s (content_of s)
+        ensures messages { (H : History) (A f : ℕ) (U : List Message) → Fits D.trace C.sum_of self.old H A f U → NoHeaderOfZeros C.sum_of
             → IfNone (refusal_of result) (GivesMessages D.trace C.sum_of self.old H lsn result) }
         ensures goes_over { IfNone (refusal_of result) (GoesOver D.trace C.sum_of self.old lsn result) }
         ensures refused { IsRefusedFor (refusal_of result) (fault_of self.old) }

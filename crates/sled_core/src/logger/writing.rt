@@ -142,7 +142,6 @@ impl<D: Device, C: Checksum> Log<D, C> {
         ensures answers { HeldAnswers result (holding_below C.sum_of self.old (reserved_end self.old)) (IsUsedUpBelow self.old (reserved_end self.old))
             (fault_of self.old) (fault_of self.new) (D.faults (device_of self.old)) (D.faults (device_of self.new)) }
         ensures spares { SparesDevice D.faults (flushing C.sum_of self.old) self.old self.new }
-        ensures faulty { (e : IoError) → fault_of self.old ≡ Some e → self.new ≡ self.old }
         ensures buffers { WritesBelow C.sum_of result (reserved_end self.old) self.old self.new
             × OnErr result (CameTo D.trace C.sum_of (reserved_end self.old) self.old self.new) }
     {

@@ -25,9 +25,9 @@ returns-in-Ok-clause-goes_over = over
 
 pub returns-in-Ok-clause-messages : goal.returns-in-Ok-clause-messages
 unfolding Fits
-returns-in-Ok-clause-messages g c = λ H A f U fits own.
+returns-in-Ok-clause-messages g c = λ H A f U fits zeros.
     let log = c.args.self.now in
     let none = c.in-Ok.ensures.answers.1 in
     let here = subst (λ (o : Option Error). IfNone o (GoesOver g.D.Device.trace g.C.Checksum.sum_of log c.args.lsn c.over_log.result)) c.over_log.ensures.begun (over g c) in
     subst (λ (o : Option Error). IfNone o (GivesMessages g.D.Device.trace g.C.Checksum.sum_of log H c.args.lsn c.over_log.result)) (sym c.over_log.ensures.begun)
-    (gives_messages g.D.Device.trace g.C.Checksum.sum_of log H A f U fits none own c.args.lsn c.over_log.result here)
+    (gives_messages g.D.Device.trace g.C.Checksum.sum_of log H A f U fits none zeros c.args.lsn c.over_log.result here)

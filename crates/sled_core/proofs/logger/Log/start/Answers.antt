@@ -31,6 +31,7 @@ use Rattle.sled_core.specs.Logged.{logged}
 use Rattle.sled_core.specs.OpenBatches.{AreByPlace, batch_of, not_whole, stable_below}
 use Rattle.sled_core.specs.ReadyBuffers.{held_buffers, held_in, ready_in, ready_places}
 use Rattle.sled_core.specs.OpenPlaces.{open_manifests, open_manifests_in}
+use Rattle.sled_core.specs.OwnLog.{HasPlacedFile, ReadsPlaced}
 use Rattle.sled_core.specs.Positions.{Position, is_short, next_segment_at, position_in}
 use Rattle.sled_core.specs.Ready.{IsReady}
 use Rattle.sled_core.specs.SealedBuffers.{sealed_end}
@@ -42,6 +43,8 @@ use Rattle.sled_store.proofs.Segments.StartedFile.{started_file, started-log, st
 use Rattle.sled_core.proofs.Holds.FitsBatches.{batches_begun}
 use Rattle.sled_core.proofs.Logged.Messages.{logged_twice}
 use Rattle.sled_core.proofs.Logged.Names.{ready_alike}
+use Rattle.sled_core.proofs.OwnLog.Started.{started_own}
+use Rattle.sled_core.proofs.OwnLog.StartedDevice.{started_placed}
 use Rattle.sled_core.proofs.Start.BegunSlots.{begun_slots}
 use Rattle.sled_core.proofs.Start.OlderStarted.{start_begun, start_entries}
 use Rattle.sled_core.proofs.Start.StartedMoments.{started_throughout}
@@ -206,6 +209,15 @@ returns-in-Ok-clause-fits g c = λ H A f ready.
           (start_slots size same some s (state_of old).log.bytes now.log.bytes c.in-Ok.ensures.answers.0 (ap (λ (l : LogState). l.bytes) log_now) (view_at site c.in-Ok.buffer) (ap (λ (x : Beginning). record { place = x.place; slot = x.slot }) c.in-Ok.ensures.beginning) c.in-Ok.ensures.machine);
       begun = λ none. start_begun g.C.Checksum.sum_of size c.args.config.config.least (state_of old) s (logged H) ready.ready ready.alone c.in-Ok.ensures.answers.0 same (ap (λ (l : LogState). l.bytes) log_now)
           (ap (λ (x : Beginning). x.place) c.in-Ok.ensures.beginning ∙ begins_place size (slots_of size (length (state_of old).log.bytes)) (stable_place s.stable) (unused size (slots_of size (length (state_of old).log.bytes)) s) s.active) c.in-Ok.ensures.machine;
+      own = λ none zeros. (
+          let least = c.args.config.config.least in
+          let behind : ReadsPlaced g.C.Checksum.sum_of size now = started_placed g.C.Checksum.sum_of size zeros (omega (arith, least)) s old (g.D.Device.trace c.begin.new.config.device) c.in-Ok.ensures.made (ready.own zeros) in
+          let offset : c.in-Ok.beginning.offset ≡ offset_at size (stable_place s.stable) s.active =
+          ap (λ (x : Beginning). x.offset) c.in-Ok.ensures.beginning ∙ begins_offset size (slots_of size (length (state_of old).log.bytes)) (stable_place s.stable) (unused size (slots_of size (length (state_of old).log.bytes)) s) s.active in
+          subst (λ n. HasPlacedFile g.C.Checksum.sum_of n now (line_at site c.in-Ok.buffer c.no_segments.result.items)) (sym same)
+          (subst (λ (ss : List SegmentBuffer). HasPlacedFile g.C.Checksum.sum_of size now (line_at site c.in-Ok.buffer ss)) (sym c.no_segments.ensures)
+          (started_own g.C.Checksum.sum_of size c.args.config.config.least zeros (state_of old) now s H A f ready c.in-Ok.ensures.answers.0 (ap (λ (l : LogState). l.bytes) log_now) behind (view_at site c.in-Ok.buffer)
+          (ap (λ (x : Beginning). record { place = x.place; slot = x.slot }) c.in-Ok.ensures.beginning) (first.from ∙ offset) first.sealed)));
       entries = start_entries g.C.Checksum.sum_of size c.args.config.config.least (state_of old) s (logged H) ready.ready ready.alone c.in-Ok.ensures.answers.0 same now.snapshots.file
           (ap (λ (t : Trace). (state_of t).snapshots.file) c.in-Ok.ensures.made ∙ ap (λ (n : NamesState). n.file) (started-snapshots size some (state_of old).log.bytes s old)) c.in-Ok.ensures.machine;
     }

@@ -10,7 +10,7 @@ use Rattle.sled_core.specs.Marked.{KeepsSegment}
 use Rattle.sled_core.proofs.Line.CameFar.{on_err_both}
 use Rattle.sled_core.proofs.Line.HeaderMarks.{segment_same, segment_written}
 use Rattle.sled_core.proofs.Line.LogSpans.{same_buffers, written_starts}
-use Rattle.sled_core.proofs.Line.Outcomes.{answers_free, done_free, either, on_err, on_ok}
+use Rattle.sled_core.proofs.Line.Outcomes.{answers_free, done_free, either, on_ok}
 use Rattle.sled_core.proofs.Line.Settles.{found_early, found_gone, found_held, held_at_found, held_none, inside, is_ready_there, looks, nothing_waits, number_within, settling_found, settling_it, some_held, without_still, wrote_all, wrote_place, wrote_without, written_found}
 use Rattle.sled_core.proofs.logger.Log.write_around.Goals as goal
 

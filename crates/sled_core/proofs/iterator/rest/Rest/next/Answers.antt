@@ -1,5 +1,4 @@
 -- Behind an error nothing is left, and before it something was.
-use Rattle.std.proofs.Common.{◌<◌, Ok, Err, None}
 use Rattle.sled_core.specs.Ahead.{most_left}
 use Rattle.sled_core.proofs.Iterates.Spent.{left_some, none_so_left, spent_so}
 use Rattle.sled_core.proofs.iterator.rest.Rest.next.Goals as goal

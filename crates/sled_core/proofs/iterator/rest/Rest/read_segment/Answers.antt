@@ -1,4 +1,4 @@
-use Rattle.std.proofs.Common.{◌≡◌, ◌∙◌, ◌+◌, ◌-◌, ◌*◌, ◌^◌, ◌<◌, ◌≤◌, nat_lt, rules, ℕ, ℤ, pos, Bool, List, true, false, length, take, refl, ap, sym, subst, arith}
+use Rattle.std.proofs.Common.{◌≡◌, ◌+◌, ◌-◌, ◌*◌, ◌^◌, ◌<◌, ◌≤◌, nat_lt, rules, ℕ, ℤ, pos, Bool, List, true, false, length, take, refl, ap, sym, subst, arith}
 use Rattle.std.specs.List.{All}
 use Rattle.sled_codec.specs.Record.{IsHeader}
 use Rattle.sled_store.specs.declared.config.Config.{Config}

@@ -1,0 +1,97 @@
+-- All slots of a log are own, by what was placed, once a sealed buffer of one of its segments is written and synced.
+use Rattle.std.proofs.Common.{◌≡◌, ◌⊎◌, ◌≤◌, ◌<◌, ◌+◌, ◌/◌, ◌%◌, arith, inl, inr, ℕ, zero, suc, max, true, List, [], ◌∷◌, length, set, take, drop, Option, None, Some}
+use Rattle.std.specs.List.{slice_get}
+use Rattle.std.specs.declared.io.Error.{Error as IoError}
+use Rattle.std.proofs.lemmas.Bool.{cases_lt}
+use Rattle.sled_codec.specs.History.{History}
+use Rattle.sled_store.specs.Device.{State}
+use Rattle.sled_store.specs.Foreign.{HeaderWasPlaced, RecordWasPlaced}
+use Rattle.sled_store.specs.SegmentStates.{Machine}
+use Rattle.sled_core.specs.Begun.{SegmentView}
+use Rattle.sled_core.specs.declared.iobuf.Reserved.{Reserved}
+use Rattle.sled_core.specs.declared.iobuf.Sealed.{Sealed}
+use Rattle.sled_core.specs.Fits.{HoldsLine}
+use Rattle.sled_core.specs.FreeSlots.{HasSlots}
+use Rattle.sled_core.specs.OwnLog.{HasPlacedFile, IsOwnSegment}
+use Rattle.sled_core.specs.Recoverable.{NoHeaderOfZeros}
+use Rattle.sled_core.specs.SealedBuffers.{AreSealed, is_ready, sealed_end}
+use Rattle.sled_core.specs.Turned.{promoted, written_now}
+use Rattle.sled_core.proofs.Line.Ends.{with_part}
+use Rattle.sled_core.proofs.Line.Segments.{AreSegments, nth_segment}
+use Rattle.sled_core.proofs.Line.Writes.{buffer_begin, buffer_bytes, buffer_synced}
+use Rattle.sled_core.proofs.OwnLog.LogWritten.{begun, fits, own_left, some_bytes, twenty}
+use Rattle.sled_core.proofs.OwnLog.Placed.{header_laid, headers_stay, record_laid, records_stay}
+use Rattle.sled_core.proofs.Reserve.Ranges.{at_there, chain_grows}
+
+-- a buffer begins with the header of its segment, or behind it
+begins_so : (from : ℕ) (rs : List Reserved) (bs : List Sealed) → AreSealed from rs bs → (from ≡ 0) ⊎ (20 ≤ from) → (k : ℕ) → (sealed_end from (take k bs) ≡ 0) ⊎ (20 ≤ sealed_end from (take k bs))
+begins_so from rs bs are low zero = low
+begins_so from rs [] are low (suc k) = low
+begins_so from rs (b ∷ bs) are low (suc k) = begins_so b.end (drop b.count rs) bs are.1 (inr (let up = chain_grows (max 20 from) b.end (take b.count rs) are.0.chain in omega (arith, up))) k
+
+module _ (sum : List ℕ → ℕ) (size : ℕ) (big : 256 ≤ size) (device : State) (fault : Option IoError) (whole : fault ≡ None) (v : SegmentView) (k : ℕ) (b : Sealed) (there : slice_get v.parts.sealed k ≡ Some b) (ready : is_ready b ≡ true)
+    (place : ℕ) (line : List SegmentView) (are : AreSegments size place line) (n : ℕ) (among : slice_get line n ≡ Some v) (m : Machine) (slots : HasSlots size line device.log.bytes fault m) (H : History) (holds : HoldsLine sum size device fault line H)
+    (none : NoHeaderOfZeros sum) (own : HasPlacedFile sum size device line) where
+  -- where it is written, and the device behind that
+  abbrev slot : ℕ
+  slot = v.parts.site.slot
+
+  abbrev begin : ℕ
+  begin = buffer_begin sum size big device fault whole v k b there ready
+
+  abbrev asked : List ℕ
+  asked = buffer_bytes sum size big device fault whole v k b there ready
+
+  abbrev after : State
+  after = buffer_synced sum size big device fault whole v k b there ready
+
+  abbrev Header : ℕ → List ℕ → Type 0
+  Header = HeaderWasPlaced device.placed
+
+  abbrev Header' : ℕ → List ℕ → Type 0
+  Header' = HeaderWasPlaced after.placed
+
+  abbrev Own : ℕ → ℕ → List ℕ → Type 0
+  Own = RecordWasPlaced sum size device.placed
+
+  abbrev Own' : ℕ → ℕ → List ℕ → Type 0
+  Own' = RecordWasPlaced sum size after.placed
+
+  some : 0 < length asked
+  some = some_bytes sum size big device fault whole v k b there ready place line are n among m slots H holds none Header Header' Own Own'
+
+  big_enough : 20 ≤ size
+  big_enough = twenty sum size big device fault whole v k b there ready place line are n among m slots H holds none Header Header' Own Own'
+
+  inside : begin + length asked ≤ size
+  inside = fits sum size big device fault whole v k b there ready place line are n among m slots H holds none Header Header' Own Own'
+
+  -- it has bytes behind a header
+  long : max 20 begin ≤ begin + length asked
+  long = begun sum size big device fault whole v k b there ready place line are n among m slots H holds none Header Header' Own Own'
+
+  -- What is written of the segment ends behind its header.
+  written_so : (v.parts.written_len ≡ 0) ⊎ (20 ≤ v.parts.written_len)
+  written_so = elim (cases_lt 0 v.parts.written_len) [
+    | inl more ↦ (
+        let its : IsOwnSegment sum size Header Own device.log.bytes v.parts.site v.parts.written_len v.parts.sealed =
+        at_there (λ (u : SegmentView). IsOwnSegment sum size Header Own device.log.bytes u.parts.site u.parts.written_len u.parts.sealed) line n v among own.segments in
+        let low = (its.front more).rises in
+        inr (omega (arith, low)))
+    | inr zero_long ↦ inl (omega (arith, zero_long))
+  ]
+
+  begins : (begin ≡ 0) ⊎ (20 ≤ begin)
+  begins = let facts = nth_segment size place line are n v among in begins_so v.parts.written_len v.parts.reserved v.parts.sealed facts.are written_so k
+
+  aligned : slot % size ≡ 0
+  aligned = with_part sum size device fault line n v H holds among (λ stays its segment. segment.slot_begins)
+
+  pub placed_left : HasPlacedFile sum size after (promoted size (set line n (written_now k v)))
+  placed_left =
+      let up = long in
+      own_left sum size big device fault whole v k b there ready place line are n among m slots H holds none Header Header' Own Own'
+      (headers_stay sum size device (slot + begin) asked some big_enough) (records_stay sum size device (slot + begin) asked some big_enough)
+      (λ zero_begin. header_laid sum size device slot begin asked some inside (omega (arith, up, zero_begin)) zero_begin)
+      (λ at len r high. record_laid sum size device slot begin asked some inside (v.parts.site.place / size) at len aligned (let room = inside in let more = some in omega (arith, room, more)) begins r high)
+      own
