@@ -1,6 +1,6 @@
 -- What stands for a bound in a log file: a read of its pointer finds the record of that, and damage is where there is none.
-use Rattle.std.proofs.Common.{◌≡◌, ◌∙◌, ◌⊎◌, inl, inr, ◌/◌, ◌++◌, ◌∷◌, [], ℕ, ℤ, Bool, true, Option, None, Some, List, length, take, drop, map, Result, Ok, Err, refl, sym, ap, subst}
-use Rattle.std.specs.Prelude.{IfErr, IfOk, OnErr, unsigned_abs}
+use Rattle.std.proofs.Common.{◌≡◌, ◌∙◌, ◌⊎◌, inl, inr, ◌/◌, ◌++◌, ◌∷◌, [], ℕ, ℤ, true, None, Some, List, length, take, drop, map, Result, Ok, Err, refl, sym, ap, subst}
+use Rattle.std.specs.Prelude.{IfOk, OnErr, unsigned_abs}
 use Rattle.std.specs.List.{slice_get}
 use Rattle.std.proofs.Math.Seq.{take-append_seam}
 use Rattle.std.proofs.lemmas.List.{append_assoc, append_cancel_left, take-append-drop}
@@ -22,7 +22,7 @@ use Rattle.sled_store.specs.Device.{State}
 use Rattle.sled_core.specs.declared.logger.read_message.LogRead.{LogRead}
 use Rattle.sled_core.specs.declared.logger.read_message.LogRead.TheVariants as read
 use Rattle.sled_core.specs.ReadPointer.{IsDamageAt}
-use Rattle.sled_core.specs.Reading.{HasDamagedBlob, IsMalformed, IsNoPlace, IsReading, IsUnreadable, StandsAt, is_blob, is_inline}
+use Rattle.sled_core.specs.Reading.{IsNoPlace, IsReading, IsUnreadable, StandsAt, is_blob, is_inline}
 use Rattle.ids.specs.Readings.{AnswersBound, BeginsWith, IsBoundAt, IsBoundIn, IsBoundRead, IsNumberIn}
 
 -- At one offset one record stands.

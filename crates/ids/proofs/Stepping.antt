@@ -10,14 +10,14 @@ use Rattle.sled_codec.specs.declared.result.Error.TheVariants as error
 use Rattle.sled_store.specs.declared.device.choice.Choice.{Choice}
 use Rattle.sled_store.specs.declared.config.RunningConfig.{RunningConfig}
 use Rattle.sled_store.specs.Chosen.{MayBeChosen}
-use Rattle.sled_store.specs.Device.{Crashed, Left, State, Trace, content_left, content_of, state_of}
+use Rattle.sled_store.specs.Device.{Crashed, Left, Trace, content_left, state_of}
 use Rattle.sled_store.specs.Moments.{IsLater, Throughout}
 use Rattle.sled_store.specs.Noted.{left_of}
 use Rattle.sled_store.proofs.PublicLaws.{at_last, later_same}
 use Rattle.sled_store.proofs.Traces.StopLemmas.{asked_later, asked_state}
 use Rattle.sled_core.specs.Fits.{config_of, fault_of, position_of}
 use Rattle.sled_core.specs.Keeps.{ConfigKept}
-use Rattle.sled_core.specs.Recoverable.{NoForeign}
+use Rattle.sled_core.specs.Recoverable.{NoForeign, ReadsOnlyOwn}
 use Rattle.sled_log.specs.RunPhases.{traces}
 use Rattle.sled_log.specs.RunStates.{DeviceView}
 use Rattle.sled_log.proofs.PublicLaws.{may_be_left}
@@ -157,11 +157,11 @@ module _ {D C : Type 0} (view : D → DeviceView) (sum : List ℕ → ℕ) where
     }
 
     -- A generator can be opened where only the log's own is read.
-    pub can_open : (a : IdState) → StandsAt view sum (Closed config) a → NoForeign sum config.config.segment_size (state_of a.device.trace) (content_of (state_of a.device.trace))
+    pub can_open : (a : IdState) → StandsAt view sum (Closed config) a → ReadsOnlyOwn sum config.config.segment_size (state_of a.device.trace)
         → CanOpen sum config.config.segment_size a.next a.most (state_of (traces view config.device))
     can_open a at own = record {
       gives = at.gives;
-      own = subst (λ (d : DeviceView). NoForeign sum config.config.segment_size (state_of d.trace) (content_of (state_of d.trace))) at.device own;
+      own = subst (λ (d : DeviceView). ReadsOnlyOwn sum config.config.segment_size (state_of d.trace)) at.device own;
     }
 
     -- One that begins is seen so.

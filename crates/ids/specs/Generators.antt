@@ -5,7 +5,7 @@ use Rattle.sled_codec.specs.declared.result.Error.{Error}
 use Rattle.sled_codec.specs.declared.result.Error.TheVariants.{Io, OutOfMemory, PlacesUsedUp}
 use Rattle.sled_codec.specs.History.{Message, History}
 use Rattle.sled_codec.specs.Spelling.{short_number}
-use Rattle.sled_store.specs.Device.{Trace, State, content_of}
+use Rattle.sled_store.specs.Device.{Trace, State}
 use Rattle.sled_store.specs.Moments.{IsLater, Throughout}
 use Rattle.sled_store.specs.Script.{Performs, after_all}
 use Rattle.sled_store.specs.declared.config.RunningConfig.{RunningConfig}
@@ -15,7 +15,7 @@ use Rattle.sled_core.specs.Keeps.{ConfigKept}
 use Rattle.sled_core.specs.Fits.{IsUsedUpBelow, IsUsedUpFor, config_of, fault_of, position_behind, position_of, reserved_end, segment_size_of}
 use Rattle.sled_core.specs.Fronts.{WritesWhole}
 use Rattle.sled_core.specs.Positions.{Position}
-use Rattle.sled_core.specs.Recoverable.{NoForeign}
+use Rattle.sled_core.specs.Recoverable.{ReadsOnlyOwn}
 use Rattle.sled_core.specs.Running.{Fits}
 use Rattle.sled_core.specs.Waiting.{BufferAt, writes_below}
 use Rattle.sled_log.specs.RunStates.{EndsInReach}
@@ -177,4 +177,4 @@ pub record WritesBuffers {T : Type 0} (result : Result T Error) (old new : Trace
 -- A generator can be opened on this device: what was given out isn't given again, and what a recovery reads is what the log itself wrote.
 pub record CanOpen (sum : List ℕ → ℕ) (size n most : ℕ) (device : State) : Type 0 where
   pub gives : GivesFrom sum size n most device
-  pub own : NoForeign sum size device (content_of device)
+  pub own : ReadsOnlyOwn sum size device

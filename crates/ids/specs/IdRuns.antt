@@ -5,11 +5,11 @@ use Rattle.std.specs.declared.io.Error.{Error as IoError}
 use Rattle.sled_codec.specs.declared.result.Error.TheVariants.{OutOfMemory}
 use Rattle.sled_codec.specs.Spelling.{short_number}
 use Rattle.sled_store.specs.Chosen.{MayBeLeft}
-use Rattle.sled_store.specs.Device.{State, Left, Settled, StopAsked, Crashed, state_of, content_of, content_left}
+use Rattle.sled_store.specs.Device.{State, Left, Settled, StopAsked, Crashed, state_of, content_left}
 use Rattle.sled_store.specs.Moments.{IsLater}
 use Rattle.sled_store.specs.Noted.{left_of}
 use Rattle.sled_core.specs.Positions.{Position, behind_record, placed_at, size_at}
-use Rattle.sled_core.specs.Recoverable.{NoForeign}
+use Rattle.sled_core.specs.Recoverable.{NoForeign, ReadsOnlyOwn}
 use Rattle.sled_log.specs.RunStates.{DeviceView}
 use Rattle.ids.specs.declared.run.Command.{Command}
 use Rattle.ids.specs.declared.run.Command.TheVariants as command
@@ -62,7 +62,7 @@ IsOwnLeft sum size s chosen r = Unit {0}
 
 -- So it is in what a recovery reads and in what a crash leaves.
 abbrev pub IsOwn : (List ℕ → ℕ) → ℕ → State → Command → Reply → Type 0
-IsOwn sum size s command.Open r = NoForeign sum size s (content_of s)
+IsOwn sum size s command.Open r = ReadsOnlyOwn sum size s
 IsOwn sum size s (command.Crash choice) r = IsOwnLeft sum size s (left_of choice) r
 IsOwn sum size s c r = Unit {0}
 

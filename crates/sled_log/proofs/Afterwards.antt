@@ -4,4 +4,5 @@ pub mod KeptBelow
 pub mod LastNames
 pub mod LastOwn
 pub mod LeftGood
+pub mod LogOwn
 pub mod OrderlyBelow

@@ -2,6 +2,7 @@
 use Rattle.std.specs.Prelude.{◌≡◌, ◌∷◌, if◌then◌else◌, ℕ, Bool, true, false, List, [], Option, None, Some}
 use Rattle.sled_store.specs.Device.{StopAsked}
 use Rattle.sled_store.specs.Moments.{IsLater}
+use Rattle.sled_store.specs.Stops.{KeepsToStop}
 use Rattle.sled_log.specs.declared.session.Session.{Session}
 use Rattle.sled_log.specs.declared.session.Phase.{Phase}
 use Rattle.sled_log.specs.declared.session.Phase.TheVariants.{Closed, Open}
@@ -40,11 +41,12 @@ module _ (sum : List ℕ → ℕ) (size : ℕ) where
   Touches true command.Halt r old new = new ≡ old
   Touches true c r old new = IsLater old.trace new.trace
 
-  -- A command that is told so did this to the device, and what is claimed of where that leads holds.
+  -- A command that is told so did this to the device, which keeps to the stop that was asked of it, and what is claimed of where that leads holds.
   pub record Leaves (was : Bool) (old : DeviceView) (c : Command) (r : Reply) (Leads : Bool → DeviceView → Type 0) : Type 0 where
     pub new : DeviceView
     pub came : Reply
     pub is_told : r ≡ told new.is_stopped came
+    pub stops : KeepsToStop new.trace new.is_stopped
     pub touches : Touches was c came old new
     pub leads : Leads (opens_after was c came) new
 
@@ -69,6 +71,7 @@ pub record TouchesIn {D C : Type 0} (view : D → DeviceView) (sum : List ℕ �
 pub record ToldIn {D C : Type 0} (view : D → DeviceView) (sum : List ℕ → ℕ) (phase : Phase D C) (c : Command) (next : Phase D C) (r : Reply) : Type 0 where
   pub came : Reply
   pub is_told : r ≡ told (device_in view next).is_stopped came
+  pub stops : KeepsToStop (device_in view next).trace (device_in view next).is_stopped
   pub is : TouchesIn view sum phase c next came
 
 abbrev pub IsOver : {D C : Type 0} → (D → DeviceView) → Option (Phase D C) → Bool → DeviceView → Type 0

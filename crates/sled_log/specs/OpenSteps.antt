@@ -3,14 +3,14 @@ use Rattle.std.specs.Prelude.{◌≡◌, ◌⊎◌, ◌+◌, ◌%◌, ◌^◌, �
 use Rattle.sled_codec.specs.declared.result.Error.{Error}
 use Rattle.sled_codec.specs.declared.result.Error.TheVariants.{Io, OutOfMemory, PlacesUsedUp}
 use Rattle.sled_codec.specs.Snapshots.{SnapshotModel, stable_place}
-use Rattle.sled_store.specs.Device.{Event, Trace, State, Synced, NamesSynced, state_of, content_of}
+use Rattle.sled_store.specs.Device.{Event, Trace, Synced, NamesSynced, state_of, content_of}
 use Rattle.sled_store.specs.Answers.{is_fault}
 use Rattle.sled_store.specs.Script.{Performs, after_all}
 use Rattle.sled_store.specs.Begin.{IsStartable, IsInReach}
 use Rattle.sled_store.specs.Started.{started}
 use Rattle.sled_store.specs.StartCauses.{StartRefuses}
 use Rattle.sled_core.specs.Good.{IsGood}
-use Rattle.sled_core.specs.Recoverable.{NoForeign}
+use Rattle.sled_core.specs.Recoverable.{ReadsOnlyOwn}
 use Rattle.sled_log.specs.declared.session.command.Reply.{Reply}
 use Rattle.sled_log.specs.declared.session.command.Reply.TheVariants as reply
 use Rattle.sled_log.specs.Recovery.{RecoveryResult, Recovered, Recovers}
@@ -61,10 +61,6 @@ SaysWhy (reply.Failed e) before after = IsStartCause e before after
 SaysWhy _ before after = Unit {0}
 
 module _ (sum : List ℕ → ℕ) (size : ℕ) where
-  -- only what the log itself wrote passes as its own, in what a recovery reads
-  abbrev pub ReadsOwn : State → Type 0
-  ReadsOwn s = NoForeign sum size s (content_of s)
-
   -- A recovery was made that shows this: the device was settled, and what the newest snapshot and the log file come to was written back.
   pub record HasRecovered (old new : DeviceView) (s : SnapshotModel) : Type 0 where
     pub conclusion : RecoveryResult
@@ -95,12 +91,12 @@ module _ (sum : List ℕ → ℕ) (size : ℕ) where
   -- What was recovered is good for the run, which goes on from that.
   pub record HasOpened (a : RunState) (r : Reply) (new : DeviceView) (b : RunState) : Type 0 where
     pub opens : RecoversAndStarts a.device r new
-    pub good : ReadsOwn (state_of a.device.trace) → GoesOnFrom a opens.mid opens.snapshot r new b
+    pub good : ReadsOnlyOwn sum size (state_of a.device.trace) → GoesOnFrom a opens.mid opens.snapshot r new b
 
   -- Or the recovery failed.
   pub record FailsToRecover (a : RunState) (e : Error) (new : DeviceView) (b : RunState) : Type 0 where
     pub calls : RecoveryCalls sum size a.device.trace new.trace
-    pub cause : ReadsOwn (state_of a.device.trace) → IsCause e a.device.failures new.failures
+    pub cause : ReadsOnlyOwn sum size (state_of a.device.trace) → IsCause e a.device.failures new.failures
     pub leads : b ≡ with_log a new None
 
   abbrev pub OpenStep : RunState → Reply → DeviceView → RunState → Type 0

@@ -1,5 +1,5 @@
 -- What the start of a log comes to in a session.
-use Rattle.std.specs.Prelude.{◌≡◌, ℕ, List, [], length, Option, None, Some}
+use Rattle.std.specs.Prelude.{◌≡◌, ℕ, List, []}
 use Rattle.sled_codec.specs.History.{History}
 use Rattle.sled_codec.specs.Snapshots.{SnapshotModel}
 use Rattle.sled_store.specs.declared.config.RunningConfig.{RunningConfig}
@@ -7,7 +7,7 @@ use Rattle.sled_log.specs.declared.session.Phase.{Phase}
 use Rattle.sled_log.specs.declared.session.command.Reply.{Reply}
 use Rattle.sled_log.specs.declared.session.command.Reply.TheVariants as reply
 use Rattle.sled_log.specs.RunPhases.{IsAt, IsRecoveredAt, Unstored, device_in, log_in, traces}
-use Rattle.sled_log.specs.RunStates.{DeviceView, LogView, length_of, started_on}
+use Rattle.sled_log.specs.RunStates.{DeviceView, length_of}
 use Rattle.sled_log.specs.OpenSteps.{SaysWhy, log_opened}
 
 -- nothing is reserved

@@ -6,20 +6,20 @@ use Rattle.sled_codec.specs.Errors.{IsCorruption}
 use Rattle.sled_codec.specs.History.{History, table}
 use Rattle.sled_codec.specs.WellFormed.{IsWellFormed}
 use Rattle.sled_codec.specs.Snapshots.{model_of}
-use Rattle.sled_store.specs.Device.{Content, State, content_of}
+use Rattle.sled_store.specs.Device.{Content, State}
 use Rattle.sled_core.specs.Good.{IsGood}
-use Rattle.sled_core.specs.Recoverable.{NoForeign, LeavesRecoverable}
+use Rattle.sled_core.specs.Recoverable.{ReadsOnlyOwn, LeavesRecoverable}
 
 -- It is one that a log's users make, and no page has more than 254 Links on its Replace.
 pub record IsOrderly (H : History) : Type 0 where
   pub formed : IsWellFormed H
   pub few : (cut page : ℕ) → length (table H cut page) ≤ 255
 
--- Each content that a crash leaves of the device can be recovered for an orderly history, and in what is read only what the log itself wrote passes as its own.
+-- Each content that a crash leaves of the device can be recovered for an orderly history, and what is read is the log's own.
 pub record CanRecover (sum : List ℕ → ℕ) (size : ℕ) (device : State) (H : History) (A f : ℕ) : Type 0 where
   pub orderly : IsOrderly H
   pub left : LeavesRecoverable sum size H A f device
-  pub own : NoForeign sum size device (content_of device)
+  pub own : ReadsOnlyOwn sum size device
 
 -- What was recovered is read well: no damage was met, and the snapshot is good for it.
 abbrev pub IsReadWell : (List ℕ → ℕ) → ℕ → Content → History → ℕ → ℕ → Result Snapshot Error → Type 0

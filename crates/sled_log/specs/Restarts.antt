@@ -7,24 +7,19 @@ use Rattle.sled_codec.specs.declared.result.Error.TheVariants.{Io, OutOfMemory, 
 use Rattle.sled_codec.specs.History.{Message, History}
 use Rattle.sled_store.specs.Answers.{is_fault}
 use Rattle.sled_store.specs.Blobs.{ItemAnswers}
-use Rattle.sled_store.specs.Device.{Event, State, Trace, content_of, state_of}
+use Rattle.sled_store.specs.Device.{Event, Trace, state_of}
 use Rattle.sled_store.specs.Script.{Performs, after_all}
 use Rattle.sled_core.specs.declared.logger.Log.{Log}
-use Rattle.sled_core.specs.Fits.{device_of, flushing, segment_size_of}
-use Rattle.sled_core.specs.Recoverable.{NoForeign}
+use Rattle.sled_core.specs.Recoverable.{NoHeaderOfZeros}
 use Rattle.sled_core.specs.Running.{Fits}
 use Rattle.sled_log.specs.Orderly.{IsOrderly}
 use Rattle.sled_log.specs.Restores.{ComesOf}
 
--- the device, once what was reserved is written
-abbrev pub flushed_state : {D C : Type 0} → (D → Trace) → (List ℕ → ℕ) → Log D C → State
-flushed_state trace sum log = state_of (after_all (flushing sum log) (trace (device_of log)))
-
--- A log fits an orderly history, and once what was reserved is written, only what the log itself wrote passes as its own in what is read.
+-- A log fits an orderly history, and zeros pass as no header.
 pub record CanRestart {D C : Type 0} (trace : D → Trace) (sum : List ℕ → ℕ) (log : Log D C) (H : History) (A f : ℕ) (U : List Message) : Type 0 where
   pub fits : Fits trace sum log H A f U
   pub orderly : IsOrderly H
-  pub own : NoForeign sum (segment_size_of log) (flushed_state trace sum log) (content_of (flushed_state trace sum log))
+  pub zeros : NoHeaderOfZeros sum
 
 -- a flush failed: for the failure that the log kept, for one of this call, which is counted, for want of a further segment, where it needs one that isn't in reach, or else for want of memory
 abbrev pub FlushFails : {T : Type 0} → Result T Error → Type 0 → Option IoError → ℕ → ℕ → Type 0

@@ -17,12 +17,12 @@ use Rattle.sled_store.specs.Moments.{IsLater}
 use Rattle.sled_store.specs.Noted.{left_of}
 use Rattle.sled_store.specs.Stops.{KeepsToStop}
 use Rattle.sled_core.specs.Manifests.{manifest_page}
-use Rattle.sled_core.specs.Recoverable.{NoForeign}
+use Rattle.sled_core.specs.Recoverable.{NoForeign, ReadsOnlyOwn}
 use Rattle.sled_log.specs.declared.session.command.Command.{Command}
 use Rattle.sled_log.specs.declared.session.command.Command.TheVariants as command
 use Rattle.sled_log.specs.declared.session.command.Reply.{Reply}
 use Rattle.sled_log.specs.declared.session.command.Reply.TheVariants as reply
-use Rattle.sled_log.specs.OpenSteps.{OpenStep, ReadsOwn}
+use Rattle.sled_log.specs.OpenSteps.{OpenStep}
 use Rattle.sled_log.specs.ReadSteps.{ReadStep}
 use Rattle.sled_log.specs.Refusals.{reason_of, refusal_for}
 use Rattle.sled_log.specs.RunStates.{DeviceView, LogView, RunState, page_now, with_log}
@@ -62,10 +62,19 @@ abbrev pub told : Bool → Reply → Reply
 told true (reply.Failed (Io e)) = reply.Stopped
 told stopped r = r
 
+-- where a log is open that keeps no failure
+abbrev pub WhileSound : Option LogView → Type 0 → Type 0
+WhileSound None P = Unit {0}
+WhileSound (Some l) P = l.fault ≡ None → P
+
 module _ (sum : List ℕ → ℕ) (size : ℕ) where
+  -- While a log is open that keeps no failure, what is read is the log's own: so it is when that log is closed, and another is opened.
+  abbrev pub KeepsOwn : RunState → Type 0
+  KeepsOwn a = WhileSound a.log (ReadsOnlyOwn sum size (state_of a.device.trace))
+
   -- Only what the log itself wrote passes as its own, in what a recovery reads and in what a crash leaves.
   abbrev pub IsOwn : State → Command → Reply → Type 0
-  IsOwn s command.Open r = ReadsOwn sum size s
+  IsOwn s command.Open r = ReadsOnlyOwn sum size s
   IsOwn s (command.Crash choice) (reply.Crashed taken) = NoForeign sum size s (content_left (left_after choice taken) s)
   IsOwn s _ r = Unit {0}
 
@@ -107,6 +116,7 @@ module _ (sum : List ℕ → ℕ) (size : ℕ) where
     pub stops : KeepsToStop new.trace new.is_stopped
     pub after : RunState
     pub step : IsStep a c came new after
+    pub own : IsOwn (state_of a.device.trace) c came → KeepsOwn after
     pub leads : IsOwn (state_of a.device.trace) c came → Leads after
 
   -- These commands are answered by these replies, from where a run stands on. What is claimed of each place between two commands holds behind each of them,

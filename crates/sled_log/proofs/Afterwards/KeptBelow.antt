@@ -5,7 +5,7 @@ use Rattle.sled_codec.specs.Snapshots.{SnapshotModel, stable_place}
 use Rattle.sled_store.specs.Device.{Synced, NamesSynced, LogState, NamesState, Content, Trace, state_of, content_of, names_synced, LeavesLog}
 use Rattle.sled_store.proofs.LogFile.LogLemmas.{at_rest_left}
 use Rattle.sled_store.proofs.Traces.ScriptLemmas.{ends_in}
-use Rattle.sled_core.specs.Recoverable.{NoForeign, IsRecoverableLog}
+use Rattle.sled_core.specs.Recoverable.{IsRecoverableLog, ReadsOnlyOwn}
 use Rattle.sled_core.proofs.Blobs.ItemsStay.{entries_synced}
 use Rattle.sled_log.proofs.Recovers.Readable.{CanRead}
 use Rattle.sled_log.specs.Recovery.{RecoveryResult, Recovered, Recovers}
@@ -42,7 +42,7 @@ begin_below sum size H f cut Allowed places names begin left leaves own =
       first.2,
     )
 
-module _ (sum : List ℕ → ℕ) (size : ℕ) (H : History) (A f : ℕ) (some : 256 ≤ size) (old : Trace) (readable : LeavesReadable sum size H A f (state_of old)) (own : NoForeign sum size (state_of old) (content_of (state_of old)))
+module _ (sum : List ℕ → ℕ) (size : ℕ) (H : History) (A f : ℕ) (some : 256 ≤ size) (old : Trace) (readable : LeavesReadable sum size H A f (state_of old)) (own : ReadsOnlyOwn sum size (state_of old))
     (x : RecoveryResult) (recovers : Recovers sum size (content_of (state_of old)) (Recovered x)) (spelled : FitsIfNew x) (new : Trace) (has : HasWrittenBack sum size x (NamesSynced ∷ Synced ∷ old) new) where
   abbrev content : Content
   content = content_of (state_of old)

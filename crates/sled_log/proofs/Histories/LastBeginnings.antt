@@ -6,8 +6,8 @@ use Rattle.sled_codec.specs.declared.serialization.message.LogKind.{LogKind}
 use Rattle.sled_codec.specs.declared.serialization.message.LogKind.TheVariants as does
 use Rattle.sled_codec.specs.History.{Message, History, Completed, Step, begins_page, is_replace, is_link, last_beginning, entries_from, page_state, of_page, table}
 use Rattle.sled_codec.specs.WellFormed.{LieApart}
-use Rattle.sled_store.proofs.Histories.Ascending.{apart_ascends, in_filter, in_first, in_rest}
-use Rattle.sled_store.proofs.Histories.PageStates.{IsLast, last_is}
+use Rattle.sled_store.proofs.Histories.Ascending.{apart_ascends, in_filter, in_rest}
+use Rattle.sled_store.proofs.Histories.PageStates.{last_is}
 use Rattle.sled_store.proofs.Histories.TableParts.{from_page, in_page, last_in_state, page_ascends}
 use Rattle.sled_log.specs.PageHistories.{IsLastBeginning}
 use Rattle.sled_log.proofs.Sessions.MadeHistories.{came, new_there}

@@ -1,5 +1,5 @@
 -- Each of messages that lie one behind another has a size.
-use Rattle.std.proofs.Common.{◌<◌, ℕ, List, [], ◌∷◌}
+use Rattle.std.proofs.Common.{◌<◌, List, [], ◌∷◌}
 use Rattle.std.specs.List.{All, Contains}
 use Rattle.std.proofs.lemmas.List.Elements.{All-cons, All-contains, All-nil}
 use Rattle.sled_codec.specs.History.{Message}

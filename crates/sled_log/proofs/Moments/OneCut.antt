@@ -12,10 +12,12 @@ use Rattle.sled_store.specs.Foreign.{NoForeignNames}
 use Rattle.sled_store.proofs.Crashes.SettledLemmas.{read_left}
 use Rattle.sled_store.proofs.Segments.Elements.{in_nothing}
 use Rattle.sled_core.specs.declared.iterator.Segment.{Segment}
-use Rattle.sled_core.specs.Recoverable.{NoForeign, AreRecoverableBlobs, IsRecoverableLog, cut_from}
+use Rattle.sled_core.specs.OwnNames.{StayOwn}
+use Rattle.sled_core.specs.Recoverable.{ReadsOnlyOwn, AreRecoverableBlobs, IsRecoverableLog, cut_from}
 use Rattle.sled_log.proofs.Recovers.Readable.{CanRead, LeavesReadable}
 use Rattle.sled_log.specs.Recovery.{Scanned, AreScanned, IsTail, tail_begins, tail_end, least_place}
 use Rattle.sled_log.proofs.Moments.LogAlong.{BlobsStand}
+use Rattle.sled_core.proofs.Blobs.FirmContent.{content_own}
 use Rattle.sled_core.proofs.Tail.OneReading.{one_scan}
 use Rattle.sled_core.proofs.Tail.OneTail.{rises_of, one_ordering, one_tail}
 use Rattle.sled_log.proofs.SnapshotFile.BeginLemmas.{one_begin}
@@ -65,29 +67,30 @@ module _ (sum : List ℕ → ℕ) (blobs : NamesState) where
   left_before n left (inr (inr half)) = absurd half
 
   -- and what is its own then was so before, where that is so of what is read
-  own_before : NoForeignNames Passes blobs blobs.file → (left : ℤ → Option (List ℕ)) → NoForeignNames Passes (names_synced blobs) left → NoForeignNames Passes blobs left
+  own_before : StayOwn Passes blobs → (left : ℤ → Option (List ℕ)) → NoForeignNames Passes (names_synced blobs) left → NoForeignNames Passes blobs left
   own_before own left own_left = record {
     own = λ n bytes there is. elim (own_left.own n bytes there is) [
-      | inl settled ↦ own.own n bytes (by_file n bytes is (blobs.file n) (blobs.is_unsynced n) refl settled) is
+      | inl settled ↦ (let read = by_file n bytes is (blobs.file n) (blobs.is_unsynced n) refl refl settled in own.own n bytes is read.0 read.1)
       | inr asked ↦ inr (by_asked (blobs.is_unsynced n) (blobs.asked n) bytes asked)
     ];
   } where
-    by_file : (n : ℤ) (bytes : List ℕ) → Passes bytes → (file : Option (List ℕ)) (unsynced : Bool) → blobs.file n ≡ file → settled_file file unsynced [] ≡ Some bytes → blobs.file n ≡ Some bytes
-    by_file n bytes is None unsynced at settled = cc
-    by_file n bytes is (Some file) false at settled = at ∙ settled
-    by_file n bytes is (Some file) true at settled = let empty : [] ≡ bytes = cc in absurd (not_empty (subst Passes (sym empty) is))
+    by_file : (n : ℤ) (bytes : List ℕ) → Passes bytes → (file : Option (List ℕ)) (unsynced : Bool) → blobs.file n ≡ file → blobs.is_unsynced n ≡ unsynced → settled_file file unsynced [] ≡ Some bytes
+        → (blobs.file n ≡ Some bytes) × (blobs.is_unsynced n ≡ false)
+    by_file n bytes is None unsynced at firm settled = cc
+    by_file n bytes is (Some file) false at firm settled = (at ∙ settled, firm)
+    by_file n bytes is (Some file) true at firm settled = let empty : [] ≡ bytes = cc in absurd (not_empty (subst Passes (sym empty) is))
 
     by_asked : (unsynced : Bool) (asked : List (List ℕ)) (bytes : List ℕ) → Contains (if unsynced then asked else []) bytes → Contains asked bytes
     by_asked true asked bytes there = there
     by_asked false asked bytes there = absurd (in_nothing bytes there)
 
 -- The blobs that a crash leaves behind the syncs are those that the cut asks for.
-pub stand_synced : (sum : List ℕ → ℕ) (size : ℕ) (H : History) (A f : ℕ) (old : Trace) → LeavesReadable sum size H A f (state_of old) → NoForeign sum size (state_of old) (content_of (state_of old))
+pub stand_synced : (sum : List ℕ → ℕ) (size : ℕ) (H : History) (A f : ℕ) (old : Trace) → LeavesReadable sum size H A f (state_of old) → ReadsOnlyOwn sum size (state_of old)
     → (can : CanRead sum size (content_of (state_of old)) H A f) → BlobsStand sum H can.cut.0 (names_synced (state_of old).blobs)
 stand_synced sum size H A f old kept own can left leaves own_left =
     let now = read_left old in
     let content : Content = record { log = (state_of old).log.bytes; blobs = left; snapshots = (state_of old).snapshots.file } in
     let also : CanRead sum size content H A f = kept content
     (record { log = now.log; blobs = λ n. left_before sum (state_of old).blobs n (left n) (leaves n); snapshots = now.snapshots })
-    (record { log = own.log; blobs = own_before sum (state_of old).blobs own.blobs left own_left; snapshots = own.snapshots; zeros = own.zeros }) in
+    (record { log = own.log; blobs = own_before sum (state_of old).blobs own.names.of_blobs left own_left; snapshots = (content_own sum size old own).snapshots; zeros = own.zeros }) in
     subst (λ (c : ℕ × Option ℕ). AreRecoverableBlobs sum left H c.0) (sym (same_cut sum size (state_of old).log.bytes (state_of old).blobs.file left (state_of old).snapshots.file H A f can also)) also.blobs

@@ -11,13 +11,14 @@ use Rattle.sled_store.specs.Blobs.{MayGo}
 use Rattle.sled_store.specs.Moments.{Throughout}
 use Rattle.sled_store.specs.Script.{Along}
 use Rattle.sled_store.specs.Foreign.{NoForeignLog}
-use Rattle.sled_store.proofs.Crashes.SettledLemmas.{before_sync, read_left}
+use Rattle.sled_store.proofs.Crashes.SettledLemmas.{before_sync}
 use Rattle.sled_store.proofs.Crashes.SyncedLemmas.{snapshots_firm}
 use Rattle.sled_store.proofs.LogFile.LogLemmas.{at_rest_left}
 use Rattle.sled_store.proofs.Names.NamesLemmas.{settled_name_synced}
 use Rattle.sled_store.proofs.Segments.Elements.{in_nothing}
 use Rattle.sled_store.proofs.Traces.ScriptLemmas.{along_first, performs_throughout}
-use Rattle.sled_core.specs.Recoverable.{ActiveFits, NoForeign, IsRecoverableLog}
+use Rattle.sled_core.specs.Recoverable.{ActiveFits, IsRecoverableLog, ReadsOnlyOwn}
+use Rattle.sled_core.proofs.Blobs.FirmContent.{blobs_read, content_leaves, content_own, firm_content}
 use Rattle.sled_log.proofs.Recovers.Readable.{CanRead}
 use Rattle.sled_log.specs.Recovery.{RecoveryResult, shred_range_of}
 use Rattle.sled_log.specs.Restores.{RecoveryCalls}
@@ -80,10 +81,12 @@ forgotten_above (Some (pos k)) cut place p low = inl (subst (λ n. pos n ≤ℤ 
 forgotten_above (Some (negsuc k)) cut place p low = inr (sym place)
 
 -- The calls, from the first sync on.
-module _ (sum : List ℕ → ℕ) (size : ℕ) (H : History) (A f : ℕ) (some : 256 ≤ size) (old : Trace) (kept : LeavesReadable sum size H A f (state_of old)) (own : NoForeign sum size (state_of old) (content_of (state_of old))) where
+module _ (sum : List ℕ → ℕ) (size : ℕ) (H : History) (A f : ℕ) (some : 256 ≤ size) (old : Trace) (kept : LeavesReadable sum size H A f (state_of old)) (own : ReadsOnlyOwn sum size (state_of old)) where
   -- what is read can be read back
   pub can_read : CanRead sum size (content_of (state_of old)) H A f
-  can_read = kept (content_of (state_of old)) (read_left old) own
+  can_read =
+      let is = kept (firm_content sum size old own) (content_leaves sum size old own) (content_own sum size old own) in
+      record { orderly = is.orderly; first = is.first; cut = is.cut; snapshots = is.snapshots; log = is.log; blobs = blobs_read sum (state_of old).blobs H is.cut.0 is.blobs }
 
   -- The log file is settled: what was read is what a crash leaves of it.
   synced_readable : LeavesReadable sum size H A f (step Synced (state_of old))

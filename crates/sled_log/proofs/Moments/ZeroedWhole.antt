@@ -35,7 +35,7 @@ use Rattle.sled_log.proofs.Moments.ZeroedParts.{header_apart, found_stays}
 use Rattle.sled_log.proofs.Moments.ZerosStand.{leaves_new, no_more_than, bytes_same, slot_beside, lay_before, end_same_there, path_there, truth_there}
 
 -- The records of a path before one of them are a path to it.
-path_until : (sum : List ℕ → ℕ) (size : ℕ) (log : List ℕ) (slot place at : ℕ) (ms : List ScannedRecord) (next : ℕ) → IsPath sum size log slot place at ms next → (x : ScannedRecord) → Contains ms x
+pub path_until : (sum : List ℕ → ℕ) (size : ℕ) (log : List ℕ) (slot place at : ℕ) (ms : List ScannedRecord) (next : ℕ) → IsPath sum size log slot place at ms next → (x : ScannedRecord) → Contains ms x
     → (before : List ScannedRecord) × (o : ℕ) × IsPath sum size log slot place at before o × (x.place ≡ place + o)
 path_until sum size log slot place at [] next path x there = absurd (in_nothing x there)
 path_until sum size log slot place at (m ∷ ms) next path x there = ⊎_elim

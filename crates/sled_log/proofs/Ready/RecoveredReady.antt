@@ -13,7 +13,7 @@ use Rattle.sled_core.specs.Logged.{logged}
 use Rattle.sled_core.specs.Ready.{HasFile, IsReady}
 use Rattle.sled_core.specs.Running.{BlobsFit, KeepsEntries, NamesFit, IsReadyFor, Ready}
 use Rattle.sled_core.specs.Reached.{StandsActive}
-use Rattle.sled_core.specs.Recoverable.{NoForeign, NoHeaderOfZeros, IsRecoverableLog, AreRecoverableSnapshots}
+use Rattle.sled_core.specs.Recoverable.{NoHeaderOfZeros, IsRecoverableLog, AreRecoverableSnapshots, ReadsOnlyOwn}
 use Rattle.sled_log.proofs.Recovers.Readable.{CanRead, LeavesReadable}
 use Rattle.sled_log.specs.Recovery.{RecoveryResult, Recovered, Recovers}
 use Rattle.sled_log.specs.Restores.{BeginsAgain}
@@ -23,6 +23,7 @@ use Rattle.sled_log.proofs.Afterwards.ForgottenSlots.{zeroed_rests}
 use Rattle.sled_log.proofs.Afterwards.KeptBelow.{begin_below, names_end, below_cut}
 use Rattle.sled_log.proofs.Afterwards.LastOwn.{own_end}
 use Rattle.sled_log.proofs.Afterwards.LeftGood.{left_log, log_is, stops_left, nothing_above, fits, active}
+use Rattle.sled_log.proofs.Afterwards.LogOwn.{log_end}
 use Rattle.sled_log.proofs.Afterwards.OrderlyBelow.{orderly_below}
 use Rattle.sled_log.proofs.Moments.ForgottenAbove.{message_from, batch_from, blobs_forget, table_kept}
 use Rattle.sled_log.proofs.Moments.RecoveryAlong.{can_read, concluded}
@@ -83,7 +84,7 @@ module _ (sum : List ℕ → ℕ) (size : ℕ) (content : Content) (H : History)
       (apart_ascends K.messages (orderly_below H can.cut.0 can.orderly).formed.apart) pages_kept well.active ends (zeros_behind sum size content H A f some can x well none)
 
 -- All was written back.
-module _ (sum : List ℕ → ℕ) (size : ℕ) (H : History) (A f : ℕ) (some : 256 ≤ size) (old : Trace) (readable : LeavesReadable sum size H A f (state_of old)) (own : NoForeign sum size (state_of old) (content_of (state_of old)))
+module _ (sum : List ℕ → ℕ) (size : ℕ) (H : History) (A f : ℕ) (some : 256 ≤ size) (old : Trace) (readable : LeavesReadable sum size H A f (state_of old)) (own : ReadsOnlyOwn sum size (state_of old))
     (x : RecoveryResult) (recovers : Recovers sum size (content_of (state_of old)) (Recovered x)) (spelled : FitsIfNew x) (new : Trace) (has : HasWrittenBack sum size x (NamesSynced ∷ Synced ∷ old) new)
     (again : BeginsAgain sum (state_of old).snapshots.file (state_of new) x.model) where
   abbrev content : Content
@@ -176,6 +177,7 @@ module _ (sum : List ℕ → ℕ) (size : ℕ) (H : History) (A f : ℕ) (some :
     entries = subst (KeepsEntries sum now.blobs kept) (sym well.place) entries;
     below = λ m there. let from = message_from H cut m there in (can.log.placed m from.0 from.1).blob;
     names = names_alike kept (logged kept) of_log sum size now.snapshots cut first names;
+    own = λ zeros. log_end sum size H A f some old own can x well new has;
     own_names = own_end sum size x old new has;
     passes = subst (λ n. A ≤ n) (sym well.place) can.log.passes;
     left = leaves_recoverable sum size kept A cut now (below_cut sum size H A f some old readable own x recovers spelled new has);

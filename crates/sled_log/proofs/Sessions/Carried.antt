@@ -1,5 +1,5 @@
 -- What a command comes to that isn't refused: what its refusal would say, and how a reservation is carried out.
-use Rattle.std.proofs.Common.{◌≡◌, nat_le, nat_lt, arith, subst, ℕ, pos, Bool, true, false, List, [], ◌∷◌, length, Option, Some, None, refl, sym, inl, inr}
+use Rattle.std.proofs.Common.{◌≡◌, nat_le, nat_lt, arith, subst, ℕ, pos, Bool, true, false, List, [], ◌∷◌, length, Option, None, refl, sym, inl, inr}
 use Rattle.std.specs.Bool.{MatchBool}
 use Rattle.std.specs.Prelude.{Vec, not, ◌&&◌}
 use Rattle.std.specs.declared.alloc.Global.{Global}

@@ -1,5 +1,5 @@
 -- What the commands of a run do to its device goes on, one behind another; and each phase does what is claimed of a command.
-use Rattle.std.proofs.Common.{◌≡◌, ◌∙◌, ℕ, Bool, true, false, List, [], ◌∷◌, ◌++◌, if◌then◌else◌, Option, None, Some, refl, sym, ap, subst}
+use Rattle.std.proofs.Common.{◌≡◌, ℕ, Bool, true, false, List, [], ◌∷◌, ◌++◌, if◌then◌else◌, Option, Some, refl, sym, ap, subst}
 use Rattle.std.specs.Prelude.{◌↔◌, IsTrue}
 use Rattle.sled_store.specs.declared.device.choice.Choice.{Choice}
 use Rattle.sled_store.specs.Chosen.{MayBeLeft}
@@ -30,6 +30,7 @@ leaves_over sum size was old c r over leaves = record {
   new = leaves.new;
   came = leaves.came;
   is_told = leaves.is_told;
+  stops = leaves.stops;
   touches = leaves.touches;
   leads = over (opens_after was c leaves.came) leaves.new leaves.leads;
 }
@@ -74,6 +75,7 @@ left_at {D} {C} view sum old new p next c r was_at is_at told_in was device over
       new = device_in view next;
       came = told_in.came;
       is_told = told_in.is_told;
+      stops = told_in.stops;
       touches = told_in.is.touches;
       leads = subst (λ (b : Bool). StandsOver view new b (device_in view next)) told_in.is.opens (over_at view sum new next is_at);
     })))

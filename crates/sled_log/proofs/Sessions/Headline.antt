@@ -1,5 +1,5 @@
 -- The headline of a run follows from what each of its commands comes to.
-use Rattle.std.proofs.Common.{◌≡◌, ◌∙◌, ◌⊎◌, ◌+◌, ◌-◌, ◌≤◌, ◌<◌, ◌==◌, nat_lt, if◌then◌else◌, arith, rules, ℕ, ℤ, pos, max, Bool, true, false, List, [], ◌∷◌, ◌++◌, length, Option, None, Some, refl, sym, ap, subst, inl, inr}
+use Rattle.std.proofs.Common.{◌≡◌, ◌∙◌, ◌⊎◌, ◌+◌, ◌-◌, ◌≤◌, ◌<◌, ◌==◌, nat_lt, if◌then◌else◌, arith, ℕ, ℤ, pos, max, Bool, true, false, List, [], ◌∷◌, length, Option, None, Some, refl, sym, ap, subst, inl, inr}
 use Rattle.std.specs.List.{Contains}
 use Rattle.std.specs.Prelude.{◌≤ℤ◌, ◌<ℤ◌, IsTrue, set, slice_get}
 use Rattle.std.specs.declared.io.Error.{Error as IoError}
@@ -31,7 +31,7 @@ use Rattle.sled_log.specs.declared.session.command.Reply.{Reply}
 use Rattle.sled_log.specs.declared.session.command.Reply.TheVariants as reply
 use Rattle.sled_log.specs.Headline.{Acknowledges, Comes, Moves, Recovers, Reserves, Restores, Stays}
 use Rattle.sled_log.specs.OpenSteps.{HasOpened, IsStartCause, OpenStep, log_opened}
-use Rattle.sled_log.specs.ReadSteps.{FailsAt, ReadStep, ReadStops, ReadsAll, read_around, read_at}
+use Rattle.sled_log.specs.ReadSteps.{FailsAt, ReadStep, ReadsAll, read_around, read_at}
 use Rattle.sled_log.specs.RunStates.{DeviceView, HasAll, LogView, RunState, body_in, length_of, made_ready, message_at, opens, page_now, places_without, rewriting_at, sealed_around, spans_without, start_around, start_below, target_in, tickets_in, tickets_of, with_log}
 use Rattle.sled_log.specs.Runs.{CrashStep, HaltStep, IsOwn, IsStep, Runs, StepBy, StopStep, told}
 use Rattle.sled_log.specs.RunPhases.{IsAt, SomeStands, StandsAt, StandsAtPhase, Unstored, seen, stands, traces}

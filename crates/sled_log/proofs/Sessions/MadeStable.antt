@@ -1,13 +1,10 @@
 -- What making a place stable comes to in a session, and why it fails.
-use Rattle.std.proofs.Common.{◌≡◌, ◌∙◌, ◌≤◌, ◌<◌, ◌<ℤ◌, ◌+◌, ◌-◌, inl, inr, nat_lt, if◌then◌else◌, ℕ, ℤ, pos, int_lt, Bool, true, false, List, [], ◌∷◌, ◌++◌, length, map, get_or, replicate, append-nil, Option, None, Some, ap, sym, subst, refl, arith}
+use Rattle.std.proofs.Common.{◌≡◌, ◌∙◌, ◌≤◌, ◌<◌, ◌<ℤ◌, ◌+◌, ◌-◌, inl, inr, nat_lt, if◌then◌else◌, ℕ, ℤ, pos, int_lt, Bool, true, false, List, [], ◌∷◌, ◌++◌, append-nil, Option, None, Some, ap, sym, subst, refl, arith}
 use Rattle.std.specs.Prelude.{Err}
-use Rattle.std.specs.List.{All}
 use Rattle.std.specs.declared.io.Error.{Error as IoError}
 use Rattle.std.proofs.lemmas.Bool.Decides.{nat_tests}
 use Rattle.std.proofs.lemmas.Bool.{cases_lt}
 use Rattle.std.proofs.lemmas.Int.{ints}
-use Rattle.std.proofs.lemmas.List.{length-replicate}
-use Rattle.std.proofs.lemmas.List.Elements.{All-append, All-cons, All-head, All-map, All-nil, All-tail}
 use Rattle.sled_codec.specs.declared.result.Error.{Error}
 use Rattle.sled_codec.specs.declared.result.Error.TheVariants as error
 use Rattle.sled_codec.specs.History.{History, Message}
@@ -15,13 +12,11 @@ use Rattle.sled_store.specs.Device.{Event}
 use Rattle.sled_store.specs.Script.{Performs, after_all}
 use Rattle.sled_core.specs.Causes.{HeldAnswers, OnDone}
 use Rattle.sled_core.specs.declared.logger.Log.{Log}
-use Rattle.sled_core.specs.Fits.{FirstWaits, IsUsedUpBelow, buffers_of, current_begin, current_of, device_of, fault_of, held_len, holding_below, reserved_end, sealing_end, segment_size_of, stable_end, start_of, synced_end, waiting_of, writing_below}
+use Rattle.sled_core.specs.Fits.{FirstWaits, IsUsedUpBelow, buffers_of, current_begin, device_of, fault_of, held_len, holding_below, reserved_end, segment_size_of, stable_end, synced_end, waiting_of, writing_below}
 use Rattle.sled_core.specs.Fronts.{CameTo}
-use Rattle.sled_core.specs.Positions.{is_short}
 use Rattle.sled_core.proofs.Stable.Places.{behind_stable}
 use Rattle.sled_core.specs.Stable.{IsNotReserved, StableAnswers, held_for, stabilizing, target_for}
-use Rattle.sled_core.specs.Waiting.{BufferAt, HasLength, Span, begun_below, span_of, spans}
-use Rattle.sled_store.proofs.Traces.ScriptLemmas.{performs_nothing}
+use Rattle.sled_core.specs.Waiting.{BufferAt, Span, begun_below, spans}
 use Rattle.sled_core.proofs.Line.Settles.{stable_up}
 use Rattle.sled_core.proofs.Line.Shows.{buffers_add}
 use Rattle.sled_core.proofs.PublicLaws.{first_waits, shows_empty}

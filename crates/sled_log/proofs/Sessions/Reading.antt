@@ -1,5 +1,5 @@
 -- What a read leaves of a log, as it is seen.
-use Rattle.std.proofs.Common.{◌≡◌, ◌∙◌, ◌≤◌, ◌<◌, ◌+◌, ◌⊎◌, ◌&&◌, inl, inr, ℕ, ℤ, pos, Bool, true, false, nat_lt, nat_le, if◌then◌else◌, List, [], ◌∷◌, ◌++◌, length, map, Option, Some, None, Result, Ok, Err, OnErr, refl, sym, ap, subst, arith, append_assoc, get_or, to_z, of_z}
+use Rattle.std.proofs.Common.{◌≡◌, ◌∙◌, ◌≤◌, ◌<◌, ◌+◌, ◌&&◌, inl, inr, ℕ, ℤ, pos, Bool, true, false, nat_lt, nat_le, if◌then◌else◌, List, [], ◌∷◌, ◌++◌, length, map, Option, Some, None, Result, Ok, Err, OnErr, refl, sym, ap, subst, arith, append_assoc, get_or, to_z, of_z}
 use Rattle.std.specs.Prelude.{Vec, unsigned_abs}
 use Rattle.std.specs.Int.{w64}
 use Rattle.std.specs.List.{All, Contains}
@@ -23,7 +23,6 @@ use Rattle.sled_codec.specs.Snapshots.{Entry, Page, Present, Uninitialized, page
 use Rattle.sled_store.specs.Device.{Event, Trace}
 use Rattle.sled_store.specs.Script.{Performs, after_all}
 use Rattle.sled_store.proofs.Segments.TableEntries.{from_table}
-use Rattle.sled_store.proofs.Traces.ScriptLemmas.{performs_nothing}
 use Rattle.sled_core.specs.Causes.{IsFault, IsFaultAt, OnDone}
 use Rattle.sled_core.specs.Reading.{GivesMessage, IsInline}
 use Rattle.sled_core.specs.ReadPointer.{GivesBlobOrWaits, IsKeptBlob, place_read}

@@ -25,6 +25,7 @@ use Rattle.sled_core.specs.Fits.{config_of, device_of, segment_size_of}
 use Rattle.sled_core.specs.Recoverable.{NoForeign, Recoverable, LeavesRecoverable}
 use Rattle.sled_core.proofs.Start.FreshReady.{fresh_leaves}
 use Rattle.sled_core.proofs.Holds.RunningLemmas.{fits_leaves}
+use Rattle.sled_core.proofs.OwnLog.OfLog.{fits_reads_own}
 use Rattle.sled_log.specs.declared.session.Phase.{Phase}
 use Rattle.sled_log.specs.declared.session.Phase.TheVariants as phase
 use Rattle.sled_log.specs.declared.session.opened.Opened.{Opened}
@@ -37,7 +38,7 @@ use Rattle.sled_log.specs.declared.session.command.Reply.TheVariants as reply
 use Rattle.sled_log.specs.Refusals.{reason_of, refusal_for, when}
 use Rattle.sled_log.specs.RunStates.{DeviceView, RunState}
 use Rattle.sled_log.specs.OpenSteps.{IsCause, IsStartCause}
-use Rattle.sled_log.specs.Runs.{Carries, IsOwn, IsStep, told}
+use Rattle.sled_log.specs.Runs.{Carries, IsOwn, IsStep, KeepsOwn, told}
 use Rattle.sled_log.specs.RunPhases.{AnswersIn, CarriesOut, Does, IsAt, IsClosedAt, IsOpenAt, RunsOn, StandsIn, Unstored, device_in, running, size_of, stands, traces}
 use Rattle.sled_log.proofs.Sessions.MadeHistories.{none_made}
 
@@ -213,9 +214,14 @@ module _ {D C : Type 0} (view : D → DeviceView) (sum : List ℕ → ℕ) (from
 
 -- A command that is carried out is told, or it was refused.
 module _ {D C : Type 0} (view : D → DeviceView) (sum : List ℕ → ℕ) (from : Phase D C) (c : Command) where
-  pub answered : (to : Phase D C) (came : Reply) → CarriesOut view sum from c (to, came) → IsLater (device_in view from).trace (device_in view to).trace
+  -- While a log is open that keeps no failure, what is read is its own.
+  phase_own : (phase : Phase D C) (k : Unstored) → IsAt (traces view) sum phase k → KeepsOwn sum (size_of phase) (stands view phase k)
+  phase_own (phase.Closed config) k at = tt
+  phase_own (phase.Open opened) k at = λ none. fits_reads_own (traces view) sum opened.log k.history k.acknowledged k.floor at.unmarked at.fits none at.zeros
+
+  pub answered : (to : Phase D C) (came : Reply) → size_of to ≡ size_of from → CarriesOut view sum from c (to, came) → IsLater (device_in view from).trace (device_in view to).trace
       → KeepsToStop (device_in view to).trace (device_in view to).is_stopped → ((k : Unstored) → IsAt (traces view) sum from k → None ≡ refusal_for (stands view from k) c) → AnswersIn view sum from c (to, told (device_in view to).is_stopped came)
-  answered to came carries later stops free a stands_in =
+  answered to came sizes carries later stops free a stands_in =
       let k : Unstored = stands_in.0 in
       let none = free k stands_in.2 in
       let does = carries k stands_in.2 (sym none) in
@@ -228,6 +234,7 @@ module _ {D C : Type 0} (view : D → DeviceView) (sum : List ℕ → ℕ) (from
         stops = stops;
         after = stands view to does.next;
         step = does.step;
+        own = λ own. subst (λ n. KeepsOwn sum n (stands view to does.next)) sizes (phase_own to does.next (does.at own));
         leads = λ own. (does.next, refl, does.at own);
       })
     where
@@ -248,6 +255,7 @@ module _ {D C : Type 0} (view : D → DeviceView) (sum : List ℕ → ℕ) (from
         stops = stops;
         after = stands view from k;
         step = (refl, refl);
+        own = λ own. phase_own from k stands_in.2;
         leads = λ own. (k, refl, stands_in.2);
       })
     where

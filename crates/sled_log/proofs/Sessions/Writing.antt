@@ -18,7 +18,7 @@ use Rattle.sled_core.specs.Begun.{begin_of, segment_view, view_at}
 use Rattle.sled_core.specs.Causes.{Answers, HeldAnswers, OnDone}
 use Rattle.sled_core.specs.declared.logger.Log.{Log}
 use Rattle.sled_core.specs.Fits.{FirstWaits, IsUsedUp, IsUsedUpBelow, KeepsTickets, buffers_of, current_begin, current_of, device_of, fault_of, held_len, holding_below, noted_in, open_places, pending_of, position_of, reserved_end, sealing_end, segment_size_of, stable_end, start_of, synced_end, waiting_of, writing_below}
-use Rattle.sled_core.specs.Fronts.{CameTo, WritesWhole, syncs}
+use Rattle.sled_core.specs.Fronts.{CameTo, syncs}
 use Rattle.sled_core.specs.Keeps.{LeavesAbove, Preserves, SamePosition, sealed_for, start_for, start_sealed}
 use Rattle.sled_core.specs.OpenPlaces.{first_between}
 use Rattle.sled_core.specs.Positions.{next_segment_at, is_short}

@@ -4,7 +4,8 @@ use Rattle.sled_store.specs.Device.{Trace, state_of}
 use Rattle.sled_store.specs.Moments.{IsLater, Throughout}
 use Rattle.sled_store.proofs.PublicLaws.{later_both}
 use Rattle.sled_core.specs.Fits.{device_of, fault_of, open_places, pins_of, segment_size_of, synced_end}
-use Rattle.sled_core.proofs.PublicLaws.{kept_further, none_is_empty, reads_recoverable}
+use Rattle.sled_core.proofs.Blobs.FirmContent.{read_recoverable}
+use Rattle.sled_core.proofs.PublicLaws.{kept_further, none_is_empty}
 use Rattle.ids.specs.Bounds.{GivesFrom}
 use Rattle.ids.specs.Openings.{OpenFails}
 use Rattle.ids.specs.Readings.{CountsError, IsBoundRead}
@@ -32,7 +33,7 @@ returns-in-Err-clause-fails g c = λ n most can.
     let old = trace c.args.config.device in
     let config = c.read_snapshot_or_default.new.config in
     let recovers = can_recover sum size n most (state_of old) can in
-    let can_read = reads_recoverable sum size can.gives.history can.gives.acknowledged can.gives.floor old can.gives.left can.own in
+    let can_read = read_recoverable sum size old can.own can.gives.history can.gives.acknowledged can.gives.floor can.gives.left in
     recovery_fails sum _ c.in-Err.e _ _ (c.in-Err.ensures.read can.gives.history can.gives.acknowledged can.gives.floor recovers.orderly can_read).0 c.in-Err.ensures.answers
 
 pub returns-in-Err-clause-acts : goal.returns-in-Err-clause-acts

@@ -9,16 +9,16 @@ use Rattle.sled_store.specs.Device.{Trace, state_of, content_of}
 use Rattle.sled_store.specs.Script.{Performs}
 use Rattle.sled_store.proofs.Traces.MomentLemmas.{at_last}
 use Rattle.sled_store.proofs.Histories.Ascending.{all_from_in}
-use Rattle.sled_store.proofs.Crashes.SettledLemmas.{read_left}
 use Rattle.sled_store.proofs.Traces.ScriptLemmas.{performs_whole}
 use Rattle.sled_core.specs.Good.{IsGood}
-use Rattle.sled_core.specs.Recoverable.{LeavesRecoverable}
+use Rattle.sled_core.specs.Recoverable.{LeavesRecoverable, ReadsOnlyOwn}
+use Rattle.sled_core.proofs.Blobs.FirmContent.{read_recoverable}
 use Rattle.sled_core.specs.Running.{Ready}
 use Rattle.sled_log.specs.declared.session.command.Command.TheVariants as command
 use Rattle.sled_log.specs.declared.session.command.Reply.{Reply}
 use Rattle.sled_log.specs.declared.session.command.Reply.TheVariants as reply
 use Rattle.sled_log.specs.Openings.{unreserved}
-use Rattle.sled_log.specs.OpenSteps.{GoesOnFrom, HasOpened, HasRecovered, HasStarted, ReadsOwn, SaysWhy, log_opened, starting}
+use Rattle.sled_log.specs.OpenSteps.{GoesOnFrom, HasOpened, HasRecovered, HasStarted, SaysWhy, log_opened, starting}
 use Rattle.sled_log.specs.Orderly.{CanRecover}
 use Rattle.sled_log.specs.Refusals.{reason_of}
 use Rattle.sled_log.specs.RunPhases.{IsAt, IsClosedAt, IsRecoveredAt, Unstored, device_in, log_in, stands, view_by}
@@ -82,12 +82,12 @@ returns-in-Ok-clause-step g c = λ k at free.
     let H' : History = below k.history cut in
     let l : Unstored = unreserved H' k.acknowledged cut in
     let b : RunState = stands view c.start.result.0 l in
-    let comes : ReadsOwn sum size (state_of old.trace) → GoesOnFrom sum size a mid s c.start.result.1 new b × IsAt trace sum c.start.result.0 l = λ own.
+    let comes : ReadsOnlyOwn sum size (state_of old.trace) → GoesOnFrom sum size a mid s c.start.result.1 new b × IsAt trace sum c.start.result.0 l = λ own.
     let can : CanRecover sum size (state_of old.trace) k.history k.acknowledged k.floor = record { orderly = at.made.orderly; left = at.left; own = own } in
     let good = c.in-Ok.ensures.good k.history k.acknowledged k.floor can in
     let kept = c.in-Ok.ensures.kept k.history k.acknowledged k.floor can in
     let active : ShowsActive size cut s.active = subst (λ (x : SnapshotModel). ShowsActive size (stable_place x.stable) x.active) (sym ok.model)
-    (shows_active sum size (content_of (state_of old.trace)) k.history k.acknowledged k.floor given.least (read_of sum size (content_of (state_of old.trace)) k.history k.acknowledged k.floor can.orderly (can.left (content_of (state_of old.trace)) (read_left old.trace) own)) ok.conclusion ok.recovers) in
+    (shows_active sum size (content_of (state_of old.trace)) k.history k.acknowledged k.floor given.least (read_of sum size (content_of (state_of old.trace)) k.history k.acknowledged k.floor can.orderly (read_recoverable sum size old.trace own k.history k.acknowledged k.floor can.left)) ok.conclusion ok.recovers) in
     let recovered : IsRecoveredAt trace sum config s l = record {
       closed = subst (λ n. IsClosedAt sum n mid.trace l) (sym sizes) (record { made = made_below k.history cut at.made; left = kept });
       zeros = own.zeros;
@@ -132,7 +132,7 @@ returns-in-Err-clause-step g c = λ k at free.
     let size : ℕ = c.args.config.config.segment_size in
     let old : Trace = trace c.args.config.device in
     let new : Trace = trace c.read_snapshot_or_default.new.config.device in
-    let can : ReadsOwn sum size (state_of old) → CanRecover sum size (state_of old) k.history k.acknowledged k.floor = λ own. record { orderly = at.made.orderly; left = at.left; own = own } in
+    let can : ReadsOnlyOwn sum size (state_of old) → CanRecover sum size (state_of old) k.history k.acknowledged k.floor = λ own. record { orderly = at.made.orderly; left = at.left; own = own } in
     let sizes : c.read_snapshot_or_default.new.config.config.segment_size ≡ size = ap (λ (x : Config). x.segment_size) c.read_snapshot_or_default.ensures.config.config in
     record {
       not_refused = refl;
@@ -140,7 +140,7 @@ returns-in-Err-clause-step g c = λ k at free.
       step = inl (record {
         calls = c.read_snapshot_or_default.ensures.calls;
         cause = λ own. cause_of Snapshot sum (state_of old).blobs.file c.in-Err.e _ _ c.in-Err.ensures.answers
-            (c.in-Err.ensures.read k.history k.acknowledged k.floor at.made.orderly (at.left (content_of (state_of old)) (read_left old) own)).0;
+            (c.in-Err.ensures.read k.history k.acknowledged k.floor at.made.orderly (read_recoverable sum size old own k.history k.acknowledged k.floor at.left)).0;
         leads = refl;
       });
       at = λ own. record {

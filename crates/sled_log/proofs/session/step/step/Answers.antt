@@ -1,10 +1,10 @@
 -- A command is refused, or carried out and told.
-use Rattle.std.proofs.Common.{sym, subst}
+use Rattle.std.proofs.Common.{ap, sym, subst}
+use Rattle.sled_store.specs.declared.config.Config.{Config}
 use Rattle.sled_log.specs.declared.session.command.Reply.{Reply}
 use Rattle.sled_log.specs.declared.session.command.Reply.TheVariants as reply
 use Rattle.sled_log.specs.RunPhases.{AnswersIn, view_by}
 use Rattle.sled_log.proofs.Sessions.RunLemmas.{answered, refused}
-use Rattle.sled_log.specs.Devices.{ToldIn}
 use Rattle.sled_log.proofs.Sessions.DeviceLemmas.{told_refused, touched_refused}
 use Rattle.sled_log.proofs.session.step.step.Goals as goal
 
@@ -18,14 +18,14 @@ returns-clause-step g c =
     let view = view_by g.D.Device.trace g.D.Device.faults g.D.CrashDevice.is_stopped in
     let next = c.carry_out-next.result in
     subst (λ (r : Reply). AnswersIn view g.C.Checksum.sum_of c.args.phase c.args.command.now (next.0, r)) (sym c.tell-told.ensures.told)
-    (answered view g.C.Checksum.sum_of c.args.phase c.args.command.now next.0 next.1 c.carry_out-next.ensures.step c.carry_out-next.ensures.on.later c.tell-told.ensures.asked c.in_default.ensures.why)
+    (answered view g.C.Checksum.sum_of c.args.phase c.args.command.now next.0 next.1 (ap (λ (x : Config). x.segment_size) c.carry_out-next.ensures.on.kept.config) c.carry_out-next.ensures.step c.carry_out-next.ensures.on.later c.tell-told.ensures.asked c.in_default.ensures.why)
 
 pub returns-in-Some-clause-device : goal.returns-in-Some-clause-device
 returns-in-Some-clause-device g c =
     let view = view_by g.D.Device.trace g.D.Device.faults g.D.CrashDevice.is_stopped in
-    record { came = reply.Refused c.in-Some.why; is_told = told_refused _ _; is = touched_refused view g.C.Checksum.sum_of c.args.phase c.args.command.now c.in-Some.why }
+    record { came = reply.Refused c.in-Some.why; is_told = told_refused _ _; stops = c.in-Some.ensures.asked; is = touched_refused view g.C.Checksum.sum_of c.args.phase c.args.command.now c.in-Some.why }
 
 pub returns-clause-device : goal.returns-clause-device
 returns-clause-device g c =
     let next = c.carry_out-next.result in
-    record { came = next.1; is_told = c.tell-told.ensures.told; is = c.carry_out-next.ensures.device }
+    record { came = next.1; is_told = c.tell-told.ensures.told; stops = c.tell-told.ensures.asked; is = c.carry_out-next.ensures.device }

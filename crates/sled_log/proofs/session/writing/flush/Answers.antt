@@ -48,7 +48,7 @@ returns-in-Ok-clause-step g c = λ k at free.
         at = ends;
         kept = kept;
       };
-      at = λ own. still_open trace sum opened new k reached at c.flush.ensures.tickets position (was_free old new c.flush.ensures.faulty) c.flush.ensures.keeps
+      at = λ own. still_open trace sum opened new k reached at c.flush.ensures.tickets position (was_free old new c.flush.ensures.spares.faulty) c.flush.ensures.keeps
           (subst (λ n. Fits trace sum new H (max k.acknowledged (end_below n H)) k.floor at.unmarked) (sym c.in-Ok.ensures.synced.stable) (c.in-Ok.ensures.acknowledges H k.acknowledged k.floor at.unmarked at.fits));
     }
 
@@ -76,12 +76,12 @@ returns-in-Err-clause-step g c = λ k at free.
       next = k;
       step = elim (kept_or_none ℕ c.in-Err.e held used (fault_of old) (fault_of new) device.failures now.failures c.in-Err.ensures.answers) [
         | inl kept ↦ (
-            let same = c.flush.ensures.faulty kept.0 kept.2 in
+            let same = c.flush.ensures.spares.faulty kept.0 kept.2 in
             inl (keeps_failing old new begun k.tickets device now H k.acknowledged k.floor c.in-Err.e kept.0 kept.1 kept.2 same (ap (λ x. view x.config.device) same)))
         | inr none ↦ inr (fails_to old sum begun k.tickets to some new device now H k.acknowledged k.floor (stays_put trace sum old new c.flush.ensures.tickets position c.flush.ensures.keeps) trace c.in-Err.e refl refl none
             (why_of ℕ c.in-Err.e held _ used _ (fault_of old) (fault_of new) device.failures now.failures none (holding_seen old sum begun k.tickets to some) (λ used. (used.0, flush_out old sum begun k.tickets used.1)) (λ free needs. needs.1 (flush_in old sum begun k.tickets (λ used. free (needs.0, used)))) c.in-Err.ensures.answers)
             (subst (λ (es : List Event). Performs es (trace (device_of old)) (trace (device_of new))) (writes_seen old sum begun k.tickets to some) c.flush.ensures.at_most)
             (if_held ℕ c.in-Err.e _ _ (λ done. done ∙ ap (λ (es : List Event). after_all es (trace (device_of old))) (writes_seen old sum begun k.tickets to some)) c.in-Err.ensures.calls) c.in-Err.ensures.buffers.1)
       ];
-      at = λ own. still_open trace sum opened new k k.acknowledged at c.flush.ensures.tickets position (was_free old new c.flush.ensures.faulty) c.flush.ensures.keeps (c.flush.ensures.keeps.fits H k.acknowledged k.floor at.unmarked at.fits);
+      at = λ own. still_open trace sum opened new k k.acknowledged at c.flush.ensures.tickets position (was_free old new c.flush.ensures.spares.faulty) c.flush.ensures.keeps (c.flush.ensures.keeps.fits H k.acknowledged k.floor at.unmarked at.fits);
     }
