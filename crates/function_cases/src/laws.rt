@@ -36,6 +36,13 @@ fn laws_of_running_logs() {
     core_laws::the_stable_end_never_falls::<MemDevice, PlaceSum>();
     core_laws::what_has_its_record_has_its_segment::<MemDevice, PlaceSum>();
     core_laws::an_iterator_only_reads_its_log::<MemDevice, PlaceSum>();
+    core_laws::less_may_be_claimed::<MemDevice, PlaceSum>();
+    core_laws::a_reservation_comes_to_one_relation::<MemDevice, PlaceSum>();
+    core_laws::a_call_fails_for_its_own_reasons::<u64, MemDevice, PlaceSum>();
+    core_laws::a_log_is_stable_as_its_intervals_are::<MemDevice, PlaceSum>();
+    core_laws::the_first_buffer_waits_behind_what_is_synced::<MemDevice, PlaceSum>();
+    core_laws::what_is_not_synced_has_its_record::<MemDevice, PlaceSum>();
+    core_laws::what_a_log_reads_is_its_own::<MemDevice, PlaceSum>();
 }
 
 // The laws of histories, devices and logs, each called at one type.
@@ -54,6 +61,7 @@ fn laws_of_logs() {
     core_laws::moments_follow_one_another::<PlaceSum>();
     core_laws::an_empty_device_is_ready::<PlaceSum>();
     core_laws::a_crash_leaves_what_can_be_recovered::<PlaceSum>();
+    core_laws::what_is_not_foreign_is_the_logs_own();
     core_laws::nothing_is_foreign_on_an_empty_device();
     core_laws::nothing_is_foreign_after_the_first_write();
     core_laws::nothing_is_foreign_where_records_come_out_of_order();
@@ -70,6 +78,10 @@ fn laws_of_logs() {
     log_laws::a_device_leaves_what_a_crash_may_leave();
     log_laws::entries_stand_for_messages();
     log_laws::a_table_has_the_last_messages();
+    log_laws::what_lies_below_a_cut_is_a_beginning();
+    log_laws::a_table_has_what_began_a_page_last();
+    log_laws::a_history_can_be_split_by_pages();
+    log_laws::histories_stay_orderly();
 }
 
 // The laws of the segments that come back.
