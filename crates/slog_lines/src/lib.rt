@@ -2,12 +2,15 @@
 //!
 //! The first line names the size of segments. A line that is no command ends the run; an error of the
 //! log, or a command that is refused, does not.
+//!
+//! Reading a line (`line::parse`) and printing a reply (`text::print`) are for other programs too, over devices of
+//! their own.
 #![tactic(auto)]
 
 ghost use Rattle.std.specs.Prelude.{◌≤◌};
 
-mod line;
-mod text;
+pub mod line;
+pub mod text;
 
 use line::Asked;
 use sled_log::config::Config;

@@ -1,0 +1,103 @@
+//! All that the files of a folder hold, slot by slot and record by record.
+
+mod as_json;
+mod as_text;
+
+use crate::Ended;
+use crate::content::{Copied, load};
+use crate::dump::as_json::JsonDump;
+use crate::dump::as_text::TextDump;
+use crate::named_files::{Faulty, blob_kind, snapshot_in};
+use crate::records::{Slot, count_slots, read};
+use anyhow::Result;
+use sled_log::device::Device;
+use sled_log::logger::{LogOffset, MessageKind};
+use sled_log::snapshot::Snapshot;
+use std::io::{self, BufWriter, Write};
+
+/// Who prints what is found, in this order: the log file, its slots, the blobs, the snapshots, and the end.
+trait Dump {
+    /// The log file, before its slots.
+    fn log(&mut self, len: u64, segment_size: u64) -> io::Result<()>;
+
+    /// A slot.
+    fn slot(&mut self, offset: LogOffset, slot: &Slot) -> io::Result<()>;
+
+    /// Blobs follow.
+    fn blobs(&mut self) -> io::Result<()>;
+
+    /// A blob, with its kind or what is wrong with it.
+    fn blob(
+        &mut self,
+        place: i64,
+        len: u64,
+        kind: &std::result::Result<MessageKind, Faulty>,
+    ) -> io::Result<()>;
+
+    /// Snapshots follow.
+    fn snapshots(&mut self) -> io::Result<()>;
+
+    /// A snapshot, or what is wrong with it.
+    fn snapshot(
+        &mut self,
+        number: i64,
+        len: u64,
+        snapshot: &std::result::Result<Snapshot, Faulty>,
+    ) -> io::Result<()>;
+
+    /// That is all.
+    fn end(&mut self) -> io::Result<()>;
+}
+
+/// Prints what the files of a folder hold.
+pub(crate) fn show(rt: &HostRuntime, folder: &str, is_json: bool) -> Result<Ended> {
+    let alloc = rt.alloc();
+    let mut config = load(rt, folder)?;
+    let mut writer = BufWriter::new(alloc, io::writer(rt))?;
+    if is_json {
+        tell(&mut config, &mut JsonDump::new(alloc, folder, &mut writer))?;
+    } else {
+        tell(&mut config, &mut TextDump::new(&mut writer))?;
+    }
+    writer.flush()?;
+    Ok(Ended::Well)
+}
+
+// Goes over all, and has it printed.
+fn tell<P: Dump>(config: &mut Copied, dump: &mut P) -> Result<()> {
+    tell_log(config, dump)?;
+    tell_blobs(config, dump)?;
+    tell_snapshots(config, dump)?;
+    Ok(dump.end()?)
+}
+
+fn tell_log<P: Dump>(config: &mut Copied, dump: &mut P) -> Result<()> {
+    let size = config.config.segment_size;
+    dump.log(config.device.len()?, size)?;
+    for index in 0..count_slots(config)? {
+        let offset = index.saturating_mul(size);
+        let slot = read(config, offset)?;
+        dump.slot(offset, &slot)?;
+    }
+    Ok(())
+}
+
+fn tell_blobs<P: Dump>(config: &mut Copied, dump: &mut P) -> Result<()> {
+    dump.blobs()?;
+    for place in config.device.blobs()? {
+        let bytes = config.device.blob_read(place)?;
+        let kind = blob_kind(&config.checksum, &bytes);
+        dump.blob(place, bytes.len() as u64, &kind)?;
+    }
+    Ok(())
+}
+
+fn tell_snapshots<P: Dump>(config: &mut Copied, dump: &mut P) -> Result<()> {
+    dump.snapshots()?;
+    for number in config.device.snapshots()? {
+        let bytes = config.device.snapshot_read(number)?;
+        let snapshot = snapshot_in(config.alloc(), &config.checksum, &bytes)?;
+        dump.snapshot(number, bytes.len() as u64, &snapshot)?;
+    }
+    Ok(())
+}

@@ -1,0 +1,108 @@
+//! The pages that a recovery finds.
+
+use crate::content::{Copied, load};
+use crate::json::Json;
+use crate::words::{Optional, Pointer};
+use crate::{Ended, damage};
+use anyhow::Result;
+use sled_log::snapshot::{Entry, PageState, Snapshot, read_snapshot_or_default};
+use std::alloc::Global;
+use std::io::{self, BufWriter, Write};
+
+/// Prints where the log goes on, and each page with its messages.
+pub(crate) fn show(rt: &HostRuntime, folder: &str, is_json: bool) -> Result<Ended> {
+    let alloc = rt.alloc();
+    let mut config = load(rt, folder)?;
+    let snapshot = recovered(rt, folder, &mut config)?;
+    let mut writer = BufWriter::new(alloc, io::writer(rt))?;
+    if is_json {
+        as_json(alloc, folder, &snapshot, &mut Json::new(&mut writer))?;
+    } else {
+        as_text(&snapshot, &mut writer)?;
+    }
+    writer.flush()?;
+    Ok(Ended::Well)
+}
+
+// What a recovery of the copy in memory gives.
+fn recovered(rt: &HostRuntime, folder: &str, config: &mut Copied) -> Result<Snapshot> {
+    match read_snapshot_or_default(config) {
+        Ok(snapshot) => Ok(snapshot),
+        Err(error) => Err(damage::explained(rt.alloc(), folder, config, error)),
+    }
+}
+
+fn as_text<W: Write>(snapshot: &Snapshot, writer: &mut W) -> io::Result<()> {
+    let stable = Optional(snapshot.stable_lsn);
+    let active = Optional(snapshot.active_segment);
+    let pages = snapshot.pt.len();
+    writeln!(writer, "stable {stable} active {active} pages {pages}")?;
+    for (number, page) in snapshot.pt.iter().enumerate() {
+        write!(writer, "page {number}")?;
+        page_as_text(page, writer)?;
+    }
+    Ok(())
+}
+
+fn page_as_text<W: Write>(page: &PageState, writer: &mut W) -> io::Result<()> {
+    match page {
+        PageState::Present { base, frags } => {
+            entry_as_text(base, writer)?;
+            for entry in frags {
+                write!(writer, " +")?;
+                entry_as_text(entry, writer)?;
+            }
+        }
+        PageState::Free(place, pointer) => {
+            let at = Pointer(*pointer);
+            write!(writer, " free {place} {at}")?;
+        }
+        PageState::Uninitialized => write!(writer, " not begun")?,
+    }
+    writeln!(writer)
+}
+
+fn entry_as_text<W: Write>(entry: &Entry, writer: &mut W) -> io::Result<()> {
+    let (place, at, len) = (entry.0, Pointer(entry.1), entry.2);
+    write!(writer, " {place} {at} {len}")
+}
+
+fn as_json<W: Write>(
+    alloc: Global,
+    folder: &str,
+    snapshot: &Snapshot,
+    json: &mut Json<'_, W>,
+) -> io::Result<()> {
+    json.open("{")?;
+    json.text(alloc, "folder", folder)?;
+    json.place_or_null("stable", snapshot.stable_lsn)?;
+    json.number_or_null("active", snapshot.active_segment)?;
+    json.key("pages")?;
+    json.open("[")?;
+    for page in &snapshot.pt {
+        page_as_json(page, json)?;
+    }
+    json.close("]")?;
+    json.close("}")?;
+    json.end_line()
+}
+
+// A page is the list of its messages, and a page that was given back has none.
+fn page_as_json<W: Write>(page: &PageState, json: &mut Json<'_, W>) -> io::Result<()> {
+    json.open("[")?;
+    if let PageState::Present { base, frags } = page {
+        entry_as_json(base, json)?;
+        for entry in frags {
+            entry_as_json(entry, json)?;
+        }
+    }
+    json.close("]")
+}
+
+fn entry_as_json<W: Write>(entry: &Entry, json: &mut Json<'_, W>) -> io::Result<()> {
+    json.open("{")?;
+    json.place("place", entry.0)?;
+    json.pointer(entry.1)?;
+    json.number("length", entry.2)?;
+    json.close("}")
+}
