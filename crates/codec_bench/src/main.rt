@@ -15,11 +15,13 @@ mod logs;
 mod numbers;
 mod recoveries;
 mod sequence;
+mod sums;
 mod syncs;
 
 use logs::NoSum;
 use recoveries::Shape;
 use sequence::Sequence;
+use sled_file::Crc32;
 use sled_log::device::PlaceSum;
 use std::num::NonZeroU64;
 use std::{env, io};
@@ -54,6 +56,15 @@ fn main(rt: HostRuntime) -> io::Result<()> {
     ] {
         logs::measure(&rt, name, len, NoSum)?;
     }
+    for (name, len) in [
+        ("records of 11 bytes, Crc32", 10),
+        ("records of 200 bytes, Crc32", 199),
+        ("records of 4000 bytes, Crc32", 3997),
+    ] {
+        logs::measure(&rt, name, len, Crc32)?;
+    }
+    sums::measure(&rt, "PlaceSum", &PlaceSum)?;
+    sums::measure(&rt, "Crc32", &Crc32)?;
     logs::measure_segments(&rt, "segments of 8 KiB, 11 bytes", 8192, 10)?;
     logs::measure_segments(&rt, "segments of 512 KiB, 11 bytes", 524288, 10)?;
     logs::measure_segments(&rt, "segments of 512 KiB, 200 bytes", 524288, 199)?;
