@@ -31,7 +31,7 @@ use Rattle.sled_core.proofs.PublicLaws.{first_waits, kept_still}
 use Rattle.sled_log.specs.Replaces.{HasLast}
 use Rattle.sled_log.proofs.PublicLaws.{table_has_last, table_has_page}
 use Rattle.ids.specs.Bounds.{IsLastBound, IsLastMessage}
-use Rattle.ids.specs.Readings.{BeginsWith, CountsError, CountsFailure, HasTable, HoldsAt, IsIdle, IsNumberIn, IsOpenError, IsReadError, OnlyRead}
+use Rattle.ids.specs.Readings.{BeginsWith, CountsError, CountsFailure, HasTable, HoldsAt, IsIdle, IsNumberIn, IsOpenError, IsReadError, IsReadErrorUnless, OnlyRead}
 
 -- A message that has its item in its record is read with that,
 pub inline_read : (m : Message) (r : LogRead) → GivesMessage m r → IsInline m.pointer → ((h : MessageHeader) (item : Vec ℕ Global) (len : ℕ) → r ≡ read.Inline h item len → ⊥) → ⊥
@@ -151,32 +151,69 @@ module _ {D C : Type 0} (trace : D → Trace) (sum : List ℕ → ℕ) (lsn : �
   current_synced = sym (subst (FirstWaits (synced_end old) (current_begin old)) idle.unsealed (first_waits old))
 
   -- Nothing holds it, it needs no further segment, and its place was reserved where it is on the device.
-  pub read_known : lsn <ℤ pos (synced_end old) → (blobs : ℤ → Option (List ℕ)) (before now : ℕ) (e : Error)
-      → ReadAnswers {T = LogRead} sum blobs (ptr.Inline lid) (Err e) lsn (synced_end old) (reserved_end old) (held_at sum old lsn) (IsUsedUpAt old lsn) (fault_of old) (fault_of new) before now → IsReadError e
-  read_known there blobs before now (error.Io e) answers = tt
-  read_known there blobs before now error.OutOfMemory answers = tt
-  read_known there blobs before now (error.Corruption at) answers = tt
-  read_known there blobs before now (error.NotReserved at) answers = absurd (let up = answers.1 in omega (arith, ints, there, up))
-  read_known there blobs before now error.PlacesUsedUp answers =
+  pub read_known : (blobs : ℤ → Option (List ℕ)) (before now : ℕ) (e : Error)
+      → ReadAnswers {T = LogRead} sum blobs (ptr.Inline lid) (Err e) lsn (synced_end old) (reserved_end old) (held_at sum old lsn) (IsUsedUpAt old lsn) (fault_of old) (fault_of new) before now → IsReadErrorUnless (lsn <ℤ pos (synced_end old)) e
+  read_known blobs before now (error.Io e) answers = tt
+  read_known blobs before now error.OutOfMemory answers = tt
+  read_known blobs before now (error.Corruption at) answers = tt
+  read_known blobs before now (error.NotReserved at) answers = λ there. (let up = answers.1 in omega (arith, ints, there, up))
+  read_known blobs before now error.PlacesUsedUp answers =
       let low = answers.0 in
       let up = answers.1.0 in
       let end = idle.reserved in
       let begin = current_synced in
       absurd (omega (arith, ints, low, up, end, begin))
-  read_known there blobs before now (error.Held at) answers =
+  read_known blobs before now (error.Held at) answers =
       let low = answers.0 in
       let end = idle.reserved in
       absurd (some_place answers.1.0 (sym (none_holds lsn (synced_end old) _ (omega (arith, ints, low, end))) ∙ answers.1.1)) where
         some_place : (place : ℕ) → None ≡ Some place → ⊥
         some_place place is = cc
-  read_known there blobs before now (error.Unsupported text) answers = absurd answers
-  read_known there blobs before now (error.CollectionNotFound name) answers = absurd answers
-  read_known there blobs before now (error.ReportableBug text) answers = absurd answers
+  read_known blobs before now (error.Unsupported text) answers = absurd answers
+  read_known blobs before now (error.CollectionNotFound name) answers = absurd answers
+  read_known blobs before now (error.ReportableBug text) answers = absurd answers
 
 -- damage is a reason
-pub damage_known : (result : Result ℕ Error) → IfErr result (λ e. e ≡ error.Corruption None) → IfErr result IsReadError
-damage_known (Ok v) damage = tt
-damage_known (Err e) damage = subst IsReadError (sym damage) tt
+pub damage_known : (Below : Type 0) (result : Result ℕ Error) → IfErr result (λ e. e ≡ error.Corruption None) → IfErr result (IsReadErrorUnless Below)
+damage_known Below (Ok v) damage = tt
+damage_known Below (Err e) damage = subst (IsReadErrorUnless Below) (sym damage) tt
+
+-- and what is one unless something holds is one unless something holds that this follows from
+unless_more : (Below More : Type 0) (e : Error) → (More → Below) → IsReadErrorUnless Below e → IsReadErrorUnless More e
+unless_more Below More (error.Io e) from known = known
+unless_more Below More error.OutOfMemory from known = known
+unless_more Below More (error.Corruption at) from known = known
+unless_more Below More (error.NotReserved at) from known = λ more. known (from more)
+unless_more Below More error.PlacesUsedUp from known = known
+unless_more Below More (error.Held at) from known = known
+unless_more Below More (error.Unsupported text) from known = known
+unless_more Below More (error.CollectionNotFound name) from known = known
+unless_more Below More (error.ReportableBug text) from known = known
+
+pub known_more : (Below More : Type 0) (result : Result ℕ Error) → (More → Below) → IfErr result (IsReadErrorUnless Below) → IfErr result (IsReadErrorUnless More)
+known_more Below More (Ok v) from known = tt
+known_more Below More (Err e) from known = unless_more Below More e from known
+
+-- Where that holds it is one.
+pub known_there : (Below : Type 0) (e : Error) → Below → IsReadErrorUnless Below e → IsReadError e
+known_there Below (error.Io e) there known = known
+known_there Below error.OutOfMemory there known = known
+known_there Below (error.Corruption at) there known = known
+known_there Below (error.NotReserved at) there known = absurd (known there)
+known_there Below error.PlacesUsedUp there known = known
+known_there Below (error.Held at) there known = known
+known_there Below (error.Unsupported text) there known = known
+known_there Below (error.CollectionNotFound name) there known = known
+known_there Below (error.ReportableBug text) there known = known
+
+-- what fails for a reason alone, where there is that reason or where there is none
+pub on_reason : (P : Type 0) (result : Result ℕ Error) → OnErr result ⊥ → OnErr result (P → ⊥)
+on_reason P (Ok v) none = tt
+on_reason P (Err e) none = absurd none
+
+pub no_reason : (P : Type 0) (result : Result ℕ Error) → P → OnErr result (P → ⊥) → OnErr result ⊥
+no_reason P (Ok v) holds none = tt
+no_reason P (Err e) holds none = none holds
 
 -- Tables.
 

@@ -3,7 +3,7 @@ use Rattle.std.specs.Prelude.{◌≡◌, ◌+◌, ◌/◌, ◌%◌, ◌^◌, ◌
 use Rattle.sled_codec.specs.declared.result.DiskPtr.{DiskPtr}
 use Rattle.sled_codec.specs.declared.result.DiskPtr.TheVariants.{Inline, Blob}
 use Rattle.sled_codec.specs.declared.result.Error.{Error}
-use Rattle.sled_codec.specs.declared.result.Error.TheVariants.{Corruption, Io, OutOfMemory, PlacesUsedUp}
+use Rattle.sled_codec.specs.declared.result.Error.TheVariants.{Corruption, Io, NotReserved, OutOfMemory, PlacesUsedUp}
 use Rattle.sled_codec.specs.declared.serialization.message.MessageHeader.{MessageHeader}
 use Rattle.sled_codec.specs.Errors.{IsCorrupt}
 use Rattle.sled_codec.specs.History.{Message, History, table}
@@ -39,6 +39,11 @@ IsReadError (Io e) = Unit {0}
 IsReadError OutOfMemory = Unit {0}
 IsReadError (Corruption at) = Unit {0}
 IsReadError _ = ⊥
+
+-- So it is too where the place that the table names wasn't reserved, which it was where it lies below that.
+abbrev pub IsReadErrorUnless : Type 0 → Error → Type 0
+IsReadErrorUnless Below (NotReserved at) = Below → ⊥
+IsReadErrorUnless Below e = IsReadError e
 
 -- The bound that stands in a log file, whatever that has.
 

@@ -7,7 +7,7 @@ ghost use Rattle.sled_codec.specs.Snapshots.{Present, model_of, page_of};
 ghost use Rattle.sled_core.specs.Fits.{device_of, fault_of, segment_size_of, synced_end};
 ghost use Rattle.sled_core.specs.Reading.{GivesMessage, IsInline};
 ghost use Rattle.ids.specs.Bounds.{HasBound, IsLastBound};
-ghost use Rattle.ids.specs.Readings.{AnswersBound, CountsFailure, FirstBelow, HasTable, HoldsAt, IsBoundBy, IsBoundIn, IsBoundRead, IsIdle, IsNumberIn, IsOpenError, IsReadError, LiesBelow, OnlyRead, file_of};
+ghost use Rattle.ids.specs.Readings.{AnswersBound, CountsFailure, FirstBelow, HasTable, HoldsAt, IsBoundBy, IsBoundIn, IsBoundRead, IsIdle, IsNumberIn, IsOpenError, IsReadErrorUnless, LiesBelow, OnlyRead, file_of};
 
 use crate::generator::BOUND_PAGE;
 use sled_log::device::{Checksum, Device};
@@ -28,7 +28,7 @@ pub(crate) fn read_bound<D: Device, C: Checksum>(
     ensures only { OnlyRead D.trace C.sum_of log.old log.new }
     ensures fault { OnOk result (fault_of log.old ≡ None → fault_of log.new ≡ None) }
     ensures unwritten { IsIdle log.old → D.trace (device_of log.new) ≡ D.trace (device_of log.old) }
-    ensures known { IsIdle log.old → FirstBelow (synced_end log.old) (model_of snapshot.now).pages → IfErr result IsReadError }
+    ensures known { IsIdle log.old → IfErr result (IsReadErrorUnless (FirstBelow (synced_end log.old) (model_of snapshot.now).pages)) }
     ensures answers { fault_of log.old ≡ None → CountsFailure result (D.faults (device_of log.old)) (D.faults (device_of log.new)) }
     ensures bound { AnswersBound result (IsBoundRead C.sum_of (segment_size_of log.old) (file_of D.trace log.new) (model_of snapshot.now).pages) }
 {
@@ -51,7 +51,7 @@ fn read_page<D: Device, C: Checksum>(
     ensures only { OnlyRead D.trace C.sum_of log.old log.new }
     ensures fault { OnOk result (fault_of log.old ≡ None → fault_of log.new ≡ None) }
     ensures unwritten { IsIdle log.old → D.trace (device_of log.new) ≡ D.trace (device_of log.old) }
-    ensures known { IsIdle log.old → LiesBelow (synced_end log.old) (page_of page.now) → IfErr result IsReadError }
+    ensures known { IsIdle log.old → IfErr result (IsReadErrorUnless (LiesBelow (synced_end log.old) (page_of page.now))) }
     ensures answers { fault_of log.old ≡ None → CountsFailure result (D.faults (device_of log.old)) (D.faults (device_of log.new)) }
     ensures bound { AnswersBound result (IsBoundIn C.sum_of (segment_size_of log.old) (file_of D.trace log.new) (page_of page.now)) }
 {
@@ -75,7 +75,7 @@ fn read_number<D: Device, C: Checksum>(
     ensures only { OnlyRead D.trace C.sum_of log.old log.new }
     ensures fault { OnOk result (fault_of log.old ≡ None → fault_of log.new ≡ None) }
     ensures unwritten { IsIdle log.old → D.trace (device_of log.new) ≡ D.trace (device_of log.old) }
-    ensures known { IsIdle log.old → place <ℤ pos (synced_end log.old) → IfErr result IsReadError }
+    ensures known { IsIdle log.old → IfErr result (IsReadErrorUnless (place <ℤ pos (synced_end log.old))) }
     ensures answers { fault_of log.old ≡ None → CountsFailure result (D.faults (device_of log.old)) (D.faults (device_of log.new)) }
     ensures bound { AnswersBound result (IsBoundBy C.sum_of (segment_size_of log.old) (file_of D.trace log.new) place pointer) }
 {
@@ -90,7 +90,7 @@ fn read_number<D: Device, C: Checksum>(
 
 /// The number that the item of a message is, which has to stand in its record.
 fn number_in(alloc: Global, read: LogRead) -> Result<u64>
-    ensures number { (m : Message) (n : ℕ) → GivesMessage m read → IsInline m.pointer → HasBound m n → IfOk result (λ v. v ≡ n) × OnErr result ⊥ }
+    ensures number { (m : Message) (n : ℕ) → GivesMessage m read → HasBound m n → IfOk result (λ v. v ≡ n) × OnErr result (IsInline m.pointer → ⊥) }
     ensures damage { IfErr result (λ e. e ≡ Corruption None) }
     ensures spelled { IfOk result (IsNumberIn read) }
     ensures none { OnErr result ((n : ℕ) → IsNumberIn read n → ⊥) }

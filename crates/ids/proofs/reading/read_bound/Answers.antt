@@ -5,7 +5,7 @@ use Rattle.sled_core.specs.Fits.{segment_size_of, synced_end}
 use Rattle.ids.specs.Readings.{file_of}
 use Rattle.ids.proofs.FirstPlaces.{first_lies}
 use Rattle.ids.proofs.FoundBounds.{answers_first, answers_zero}
-use Rattle.ids.proofs.ReadLemmas.{bound_read, found_read, holds_read, last_read, none_found, page_read, read_still}
+use Rattle.ids.proofs.ReadLemmas.{bound_read, found_read, holds_read, known_more, last_read, none_found, page_read, read_still}
 use Rattle.ids.proofs.reading.read_bound.Goals as goal
 
 pub returns-in-None-clause-found : goal.returns-in-None-clause-found
@@ -48,6 +48,6 @@ returns-in-Some-clause-errors g c = λ H cut has.
     c.read_page.ensures.errors H (last_read trace sum log pages H cut has page first) cut (bound_read trace sum log pages H cut has page first) (holds_read trace sum log pages H cut has page first) (page_read trace sum log pages H cut has page first)
 
 pub returns-in-Some-clause-known : goal.returns-in-Some-clause-known
-returns-in-Some-clause-known g c = λ idle below.
+returns-in-Some-clause-known g c = λ idle.
     let first : Some c.in-Some.page.now ≡ slice_get c.args.snapshot.now.pt.items 0 = c.in-Some.ensures.value ∙ ap (λ (ps : List PageState). slice_get ps 0) c.deref.ensures.value in
-    c.read_page.ensures.known idle (first_lies (synced_end c.args.log.now) c.args.snapshot.now.pt.items c.in-Some.page.now first below)
+    known_more _ _ c.read_page.result (first_lies (synced_end c.args.log.now) c.args.snapshot.now.pt.items c.in-Some.page.now first) (c.read_page.ensures.known idle)

@@ -8,9 +8,9 @@ use Rattle.sled_core.specs.Fits.{device_of, segment_size_of, synced_end}
 use Rattle.sled_core.specs.ReadPointer.{IsDamageAt}
 use Rattle.sled_core.specs.Reading.{IsNoPlace, IsReading}
 use Rattle.sled_core.proofs.PublicLaws.{fits_holds}
-use Rattle.ids.specs.Readings.{AnswersBound, IsBoundBy, IsOpenError}
+use Rattle.ids.specs.Readings.{AnswersBound, IsBoundBy, IsOpenError, IsReadErrorUnless}
 use Rattle.ids.proofs.FoundBounds.{answers_none, answers_read}
-use Rattle.ids.proofs.ReadLemmas.{counts_damage, damage_known, no_error, none_holds, on_ok, read_counts, read_fails, read_known, read_still, read_unwritten, record_there}
+use Rattle.ids.proofs.ReadLemmas.{counts_damage, damage_known, no_error, no_reason, none_holds, on_ok, read_counts, read_fails, read_known, read_still, read_unwritten, record_there}
 use Rattle.ids.proofs.reading.read_number.Goals as goal
 
 pub returns-in_default-clause-only : goal.returns-in_default-clause-only
@@ -24,7 +24,7 @@ returns-in-Ok-clause-number g c = λ H m cut n holds place pointer.
     let sum = g.C.Checksum.sum_of in
     let log = c.args.log.now in
     let gives = c.in-Ok.ensures.message H m (fits_holds trace sum log H holds.acknowledged holds.floor holds.unmarked holds.fits) holds.last.there (record_there trace sum log H m cut n holds) (place ∙ sym (to_z-of_z w64 c.args.place c.ranges.place)) (pointer ∙ c.in-Inline.is) tt in
-    (c.number_in.ensures.number m n gives holds.inline holds.last.has).0
+    (c.number_in.ensures.number m n gives holds.last.has).0
 
 pub returns-in-Ok-clause-errors : goal.returns-in-Ok-clause-errors
 returns-in-Ok-clause-errors g c = λ H m cut n holds place pointer.
@@ -32,7 +32,7 @@ returns-in-Ok-clause-errors g c = λ H m cut n holds place pointer.
     let sum = g.C.Checksum.sum_of in
     let log = c.args.log.now in
     let gives = c.in-Ok.ensures.message H m (fits_holds trace sum log H holds.acknowledged holds.floor holds.unmarked holds.fits) holds.last.there (record_there trace sum log H m cut n holds) (place ∙ sym (to_z-of_z w64 c.args.place c.ranges.place)) (pointer ∙ c.in-Inline.is) tt in
-    no_error IsOpenError c.number_in.result (c.number_in.ensures.number m n gives holds.inline holds.last.has).1
+    no_error IsOpenError c.number_in.result (no_reason _ c.number_in.result holds.inline (c.number_in.ensures.number m n gives holds.last.has).1)
 
 pub returns-in-Ok-clause-fault : goal.returns-in-Ok-clause-fault
 returns-in-Ok-clause-fault g c = on_ok _ c.number_in.result (λ free. c.in-Ok.ensures.answers.4)
@@ -44,7 +44,7 @@ pub returns-in-Ok-clause-unwritten : goal.returns-in-Ok-clause-unwritten
 returns-in-Ok-clause-unwritten g c = λ idle. read_unwritten g.D.Device.trace g.C.Checksum.sum_of _ c.in-Inline.lid c.args.log.now c.read.new.self idle (Ok c.in-Ok.read) c.in-Ok.ensures.calls c.in-Ok.ensures.refused
 
 pub returns-in-Ok-clause-known : goal.returns-in-Ok-clause-known
-returns-in-Ok-clause-known g c = λ idle there. damage_known c.number_in.result c.number_in.ensures.damage
+returns-in-Ok-clause-known g c = λ idle. damage_known (c.args.place <ℤ pos (synced_end c.args.log.now)) c.number_in.result c.number_in.ensures.damage
 
 -- It was not.
 
@@ -67,8 +67,9 @@ pub returns-in-Err-clause-unwritten : goal.returns-in-Err-clause-unwritten
 returns-in-Err-clause-unwritten g c = λ idle. read_unwritten g.D.Device.trace g.C.Checksum.sum_of _ c.in-Inline.lid c.args.log.now c.read.new.self idle (Err c.in-Err.e) c.in-Err.ensures.calls c.in-Err.ensures.refused
 
 pub returns-in-Err-clause-known : goal.returns-in-Err-clause-known
-returns-in-Err-clause-known g c = λ idle there. read_known g.D.Device.trace g.C.Checksum.sum_of _ c.in-Inline.lid c.args.log.now c.read.new.self idle
-    (subst (λ (z : ℤ). z <ℤ pos (synced_end c.args.log.now)) (sym (to_z-of_z w64 c.args.place c.ranges.place)) there) _ _ _ c.in-Err.e c.in-Err.ensures.answers
+returns-in-Err-clause-known g c = λ idle.
+    subst (λ (z : ℤ). IsReadErrorUnless (z <ℤ pos (synced_end c.args.log.now)) c.in-Err.e) (to_z-of_z w64 c.args.place c.ranges.place)
+    (read_known g.D.Device.trace g.C.Checksum.sum_of _ c.in-Inline.lid c.args.log.now c.read.new.self idle _ _ _ c.in-Err.e c.in-Err.ensures.answers)
 
 -- What stands there is answered.
 

@@ -4,7 +4,8 @@ use Rattle.std.proofs.lemmas.Int.{to_z-of_z}
 use Rattle.sled_codec.specs.declared.result.Error.TheVariants.{Corruption}
 use Rattle.sled_codec.specs.Snapshots.{Entry, page_of}
 use Rattle.sled_core.specs.Fits.{segment_size_of, synced_end}
-use Rattle.ids.specs.Readings.{AnswersBound, IsBoundBy, IsBoundIn, LiesBelow, file_of}
+use Rattle.std.specs.Prelude.{IfErr}
+use Rattle.ids.specs.Readings.{AnswersBound, IsBoundBy, IsBoundIn, IsReadErrorUnless, LiesBelow, file_of}
 use Rattle.ids.proofs.FoundBounds.{answers_free}
 use Rattle.ids.proofs.ReadLemmas.{read_still, same_base}
 use Rattle.ids.proofs.reading.read_page.Goals as goal
@@ -25,11 +26,11 @@ pub returns-in-Free-clause-only : goal.returns-in-Free-clause-only
 returns-in-Free-clause-only g c = read_still g.D.Device.trace g.C.Checksum.sum_of c.args.log.now
 
 pub returns-in-Present-clause-known : goal.returns-in-Present-clause-known
-returns-in-Present-clause-known g c = λ idle there.
+returns-in-Present-clause-known g c = λ idle.
     let end : ℕ = synced_end c.args.log.now in
     let fits : SFits w64 c.in-Present.base.0 = search rules in
-    let low : c.in-Present.base.0 <ℤ pos end = subst (λ p. LiesBelow end (page_of p)) c.in-Present.is there in
-    c.read_number.ensures.known idle (subst (λ (z : ℤ). z <ℤ pos end) (sym (to_z-of_z w64 c.in-Present.base.0 fits)) low)
+    subst (λ p. IfErr c.read_number.result (IsReadErrorUnless (LiesBelow end (page_of p)))) (sym c.in-Present.is)
+    (subst (λ (z : ℤ). IfErr c.read_number.result (IsReadErrorUnless (z <ℤ pos end))) (to_z-of_z w64 c.in-Present.base.0 fits) (c.read_number.ensures.known idle))
 
 -- The bound is that of its Replace.
 

@@ -11,6 +11,7 @@ use Rattle.ids.specs.Openings.{OpenFails}
 use Rattle.ids.specs.Readings.{CountsError, IsBoundRead}
 use Rattle.ids.proofs.FirstPlaces.{begins_past, first_below}
 use Rattle.ids.proofs.Generating.{has_generates}
+use Rattle.ids.proofs.ReadLemmas.{known_there}
 use Rattle.ids.proofs.Opening.{begins_idle, begun_table, can_recover, found_bounds, going_on, not_read, not_started, recovered, recovering, recovery_fails, sized_back, start_fails, starting, was_opened}
 use Rattle.ids.proofs.generator.IdGenerator.open.Goals as goal
 
@@ -232,7 +233,7 @@ returns-clause-acts g c =
     let counts = subst (λ k. CountsError c.in-Err-read_bound.e k (faults (device_of c.read_bound.new.log))) (answers.2 ∙ c.in-Ok.ensures.answers) (c.in-Err-read_bound.ensures.answers begins.fault) in
     subst (λ x. OpenFails sum size c.in-Err-read_bound.e (trace c.args.config.device) (trace x.device) (faults c.args.config.device) (faults x.device)) (sym c.halt.ensures.config)
     (inr (inr (not_read sum size config.config.segment_size same (trace c.args.config.device) (trace config.device) (trace (device_of c.read_bound.new.log)) s c.in-Ok.ensures.ok (still ∙ c.in-Ok-start.ensures.made) answers.0 answers.1
-    (segment_size_of log) (begins.sized ∙ same) c.in-Err-read_bound.e (faults c.args.config.device) (faults (device_of c.read_bound.new.log)) (c.in-Err-read_bound.ensures.known idle below) c.in-Err-read_bound.ensures.bound counts)))
+    (segment_size_of log) (begins.sized ∙ same) c.in-Err-read_bound.e (faults c.args.config.device) (faults (device_of c.read_bound.new.log)) (known_there _ c.in-Err-read_bound.e below (c.in-Err-read_bound.ensures.known idle)) c.in-Err-read_bound.ensures.bound counts)))
 
 pub returns-clause-later : goal.returns-clause-later
 returns-clause-later g c =
