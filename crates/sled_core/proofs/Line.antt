@@ -67,6 +67,7 @@ pub mod Spans
 pub mod Targets
 pub mod Turns
 pub mod Unchanged
+pub mod WholeBuffers
 pub mod Writes
 pub mod WrittenSlots
 pub mod WrittenTickets

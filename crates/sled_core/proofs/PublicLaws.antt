@@ -47,6 +47,7 @@ pub use Rattle.sled_core.proofs.Line.Buffers.{first_waits}
 pub use Rattle.sled_core.proofs.Line.Fillings.{end_off}
 pub use Rattle.sled_core.proofs.Line.NoneLeft.{noted_pegs}
 pub use Rattle.sled_core.proofs.Stable.OfLog.{stable_of_log}
+pub use Rattle.sled_core.proofs.Line.WholeBuffers.{buffers_whole}
 pub use Rattle.sled_core.proofs.Line.OpenSeen.{buffers_held, current_count, current_least, none_is_empty, ticket_places}
 -- A reservation: its clauses, put together.
 pub use Rattle.sled_core.proofs.Line.ReservedWhole.{reserves_as}

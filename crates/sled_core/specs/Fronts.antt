@@ -1,9 +1,9 @@
 -- How far a call came that seals and writes buffers, and fails: as many buffers are gone as it synced.
-use Rattle.std.specs.Prelude.{◌≡◌, ◌⊎◌, ◌+◌, ◌*◌, ℕ, suc, pos, List, [], ◌∷◌, take, drop, None}
+use Rattle.std.specs.Prelude.{◌≡◌, ◌⊎◌, ◌+◌, ◌*◌, ◌<◌, ℕ, suc, pos, List, [], ◌∷◌, take, drop, None}
 use Rattle.sled_store.specs.Device.{Event, Trace, Synced}
 use Rattle.sled_store.specs.Script.{after_all}
 use Rattle.sled_core.specs.declared.logger.Log.{Log}
-use Rattle.sled_core.specs.Fits.{device_of, fault_of, start_of, waiting_of, writing_below}
+use Rattle.sled_core.specs.Fits.{device_of, fault_of, start_of, synced_end, waiting_of, writing_below}
 use Rattle.sled_core.specs.Keeps.{sealed_for, start_for}
 use Rattle.sled_core.specs.ReadBuffer.{LeavesSealed, LeavesUnsealed, LeavesWritten, settling}
 
@@ -29,6 +29,8 @@ pub record WroteFront {D C : Type 0} (trace : D → Trace) (sum : List ℕ → �
   pub start : start_of new ≡ start_for to old
   pub synced : syncs (trace (device_of new)) ≡ count + syncs (trace (device_of old))
   pub whole : fault_of new ≡ None → WritesWhole count (writing_below sum old to) (trace (device_of old)) (trace (device_of new))
+  -- not all is written that begins below the place
+  pub short : synced_end new < to
 
 -- Nothing was done.
 pub record SealedNone {D C : Type 0} (trace : D → Trace) (old new : Log D C) : Type 0 where

@@ -53,3 +53,4 @@ pub mod Tail
 pub mod Tickets
 pub mod Turned
 pub mod Waiting
+pub mod WholeBuffers

@@ -39,8 +39,8 @@ abbrev pub StableAnswers : {T : Type 0} → Result T Error → ℤ → ℕ → �
 StableAnswers (Err (NotReserved at)) lsn stable end held used old new before after = (at ≡ lsn) × (pos stable ≤ℤ lsn) × (pos end ≤ℤ lsn) × (old ≡ None) × (new ≡ None) × (after ≡ before)
 StableAnswers (Ok n) lsn stable end held used old new before after = ((lsn <ℤ pos stable) ⊎ (lsn <ℤ pos end)) × HeldAnswers (Ok n) held used old new before after
 StableAnswers (Err OutOfMemory) lsn stable end held used old new before after = (pos stable ≤ℤ lsn) × (lsn <ℤ pos end) × (used → ⊥) × (old ≡ None) × (new ≡ None) × (after ≡ before)
-StableAnswers (Err (Held at)) lsn stable end held used old new before after = (lsn <ℤ pos end) × HeldAnswers {T = ℕ} (Err (Held at)) held used old new before after
-StableAnswers (Err PlacesUsedUp) lsn stable end held used old new before after = (lsn <ℤ pos end) × HeldAnswers {T = ℕ} (Err PlacesUsedUp) held used old new before after
+StableAnswers (Err (Held at)) lsn stable end held used old new before after = (pos stable ≤ℤ lsn) × (lsn <ℤ pos end) × HeldAnswers {T = ℕ} (Err (Held at)) held used old new before after
+StableAnswers (Err PlacesUsedUp) lsn stable end held used old new before after = (pos stable ≤ℤ lsn) × (lsn <ℤ pos end) × HeldAnswers {T = ℕ} (Err PlacesUsedUp) held used old new before after
 StableAnswers (Err (Io e)) lsn stable end held used old new before after = (old ≡ None → (pos stable ≤ℤ lsn) × (lsn <ℤ pos end)) × IsFault e old new before after
 StableAnswers (Err _) lsn stable end held used old new before after = ⊥
 

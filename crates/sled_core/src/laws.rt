@@ -21,6 +21,7 @@ ghost use Rattle.sled_core.specs.Fits.{stable_end, KeepsAll, Awaits, FirstWaits,
 ghost use Rattle.sled_codec.specs.Snapshots.{SnapshotModel, empty_model, stable_place};
 ghost use Rattle.sled_store.specs.Begin.{offset_at, place_at};
 ghost use Rattle.sled_core.specs.Waiting.{HasLength, spans};
+ghost use Rattle.sled_core.specs.WholeBuffers.{IsWholeBuffer};
 ghost use Rattle.sled_core.specs.Batches.{LiesInNoFilling};
 ghost use Rattle.sled_core.specs.Causes.{FaultAnswers, HeldAnswers, ReserveAnswers, ReserveCauses};
 ghost use Rattle.sled_core.specs.Keeps.{GoesOn, KeepsSeen, Preserves};
@@ -94,7 +95,7 @@ pub fn written_messages_are_stable<D: Device, C: Checksum>()
 
 /// What is seen of the buffers of a log that aren't on the device: the current one, as it would be sealed, lies behind the
 /// sealed ones, from where it begins up to where it ends once it is sealed, and so it does where a reservation fills its
-/// segment; each has as many bytes as places.
+/// segment; each has as many bytes as places, and unless it is held up it is whole records, each with its sum.
 pub fn a_log_shows_its_buffers<D: Device, C: Checksum>()
     ensures current { (log : Log D C) → 0 < held_len log
         → spans (buffers_of C.sum_of log)
@@ -103,6 +104,8 @@ pub fn a_log_shows_its_buffers<D: Device, C: Checksum>()
     ensures behind { (log : Log D C) (page n : ℕ) → is_moved log page n ≡ true → spans (waiting_behind C.sum_of log page n)
         ≡ spans (waiting_of log) ++ record { place = current_begin log; end = (start_behind log page n).place; lid = (start_of log).lid } ∷ [] }
     ensures long { (log : Log D C) → All HasLength (buffers_of C.sum_of log) }
+    ensures whole { (log : Log D C) (H : History) → Holds D.trace C.sum_of log H → fault_of log ≡ None
+        → All (λ b. b.held ≡ None → IsWholeBuffer C.sum_of (segment_size_of log) b) (buffers_of C.sum_of log) }
 {}
 
 /// Where no reservation is open, none holds a buffer up, nor a flush.

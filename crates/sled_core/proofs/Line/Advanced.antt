@@ -1,7 +1,8 @@
 -- A call that writes one buffer behind another, by place, and how far it came.
-use Rattle.std.proofs.Common.{◌≡◌, ◌∙◌, ◌⊎◌, ◌≤◌, ◌<◌, ◌+◌, ◌*◌, ℕ, zero, suc, true, false, List, [], ◌∷◌, ◌++◌, length, drop, map, set, Option, None, Some, Err, refl, sym, ap, subst, arith, inl, inr, append_assoc, length-append}
+use Rattle.std.proofs.Common.{◌≡◌, ◌∙◌, ◌⊎◌, ◌≤◌, ◌<◌, ◌+◌, ◌*◌, ℕ, zero, suc, nat_lt, if◌then◌else◌, Bool, true, false, List, [], ◌∷◌, ◌++◌, length, drop, map, set, Option, None, Some, Err, refl, sym, ap, subst, arith, inl, inr, append_assoc, length-append}
 use Rattle.std.specs.List.{Contains}
 use Rattle.std.specs.declared.io.Error.{Error as IoError}
+use Rattle.std.proofs.lemmas.Bool.Decides.{nat_tests}
 use Rattle.std.proofs.lemmas.List.{append-nil}
 use Rattle.sled_codec.specs.declared.result.Error.{Error}
 use Rattle.sled_codec.specs.declared.result.Error.TheVariants.{Io, OutOfMemory}
@@ -16,6 +17,7 @@ use Rattle.sled_core.specs.Fits.{KeepsTickets, current_begin, device_of, fault_o
 use Rattle.sled_core.specs.Fronts.{syncs}
 use Rattle.sled_core.specs.Keeps.{Preserves, SamePosition}
 use Rattle.sled_core.specs.Marked.{KeepsSegment}
+use Rattle.sled_core.specs.SealedBuffers.{first_ready}
 use Rattle.sled_core.specs.Turned.{IsReadyIn, promoted, ready_below, write_in, written_now}
 use Rattle.sled_core.specs.Waiting.{BufferAt, held_below, unwritten, writes_below}
 use Rattle.sled_core.proofs.Holds.KeptCalls.{kept_further, kept_still, position_further, position_still, tickets_further, tickets_still}
@@ -61,6 +63,17 @@ end_synced (v ∷ vs) = v.parts.site.place + v.parts.written_len
 
 pub same_synced : {D C : Type 0} (old new : Log D C) → line_of new ≡ line_of old → synced_end new ≡ synced_end old
 same_synced old new same = ap end_synced same
+
+-- Where the first one can be written, not all is on the device that begins below the place; nor is it where the segments stay.
+pub still_short : {D C : Type 0} (to : ℕ) (mid new : Log D C) → ready_below (line_of mid) to ≡ true → line_of new ≡ line_of mid → synced_end new < to
+still_short to mid new ready same =
+    let low : synced_end mid < to = by (nat_lt (synced_end mid) to) refl ready in
+    let ends = same_synced mid new same in
+    omega (arith, low, ends)
+  where
+    by : (o : Bool) → nat_lt (synced_end mid) to ≡ o → (if o then first_ready (first_view mid).parts.sealed else false) ≡ true → synced_end mid < to
+    by true is some = grind (arith, nat_tests, is)
+    by false is none = absurd (let never : false ≡ true = none in cc)
 
 module _ {D C : Type 0} (trace : D → Trace) (sum : List ℕ → ℕ) (faults : D → ℕ) (to : ℕ) where
   -- Some of the buffers that begin below a place were written, and the others are left.

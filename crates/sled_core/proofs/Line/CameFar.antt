@@ -55,13 +55,14 @@ module _ {D C : Type 0} (trace : D → Trace) (sum : List ℕ → ℕ) (faults :
         current_writes sum old.config.config.segment_size old.site.place to (first_view old) (views_behind old) (line_segments old) sealed ∙ so_far.whole in
         sym ((λ i. take (sym so_far.pairs i) (all i)) ∙ take-append_seam so_far.done rest)
 
-    pub wrote_front : WroteNone trace mid new → WroteFront trace sum to old new
-    wrote_front none = record {
+    pub wrote_front : WroteNone trace mid new → synced_end new < to → WroteFront trace sum to old new
+    wrote_front none short = record {
       count = so_far.count;
       left = waiting ∙ so_far.gone ∙ sym (ap (λ (o : Bool). drop so_far.count (if o then buffers_of sum old else waiting_of old)) not_current);
       start = start ∙ so_far.start ∙ sym (ap (λ (o : Bool). if o then start_sealed old else start_of old) not_current);
       synced = none.synced ∙ so_far.synced;
       whole = λ sound. none.still sound ∙ so_far.came ∙ ap (λ (es : List Event). after_all es (trace (device_of old))) done_is;
+      short = short;
     }
 
 -- What is left is so many of them.

@@ -39,6 +39,7 @@ pub record IsLaid (size place : ℕ) (v : SegmentView) : Type 0 where
   pub are : AreSealed v.parts.written_len v.parts.reserved v.parts.sealed
   pub end : ℕ
   pub inside : end ≤ size
+  pub held : end ≤ length v.parts.bytes
   pub chain : IsChain (max 20 v.parts.written_len) v.parts.reserved end
   pub some : All (λ r. 0 < r.len) v.parts.reserved
 
@@ -52,7 +53,7 @@ each_some v f = λ k d lt. (f.headed k d lt).0
 
 -- Those of a log do,
 segment_laid : (size place : ℕ) (v : SegmentView) → IsSegment size place v → IsLaid size place v
-segment_laid size place v f = record { at = f.at; are = f.are; end = length v.parts.bytes; inside = f.short; chain = segment_chain v f; some = each_some v f }
+segment_laid size place v f = record { at = f.at; are = f.are; end = length v.parts.bytes; inside = f.short; held = omega arith; chain = segment_chain v f; some = each_some v f }
 
 pub segments_laid : (size place : ℕ) (vs : List SegmentView) → AreSegments size place vs → AreLaid size place vs
 segments_laid size place [] are = tt
@@ -65,6 +66,7 @@ sealed_laid size place v some f = record {
   are = seal_are v.parts.written_len v.parts.reserved v.parts.sealed (begin_of v) (sealed_count v.parts.sealed) (length v.parts.bytes) f.are refl refl some f.chain;
   end = length v.parts.bytes;
   inside = f.short;
+  held = omega arith;
   chain = segment_chain v f;
   some = each_some v f;
 }
@@ -90,6 +92,7 @@ closed_laid sum size place v some f = by_filled sum size (λ x. IsLaid size plac
         are = seal_are v.parts.written_len (rs ++ its ∷ []) bs (begin_of v) (sealed_count bs) new (sealed_more v.parts.written_len rs bs (its ∷ []) f.are) refl refl (omega (arith, some, longer)) behind;
         end = n + (size - n);
         inside = omega (arith, end);
+        held = omega (arith, end, all);
         chain = chain-append (max 20 v.parts.written_len) n rs its (segment_chain v f) refl;
         some = All-append (λ r. 0 < r.len) rs (its ∷ []) (each_some v f) (All-cons (λ r. 0 < r.len) its [] (omega (arith, less)) (All-nil (λ r. 0 < r.len)));
       }
@@ -104,7 +107,7 @@ as_sealed_laid sum size place v f = by_any (holds_any v) refl where
   by_any true is = by_short (grind (arith, nat_tests, is)) (is_short size (length v.parts.bytes))
   by_any false is = segment_laid size place v f
 
-line_laid : (sum : List ℕ → ℕ) (size place : ℕ) (vs : List SegmentView) → AreSegments size place vs → AreLaid size place (at_last (as_sealed sum size) vs)
+pub line_laid : (sum : List ℕ → ℕ) (size place : ℕ) (vs : List SegmentView) → AreSegments size place vs → AreLaid size place (at_last (as_sealed sum size) vs)
 line_laid sum size place [] are = tt
 line_laid sum size place (v ∷ []) are = (as_sealed_laid sum size place v are.0, tt)
 line_laid sum size place (v ∷ w ∷ ws) are = (segment_laid size place v are.0, line_laid sum size (place + size) (w ∷ ws) are.1)
@@ -136,7 +139,7 @@ record IsHeldIn (from to : ℕ) (ps : List ℕ) (b : BufferAt) : Type 0 where
   held : b.held ≡ first_between b.place b.end ps
 
 -- the chain goes on behind the first buffer
-begun_rest : (from end : ℕ) (b : Sealed) (bs : List Sealed) (rs : List Reserved) → AreSealed from rs (b ∷ bs) → IsChain (max 20 from) rs end → IsChain (max 20 b.end) (drop b.count rs) end
+pub begun_rest : (from end : ℕ) (b : Sealed) (bs : List Sealed) (rs : List Reserved) → AreSealed from rs (b ∷ bs) → IsChain (max 20 from) rs end → IsChain (max 20 b.end) (drop b.count rs) end
 begun_rest from end b bs rs are chain =
     subst (λ n. IsChain n (drop b.count rs) end) (sym (end_begun from (take b.count rs) b are.0)) (chain_rest (max 20 from) end rs b.count b.end chain are.0.chain)
 

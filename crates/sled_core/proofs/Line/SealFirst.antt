@@ -81,6 +81,7 @@ module _ {D C : Type 0} (sum : List ℕ → ℕ) (to : ℕ) (old mid : Log D C) 
         start = front.start ∙ (λ i. if behind i then start_sealed mid else start i) ∙ sym (ap (λ (o : Bool). if o then start_sealed old else start_of old) before);
         synced = front.synced ∙ ap (λ d. front.count + syncs (trace d)) device;
         whole = λ sound. front.whole sound ∙ (λ i. after_all (take (2 * front.count) (writing_more adds i)) (trace (device i)));
+        short = front.short;
       }
 
   pub sealed_past : current_begin mid ≡ sealing_end old → to ≤ current_begin mid

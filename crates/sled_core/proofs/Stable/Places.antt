@@ -91,8 +91,8 @@ pub stable_answers : (T S : Type 0) (e : Error) (lsn : ℤ) (stable end : ℕ) (
     → StableAnswers {T = S} (Err e) lsn stable end held used old now before after
 stable_answers T S e lsn stable end held used old now before after above inside none answers = subst (λ (o : Option IoError). StableAnswers {T = S} (Err e) lsn stable end held used o now before after) (sym none) (by e answers) where
   by : (x : Error) → HeldAnswers {T = T} (Err x) held used None now before after → StableAnswers {T = S} (Err x) lsn stable end held used None now before after
-  by (Held at) answers = (inside, answers)
+  by (Held at) answers = (above, inside, answers)
   by (Io x) answers = (λ _. (above, inside), answers)
   by OutOfMemory answers = (above, inside, answers.0, answers.1, answers.2, answers.3)
-  by PlacesUsedUp answers = (inside, answers)
+  by PlacesUsedUp answers = (above, inside, answers)
   by _ answers = absurd answers

@@ -5,7 +5,7 @@ use Rattle.sled_store.proofs.Traces.ScriptLemmas.{performs_whole}
 use Rattle.sled_core.specs.Fits.{line_of, waiting_of}
 use Rattle.sled_core.specs.Turned.{ready_below}
 use Rattle.sled_core.proofs.Holds.KeptCalls.{kept_further}
-use Rattle.sled_core.proofs.Line.Advanced.{advanced_further, advanced_still, all_made, failed_further, failed_one, failed_position, failed_tickets, failed_any, first_step, first_view, holds_up, past_left, ready_in, same_current, stuck_left, stuck_one, write_failed}
+use Rattle.sled_core.proofs.Line.Advanced.{advanced_further, advanced_still, all_made, failed_further, failed_one, failed_position, failed_tickets, failed_any, first_step, first_view, holds_up, past_left, ready_in, same_current, still_short, stuck_left, stuck_one, write_failed}
 use Rattle.sled_core.proofs.Line.Below.{IsStuck, begin_none, first_fewer, held_past, writes_past}
 use Rattle.sled_core.proofs.Line.HeaderMarks.{segment_further, segment_same}
 use Rattle.sled_core.proofs.Line.CameFar.{wrote_front}
@@ -78,7 +78,8 @@ pub returns-in_err-write_buffer-clause-front : goal.returns-in_err-write_buffer-
 returns-in_err-write_buffer-clause-front g c =
     let same = same_buffers c.loop-self.self c.write_buffer.new.self c.in_err-write_buffer.ensures.same in
     all_err c.from_residual.result _
-    (wrote_front g.D.Device.trace g.C.Checksum.sum_of g.D.Device.faults c.args.to c.args.self.now c.loop-self.self c.write_buffer.new.self c.requires.sealed c.loop-self.invariant.advanced same.0 same.1 c.in_err-write_buffer.ensures.unwritten)
+    (wrote_front g.D.Device.trace g.C.Checksum.sum_of g.D.Device.faults c.args.to c.args.self.now c.loop-self.self c.write_buffer.new.self c.requires.sealed c.loop-self.invariant.advanced same.0 same.1 c.in_err-write_buffer.ensures.unwritten
+    (still_short c.args.to c.loop-self.self c.write_buffer.new.self (sym c.has_ready_below.ensures ∙ c.loop-self-test.true) c.in_err-write_buffer.ensures.same))
 
 pub returns-in_err-write_buffer-clause-idle : goal.returns-in_err-write_buffer-clause-idle
 returns-in_err-write_buffer-clause-idle g c = λ none.
@@ -132,6 +133,7 @@ pub returns-then-synced_end-to-clause-front : goal.returns-then-synced_end-to-cl
 returns-then-synced_end-to-clause-front g c =
     let now = c.loop-self.self in
     wrote_front g.D.Device.trace g.C.Checksum.sum_of g.D.Device.faults c.args.to c.args.self.now now now c.requires.sealed c.loop-self.invariant.advanced refl refl (record { synced = refl; still = λ sound. refl })
+    (omega (arith, c.synced_end.ensures.is, c.if-synced_end-to.true))
 
 pub returns-then-synced_end-to-clause-idle : goal.returns-then-synced_end-to-clause-idle
 returns-then-synced_end-to-clause-idle g c = λ _. c.loop-self.invariant.advanced.counted

@@ -1,0 +1,315 @@
+-- Each buffer of a log that nothing holds up is whole records, each with its sum, and so is the current one as it would be sealed.
+use Rattle.std.proofs.Common.{◌≡◌, ◌≢◌, ◌∙◌, ◌⊎◌, ◌+◌, ◌-◌, ◌*◌, ◌/◌, ◌%◌, ◌≤◌, ◌<◌, ap, sym, refl, arith, subst, inl, inr, ℕ, ℤ, pos, zero, suc, max, nat_lt, Bool, true, false, if◌then◌else◌, List, [], ◌∷◌, ◌++◌, length, length-append, length-take, length-drop, map, take, drop, get_or, Option, None, Some}
+use Rattle.std.specs.Prelude.{◌<ℤ◌}
+use Rattle.std.specs.List.{All, slice_get}
+use Rattle.std.proofs.lemmas.Bool.{cases_lt}
+use Rattle.std.proofs.lemmas.List.{append_assoc, append-nil, drop-drop, drop-take, take-append-drop, take-append-le, take-take}
+use Rattle.std.proofs.lemmas.List.Elements.{All-append, All-drop, All-head, All-cons, All-nil, All-tail, All-take}
+use Rattle.sled_codec.specs.declared.serialization.message.MessageKind.{MessageKind}
+use Rattle.sled_codec.specs.declared.serialization.message.MessageKind.TheVariants as kind
+use Rattle.sled_codec.specs.History.{History, Message}
+use Rattle.sled_codec.specs.Places.{part}
+use Rattle.sled_codec.specs.Record.{short_header, short_record}
+use Rattle.sled_store.specs.Device.{State, Trace, state_of}
+use Rattle.sled_core.specs.Begun.{SegmentView, begin_of, line_at, segment_view, view_at}
+use Rattle.sled_core.specs.Buffers.{HasText, IsChain, NoPadding, Stands, StandsBy, StandsReserved, body_in, first_open_in, none_open, open_state, padding_at, text_as, text_in}
+use Rattle.sled_core.specs.Caps.{segment_rest}
+use Rattle.sled_core.specs.declared.iobuf.ReservationState.{ReservationState}
+use Rattle.sled_core.specs.declared.iobuf.ReservationState.TheVariants as state
+use Rattle.sled_core.specs.declared.iobuf.Reserved.{Reserved}
+use Rattle.sled_core.specs.declared.iobuf.Sealed.{Sealed}
+use Rattle.sled_core.specs.declared.iobuf.SegmentPosition.{SegmentPosition}
+use Rattle.sled_core.specs.declared.logger.Log.{Log}
+use Rattle.sled_core.specs.Fits.{Holds, HoldsLine, HoldsSegment, HoldsWith, buffers_of, fault_of, line_of, log_parts, noted_in, machine_at, segment_size_of}
+use Rattle.sled_core.specs.Logged.{logged}
+use Rattle.sled_core.specs.Positions.{is_short}
+use Rattle.sled_core.specs.SealedBuffers.{AreSealed, bytes_between}
+use Rattle.sled_core.specs.Waiting.{BufferAt, as_sealed, at_last, buffer_at, closed_now, holds_any, placed, sealed_now, turned_now, unwritten, unwritten_in, unwritten_of}
+use Rattle.sled_core.specs.WholeBuffers.{IsFilling, IsHead, IsWholeBuffer, IsWholeText, RecordParts, records_text}
+use Rattle.sled_core.proofs.Line.Closes.{by_filled, filled_up, more_of}
+use Rattle.sled_core.proofs.Line.EndedTickets.{segment_chain}
+use Rattle.sled_core.proofs.Line.Ends.{with_part}
+use Rattle.sled_core.proofs.Line.Facts.{IsSegment}
+use Rattle.sled_core.proofs.Line.OpenSeen.{AreLaid, IsLaid, begun_rest, line_laid}
+use Rattle.sled_core.proofs.Line.Segments.{AreSegments, line_segments, nth_segment}
+use Rattle.sled_core.proofs.Line.Shows.{number_small}
+use Rattle.sled_core.proofs.Read.ScanLemmas.{aligned_number, aligned_offset}
+use Rattle.sled_core.proofs.Reserve.Filled.{filled_stand}
+use Rattle.sled_core.proofs.Reserve.Ranges.{chain_grows}
+use Rattle.sled_core.proofs.Sealed.OneWritten.{length-between}
+
+-- The bytes of a text up to an offset, from another one on, are a part of it and those behind that.
+between_parted : (bytes : List ℕ) (at n end : ℕ) → at + n ≤ end → bytes_between bytes at end ≡ part bytes at n ++ bytes_between bytes (at + n) end
+between_parted bytes at n end le =
+    let back : at + (end - at) ≡ end = omega (arith, le) in
+    let front : take n (drop at (take end bytes)) ≡ part bytes at n =
+    ap (take n) (ap (λ e. drop at (take e bytes)) (sym back) ∙ drop-take at (end - at) bytes) ∙ take-take n (end - at) (drop at bytes) (omega (arith, le)) in
+    sym (take-append-drop n (drop at (take end bytes))) ∙ (λ i. front i ++ drop-drop n at (take end bytes) i)
+
+-- there are none from its end on
+between_none : (bytes : List ℕ) (at end : ℕ) → end ≤ at → end ≤ length bytes → bytes_between bytes at end ≡ []
+between_none bytes at end le inside = none_long (bytes_between bytes at end) (omega (arith, le, length-drop at (take end bytes), length-take end bytes))
+  where
+    none_long : (xs : List ℕ) → length xs ≡ 0 → xs ≡ []
+    none_long [] is = refl
+    none_long (x ∷ xs) is = absurd (omega (arith, is))
+
+module _ (sum : List ℕ → ℕ) (size number : ℕ) (bytes : List ℕ) where
+  abbrev Stand : Reserved → Type 0
+  Stand = Stands sum size number bytes
+
+  -- From one offset to another there are whole records, and behind them at most what fills the segment.
+  record HasRecords (at end : ℕ) : Type 0 where
+    records : List RecordParts
+    rest : List ℕ
+    is : bytes_between bytes at end ≡ records_text sum number records ++ rest
+    filled : IsFilling sum size number (at + length (records_text sum number records)) rest
+
+  -- A record stands in front of others.
+  one_more : (r : Reserved) (end : ℕ) (k : MessageKind) → r.from + r.len ≤ end → end ≤ length bytes → text_in bytes r ≡ short_record sum k r.page number (body_in bytes r) → HasRecords (r.from + r.len) end → HasRecords r.from end
+  one_more r end k within inside is more =
+      let one : RecordParts = record { kind = k; page = r.page; body = body_in bytes r } in
+      let text : List ℕ = records_text sum number more.records in
+      let long : length (short_record sum k r.page number (body_in bytes r)) ≡ r.len =
+      ap length (sym is) ∙ (let n = length-take r.len (drop r.from bytes) in let m = length-drop r.from bytes in let all : length (text_in bytes r) ≡ r.len = omega (arith, n, m, within, inside) in all) in
+      let joined = length-append (short_record sum k r.page number (body_in bytes r)) text in
+      record {
+        records = one ∷ more.records;
+        rest = more.rest;
+        is = between_parted bytes r.from r.len end within
+            ∙ (λ i. is i ++ more.is i)
+            ∙ sym (append_assoc (short_record sum k r.page number (body_in bytes r)) text more.rest);
+        filled = subst (λ n. IsFilling sum size number n more.rest)
+            (let up : r.from + r.len + length text ≡ r.from + length (records_text sum number (one ∷ more.records)) = omega (arith, long, joined) in up) more.filled;
+      }
+
+  -- What fills a segment stands alone.
+  filling : (r : Reserved) (end : ℕ) → r.from + r.len ≡ size → text_in bytes r ≡ segment_rest sum size number r.from → r.from + r.len ≤ end → end ≤ size → end ≤ length bytes → HasRecords r.from end
+  filling r end to_end is within short inside =
+      let long : length (text_in bytes r) ≡ r.len = omega (arith, length-take r.len (drop r.from bytes), length-drop r.from bytes, within, inside) in
+      let here : r.from ≡ r.from + 0 = omega arith in
+      record {
+        records = [];
+        rest = text_in bytes r;
+        is = between_parted bytes r.from r.len end within
+            ∙ ap (λ (l : List ℕ). text_in bytes r ++ l) (between_none bytes (r.from + r.len) end (omega (arith, to_end, short)) inside) ∙ append-nil (text_in bytes r);
+        filled = inr (omega (arith, long, to_end), is ∙ ap (segment_rest sum size number) here);
+      }
+
+  -- An entry that has ended.
+  entry : (r : Reserved) (end : ℕ) → r.from + r.len ≤ end → end ≤ size → end ≤ length bytes → (s : ReservationState) → r.state ≡ s → open_state s ≡ false → StandsBy s sum size number bytes r
+      → HasRecords (r.from + r.len) end → HasRecords r.from end
+  entry r end within short inside state.Open is never stands more = absurd (let bad : true ≡ false = never in cc)
+  entry r end within short inside state.Completed is ended stands more =
+      one_more r end r.kind within inside (stands.text.is ∙ ap (text_as sum r.kind r.page number (body_in bytes r)) is) more
+  entry r end within short inside state.Canceled is ended stands more =
+      one_more r end kind.Canceled within inside (stands.text.is ∙ ap (text_as sum r.kind r.page number (body_in bytes r)) is) more
+  entry r end within short inside state.Manifest is ended stands more =
+      one_more r end r.kind within inside (stands.text.is ∙ ap (text_as sum r.kind r.page number (body_in bytes r)) is) more
+  entry r end within short inside state.Padding is ended stands more = filling r end stands.to_end stands.is within short inside
+
+  has_records : (at end : ℕ) (rs : List Reserved) → IsChain at rs end → All Stand rs → none_open rs ≡ true → end ≤ size → end ≤ length bytes → HasRecords at end
+  has_records at end [] chain stand ended short inside = record { records = []; rest = []; is = between_none bytes at end (let same : at ≡ end = chain in omega (arith, same)) inside; filled = inl refl }
+  has_records at end (r ∷ rs) chain stand ended short inside =
+      subst (λ n. HasRecords n end) chain.0
+      (by (λ rest. has_records (r.from + r.len) end rs behind (All-tail Stand r rs stand) rest short inside) (open_state r.state) refl ended)
+    where
+      up : r.from + r.len ≤ end
+      up = let grows = chain_grows (at + r.len) end rs chain.1 in let place : r.from ≡ at = chain.0 in omega (arith, grows, place)
+
+      behind : IsChain (r.from + r.len) rs end
+      behind = subst (λ n. IsChain (n + r.len) rs end) (sym chain.0) chain.1
+
+      by : (none_open rs ≡ true → HasRecords (r.from + r.len) end) → (o : Bool) → open_state r.state ≡ o → (if o then false else none_open rs) ≡ true → HasRecords r.from end
+      by more true is bad = absurd (let never : false ≡ true = bad in cc)
+      by more false is rest = entry r end up short inside r.state refl is (All-head Stand r rs stand) (more rest)
+
+-- where none holds a buffer up, none of its reservations is open
+none_ahead : (rs : List Reserved) (base : ℕ) → placed base (first_open_in rs) ≡ None → none_open rs ≡ true
+none_ahead [] base is = refl
+none_ahead (r ∷ rs) base is = by (none_ahead rs base) (open_state r.state) is where
+  by : (placed base (first_open_in rs) ≡ None → none_open rs ≡ true) → (o : Bool) → placed base (if o then Some r.from else first_open_in rs) ≡ None → (if o then false else none_open rs) ≡ true
+  by more true bad = absurd (let never : Some (base + r.from) ≡ None = bad in cc)
+  by more false rest = more rest
+
+-- The buffers of a segment.
+module _ (sum : List ℕ → ℕ) (size : ℕ) where
+  -- it is whole, unless it is held up
+  abbrev pub WholeUnlessHeld : BufferAt → Type 0
+  WholeUnlessHeld b = b.held ≡ None → IsWholeBuffer sum size b
+
+  -- An offset of a segment lies behind its header; or it is where it begins, with the header, whose mark lies below it.
+  abbrev BeginsBuffer : SegmentPosition → List ℕ → ℕ → Type 0
+  BeginsBuffer site bytes from = (20 ≤ from) ⊎ ((from ≡ 0) × (mark : ℤ) × (mark <ℤ pos site.place) × (take 20 bytes ≡ short_header sum (pos site.place) mark))
+
+  module _ (site : SegmentPosition) (bytes : List ℕ) (aligned : site.place % size ≡ 0) (begun : 20 ≤ length bytes) where
+    abbrev number : ℕ
+    number = site.place / size
+
+    abbrev Text : ℕ → ℕ → Type 0
+    Text from end = IsWholeText sum size number (site.place + from) from (bytes_between bytes from end)
+
+    -- Behind the header records begin,
+    text_behind : (from end : ℕ) → 20 ≤ from → HasRecords sum size number bytes (max 20 from) end → Text from end
+    text_behind from end behind has =
+        let at : max 20 from ≡ from = omega (arith, behind) in
+        let here : HasRecords sum size number bytes from end = subst (λ n. HasRecords sum size number bytes n end) at has in
+        record {
+          head = [];
+          records = here.records;
+          rest = here.rest;
+          is = here.is;
+          headed = inr (behind, refl);
+          filled = subst (λ n. IsFilling sum size number (n + length (records_text sum number here.records)) here.rest) (let none : from ≡ from + 0 = omega arith in none) here.filled;
+        }
+
+    -- and where it begins the header stands in front of them.
+    text_headed : (from end : ℕ) (mark : ℤ) → from ≡ 0 → mark <ℤ pos site.place → take 20 bytes ≡ short_header sum (pos site.place) mark → 20 ≤ end → HasRecords sum size number bytes (max 20 from) end → Text from end
+    text_headed from end mark none below header up has =
+        let at : max 20 from ≡ from + 20 = omega (arith, none) in
+        let here : HasRecords sum size number bytes (from + 20) end = subst (λ n. HasRecords sum size number bytes n end) at has in
+        let place : site.place ≡ site.place + from = omega (arith, none) in
+        let front : part bytes from 20 ≡ take 20 bytes = ap (λ n. take 20 (drop n bytes)) none in
+        let text : List ℕ = records_text sum number here.records in
+        record {
+          head = take 20 bytes;
+          records = here.records;
+          rest = here.rest;
+          is = between_parted bytes from 20 end (omega (arith, none, up)) ∙ (λ i. front i ++ here.is i) ∙ sym (append_assoc (take 20 bytes) text here.rest);
+          headed = inl (none, mark, subst (λ n. mark <ℤ pos n) place below, header ∙ ap (λ n. short_header sum (pos n) mark) place);
+          filled = subst (λ n. IsFilling sum size number (from + n + length text) here.rest)
+              (let long : 20 ≡ length (take 20 bytes) = omega (arith, length-take 20 bytes, begun) in long) here.filled;
+        }
+
+    one_whole : (from end : ℕ) (own : List Reserved) → from < size → max 20 from ≤ end → BeginsBuffer site bytes from → HasRecords sum size number bytes (max 20 from) end
+        → IsWholeBuffer sum size (buffer_at site bytes from end own)
+    one_whole from end own low up begins has =
+        subst (λ n. IsWholeText sum size n (site.place + from) ((site.place + from) % size) (bytes_between bytes from end)) (sym (aligned_number site.place from size aligned low))
+        (subst (λ n. IsWholeText sum size number (site.place + from) n (bytes_between bytes from end)) (sym (aligned_offset site.place from size aligned low))
+        (elim begins [
+          | inl behind ↦ text_behind from end behind has
+          | inr first ↦ text_headed from end first.1 first.0 first.2 first.3 (omega (arith, up)) has
+        ]))
+
+    -- All of them.
+    all_whole : (from end : ℕ) (bs : List Sealed) (rs : List Reserved) → AreSealed from rs bs → IsChain (max 20 from) rs end → end ≤ size → end ≤ length bytes → All (Stands sum size number bytes) rs
+        → BeginsBuffer site bytes from → All WholeUnlessHeld (unwritten_in site bytes from bs rs)
+    all_whole from end [] rs are chain short inside stand begins = All-nil WholeUnlessHeld
+    all_whole from end (b ∷ bs) rs are chain short inside stand begins =
+        by_test (all_whole b.end end bs later are.1 behind short inside (All-drop (Stands sum size number bytes) b.count rs stand) (inl (omega (arith, up)))) b.is_written
+      where
+        own : List Reserved
+        own = take b.count rs
+
+        later : List Reserved
+        later = drop b.count rs
+
+        behind : IsChain (max 20 b.end) later end
+        behind = begun_rest from end b bs rs are chain
+
+        up : max 20 from ≤ b.end
+        up = chain_grows (max 20 from) b.end own are.0.chain
+
+        high : b.end ≤ end
+        high = let grows = chain_grows (max 20 b.end) end later behind in omega (arith, grows)
+
+        here : WholeUnlessHeld (buffer_at site bytes from b.end own)
+        here free = let rises = are.0.rises in
+            one_whole from b.end own (omega (arith, rises, high, short)) up begins
+            (has_records sum size number bytes (max 20 from) b.end own are.0.chain (All-take (Stands sum size number bytes) b.count rs stand) (none_ahead own site.place free) (omega (arith, high, short)) (omega (arith, high, inside)))
+
+        by_test : All WholeUnlessHeld (unwritten_in site bytes b.end bs later) → (o : Bool)
+            → All WholeUnlessHeld (if o then unwritten_in site bytes b.end bs later else buffer_at site bytes from b.end own ∷ unwritten_in site bytes b.end bs later)
+        by_test rest true = rest
+        by_test rest false = All-cons WholeUnlessHeld (buffer_at site bytes from b.end own) (unwritten_in site bytes b.end bs later) here rest
+
+  -- What a segment that holds a part of a history says of its bytes.
+  record IsTold (v : SegmentView) : Type 0 where
+    aligned : v.parts.site.place % size ≡ 0
+    begun : 20 ≤ length v.parts.bytes
+    stand : All (Stands sum size (v.parts.site.place / size) v.parts.bytes) v.parts.reserved
+    begins : BeginsBuffer v.parts.site v.parts.bytes v.parts.written_len
+
+  abbrev AreTold : List SegmentView → Type 0
+  AreTold [] = Unit {0}
+  AreTold (v ∷ vs) = IsTold v × AreTold vs
+
+  each_told : (vs : List SegmentView) → ((n : ℕ) (v : SegmentView) → slice_get vs n ≡ Some v → IsTold v) → AreTold vs
+  each_told [] told = tt
+  each_told (v ∷ vs) told = (told 0 v refl, each_told vs (λ n w there. told (suc n) w there))
+
+  -- also once it is filled and sealed.
+  filled_told : (place : ℕ) (v : SegmentView) → IsSegment size place v → length v.parts.bytes < size → IsTold v → IsTold (sealed_now (filled_up sum size v))
+  filled_told place v f less told =
+      let bytes : List ℕ = v.parts.bytes in
+      let more : List ℕ = more_of sum size v in
+      let longer = length-append bytes more in
+      let front : take 20 (bytes ++ more) ≡ take 20 bytes = take-append-le 20 bytes more told.begun in
+      let low = told.begun in
+      record {
+        aligned = told.aligned;
+        begun = omega (arith, longer, low);
+        stand = filled_stand sum size (v.parts.site.place / size) bytes (max 20 v.parts.written_len) v.parts.reserved (number_small size place v f) less (segment_chain v f) told.stand;
+        begins = elim told.begins [ | inl behind ↦ inl behind | inr first ↦ inr (first.0, first.1, first.2, front ∙ first.3) ];
+      }
+
+  told_as_sealed : (place : ℕ) (v : SegmentView) → IsSegment size place v → IsTold v → IsTold (as_sealed sum size v)
+  told_as_sealed place v f told = by_any (holds_any v) where
+    sealed : IsTold (sealed_now v)
+    sealed = record { aligned = told.aligned; begun = told.begun; stand = told.stand; begins = told.begins }
+
+    by_short : (o : Bool) → IsTold (if o then closed_now sum size v else sealed_now v)
+    by_short true = by_filled sum size (λ x. IsTold (sealed_now x)) v (λ less. filled_told place v f less told) (λ full. sealed)
+    by_short false = sealed
+
+    by_any : (o : Bool) → IsTold (if o then turned_now sum size v else v)
+    by_any true = by_short (is_short size (length v.parts.bytes))
+    by_any false = told
+
+  line_told : (place : ℕ) (vs : List SegmentView) → AreSegments size place vs → AreTold vs → AreTold (at_last (as_sealed sum size) vs)
+  line_told place [] are told = tt
+  line_told place (v ∷ []) are told = (told_as_sealed place v are.0 told.0, tt)
+  line_told place (v ∷ w ∷ ws) are told = (told.0, line_told (place + size) (w ∷ ws) are.1 told.1)
+
+  along : (place : ℕ) (vs : List SegmentView) → AreLaid size place vs → AreTold vs → All WholeUnlessHeld (unwritten vs)
+  along place [] are told = All-nil WholeUnlessHeld
+  along place (v ∷ vs) are told =
+      let is = are.0 in
+      let its = told.0 in
+      All-append WholeUnlessHeld (unwritten_of v.parts) (unwritten vs)
+      (all_whole v.parts.site v.parts.bytes its.aligned its.begun v.parts.written_len is.end v.parts.sealed v.parts.reserved is.are is.chain is.inside is.held its.stand its.begins)
+      (along (place + size) vs are.1 told.1)
+
+module _ {D C : Type 0} (trace : D → Trace) (sum : List ℕ → ℕ) (log : Log D C) (H : History) where
+  abbrev size : ℕ
+  size = log.config.config.segment_size
+
+  abbrev device : State
+  device = state_of (trace log.config.device)
+
+  segment_told : HoldsLine sum size device log.fault (line_of log) (logged H) → log.fault ≡ None → (n : ℕ) (v : SegmentView) → slice_get (line_of log) n ≡ Some v → IsTold sum size v
+  segment_told holds none n v there =
+      let is : IsSegment size v.parts.site.place v = nth_segment size log.site.place (line_of log) (line_segments log) n v there in
+      with_part sum size device log.fault (line_of log) n v (logged H) holds there (λ stays own segment.
+      let on = segment.written none in
+      record {
+        aligned = segment.place_begins;
+        begun = is.begun;
+        stand = segment.stand;
+        begins = elim (cases_lt 0 v.parts.written_len) [
+          | inl some ↦ inl (on.file.begun some)
+          | inr none ↦ (
+            let first : v.parts.written_len ≡ 0 = omega (arith, none) in
+            let head = segment.header first in
+            inr (first, head.mark, head.of_history.below, head.is))
+        ];
+      })
+
+  -- Each buffer of a log that holds a history and keeps no failure is whole, unless it is held up.
+  pub buffers_whole : Holds trace sum log H → fault_of log ≡ None → All (WholeUnlessHeld sum size) (buffers_of sum log)
+  unfolding Holds
+  buffers_whole holds none =
+      let line : List SegmentView = line_of log in
+      let are : AreSegments size log.site.place line = line_segments log in
+      along sum size log.site.place (at_last (as_sealed sum size) line) (line_laid sum size log.site.place line are)
+      (line_told sum size log.site.place line are (each_told sum size line (λ n v there. segment_told holds.holds none n v there)))

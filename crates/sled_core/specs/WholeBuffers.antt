@@ -1,0 +1,39 @@
+-- What the bytes of a buffer are that a log writes: the header of its segment, where it begins with that; whole records, each with its sum; and what fills the segment.
+use Rattle.std.specs.Prelude.{◌≡◌, ◌⊎◌, ◌+◌, ◌/◌, ◌%◌, ◌≤◌, ◌<ℤ◌, ◌∷◌, ◌++◌, ℕ, ℤ, pos, List, [], length}
+use Rattle.sled_codec.specs.declared.serialization.message.MessageKind.{MessageKind}
+use Rattle.sled_codec.specs.Record.{short_header, short_record}
+use Rattle.sled_core.specs.Caps.{segment_rest}
+use Rattle.sled_core.specs.Waiting.{BufferAt}
+
+-- A record by what is in it, but for its segment's number.
+pub record RecordParts : Type 0 where
+  pub kind : MessageKind
+  pub page : ℕ
+  pub body : List ℕ
+
+-- the bytes of such records, in a segment of this number, one behind another
+abbrev pub records_text : (List ℕ → ℕ) → ℕ → List RecordParts → List ℕ
+records_text sum number [] = []
+records_text sum number (r ∷ rs) = short_record sum r.kind r.page number r.body ++ records_text sum number rs
+
+-- What stands in front of the first record of a buffer that begins at a place, which lies at an offset of its segment: where it begins with the segment the
+-- segment's header, with a mark below it; else nothing.
+abbrev pub IsHead : (List ℕ → ℕ) → ℕ → ℕ → List ℕ → Type 0
+IsHead sum place from head = ((from ≡ 0) × (mark : ℤ) × (mark <ℤ pos place) × (head ≡ short_header sum (pos place) mark)) ⊎ ((20 ≤ from) × (head ≡ []))
+
+-- What stands behind its last record, from that offset on: nothing, or what fills the segment to its end.
+abbrev pub IsFilling : (List ℕ → ℕ) → ℕ → ℕ → ℕ → List ℕ → Type 0
+IsFilling sum size number from rest = (rest ≡ []) ⊎ ((from + length rest ≡ size) × (rest ≡ segment_rest sum size number from))
+
+-- The bytes of a buffer that begins at a place, and so at an offset of a segment of a number: no record is written in parts, and none without its sum.
+pub record IsWholeText (sum : List ℕ → ℕ) (size number place from : ℕ) (bytes : List ℕ) : Type 0 where
+  pub head : List ℕ
+  pub records : List RecordParts
+  pub rest : List ℕ
+  pub is : bytes ≡ head ++ records_text sum number records ++ rest
+  pub headed : IsHead sum place from head
+  pub filled : IsFilling sum size number (from + length head + length (records_text sum number records)) rest
+
+-- So are those of a buffer of a log with segments of a size.
+abbrev pub IsWholeBuffer : (List ℕ → ℕ) → ℕ → BufferAt → Type 0
+IsWholeBuffer sum size b = IsWholeText sum size (b.place / size) b.place (b.place % size) b.bytes
