@@ -32,42 +32,43 @@ abbrev pub holding_read : LogView → ℕ → Option ℕ
 holding_read l at = if nat_lt at l.synced then None else held_around_place (opens l) at (sealed_around at l)
 
 -- The buffer with a place is on the device: it was written, where the place wasn't stable.
-pub record ReadsAt (l : LogView) (at : ℕ) (old new : DeviceView) : Type 0 where
+pub record ReadsAt (sum : List ℕ → ℕ) (size : ℕ) (l : LogView) (at : ℕ) (old new : DeviceView) : Type 0 where
   pub free : holding_read l at ≡ None
-  pub writes : Writes l (sealed_around at l) (reading_around l at) old new
+  pub writes : Writes sum size l (sealed_around at l) (reading_around l at) old new
   pub failures : new.failures ≡ old.failures
 
 -- These messages were read, one behind another, and lead from one log to another.
-abbrev pub ReadsAll : LogView → List Message → DeviceView → DeviceView → LogView → Type 0
-ReadsAll l [] old new end = (new.trace ≡ old.trace) × (new.failures ≡ old.failures) × (end ≡ l)
-ReadsAll l (m ∷ ms) old new end = (mid : DeviceView) × ReadsAt l (read_at m) old mid × ReadsAll (read_around l (read_at m)) ms mid new end
+abbrev pub ReadsAll : (List ℕ → ℕ) → ℕ → LogView → List Message → DeviceView → DeviceView → LogView → Type 0
+ReadsAll sum size l [] old new end = (new.trace ≡ old.trace) × (new.failures ≡ old.failures) × (end ≡ l)
+ReadsAll sum size l (m ∷ ms) old new end =
+    (mid : DeviceView) × ReadsAt sum size l (read_at m) old mid × ReadsAll sum size (read_around l (read_at m)) ms mid new end
 
 -- A read of a place failed: the buffer that has it is sealed or isn't, and it isn't written; or it is written, and what it has wasn't read.
-abbrev pub FailsAt : ℕ → RunState → LogView → ℕ → Error → DeviceView → DeviceView → RunState → Type 0
-FailsAt size a l at e old new b =
+abbrev pub FailsAt : (List ℕ → ℕ) → ℕ → RunState → LogView → ℕ → Error → DeviceView → DeviceView → RunState → Type 0
+FailsAt sum size a l at e old new b =
     Fails l e (holding_read l at) ((l.start.place ≤ at) × (EndsInReach size l.position → ⊥)) old new (λ fault.
-    (WritesSome l (sealed_around at l) (reading_around l at) 0 e fault old new
+    (WritesSome sum size l (sealed_around at l) (reading_around l at) 0 e fault old new
     × (LeavesLog a l new b l.waiting l.start fault ⊎ LeavesLog a l new b (sealed_around at l) (start_around at l) fault))
-    ⊎ (Writes l (sealed_around at l) (reading_around l at) old new × LeavesLog a l new b (spans_without at (sealed_around at l)) (start_around at l) fault))
+    ⊎ (Writes sum size l (sealed_around at l) (reading_around l at) old new × LeavesLog a l new b (spans_without at (sealed_around at l)) (start_around at l) fault))
 
 -- Some messages of a page were read, and the next one was not.
-pub record ReadStops (size : ℕ) (a : RunState) (l : LogView) (ms : List Message) (e : Error) (new : DeviceView) (b : RunState) : Type 0 where
+pub record ReadStops (sum : List ℕ → ℕ) (size : ℕ) (a : RunState) (l : LogView) (ms : List Message) (e : Error) (new : DeviceView) (b : RunState) : Type 0 where
   pub done : List Message
   pub message : Message
   pub rest : List Message
   pub split : ms ≡ done ++ message ∷ rest
   pub mid : DeviceView
   pub log : LogView
-  pub so_far : ReadsAll l done a.device mid log
-  pub fails : FailsAt size a log (read_at message) e mid new b
+  pub so_far : ReadsAll sum size l done a.device mid log
+  pub fails : FailsAt sum size a log (read_at message) e mid new b
 
 -- All messages of a page that is present were read, and their items are answered.
-pub record HasRead (a : RunState) (l : LogView) (ms : List Message) (items : List (Vec ℕ Global)) (new : DeviceView) (b : RunState) : Type 0 where
+pub record HasRead (sum : List ℕ → ℕ) (size : ℕ) (a : RunState) (l : LogView) (ms : List Message) (items : List (Vec ℕ Global)) (new : DeviceView) (b : RunState) : Type 0 where
   pub present : is_present ms ≡ true
   pub sound : l.fault ≡ None
   pub items_are : map (λ v. v.items) items ≡ map (λ m. m.bytes) ms
   pub log : LogView
-  pub reads : ReadsAll l ms a.device new log
+  pub reads : ReadsAll sum size l ms a.device new log
   pub leads : b ≡ with_log a new (Some log)
 
 -- Memory for the list of items was refused before one was read, and nothing was done.
@@ -75,8 +76,8 @@ abbrev pub ReadsNone : RunState → LogView → Error → DeviceView → RunStat
 ReadsNone a l OutOfMemory new b = (l.fault ≡ None) × (new ≡ a.device) × (b ≡ a)
 ReadsNone a l _ new b = ⊥
 
-abbrev pub ReadStep : ℕ → RunState → LogView → List Message → Reply → DeviceView → RunState → Type 0
-ReadStep size a l ms (reply.Page items) new b = HasRead a l ms items.items new b
-ReadStep size a l ms reply.FreePage new b = ((m : Message) × (ms ≡ m ∷ []) × (m.kind ≡ does.Free)) × (new ≡ a.device) × (b ≡ a)
-ReadStep size a l ms (reply.Failed e) new b = KeepsFailing a l e new b ⊎ ReadsNone a l e new b ⊎ ReadStops size a l ms e new b
-ReadStep size a l ms _ new b = ⊥
+abbrev pub ReadStep : (List ℕ → ℕ) → ℕ → RunState → LogView → List Message → Reply → DeviceView → RunState → Type 0
+ReadStep sum size a l ms (reply.Page items) new b = HasRead sum size a l ms items.items new b
+ReadStep sum size a l ms reply.FreePage new b = ((m : Message) × (ms ≡ m ∷ []) × (m.kind ≡ does.Free)) × (new ≡ a.device) × (b ≡ a)
+ReadStep sum size a l ms (reply.Failed e) new b = KeepsFailing a l e new b ⊎ ReadsNone a l e new b ⊎ ReadStops sum size a l ms e new b
+ReadStep sum size a l ms _ new b = ⊥

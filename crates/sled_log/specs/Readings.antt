@@ -45,13 +45,14 @@ pub record KeepsOpen {D C : Type 0} (trace : D → Trace) (sum : List ℕ → �
   pub free : fault_of new ≡ None → fault_of old ≡ None
 
 -- What the read of a message comes to.
-abbrev pub IsItem : {D C : Type 0} → (D → DeviceView) → Log D C → LogView → Message → Log D C → LogView → Result (Vec ℕ Global) Error
-    → Type 0
-IsItem view old l m new l' (Ok item) =
-    (item.items ≡ m.bytes) × (l.fault ≡ None) × ReadsAt l (read_at m) (view (device_of old)) (view (device_of new)) × (l' ≡ read_around l (read_at m))
-IsItem view old l m new l' (Err e) =
+abbrev pub IsItem : {D C : Type 0} → (D → DeviceView) → (List ℕ → ℕ) → Log D C → LogView → Message → Log D C → LogView
+    → Result (Vec ℕ Global) Error → Type 0
+IsItem view sum old l m new l' (Ok item) =
+    (item.items ≡ m.bytes) × (l.fault ≡ None) × ReadsAt sum (segment_size_of old) l (read_at m) (view (device_of old)) (view (device_of new))
+    × (l' ≡ read_around l (read_at m))
+IsItem view sum old l m new l' (Err e) =
     l.fault ≡ None → (a : RunState)
-    → FailsAt (segment_size_of old) a l (read_at m) e (view (device_of old)) (view (device_of new)) (with_log a (view (device_of new)) (Some l'))
+    → FailsAt sum (segment_size_of old) a l (read_at m) e (view (device_of old)) (view (device_of new)) (with_log a (view (device_of new)) (Some l'))
 
 -- A message of what a page is was read, where its place and its pointer were given, or that failed.
 pub record ReadsItem {D C : Type 0} (view : D → DeviceView) (sum : List ℕ → ℕ) (old : Log D C) (page : ℕ) (place : ℤ) (pointer : DiskPtr)
@@ -59,7 +60,7 @@ pub record ReadsItem {D C : Type 0} (view : D → DeviceView) (sum : List ℕ �
   pub only : KeepsOpen (traces view) sum old new
   pub item : (k : Unstored) (m : Message) (begun : ℕ) → IsRead (traces view) sum old k → IsOfPage k.history (reserved_end old) page m
       → pos m.place ≡ place → m.pointer ≡ pointer
-      → IsItem view old (seen_log old begun k.tickets) m new (seen_log new begun k.tickets) result
+      → IsItem view sum old (seen_log old begun k.tickets) m new (seen_log new begun k.tickets) result
 
 -- what is told of the messages of a page that were read
 abbrev pub page_told : Result (Vec (Vec ℕ Global) Global) Error → Reply
@@ -73,5 +74,5 @@ pub record ReadsEntries {D C : Type 0} (view : D → DeviceView) (sum : List ℕ
   pub step : (k : Unstored) (ms : List Message) (begun : ℕ) (a : RunState) → IsRead (traces view) sum old k
       → All (IsOfPage k.history (reserved_end old) page) ms → map entry_of ms ≡ entries → is_present ms ≡ true
       → a.device ≡ view (device_of old) → a.log ≡ Some (seen_log old begun k.tickets)
-      → ReadStep (segment_size_of old) a (seen_log old begun k.tickets) ms (page_told result) (view (device_of new))
+      → ReadStep sum (segment_size_of old) a (seen_log old begun k.tickets) ms (page_told result) (view (device_of new))
       (with_log a (view (device_of new)) (Some (seen_log new begun k.tickets)))

@@ -93,10 +93,10 @@ module _ (sum : List ℕ → ℕ) (size : ℕ) where
   StepBy a (Some l) command.EndBatch r new b = (new ≡ a.device) × EndStep a l r new b
   StepBy a (Some l) (command.Complete t) r new b = (new ≡ a.device) × CompleteStep a l t r new b
   StepBy a (Some l) (command.Abort t) r new b = AbortActs t l a.device r new × AbortStep a l t r new b
-  StepBy a (Some l) (command.Write i) r new b = WriteStep a l i r new b
+  StepBy a (Some l) (command.Write i) r new b = WriteStep sum size a l i r new b
   StepBy a (Some l) command.Flush r new b = FlushStep sum size a l r new b
-  StepBy a (Some l) (command.Stable place) r new b = StableStep size a l place r new b
-  StepBy a (Some l) (command.Read page) r new b = ReadStep size a l (page_now a.history page) r new b
+  StepBy a (Some l) (command.Stable place) r new b = StableStep sum size a l place r new b
+  StepBy a (Some l) (command.Read page) r new b = ReadStep sum size a l (page_now a.history page) r new b
   StepBy a (Some l) command.Halt r new b = HaltStep a r new b
   StepBy a log _ r new b = ⊥
 

@@ -15,6 +15,7 @@ use Rattle.sled_core.specs.OpenBatches.{behind_batch, not_whole, stable_below}
 use Rattle.sled_core.specs.SealedBuffers.{writing}
 use Rattle.sled_core.specs.Stable.{behind_place}
 use Rattle.sled_core.specs.Waiting.{BufferAt, BufferStart, HasLength, Span, spans, unless_held, write_pending}
+use Rattle.sled_core.specs.WholeBuffers.{IsWholeBuffer}
 use Rattle.sled_core.specs.Running.{end_below}
 use Rattle.sled_log.specs.declared.session.command.Reply.{Reply}
 use Rattle.sled_log.specs.declared.session.command.Reply.TheVariants as reply
@@ -50,24 +51,26 @@ IfHeld _ P = Unit {0}
 
 -- Writing.
 
--- These buffers of a log, with its open reservations at these places, are seen so: each as a whole, and what holds it up.
-pub record ShowsBuffers (places : List ℕ) (ss : List Span) (bs : List BufferAt) : Type 0 where
+-- These buffers of a log, with its open reservations at these places, are seen so: each as a whole, and what holds it up. What isn't held up is whole records,
+-- each with its sum: so nothing is written that is no log's own but by its sum.
+pub record ShowsBuffers (sum : List ℕ → ℕ) (size : ℕ) (places : List ℕ) (ss : List Span) (bs : List BufferAt) : Type 0 where
   pub are : spans bs ≡ ss
   pub long : All HasLength bs
   pub held : All (λ b. b.held ≡ held places (record { place = b.place; end = b.end; lid = b.lid })) bs
+  pub whole : All (λ b. b.held ≡ None → IsWholeBuffer sum size b) bs
 
 -- All of these calls were made, on buffers that are seen so.
-pub record Writes (l : LogView) (ss : List Span) (calls : List BufferAt → List Event) (old new : DeviceView) : Type 0 where
+pub record Writes (sum : List ℕ → ℕ) (size : ℕ) (l : LogView) (ss : List Span) (calls : List BufferAt → List Event) (old new : DeviceView) : Type 0 where
   pub buffers : List BufferAt
-  pub shown : ShowsBuffers (opens l) ss buffers
+  pub shown : ShowsBuffers sum size (opens l) ss buffers
   pub made : new.trace ≡ after_all (calls buffers) old.trace
 
 -- They were made up to one that failed: so many buffers were written, as many as were synced. Unless the device failed each of these is whole, and no other
 -- call was made; and where they were held up, all were made that are in front of that.
-pub record WritesSome (l : LogView) (ss : List Span) (calls : List BufferAt → List Event) (count : ℕ) (e : Error) (fault : Option IoError)
-    (old new : DeviceView) : Type 0 where
+pub record WritesSome (sum : List ℕ → ℕ) (size : ℕ) (l : LogView) (ss : List Span) (calls : List BufferAt → List Event) (count : ℕ) (e : Error)
+    (fault : Option IoError) (old new : DeviceView) : Type 0 where
   pub buffers : List BufferAt
-  pub shown : ShowsBuffers (opens l) ss buffers
+  pub shown : ShowsBuffers sum size (opens l) ss buffers
   pub made : Performs (calls buffers) old.trace new.trace
   pub synced : syncs new.trace ≡ count + syncs old.trace
   pub whole : fault ≡ None → WritesWhole count (calls buffers) old.trace new.trace
@@ -106,11 +109,11 @@ stable_from to l = stable_below (synced_from to l) (not_whole (synced_from to l)
 
 -- All that begins below a place is written and synced. Each completed message of what is stable then is acknowledged, and what is answered is by how much the
 -- stable end grew.
-pub record HasWrittenTo (size : ℕ) (a : RunState) (l : LogView) (to n : ℕ) (new : DeviceView) (b : RunState) : Type 0 where
+pub record HasWrittenTo (sum : List ℕ → ℕ) (size : ℕ) (a : RunState) (l : LogView) (to n : ℕ) (new : DeviceView) (b : RunState) : Type 0 where
   pub sound : l.fault ≡ None
   pub in_reach : l.start.place < to → EndsInReach size l.position
   pub free : holding to l ≡ None
-  pub writes : Writes l (written_below to l) writes_free a.device new
+  pub writes : Writes sum size l (written_below to l) writes_free a.device new
   pub failures : new.failures ≡ a.device.failures
   pub growth : stable_of l + n ≡ stable_from to l
   pub reaches : to ≤ synced_from to l
@@ -121,16 +124,17 @@ pub record HasWrittenTo (size : ℕ) (a : RunState) (l : LogView) (to n : ℕ) (
     log = Some (flushed l (left_from to l) (start_below to l) None);
   }
 
--- That failed: those that begin below the place are sealed, and so many at the front are written; or none was sealed, nor written.
-abbrev pub FailsTo : ℕ → RunState → LogView → ℕ → Error → DeviceView → RunState → Type 0
-FailsTo size a l to e new b =
+-- That failed: those that begin below the place are sealed, and so many at the front are written, but not all; or none was sealed, nor written.
+abbrev pub FailsTo : (List ℕ → ℕ) → ℕ → RunState → LogView → ℕ → Error → DeviceView → RunState → Type 0
+FailsTo sum size a l to e new b =
     Fails l e (holding to l) ((l.start.place < to) × (EndsInReach size l.position → ⊥)) a.device new (λ fault.
-    (count : ℕ) × WritesSome l (written_below to l) writes_free count e fault a.device new
-    × (LeavesLog a l new b (drop count (sealed_below to l)) (start_below to l) fault ⊎ ((count ≡ 0) × LeavesLog a l new b l.waiting l.start fault)))
+    (count : ℕ) × WritesSome sum size l (written_below to l) writes_free count e fault a.device new
+    × ((LeavesLog a l new b (drop count (sealed_below to l)) (start_below to l) fault × (first_waiting (drop count (sealed_below to l)) (start_below to l) < to))
+      ⊎ ((count ≡ 0) × LeavesLog a l new b l.waiting l.start fault)))
 
 -- All that was reserved is written, so all completed messages are on the device: their records are, as the log has them, without the items that blobs have.
 pub record HasFlushed (sum : List ℕ → ℕ) (size : ℕ) (a : RunState) (l : LogView) (n : ℕ) (new : DeviceView) (b : RunState) : Type 0 where
-  pub written : HasWrittenTo size a l l.end n new b
+  pub written : HasWrittenTo sum size a l l.end n new b
   pub all : All (λ m. m.place + m.size ≤ stable_from l.end l) a.history.messages
   -- the segment in which the stable end lies, and how much of it is written
   pub site : SegmentPosition
@@ -140,7 +144,7 @@ pub record HasFlushed (sum : List ℕ → ℕ) (size : ℕ) (a : RunState) (l : 
 
 abbrev pub FlushStep : (List ℕ → ℕ) → ℕ → RunState → LogView → Reply → DeviceView → RunState → Type 0
 FlushStep sum size a l (reply.Flushed n) new b = HasFlushed sum size a l n new b
-FlushStep sum size a l (reply.Failed e) new b = KeepsFailing a l e new b ⊎ FailsTo size a l l.end e new b
+FlushStep sum size a l (reply.Failed e) new b = KeepsFailing a l e new b ⊎ FailsTo sum size a l l.end e new b
 FlushStep sum size a l _ new b = ⊥
 
 -- a place is stable, or was reserved
@@ -151,20 +155,21 @@ IsKnownPlace l place = (place <ℤ pos (stable_of l)) ⊎ (place <ℤ pos l.end)
 abbrev pub target_by : LogView → ℤ → ℕ
 target_by l place = behind_batch (behind_place place) l.noted
 
-abbrev pub StableStep : ℕ → RunState → LogView → ℤ → Reply → DeviceView → RunState → Type 0
-StableStep size a l place (reply.Flushed n) new b =
-    IsKnownPlace l place × HasWrittenTo size a l (target_by l place) n new b × (place <ℤ pos (stable_from (target_by l place) l))
-StableStep size a l place (reply.Failed (NotReserved at)) new b =
+abbrev pub StableStep : (List ℕ → ℕ) → ℕ → RunState → LogView → ℤ → Reply → DeviceView → RunState → Type 0
+StableStep sum size a l place (reply.Flushed n) new b =
+    IsKnownPlace l place × HasWrittenTo sum size a l (target_by l place) n new b × (place <ℤ pos (stable_from (target_by l place) l))
+StableStep sum size a l place (reply.Failed (NotReserved at)) new b =
     (at ≡ place) × (pos (stable_of l) ≤ℤ place) × (pos l.end ≤ℤ place) × (l.fault ≡ None) × (new ≡ a.device) × (b ≡ a)
-StableStep size a l place (reply.Failed e) new b = KeepsFailing a l e new b ⊎ ((place <ℤ pos l.end) × FailsTo size a l (target_by l place) e new b)
-StableStep size a l place _ new b = ⊥
+StableStep sum size a l place (reply.Failed e) new b =
+    KeepsFailing a l e new b ⊎ ((pos (stable_of l) ≤ℤ place) × (place <ℤ pos l.end) × FailsTo sum size a l (target_by l place) e new b)
+StableStep sum size a l place _ new b = ⊥
 
 -- One sealed buffer is written, the i-th of those that nothing holds up.
-abbrev pub WriteStep : RunState → LogView → ℕ → Reply → DeviceView → RunState → Type 0
-WriteStep a l i reply.Written new b =
-    (l.fault ≡ None) × Writes l l.waiting (write_pending i) a.device new × (new.failures ≡ a.device.failures)
+abbrev pub WriteStep : (List ℕ → ℕ) → ℕ → RunState → LogView → ℕ → Reply → DeviceView → RunState → Type 0
+WriteStep sum size a l i reply.Written new b =
+    (l.fault ≡ None) × Writes sum size l l.waiting (write_pending i) a.device new × (new.failures ≡ a.device.failures)
     × LeavesLog a l new b (without_unheld (opens l) i l.waiting) l.start None
-WriteStep a l i (reply.Failed e) new b =
+WriteStep sum size a l i (reply.Failed e) new b =
     KeepsFailing a l e new b
-    ⊎ Fails l e None ⊥ a.device new (λ fault. WritesSome l l.waiting (write_pending i) 0 e fault a.device new × LeavesLog a l new b l.waiting l.start fault)
-WriteStep a l i _ new b = ⊥
+    ⊎ Fails l e None ⊥ a.device new (λ fault. WritesSome sum size l l.waiting (write_pending i) 0 e fault a.device new × LeavesLog a l new b l.waiting l.start fault)
+WriteStep sum size a l i _ new b = ⊥

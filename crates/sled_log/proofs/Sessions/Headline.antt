@@ -32,7 +32,7 @@ use Rattle.sled_log.specs.declared.session.command.Reply.TheVariants as reply
 use Rattle.sled_log.specs.Headline.{Acknowledges, Comes, Moves, Recovers, Reserves, Restores, Stays}
 use Rattle.sled_log.specs.OpenSteps.{HasOpened, IsStartCause, OpenStep, log_opened}
 use Rattle.sled_log.specs.ReadSteps.{FailsAt, ReadStep, ReadsAll, read_around, read_at}
-use Rattle.sled_log.specs.RunStates.{DeviceView, HasAll, LogView, RunState, body_in, length_of, made_ready, message_at, opens, page_now, places_without, rewriting_at, sealed_around, spans_without, start_around, start_below, target_in, tickets_in, tickets_of, with_log}
+use Rattle.sled_log.specs.RunStates.{DeviceView, HasAll, LogView, RunState, body_in, length_of, made_ready, message_at, opens, page_now, places_without, rewriting_at, sealed_around, spans_without, start_around, start_below, target_in, tickets_in, tickets_of, with_log, stable_of}
 use Rattle.sled_log.specs.Runs.{CrashStep, HaltStep, IsOwn, IsStep, Runs, StepBy, StopStep, told}
 use Rattle.sled_log.specs.RunPhases.{IsAt, SomeStands, StandsAt, StandsAtPhase, Unstored, seen, stands, traces}
 use Rattle.sled_log.specs.WriteSteps.{FailsTo, FlushStep, HasWrittenTo, KeepsFailing, StableStep, WriteStep, flushed, left_from, stable_from, target_by}
@@ -211,7 +211,7 @@ module _ (sum : List ℕ → ℕ) (size : ℕ) (device : DeviceView) (H : Histor
 
     -- Writing.
 
-    written : (Meant : Message → Type 0) (to n : ℕ) (new : DeviceView) (b : RunState) → ((m : Message) → Contains H.messages m → Meant m → m.place < stable_from to l) → HasWrittenTo size a l to n new b
+    written : (Meant : Message → Type 0) (to n : ℕ) (new : DeviceView) (b : RunState) → ((m : Message) → Contains H.messages m → Meant m → m.place < stable_from to l) → HasWrittenTo sum size a l to n new b
         → Acknowledges a Meant b × Led a new b
     written Meant to n new b low has =
         let end : ℕ = end_below (stable_from to l) H in
@@ -223,8 +223,8 @@ module _ (sum : List ℕ → ℕ) (size : ℕ) (device : DeviceView) (H : Histor
         ) in
         (subst (Acknowledges a Meant) (sym has.leads) here, inr (ap (λ (x : RunState). x.device) has.leads))
 
-    fails_to : (to : ℕ) (e : Error) (new : DeviceView) (b : RunState) → FailsTo size a l to e new b → Stays a b × Led a new b
-    fails_to to e new b step = elim step.came.2 [ inl sealed ↦ keeps (Some l) _ new b sealed (inl refl) | inr none ↦ keeps (Some l) _ new b none.1 (inl refl) ]
+    fails_to : (to : ℕ) (e : Error) (new : DeviceView) (b : RunState) → FailsTo sum size a l to e new b → Stays a b × Led a new b
+    fails_to to e new b step = elim step.came.2 [ inl sealed ↦ keeps (Some l) _ new b sealed.0 (inl refl) | inr none ↦ keeps (Some l) _ new b none.1 (inl refl) ]
 
     flush : EndsIn H l → (r : Reply) (new : DeviceView) (b : RunState) → FlushStep sum size a l r new b → Moves sum size a command.Flush r b × Led a new b
     flush ends (reply.Flushed n) new b has =
@@ -233,17 +233,17 @@ module _ (sum : List ℕ → ℕ) (size : ℕ) (device : DeviceView) (H : Histor
     flush ends (reply.Failed e) new b (inr fails) = fails_to l.end e new b fails
     flush ends _ new b step = absurd step
 
-    stable_fails : (place : ℤ) (e : Error) (new : DeviceView) (b : RunState) → KeepsFailing a l e new b ⊎ ((place <ℤ pos l.end) × FailsTo size a l (target_by l place) e new b) → Stays a b × Led a new b
+    stable_fails : (place : ℤ) (e : Error) (new : DeviceView) (b : RunState) → KeepsFailing a l e new b ⊎ ((pos (stable_of l) ≤ℤ place) × (place <ℤ pos l.end) × FailsTo sum size a l (target_by l place) e new b) → Stays a b × Led a new b
     stable_fails place e new b (inl kept) = keeping_on e new b kept
-    stable_fails place e new b (inr fails) = fails_to (target_by l place) e new b fails.1
+    stable_fails place e new b (inr fails) = fails_to (target_by l place) e new b fails.2
 
-    stable : (place : ℤ) (r : Reply) (new : DeviceView) (b : RunState) → StableStep size a l place r new b → Moves sum size a (command.Stable place) r b × Led a new b
+    stable : (place : ℤ) (r : Reply) (new : DeviceView) (b : RunState) → StableStep sum size a l place r new b → Moves sum size a (command.Stable place) r b × Led a new b
     stable place (reply.Flushed n) new b has = written (λ m. pos m.place ≤ℤ place) (target_by l place) n new b (λ m there meant. omega (arith, ints, meant, has.2)) has.1
     stable place (reply.Failed (error.NotReserved at)) new b step = same (Some l) new b step.5
     stable place (reply.Failed e) new b step = stable_fails place e new b step
     stable place _ new b step = absurd step
 
-    write : (i : ℕ) (r : Reply) (new : DeviceView) (b : RunState) → WriteStep a l i r new b → Stays a b × Led a new b
+    write : (i : ℕ) (r : Reply) (new : DeviceView) (b : RunState) → WriteStep sum size a l i r new b → Stays a b × Led a new b
     write i reply.Written new b step = keeps (Some l) _ new b step.3 (inl refl)
     write i (reply.Failed e) new b (inl kept) = keeping_on e new b kept
     write i (reply.Failed e) new b (inr fails) = keeps (Some l) _ new b fails.came.1 (inl refl)
@@ -257,17 +257,17 @@ module _ (sum : List ℕ → ℕ) (size : ℕ) (device : DeviceView) (H : Histor
       by true = refl
       by false = refl
 
-    reads : (o : LogView) (ms : List Message) (old new : DeviceView) (end : LogView) → ReadsAll o ms old new end → end.tickets ≡ o.tickets
+    reads : (o : LogView) (ms : List Message) (old new : DeviceView) (end : LogView) → ReadsAll sum size o ms old new end → end.tickets ≡ o.tickets
     reads o [] old new end all = ap (λ (x : LogView). x.tickets) all.2
     reads o (m ∷ ms) old new end all = reads (read_around o (read_at m)) ms all.0 new end all.2 ∙ around o (read_at m)
 
-    fails_at : (o : LogView) → o.tickets ≡ l.tickets → (at : ℕ) (e : Error) (old new : DeviceView) (b : RunState) → FailsAt size a o at e old new b → Stays a b × Led a new b
+    fails_at : (o : LogView) → o.tickets ≡ l.tickets → (at : ℕ) (e : Error) (old new : DeviceView) (b : RunState) → FailsAt sum size a o at e old new b → Stays a b × Led a new b
     fails_at o is at e old new b step = elim step.came [
       | inl some ↦ elim some.1 [ inl none ↦ keeps (Some l) _ new b none (inl is) | inr sealed ↦ keeps (Some l) _ new b sealed (inl is) ]
       | inr written ↦ keeps (Some l) _ new b written.1 (inl is)
     ]
 
-    read : (ms : List Message) (r : Reply) (new : DeviceView) (b : RunState) → ReadStep size a l ms r new b → Stays a b × Led a new b
+    read : (ms : List Message) (r : Reply) (new : DeviceView) (b : RunState) → ReadStep sum size a l ms r new b → Stays a b × Led a new b
     read ms (reply.Page items) new b step = keeps (Some l) (Some step.log) new b step.leads (inl (reads l ms device new step.log step.reads))
     read ms reply.FreePage new b step = same (Some l) new b step.2
     read ms (reply.Failed e) new b (inl kept) = keeping_on e new b kept

@@ -1,5 +1,5 @@
 -- What making a place stable comes to in a session, and why it fails.
-use Rattle.std.proofs.Common.{◌≡◌, ◌∙◌, ◌≤◌, ◌<◌, ◌<ℤ◌, ◌+◌, ◌-◌, inl, inr, nat_lt, if◌then◌else◌, ℕ, ℤ, pos, int_lt, Bool, true, false, List, [], ◌∷◌, ◌++◌, append-nil, Option, None, Some, ap, sym, subst, refl, arith}
+use Rattle.std.proofs.Common.{◌≡◌, ◌∙◌, ◌≤◌, ◌≤ℤ◌, ◌<◌, ◌<ℤ◌, ◌+◌, ◌-◌, inl, inr, nat_lt, if◌then◌else◌, ℕ, ℤ, pos, int_lt, Bool, true, false, List, [], ◌∷◌, ◌++◌, append-nil, Option, None, Some, ap, sym, subst, refl, arith}
 use Rattle.std.specs.Prelude.{Err}
 use Rattle.std.specs.declared.io.Error.{Error as IoError}
 use Rattle.std.proofs.lemmas.Bool.Decides.{nat_tests}
@@ -25,7 +25,7 @@ use Rattle.sled_log.specs.declared.session.command.Reply.TheVariants as reply
 use Rattle.sled_log.specs.RunPhases.{seen_log, traces}
 use Rattle.sled_log.specs.WriteSteps.{FailsTo, IsKnownPlace, StableStep, holding, writes_free}
 use Rattle.sled_log.specs.RunStates.{DeviceView, LogView, RunState, held_among, opens}
-use Rattle.sled_log.proofs.Sessions.Writing.{StaysPut, below_writes, fails_to, flush_in, flush_out, flushed_seen, holding_seen, if_held, keeps_failing, some_reserved, some_stable, why_of}
+use Rattle.sled_log.proofs.Sessions.Writing.{AreWhole, StaysPut, below_writes, fails_to, flush_in, flush_out, flushed_seen, holding_seen, if_held, keeps_failing, some_reserved, some_stable, why_of}
 
 -- A place that is made stable.
 
@@ -94,7 +94,8 @@ module _ {D C : Type 0} (log : Log D C) (sum : List ℕ → ℕ) (begun : ℕ) (
       by false is = holding_seen log sum begun tickets target (some_known known)
 
 -- A call that makes a place stable, and failed: it wasn't reserved, or the log kept a failure, and nothing was done; or it was reserved.
-module _ {D C : Type 0} (view : D → DeviceView) (sum : List ℕ → ℕ) (log new : Log D C) (begun : ℕ) (tickets : List (Option Message)) (place : ℤ) (H : History) (A f : ℕ) (position : StaysPut log new) where
+module _ {D C : Type 0} (view : D → DeviceView) (sum : List ℕ → ℕ) (log new : Log D C) (begun : ℕ) (tickets : List (Option Message)) (place : ℤ) (H : History) (A f : ℕ) (position : StaysPut log new)
+    (whole : fault_of log ≡ None → AreWhole sum log) where
   abbrev old_device : DeviceView
   old_device = view (device_of log)
 
@@ -108,7 +109,7 @@ module _ {D C : Type 0} (view : D → DeviceView) (sum : List ℕ → ℕ) (log 
   leads_to = record { device = new_device; history = H; acknowledged = A; floor = f; log = Some (seen_log new begun tickets) }
 
   abbrev Fails : Error → Type 0
-  Fails e = StableStep (segment_size_of log) from (seen_log log begun tickets) place (reply.Failed e) new_device leads_to
+  Fails e = StableStep sum (segment_size_of log) from (seen_log log begun tickets) place (reply.Failed e) new_device leads_to
 
   same_device : new ≡ log → new_device ≡ old_device
   same_device same = ap (λ (x : Log D C). view (device_of x)) same
@@ -117,13 +118,14 @@ module _ {D C : Type 0} (view : D → DeviceView) (sum : List ℕ → ℕ) (log 
   StableFails e = StableAnswers {T = ℕ} (Err e) place (stable_end log) (reserved_end log) (held_for sum log place) (IsUsedUpBelow log (target_for log place)) (fault_of log) (fault_of new) old_device.failures new_device.failures
 
   -- it was reserved
-  known_fails : (e : Error) → place <ℤ pos (reserved_end log) → OnDone {T = ℕ} (Err e) (new_device.trace ≡ after_all (stabilizing sum log place) old_device.trace) → Performs (stabilizing sum log place) old_device.trace new_device.trace → CameTo (traces view) sum (target_for log place) log new → fault_of log ≡ None
+  known_fails : (e : Error) → pos (stable_end log) ≤ℤ place → place <ℤ pos (reserved_end log) → OnDone {T = ℕ} (Err e) (new_device.trace ≡ after_all (stabilizing sum log place) old_device.trace) → Performs (stabilizing sum log place) old_device.trace new_device.trace → CameTo (traces view) sum (target_for log place) log new → fault_of log ≡ None
       → HeldAnswers {T = ℕ} (Err e) (held_for sum log place) (IsUsedUpBelow log (target_for log place)) (fault_of log) (fault_of new) old_device.failures new_device.failures
-      → (place <ℤ pos (reserved_end log)) × FailsTo (segment_size_of log) from (seen_log log begun tickets) (target_for log place) e new_device leads_to
-  known_fails e reserved done made came none answers =
+      → (pos (stable_end log) ≤ℤ place) × (place <ℤ pos (reserved_end log)) × FailsTo sum (segment_size_of log) from (seen_log log begun tickets) (target_for log place) e new_device leads_to
+  known_fails e above reserved done made came none answers =
       let known : IsKnownPlace (seen_log log begun tickets) place = inr reserved in (
+        above,
         reserved,
-        fails_to log sum begun tickets (target_for log place) (some_known log sum begun tickets place known) new old_device new_device H A f position (traces view) e refl refl none
+        fails_to log sum begun tickets (target_for log place) (some_known log sum begun tickets place known) new old_device new_device H A f position (whole none) (traces view) e refl refl none
             (why_of ℕ e (held_for sum log place) _ (IsUsedUpBelow log (target_for log place)) _ (fault_of log) (fault_of new) old_device.failures new_device.failures none (held_seen log sum begun tickets place known)
             (λ used. (used.0, flush_out log sum begun tickets used.1)) (λ free needs. needs.1 (flush_in log sum begun tickets (λ used. free (needs.0, used)))) answers)
             (subst (λ (es : List Event). Performs es old_device.trace new_device.trace) (stabilizing_seen log sum begun tickets place) made)
@@ -142,9 +144,9 @@ module _ {D C : Type 0} (view : D → DeviceView) (sum : List ℕ → ℕ) (log 
   )
   stable_failed (error.Io x) answers done made faulty refused came = elim answers.1 [
     | inl kept ↦ (let same : new ≡ log = faulty x kept.0 in inl (keeps_failing log new begun tickets old_device new_device H A f (error.Io x) x refl kept.0 same (same_device same)))
-    | inr failed ↦ inr (known_fails (error.Io x) (answers.0 failed.0).1 done made came failed.0 answers.1)
+    | inr failed ↦ inr (known_fails (error.Io x) (answers.0 failed.0).0 (answers.0 failed.0).1 done made came failed.0 answers.1)
   ]
-  stable_failed error.OutOfMemory answers done made faulty refused came = inr (known_fails error.OutOfMemory answers.1 done made came answers.3 (answers.2, answers.3, answers.4, answers.5))
-  stable_failed error.PlacesUsedUp answers done made faulty refused came = inr (known_fails error.PlacesUsedUp answers.0 done made came answers.1.1 answers.1)
-  stable_failed (error.Held at) answers done made faulty refused came = inr (known_fails (error.Held at) answers.0 done made came answers.1.2 answers.1)
+  stable_failed error.OutOfMemory answers done made faulty refused came = inr (known_fails error.OutOfMemory answers.0 answers.1 done made came answers.3 (answers.2, answers.3, answers.4, answers.5))
+  stable_failed error.PlacesUsedUp answers done made faulty refused came = inr (known_fails error.PlacesUsedUp answers.0 answers.1 done made came answers.2.1 answers.2)
+  stable_failed (error.Held at) answers done made faulty refused came = inr (known_fails (error.Held at) answers.0 answers.1 done made came answers.2.2 answers.2)
   stable_failed _ answers done made faulty refused came = absurd answers

@@ -37,11 +37,12 @@ use Rattle.sled_core.specs.OpenPlaces.{first_between}
 use Rattle.sled_core.specs.Fronts.{CameAround, syncs}
 use Rattle.sled_core.specs.ReadBuffer.{IsUsedUpAt, ReadAnswers, Settles, WritesAround, held_at, sealed_at, settling, start_at}
 use Rattle.sled_core.specs.SealedBuffers.{writing}
-use Rattle.sled_core.specs.Waiting.{BufferAt, BufferStart, Span, has_place, held_around, span_of, spans, unless_held, without_around, write_around}
+use Rattle.sled_core.specs.Waiting.{BufferAt, BufferStart, HasLength, Span, has_place, held_around, span_of, spans, unless_held, without_around, write_around}
 use Rattle.sled_core.proofs.Holds.BufferEnds.{written_behind}
 use Rattle.sled_core.proofs.Holds.KeptCalls.{kept_further, kept_still, position_further, position_still, tickets_further}
 use Rattle.sled_core.proofs.Line.Entered.{filled_last}
 use Rattle.sled_core.proofs.Line.Facts.{current_facts}
+use Rattle.sled_core.specs.WholeBuffers.{IsWholeBuffer}
 use Rattle.sled_core.proofs.Line.Shows.{buffers_add}
 use Rattle.sled_core.proofs.PublicLaws.{fits_reach, place_back, reserved_small, shows_current, shows_empty, shows_long}
 use Rattle.sled_log.proofs.Sessions.MadeHistories.{of_page_same}
@@ -50,7 +51,7 @@ use Rattle.sled_log.specs.Made.{HasBlobIn, IsMade}
 use Rattle.sled_log.specs.declared.session.Phase.TheVariants.{Open}
 use Rattle.sled_log.specs.declared.session.opened.Opened.{Opened}
 use Rattle.sled_log.specs.declared.session.command.Reply.TheVariants as reply
-use Rattle.sled_log.proofs.Sessions.Writing.{IsHeldBy, StaysPut, all_held, first_seen, flush_in, flush_out, if_held, next_start_seen, over, shows_waiting, span_seen, still_open}
+use Rattle.sled_log.proofs.Sessions.Writing.{AreWhole, IsHeldBy, StaysPut, all_held, first_seen, flush_in, flush_out, if_held, next_start_seen, over, sealed_too, span_seen, still_open}
 use Rattle.sled_log.specs.Readings.{IsOfPage, IsRead, KeepsOpen, ReadsEntries, ReadsItem, page_told}
 use Rattle.sled_log.specs.RunPhases.{IsOpenAt, Unstored, seen, seen_log, stands, traces}
 use Rattle.sled_log.specs.RunStates.{DeviceView, EndsInReach, LogView, RunState, current_span, first_waiting, held, is_present, next_start, opens, page_now, sealed_around, spans_without, start_around, top, with_log}
@@ -112,16 +113,29 @@ module _ {D C : Type 0} (log : Log D C) (sum : List ℕ → ℕ) (at begun : ℕ
 
   -- The sealed buffers and where the current one begins, once that of the place is sealed.
 
-  shows : ShowsBuffers (opens l) (sealed_around at l) (sealed_at sum at log)
-  shows = by (nat_le (current_begin log) at) refl where
+  are_seen : spans (sealed_at sum at log) ≡ sealed_around at l
+  are_seen = by (nat_le (current_begin log) at) refl where
     by : (o : Bool) → nat_le (current_begin log) at ≡ o
-        → ShowsBuffers (opens l) (if o then spans (waiting_of log) ++ current_span l l.position ∷ [] else spans (waiting_of log)) (if o then buffers_of sum log else waiting_of log)
-    by true is = record {
-      are = shows_current sum log (some_held (grind (arith, nat_tests, is))) ∙ ap (λ (s : Span). spans (waiting_of log) ++ s ∷ []) (span_seen log sum begun k.tickets);
-      long = shows_long sum log;
-      held = all_held log sum begun k.tickets;
-    }
-    by false is = shows_waiting log sum begun k.tickets
+        → spans (if o then buffers_of sum log else waiting_of log) ≡ (if o then spans (waiting_of log) ++ current_span l l.position ∷ [] else spans (waiting_of log))
+    by true is = shows_current sum log (some_held (grind (arith, nat_tests, is))) ∙ ap (λ (s : Span). spans (waiting_of log) ++ s ∷ []) (span_seen log sum begun k.tickets)
+    by false is = refl
+
+  of_all : (P : BufferAt → Type 0) → All P (buffers_of sum log) → All P (sealed_at sum at log)
+  of_all P all = by (nat_le (current_begin log) at) where
+    by : (o : Bool) → All P (if o then buffers_of sum log else waiting_of log)
+    by true = all
+    by false = sealed_too log sum begun k.tickets P all
+
+  are_held : All (IsHeldBy (opens l)) (sealed_at sum at log)
+  are_held = of_all (IsHeldBy (opens l)) (all_held log sum begun k.tickets)
+
+  shows : AreWhole sum log → ShowsBuffers sum (segment_size_of log) (opens l) (sealed_around at l) (sealed_at sum at log)
+  shows whole = record {
+    are = are_seen;
+    long = of_all HasLength (shows_long sum log);
+    held = are_held;
+    whole = of_all (λ b. b.held ≡ None → IsWholeBuffer sum (segment_size_of log) b) whole;
+  }
 
   start_seen : start_at at log ≡ start_around at l
   start_seen = by (nat_le (current_begin log) at) where
@@ -130,7 +144,7 @@ module _ {D C : Type 0} (log : Log D C) (sum : List ℕ → ℕ) (at begun : ℕ
     by false = refl
 
   without_around_seen : spans (without_around at (sealed_at sum at log)) ≡ spans_without at (sealed_around at l)
-  without_around_seen = without_seen at (sealed_at sum at log) ∙ ap (spans_without at) shows.are
+  without_around_seen = without_seen at (sealed_at sum at log) ∙ ap (spans_without at) are_seen
 
   -- the one behind them doesn't have the place
   module _ {T : Type 0} (f : List BufferAt → T) (front : (bs : List BufferAt) (b : BufferAt) → at < b.place → f (bs ++ b ∷ []) ≡ f bs) where
@@ -151,7 +165,7 @@ module _ {D C : Type 0} (log : Log D C) (sum : List ℕ → ℕ) (at begun : ℕ
 
   holding_seen : held_at sum log (pos at) ≡ holding_read l at
   holding_seen = ap (λ (o : Option ℕ). if nat_lt at l.synced then None else o)
-      (of_sealed (held_around at) (around_front at) ∙ around_seen (opens l) at (sealed_at sum at log) shows.held ∙ ap (held_around_place (opens l) at) shows.are)
+      (of_sealed (held_around at) (around_front at) ∙ around_seen (opens l) at (sealed_at sum at log) are_held ∙ ap (held_around_place (opens l) at) are_seen)
 
 -- Its item is there: why it wasn't read is neither damage nor a blob that is missing.
 abbrev pub IsWhole : DiskPtr → Message → Option IoError → Error → Type 0
@@ -191,7 +205,8 @@ module _ {D C : Type 0} (trace : D → Trace) (sum : List ℕ → ℕ) (log : Lo
   is_whole (ptr.Blob lid at) e points inline blob = blob (kept_blob (ptr.Blob lid at) points (λ no. no))
 
 -- One message is read.
-module _ {D C : Type 0} (view : D → DeviceView) (sum : List ℕ → ℕ) (old new : Log D C) (k : Unstored) (page : ℕ) (m : Message) (begun : ℕ) (of : IsOfPage k.history (reserved_end old) page m) (position : StaysPut old new) where
+module _ {D C : Type 0} (view : D → DeviceView) (sum : List ℕ → ℕ) (old new : Log D C) (k : Unstored) (page : ℕ) (m : Message) (begun : ℕ) (of : IsOfPage k.history (reserved_end old) page m)
+    (records : fault_of old ≡ None → AreWhole sum old) (position : StaysPut old new) where
   abbrev at : ℕ
   at = read_at m
 
@@ -257,10 +272,10 @@ module _ {D C : Type 0} (view : D → DeviceView) (sum : List ℕ → ℕ) (old 
   failed_at : (blobs : ℤ → Option (List ℕ)) (e : Error) → Performs (settling sum old (place_read (pos m.place) m.pointer)) old_view.trace new_view.trace → CameAround (traces view) sum at old new
       → ReadAnswers {T = LogRead} sum blobs m.pointer (Err e) (pos at) (synced_end old) (reserved_end old) (held_at sum old (pos at)) (IsUsedUpAt old (pos at)) (fault_of old) (fault_of new) old_view.failures new_view.failures
       → IsWhole m.pointer m (fault_of old) e → fault_of old ≡ None → OnDone {T = LogRead} (Err e) (new_view.trace ≡ after_all (settling sum old (place_read (pos m.place) m.pointer)) old_view.trace)
-      → (a : RunState) → FailsAt (segment_size_of old) a before at e old_view new_view (with_log a new_view (Some after))
+      → (a : RunState) → FailsAt sum (segment_size_of old) a before at e old_view new_view (with_log a new_view (Some after))
   failed_at blobs e made came answers whole none done a =
-      let seen_so = shows old sum at begun k of.read_below in
-      let some : syncs new_view.trace ≡ syncs old_view.trace → (fault_of new ≡ None → new_view.trace ≡ old_view.trace) → WritesSome before (sealed_around at before) (reading_around before at) 0 e (fault_of new) old_view new_view =
+      let seen_so = shows old sum at begun k of.read_below (records none) in
+      let some : syncs new_view.trace ≡ syncs old_view.trace → (fault_of new ≡ None → new_view.trace ≡ old_view.trace) → WritesSome sum (segment_size_of old) before (sealed_around at before) (reading_around before at) 0 e (fault_of new) old_view new_view =
       λ synced still. record {
         buffers = sealed_at sum at old;
         shown = seen_so;
@@ -307,7 +322,7 @@ module _ {D C : Type 0} (view : D → DeviceView) (sum : List ℕ → ℕ) (old 
       (own.0, subst (AnswersAt blobs r m.pointer) of.read own.1)
 
   pub read_failed : (blobs : ℤ → Option (List ℕ)) (e : Error) (z : ℤ) (p : DiskPtr) → pos m.place ≡ z → m.pointer ≡ p → Told blobs (Err e) z p → IsWhole p m (fault_of old) e → fault_of old ≡ None
-      → (a : RunState) → FailsAt (segment_size_of old) a before at e old_view new_view (with_log a new_view (Some after))
+      → (a : RunState) → FailsAt sum (segment_size_of old) a before at e old_view new_view (with_log a new_view (Some after))
   read_failed blobs e z p here points told whole none a =
       let own = told_own blobs (Err e) z p here points told in
       failed_at blobs e own.0.at_most own.1.2 own.1.1 (subst (λ (x : DiskPtr). IsWhole x m (fault_of old) e) (sym points) whole) none own.0.made a
@@ -326,7 +341,7 @@ module _ {D C : Type 0} (view : D → DeviceView) (sum : List ℕ → ℕ) (old 
         leaves (spans_without at (sealed_around at before)) (start_around at before) (fault_of old)
         (ap spans high.0 ∙ without_around_seen old sum at begun k of.read_below) (high.1 ∙ start_seen old sum at begun k of.read_below) kept
 
-  pub was_read : (blobs : ℤ → Option (List ℕ)) (r : LogRead) (z : ℤ) (p : DiskPtr) → pos m.place ≡ z → m.pointer ≡ p → Told blobs (Ok r) z p → (before.fault ≡ None) × ReadsAt before at old_view new_view × (after ≡ read_around before at)
+  pub was_read : (blobs : ℤ → Option (List ℕ)) (r : LogRead) (z : ℤ) (p : DiskPtr) → pos m.place ≡ z → m.pointer ≡ p → Told blobs (Ok r) z p → (before.fault ≡ None) × ReadsAt sum (segment_size_of old) before at old_view new_view × (after ≡ read_around before at)
   was_read blobs r z p here points told =
       let own = told_own blobs (Ok r) z p here points told in
       let answers = own.1.1 in (
@@ -335,7 +350,7 @@ module _ {D C : Type 0} (view : D → DeviceView) (sum : List ℕ → ℕ) (old 
           free = sym (holding_seen old sum at begun k of.read_below) ∙ answers.1;
           writes = record {
             buffers = sealed_at sum at old;
-            shown = shows old sum at begun k of.read_below;
+            shown = shows old sum at begun k of.read_below (records answers.3);
             made = own.0.made ∙ ap (λ (es : List Event). after_all es old_view.trace) settling_seen;
           };
           failures = answers.5;
@@ -346,21 +361,21 @@ module _ {D C : Type 0} (view : D → DeviceView) (sum : List ℕ → ℕ) (old 
 -- Several messages are read, one behind another.
 
 -- one more
-reads_more : (done : List Message) (m : Message) (l end : LogView) (old mid new : DeviceView) → ReadsAll l done old mid end → ReadsAt end (read_at m) mid new → ReadsAll l (done ++ m ∷ []) old new (read_around end (read_at m))
-reads_more [] m l end old mid new is more = (
+reads_more : (sum : List ℕ → ℕ) (size : ℕ) (done : List Message) (m : Message) (l end : LogView) (old mid new : DeviceView) → ReadsAll sum size l done old mid end → ReadsAt sum size end (read_at m) mid new → ReadsAll sum size l (done ++ m ∷ []) old new (read_around end (read_at m))
+reads_more sum size [] m l end old mid new is more = (
   new,
   record {
     free = subst (λ (x : LogView). holding_read x (read_at m) ≡ None) is.2 more.free;
     writes = record {
       buffers = more.writes.buffers;
-      shown = subst (λ (x : LogView). ShowsBuffers (opens x) (sealed_around (read_at m) x) more.writes.buffers) is.2 more.writes.shown;
+      shown = subst (λ (x : LogView). ShowsBuffers sum size (opens x) (sealed_around (read_at m) x) more.writes.buffers) is.2 more.writes.shown;
       made = more.writes.made ∙ (λ i. after_all (reading_around (is.2 i) (read_at m) more.writes.buffers) (is.0 i));
     };
     failures = more.failures ∙ is.1;
   },
   (refl, refl, ap (λ (x : LogView). read_around x (read_at m)) is.2),
 )
-reads_more (n ∷ done) m l end old mid new is more = (is.0, is.1, reads_more done m (read_around l (read_at n)) end is.0 mid new is.2 more)
+reads_more sum size (n ∷ done) m l end old mid new is more = (is.0, is.1, reads_more sum size done m (read_around l (read_at n)) end is.0 mid new is.2 more)
 
 -- what all have this one has
 all_at : (P : Message → Type 0) (done : List Message) (m : Message) (rest : List Message) → All P (done ++ m ∷ rest) → P m
@@ -368,12 +383,12 @@ all_at P [] m rest all = All-head P m rest all
 all_at P (n ∷ done) m rest all = all_at P done m rest (All-tail P n (done ++ m ∷ rest) all)
 
 -- Of these messages some were read, and the others have the entries that are left.
-pub record AreRead (l : LogView) (ms : List Message) (rest : List Entry) (old now : DeviceView) (items : List (Vec ℕ Global)) (l' : LogView) : Type 0 where
+pub record AreRead (sum : List ℕ → ℕ) (size : ℕ) (l : LogView) (ms : List Message) (rest : List Entry) (old now : DeviceView) (items : List (Vec ℕ Global)) (l' : LogView) : Type 0 where
   pub done : List Message
   pub left : List Message
   pub split : ms ≡ done ++ left
   pub entries : map entry_of left ≡ rest
-  pub reads : ReadsAll l done old now l'
+  pub reads : ReadsAll sum size l done old now l'
   pub items_are : map (λ v. v.items) items ≡ map (λ m. m.bytes) done
   pub sound : l'.fault ≡ None
 
@@ -382,7 +397,7 @@ pub record HasReadSome {D C : Type 0} (view : D → DeviceView) (sum : List ℕ 
   pub free : fault_of old ≡ None
   pub only : KeepsOpen (traces view) sum old now
   pub so_far : (k : Unstored) (ms : List Message) (begun : ℕ) → IsRead (traces view) sum old k → All (IsOfPage k.history (reserved_end old) page) ms → map entry_of ms ≡ entries
-      → AreRead (seen_log old begun k.tickets) ms rest (view (device_of old)) (view (device_of now)) items (seen_log now begun k.tickets)
+      → AreRead sum (segment_size_of old) (seen_log old begun k.tickets) ms rest (view (device_of old)) (view (device_of now)) items (seen_log now begun k.tickets)
 
 -- of what a page is that is present there is a first message
 first_there : (ms : List Message) → is_present ms ≡ true → (m : Message) × (rest : List Message) × (ms ≡ m ∷ rest)
@@ -490,8 +505,9 @@ module _ {D C : Type 0} (view : D → DeviceView) (sum : List ℕ → ℕ) (old 
             left = one.later;
             split = one.split ∙ sym (append_assoc came.done (one.message ∷ []) one.later);
             entries = one.others;
-            reads = subst (λ (x : LogView). ReadsAll l (came.done ++ one.message ∷ []) (view (device_of old)) (view (device_of new)) x) (sym got.3)
-                (reads_more came.done one.message l now (view (device_of old)) (view (device_of mid)) (view (device_of new)) came.reads got.2);
+            reads = subst (λ (x : LogView). ReadsAll sum (segment_size_of old) l (came.done ++ one.message ∷ []) (view (device_of old)) (view (device_of new)) x) (sym got.3)
+                (reads_more sum (segment_size_of old) came.done one.message l now (view (device_of old)) (view (device_of mid)) (view (device_of new)) came.reads
+                (subst (λ n. ReadsAt sum n now (read_at one.message) (view (device_of mid)) (view (device_of new))) some.only.position.size got.2));
             items_are = map-append (λ (v : Vec ℕ Global). v.items) items (item ∷ []) ∙ (λ i. came.items_are i ++ got.0 i ∷ []) ∙ sym (map-append (λ (m : Message). m.bytes) came.done (one.message ∷ []));
             sound = ap (λ (x : LogView). x.fault) got.3 ∙ fault_around now (read_at one.message) ∙ came.sound;
           };
@@ -513,8 +529,8 @@ module _ {D C : Type 0} (view : D → DeviceView) (sum : List ℕ → ℕ) (old 
             split = one.split;
             mid = view (device_of mid);
             log = seen_log mid begun k.tickets;
-            so_far = subst (λ (x : DeviceView). ReadsAll l came.done x (view (device_of mid)) (seen_log mid begun k.tickets)) (sym device) came.reads;
-            fails = subst (λ n. FailsAt n a (seen_log mid begun k.tickets) (read_at one.message) why (view (device_of mid)) (view (device_of new)) b) some.only.position.size
+            so_far = subst (λ (x : DeviceView). ReadsAll sum (segment_size_of old) l came.done x (view (device_of mid)) (seen_log mid begun k.tickets)) (sym device) came.reads;
+            fails = subst (λ n. FailsAt sum n a (seen_log mid begun k.tickets) (read_at one.message) why (view (device_of mid)) (view (device_of new)) b) some.only.position.size
                 (reads.item k one.message begun (is_read k some.only is) one.of one.place one.pointer came.sound a);
           }));
     }
@@ -531,7 +547,7 @@ module _ {D C : Type 0} (view : D → DeviceView) (sum : List ℕ → ℕ) (old 
             sound = some.free;
             items_are = ap (map (λ (v : Vec ℕ Global). v.items)) items_is ∙ came.items_are ∙ ap (map (λ m. m.bytes)) (sym done);
             log = seen_log mid begun k.tickets;
-            reads = subst (λ xs. ReadsAll l xs a.device (view (device_of mid)) (seen_log mid begun k.tickets)) (sym done) (subst (λ (x : DeviceView). ReadsAll l came.done x (view (device_of mid)) (seen_log mid begun k.tickets)) (sym device) came.reads);
+            reads = subst (λ xs. ReadsAll sum (segment_size_of old) l xs a.device (view (device_of mid)) (seen_log mid begun k.tickets)) (sym done) (subst (λ (x : DeviceView). ReadsAll sum (segment_size_of old) l came.done x (view (device_of mid)) (seen_log mid begun k.tickets)) (sym device) came.reads);
             leads = refl;
           };
     } where
@@ -583,7 +599,7 @@ page_found states seen page s p same lt at is =
 -- The messages of a page that is present are read, and the log stays open.
 module _ {D C : Type 0} (view : D → DeviceView) (sum : List ℕ → ℕ) (opened : Opened D C) (page : ℕ) (k : Unstored) (at : IsOpenAt (traces view) sum opened k) (new : Log D C) (base : Entry) (frags : List Entry) (r : Result (Vec (Vec ℕ Global) Global) Error)
     (has : get_or (map page_of opened.pages.items) page Uninitialized ≡ Present base frags) (reads : ReadsEntries view sum opened.log page (base ∷ frags) new r) where
-  pub page_read : ReadStep (segment_size_of opened.log) (stands view (Open opened) k) (seen opened k.tickets) (page_now k.history page) (page_told r) (view (device_of new)) (stands view (Open (over opened new)) k)
+  pub page_read : ReadStep sum (segment_size_of opened.log) (stands view (Open opened) k) (seen opened k.tickets) (page_now k.history page) (page_told r) (view (device_of new)) (stands view (Open (over opened new)) k)
   page_read =
       let present = page_present k.history (map page_of opened.pages.items) page base frags at.table has in
       reads.step k (page_now k.history page) (length opened.pages.items) (stands view (Open opened) k) (record { made = at.made; zeros = at.zeros; unmarked = at.unmarked; fits = at.fits })

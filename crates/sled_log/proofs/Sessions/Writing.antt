@@ -26,12 +26,13 @@ use Rattle.sled_core.specs.Running.{Fits, end_below}
 use Rattle.sled_core.specs.SealedBuffers.{writing}
 use Rattle.sled_core.specs.OpenBatches.{not_whole, stable_below}
 use Rattle.sled_core.specs.Waiting.{BufferAt, BufferStart, HasLength, Span, begun_below, first_held, held_below, is_unheld, not_below, pending_in, spans, unless_held, without_pending, writes_below}
+use Rattle.sled_core.specs.WholeBuffers.{IsWholeBuffer}
 use Rattle.sled_core.proofs.Line.Entered.{filled_last}
 use Rattle.sled_core.proofs.Line.Facts.{current_facts}
 use Rattle.sled_core.proofs.Line.Positions.{end_seen, next_seen}
 use Rattle.sled_core.proofs.Line.Settles.{stable_up}
 use Rattle.sled_core.proofs.Line.Shows.{buffers_add}
-use Rattle.sled_core.proofs.PublicLaws.{buffers_held, first_waits, shows_current, shows_empty, shows_long}
+use Rattle.sled_core.proofs.PublicLaws.{buffers_held, buffers_whole, first_waits, fits_holds, shows_current, shows_empty, shows_long}
 use Rattle.sled_core.proofs.Reached.OpenBatch.{whole_not}
 use Rattle.sled_log.specs.declared.session.opened.Opened.{Opened}
 use Rattle.sled_log.specs.declared.session.command.Refusal.{Refusal}
@@ -58,6 +59,14 @@ was_free old new same none = by (fault_of old) refl where
   by : (o : Option IoError) → fault_of old ≡ o → fault_of old ≡ None
   by None is = is
   by (Some e) is = absurd (let both : Some e ≡ None = sym is ∙ ap fault_of (sym (same e is)) ∙ none in cc)
+
+-- Each buffer of a log that nothing holds up is whole records,
+abbrev pub AreWhole : {D C : Type 0} → (List ℕ → ℕ) → Log D C → Type 0
+AreWhole sum log = All (λ b. b.held ≡ None → IsWholeBuffer sum (segment_size_of log) b) (buffers_of sum log)
+
+-- where it fits a history and keeps no failure.
+pub whole_of : {D C : Type 0} (trace : D → Trace) (sum : List ℕ → ℕ) (log : Log D C) (H : History) (A f : ℕ) (U : List Message) → Fits trace sum log H A f U → fault_of log ≡ None → AreWhole sum log
+whole_of trace sum log H A f U fits none = buffers_whole trace sum log H (fits_holds trace sum log H A f U fits) none
 
 -- Buffers as they are seen.
 
@@ -229,7 +238,7 @@ module _ {D C : Type 0} (log : Log D C) (sum : List ℕ → ℕ) (begun : ℕ) (
   all_held = buffers_held sum log
 
   -- what holds of all buffers holds of the sealed ones
-  sealed_too : (P : BufferAt → Type 0) → All P (buffers_of sum log) → All P (waiting_of log)
+  pub sealed_too : (P : BufferAt → Type 0) → All P (buffers_of sum log) → All P (waiting_of log)
   sealed_too P all = elim (cases_lt 0 (held_len log)) [
     | inl some ↦ (let adds = buffers_add sum log some in all_front P (waiting_of log) (adds.more ∷ []) (subst (All P) adds.is all))
     | inr none ↦ subst (All P) (shows_empty sum log (omega (arith, none))) all
@@ -238,8 +247,8 @@ module _ {D C : Type 0} (log : Log D C) (sum : List ℕ → ℕ) (begun : ℕ) (
   pub waiting_held : All (IsHeldBy (opens l)) (waiting_of log)
   waiting_held = sealed_too (IsHeldBy (opens l)) all_held
 
-  pub shows_waiting : ShowsBuffers (opens l) l.waiting (waiting_of log)
-  shows_waiting = record { are = refl; long = sealed_too HasLength (shows_long sum log); held = waiting_held }
+  pub shows_waiting : AreWhole sum log → ShowsBuffers sum size (opens l) l.waiting (waiting_of log)
+  shows_waiting whole = record { are = refl; long = sealed_too HasLength (shows_long sum log); held = waiting_held; whole = sealed_too (λ b. b.held ≡ None → IsWholeBuffer sum size b) whole }
 
   pub pending_seen : pending_of log ≡ pending_in_view l
   pending_seen = count_seen (opens l) (waiting_of log) waiting_held
@@ -306,11 +315,12 @@ module _ {D C : Type 0} (log : Log D C) (sum : List ℕ → ℕ) (begun : ℕ) (
       abbrev pub its_buffers : List BufferAt
       its_buffers = begun_below to (buffers_of sum log)
 
-      pub shows_below : ShowsBuffers (opens l) (written_below to l) its_buffers
-      shows_below = record {
+      pub shows_below : AreWhole sum log → ShowsBuffers sum size (opens l) (written_below to l) its_buffers
+      shows_below whole = record {
         are = flushed_seen;
         long = below_all HasLength to (buffers_of sum log) (shows_long sum log);
         held = below_all (IsHeldBy (opens l)) to (buffers_of sum log) all_held;
+        whole = below_all (λ b. b.held ≡ None → IsWholeBuffer sum size b) to (buffers_of sum log) whole;
       }
 
       pub holding_seen : holding_below sum log to ≡ holding to l
@@ -335,10 +345,10 @@ module _ {D C : Type 0} (log : Log D C) (sum : List ℕ → ℕ) (begun : ℕ) (
           pub stable_seen : LeavesAbove sum to log new → stable_end new ≡ stable_from to l
           stable_seen above = let ends = synced_seen above in let noted = noted_seen above in λ i. stable_below (ends i) (noted i)
 
-          pub has_written : (n : ℕ) → fault_of log ≡ None → fault_of new ≡ None → (IsUsedUpBelow log to → ⊥) → holding_below sum log to ≡ None → now.trace ≡ after_all (writes_free its_buffers) device.trace → now.failures ≡ device.failures
+          pub has_written : AreWhole sum log → (n : ℕ) → fault_of log ≡ None → fault_of new ≡ None → (IsUsedUpBelow log to → ⊥) → holding_below sum log to ≡ None → now.trace ≡ after_all (writes_free its_buffers) device.trace → now.failures ≡ device.failures
               → stable_end new ≡ stable_end log + n → to ≤ synced_end new → A ≤ stable_end log → LeavesAbove sum to log new
-              → HasWrittenTo size (before new device now H A f position) l to n now (after new device now H A f position (max A (end_below (stable_end new) H)))
-          has_written n none still unused free made failures answer whole past above =
+              → HasWrittenTo sum size (before new device now H A f position) l to n now (after new device now H A f position (max A (end_below (stable_end new) H)))
+          has_written records n none still unused free made failures answer whole past above =
               let ends = synced_seen above in
               let noted = noted_seen above in
               let stable = stable_seen above in
@@ -348,7 +358,7 @@ module _ {D C : Type 0} (log : Log D C) (sum : List ℕ → ℕ) (begun : ℕ) (
                 sound = none;
                 in_reach = λ less. flush_in (λ used. unused (less, used));
                 free = sym holding_seen ∙ free;
-                writes = record { buffers = its_buffers; shown = shows_below; made = made };
+                writes = record { buffers = its_buffers; shown = shows_below records; made = made };
                 failures = failures;
                 growth = sym answer ∙ stable;
                 reaches = omega (arith, whole, ends);
@@ -363,11 +373,11 @@ module _ {D C : Type 0} (log : Log D C) (sum : List ℕ → ℕ) (begun : ℕ) (
               }
 
           -- It failed.
-          pub fails_to : (trace : D → Trace) (e : Error) → device.trace ≡ trace (device_of log) → now.trace ≡ trace (device_of new) → fault_of log ≡ None
+          pub fails_to : AreWhole sum log → (trace : D → Trace) (e : Error) → device.trace ≡ trace (device_of log) → now.trace ≡ trace (device_of new) → fault_of log ≡ None
               → IsWhy e (holding to l) ((current_begin log < to) × (EndsInReach size l.position → ⊥)) (fault_of new) device.failures now.failures → Performs (writes_free its_buffers) device.trace now.trace
               → IfHeld e (now.trace ≡ after_all (writes_free its_buffers) device.trace) → CameTo trace sum to log new
-              → FailsTo size (before new device now H A f position) l to e now (after new device now H A f position A)
-          fails_to trace e was is none why made held came = record {
+              → FailsTo sum size (before new device now H A f position) l to e now (after new device now H A f position A)
+          fails_to records trace e was is none why made held came = record {
             sound = none;
             fault = fault_of new;
             why = why;
@@ -377,7 +387,7 @@ module _ {D C : Type 0} (log : Log D C) (sum : List ℕ → ℕ) (begun : ℕ) (
                     0,
                     record {
                       buffers = its_buffers;
-                      shown = shows_below;
+                      shown = shows_below records;
                       made = made;
                       synced = (let same_syncs : syncs now.trace ≡ syncs device.trace = ap syncs still in omega (arith, same_syncs));
                       whole = λ sound. still;
@@ -389,14 +399,18 @@ module _ {D C : Type 0} (log : Log D C) (sum : List ℕ → ℕ) (begun : ℕ) (
                 front.count,
                 record {
                   buffers = its_buffers;
-                  shown = shows_below;
+                  shown = shows_below records;
                   made = made;
                   synced = ap syncs is ∙ front.synced ∙ ap (λ (t : Trace). front.count + syncs t) (sym was);
                   whole = λ sound. is ∙ front.whole sound ∙ (λ i. after_all (take (2 * front.count) (writes_seen i)) (sym was i));
                   held = held;
                 },
-                inl (leaves new device now H A f position (drop front.count (sealed_below to l)) (start_below to l) (fault_of new)
-                    (ap spans front.left ∙ drop_seen front.count (sealed_for sum to log) ∙ ap (λ (ss : List Span). drop front.count ss) sealed_seen) (front.start ∙ start_seen) refl),
+                inl (
+                  let left = ap spans front.left ∙ drop_seen front.count (sealed_for sum to log) ∙ ap (λ (ss : List Span). drop front.count ss) sealed_seen in
+                  let start = front.start ∙ start_seen in (
+                    leaves new device now H A f position (drop front.count (sealed_below to l)) (start_below to l) (fault_of new) left start refl,
+                    subst (λ n. n < to) (first_seen new ∙ (λ i. first_waiting (left i) (start i))) front.short,
+                  )),
               )
             ];
           }

@@ -10,7 +10,7 @@ use Rattle.sled_core.proofs.PublicLaws.{written_past}
 use Rattle.sled_log.specs.RunPhases.{seen, view_by}
 use Rattle.sled_log.specs.RunStates.{LogView}
 use Rattle.sled_log.specs.WriteSteps.{stable_from}
-use Rattle.sled_log.proofs.Sessions.Writing.{fails_to, flush_in, flush_out, has_written, holding_seen, if_held, keeps_failing, kept_or_none, some_reserved, stable_seen, stays_put, still_open, was_free, why_of, writes_seen}
+use Rattle.sled_log.proofs.Sessions.Writing.{fails_to, flush_in, flush_out, has_written, holding_seen, if_held, keeps_failing, kept_or_none, some_reserved, stable_seen, stays_put, still_open, was_free, whole_of, why_of, writes_seen}
 use Rattle.sled_log.proofs.session.writing.flush.Goals as goal
 
 pub returns-in-Ok-clause-step : goal.returns-in-Ok-clause-step
@@ -40,7 +40,7 @@ returns-in-Ok-clause-step g c = λ k at free.
       not_refused = refl;
       next = record { history = H; acknowledged = reached; floor = k.floor; tickets = k.tickets };
       step = record {
-        written = has_written old sum begun k.tickets to some new (view old.config.device) (view new.config.device) H k.acknowledged k.floor put c.in-Ok.grown answers.2 answers.3 answers.1 answers.0
+        written = has_written old sum begun k.tickets to some new (view old.config.device) (view new.config.device) H k.acknowledged k.floor put (whole_of trace sum old H k.acknowledged k.floor at.unmarked at.fits answers.2) c.in-Ok.grown answers.2 answers.3 answers.1 answers.0
             (c.in-Ok.ensures.calls ∙ ap (λ (es : List Event). after_all es (trace (device_of old))) (writes_seen old sum begun k.tickets to some)) answers.4 c.in-Ok.ensures.answer c.in-Ok.ensures.synced.whole past above;
         all = λ i d lt. let low = written_past trace sum new H (c.in-Ok.ensures.records H holds) i d lt in omega (arith, low, ends);
         site = new.site;
@@ -78,7 +78,7 @@ returns-in-Err-clause-step g c = λ k at free.
         | inl kept ↦ (
             let same = c.flush.ensures.spares.faulty kept.0 kept.2 in
             inl (keeps_failing old new begun k.tickets device now H k.acknowledged k.floor c.in-Err.e kept.0 kept.1 kept.2 same (ap (λ x. view x.config.device) same)))
-        | inr none ↦ inr (fails_to old sum begun k.tickets to some new device now H k.acknowledged k.floor (stays_put trace sum old new c.flush.ensures.tickets position c.flush.ensures.keeps) trace c.in-Err.e refl refl none
+        | inr none ↦ inr (fails_to old sum begun k.tickets to some new device now H k.acknowledged k.floor (stays_put trace sum old new c.flush.ensures.tickets position c.flush.ensures.keeps) (whole_of trace sum old H k.acknowledged k.floor at.unmarked at.fits none) trace c.in-Err.e refl refl none
             (why_of ℕ c.in-Err.e held _ used _ (fault_of old) (fault_of new) device.failures now.failures none (holding_seen old sum begun k.tickets to some) (λ used. (used.0, flush_out old sum begun k.tickets used.1)) (λ free needs. needs.1 (flush_in old sum begun k.tickets (λ used. free (needs.0, used)))) c.in-Err.ensures.answers)
             (subst (λ (es : List Event). Performs es (trace (device_of old)) (trace (device_of new))) (writes_seen old sum begun k.tickets to some) c.flush.ensures.at_most)
             (if_held ℕ c.in-Err.e _ _ (λ done. done ∙ ap (λ (es : List Event). after_all es (trace (device_of old))) (writes_seen old sum begun k.tickets to some)) c.in-Err.ensures.calls) c.in-Err.ensures.buffers.1)

@@ -10,7 +10,7 @@ use Rattle.sled_core.specs.Stable.{target_for}
 use Rattle.sled_core.proofs.Holds.ReachLemmas.{fits_stable}
 use Rattle.sled_log.specs.RunPhases.{Does, view_by}
 use Rattle.sled_log.proofs.Sessions.NotedSeen.{target_written}
-use Rattle.sled_log.proofs.Sessions.Writing.{has_written, holding_seen, over, stable_seen, stays_put, still_open, was_free}
+use Rattle.sled_log.proofs.Sessions.Writing.{has_written, holding_seen, over, stable_seen, stays_put, still_open, was_free, whole_of}
 use Rattle.sled_log.proofs.Sessions.MadeStable.{held_seen, some_known, stabilizing_seen, stable_failed}
 use Rattle.sled_log.specs.declared.session.Phase.TheVariants as phase
 use Rattle.sled_log.specs.declared.session.command.Command.TheVariants as told
@@ -44,7 +44,7 @@ returns-in-Ok-clause-step g c = λ k at free.
       next = record { history = H; acknowledged = reached; floor = k.floor; tickets = k.tickets };
       step = (
         answers.0,
-        has_written old sum begun k.tickets to some new (view old.config.device) (view new.config.device) H k.acknowledged k.floor put c.in-Ok.more answers.1.2 answers.1.3 answers.1.1 unheld
+        has_written old sum begun k.tickets to some new (view old.config.device) (view new.config.device) H k.acknowledged k.floor put (whole_of trace sum old H k.acknowledged k.floor at.unmarked at.fits answers.1.2) c.in-Ok.more answers.1.2 answers.1.3 answers.1.1 unheld
             (c.in-Ok.ensures.made ∙ ap (λ (es : List Event). after_all es (trace (device_of old))) (stabilizing_seen old sum begun k.tickets place)) answers.1.4 c.in-Ok.ensures.answer
             (target_written old new place c.make_stable.ensures.keeps.noted c.in-Ok.ensures.target) past above,
         subst (λ n. place <ℤ pos n) (stable_seen old sum begun k.tickets to some new (view old.config.device) (view new.config.device) H k.acknowledged k.floor put above) c.in-Ok.ensures.target,
@@ -64,7 +64,7 @@ returns-in-Err-clause-step g c = λ k at free.
     let new = c.make_stable.new.self in
     let position = c.make_stable.ensures.position in
     let place : ℤ = to_z w64 (of_z w64 c.args.place) in
-    let fails = stable_failed view sum old new (length opened.pages.items) k.tickets place k.history k.acknowledged k.floor (stays_put trace sum old new c.make_stable.ensures.tickets position c.make_stable.ensures.keeps) c.in-Err.e c.in-Err.ensures.answers c.in-Err.ensures.made c.make_stable.ensures.at_most
+    let fails = stable_failed view sum old new (length opened.pages.items) k.tickets place k.history k.acknowledged k.floor (stays_put trace sum old new c.make_stable.ensures.tickets position c.make_stable.ensures.keeps) (whole_of trace sum old k.history k.acknowledged k.floor at.unmarked at.fits) c.in-Err.e c.in-Err.ensures.answers c.in-Err.ensures.made c.make_stable.ensures.at_most
     c.make_stable.ensures.spares.faulty c.in-Err.ensures.refused c.in-Err.ensures.buffers.1 in
     let done : Does view sum (phase.Open opened) (told.Stable place) (phase.Open (over opened new), reply.Failed c.in-Err.e) k =
     record {

@@ -6,7 +6,7 @@ use Rattle.sled_core.specs.Waiting.{spans}
 use Rattle.sled_log.specs.RunPhases.{seen, view_by}
 use Rattle.sled_log.specs.RunStates.{LogView, opens, pending_in_view, without_unheld}
 use Rattle.sled_log.specs.declared.session.command.Refusal.TheVariants as why
-use Rattle.sled_log.proofs.Sessions.Writing.{held_none, index_fits, keeps_failing, kept_or_none, leaves, never_held, pending_seen, shows_waiting, spared, stays_put, still_open, waiting_held, was_free, why_of, without_seen}
+use Rattle.sled_log.proofs.Sessions.Writing.{held_none, index_fits, keeps_failing, kept_or_none, leaves, never_held, pending_seen, shows_waiting, spared, stays_put, still_open, waiting_held, was_free, whole_of, why_of, without_seen}
 use Rattle.sled_log.proofs.session.writing.write.Goals as goal
 
 -- an index that isn't refused fits
@@ -35,7 +35,7 @@ returns-in-Ok-clause-step g c = λ k at free.
       next = k;
       step = (
         answers.0,
-        record { buffers = waiting_of old; shown = shows_waiting old sum (length opened.pages.items) k.tickets; made = c.in-Ok.ensures.calls },
+        record { buffers = waiting_of old; shown = shows_waiting old sum (length opened.pages.items) k.tickets (whole_of trace sum old k.history k.acknowledged k.floor at.unmarked at.fits answers.0); made = c.in-Ok.ensures.calls },
         answers.2,
         leaves old sum (length opened.pages.items) k.tickets new (view old.config.device) (view new.config.device) k.history k.acknowledged k.floor (stays_put trace sum old new c.write_to_log.ensures.tickets c.write_to_log.ensures.position c.write_to_log.ensures.keeps) _ _ _ left c.write_to_log.ensures.start answers.1,
       );
@@ -71,7 +71,7 @@ returns-in-Err-clause-step g c = λ k at free.
           came = (
             record {
               buffers = waiting_of old;
-              shown = shows_waiting old sum begun k.tickets;
+              shown = shows_waiting old sum begun k.tickets (whole_of trace sum old k.history k.acknowledged k.floor at.unmarked at.fits none);
               made = c.write_to_log.ensures.at_most;
               synced = (let same = c.in-Err.ensures.err.2 in omega (arith, same));
               whole = λ sound. spared (Unit {0}) c.in-Err.e (fault_of old) (fault_of new) device.failures now.failures device.trace now.trace none sound c.in-Err.ensures.answers c.in-Err.ensures.refused;
