@@ -139,8 +139,8 @@ start_cause_of _ before after cause = absurd cause
 
 -- so has that of a start that is not refused for damage
 pub start_cause : (e : Error) (startable in_reach unwritten : Type 0) (before after : ℕ) → StartRefuses e startable in_reach unwritten before after → (IsCorrupt e → ⊥) → IsStartCause e before after
-start_cause (error.Io e) startable in_reach unwritten before after refuses whole = refuses
-start_cause error.OutOfMemory startable in_reach unwritten before after refuses whole = refuses
+start_cause (error.Io e) startable in_reach unwritten before after refuses whole = (refuses.0, refuses.1)
+start_cause error.OutOfMemory startable in_reach unwritten before after refuses whole = refuses.0
 start_cause (error.Corruption at) startable in_reach unwritten before after refuses whole = absurd (whole tt)
 start_cause error.PlacesUsedUp startable in_reach unwritten before after refuses whole = refuses.3
 start_cause _ startable in_reach unwritten before after refuses whole = absurd refuses

@@ -1,5 +1,5 @@
 -- What an accountant starts with: the calls that fill slots are made, and then those that cut the file back.
-use Rattle.std.proofs.Common.{◌≡◌, ◌∙◌, ◌+◌, ◌*◌, ◌%◌, ◌^◌, ◌<◌, ◌≤◌, arith, ℕ, Bool, List, length, is_some, ap, sym, subst, Err}
+use Rattle.std.proofs.Common.{◌≡◌, ◌∙◌, ◌+◌, ◌*◌, ◌%◌, ◌^◌, ◌<◌, ◌≤◌, arith, ℕ, Bool, List, length, is_some, ap, sym, subst, inl, inr, Err}
 use Rattle.std.specs.BTreeMap.{get}
 use Rattle.std.specs.Ordering.{nat_cmp}
 use Rattle.sled_codec.specs.Errors.{IsCorruption}
@@ -10,7 +10,7 @@ use Rattle.sled_store.specs.Device.{Trace, Event, state_of}
 use Rattle.sled_store.specs.Script.{Performs, after_all}
 use Rattle.sled_store.specs.Blobs.{RemoveAnswers}
 use Rattle.sled_store.specs.Causes.{DeviceAnswers}
-use Rattle.sled_store.specs.StartCauses.{CheckAnswers, StartRefuses}
+use Rattle.sled_store.specs.StartCauses.{CheckAnswers, StartRefuses, WritesWhereItCan}
 use Rattle.sled_store.specs.Begin.{IsStartable, IsInReach, slots_of, is_used, not_below, unused, filling}
 use Rattle.sled_store.specs.SegmentStates.{Machine}
 use Rattle.sled_store.specs.Stabilizing.{cut_back}
@@ -33,33 +33,33 @@ returns-in-Err-find-clause-calls g c = performs_nothing _ (g.D.Device.trace c.ar
 
 -- Why it was not started, by what a part of it answers.
 module _ (startable in_reach unwritten : Type 0) (before : ℕ) where
-  refused_memory : (e : Error) (after : ℕ) → e ≡ OutOfMemory → after ≡ before → StartRefuses e startable in_reach unwritten before after
-  refused_memory e after is same = subst (λ (x : Error). StartRefuses x startable in_reach unwritten before after) (sym is) same
+  refused_memory : (e : Error) (after : ℕ) → e ≡ OutOfMemory → after ≡ before → WritesWhereItCan startable in_reach unwritten → StartRefuses e startable in_reach unwritten before after
+  refused_memory e after is same can = subst (λ (x : Error). StartRefuses x startable in_reach unwritten before after) (sym is) (same, can)
 
-  refused_removing : (e : Error) (mid after : ℕ) → RemoveAnswers {T = Unit {0}} (Err e) mid after → mid ≡ before → StartRefuses e startable in_reach unwritten before after
-  refused_removing (Io e) mid after came same = (came.0, came.1 ∙ ap (λ n. (n + 1) % 2 ^ 64) same)
-  refused_removing OutOfMemory mid after came same = came ∙ same
-  refused_removing (Corruption at) mid after came same = absurd came
-  refused_removing (Unsupported text) mid after came same = absurd came
-  refused_removing (Held place) mid after came same = absurd came
-  refused_removing (NotReserved place) mid after came same = absurd came
-  refused_removing PlacesUsedUp mid after came same = absurd came
-  refused_removing (CollectionNotFound name) mid after came same = absurd came
-  refused_removing (ReportableBug text) mid after came same = absurd came
+  refused_removing : (e : Error) (mid after : ℕ) → RemoveAnswers {T = Unit {0}} (Err e) mid after → mid ≡ before → WritesWhereItCan startable in_reach unwritten → StartRefuses e startable in_reach unwritten before after
+  refused_removing (Io e) mid after came same can = (came.0, came.1 ∙ ap (λ n. (n + 1) % 2 ^ 64) same, can)
+  refused_removing OutOfMemory mid after came same can = (came ∙ same, can)
+  refused_removing (Corruption at) mid after came same can = absurd came
+  refused_removing (Unsupported text) mid after came same can = absurd came
+  refused_removing (Held place) mid after came same can = absurd came
+  refused_removing (NotReserved place) mid after came same can = absurd came
+  refused_removing PlacesUsedUp mid after came same can = absurd came
+  refused_removing (CollectionNotFound name) mid after came same can = absurd came
+  refused_removing (ReportableBug text) mid after came same can = absurd came
 
-  refused_reading : (e : Error) (mid after : ℕ) → DeviceAnswers {T = Unit {0}} (Err e) mid after → (IsCorruption {T = Unit {0}} (Err e) → ⊥) → mid ≡ before → StartRefuses e startable in_reach unwritten before after
-  refused_reading (Io e) mid after came readable same = (came.0, came.1 ∙ ap (λ n. (n + 1) % 2 ^ 64) same)
-  refused_reading OutOfMemory mid after came readable same = came ∙ same
-  refused_reading (Corruption at) mid after came readable same = absurd (readable tt)
-  refused_reading (Unsupported text) mid after came readable same = absurd came
-  refused_reading (Held place) mid after came readable same = absurd came
-  refused_reading (NotReserved place) mid after came readable same = absurd came
-  refused_reading PlacesUsedUp mid after came readable same = absurd came
-  refused_reading (CollectionNotFound name) mid after came readable same = absurd came
-  refused_reading (ReportableBug text) mid after came readable same = absurd came
+  refused_reading : (e : Error) (mid after : ℕ) → DeviceAnswers {T = Unit {0}} (Err e) mid after → (IsCorruption {T = Unit {0}} (Err e) → ⊥) → mid ≡ before → WritesWhereItCan startable in_reach unwritten → StartRefuses e startable in_reach unwritten before after
+  refused_reading (Io e) mid after came readable same can = (came.0, came.1 ∙ ap (λ n. (n + 1) % 2 ^ 64) same, can)
+  refused_reading OutOfMemory mid after came readable same can = (came ∙ same, can)
+  refused_reading (Corruption at) mid after came readable same can = absurd (readable tt)
+  refused_reading (Unsupported text) mid after came readable same can = absurd came
+  refused_reading (Held place) mid after came readable same can = absurd came
+  refused_reading (NotReserved place) mid after came readable same can = absurd came
+  refused_reading PlacesUsedUp mid after came readable same can = absurd came
+  refused_reading (CollectionNotFound name) mid after came readable same can = absurd came
+  refused_reading (ReportableBug text) mid after came readable same can = absurd came
 
   refused_check : (e : Error) (after : ℕ) → CheckAnswers {T = Unit {0}} (Err e) startable in_reach → (IsCorruption {T = Unit {0}} (Err e) → startable → ⊥) → unwritten → after ≡ before → StartRefuses e startable in_reach unwritten before after
-  refused_check OutOfMemory after came corrupt none same = same
+  refused_check OutOfMemory after came corrupt none same = (same, inr none)
   refused_check (Corruption at) after came corrupt none same = (came, corrupt tt, none, same)
   refused_check PlacesUsedUp after came corrupt none same = (came.0, came.1, none, same)
   refused_check (Io e) after came corrupt none same = absurd came
@@ -68,6 +68,10 @@ module _ (startable in_reach unwritten : Type 0) (before : ℕ) where
   refused_check (NotReserved place) after came corrupt none same = absurd came
   refused_check (CollectionNotFound name) after came corrupt none same = absurd came
   refused_check (ReportableBug text) after came corrupt none same = absurd came
+
+-- The snapshot was found to be one on which a log can begin, by the file's length as it was told.
+can_begin : (size told len : ℕ) (s : SnapshotModel) → told ≡ len → IsStartable size told s → IsInReach size told s → IsStartable size len s × IsInReach size len s
+can_begin size told len s is startable in_reach = (subst (λ n. IsStartable size n s) is startable, subst (λ n. IsInReach size n s) is in_reach)
 
 pub returns-in-Err-clause-answers : goal.returns-in-Err-clause-answers
 returns-in-Err-clause-answers g c =
@@ -80,17 +84,19 @@ returns-in-Err-clause-answers g c =
     c.len.ensures.trace c.in_ok-len.ensures.faults
 
 pub returns-in-Err-find-clause-answers : goal.returns-in-Err-find-clause-answers
-returns-in-Err-find-clause-answers g c = refused_memory _ _ _ (g.D.Device.faults c.args.config.now.device) c.in-Err-find.e (g.D.Device.faults c.len.new.self) c.in-Err-find.ensures.memory c.in_ok-len.ensures.faults
+returns-in-Err-find-clause-answers g c = refused_memory _ _ _ (g.D.Device.faults c.args.config.now.device) c.in-Err-find.e (g.D.Device.faults c.len.new.self) c.in-Err-find.ensures.memory c.in_ok-len.ensures.faults (inr c.len.ensures.trace)
 
 pub returns-in-Err-fill_unused-clause-answers : goal.returns-in-Err-fill_unused-clause-answers
 returns-in-Err-fill_unused-clause-answers g c =
     refused_reading _ _ _ (g.D.Device.faults c.args.config.now.device) c.in-Err-fill_unused.e (g.D.Device.faults c.len.new.self) (g.D.Device.faults c.fill_unused.new.config.device)
     c.in-Err-fill_unused.ensures.answers c.in-Err-fill_unused.ensures.readable c.in_ok-len.ensures.faults
+    (inl (can_begin c.args.config.now.config.segment_size c.in_ok-len.len _ (model_of c.args.snapshot.now) c.in_ok-len.ensures.len c.in-Ok.ensures.startable c.in-Ok.ensures.answers))
 
 pub returns-clause-answers : goal.returns-clause-answers
 returns-clause-answers g c =
     refused_removing _ _ _ (g.D.Device.faults c.args.config.now.device) c.in-Err-cut_off.e (g.D.Device.faults c.fill_unused.new.config.device) (g.D.Device.faults c.cut_off.new.device)
     c.in-Err-cut_off.ensures.step.answers (c.in-Ok-fill_unused.ensures.answers ∙ c.in_ok-len.ensures.faults)
+    (inl (can_begin c.args.config.now.config.segment_size c.in_ok-len.len _ (model_of c.args.snapshot.now) c.in_ok-len.ensures.len c.in-Ok.ensures.startable c.in-Ok.ensures.answers))
 
 pub returns-in-Ok-cut_off-clause-answers : goal.returns-in-Ok-cut_off-clause-answers
 returns-in-Ok-cut_off-clause-answers g c =
