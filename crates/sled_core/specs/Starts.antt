@@ -10,7 +10,7 @@ use Rattle.sled_store.specs.StartCauses.{StartRefuses}
 use Rattle.sled_store.specs.Device.{Trace, state_of}
 use Rattle.sled_store.specs.Script.{Performs, after_all}
 use Rattle.sled_store.specs.Started.{started}
-use Rattle.sled_core.specs.Fits.{NoneOpen, NoneSealed, config_of, fault_of, noted_in, pins_of, position_of, reserved_end, segment_size_of, start_of, synced_end}
+use Rattle.sled_core.specs.Fits.{NoneOpen, NoneSealed, config_of, fault_of, kept_batches, noted_in, pins_of, position_of, reserved_end, segment_size_of, start_of, synced_end}
 use Rattle.sled_core.specs.FreeSlots.{begun_machine}
 use Rattle.sled_core.specs.Positions.{Position, is_short, next_segment_at}
 use Rattle.sled_core.specs.Waiting.{BufferStart}
@@ -44,6 +44,7 @@ pub record BeginsBehind {D C : Type 0} (size len : ℕ) (s : SnapshotModel) (log
   pub position : position_of log ≡ position_from size len s
   pub reserved : reserved_end log ≡ synced_end log
   pub noted : noted_in log ≡ []
+  pub kept : kept_batches log ≡ 0
   pub start : start_of log ≡ start_from size len s
   pub ended : NoneOpen log
   pub unsealed : NoneSealed log

@@ -257,6 +257,7 @@ returns-in-Ok-clause-begins g c =
       unsealed = subst (λ (ss : List SegmentBuffer). unwritten (line_at here c.in-Ok.buffer ss) ≡ []) (sym c.no_segments.ensures)
           (ap (λ (bs : List Sealed). unwritten_in here c.in-Ok.buffer.bytes.items c.in-Ok.buffer.written_len bs c.in-Ok.buffer.reserved.items ++ []) first.sealed);
       noted = ap (λ (bs : List NotedBatch). not_whole (c.in-Ok.beginning.place + c.in-Ok.buffer.written_len) (map batch_of bs)) c.new-in-Ok.ensures.items;
+      kept = ap (λ (bs : List NotedBatch). length bs) c.new-in-Ok.ensures.items;
       pins = refl;
       fault = refl;
       sized = ap (λ (x : Config). x.segment_size) c.begin.ensures.config;
