@@ -16,7 +16,7 @@ use Rattle.sled_core.specs.declared.logger.Log.{Log}
 use Rattle.sled_core.specs.declared.logger.read_message.LogRead.{LogRead}
 use Rattle.sled_core.specs.declared.logger.read_message.LogRead.TheVariants.{Blob}
 use Rattle.sled_core.specs.Fits.{fault_of, next_place, stable_end}
-use Rattle.sled_core.specs.Reading.{GivesMessage, IsInline, IsNoPlace, IsReading, IsUnreadable}
+use Rattle.sled_core.specs.Reading.{GivesMessage, IsInline, IsNoPlace, IsReading, IsUnreadableAs}
 
 -- The place whose buffer a read brings to the device: that of the message, or for one whose item is a blob the place of that.
 abbrev pub place_read : ℤ → DiskPtr → ℤ
@@ -47,9 +47,9 @@ IsBlobDamage sum file place None = (bytes : List ℕ) × (file ≡ Some bytes) �
 IsBlobDamage sum file place (Some (ptr.Blob lid at)) = (lid ≡ 0) × (at ≡ place) × (bytes : List ℕ) × (file ≡ Some bytes) × (5 ≤ length bytes) × IsDamagedBlob sum bytes
 IsBlobDamage sum file place (Some (ptr.Inline lid)) = ⊥
 
--- why a pointer can't be read: its record can't, or for a message whose item is a blob that is damaged
+-- why a pointer can't be read: its record can't, where its blob is named or nothing, or for a message whose item is a blob that is damaged
 abbrev pub IsDamageIn : (List ℕ → ℕ) → ℕ → State → ℕ → DiskPtr → Option DiskPtr → Type 0
-IsDamageIn sum size s number (ptr.Inline lid) at = IsUnreadable sum size s.log.bytes s.blobs.file lid number
+IsDamageIn sum size s number (ptr.Inline lid) at = IsUnreadableAs sum size s.log.bytes s.blobs.file lid number at
 IsDamageIn sum size s number (ptr.Blob lid place) at = IsBlobDamage sum (s.blobs.file place) place at
 
 -- damage that is answered for a pointer is there
@@ -57,9 +57,9 @@ abbrev pub IsDamageOf : (List ℕ → ℕ) → ℕ → State → ℕ → DiskPtr
 IsDamageOf sum size s number p (Corruption at) = IsDamageIn sum size s number p at
 IsDamageOf sum size s number p _ = Unit {0}
 
--- so it is where a place is read, or that is none
+-- so it is where a place is read, or that is none, for which nothing is named
 abbrev pub IsDamageAt : (List ℕ → ℕ) → ℕ → State → ℤ → DiskPtr → Error → Type 0
-IsDamageAt sum size s lsn p (Corruption at) = IsNoPlace size lsn (lid_of p) ⊎ IsDamageIn sum size s (unsigned_abs lsn / size) p at
+IsDamageAt sum size s lsn p (Corruption at) = (IsNoPlace size lsn (lid_of p) × (at ≡ None)) ⊎ IsDamageIn sum size s (unsigned_abs lsn / size) p at
 IsDamageAt sum size s lsn p _ = Unit {0}
 
 -- Why a pointer was not read: as a read of an item, or of a blob.
