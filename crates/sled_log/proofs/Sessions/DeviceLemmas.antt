@@ -1,6 +1,7 @@
 -- What the commands of a run do to its device goes on, one behind another; and each phase does what is claimed of a command.
-use Rattle.std.proofs.Common.{◌≡◌, ℕ, Bool, true, false, List, [], ◌∷◌, ◌++◌, if◌then◌else◌, Option, Some, refl, sym, ap, subst}
+use Rattle.std.proofs.Common.{◌≡◌, ℕ, Bool, true, false, List, [], ◌∷◌, ◌++◌, if◌then◌else◌, Option, None, Some, refl, sym, ap, subst}
 use Rattle.std.specs.Prelude.{◌↔◌, IsTrue}
+use Rattle.std.specs.Bool.{MatchBool}
 use Rattle.sled_store.specs.declared.device.choice.Choice.{Choice}
 use Rattle.sled_store.specs.Chosen.{MayBeLeft}
 use Rattle.sled_store.specs.Device.{Left, Settled, Crashed, state_of}
@@ -14,9 +15,10 @@ use Rattle.sled_log.specs.declared.session.opened.Opened.{Opened}
 use Rattle.sled_log.specs.declared.session.command.Command.{Command}
 use Rattle.sled_log.specs.declared.session.command.Command.TheVariants as command
 use Rattle.sled_log.specs.declared.session.command.Refusal.{Refusal}
+use Rattle.sled_log.specs.declared.session.command.Refusal.TheVariants as why
 use Rattle.sled_log.specs.declared.session.command.Reply.{Reply}
 use Rattle.sled_log.specs.declared.session.command.Reply.TheVariants as reply
-use Rattle.sled_log.specs.Devices.{Devices, IsOver, Leaves, StandsOver, ToldIn, Touches, TouchesIn, is_open, opens_after}
+use Rattle.sled_log.specs.Devices.{Devices, Handles, IsOver, Leaves, RefusedBy, RefusedIn, StandsOver, ToldIn, Touches, TouchesIn, is_barred, is_open, opens_after}
 use Rattle.sled_log.specs.RunStates.{DeviceView}
 use Rattle.sled_log.specs.Runs.{told}
 use Rattle.sled_core.specs.Fits.{config_of}
@@ -31,7 +33,7 @@ leaves_over sum size was old c r over leaves = record {
   came = leaves.came;
   is_told = leaves.is_told;
   stops = leaves.stops;
-  touches = leaves.touches;
+  handles = leaves.handles;
   leads = over (opens_after was c leaves.came) leaves.new leaves.leads;
 }
 
@@ -76,28 +78,62 @@ left_at {D} {C} view sum old new p next c r was_at is_at told_in was device over
       came = told_in.came;
       is_told = told_in.is_told;
       stops = told_in.stops;
-      touches = told_in.is.touches;
-      leads = subst (λ (b : Bool). StandsOver view new b (device_in view next)) told_in.is.opens (over_at view sum new next is_at);
+      handles = told_in.handles;
+      leads = subst (λ (b : Bool). StandsOver view new b (device_in view next)) told_in.opens (over_at view sum new next is_at);
     })))
 
--- A refusal leaves the phase.
-pub touched_refused : {D C : Type 0} (view : D → DeviceView) (sum : List ℕ → ℕ) (p : Phase D C) (c : Command) (w : Refusal) → TouchesIn view sum p c p (reply.Refused w)
-touched_refused view sum (phase.Closed config) c w = record { touches = refl; opens = closed c }
-  where
-    closed : (d : Command) → false ≡ opens_after false d (reply.Refused w)
-    closed command.Open = refl
-    closed command.Halt = refl
-    closed (command.Crash choice) = refl
-    closed d = refl
-touched_refused view sum (phase.Open opened) c w = record { touches = later_same (device_in view (phase.Open opened)).trace; opens = stays c }
-  where
-    stays : (d : Command) → true ≡ opens_after true d (reply.Refused w)
-    stays command.Open = refl
-    stays command.Halt = refl
-    stays (command.Crash choice) = refl
-    stays d = refl
+module _ (sum : List ℕ → ℕ) (size : ℕ) where
+  -- A refusal does nothing, and is the right one.
+  no_touch : (was : Bool) (c : Command) (w : Refusal) (device : DeviceView) → RefusedIn was c (Some w) → Touches sum size was c (reply.Refused w) device device
+  no_touch false command.Open w device is = cc
+  no_touch false (command.Crash choice) w device is = cc
+  no_touch false (command.Stop n) w device is = cc
+  no_touch false c w device is = (cc, refl)
+  no_touch true command.Open w device is = (cc, refl)
+  no_touch true (command.Crash choice) w device is = cc
+  no_touch true (command.Stop n) w device is = cc
+  no_touch true command.Halt w device is = cc
+  no_touch true c w device is = later_same device.trace
 
--- and is told as it is
+  pub handles_refused : (was : Bool) (c : Command) (w : Refusal) (device : DeviceView) → RefusedBy (is_barred device c) was c (Some w) → Handles sum size was c (reply.Refused w) device device
+  handles_refused was c w device = by (is_barred device c)
+    where
+      by : (b : Bool) → RefusedBy b was c (Some w) → MatchBool b ((reply.Refused w ≡ reply.Refused why.Stopped) × (device ≡ device)) (Touches sum size was c (reply.Refused w) device device)
+      by true is = (cc, refl)
+      by false is = no_touch was c w device is
+
+  -- What isn't refused is carried out.
+  pub handles_carried : (was : Bool) (c : Command) (r : Reply) (old new : DeviceView) → RefusedBy (is_barred old c) was c None → Touches sum size was c r old new → Handles sum size was c r old new
+  handles_carried was c r old new free touches = by (is_barred old c) free
+    where
+      by : (b : Bool) → RefusedBy b was c None → MatchBool b ((r ≡ reply.Refused why.Stopped) × (new ≡ old)) (Touches sum size was c r old new)
+      by true is = cc
+      by false is = touches
+
+-- A refusal opens and closes nothing.
+pub opens_refused : (was : Bool) (c : Command) (w : Refusal) → was ≡ opens_after was c (reply.Refused w)
+opens_refused was command.Open w = refl
+opens_refused was command.Halt w = refl
+opens_refused was (command.Crash choice) w = refl
+opens_refused was c w = refl
+
+-- No other command is carried out while no log is open.
+pub touched_closed : {D C : Type 0} (view : D → DeviceView) (sum : List ℕ → ℕ) (config : RunningConfig D C) (c : Command) → (c ≡ command.Open → ⊥) → ((n : ℕ) → c ≡ command.Stop n → ⊥)
+    → ((choice : Choice) → c ≡ command.Crash choice → ⊥) → TouchesIn view sum (phase.Closed config) c (phase.Closed config) (reply.Refused why.Closed)
+touched_closed view sum config c no_opening no_stop no_crash = record { touches = by c no_opening no_stop no_crash; opens = opens_refused false c why.Closed }
+  where
+    by : (d : Command) → (d ≡ command.Open → ⊥) → ((n : ℕ) → d ≡ command.Stop n → ⊥) → ((choice : Choice) → d ≡ command.Crash choice → ⊥)
+        → Touches sum (size_of (phase.Closed config)) false d (reply.Refused why.Closed) (view config.device) (view config.device)
+    by command.Open no_opening no_stop no_crash = absurd (no_opening refl)
+    by (command.Stop n) no_opening no_stop no_crash = absurd (no_stop n refl)
+    by (command.Crash choice) no_opening no_stop no_crash = absurd (no_crash choice refl)
+    by d no_opening no_stop no_crash = (refl, refl)
+
+-- No log is opened while one is.
+pub touched_open : {D C : Type 0} (view : D → DeviceView) (sum : List ℕ → ℕ) (opened : Opened D C) → TouchesIn view sum (phase.Open opened) command.Open (phase.Open opened) (reply.Refused why.Open)
+touched_open view sum opened = record { touches = (refl, refl); opens = refl }
+
+-- A refusal is told as it is.
 pub told_refused : (b : Bool) (w : Refusal) → reply.Refused w ≡ told b (reply.Refused w)
 told_refused true w = refl
 told_refused false w = refl
@@ -106,22 +142,23 @@ told_refused false w = refl
 pub touched : {D C : Type 0} (view : D → DeviceView) (sum : List ℕ → ℕ) (p : Phase D C) (c d : Command) (next : Phase D C) (r : Reply) → d ≡ c → TouchesIn view sum p c next r → TouchesIn view sum p d next r
 touched view sum p c d next r is in_phase = subst (λ (x : Command). TouchesIn view sum p x next r) (sym is) in_phase
 
--- a command that the log of a session is asked for, or that is refused while one is open
+-- a command that the log of a session is asked for
 abbrev pub goes_on : Command → Bool
+goes_on command.Open = false
 goes_on (command.Crash choice) = false
 goes_on (command.Stop n) = false
 goes_on command.Halt = false
 goes_on c = true
 
 touched_later : (sum : List ℕ → ℕ) (size : ℕ) (c : Command) (r : Reply) (old new : DeviceView) → goes_on c ≡ true → IsLater old.trace new.trace → Touches sum size true c r old new
-touched_later sum size c (reply.Refused w) old new is later = later
+touched_later sum size command.Open r old new is later = cc
 touched_later sum size (command.Crash choice) r old new is later = cc
 touched_later sum size (command.Stop n) r old new is later = cc
 touched_later sum size command.Halt r old new is later = cc
 touched_later sum size c r old new is later = later
 
 still_open : (c : Command) (r : Reply) → goes_on c ≡ true → true ≡ opens_after true c r
-still_open command.Open (reply.Opened stable active pages) is = refl
+still_open command.Open r is = cc
 still_open (command.Crash choice) r is = cc
 still_open command.Halt r is = cc
 still_open c r is = refl
@@ -154,4 +191,4 @@ module _ {D C : Type 0} (view : D → DeviceView) (sum : List ℕ → ℕ) (from
 
 -- A log that is given up leaves its device.
 pub halts : {D C : Type 0} (view : D → DeviceView) (sum : List ℕ → ℕ) (opened : Opened D C) (config : RunningConfig D C) → config ≡ config_of opened.log → TouchesIn view sum (phase.Open opened) command.Halt (phase.Closed config) reply.Halted
-halts view sum opened config is = record { touches = ap (λ (x : RunningConfig _ _). view x.device) is; opens = refl }
+halts view sum opened config is = record { touches = (refl, ap (λ (x : RunningConfig _ _). view x.device) is); opens = refl }

@@ -1,10 +1,11 @@
 //! A log that is open, with the tickets of its reservations and the table of its pages.
-ghost use Rattle.std.specs.Prelude.{ℕ, None, Vec, ◌≡◌, if◌then◌else◌, length};
+ghost use Rattle.std.specs.Prelude.{ℕ, true, None, Vec, ◌≡◌, if◌then◌else◌, length};
 ghost use Rattle.std.specs.declared.alloc.Global.{Global};
 ghost use Rattle.sled_codec.specs.Snapshots.{page_of};
 ghost use Rattle.sled_core.specs.Fits.{config_of};
 ghost use Rattle.sled_log.specs.Reservations.{blob_shown};
 ghost use Rattle.sled_log.specs.declared.session.command.Command.TheVariants as told;
+ghost use Rattle.sled_log.specs.Devices.{RefusedIn};
 ghost use Rattle.sled_log.specs.Refusals.{is_busy, refused_open};
 ghost use Rattle.sled_log.specs.RunStates.{is_present, one_blob, page_now};
 ghost use Rattle.sled_log.specs.RunPhases.{IsOpenAt, Unstored, seen};
@@ -49,6 +50,7 @@ impl<D: CrashDevice, C: Checksum> Opened<D, C> {
     pub(crate) fn refusal(&self, command: &Command) -> Option<Refusal>
         ensures why { (k : Unstored) → IsOpenAt D.trace C.sum_of self.now k
             → result ≡ refused_open k.history (seen self.now k.tickets) command.now }
+        ensures alone { RefusedIn true command.now result }
     {
         match command {
             Command::Open => Some(Refusal::Open),

@@ -3,7 +3,7 @@ ghost use Rattle.std.specs.Prelude.{Bool, ◌≡◌};
 ghost use Rattle.sled_store.specs.Stops.{KeepsToStop};
 ghost use Rattle.sled_core.specs.Fits.{config_of};
 ghost use Rattle.sled_log.specs.declared.session.command.Command.TheVariants as command;
-ghost use Rattle.sled_log.specs.Devices.{ToldIn, TouchesIn};
+ghost use Rattle.sled_log.specs.Devices.{RefusedBy, ToldIn, TouchesIn, is_barred, is_open};
 ghost use Rattle.sled_log.specs.Refusals.{is_crash, refusal_for, refused_closed};
 ghost use Rattle.sled_log.specs.Runs.{told};
 ghost use Rattle.sled_log.specs.RunPhases.{AnswersIn, CarriesOut, IsAt, RunsOn, Unstored, device_in, running, stands, view_by};
@@ -42,6 +42,7 @@ fn refusal<D: CrashDevice, C: Checksum>(phase: &Phase<D, C>, command: &Command) 
     ensures asked { KeepsToStop (D.trace (running phase.now).device) (D.is_stopped (running phase.now).device) }
     ensures why { let view = view_by D.trace D.faults D.is_stopped in (k : Unstored) → IsAt D.trace C.sum_of phase.now k
         → result ≡ refusal_for (stands view phase.now k) command.now }
+    ensures alone { RefusedBy (is_barred (device_in (view_by D.trace D.faults D.is_stopped) phase.now) command.now) (is_open phase.now) command.now result }
 {
     if is_stopped(phase) && !is_crash(command) {
         return Some(Refusal::Stopped);

@@ -9,7 +9,7 @@ use Rattle.sled_log.specs.declared.session.command.Reply.TheVariants as reply
 use Rattle.sled_log.specs.RunPhases.{view_by}
 use Rattle.sled_log.proofs.Sessions.Carried.{asked_going}
 use Rattle.sled_log.proofs.Sessions.RunLemmas.{carried}
-use Rattle.sled_log.proofs.Sessions.DeviceLemmas.{touched}
+use Rattle.sled_log.proofs.Sessions.DeviceLemmas.{touched, touched_closed}
 use Rattle.sled_log.proofs.session.step.carry_out_closed.Goals as goal
 
 pub returns-in-Open-clause-step : goal.returns-in-Open-clause-step
@@ -61,4 +61,10 @@ returns-in-Stop-clause-device g c =
     let new : RunningConfig g.row.D.Denot g.row.C.Denot = record { config = old.config; device = c.stop_after.new.self; checksum = old.checksum; alloc = old.alloc } in
     let did = c.stop_after.ensures in
     touched view g.C.Checksum.sum_of (phase.Closed old) (command.Stop c.in-Stop.n) c.args.command.now (phase.Closed new) reply.Armed c.in-Stop.is
-    (record { touches = λ i. record { trace = did.trace i; failures = did.faults i; is_stopped = did.stopped i }; opens = refl })
+    (record { touches = (refl, λ i. record { trace = did.trace i; failures = did.faults i; is_stopped = did.stopped i }); opens = refl })
+
+-- No other is carried out.
+pub returns-in_default-clause-device : goal.returns-in_default-clause-device
+returns-in_default-clause-device g c =
+    let view = view_by g.D.Device.trace g.D.Device.faults g.D.CrashDevice.is_stopped in
+    touched_closed view g.C.Checksum.sum_of c.args.config c.args.command.now c.in_default.not-Open c.in_default.not-Stop c.in_default.not-Crash

@@ -16,7 +16,7 @@ use Rattle.sled_log.specs.RunPhases.{CarriesOut, RunsOn, view_by}
 use Rattle.sled_log.proofs.Sessions.Carried.{free_does, free_may, link_does, link_may, passes, replace_does, replace_may}
 use Rattle.sled_log.proofs.Sessions.RunLemmas.{carried, halted, runs_on_same}
 use Rattle.sled_log.specs.Devices.{TouchesIn}
-use Rattle.sled_log.proofs.Sessions.DeviceLemmas.{goes_on, halts, touched, touched_refused, went_on}
+use Rattle.sled_log.proofs.Sessions.DeviceLemmas.{goes_on, halts, touched, touched_open, went_on}
 use Rattle.sled_log.proofs.session.step.carry_out_open.Goals.{in-Replace, in-Link, in-Free, in-Rewrite, in-BeginBatch, in-EndBatch, in-Complete, in-Abort, in-Write, in-Flush, in-Stable, in-Read, in-Stop, in-Open}
 use Rattle.sled_log.proofs.session.step.carry_out_open.Goals as goal
 
@@ -121,5 +121,5 @@ returns-clause-device g c =
       | in-Link w ↦ put w.reserve-reply-in-Link.new.opened w.reserve-reply-in-Link.result w.opened-is w.reply-is (went_on view sum old w.reserve-reply-in-Link.new.opened cmd w.reserve-reply-in-Link.result (ap goes_on w.in-Link.is) w.reserve-reply-in-Link.ensures.on)
       | in-Free w ↦ put w.reserve-reply-in-Free.new.opened w.reserve-reply-in-Free.result w.opened-is w.reply-is (went_on view sum old w.reserve-reply-in-Free.new.opened cmd w.reserve-reply-in-Free.result (ap goes_on w.in-Free.is) w.reserve-reply-in-Free.ensures.on)
       | in-Stop w ↦ put w.stop_open-reply.new.opened w.stop_open-reply.result w.opened-is w.reply-is (touched view sum (phase.Open old) (command.Stop w.in-Stop.n) cmd (phase.Open w.stop_open-reply.new.opened) w.stop_open-reply.result w.in-Stop.is w.stop_open-reply.ensures.device)
-      | in-Open w ↦ put old (reply.Refused why.Open) w.opened-is w.reply-is (touched_refused view sum (phase.Open old) cmd why.Open)
+      | in-Open w ↦ put old (reply.Refused why.Open) w.opened-is w.reply-is (touched view sum (phase.Open old) command.Open cmd (phase.Open old) (reply.Refused why.Open) w.in-Open.is (touched_open view sum old))
     ]

@@ -3,9 +3,10 @@ use Rattle.std.proofs.Common.{ap, sym, subst}
 use Rattle.sled_store.specs.declared.config.Config.{Config}
 use Rattle.sled_log.specs.declared.session.command.Reply.{Reply}
 use Rattle.sled_log.specs.declared.session.command.Reply.TheVariants as reply
-use Rattle.sled_log.specs.RunPhases.{AnswersIn, view_by}
+use Rattle.sled_log.specs.Devices.{is_open}
+use Rattle.sled_log.specs.RunPhases.{AnswersIn, device_in, size_of, view_by}
 use Rattle.sled_log.proofs.Sessions.RunLemmas.{answered, refused}
-use Rattle.sled_log.proofs.Sessions.DeviceLemmas.{told_refused, touched_refused}
+use Rattle.sled_log.proofs.Sessions.DeviceLemmas.{handles_carried, handles_refused, opens_refused, told_refused}
 use Rattle.sled_log.proofs.session.step.step.Goals as goal
 
 pub returns-in-Some-clause-step : goal.returns-in-Some-clause-step
@@ -23,9 +24,25 @@ returns-clause-step g c =
 pub returns-in-Some-clause-device : goal.returns-in-Some-clause-device
 returns-in-Some-clause-device g c =
     let view = view_by g.D.Device.trace g.D.Device.faults g.D.CrashDevice.is_stopped in
-    record { came = reply.Refused c.in-Some.why; is_told = told_refused _ _; stops = c.in-Some.ensures.asked; is = touched_refused view g.C.Checksum.sum_of c.args.phase c.args.command.now c.in-Some.why }
+    let phase = c.args.phase in
+    record {
+      came = reply.Refused c.in-Some.why;
+      is_told = told_refused _ _;
+      stops = c.in-Some.ensures.asked;
+      handles = handles_refused g.C.Checksum.sum_of (size_of phase) (is_open phase) c.args.command.now c.in-Some.why (device_in view phase) c.in-Some.ensures.alone;
+      opens = opens_refused (is_open phase) c.args.command.now c.in-Some.why;
+    }
 
 pub returns-clause-device : goal.returns-clause-device
 returns-clause-device g c =
+    let view = view_by g.D.Device.trace g.D.Device.faults g.D.CrashDevice.is_stopped in
+    let phase = c.args.phase in
     let next = c.carry_out-next.result in
-    record { came = next.1; is_told = c.tell-told.ensures.told; stops = c.tell-told.ensures.asked; is = c.carry_out-next.ensures.device }
+    let did = c.carry_out-next.ensures.device in
+    record {
+      came = next.1;
+      is_told = c.tell-told.ensures.told;
+      stops = c.tell-told.ensures.asked;
+      handles = handles_carried g.C.Checksum.sum_of (size_of phase) (is_open phase) c.args.command.now next.1 (device_in view phase) (device_in view next.0) c.in_default.ensures.alone did.touches;
+      opens = did.opens;
+    }

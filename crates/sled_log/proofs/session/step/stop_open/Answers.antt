@@ -44,4 +44,4 @@ returns-clause-step g c = λ k at free.
 pub returns-clause-device : goal.returns-clause-device
 returns-clause-device g c =
     let did = c.stop_after.ensures in
-    record { touches = λ i. record { trace = did.trace i; failures = did.faults i; is_stopped = did.stopped i }; opens = refl }
+    record { touches = (refl, λ i. record { trace = did.trace i; failures = did.faults i; is_stopped = did.stopped i }); opens = refl }
