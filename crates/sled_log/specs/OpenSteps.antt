@@ -1,10 +1,11 @@
 -- What an opening comes to: a recovery, and the start of a log on what it shows.
 use Rattle.std.specs.Prelude.{◌≡◌, ◌⊎◌, ◌+◌, ◌%◌, ◌^◌, ◌∷◌, ℕ, ℤ, IsTrue, List, length, Option, None, Some}
 use Rattle.sled_codec.specs.declared.result.Error.{Error}
-use Rattle.sled_codec.specs.declared.result.Error.TheVariants.{Io, OutOfMemory, PlacesUsedUp}
+use Rattle.sled_codec.specs.declared.result.Error.TheVariants.{Corruption, Io, OutOfMemory, PlacesUsedUp}
 use Rattle.sled_codec.specs.Snapshots.{SnapshotModel, stable_place}
 use Rattle.sled_store.specs.Device.{Event, Trace, Synced, NamesSynced, state_of, content_of}
 use Rattle.sled_store.specs.Answers.{is_fault}
+use Rattle.sled_store.specs.Blobs.{NamesDamage}
 use Rattle.sled_store.specs.Script.{Performs, after_all}
 use Rattle.sled_store.specs.Begin.{IsStartable, IsInReach}
 use Rattle.sled_store.specs.Started.{started}
@@ -13,7 +14,7 @@ use Rattle.sled_core.specs.Good.{IsGood}
 use Rattle.sled_core.specs.Recoverable.{ReadsOnlyOwn}
 use Rattle.sled_log.specs.declared.session.command.Reply.{Reply}
 use Rattle.sled_log.specs.declared.session.command.Reply.TheVariants as reply
-use Rattle.sled_log.specs.Recovery.{RecoveryResult, Recovered, Recovers}
+use Rattle.sled_log.specs.Recovery.{RecoveryResult, Damaged, Recovered, Recovers}
 use Rattle.sled_log.specs.Restores.{RecoveryCalls}
 use Rattle.sled_log.specs.RunStates.{DeviceView, LogView, RunState, ShowsActive, length_of, recovered, started_on, with_log}
 use Rattle.sled_log.specs.WritesBack.{HasWrittenBack}
@@ -28,6 +29,13 @@ IsCause _ before after = ⊥
 abbrev pub IsStartCause : Error → ℕ → ℕ → Type 0
 IsStartCause PlacesUsedUp before after = after ≡ before
 IsStartCause e before after = IsCause e before after
+
+-- Why a recovery fails, whatever the device has: at damage it only synced that, and else there is such a cause, and its calls were made up to one that failed.
+abbrev pub RecoveryFails : (List ℕ → ℕ) → ℕ → Error → DeviceView → DeviceView → Type 0
+RecoveryFails sum size (Corruption at) old new =
+    Recovers sum size (content_of (state_of old.trace)) Damaged × NamesDamage sum (state_of old.trace).blobs.file at
+    × (new.trace ≡ NamesSynced ∷ Synced ∷ old.trace) × (new.failures ≡ old.failures)
+RecoveryFails sum size e old new = IsCause e old.failures new.failures × RecoveryCalls sum size old.trace new.trace
 
 -- what an opening shows of a snapshot
 pub record IsShown (stable : Option ℤ) (active : Option ℕ) (pages : ℕ) (s : SnapshotModel) : Type 0 where
@@ -76,9 +84,9 @@ module _ (sum : List ℕ → ℕ) (size : ℕ) where
     pub recovers : HasRecovered old mid snapshot
     pub starts : HasStarted size r mid snapshot new
 
-  -- What an opening does to the device, whatever that has: that, or its calls were made up to one that failed.
+  -- What an opening does to the device, whatever that has: that, or the recovery failed.
   abbrev pub OpenActs : DeviceView → Reply → DeviceView → Type 0
-  OpenActs old (reply.Failed e) new = RecoveryCalls sum size old.trace new.trace ⊎ RecoversAndStarts old (reply.Failed e) new
+  OpenActs old (reply.Failed e) new = RecoveryFails sum size e old new ⊎ RecoversAndStarts old (reply.Failed e) new
   OpenActs old r new = RecoversAndStarts old r new
 
   -- The snapshot is good for the run on what is left, shows the segment in which a log goes on, and the run goes on from it; a start that fails has a cause.
@@ -95,7 +103,7 @@ module _ (sum : List ℕ → ℕ) (size : ℕ) where
 
   -- Or the recovery failed.
   pub record FailsToRecover (a : RunState) (e : Error) (new : DeviceView) (b : RunState) : Type 0 where
-    pub calls : RecoveryCalls sum size a.device.trace new.trace
+    pub fails : RecoveryFails sum size e a.device new
     pub cause : ReadsOnlyOwn sum size (state_of a.device.trace) → IsCause e a.device.failures new.failures
     pub leads : b ≡ with_log a new None
 

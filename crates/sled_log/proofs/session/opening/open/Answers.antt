@@ -1,11 +1,16 @@
 -- An opening goes on from what the recovery gave.
-use Rattle.std.proofs.Common.{SFits, rules, arith, false, ℤ, pos, negsuc, ◌≡◌, ◌≤◌, ◌<◌, ◌+◌, ℕ, List, [], refl, sym, ap, subst, inl, inr, Option, None, Some}
+use Rattle.std.proofs.Common.{SFits, rules, arith, false, ℤ, pos, negsuc, ◌≡◌, ◌≤◌, ◌<◌, ◌+◌, ℕ, List, [], refl, sym, ap, subst, inl, inr, Option, None, Some, ◌∷◌}
+use Rattle.std.specs.Prelude.{Err}
 use Rattle.std.specs.Int.{w64}
+use Rattle.sled_codec.specs.declared.result.Error.{Error}
+use Rattle.sled_codec.specs.declared.result.Error.TheVariants as error
 use Rattle.sled_codec.specs.declared.serialization.snapshot.Snapshot.{Snapshot}
+use Rattle.sled_codec.specs.Errors.{IsCorruption}
 use Rattle.sled_codec.specs.History.{History, below}
 use Rattle.sled_codec.specs.Snapshots.{SnapshotModel, model_of, stable_place}
 use Rattle.sled_store.specs.declared.config.Config.{Config}
-use Rattle.sled_store.specs.Device.{Trace, state_of, content_of}
+use Rattle.sled_store.specs.Blobs.{ItemAnswers}
+use Rattle.sled_store.specs.Device.{NamesSynced, Synced, Trace, state_of, content_of}
 use Rattle.sled_store.specs.Script.{Performs}
 use Rattle.sled_store.proofs.Traces.MomentLemmas.{at_last}
 use Rattle.sled_store.proofs.Histories.Ascending.{all_from_in}
@@ -18,9 +23,11 @@ use Rattle.sled_log.specs.declared.session.command.Command.TheVariants as comman
 use Rattle.sled_log.specs.declared.session.command.Reply.{Reply}
 use Rattle.sled_log.specs.declared.session.command.Reply.TheVariants as reply
 use Rattle.sled_log.specs.Openings.{unreserved}
-use Rattle.sled_log.specs.OpenSteps.{GoesOnFrom, HasOpened, HasRecovered, HasStarted, SaysWhy, log_opened, starting}
+use Rattle.sled_log.specs.OpenSteps.{GoesOnFrom, HasOpened, HasRecovered, HasStarted, RecoveryFails, SaysWhy, log_opened, starting}
 use Rattle.sled_log.specs.Orderly.{CanRecover}
+use Rattle.sled_log.specs.Recovery.{Damaged, Recovers}
 use Rattle.sled_log.specs.Refusals.{reason_of}
+use Rattle.sled_log.specs.Restores.{RecoveryCalls}
 use Rattle.sled_log.specs.RunPhases.{IsAt, IsClosedAt, IsRecoveredAt, Unstored, device_in, log_in, stands, view_by}
 use Rattle.sled_log.specs.RunStates.{DeviceView, RunState, ShowsActive, length_of, top}
 use Rattle.sled_log.specs.Runs.{IsStep}
@@ -124,9 +131,18 @@ returns-in-Ok-clause-on g c =
     })
     c.start.ensures.on
 
--- A recovery that fails was refused memory, or its device failed.
+-- A recovery that fails met damage, was refused memory, or its device failed.
+recovery_fails : (sum : List ℕ → ℕ) (size : ℕ) (e : Error) (old new : DeviceView) → ItemAnswers {T = Snapshot} sum (state_of old.trace).blobs.file (Err e) old.failures new.failures → RecoveryCalls sum size old.trace new.trace
+    → (IsCorruption {T = Snapshot} (Err e) → Recovers sum size (content_of (state_of old.trace)) Damaged × (new.trace ≡ NamesSynced ∷ Synced ∷ old.trace)) → RecoveryFails sum size e old new
+recovery_fails sum size (error.Corruption at) old new answers calls damage = ((damage tt).0, answers.1, (damage tt).1, answers.0)
+recovery_fails sum size (error.Io e) old new answers calls damage = (answers, calls)
+recovery_fails sum size error.OutOfMemory old new answers calls damage = (answers, calls)
+recovery_fails sum size _ old new answers calls damage = absurd answers
+
+-- The last two can be of what was recoverable.
 pub returns-in-Err-clause-step : goal.returns-in-Err-clause-step
 returns-in-Err-clause-step g c = λ k at free.
+    let view = view_by g.D.Device.trace g.D.Device.faults g.D.CrashDevice.is_stopped in
     let trace = g.D.Device.trace in
     let sum = g.C.Checksum.sum_of in
     let size : ℕ = c.args.config.config.segment_size in
@@ -138,7 +154,7 @@ returns-in-Err-clause-step g c = λ k at free.
       not_refused = refl;
       next = k;
       step = inl (record {
-        calls = c.read_snapshot_or_default.ensures.calls;
+        fails = recovery_fails sum size c.in-Err.e (view c.args.config.device) (view c.read_snapshot_or_default.new.config.device) c.in-Err.ensures.answers c.read_snapshot_or_default.ensures.calls c.in-Err.ensures.corrupt;
         cause = λ own. cause_of Snapshot sum (state_of old).blobs.file c.in-Err.e _ _ c.in-Err.ensures.answers
             (c.in-Err.ensures.read k.history k.acknowledged k.floor at.made.orderly (read_recoverable sum size old own k.history k.acknowledged k.floor at.left)).0;
         leads = refl;
@@ -173,4 +189,10 @@ returns-in-Ok-clause-device g c =
     record { touches = device_acts sum size old mid new s c.start.result.1 has starts; opens = c.start.ensures.opens }
 
 pub returns-in-Err-clause-device : goal.returns-in-Err-clause-device
-returns-in-Err-clause-device g c = record { touches = inl c.read_snapshot_or_default.ensures.calls; opens = refl }
+returns-in-Err-clause-device g c =
+    let view = view_by g.D.Device.trace g.D.Device.faults g.D.CrashDevice.is_stopped in
+    let new : DeviceView = view c.read_snapshot_or_default.new.config.device in
+    record {
+      touches = inl (recovery_fails g.C.Checksum.sum_of c.args.config.config.segment_size c.in-Err.e (view c.args.config.device) new c.in-Err.ensures.answers c.read_snapshot_or_default.ensures.calls c.in-Err.ensures.corrupt);
+      opens = refl;
+    }
