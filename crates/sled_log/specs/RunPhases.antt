@@ -201,11 +201,6 @@ StandsAtPhase view sum (Some phase) a = StandsIn view sum phase a
 unfoldable pub StandsAt : {D C : Type 0} → (D → DeviceView) → (List ℕ → ℕ) → Session D C → RunState → Type 0
 StandsAt view sum session a = StandsAtPhase view sum session.phase a
 
--- Some session stands there. So it is behind each command of a run, and not behind the last one alone: no body can put something
--- on the device in the middle of a list that no log would, and owe nothing for what comes of it.
-abbrev pub SomeStands : (D C : Type 0) → (D → DeviceView) → (List ℕ → ℕ) → RunState → Type 0
-SomeStands D C view sum a = (session : Session D C) × StandsAt view sum session a
-
 -- the size of its segments
 abbrev pub size_in : {D C : Type 0} → Option (Phase D C) → ℕ
 size_in None = 0
@@ -213,3 +208,8 @@ size_in (Some phase) = size_of phase
 
 abbrev pub segment_size_in : {D C : Type 0} → Session D C → ℕ
 segment_size_in session = size_in session.phase
+
+-- Some session stands there, with segments of this size. So it is behind each command of a run, and not behind the last one alone: no body can put something
+-- on the device in the middle of a list that no log would, and owe nothing for what comes of it.
+abbrev pub SomeStands : (D C : Type 0) → (D → DeviceView) → (List ℕ → ℕ) → ℕ → RunState → Type 0
+SomeStands D C view sum size a = (session : Session D C) × (segment_size_in session ≡ size) × StandsAt view sum session a

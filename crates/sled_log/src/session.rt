@@ -73,8 +73,8 @@ impl<D: CrashDevice, C: Checksum> Session<D, C> {
     /// `AllocError` where memory for the replies was refused; nothing was done then. An error of a command is its reply.
     pub fn run(&mut self, commands: &[Command]) -> Result<Vec<Reply>, AllocError>
         ensures headline { let view = view_by D.trace D.faults D.is_stopped in
-            (a : RunState) → StandsAt view C.sum_of self.old a → IfOk result (λ replies.
-            Runs C.sum_of (segment_size_in self.old) (SomeStands D C view C.sum_of) a commands.now replies.items (StandsAt view C.sum_of self.new)) }
+            let size = segment_size_in self.old in (a : RunState) → StandsAt view C.sum_of self.old a → IfOk result (λ replies.
+            Runs C.sum_of size (SomeStands D C view C.sum_of size) a commands.now replies.items (StandsAt view C.sum_of self.new)) }
         ensures recovers { let view = view_by D.trace D.faults D.is_stopped in
             (a : RunState) → StandsAt view C.sum_of self.old a → IfOk result (λ replies.
             Recovers C.sum_of (segment_size_in self.old) a commands.now replies.items (StandsAt view C.sum_of self.new)) }

@@ -344,7 +344,7 @@ module _ (sum : List ℕ → ℕ) (size : ℕ) where
   own_told s _ b came own = tt
 
   -- So a run comes to what the headline says.
-  pub recovers : {D C : Type 0} (view : D → DeviceView) (Leads : RunState → Type 0) → (a : RunState) (cs : List Command) (rs : List Reply) → SomeStands D C view sum a → Runs sum size (SomeStands D C view sum) a cs rs Leads
+  pub recovers : {D C : Type 0} (view : D → DeviceView) (Leads : RunState → Type 0) → (a : RunState) (cs : List Command) (rs : List Reply) → SomeStands D C view sum size a → Runs sum size (SomeStands D C view sum size) a cs rs Leads
       → Recovers sum size a cs rs Leads
   unfolding Runs Recovers
   recovers view Leads a [] [] at runs = runs
@@ -354,7 +354,7 @@ module _ (sum : List ℕ → ℕ) (size : ℕ) where
       let b : RunState = runs.after in
       let its = own_told (state_of a.device.trace) c new.is_stopped came (subst (IsOwn sum size (state_of a.device.trace) c) runs.is_told own) in
       let leads = runs.leads its in
-      let moves = answered a c came new b (known view sum at.0 a at.1) its runs.step in (
+      let moves = answered a c came new b (known view sum at.0 a at.2) its runs.step in (
         b,
         later a new b runs.later moves.1,
         subst (λ (x : Reply). Moves sum size a c x b) (sym runs.is_told) moves.0,

@@ -12,7 +12,7 @@ invariant-loop-command g l =
     let view = view_by g.D.Device.trace g.D.Device.faults g.D.CrashDevice.is_stopped in
     let sum = g.C.Checksum.sum_of in
     record {
-      runs : (a : RunState) → StandsAt view sum l.fn.self a → Runs sum (segment_size_in l.fn.self) (SomeStands g.row.D.Denot g.row.C.Denot view sum) a (take l.command-index l.commands) l.replies.items (StandsAt view sum l.self);
+      runs : (a : RunState) → StandsAt view sum l.fn.self a → Runs sum (segment_size_in l.fn.self) (SomeStands g.row.D.Denot g.row.C.Denot view sum (segment_size_in l.fn.self)) a (take l.command-index l.commands) l.replies.items (StandsAt view sum l.self);
       devices : (on : Bool) (device : DeviceView) → StandsOver view l.fn.self on device → Devices sum (segment_size_in l.fn.self) on device (take l.command-index l.commands) l.replies.items (StandsOver view l.self);
       size : segment_size_in l.self ≡ segment_size_in l.fn.self;
       len : vec_len l.replies ≡ l.command-index;
