@@ -120,7 +120,7 @@ module _ (sum : List ℕ → ℕ) (size : ℕ) (s : State) (place : ℤ) (lid : 
     undamaged : (e : Error) → IsDamageAt sum size s place (ptr.Inline lid) e → IsCorrupt e → ⊥
     undamaged (error.Corruption at) damage corrupt = elim damage [
       | inl none ↦ b.begins none.0
-      | inr bad ↦ readable (elim bad [ | inl bytes ↦ inl bytes.0 | inr blob ↦ inr blob.0 ])
+      | inr bad ↦ readable (elim bad [ inl bytes ↦ inl bytes.0 | inr blob ↦ inr blob.0 ])
     ]
     undamaged (error.Io e) damage corrupt = absurd corrupt
     undamaged error.OutOfMemory damage corrupt = absurd corrupt

@@ -49,7 +49,8 @@ IsLastBound H cut n =
     (((m : Message) → Contains H.messages m → m.place < cut → ⊥) × (n ≡ 0))
     ⊎ ((m : Message) × IsLastMessage H cut m n)
 
--- A generator that is opened on this device, or on whatever a crash now leaves of it, goes on from an identifier that isn't below n and not above the other one: the history is one of
+-- A generator that is opened on this device, or on whatever a crash now leaves of it, goes on from an identifier that isn't below n and not above the other
+-- one: the history is one of
 -- bounds, a recovery can go on from each content that a crash leaves, and what was acknowledged, or lies below the floor, has a bound that isn't below n.
 pub record GivesFrom (sum : List ℕ → ℕ) (size n most : ℕ) (device : State) : Type 0 where
   pub history : History

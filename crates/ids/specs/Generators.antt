@@ -89,12 +89,14 @@ further_bound g = min (bound_of g + block_of g) (2 ^ 64 - 1)
 abbrev pub next_bound : {D C : Type 0} → IdGenerator D C → ℕ
 next_bound g = if nat_lt (next_of g) (bound_of g) then bound_of g else (if nat_lt (bound_of g) (asked_of g) then asked_of g else further_bound g)
 
--- A generator goes on giving: it asks for a further block at most, keeps what it has its log keep, and at each moment its device gives from the end of the block before.
+-- A generator goes on giving: it asks for a further block at most, keeps what it has its log keep, and at each moment its device gives from the end of the
+-- block before.
 pub record GivesOn {D C : Type 0} (trace : D → Trace) (sum : List ℕ → ℕ) (old new : IdGenerator D C) : Type 0 where
   pub asked : asked_of new ≤ asked_of old + block_of old
   pub block : block_of new ≡ block_of old
   pub generates : Generates trace sum old → Generates trace sum new
-  pub keeps : Generates trace sum old → Throughout (GivesFrom sum (size_of old) (bound_of old) (asked_of old + block_of old)) (trace (running old).device) (trace (running new).device)
+  pub keeps : Generates trace sum old
+      → Throughout (GivesFrom sum (size_of old) (bound_of old) (asked_of old + block_of old)) (trace (running old).device) (trace (running new).device)
   pub later : IsLater (trace (running old).device) (trace (running new).device)
   pub config : ConfigKept (running old) (running new)
 
@@ -121,7 +123,8 @@ next_position g =
 -- A generator's log needs a further segment that isn't in reach: for the record of a further bound, or to flush that; or to flush the bound that was asked for.
 abbrev pub NeedsSegment : {D C : Type 0} → IdGenerator D C → Type 0
 NeedsSegment g =
-    ((asked_of g ≡ bound_of g) × (IsUsedUpFor (log_of g) 0 (further_length g) ⊎ (EndsInReach (size_of g) (position_behind (log_of g) 0 (further_length g)) → ⊥)))
+    ((asked_of g ≡ bound_of g)
+    × (IsUsedUpFor (log_of g) 0 (further_length g) ⊎ (EndsInReach (size_of g) (position_behind (log_of g) 0 (further_length g)) → ⊥)))
     ⊎ ((bound_of g < asked_of g) × IsUsedUpBelow (log_of g) (reserved_end (log_of g)))
 
 -- No identifier is left above its block; or its log, which keeps no failure, needs such a segment.
@@ -147,7 +150,8 @@ MayHaveAsked old new =
     ((asked_of new ≡ asked_of old) × (position_of (log_of new) ≡ position_of (log_of old)))
     ⊎ ((asked_of new ≡ next_bound old) × (position_of (log_of new) ≡ next_position old))
 
--- Why none was given out: the log keeps a failure, or the device failed in this call; or memory was refused, while the log keeps none; or places are used up, where this is so.
+-- Why none was given out: the log keeps a failure, or the device failed in this call; or memory was refused, while the log keeps none; or places are used
+-- up, where this is so.
 abbrev pub NextFails : Error → Type 0 → Option IoError → Option IoError → ℕ → ℕ → Type 0
 NextFails (Io e) used old new before after = IsFault e old new before after
 NextFails OutOfMemory used old new before after = (old ≡ None) × (new ≡ None) × (after ≡ before)

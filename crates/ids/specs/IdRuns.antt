@@ -1,5 +1,6 @@
 -- Runs of a generator: what its commands come to, one behind another, and what each does to the device.
-use Rattle.std.specs.Prelude.{◌≡◌, ◌⊎◌, ◌↔◌, ◌≤◌, ◌<◌, ◌+◌, ◌-◌, ◌^◌, ◌∷◌, [], ℕ, Bool, false, IsSome, IsTrue, nat_lt, if◌then◌else◌, max, min, List, length, Option, None, Some, Ok, Err}
+use Rattle.std.specs.Prelude.{◌≡◌, ◌⊎◌, ◌↔◌, ◌≤◌, ◌<◌, ◌+◌, ◌-◌, ◌^◌, ◌∷◌, [], ℕ, Bool, false, IsSome, IsTrue, nat_lt, if◌then◌else◌, max, min, List, length}
+use Rattle.std.specs.Prelude.{Option, None, Some, Ok, Err}
 use Rattle.std.specs.Int.NonZero.{non_zero_u64_get}
 use Rattle.std.specs.declared.io.Error.{Error as IoError}
 use Rattle.sled_codec.specs.declared.result.Error.TheVariants.{OutOfMemory}
@@ -83,7 +84,8 @@ bound_next v = if nat_lt v.next v.bound then v.bound else (if nat_lt v.bound v.a
 abbrev pub position_next : ℕ → GeneratorView → Position
 position_next size v =
     if nat_lt v.next v.bound then v.position
-    else (if nat_lt v.bound v.asked then v.position else behind_record size (placed_at size v.position 0 (length_further v)) (size_at size v.position 0 (length_further v)))
+    else (if nat_lt v.bound v.asked then v.position
+    else behind_record size (placed_at size v.position 0 (length_further v)) (size_at size v.position 0 (length_further v)))
 
 -- It gave one out.
 pub record HasGiven (size : ℕ) (v w : GeneratorView) : Type 0 where
@@ -128,7 +130,8 @@ CrashActs chosen old r new = ⊥
 abbrev pub to_stop : ℕ → DeviceView → DeviceView
 to_stop n old = record old { trace = if old.is_stopped then old.trace else StopAsked n ∷ old.trace }
 
--- A command is refused exactly where a generator is open that was to be opened, or none is that was to be used; then it leaves the device as it was, as those do that aren't for it.
+-- A command is refused exactly where a generator is open that was to be opened, or none is that was to be used; then it leaves the device as it was, as
+-- those do that aren't for it.
 abbrev pub Acts : (List ℕ → ℕ) → ℕ → DeviceView → Option GeneratorView → Command → Reply → DeviceView → Type 0
 Acts sum size old g (command.Crash choice) r new = CrashActs (left_of choice) old r new
 Acts sum size old g (command.Stop n) r new = (r ≡ reply.Armed) × (new ≡ to_stop n old)
@@ -184,7 +187,8 @@ IsStep UsedUp size a None command.Close r new b = b ≡ a
 IsStep UsedUp size a (Some v) (command.SetBlock block) r new b = b ≡ stands_at a new (Some (with_block (non_zero_u64_get block) v))
 IsStep UsedUp size a None (command.SetBlock block) r new b = b ≡ a
 
--- A command was carried out from where a run stands, and did this to the device, whose trace goes on. Where it reads or leaves nothing foreign, it comes to a step, and what is claimed of where that leads holds.
+-- A command was carried out from where a run stands, and did this to the device, whose trace goes on. Where it reads or leaves nothing foreign, it comes to
+-- a step, and what is claimed of where that leads holds.
 pub record Carries (sum : List ℕ → ℕ) (size : ℕ) (UsedUp : IdState → Type 0) (a : IdState) (c : Command) (r : Reply) (Leads : IdState → Type 0) : Type 0 where
   pub new : DeviceView
   pub later : IsLater a.device.trace new.trace

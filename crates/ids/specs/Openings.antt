@@ -19,13 +19,15 @@ pub record RecoveryFailed (sum : List ℕ → ℕ) (size : ℕ) (e : Error) (old
   pub comes : ComesOf sum size old new (Err e)
   pub answers : ItemAnswers {T = Snapshot} sum (state_of old).blobs.file (Err e) before after
 
--- A recovery was made, and no log could be started on what it gave: where that is damaged, or no further segment is in reach, nothing was written for the start.
+-- A recovery was made, and no log could be started on what it gave: where that is damaged, or no further segment is in reach, nothing was written for the
+-- start.
 pub record StartFailed (sum : List ℕ → ℕ) (size : ℕ) (e : Error) (old new : Trace) (before after : ℕ) : Type 0 where
   pub snapshot : SnapshotModel
   pub mid : Trace
   pub recovers : Restores sum size old mid snapshot
   pub calls : StartCalls size snapshot mid new
-  pub cause : StartRefuses e (IsStartable size (length (state_of mid).log.bytes) snapshot) (IsInReach size (length (state_of mid).log.bytes) snapshot) (new ≡ mid) before after
+  pub cause : StartRefuses e (IsStartable size (length (state_of mid).log.bytes) snapshot) (IsInReach size (length (state_of mid).log.bytes) snapshot) (new
+      ≡ mid) before after
 
 -- A recovery was made and a log started on what it gave, and nothing else was asked of the device that changes it.
 pub record HasStarted (sum : List ℕ → ℕ) (size : ℕ) (old new : Trace) : Type 0 where

@@ -25,7 +25,8 @@ module _ {V : Type 0} (Spells : List ℕ → V → Type 0) where
   }
 
   -- the written forms
-  pub short_spells-each : (fits : V → Type 0) (short : V → List ℕ) → ((v : V) → fits v → Spells (short v) v) → (vs : List V) → All fits vs → SpellsEach Spells (flat_map short vs) vs
+  pub short_spells-each : (fits : V → Type 0) (short : V → List ℕ) → ((v : V) → fits v → Spells (short v) v) → (vs : List V) → All fits vs
+      → SpellsEach Spells (flat_map short vs) vs
   short_spells-each fits short one [] all = refl
   short_spells-each fits short one (v ∷ vs) all = record {
     first = short v;
@@ -36,15 +37,18 @@ module _ {V : Type 0} (Spells : List ℕ → V → Type 0) where
   }
 
 module _ {V : Type 0} (Spells : List ℕ → V → Type 0) (no_front : NoFront Spells) where
-  regrouped : (a b x y : List ℕ) (v w : V) (vs ws : List V) (p : SpellsEach Spells a (v ∷ vs)) (q : SpellsEach Spells b (w ∷ ws)) → a ++ x ≡ b ++ y → p.first ++ (p.second ++ x) ≡ q.first ++ (q.second ++ y)
+  regrouped : (a b x y : List ℕ) (v w : V) (vs ws : List V) (p : SpellsEach Spells a (v ∷ vs)) (q : SpellsEach Spells b (w ∷ ws)) → a ++ x ≡ b ++ y
+      → p.first ++ (p.second ++ x) ≡ q.first ++ (q.second ++ y)
   regrouped a b x y v w vs ws p q is =
       sym (append_assoc p.first p.second x) ∙ ap (λ (l : List ℕ). l ++ x) (sym p.is) ∙ is ∙ ap (λ (l : List ℕ). l ++ y) q.is ∙ append_assoc q.first q.second y
 
   -- the first values of two lists at the front of one text have the same spelling, and so what follows is the same
-  pub same_heads : (a b x y : List ℕ) (v w : V) (vs ws : List V) (p : SpellsEach Spells a (v ∷ vs)) (q : SpellsEach Spells b (w ∷ ws)) → a ++ x ≡ b ++ y → p.first ≡ q.first
+  pub same_heads : (a b x y : List ℕ) (v w : V) (vs ws : List V) (p : SpellsEach Spells a (v ∷ vs)) (q : SpellsEach Spells b (w ∷ ws)) → a ++ x ≡ b ++ y
+      → p.first ≡ q.first
   same_heads a b x y v w vs ws p q is = no_front p.first q.first _ _ v w p.front q.front (regrouped a b x y v w vs ws p q is)
 
-  pub same_tails : (a b x y : List ℕ) (v w : V) (vs ws : List V) (p : SpellsEach Spells a (v ∷ vs)) (q : SpellsEach Spells b (w ∷ ws)) → a ++ x ≡ b ++ y → p.second ++ x ≡ q.second ++ y
+  pub same_tails : (a b x y : List ℕ) (v w : V) (vs ws : List V) (p : SpellsEach Spells a (v ∷ vs)) (q : SpellsEach Spells b (w ∷ ws)) → a ++ x ≡ b ++ y
+      → p.second ++ x ≡ q.second ++ y
   same_tails a b x y v w vs ws p q is =
       same_rests p.first q.first _ _ (same_heads a b x y v w vs ws p q is) (regrouped a b x y v w vs ws p q is)
 
@@ -59,7 +63,8 @@ module _ {V : Type 0} (Spells : List ℕ → V → Type 0) (no_front : NoFront S
       p.is ∙ ap (λ (l : List ℕ). l ++ p.second) heads ∙ ap (λ (l : List ℕ). q.first ++ l) tails ∙ sym q.is
 
   -- and one text spells one of them
-  pub one_value-each : OneValue Spells → (text : List ℕ) (vs ws : List V) → length vs ≡ length ws → SpellsEach Spells text vs → SpellsEach Spells text ws → vs ≡ ws
+  pub one_value-each : OneValue Spells → (text : List ℕ) (vs ws : List V) → length vs ≡ length ws → SpellsEach Spells text vs → SpellsEach Spells text ws
+      → vs ≡ ws
   one_value-each one text [] [] long p q = refl
   one_value-each one text [] (w ∷ ws) long p q = absurd (omega arith)
   one_value-each one text (v ∷ vs) [] long p q = absurd (omega arith)

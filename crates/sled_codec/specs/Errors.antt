@@ -8,7 +8,8 @@ use Rattle.sled_codec.specs.declared.result.DiskPtr.{DiskPtr}
 use Rattle.sled_codec.specs.declared.result.DiskPtr.TheVariants.{Inline, Blob}
 use Rattle.sled_codec.specs.Pointers.{lid_of}
 use Rattle.sled_codec.specs.declared.result.Error.{Error}
-use Rattle.sled_codec.specs.declared.result.Error.TheVariants.{Corruption, Unsupported, Io, OutOfMemory, Held, NotReserved, PlacesUsedUp, CollectionNotFound, ReportableBug}
+use Rattle.sled_codec.specs.declared.result.Error.TheVariants.{Corruption, Unsupported, Io, OutOfMemory, Held, NotReserved, PlacesUsedUp, CollectionNotFound}
+use Rattle.sled_codec.specs.declared.result.Error.TheVariants.{ReportableBug}
 
 -- the bytes are damaged
 abbrev pub IsCorrupt : Error → Type 0

@@ -3,10 +3,13 @@ use Rattle.std.specs.Prelude.{◌≡◌, ◌+◌, ◌^◌, ◌<◌, ◌≤◌, �
 use Rattle.std.proofs.Common.{sym, ◌∙◌, ap, arith, append_assoc, length-append}
 use Rattle.sled_codec.specs.declared.serialization.message.MessageHeader.{MessageHeader}
 use Rattle.sled_codec.specs.declared.serialization.message.MessageKind.{MessageKind}
-use Rattle.sled_codec.specs.declared.serialization.message.MessageKind.TheVariants.{Corrupted, Canceled, Cap, BatchManifest, Free, Counter, InlineMeta, BlobMeta, InlineNode, BlobNode, InlineLink, BlobLink}
+use Rattle.sled_codec.specs.declared.serialization.message.MessageKind.TheVariants.{Corrupted, Canceled, Cap, BatchManifest, Free, Counter, InlineMeta}
+use Rattle.sled_codec.specs.declared.serialization.message.MessageKind.TheVariants.{BlobMeta, InlineNode, BlobNode, InlineLink, BlobLink}
 use Rattle.sled_codec.specs.Kinds.{code_of, kind_of}
-use Rattle.sled_codec.specs.Spelling.{low_bytes, SpellsFixed, SpellsByte, SpellsNumber, short_number, SpellsMessageHeader, short_header_tail, short_message_header, FitsMessageHeader}
-use Rattle.sled_codec.specs.SpellingLaws.{short_spells-four, one_value-fixed, no_front-fixed, short_spells-number, one_value-number, no_front-number, same_rests, length-low_bytes, length-short_number, length-number}
+use Rattle.sled_codec.specs.Spelling.{low_bytes, SpellsFixed, SpellsByte, SpellsNumber, short_number, SpellsMessageHeader, short_header_tail}
+use Rattle.sled_codec.specs.Spelling.{short_message_header, FitsMessageHeader}
+use Rattle.sled_codec.specs.SpellingLaws.{short_spells-four, one_value-fixed, no_front-fixed, short_spells-number, one_value-number, no_front-number}
+use Rattle.sled_codec.specs.SpellingLaws.{same_rests, length-low_bytes, length-short_number, length-number}
 
 -- the code of a kind stands for it
 pub kind_of-code_of : (kind : MessageKind) → kind_of (code_of kind) ≡ kind
@@ -65,7 +68,8 @@ pub record SameParts {a b : List ℕ} {v w : MessageHeader} (p : SpellsMessageHe
   pub page : p.page ≡ q.page
 
 -- a text with a header at its front, part behind part
-pub parted : (text a x : List ℕ) (v : MessageHeader) (p : SpellsMessageHeader a v) → text ≡ a ++ x → text ≡ p.sum ++ (p.code ∷ (p.len ++ (p.number ++ (p.page ++ x))))
+pub parted : (text a x : List ℕ) (v : MessageHeader) (p : SpellsMessageHeader a v) → text ≡ a ++ x
+    → text ≡ p.sum ++ (p.code ∷ (p.len ++ (p.number ++ (p.page ++ x))))
 parted text a x v p is = is ∙ ap (λ (l : List ℕ). l ++ x) p.is ∙ simp append_assoc
 
 pub behind_sum : (text f g t u : List ℕ) (v w : ℕ) → SpellsFixed 4 f v → SpellsFixed 4 g w → text ≡ f ++ t → text ≡ g ++ u → t ≡ u
@@ -82,20 +86,23 @@ behind_number text f g t u v w p q is_f is_g =
     let both : f ++ t ≡ g ++ u = sym is_f ∙ is_g in
     same_rests f g t u (no_front-number f g t u v w p q both) both
 
-same_text : (a : List ℕ) (b : ℕ) (c d e a' : List ℕ) (b' : ℕ) (c' d' e' : List ℕ) → a ≡ a' → b ≡ b' → c ≡ c' → d ≡ d' → e ≡ e' → a ++ (b ∷ c) ++ d ++ e ≡ a' ++ (b' ∷ c') ++ d' ++ e'
+same_text : (a : List ℕ) (b : ℕ) (c d e a' : List ℕ) (b' : ℕ) (c' d' e' : List ℕ) → a ≡ a' → b ≡ b' → c ≡ c' → d ≡ d' → e ≡ e'
+    → a ++ (b ∷ c) ++ d ++ e ≡ a' ++ (b' ∷ c') ++ d' ++ e'
 same_text a b c d e a' b' c' d' e' p q r s t = cc
 
 header_of : ℕ → MessageKind → ℕ → ℕ → ℕ → MessageHeader
 header_of sum kind number page len = record { crc32 = sum; kind = kind; segment_number = record { 0 = number }; pid = page; len = len }
 
-same_fields : (a : ℕ) (b : MessageKind) (c d e a' : ℕ) (b' : MessageKind) (c' d' e' : ℕ) → a ≡ a' → b ≡ b' → c ≡ c' → d ≡ d' → e ≡ e' → header_of a b c d e ≡ header_of a' b' c' d' e'
+same_fields : (a : ℕ) (b : MessageKind) (c d e a' : ℕ) (b' : MessageKind) (c' d' e' : ℕ) → a ≡ a' → b ≡ b' → c ≡ c' → d ≡ d' → e ≡ e'
+    → header_of a b c d e ≡ header_of a' b' c' d' e'
 same_fields a b c d e a' b' c' d' e' p q r s t = cc
 
 -- headers with the same fields
 pub same_header : (v w : MessageHeader) → v.crc32 ≡ w.crc32 → v.kind ≡ w.kind → v.len ≡ w.len → v.segment_number.0 ≡ w.segment_number.0 → v.pid ≡ w.pid → v ≡ w
 unfolding header_of
 same_header v w p q r s t =
-    let both : header_of v.crc32 v.kind v.segment_number.0 v.pid v.len ≡ header_of w.crc32 w.kind w.segment_number.0 w.pid w.len = same_fields _ _ _ _ _ _ _ _ _ _ p q s t r in
+    let both : header_of v.crc32 v.kind v.segment_number.0 v.pid v.len ≡ header_of w.crc32 w.kind w.segment_number.0 w.pid w.len =
+    same_fields _ _ _ _ _ _ _ _ _ _ p q s t r in
     both
 
 -- headers at the front of one text have the same parts
@@ -135,10 +142,15 @@ one_value-header text v w p q =
 
 -- Lengths.
 
-pub length-short_header_tail : (kind : MessageKind) (len number page : ℕ) → length (short_header_tail kind len number page) ≡ 1 + length (short_number len) + length (short_number number) + length (short_number page)
+pub length-short_header_tail : (kind : MessageKind) (len number page : ℕ)
+    → length (short_header_tail kind len number page) ≡ 1 + length (short_number len) + length (short_number number) + length (short_number page)
 unfolding short_header_tail
 length-short_header_tail kind len number page =
-    omega (arith, length-append ((code_of kind ∷ short_number len) ++ short_number number) (short_number page), length-append (code_of kind ∷ short_number len) (short_number number))
+    omega (
+      arith,
+      length-append ((code_of kind ∷ short_number len) ++ short_number number) (short_number page),
+      length-append (code_of kind ∷ short_number len) (short_number number),
+    )
 
 pub length-short_message_header : (h : MessageHeader) → length (short_message_header h) ≡ 4 + length (short_header_tail h.kind h.len h.segment_number.0 h.pid)
 unfolding short_message_header

@@ -7,7 +7,8 @@ use Rattle.std.specs.declared.cmp.Ordering.TheVariants.{Less, Equal, Greater}
 use Rattle.std.specs.Ordering.{is_lt, is_eq}
 use Rattle.std.specs.Cmp.Lexicographic.{nat_list_cmp_total}
 use Rattle.std.specs.FinMap.Entries.{below_all}
-use Rattle.std.specs.FinMap.{entries, entries_sorted, get, get-entries, get-empty, get-insert, get-from_entries, from_entries_push, same_map, from_entries, nat_cmp-IsAntisymmetric, slice_cmp-IsAntisymmetric, IsAntisymmetric, find, is_sorted}
+use Rattle.std.specs.FinMap.{entries, entries_sorted, get, get-entries, get-empty, get-insert, get-from_entries, from_entries_push, same_map, from_entries}
+use Rattle.std.specs.FinMap.{nat_cmp-IsAntisymmetric, slice_cmp-IsAntisymmetric, IsAntisymmetric, find, is_sorted}
 use Rattle.sled_codec.specs.Spelling.{SpellsNumber, short_number, SpellsBytes, short_bytes}
 use Rattle.sled_codec.specs.SpellingLaws.{short_spells-number, one_value-number, no_front-number, short_spells-bytes, one_value-bytes, no_front-bytes}
 use Rattle.sled_codec.specs.PairLaws.{OneValue, NoFront, no_front-both, one_value-both}
@@ -20,7 +21,8 @@ same_names = slice_cmp-IsAntisymmetric nat_cmp-IsAntisymmetric
 -- One name and its number.
 
 pub short_spells-named : (p : Named) → FitsNamed p → SpellsNamed (short_named p) p
-short_spells-named p fits = record { first = short_bytes p.0; second = short_number p.1; front = short_spells-bytes p.0 fits.0; back = short_spells-number p.1 fits.1; is = refl }
+short_spells-named p fits =
+    record { first = short_bytes p.0; second = short_number p.1; front = short_spells-bytes p.0 fits.0; back = short_spells-number p.1 fits.1; is = refl }
 
 pub no_front-named : NoFront SpellsNamed
 no_front-named = no_front-both SpellsBytes SpellsNumber no_front-bytes no_front-number
@@ -68,14 +70,16 @@ turned_found : (es : List Named) (q : List ℕ) → T (is_sorted name_cmp es) �
 turned_found [] q rise = get-empty name_cmp q
 turned_found (e ∷ es) q rise =
     let tests = both_tests (below_all name_cmp e.0 es) (is_sorted name_cmp es) rise in
-    let none : find name_cmp e.0 (reverse es) ≡ None = sym (get-from_entries nat_list_cmp_total (reverse es) e.0) ∙ turned_found es e.0 tests.1 ∙ none_below e.0 es tests.0 in
+    let none : find name_cmp e.0 (reverse es) ≡ None =
+    sym (get-from_entries nat_list_cmp_total (reverse es) e.0) ∙ turned_found es e.0 tests.1 ∙ none_below e.0 es tests.0 in
     ap (λ (ps : List Named). get {R = name_cmp} (from_entries ps) q) (reverse-append (e ∷ []) es)
     ∙ ap (λ (m : Numbers). get m q) (from_entries_push nat_list_cmp_total same_names (reverse es) e.0 e.1 none)
     ∙ get-insert nat_list_cmp_total (from_entries (reverse es)) e.0 e.1 q
     ∙ ap (cond (is_eq (name_cmp q e.0)) (Some e.1)) (turned_found es q tests.1)
 
 turned : (m : Numbers) → m ≡ from_entries (reverse (entries m))
-turned m = same_map nat_list_cmp_total same_names m (from_entries (reverse (entries m))) (λ q. get-entries m q ∙ sym (turned_found (entries m) q (entries_sorted m)))
+turned m =
+    same_map nat_list_cmp_total same_names m (from_entries (reverse (entries m))) (λ q. get-entries m q ∙ sym (turned_found (entries m) q (entries_sorted m)))
 
 pub short_spells-meta : (m : Numbers) → FitsMeta m → SpellsMeta (short_meta m) m
 short_spells-meta m fits = record {

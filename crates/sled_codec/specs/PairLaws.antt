@@ -14,7 +14,8 @@ NoFront {V} Spells = (a b x y : List ℕ) (v w : V) → Spells a v → Spells b 
 
 module _ {V W : Type 0} (A : List ℕ → V → Type 0) (B : List ℕ → W → Type 0) (no_front_a : NoFront A) where
   -- the first parts of two pairs at the front of one text are the same
-  pub same_firsts : (a b x y : List ℕ) (v v' : V) (w w' : W) (p : SpellsPair A B a v w) (q : SpellsPair A B b v' w') → a ++ x ≡ b ++ y → p.first ++ (p.second ++ x) ≡ q.first ++ (q.second ++ y)
+  pub same_firsts : (a b x y : List ℕ) (v v' : V) (w w' : W) (p : SpellsPair A B a v w) (q : SpellsPair A B b v' w') → a ++ x ≡ b ++ y
+      → p.first ++ (p.second ++ x) ≡ q.first ++ (q.second ++ y)
   same_firsts a b x y v v' w w' p q is =
       sym (append_assoc p.first p.second x) ∙ ap (λ (l : List ℕ). l ++ x) (sym p.is) ∙ is ∙ ap (λ (l : List ℕ). l ++ y) q.is ∙ append_assoc q.first q.second y
 
@@ -24,7 +25,8 @@ module _ {V W : Type 0} (A : List ℕ → V → Type 0) (B : List ℕ → W → 
   pub no_front-pair : NoFront B → (a b x y : List ℕ) (v v' : V) (w w' : W) → SpellsPair A B a v w → SpellsPair A B b v' w' → a ++ x ≡ b ++ y → a ≡ b
   no_front-pair no_front_b a b x y v v' w w' p q is =
       let firsts = first_of_pair a b x y v v' w w' p q is in
-      let seconds : p.second ≡ q.second = no_front_b p.second q.second x y w w' p.back q.back (same_rests p.first q.first _ _ firsts (same_firsts a b x y v v' w w' p q is)) in
+      let seconds : p.second ≡ q.second =
+      no_front_b p.second q.second x y w w' p.back q.back (same_rests p.first q.first _ _ firsts (same_firsts a b x y v v' w w' p q is)) in
       p.is ∙ ap (λ (l : List ℕ). l ++ p.second) firsts ∙ ap (λ (l : List ℕ). q.first ++ l) seconds ∙ sym q.is
 
   pub one_first-pair : OneValue A → (text : List ℕ) (v v' : V) (w w' : W) → SpellsPair A B text v w → SpellsPair A B text v' w' → v ≡ v'
@@ -50,11 +52,13 @@ module _ {V W : Type 0} (A : List ℕ → V → Type 0) (B : List ℕ → W → 
 
 -- Three spellings.
 module _ {V W X : Type 0} (A : List ℕ → V → Type 0) (B : List ℕ → W → Type 0) (C : List ℕ → X → Type 0) (no_front_a : NoFront A) (no_front_b : NoFront B) where
-  pub no_front-triple : NoFront C → (a b x y : List ℕ) (v w : V × W × X) → SpellsTriple A B C a v.0 v.1 v.2 → SpellsTriple A B C b w.0 w.1 w.2 → a ++ x ≡ b ++ y → a ≡ b
+  pub no_front-triple : NoFront C → (a b x y : List ℕ) (v w : V × W × X) → SpellsTriple A B C a v.0 v.1 v.2 → SpellsTriple A B C b w.0 w.1 w.2
+      → a ++ x ≡ b ++ y → a ≡ b
   no_front-triple no_front_c a b x y v w =
       no_front-pair (SpellsBoth A B) C (no_front-both A B no_front_a no_front_b) no_front_c a b x y (v.0, v.1) (w.0, w.1) v.2 w.2
 
-  pub one_value-triple : OneValue A → OneValue B → OneValue C → (text : List ℕ) (v w : V × W × X) → SpellsTriple A B C text v.0 v.1 v.2 → SpellsTriple A B C text w.0 w.1 w.2 → v ≡ w
+  pub one_value-triple : OneValue A → OneValue B → OneValue C → (text : List ℕ) (v w : V × W × X) → SpellsTriple A B C text v.0 v.1 v.2
+      → SpellsTriple A B C text w.0 w.1 w.2 → v ≡ w
   one_value-triple one_a one_b one_c text v w p q =
       let both = no_front-both A B no_front_a no_front_b in
       let firsts = one_first-pair (SpellsBoth A B) C both (one_value-both A B no_front_a one_a one_b) text (v.0, v.1) (w.0, w.1) v.2 w.2 p q in

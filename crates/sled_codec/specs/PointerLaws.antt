@@ -11,7 +11,14 @@ pub short_spells-pointer : (p : DiskPtr) → FitsPointer p → SpellsPointer (sh
 short_spells-pointer (Inline lid) fits = record { rest = short_number lid; spelled = short_spells-number lid fits; is = refl }
 short_spells-pointer (Blob lid place) fits = record {
   rest = short_number lid ++ short_signed place;
-  spelled = record { first = short_number lid; second = short_signed place; front = short_spells-number lid fits.0; back = short_spells-signed place fits.1; is = refl };
+  spelled =
+      record {
+        first = short_number lid;
+        second = short_signed place;
+        front = short_spells-number lid fits.0;
+        back = short_spells-signed place fits.1;
+        is = refl;
+      };
   is = refl;
 }
 
@@ -29,7 +36,8 @@ no_front-pointer a b x y (Inline v) (Inline w) p q is =
     p.is ∙ ap (λ (l : List ℕ). 0 ∷ l) (no_front-number p.rest q.rest x y v w p.spelled q.spelled rests) ∙ sym q.is
 no_front-pointer a b x y (Blob v i) (Blob w j) p q is =
     let rests = tail_of _ _ 1 1 (same_behind a b x y p.rest q.rest 1 1 p.is q.is is) in
-    p.is ∙ ap (λ (l : List ℕ). 1 ∷ l) (no_front-pair SpellsNumber SpellsSigned no_front-number no_front-signed p.rest q.rest x y v w i j p.spelled q.spelled rests) ∙ sym q.is
+    p.is ∙ ap (λ (l : List ℕ). 1 ∷ l)
+    (no_front-pair SpellsNumber SpellsSigned no_front-number no_front-signed p.rest q.rest x y v w i j p.spelled q.spelled rests) ∙ sym q.is
 no_front-pointer a b x y (Inline v) (Blob w j) p q is = let both = same_behind a b x y p.rest q.rest 0 1 p.is q.is is in cc
 no_front-pointer a b x y (Blob v i) (Inline w) p q is = let both = same_behind a b x y p.rest q.rest 1 0 p.is q.is is in cc
 

@@ -11,7 +11,13 @@ use Rattle.sled_codec.specs.Sums.{flipped}
 -- A record: a header that announces the body and carries the sum of the body and of its own rest, and then the body.
 pub record IsRecord (sum : List ℕ → ℕ) (text : List ℕ) (kind : MessageKind) (page number : ℕ) (body : List ℕ) : Type 0 where
   pub header : List ℕ
-  pub spelled : SpellsMessageHeader header (record { crc32 = flipped (sum (body ++ drop 4 header)); kind = kind; segment_number = record { 0 = number }; pid = page; len = length body })
+  pub spelled : SpellsMessageHeader header (record {
+    crc32 = flipped (sum (body ++ drop 4 header));
+    kind = kind;
+    segment_number = record { 0 = number };
+    pid = page;
+    len = length body;
+  })
   pub is : text ≡ header ++ body
   pub valid : kind ≢ Corrupted
 

@@ -5,13 +5,17 @@ use Rattle.std.specs.Int.{w64, cast_unsigned}
 use Rattle.std.proofs.Common.{sym, ◌∙◌, ap, arith, length-append}
 use Rattle.sled_codec.specs.declared.result.DiskPtr.{DiskPtr}
 use Rattle.sled_codec.specs.declared.result.DiskPtr.TheVariants.{Inline, Blob}
-use Rattle.sled_codec.specs.Spelling.{SpellsNumber, SpellsSigned, short_number, short_signed, or_zero, or_zero_signed, SpellsBoth, SpellsEach, SpellsPointer, FitsPointer, short_pointer}
-use Rattle.sled_codec.specs.SpellingLaws.{short_spells-number, one_value-number, no_front-number, short_spells-signed, one_value-signed, no_front-signed, length-low_bytes, length-short_number}
+use Rattle.sled_codec.specs.Spelling.{SpellsNumber, SpellsSigned, short_number, short_signed, or_zero, or_zero_signed, SpellsBoth, SpellsEach, SpellsPointer}
+use Rattle.sled_codec.specs.Spelling.{FitsPointer, short_pointer}
+use Rattle.sled_codec.specs.SpellingLaws.{short_spells-number, one_value-number, no_front-number, short_spells-signed, one_value-signed, no_front-signed}
+use Rattle.sled_codec.specs.SpellingLaws.{length-low_bytes, length-short_number}
 use Rattle.sled_codec.specs.PointerLaws.{short_spells-pointer, one_value-pointer, no_front-pointer, same_behind, tail_of}
-use Rattle.sled_codec.specs.PairLaws.{OneValue, NoFront, no_front-pair, one_first-pair, one_second-pair, no_front-triple, one_value-triple, no_front-both, one_value-both}
+use Rattle.sled_codec.specs.PairLaws.{OneValue, NoFront, no_front-pair, one_first-pair, one_second-pair, no_front-triple, one_value-triple, no_front-both}
+use Rattle.sled_codec.specs.PairLaws.{one_value-both}
 use Rattle.sled_codec.specs.OptionLaws.{one_value-option, one_value-option_signed}
 use Rattle.sled_codec.specs.EachLaws.{NoneEmpty, short_spells-each, no_front-each, one_value-each, one_value-all}
-use Rattle.sled_codec.specs.Snapshots.{Entry, Page, Present, Free, Uninitialized, SnapshotModel, SpellsEntry, FitsEntry, short_entry, SpellsPage, FitsPage, short_page, SpellsSnapshot, FitsSnapshot, short_snapshot}
+use Rattle.sled_codec.specs.Snapshots.{Entry, Page, Present, Free, Uninitialized, SnapshotModel, SpellsEntry, FitsEntry, short_entry, SpellsPage, FitsPage}
+use Rattle.sled_codec.specs.Snapshots.{short_page, SpellsSnapshot, FitsSnapshot, short_snapshot}
 
 -- Entries.
 
@@ -19,7 +23,14 @@ pub short_spells-entry : (e : Entry) → FitsEntry e → SpellsEntry (short_entr
 short_spells-entry e fits = record {
   first = short_signed e.0 ++ short_pointer e.1;
   second = short_number e.2;
-  front = record { first = short_signed e.0; second = short_pointer e.1; front = short_spells-signed e.0 fits.0; back = short_spells-pointer e.1 fits.1; is = refl };
+  front =
+      record {
+        first = short_signed e.0;
+        second = short_pointer e.1;
+        front = short_spells-signed e.0 fits.0;
+        back = short_spells-pointer e.1 fits.1;
+        is = refl;
+      };
   back = short_spells-number e.2 fits.2;
   is = refl;
 }
@@ -49,24 +60,34 @@ short_spells-page (Present base frags) fits = (
 )
 short_spells-page (Free place pointer) fits = record {
   rest = short_signed place ++ short_pointer pointer;
-  spelled = record { first = short_signed place; second = short_pointer pointer; front = short_spells-signed place fits.0; back = short_spells-pointer pointer fits.1; is = refl };
+  spelled =
+      record {
+        first = short_signed place;
+        second = short_pointer pointer;
+        front = short_spells-signed place fits.0;
+        back = short_spells-pointer pointer fits.1;
+        is = refl;
+      };
   is = refl;
 }
 short_spells-page Uninitialized fits = absurd fits
 
 -- two pages with entries at the front of one text have equally many
-same_count : (a b x y : List ℕ) (base base' : Entry) (frags frags' : List Entry) (p : SpellsPage a (Present base frags)) (q : SpellsPage b (Present base' frags')) → a ++ x ≡ b ++ y → length (base ∷ frags) ≡ length (base' ∷ frags')
+same_count : (a b x y : List ℕ) (base base' : Entry) (frags frags' : List Entry) (p : SpellsPage a (Present base frags))
+    (q : SpellsPage b (Present base' frags')) → a ++ x ≡ b ++ y → length (base ∷ frags) ≡ length (base' ∷ frags')
 same_count a b x y base base' frags frags' p q is =
     let both = same_behind a b x y p.1.rest q.1.rest (1 + length frags) (1 + length frags') p.1.is q.1.is is in
     let counts : 1 + length frags ≡ 1 + length frags' = cc in
     omega arith
 
-same_entries : (a b x y : List ℕ) (base base' : Entry) (frags frags' : List Entry) (p : SpellsPage a (Present base frags)) (q : SpellsPage b (Present base' frags')) → a ++ x ≡ b ++ y → p.1.rest ++ x ≡ q.1.rest ++ y
+same_entries : (a b x y : List ℕ) (base base' : Entry) (frags frags' : List Entry) (p : SpellsPage a (Present base frags))
+    (q : SpellsPage b (Present base' frags')) → a ++ x ≡ b ++ y → p.1.rest ++ x ≡ q.1.rest ++ y
 same_entries a b x y base base' frags frags' p q is =
     tail_of _ _ (1 + length frags) (1 + length frags') (same_behind a b x y p.1.rest q.1.rest (1 + length frags) (1 + length frags') p.1.is q.1.is is)
 
 -- the first byte of a page with entries is not that of a free one
-apart : (a b x y : List ℕ) (base : Entry) (frags : List Entry) (place : ℤ) (pointer : DiskPtr) → SpellsPage a (Present base frags) → SpellsPage b (Free place pointer) → a ++ x ≡ b ++ y → ⊥
+apart : (a b x y : List ℕ) (base : Entry) (frags : List Entry) (place : ℤ) (pointer : DiskPtr) → SpellsPage a (Present base frags)
+    → SpellsPage b (Free place pointer) → a ++ x ≡ b ++ y → ⊥
 apart a b x y base frags place pointer p q is =
     let both = same_behind a b x y p.1.rest q.rest (1 + length frags) 0 p.1.is q.is is in
     let bytes : 1 + length frags ≡ 0 = cc in
@@ -75,7 +96,9 @@ apart a b x y base frags place pointer p q is =
 pub no_front-page : NoFront SpellsPage
 no_front-page a b x y (Present base frags) (Present base' frags') p q is =
     let counts = same_count a b x y base base' frags frags' p q is in
-    let rests = no_front-each SpellsEntry no_front-entry p.1.rest q.1.rest x y (base ∷ frags) (base' ∷ frags') counts p.1.spelled q.1.spelled (same_entries a b x y base base' frags frags' p q is) in
+    let rests =
+    no_front-each SpellsEntry no_front-entry p.1.rest q.1.rest x y (base ∷ frags) (base' ∷ frags') counts p.1.spelled q.1.spelled
+    (same_entries a b x y base base' frags frags' p q is) in
     let bytes : 1 + length frags ≡ 1 + length frags' = omega arith in
     p.1.is ∙ ap (λ n. n ∷ p.1.rest) bytes ∙ ap (λ (l : List ℕ). (1 + length frags') ∷ l) rests ∙ sym q.1.is
 no_front-page a b x y (Present base frags) (Free place pointer) p q is = absurd (apart a b x y base frags place pointer p q is)
@@ -83,7 +106,8 @@ no_front-page a b x y (Free place pointer) (Present base frags) p q is = absurd 
 no_front-page a b x y (Free place pointer) (Free place' pointer') p q is =
     let rests = tail_of _ _ 0 0 (same_behind a b x y p.rest q.rest 0 0 p.is q.is is) in
     p.is
-    ∙ ap (λ (l : List ℕ). 0 ∷ l) (no_front-pair SpellsSigned SpellsPointer no_front-signed no_front-pointer p.rest q.rest x y place place' pointer pointer' p.spelled q.spelled rests)
+    ∙ ap (λ (l : List ℕ). 0 ∷ l)
+    (no_front-pair SpellsSigned SpellsPointer no_front-signed no_front-pointer p.rest q.rest x y place place' pointer pointer' p.spelled q.spelled rests)
     ∙ sym q.is
 no_front-page a b x y Uninitialized w p q is = absurd p
 no_front-page a b x y (Present base frags) Uninitialized p q is = absurd q
@@ -99,7 +123,8 @@ pub one_value-page : OneValue SpellsPage
 one_value-page text (Present base frags) (Present base' frags') p q =
     let counts = same_count text text [] [] base base' frags frags' p q refl in
     let rests = tail_of p.1.rest q.1.rest (1 + length frags) (1 + length frags') (sym p.1.is ∙ q.1.is) in
-    let entries = one_value-each SpellsEntry no_front-entry one_value-entry q.1.rest (base ∷ frags) (base' ∷ frags') counts (rw rests at p.1.spelled) q.1.spelled in
+    let entries =
+    one_value-each SpellsEntry no_front-entry one_value-entry q.1.rest (base ∷ frags) (base' ∷ frags') counts (rw rests at p.1.spelled) q.1.spelled in
     let bases = head_of base base' frags frags' entries in
     let others = others_of base base' frags frags' entries in
     λ i. Present (bases i) (others i)
@@ -135,7 +160,14 @@ length-short_pointer (Blob lid place) fits =
 pub length-short_entry : (e : Entry) → FitsEntry e → length (short_entry e) ≤ 35
 length-short_entry e fits =
     let numbers = length-short_number e.2 fits.2 in
-    omega (arith, numbers.1, length-append (short_signed e.0 ++ short_pointer e.1) (short_number e.2), length-append (short_signed e.0) (short_pointer e.1), length-short_signed e.0, length-short_pointer e.1 fits.1)
+    omega (
+      arith,
+      numbers.1,
+      length-append (short_signed e.0 ++ short_pointer e.1) (short_number e.2),
+      length-append (short_signed e.0) (short_pointer e.1),
+      length-short_signed e.0,
+      length-short_pointer e.1 fits.1,
+    )
 
 pub length-short_entries : (es : List Entry) → All FitsEntry es → length (flat_map short_entry es) ≤ 35 * length es
 length-short_entries [] all = omega arith
@@ -172,7 +204,9 @@ unfolding short_snapshot
 length-short_snapshot s = length-append (short_coords s) (flat_map short_page s.pages)
 
 -- the pair of them has a spelling
-pub fits_coords : (s : SnapshotModel) → FitsSigned w64 (or_zero_signed s.stable) → or_zero s.active < 2 ^ 64 → FitsSigned w64 (or_zero_signed s.stable) × (or_zero s.active < 2 ^ 64) × (length (short_signed (or_zero_signed s.stable)) + length (short_number (or_zero s.active)) < 2 ^ 64)
+pub fits_coords : (s : SnapshotModel) → FitsSigned w64 (or_zero_signed s.stable) → or_zero s.active < 2 ^ 64
+    → FitsSigned w64 (or_zero_signed s.stable) × (or_zero s.active < 2 ^ 64)
+    × (length (short_signed (or_zero_signed s.stable)) + length (short_number (or_zero s.active)) < 2 ^ 64)
 fits_coords s stable active =
     let long = length-short_number (or_zero s.active) active in
     (stable, active, omega (arith, long.1, length-short_signed (or_zero_signed s.stable)))
@@ -195,6 +229,14 @@ one_value-snapshot text v w p q =
     let both = no_front-both SpellsStable SpellsActive no_front-stable no_front-active in
     let one_both = one_value-both SpellsStable SpellsActive no_front-stable one_value-option_signed one_value-option in
     let pages = one_value-all SpellsPage no_front-page one_value-page some-page in
-    let firsts = one_first-pair (SpellsBoth SpellsStable SpellsActive) (SpellsEach SpellsPage) both one_both text (v.stable, v.active) (w.stable, w.active) v.pages w.pages p q in
-    let thirds = one_second-pair (SpellsBoth SpellsStable SpellsActive) (SpellsEach SpellsPage) both pages text (v.stable, v.active) (w.stable, w.active) v.pages w.pages p q in
+    let firsts =
+    one_first-pair (SpellsBoth SpellsStable SpellsActive) (SpellsEach SpellsPage) both one_both text (v.stable, v.active) (
+      w.stable,
+      w.active,
+    ) v.pages w.pages p q in
+    let thirds =
+    one_second-pair (SpellsBoth SpellsStable SpellsActive) (SpellsEach SpellsPage) both pages text (v.stable, v.active) (
+      w.stable,
+      w.active,
+    ) v.pages w.pages p q in
     λ i. record { stable = (firsts i).0; active = (firsts i).1; pages = thirds i }

@@ -6,7 +6,8 @@ use Rattle.sled_codec.specs.declared.result.DiskPtr.{DiskPtr}
 use Rattle.sled_codec.specs.declared.serialization.snapshot.PageState.{PageState}
 use Rattle.sled_codec.specs.declared.serialization.snapshot.PageState.TheVariants as state
 use Rattle.sled_codec.specs.declared.serialization.snapshot.Snapshot.{Snapshot}
-use Rattle.sled_codec.specs.Spelling.{SpellsNumber, SpellsSigned, short_number, short_signed, or_zero, or_zero_signed, SpellsPair, SpellsTriple, SpellsEach, Tagged, SpellsPointer, FitsPointer, short_pointer}
+use Rattle.sled_codec.specs.Spelling.{SpellsNumber, SpellsSigned, short_number, short_signed, or_zero, or_zero_signed, SpellsPair, SpellsTriple, SpellsEach}
+use Rattle.sled_codec.specs.Spelling.{Tagged, SpellsPointer, FitsPointer, short_pointer}
 
 -- where a message of a page lies: its place, its pointer, and how long its record is
 abbrev pub Entry : Type 0
@@ -40,7 +41,8 @@ abbrev pub SpellsEntry : List ℕ → Entry → Type 0
 SpellsEntry text e = SpellsTriple SpellsSigned SpellsPointer SpellsNumber text e.0 e.1 e.2
 
 abbrev pub FitsEntry : Entry → Type 0
-FitsEntry e = FitsSigned w64 e.0 × FitsPointer e.1 × (e.2 < 2 ^ 64) × (length (short_signed e.0) + length (short_pointer e.1) + length (short_number e.2) < 2 ^ 64)
+FitsEntry e =
+    FitsSigned w64 e.0 × FitsPointer e.1 × (e.2 < 2 ^ 64) × (length (short_signed e.0) + length (short_pointer e.1) + length (short_number e.2) < 2 ^ 64)
 
 abbrev pub short_entry : Entry → List ℕ
 short_entry e = short_signed e.0 ++ short_pointer e.1 ++ short_number e.2
@@ -65,7 +67,8 @@ short_page Uninitialized = []
 -- A snapshot: the place and the segment as numbers that may be missing, and the pages up to the end of the text.
 
 abbrev pub SpellsSnapshot : List ℕ → SnapshotModel → Type 0
-SpellsSnapshot text s = SpellsTriple (λ t v. SpellsSigned t (or_zero_signed v)) (λ t v. SpellsNumber t (or_zero v)) (SpellsEach SpellsPage) text s.stable s.active s.pages
+SpellsSnapshot text s =
+    SpellsTriple (λ t v. SpellsSigned t (or_zero_signed v)) (λ t v. SpellsNumber t (or_zero v)) (SpellsEach SpellsPage) text s.stable s.active s.pages
 
 unfoldable pub short_snapshot : SnapshotModel → List ℕ
 short_snapshot s = short_signed (or_zero_signed s.stable) ++ short_number (or_zero s.active) ++ flat_map short_page s.pages

@@ -1,6 +1,7 @@
 -- The grammar of the formats. A spelling relates a whole text, a list of bytes, to the value that it stands for.
 -- The short spelling is the one that is written. A number may have longer ones, which are read all the same.
-use Rattle.std.specs.Prelude.{◌≡◌, ◌+◌, ◌-◌, ◌*◌, ◌/◌, ◌%◌, ◌^◌, ◌<◌, ℕ, ℤ, if◌then◌else◌, nat_le, nat_lt, ◌==◌, List, [], ◌∷◌, ◌++◌, length, take, slice_index, FitsSigned, Bool, true, false, Option, None, Some, pos, negsuc}
+use Rattle.std.specs.Prelude.{◌≡◌, ◌+◌, ◌-◌, ◌*◌, ◌/◌, ◌%◌, ◌^◌, ◌<◌, ℕ, ℤ, if◌then◌else◌, nat_le, nat_lt, ◌==◌, List, [], ◌∷◌, ◌++◌, length, take, slice_index}
+use Rattle.std.specs.Prelude.{FitsSigned, Bool, true, false, Option, None, Some, pos, negsuc}
 use Rattle.std.specs.List.{All, flat_map}
 use Rattle.std.specs.Int.{w64, to_le_bytes, from_le_bytes, cast_unsigned}
 use Rattle.sled_codec.specs.declared.serialization.message.MessageHeader.{MessageHeader}
@@ -60,7 +61,9 @@ SpellsNumber (lead ∷ more) v = (length more ≡ more_bytes lead) × (v ≡ num
 
 -- how many bytes hold v, three at least
 abbrev pub byte_count : ℕ → ℕ
-byte_count v = if nat_lt v (2 ^ 24) then 3 else if nat_lt v (2 ^ 32) then 4 else if nat_lt v (2 ^ 40) then 5 else if nat_lt v (2 ^ 48) then 6 else if nat_lt v (2 ^ 56) then 7 else 8
+byte_count v =
+    if nat_lt v (2 ^ 24) then 3 else if nat_lt v (2 ^ 32) then 4 else if nat_lt v (2 ^ 40) then 5 else if nat_lt v (2 ^ 48) then 6
+    else if nat_lt v (2 ^ 56) then 7 else 8
 
 unfoldable pub short_number : ℕ → List ℕ
 short_number v =

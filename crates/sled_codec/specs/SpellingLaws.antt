@@ -6,7 +6,8 @@ use Rattle.std.proofs.lemmas.List.{take_at, append_cancel_left}
 use Rattle.std.proofs.lemmas.Bool.{cases_lt}
 use Rattle.std.proofs.lemmas.Int.{ints, to_z-of_z}
 use Rattle.std.proofs.lemmas.Bool.Decides.{nat_tests}
-use Rattle.sled_codec.specs.Spelling.{low_bytes, low_first, SpellsFixed, SpellsByte, SpellsSigned, short_signed, more_bytes, number_of, SpellsNumber, byte_count, short_number, SpellsBytes, short_bytes}
+use Rattle.sled_codec.specs.Spelling.{low_bytes, low_first, SpellsFixed, SpellsByte, SpellsSigned, short_signed, more_bytes, number_of, SpellsNumber}
+use Rattle.sled_codec.specs.Spelling.{byte_count, short_number, SpellsBytes, short_bytes}
 
 -- Fronts.
 
@@ -103,7 +104,8 @@ short_many v least = grind (arith, nat_tests)
 pub ruleset short_cases = (short_one, short_two, short_three, short_many, length-low_bytes)
 
 -- what a lead byte and the bytes behind it spell
-pub spells_lead : (lead : ℕ) (more : List ℕ) (v : ℕ) → length more ≡ more_bytes lead → v ≡ number_of lead more → v < 2 ^ 64 → lead < 2 ^ 8 → SpellsNumber (lead ∷ more) v
+pub spells_lead : (lead : ℕ) (more : List ℕ) (v : ℕ) → length more ≡ more_bytes lead → v ≡ number_of lead more → v < 2 ^ 64 → lead < 2 ^ 8
+    → SpellsNumber (lead ∷ more) v
 unfolding SpellsNumber
 spells_lead lead more v long value small byte = (long, value, small, byte)
 
@@ -163,7 +165,8 @@ pub short_spells-number : (v : ℕ) → v < 2 ^ 64 → SpellsNumber (short_numbe
 short_spells-number v small = short_by_cases v small (cases_lt 240 v) (cases_lt 2287 v) (cases_lt 67823 v)
 
 -- one byte at least and nine at most
-length_by_cases : (v : ℕ) → v < 2 ^ 64 → (240 < v) ⊎ (v ≤ 240) → (2287 < v) ⊎ (v ≤ 2287) → (67823 < v) ⊎ (v ≤ 67823) → (1 ≤ length (short_number v)) × (length (short_number v) ≤ 9)
+length_by_cases : (v : ℕ) → v < 2 ^ 64 → (240 < v) ⊎ (v ≤ 240) → (2287 < v) ⊎ (v ≤ 2287) → (67823 < v) ⊎ (v ≤ 67823)
+    → (1 ≤ length (short_number v)) × (length (short_number v) ≤ 9)
 length_by_cases v small (inr most) y z = rw (short_one v most) (omega arith, omega arith)
 length_by_cases v small (inl least) (inr most) z = rw (short_two v least most) (omega arith, omega arith)
 length_by_cases v small (inl _) (inl least) (inr most) = rw (short_three v least most) (omega arith, omega arith)

@@ -1,5 +1,6 @@
 -- What the code of an iterator keeps of the segments that it reads, and what is ahead of it.
-use Rattle.std.specs.Prelude.{◌≡◌, ◌≢◌, ◌+◌, ◌-◌, ◌*◌, ◌^◌, ◌%◌, ◌≤◌, ◌<◌, ℕ, ℤ, Bool, true, false, List, [], ◌∷◌, length, drop, Option, Some, None, Result, Ok, Err, Contains}
+use Rattle.std.specs.Prelude.{◌≡◌, ◌≢◌, ◌+◌, ◌-◌, ◌*◌, ◌^◌, ◌%◌, ◌≤◌, ◌<◌, ℕ, ℤ, Bool, true, false, List, [], ◌∷◌, length, drop, Option, Some, None, Result, Ok}
+use Rattle.std.specs.Prelude.{Err, Contains}
 use Rattle.std.specs.List.{All}
 use Rattle.sled_codec.specs.declared.result.Error.{Error}
 use Rattle.sled_codec.specs.declared.serialization.message.MessageKind.{MessageKind}
@@ -69,7 +70,8 @@ abbrev pub LeftBehind : Bool → (List Item → Damage → Type 0) → List Item
 LeftBehind true on items damage = (items ≡ []) × (damage ≡ Some None)
 LeftBehind false on items damage = on items damage
 
--- What is left gives these messages, and then damage or the end: the records that were read and not given, and then a damaged record, or the segments that were not read. (A strict iterator may have segments whose slots the file doesn't have yet.)
+-- What is left gives these messages, and then damage or the end: the records that were read and not given, and then a damaged record, or the segments that
+-- were not read. (A strict iterator may have segments whose slots the file doesn't have yet.)
 unfoldable pub IsLeft : {D C : Type 0} → (D → Trace) → (List ℕ → ℕ) → RunningConfig D C → Rest → List Item → Damage → Type 0
 IsLeft trace sum config r items damage =
     let size = config.config.segment_size in

@@ -14,9 +14,12 @@ batch_for ticket peg = record { low = unsigned_abs (place_of ticket); peg = unsi
 
 -- A place lies in nothing that fills one of these segments behind its records.
 abbrev pub LiesInNoFilling : ℕ → List SegmentView → ℤ → Type 0
-LiesInNoFilling size line place = (n : ℕ) (v : SegmentView) → slice_get line n ≡ Some v → (place <ℤ pos (v.parts.site.place + records_to v.parts.filled size)) ⊎ (pos (v.parts.site.place + size) ≤ℤ place)
+LiesInNoFilling size line place =
+    (n : ℕ) (v : SegmentView) → slice_get line n ≡ Some v
+    → (place <ℤ pos (v.parts.site.place + records_to v.parts.filled size)) ⊎ (pos (v.parts.site.place + size) ≤ℤ place)
 
--- The batch of a ticket's manifest may end there: not below the manifest, within what was reserved, and in nothing that fills a segment; and it has no place in common with a batch that was noted and isn't wholly on the device.
+-- The batch of a ticket's manifest may end there: not below the manifest, within what was reserved, and in nothing that fills a segment; and it has no
+-- place in common with a batch that was noted and isn't wholly on the device.
 pub record MayEndAt {D C : Type 0} (log : Log D C) (ticket : Reservation) (peg : ℤ) : Type 0 where
   pub above : place_of ticket ≤ℤ peg
   pub reserved : peg <ℤ pos (reserved_end log)
@@ -31,7 +34,8 @@ with_batch_for ticket peg bs = if int_lt (place_of ticket) peg then with_batch (
 abbrev pub EndsBatch : History → Reservation → ℤ → History → Type 0
 EndsBatch H ticket peg H' = ((peg ≡ place_of ticket) × (H' ≡ H)) ⊎ ((place_of ticket <ℤ peg) × Step H (Batched (batch_for ticket peg)) H')
 
--- What runs the log, what is written of it, where it is stable, its failure and its pins stay, and the batch is noted. Where there is one, no more batches are kept then than twice those that aren't wholly on the device.
+-- What runs the log, what is written of it, where it is stable, its failure and its pins stay, and the batch is noted. Where there is one, no more batches
+-- are kept then than twice those that aren't wholly on the device.
 pub record NotesBatchOf {D C : Type 0} (ticket : Reservation) (peg : ℤ) (old new : Log D C) : Type 0 where
   pub config : config_of new ≡ config_of old
   pub synced : synced_end new ≡ synced_end old

@@ -14,14 +14,17 @@ use Rattle.sled_core.specs.SealedBuffers.{sealed_end}
 abbrev pub FollowOn : ℕ → ℕ → List SegmentBuffer → Type 0
 FollowOn size place [] = Unit {0}
 FollowOn size place (s ∷ ss) =
-    (s.site.place ≡ place) × (length s.buffer.bytes.items ≤ size) × (s.site.place + size < 2 ^ 63) × (s.site.slot + size < 2 ^ 63) × FollowOn size (place + size) ss
+    (s.site.place ≡ place) × (length s.buffer.bytes.items ≤ size) × (s.site.place + size < 2 ^ 63) × (s.site.slot + size < 2 ^ 63)
+    × FollowOn size (place + size) ss
 
 -- A log keeps that as a proposition: there is one proof of it at most.
 pub FollowOn-prop : (size place : ℕ) (ss : List SegmentBuffer) → IsProp (FollowOn size place ss)
 FollowOn-prop size place [] = λ p q. refl
-FollowOn-prop size place (s ∷ ss) = λ p q i. (ℕ_set _ _ p.0 q.0 i, le_prop p.1 q.1 i, le_prop p.2 q.2 i, le_prop p.3 q.3 i, FollowOn-prop size (place + size) ss p.4 q.4 i)
+FollowOn-prop size place (s ∷ ss) =
+    λ p q i. (ℕ_set _ _ p.0 q.0 i, le_prop p.1 q.1 i, le_prop p.2 q.2 i, le_prop p.3 q.3 i, FollowOn-prop size (place + size) ss p.4 q.4 i)
 
--- What a log has of a segment: where it lies, its bytes, how many of them were written without a gap, the buffers that were sealed since, and the reservations since.
+-- What a log has of a segment: where it lies, its bytes, how many of them were written without a gap, the buffers that were sealed since, and the
+-- reservations since.
 pub record SegmentParts : Type 0 where
   pub site : SegmentPosition
   pub bytes : List ℕ
@@ -33,7 +36,8 @@ pub record SegmentParts : Type 0 where
 
 -- the same of what code keeps of it
 abbrev pub parts_at : SegmentPosition → IoBuf → SegmentParts
-parts_at site b = record { site = site; bytes = b.bytes.items; written_len = b.written_len; filled = b.filled; sealed = b.sealed.items; reserved = b.reserved.items }
+parts_at site b =
+    record { site = site; bytes = b.bytes.items; written_len = b.written_len; filled = b.filled; sealed = b.sealed.items; reserved = b.reserved.items }
 
 abbrev pub segment_parts : SegmentBuffer → SegmentParts
 segment_parts s = parts_at s.site s.buffer
@@ -95,15 +99,20 @@ pub IsUnfilled-prop : (o : Option ℕ) → IsProp (IsUnfilled o)
 IsUnfilled-prop None = λ p q. refl
 IsUnfilled-prop (Some from) = λ p q. absurd p
 
--- Segments one behind another, of which what was reserved ends at a place that isn't behind all bytes: in all but the last one each byte is in a sealed buffer or written, and the current buffer begins within the last one. Each reservation begins below that place, and a segment that has more than its header has one. What fills a segment begins where the entries' records end at most, and where the place lies in the segment, or at its end, it isn't behind that; nothing fills the last one.
+-- Segments one behind another, of which what was reserved ends at a place that isn't behind all bytes: in all but the last one each byte is in a sealed
+-- buffer or written, and the current buffer begins within the last one. Each reservation begins below that place, and a segment that has more than its
+-- header has one. What fills a segment begins where the entries' records end at most, and where the place lies in the segment, or at its end, it isn't
+-- behind that; nothing fills the last one.
 abbrev pub AreFilled : ℕ → ℕ → List SegmentView → Type 0
 AreFilled size to [] = Unit {0}
 AreFilled size to (v ∷ []) =
     (begin_of v < size) × (to ≤ v.parts.site.place + length v.parts.bytes) × AreEntered to v.parts.site.place v.parts.reserved
-    × IsUnfilled v.parts.filled × (length v.parts.bytes ≤ records_end v.parts.reserved (length v.parts.bytes)) × IsUsed to v.parts.site.place (length v.parts.bytes)
+    × IsUnfilled v.parts.filled × (length v.parts.bytes ≤ records_end v.parts.reserved (length v.parts.bytes))
+    × IsUsed to v.parts.site.place (length v.parts.bytes)
 AreFilled size to (v ∷ w ∷ vs) =
     (begin_of v ≡ size) × AreEntered to v.parts.site.place v.parts.reserved × AreFilled size to (w ∷ vs)
-    × (records_to v.parts.filled size ≤ records_end v.parts.reserved size) × (to ≤ v.parts.site.place + size → to ≤ v.parts.site.place + records_to v.parts.filled size) × IsUsed to v.parts.site.place (length v.parts.bytes)
+    × (records_to v.parts.filled size ≤ records_end v.parts.reserved size)
+    × (to ≤ v.parts.site.place + size → to ≤ v.parts.site.place + records_to v.parts.filled size) × IsUsed to v.parts.site.place (length v.parts.bytes)
 
 -- The segments that a log has are filled so: the first one, and those behind it.
 abbrev pub IsFilledLine : ℕ → ℕ → SegmentPosition → IoBuf → List SegmentBuffer → Type 0
@@ -115,8 +124,24 @@ AreEntered-prop to place (r ∷ rs) = λ p q i. (λ some. le_prop (p.0 some) (q.
 
 pub AreFilled-prop : (size to : ℕ) (vs : List SegmentView) → IsProp (AreFilled size to vs)
 AreFilled-prop size to [] = λ p q. refl
-AreFilled-prop size to (v ∷ []) = λ p q i. (le_prop p.0 q.0 i, le_prop p.1 q.1 i, AreEntered-prop to v.parts.site.place v.parts.reserved p.2 q.2 i, IsUnfilled-prop v.parts.filled p.3 q.3 i, le_prop p.4 q.4 i, λ some. le_prop (p.5 some) (q.5 some) i)
-AreFilled-prop size to (v ∷ w ∷ vs) = λ p q i. (ℕ_set _ _ p.0 q.0 i, AreEntered-prop to v.parts.site.place v.parts.reserved p.1 q.1 i, AreFilled-prop size to (w ∷ vs) p.2 q.2 i, le_prop p.3 q.3 i, λ low. le_prop (p.4 low) (q.4 low) i, λ some. le_prop (p.5 some) (q.5 some) i)
+AreFilled-prop size to (v ∷ []) =
+    λ p q i. (
+      le_prop p.0 q.0 i,
+      le_prop p.1 q.1 i,
+      AreEntered-prop to v.parts.site.place v.parts.reserved p.2 q.2 i,
+      IsUnfilled-prop v.parts.filled p.3 q.3 i,
+      le_prop p.4 q.4 i,
+      λ some. le_prop (p.5 some) (q.5 some) i,
+    )
+AreFilled-prop size to (v ∷ w ∷ vs) =
+    λ p q i. (
+      ℕ_set _ _ p.0 q.0 i,
+      AreEntered-prop to v.parts.site.place v.parts.reserved p.1 q.1 i,
+      AreFilled-prop size to (w ∷ vs) p.2 q.2 i,
+      le_prop p.3 q.3 i,
+      λ low. le_prop (p.4 low) (q.4 low) i,
+      λ some. le_prop (p.5 some) (q.5 some) i,
+    )
 
 pub IsFilledLine-prop : (size to : ℕ) (site : SegmentPosition) (b : IoBuf) (behind : List SegmentBuffer) → IsProp (IsFilledLine size to site b behind)
 IsFilledLine-prop size to site b behind = AreFilled-prop size to (line_at site b behind)

@@ -1,5 +1,6 @@
 -- The current buffer: which records and which placeholders stand in it, and which messages these are.
-use Rattle.std.specs.Prelude.{suc, ◌≡◌, ◌≢◌, ◌+◌, ◌-◌, ◌≤◌, ◌<◌, ◌^◌, ℕ, Bool, true, false, if◌then◌else◌, List, [], ◌∷◌, ◌++◌, length, drop, replicate, Option, None, Some, is_some, ℤ}
+use Rattle.std.specs.Prelude.{suc, ◌≡◌, ◌≢◌, ◌+◌, ◌-◌, ◌≤◌, ◌<◌, ◌^◌, ℕ, Bool, true, false, if◌then◌else◌, List, [], ◌∷◌, ◌++◌, length, drop, replicate, Option}
+use Rattle.std.specs.Prelude.{None, Some, is_some, ℤ}
 use Rattle.sled_codec.specs.declared.result.DiskPtr.{DiskPtr}
 use Rattle.sled_codec.specs.declared.result.DiskPtr.TheVariants.{Inline, Blob}
 use Rattle.sled_codec.specs.declared.serialization.message.LogKind.TheVariants.{Skip}
@@ -35,7 +36,8 @@ text_in bytes r = part bytes r.from r.len
 abbrev pub body_in : List ℕ → Reserved → List ℕ
 body_in bytes r = part bytes (r.from + r.header_len) (r.len - r.header_len)
 
--- Where the item of a message is in a blob of a place, if in one: where the message lies whose record begins at an offset, what the log has of its item, whose place the record's body spells then.
+-- Where the item of a message is in a blob of a place, if in one: where the message lies whose record begins at an offset, what the log has of its item,
+-- whose place the record's body spells then.
 
 abbrev pub pointer_as : Option ℤ → ℕ → DiskPtr
 pointer_as None lid = Inline lid
@@ -51,7 +53,15 @@ SpellsBlob (Some place) body = SpellsSigned body place
 
 -- the message that it is for, as a log has it that has a segment there
 abbrev pub message_in : SegmentPosition → List ℕ → Reserved → Message
-message_in site bytes r = record { kind = r.log_kind; page = r.page; place = site.place + r.from; pointer = pointer_as r.blob (site.slot + r.from); size = r.len; bytes = item_as r.blob (body_in bytes r) }
+message_in site bytes r =
+    record {
+      kind = r.log_kind;
+      page = r.page;
+      place = site.place + r.from;
+      pointer = pointer_as r.blob (site.slot + r.from);
+      size = r.len;
+      bytes = item_as r.blob (body_in bytes r);
+    }
 
 -- a header with zeros in place of its sum and its kind
 abbrev pub placeholder_head : List ℕ → List ℕ
@@ -61,7 +71,8 @@ placeholder_head head = replicate 5 0 ++ drop 5 head
 abbrev pub placeholder : List ℕ → List ℕ
 placeholder whole = replicate 5 0 ++ drop 5 whole
 
--- What a reservation of this page and kind is to hold, with this body: while it is open a placeholder, then its record, and once it was aborted one that is passed over. The body of a manifest is known once it has ended. (A padding is none.)
+-- What a reservation of this page and kind is to hold, with this body: while it is open a placeholder, then its record, and once it was aborted one that is
+-- passed over. The body of a manifest is known once it has ended. (A padding is none.)
 abbrev pub text_as : (List ℕ → ℕ) → MessageKind → ℕ → ℕ → List ℕ → ReservationState → List ℕ
 text_as sum k page number body Open = placeholder (short_record sum k page number body)
 text_as sum k page number body Completed = short_record sum k page number body
@@ -121,11 +132,23 @@ IsHeaded r = (0 < r.len) × (r.state ≡ Open → (5 ≤ r.header_len) × (r.hea
 
 -- the reservation that is made at an offset for a message, with this sum
 abbrev pub reserved_for : Purpose → ℕ → ℕ → ℕ → ℕ → Reserved
-reserved_for kept at header_len item_len sum = record { from = at; header_len = header_len; len = header_len + item_len; log_kind = kept.log_kind; kind = kept.kind; page = kept.page; sum = sum; blob = kept.blob; state = Open }
+reserved_for kept at header_len item_len sum =
+    record {
+      from = at;
+      header_len = header_len;
+      len = header_len + item_len;
+      log_kind = kept.log_kind;
+      kind = kept.kind;
+      page = kept.page;
+      sum = sum;
+      blob = kept.blob;
+      state = Open;
+    }
 
 -- the entry of what fills a segment of this size from an offset on
 abbrev pub padding_at : ℕ → ℕ → Reserved
-padding_at size from = record { from = from; header_len = 0; len = size - from; log_kind = Skip; kind = kind.Cap; page = 0; sum = 0; blob = None; state = Padding }
+padding_at size from =
+    record { from = from; header_len = 0; len = size - from; log_kind = Skip; kind = kind.Cap; page = 0; sum = 0; blob = None; state = Padding }
 
 -- a sum, flipped, and a kind, with which a record ends its reservation
 abbrev pub ending : ℕ → MessageKind → List ℕ
@@ -145,11 +168,24 @@ canceling sum bytes r = ending_as sum bytes r kind.Canceled
 
 -- the record with which the manifest of a batch ends, from the sum on to the body, which is the peg
 abbrev pub marking : (List ℕ → ℕ) → List ℕ → Reserved → ℕ → List ℕ
-marking sum bytes r peg = ending (sum (low_bytes 8 peg ++ code_of r.kind ∷ part bytes (r.from + 5) (r.header_len - 5))) r.kind ++ part bytes (r.from + 5) (r.header_len - 5) ++ low_bytes 8 peg
+marking sum bytes r peg =
+    ending (sum (low_bytes 8 peg ++ code_of r.kind ∷ part bytes (r.from + 5) (r.header_len - 5))) r.kind ++ part bytes (r.from + 5) (r.header_len - 5)
+    ++ low_bytes 8 peg
 
 -- the reservation once it has ended so
 abbrev pub ended : ReservationState → Reserved → Reserved
-ended state r = record { from = r.from; header_len = r.header_len; len = r.len; log_kind = r.log_kind; kind = r.kind; page = r.page; sum = r.sum; blob = r.blob; state = state }
+ended state r =
+    record {
+      from = r.from;
+      header_len = r.header_len;
+      len = r.len;
+      log_kind = r.log_kind;
+      kind = r.kind;
+      page = r.page;
+      sum = r.sum;
+      blob = r.blob;
+      state = state;
+    }
 
 -- reservations lie one behind another from an offset on, up to an end
 abbrev pub IsChain : ℕ → List Reserved → ℕ → Type 0

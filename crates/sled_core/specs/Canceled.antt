@@ -24,7 +24,8 @@ IsBodyOf m body = IsBodyAt m.pointer m.bytes body
 abbrev pub canceled_record : (List ℕ → ℕ) → ℕ → Message → List ℕ → List ℕ
 canceled_record sum size m body = short_record sum kind.Canceled m.page (m.place / size) body
 
--- Among the buffers that aren't on the device, with the current one as it would be sealed, is the one where the message was to lie; it has that record there, with the message's body and as long as its own.
+-- Among the buffers that aren't on the device, with the current one as it would be sealed, is the one where the message was to lie; it has that record
+-- there, with the message's body and as long as its own.
 pub record WritesCanceled {D C : Type 0} (sum : List ℕ → ℕ) (log : Log D C) (m : Message) : Type 0 where
   pub buffer : BufferAt
   pub waits : Contains (buffers_of sum log) buffer

@@ -20,16 +20,19 @@ abbrev pub IsFault : IoError → Option IoError → Option IoError → ℕ → �
 IsFault e old new before after =
     ((old ≡ Some e) × (new ≡ Some e) × (after ≡ before)) ⊎ ((old ≡ None) × (new ≡ Some e) × (after ≡ (before + 1) % 2 ^ 64) × IsTrue (is_fault e))
 
--- A call that may touch the device: it succeeds, or memory is refused, only where the log keeps no failure and the device had none, and else it answers the failure that is kept.
+-- A call that may touch the device: it succeeds, or memory is refused, only where the log keeps no failure and the device had none, and else it answers the
+-- failure that is kept.
 abbrev pub Answers : {T : Type 0} → Result T Error → Option IoError → Option IoError → ℕ → ℕ → Type 0
 Answers (Ok _) old new before after = (old ≡ None) × (new ≡ None) × (after ≡ before)
 Answers (Err (Io e)) old new before after = IsFault e old new before after
 Answers (Err OutOfMemory) old new before after = (old ≡ None) × (new ≡ None) × (after ≡ before)
 Answers (Err _) old new before after = ⊥
 
--- A call that writes buffers up to one that has an open reservation: as each that may touch the device. Held it is exactly where there is one, and that begins at this place; and places are used up exactly where the call needs a further segment and there is none in reach, before it takes memory.
+-- A call that writes buffers up to one that has an open reservation: as each that may touch the device. Held it is exactly where there is one, and that
+-- begins at this place; and places are used up exactly where the call needs a further segment and there is none in reach, before it takes memory.
 abbrev pub HeldAnswers : {T : Type 0} → Result T Error → Option ℕ → Type 0 → Option IoError → Option IoError → ℕ → ℕ → Type 0
-HeldAnswers (Err (Held at)) held used old new before after = ((place : ℕ) × (held ≡ Some place) × (at ≡ pos place)) × (used → ⊥) × (old ≡ None) × (new ≡ None) × (after ≡ before)
+HeldAnswers (Err (Held at)) held used old new before after =
+    ((place : ℕ) × (held ≡ Some place) × (at ≡ pos place)) × (used → ⊥) × (old ≡ None) × (new ≡ None) × (after ≡ before)
 HeldAnswers (Ok n) held used old new before after = (held ≡ None) × (used → ⊥) × (old ≡ None) × (new ≡ None) × (after ≡ before)
 HeldAnswers (Err PlacesUsedUp) held used old new before after = used × (old ≡ None) × (new ≡ None) × (after ≡ before)
 HeldAnswers (Err OutOfMemory) held used old new before after = (used → ⊥) × (old ≡ None) × (new ≡ None) × (after ≡ before)
@@ -46,7 +49,8 @@ OnDone (Ok _) P = P
 OnDone (Err (Held at)) P = P
 OnDone _ P = Unit {0}
 
--- A call that touches no device: it answers the failure that the log keeps, and succeeds, or wants memory, only where it keeps none. Places are used up exactly where this is so.
+-- A call that touches no device: it answers the failure that the log keeps, and succeeds, or wants memory, only where it keeps none. Places are used up
+-- exactly where this is so.
 abbrev pub FaultOrMemory : {T : Type 0} → Result T Error → Type 0 → Option IoError → Type 0
 FaultOrMemory (Ok _) used fault = (used → ⊥) × (fault ≡ None)
 FaultOrMemory (Err (Io e)) used fault = fault ≡ Some e
@@ -60,7 +64,8 @@ FaultAnswers (Ok _) fault = fault ≡ None
 FaultAnswers (Err (Io e)) fault = fault ≡ Some e
 FaultAnswers (Err _) fault = ⊥
 
--- What a reservation finds: the failure that the log keeps, before and behind it; the kind of its record, or none; how many reservations are open of the buffer that it would be of; whether its item goes to a blob, and what lies under that name; and the device's count of failures, before and behind it.
+-- What a reservation finds: the failure that the log keeps, before and behind it; the kind of its record, or none; how many reservations are open of the
+-- buffer that it would be of; whether its item goes to a blob, and what lies under that name; and the device's count of failures, before and behind it.
 pub record ReserveCauses : Type 0 where
   pub old : Option IoError
   pub new : Option IoError
@@ -84,9 +89,12 @@ pub record IsBlobRefused (e : IoError) (used : Type 0) (at : ReserveCauses) : Ty
   pub in_blob : at.in_blob ≡ true
   pub room : HasRecordPlace used at
   pub none : at.old ≡ None
-  pub refused : ((at.new ≡ Some e) × IsTrue (is_fault e) × (at.after ≡ (at.before + 1) % 2 ^ 64)) ⊎ ((at.new ≡ None) × (error_kind e ≡ AlreadyExists) × IsSome at.file × (at.after ≡ at.before))
+  pub refused : ((at.new ≡ Some e) × IsTrue (is_fault e) × (at.after ≡ (at.before + 1) % 2 ^ 64))
+      ⊎ ((at.new ≡ None) × (error_kind e ≡ AlreadyExists) × IsSome at.file × (at.after ≡ at.before))
 
--- A reservation, which may need a further segment that isn't in reach: the failure that the log keeps comes first, then a kind that the page has no messages of, with an empty text, then that no further segment is in reach or, in the same buffer, that no further reservation may be open, with the least place of those that are, then want of memory, and last that the blob was refused.
+-- A reservation, which may need a further segment that isn't in reach: the failure that the log keeps comes first, then a kind that the page has no
+-- messages of, with an empty text, then that no further segment is in reach or, in the same buffer, that no further reservation may be open, with the least
+-- place of those that are, then want of memory, and last that the blob was refused.
 abbrev pub ReserveAnswers : {T : Type 0} → Result T Error → Type 0 → (ℤ → Type 0) → ReserveCauses → Type 0
 ReserveAnswers (Ok _) used least at = NoFault at × HasRecordPlace used at × (at.in_blob ≡ true → at.file ≡ None)
 ReserveAnswers (Err (Io e)) used least at = ((at.old ≡ Some e) × (at.new ≡ Some e) × (at.after ≡ at.before)) ⊎ IsBlobRefused e used at
@@ -105,7 +113,8 @@ RewriteAnswers (Err (Held at)) fault used open_count least = (fault ≡ None) ×
 RewriteAnswers (Err OutOfMemory) fault used open_count least = (fault ≡ None) × (used → ⊥) × (open_count < most_open)
 RewriteAnswers (Err _) fault used open_count least = ⊥
 
--- Room for one more reservation of a buffer of which so many are open: no further one may be open, with the least place of those that are, or memory was refused.
+-- Room for one more reservation of a buffer of which so many are open: no further one may be open, with the least place of those that are, or memory was
+-- refused.
 abbrev pub MakesRoom : {T : Type 0} → Result T Error → ℕ → (ℤ → Type 0) → Type 0
 MakesRoom (Ok _) open_count least = open_count < most_open
 MakesRoom (Err (Held at)) open_count least = (open_count ≡ most_open) × least at
@@ -123,10 +132,12 @@ ReaderAnswers (Err _) early before after = ⊥
 abbrev pub ItemAnswersOver : {T D C : Type 0} → (D → Trace) → (D → ℕ) → (List ℕ → ℕ) → Result T Error → RunningConfig D C → RunningConfig D C → Type 0
 ItemAnswersOver trace faults sum result old new = ItemAnswers sum (state_of (trace old.device)).blobs.file result (faults old.device) (faults new.device)
 
--- Why the device gave nothing for a pointer: a failure, as for each call that may touch it; or the blob is missing, where this is so, and the log doesn't keep that.
+-- Why the device gave nothing for a pointer: a failure, as for each call that may touch it; or the blob is missing, where this is so, and the log doesn't
+-- keep that.
 abbrev pub IsFaultAt : (ℤ → Option (List ℕ)) → DiskPtr → IoError → Type 0 → Option IoError → Option IoError → ℕ → ℕ → Type 0
 IsFaultAt blobs (Inline lid) e so old new before after = IsFault e old new before after
-IsFaultAt blobs (Blob lid place) e so old new before after = IsFault e old new before after ⊎ ((error_kind e ≡ NotFound) × (blobs place ≡ None) × so × (old ≡ None) × (new ≡ None) × (after ≡ before))
+IsFaultAt blobs (Blob lid place) e so old new before after =
+    IsFault e old new before after ⊎ ((error_kind e ≡ NotFound) × (blobs place ≡ None) × so × (old ≡ None) × (new ≡ None) × (after ≡ before))
 
 -- A read of a pointer: as each call that may touch the device, and damage or a missing blob besides.
 abbrev pub RecordAnswers : {T : Type 0} → (List ℕ → ℕ) → (ℤ → Option (List ℕ)) → DiskPtr → Result T Error → Option IoError → Option IoError → ℕ → ℕ → Type 0

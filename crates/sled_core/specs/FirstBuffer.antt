@@ -5,7 +5,8 @@ use Rattle.sled_codec.specs.declared.result.Error.TheVariants.{OutOfMemory, Corr
 use Rattle.sled_codec.specs.Record.{short_header}
 use Rattle.sled_core.specs.declared.iobuf.IoBuf.{IoBuf}
 
--- The buffer of a segment of which so much is there: the header where nothing is there, whose mark is the place before it; else as many bytes as are there, which are written already.
+-- The buffer of a segment of which so much is there: the header where nothing is there, whose mark is the place before it; else as many bytes as are there,
+-- which are written already.
 pub record IsFirstBuffer (sum : List ℕ → ℕ) (place offset : ℕ) (b : IoBuf) : Type 0 where
   pub header : offset ≡ 0 → b.bytes.items ≡ short_header sum (pos place) (pos place -ℤ pos 1)
   pub resumed : 0 < offset → length b.bytes.items ≡ offset

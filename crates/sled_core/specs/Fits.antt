@@ -1,5 +1,7 @@
--- What a log has to do with the history of what was completed, and with its device. Its segments lie one behind another; the first one isn't wholly on the device, and the last one is being filled.
-use Rattle.std.specs.Prelude.{◌≡◌, ◌⊎◌, ◌+◌, ◌-◌, ◌*◌, ◌/◌, ◌%◌, ◌^◌, ◌≤◌, ◌<◌, ◌<ℤ◌, if◌then◌else◌, nat_le, nat_lt, Bool, ℕ, ℤ, pos, max, true, List, [], ◌++◌, ◌∷◌, length, map, take, drop, All, Option, None, Some, slice_get, Contains}
+-- What a log has to do with the history of what was completed, and with its device. Its segments lie one behind another; the first one isn't wholly on the
+-- device, and the last one is being filled.
+use Rattle.std.specs.Prelude.{◌≡◌, ◌⊎◌, ◌+◌, ◌-◌, ◌*◌, ◌/◌, ◌%◌, ◌^◌, ◌≤◌, ◌<◌, ◌<ℤ◌, if◌then◌else◌, nat_le, nat_lt, Bool, ℕ, ℤ, pos, max, true, List, [], ◌++◌}
+use Rattle.std.specs.Prelude.{◌∷◌, length, map, take, drop, All, Option, None, Some, slice_get, Contains}
 use Rattle.std.specs.declared.io.Error.{Error as IoError}
 use Rattle.sled_codec.specs.declared.result.DiskPtr.TheVariants.{Blob}
 use Rattle.sled_codec.specs.declared.serialization.message.LogKind.{LogKind}
@@ -32,7 +34,8 @@ use Rattle.sled_core.specs.Reached.{BegunSegment, FollowApart}
 use Rattle.sled_core.specs.Recoverable.{IsMarkOf, NoBatchEnds}
 use Rattle.sled_core.specs.SealedBuffers.{AreSealed, AreZeros, Laid, sealed_count, sealed_end}
 use Rattle.sled_core.specs.Tickets.{index_of, IsFor}
-use Rattle.sled_core.specs.Waiting.{BufferAt, BufferStart, at_last, buffers_in, closed_now, held_below, last_of, pending_in, spans, start_in, unwritten, write_pending, writes_below}
+use Rattle.sled_core.specs.Waiting.{BufferAt, BufferStart, at_last, buffers_in, closed_now, held_below, last_of, pending_in, spans, start_in, unwritten}
+use Rattle.sled_core.specs.Waiting.{write_pending, writes_below}
 
 -- What a caller sees of a log.
 
@@ -62,7 +65,8 @@ open_of log = open_in (current_reserved_in (current_of log))
 
 -- this is the least place of an open one of these
 abbrev pub IsLeastOpen : {D C : Type 0} → Log D C → ℤ → Type 0
-IsLeastOpen log place = (from : ℕ) × (first_open_in (current_reserved_in (current_of log)) ≡ Some from) × (place ≡ pos ((current_of log).parts.site.place + from))
+IsLeastOpen log place =
+    (from : ℕ) × (first_open_in (current_reserved_in (current_of log)) ≡ Some from) × (place ≡ pos ((current_of log).parts.site.place + from))
 
 -- the size of the log's segments
 abbrev pub segment_size_of : {D C : Type 0} → Log D C → ℕ
@@ -176,7 +180,8 @@ IsUsedUpFor log page n = (is_moved log page n ≡ true) × NoFurther log
 abbrev pub open_for : {D C : Type 0} → Log D C → ℕ → ℕ → ℕ
 open_for log page n = if is_moved log page n then 0 else open_of log
 
--- the sealed buffers that aren't on the device behind that reservation: where it needs a further segment, the current one with what fills its segment is among them
+-- the sealed buffers that aren't on the device behind that reservation: where it needs a further segment, the current one with what fills its segment is
+-- among them
 abbrev pub waiting_behind : {D C : Type 0} → (List ℕ → ℕ) → Log D C → ℕ → ℕ → List BufferAt
 waiting_behind sum log page n = if is_moved log page n then unwritten (at_last (closed_now sum (segment_size_of log)) (line_of log)) else waiting_of log
 
@@ -190,7 +195,8 @@ start_of log = start_in (current_of log)
 -- where it begins behind a reservation: with the next segment, where the record needs one
 abbrev pub start_behind : {D C : Type 0} → Log D C → ℕ → ℕ → BufferStart
 start_behind log page n =
-    if is_moved log page n then record { place = (current_of log).parts.site.place + segment_size_of log; lid = next_slot (machine_of log.accountant) * segment_size_of log }
+    if is_moved log page n
+    then record { place = (current_of log).parts.site.place + segment_size_of log; lid = next_slot (machine_of log.accountant) * segment_size_of log }
     else start_of log
 
 -- To seal the current buffer takes a further segment, since no further record has room in its own, and there is none in reach.
@@ -232,7 +238,8 @@ NoneOpen log = NoneOpenIn (line_of log)
 abbrev pub open_places : {D C : Type 0} → Log D C → List ℕ
 open_places log = open_places_along (line_of log)
 
--- What a log has of its current segment over its device: the size of segments, where this one lies, what is on the device, the failure that the log keeps, the bytes, how many of them were written, the buffers that were sealed since, and the reservations since.
+-- What a log has of its current segment over its device: the size of segments, where this one lies, what is on the device, the failure that the log keeps,
+-- the bytes, how many of them were written, the buffers that were sealed since, and the reservations since.
 pub record LogParts : Type 0 where
   pub size : ℕ
   pub site : SegmentPosition
@@ -261,12 +268,14 @@ abbrev pub parts_in : SegmentView → SegmentParts
 parts_in v = v.parts
 
 -- The log file has these messages, and those that stay of earlier segments, and all of it is settled, so that a crash leaves just that.
-pub record IsOnDevice (sum : List ℕ → ℕ) (size : ℕ) (device : LogState) (site : SegmentPosition) (from : ℕ) (messages : List Message) (stays : Message → Type 0) : Type 0 where
+pub record IsOnDevice (sum : List ℕ → ℕ) (size : ℕ) (device : LogState) (site : SegmentPosition) (from : ℕ) (messages : List Message)
+    (stays : Message → Type 0) : Type 0 where
   pub log : List ℕ
   pub settled : device ≡ at_rest log
   pub file : IsLogFile sum size log site from messages stays
 
--- The newest snapshot on the device is the table of the history below its own place, which is where the segment at this site begins, or in it, or in an earlier one.
+-- The newest snapshot on the device is the table of the history below its own place, which is where the segment at this site begins, or in it, or in an
+-- earlier one.
 pub record IsBegunFrom (sum : List ℕ → ℕ) (size : ℕ) (snapshots : ℤ → Option (List ℕ)) (site : SegmentPosition) (from : ℕ) (H : History) : Type 0 where
   pub first : SnapshotModel
   pub begins : BeginsFrom sum snapshots first
@@ -294,7 +303,8 @@ pub record HasMark (sum : List ℕ → ℕ) (site : SegmentPosition) (bytes : Li
   pub is : take 20 bytes ≡ short_header sum (pos site.place) mark
   pub of_history : IsMarkOf H (record { place = site.place; slot = site.slot; mark = mark })
 
--- A history, and the bytes and reservations of a segment of a log over a device: what was written is settled there, with those messages of earlier segments that stay, and what was completed since stands in the buffer.
+-- A history, and the bytes and reservations of a segment of a log over a device: what was written is settled there, with those messages of earlier segments
+-- that stay, and what was completed since stands in the buffer.
 pub record HoldsSegment (sum : List ℕ → ℕ) (parts : LogParts) (stays : Message → Type 0) (H : History) : Type 0 where
   -- the messages that were written
   pub earlier : List Message
@@ -318,13 +328,17 @@ abbrev pub begun_segment : SegmentParts → BegunSegment
 begun_segment s = record { site = s.site; from = s.written_len; filled = s.filled }
 
 -- A segment that begins at a place holds these messages.
-pub record HoldsNext (sum : List ℕ → ℕ) (size : ℕ) (device : State) (fault : Option IoError) (place : ℕ) (s : SegmentParts) (stays : Message → Type 0) (batches : List Batch) (own : List Message) : Type 0 where
+pub record HoldsNext (sum : List ℕ → ℕ) (size : ℕ) (device : State) (fault : Option IoError) (place : ℕ) (s : SegmentParts) (stays : Message → Type 0)
+    (batches : List Batch) (own : List Message) : Type 0 where
   pub next : s.site.place ≡ place
   pub inside : length s.bytes ≤ size
   pub are : AreSealed s.written_len s.reserved s.sealed
   pub held : sealed_end s.written_len s.sealed ≤ length s.bytes
   pub behind : s.written_len ≤ length s.bytes
-  pub segment : HoldsSegment sum (log_parts size s.site device fault s.bytes s.written_len s.sealed s.reserved) stays (record { messages = own; batches = batches })
+  pub segment : HoldsSegment sum (log_parts size s.site device fault s.bytes s.written_len s.sealed s.reserved) stays (record {
+    messages = own;
+    batches = batches;
+  })
   -- behind its header
   pub above : All (λ m. place + 20 ≤ m.place) own
 
@@ -332,31 +346,37 @@ pub record HoldsNext (sum : List ℕ → ℕ) (size : ℕ) (device : State) (fau
 abbrev pub HoldBehind : (List ℕ → ℕ) → ℕ → State → Option IoError → ℕ → List SegmentParts → (Message → Type 0) → List Batch → List Message → Type 0
 HoldBehind sum size device fault place [] stays batches ms = ms ≡ []
 HoldBehind sum size device fault place (s ∷ ss) stays batches ms =
-    (own later : List Message) × (ms ≡ own ++ later) × HoldsNext sum size device fault place s stays batches own × HoldBehind sum size device fault (place + size) ss stays batches later
+    (own later : List Message) × (ms ≡ own ++ later) × HoldsNext sum size device fault place s stays batches own
+    × HoldBehind sum size device fault (place + size) ss stays batches later
 
--- The same of a log: its first segment that isn't wholly on the device holds these messages and all before them, and the segments that were begun behind it hold the later ones. The newest snapshot is that with which the log began.
+-- The same of a log: its first segment that isn't wholly on the device holds these messages and all before them, and the segments that were begun behind it
+-- hold the later ones. The newest snapshot is that with which the log began.
 pub record HoldsIn (sum : List ℕ → ℕ) (parts : LogParts) (behind : List SegmentParts) (H : History) : Type 0 where
   pub begun : IsBegunFrom sum parts.size parts.device.snapshots.file parts.site parts.written_len H
   pub head : List Message
   pub later : List Message
   pub messages : H.messages ≡ head ++ later
   pub own : HoldsSegment sum parts (StaysFrom H (stable_place begun.first.stable)) (record { messages = head; batches = H.batches })
-  pub others : HoldBehind sum parts.size parts.device parts.fault (parts.site.place + parts.size) behind (StaysBelow H (stable_place begun.first.stable) parts.site.place) H.batches later
+  pub others : HoldBehind sum parts.size parts.device parts.fault (parts.site.place + parts.size) behind
+      (StaysBelow H (stable_place begun.first.stable) parts.site.place) H.batches later
   pub apart : FollowApart parts.site (map begun_segment behind)
   -- the header of a segment behind of which nothing is written has a mark below the stable end
-  pub marked : (s : SegmentParts) → Contains behind s → s.written_len ≡ 0 → (mark : ℤ) → IsHeader sum (take 20 s.bytes) (pos s.site.place) mark → mark <ℤ pos (parts.site.place + parts.written_len)
+  pub marked : (s : SegmentParts) → Contains behind s → s.written_len ≡ 0 → (mark : ℤ) → IsHeader sum (take 20 s.bytes) (pos s.site.place) mark
+      → mark <ℤ pos (parts.site.place + parts.written_len)
 
 -- Segments one behind another hold a history, over a device.
 abbrev pub HoldsLine : (List ℕ → ℕ) → ℕ → State → Option IoError → List SegmentView → History → Type 0
 HoldsLine sum size device fault [] H = ⊥
-HoldsLine sum size device fault (v ∷ vs) H = HoldsIn sum (log_parts size v.parts.site device fault v.parts.bytes v.parts.written_len v.parts.sealed v.parts.reserved) (map parts_in vs) H
+HoldsLine sum size device fault (v ∷ vs) H =
+    HoldsIn sum (log_parts size v.parts.site device fault v.parts.bytes v.parts.written_len v.parts.sealed v.parts.reserved) (map parts_in vs) H
 
 -- how far the first one of segments is written
 abbrev pub written_to : List SegmentView → ℕ
 written_to [] = 0
 written_to (v ∷ vs) = v.parts.site.place + v.parts.written_len
 
--- The batches of a history of which all up to one place is written, and which has places below another one. Those that aren't wholly written are noted. Each of these has no place in common with another one, and no message that begins in front of it ends in it.
+-- The batches of a history of which all up to one place is written, and which has places below another one. Those that aren't wholly written are noted.
+-- Each of these has no place in common with another one, and no message that begins in front of it ends in it.
 pub record FitsBatches (end last : ℕ) (noted : List Batch) (H : History) : Type 0 where
   pub known : (b : Batch) → Contains noted b → Contains H.batches b
   pub all : (b : Batch) → Contains H.batches b → end ≤ b.peg → Contains noted b
@@ -367,20 +387,24 @@ pub record FitsBatches (end last : ℕ) (noted : List Batch) (H : History) : Typ
   pub rising : (b : Batch) → Contains H.batches b → (b.low ≤ b.peg) ⊎ (b.low < end)
 
 -- So do those of a log that has noted these batches and whose slots are these: theirs are taken, and the free ones have zeros.
-pub record HoldsWith (sum : List ℕ → ℕ) (noted : List Batch) (size : ℕ) (device : State) (fault : Option IoError) (line : List SegmentView) (m : Machine) (H : History) : Type 0 where
+pub record HoldsWith (sum : List ℕ → ℕ) (noted : List Batch) (size : ℕ) (device : State) (fault : Option IoError) (line : List SegmentView) (m : Machine)
+    (H : History) : Type 0 where
   pub holds : HoldsLine sum size device fault line H
   pub batches : FitsBatches (written_to line) (line_end size line) noted H
   pub slots : HasSlots size line device.log.bytes fault m
 
 -- The log holds this history: its records are those of the history as a log has it, without the items that blobs have.
 unfoldable pub Holds : {D C : Type 0} → (D → Trace) → (List ℕ → ℕ) → Log D C → History → Type 0
-Holds trace sum log H = HoldsWith sum (noted_in log) log.config.config.segment_size (state_of (trace log.config.device)) log.fault (line_of log) (machine_of log.accountant) (logged H)
+Holds trace sum log H =
+    HoldsWith sum (noted_in log) log.config.config.segment_size (state_of (trace log.config.device)) log.fault (line_of log) (machine_of log.accountant)
+    (logged H)
 
 -- A log has the record of a message: it is of a segment that isn't wholly on the device, or an entry of the table of all that was written, or of that and more.
 abbrev pub HasRecordOf : {D C : Type 0} → Log D C → History → Message → Type 0
 HasRecordOf log H m = (log.site.place ≤ m.place) ⊎ ((cut : ℕ) × (synced_end log ≤ cut) × Contains (table H cut m.page) m)
 
--- All of a history is on the device and settled: the log file has the messages of the current segment and those that stay: the entries of the newest snapshot's table, which is that of the history below the place where the log began, and all messages from there on.
+-- All of a history is on the device and settled: the log file has the messages of the current segment and those that stay: the entries of the newest
+-- snapshot's table, which is that of the history below the place where the log began, and all messages from there on.
 pub record IsKept (sum : List ℕ → ℕ) (size : ℕ) (site : SegmentPosition) (from : ℕ) (device : State) (H : History) : Type 0 where
   pub below : EndBelow (site.place + from) H.messages
   pub apart : LieApart H.messages
@@ -402,7 +426,8 @@ IsWritten trace sum log H = IsKept sum log.config.config.segment_size log.site l
 abbrev pub buffers_of : {D C : Type 0} → (List ℕ → ℕ) → Log D C → List BufferAt
 buffers_of sum log = buffers_in sum log.config.config.segment_size (line_of log)
 
--- The buffers of a log are those that they were, and behind them at most those that begin at or behind all that was reserved: the header of a segment that was begun is one.
+-- The buffers of a log are those that they were, and behind them at most those that begin at or behind all that was reserved: the header of a segment that
+-- was begun is one.
 pub record AddsBuffers {D C : Type 0} (sum : List ℕ → ℕ) (old new : Log D C) : Type 0 where
   pub more : List BufferAt
   pub is : buffers_of sum new ≡ buffers_of sum old ++ more
@@ -435,7 +460,8 @@ held_len log = length (current_of log).parts.bytes - begin_of (current_of log)
 -- where the current buffer ends once it is sealed: where no further record has room behind it, with its segment
 abbrev pub sealing_end : {D C : Type 0} → Log D C → ℕ
 sealing_end log = (current_of log).parts.site.place
-    + (if is_short log.config.config.segment_size (length (current_of log).parts.bytes) then log.config.config.segment_size else length (current_of log).parts.bytes)
+    + (if is_short log.config.config.segment_size (length (current_of log).parts.bytes) then log.config.config.segment_size
+    else length (current_of log).parts.bytes)
 
 -- tickets are for what they were for, and the same reservations are open
 pub record KeepsTickets {D C : Type 0} (old new : Log D C) : Type 0 where

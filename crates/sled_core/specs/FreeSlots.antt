@@ -36,7 +36,8 @@ pub record HaveOwn (size end : ℕ) (m : Machine) : Type 0 where
   pub below : (k : ℕ) → is_free (slot_at m k).state ≡ false → (slot_at m k).lsn + size ≤ end
   pub one : (j k : ℕ) → is_free (slot_at m j).state ≡ false → is_free (slot_at m k).state ≡ false → (slot_at m j).lsn ≡ (slot_at m k).lsn → j ≡ k
 
--- A log with these segments: where it keeps no failure the free slots have zeros, the slots of its segments aren't free, and each slot that isn't has a segment of its own, up to the last of these.
+-- A log with these segments: where it keeps no failure the free slots have zeros, the slots of its segments aren't free, and each slot that isn't has a
+-- segment of its own, up to the last of these.
 pub record HasSlots (size : ℕ) (line : List SegmentView) (log : List ℕ) (fault : Option IoError) (m : Machine) : Type 0 where
   pub taken : All (HasSlot size m) line
   pub zeros : fault ≡ None → FreeAreZeros size log m

@@ -1,4 +1,5 @@
--- A log whose first segments are wholly on the device: what the segments that were begun behind them have to do with a history, until one of them is the first that isn't.
+-- A log whose first segments are wholly on the device: what the segments that were begun behind them have to do with a history, until one of them is the
+-- first that isn't.
 use Rattle.std.specs.Prelude.{◌≡◌, ◌≢◌, ◌⊎◌, ◌+◌, ◌≤◌, ◌<◌, ◌<ℤ◌, ℕ, pos, List, [], map, Option, None, Contains}
 use Rattle.std.specs.declared.io.Error.{Error as IoError}
 use Rattle.sled_codec.specs.History.{Message, History}
@@ -19,7 +20,8 @@ use Rattle.sled_core.specs.Scan.{IsFoundSegment}
 use Rattle.sled_core.specs.Tail.{least_place}
 
 -- The segment before one at this place is full and read to its end; behind it come these, each as far as it is written.
-pub record StandsFull (sum : List ℕ → ℕ) (size : ℕ) (log : List ℕ) (place : ℕ) (others : List BegunSegment) (reach : ℕ) (H : History) (first : SnapshotModel) : Type 0 where
+pub record StandsFull (sum : List ℕ → ℕ) (size : ℕ) (log : List ℕ) (place : ℕ) (others : List BegunSegment) (reach : ℕ) (H : History)
+    (first : SnapshotModel) : Type 0 where
   pub stands : StandsTo sum size log H (stable_below reach H.batches) first reach
   pub leads : LeadsTo sum size log (least_place size first) reach place
   pub near : BeginsNext size H reach place
@@ -27,9 +29,11 @@ pub record StandsFull (sum : List ℕ → ℕ) (size : ℕ) (log : List ℕ) (pl
   pub last : (s : Segment) → IsFoundSegment sum size log (least_place size first) s → (s.place < place) ⊎ BeginsOne others s.place
   pub below : (s : Segment) → IsFoundSegment sum size log (least_place size first) s → s.mark <ℤ pos place
 
--- What a log has to do with a history, the end of what was acknowledged, the floor and the messages that were not marked yet, where all its segments before a place are wholly on the device, and these were begun from there on.
+-- What a log has to do with a history, the end of what was acknowledged, the floor and the messages that were not marked yet, where all its segments before
+-- a place are wholly on the device, and these were begun from there on.
 -- As there, the log file and the snapshots are of the history as the log has it, and the blobs of the history itself.
-pub record FitsFull (sum : List ℕ → ℕ) (size : ℕ) (device : State) (fault : Option IoError) (place : ℕ) (behind : List SegmentParts) (reach pins : ℕ) (H : History) (A f : ℕ) (U : List Message) : Type 0 where
+pub record FitsFull (sum : List ℕ → ℕ) (size : ℕ) (device : State) (fault : Option IoError) (place : ℕ) (behind : List SegmentParts) (reach pins : ℕ)
+    (H : History) (A f : ℕ) (U : List Message) : Type 0 where
   -- the last one of those before the place, and its bytes
   pub site : SegmentPosition
   pub bytes : List ℕ
@@ -43,7 +47,8 @@ pub record FitsFull (sum : List ℕ → ℕ) (size : ℕ) (device : State) (faul
   pub no_batch : NoBatchBegins (logged H) reach place
   pub no_end : NoBatchEnds (logged H) reach place
   -- so stands the file, with any number of zeros behind its end
-  pub beyond : (to : ℕ) → fault ≡ None → NoHeaderOfZeros sum → StandsFull sum size (padded to device.log.bytes) place (map begun_segment behind) reach (logged H) holds.begun.first
+  pub beyond : (to : ℕ) → fault ≡ None → NoHeaderOfZeros sum
+      → StandsFull sum size (padded to device.log.bytes) place (map begun_segment behind) reach (logged H) holds.begun.first
   pub blobs : BlobsFit sum device.blobs H (stable_below reach H.batches)
   -- no crash takes the item of a message that isn't stable yet, nor that of an entry of the table of what is stable
   pub stored : KeepsItems sum device.blobs H (stable_below reach H.batches)

@@ -27,7 +27,8 @@ ReadsAt sum size content m (Blob lid place) = HasOwnBlob sum (content.blobs plac
 abbrev pub Reads : (List ℕ → ℕ) → ℕ → Content → Message → Type 0
 Reads sum size content m = ReadsAt sum size content m m.pointer
 
--- A snapshot is good for a history, the end of what was acknowledged, and a floor: with its stable place for the cut, which splits no batch, passes what was acknowledged and isn't below the floor, it is the table below the cut, and each entry reads its own bytes.
+-- A snapshot is good for a history, the end of what was acknowledged, and a floor: with its stable place for the cut, which splits no batch, passes what
+-- was acknowledged and isn't below the floor, it is the table below the cut, and each entry reads its own bytes.
 pub record IsGood (sum : List ℕ → ℕ) (size : ℕ) (content : Content) (H : History) (A f : ℕ) (s : SnapshotModel) : Type 0 where
   pub fits : CutFits H (stable_place s.stable)
   pub passes : A ≤ stable_place s.stable

@@ -1,6 +1,7 @@
 -- What an iterator gives of a log file: the messages of segments that begin below an end, by place, and whether it
 -- ends at damage, and of what. Stated for any number of segments and for all kinds of messages.
-use Rattle.std.specs.Prelude.{◌≡◌, ◌⊎◌, ◌+◌, ℕ, ℤ, pos, nat_le, nat_lt, Bool, true, false, ◌||◌, if◌then◌else◌, List, [], ◌∷◌, ◌++◌, Option, Some, None, Result, Ok, Err}
+use Rattle.std.specs.Prelude.{◌≡◌, ◌⊎◌, ◌+◌, ℕ, ℤ, pos, nat_le, nat_lt, Bool, true, false, ◌||◌, if◌then◌else◌, List, [], ◌∷◌, ◌++◌, Option, Some, None, Result}
+use Rattle.std.specs.Prelude.{Ok, Err}
 use Rattle.std.specs.Bool.{MatchBool}
 use Rattle.sled_codec.specs.declared.serialization.message.LogKind.{LogKind}
 use Rattle.sled_codec.specs.declared.result.DiskPtr.{DiskPtr}
@@ -42,12 +43,14 @@ abbrev pub IsNamed : (Option DiskPtr → Type 0) → Damage → Type 0
 IsNamed names None = ⊥
 IsNamed names (Some at) = names at
 
--- What is given of records that were met in a segment, one by one, and then this. It ends at a record that stops it, and at a blob that doesn't pass for its record: damage that is named as that blob's is.
+-- What is given of records that were met in a segment, one by one, and then this. It ends at a record that stops it, and at a blob that doesn't pass for
+-- its record: damage that is named as that blob's is.
 abbrev pub GivesOf : (List ℕ → ℕ) → (ℤ → Option (List ℕ)) → ℕ → List ScannedRecord → (List Item → Damage → Type 0) → List Item → Damage → Type 0
 GivesOf sum blobs end [] on items damage = on items damage
 GivesOf sum blobs end (m ∷ ms) on items damage = MatchBool (stops end m) ((items ≡ []) × (damage ≡ None))
     ((HasBadBlob sum blobs m.what × (items ≡ []) × IsNamed (NamesBlobOf sum blobs m.what) damage)
-    ⊎ ((HasBadBlob sum blobs m.what → ⊥) × ((rest : List Item) × (items ≡ items_of m (with_blob blobs m.what) ++ rest) × GivesOf sum blobs end ms on rest damage)))
+    ⊎ ((HasBadBlob sum blobs m.what → ⊥)
+    × ((rest : List Item) × (items ≡ items_of m (with_blob blobs m.what) ++ rest) × GivesOf sum blobs end ms on rest damage)))
 
 -- At a damaged record it ends, with damage that names nothing, unless the record lies at the end or behind it.
 abbrev pub EndsAt : ℕ → ℕ → List Item → Damage → Type 0

@@ -85,7 +85,8 @@ pub record IsReadFor {D C : Type 0} (trace : D → Trace) (sum : List ℕ → �
 
 -- An iterator is over a log that was lent so, and that was only read since.
 abbrev pub IsOverLog : {D C : Type 0} → (D → Trace) → (List ℕ → ℕ) → MutBor (Log D C) → LogIter D C → Type 0
-IsOverLog {D} {C} trace sum entry it = (r : MutBor (Log D C)) × (log_in it.source ≡ Some r) × (r.ghost_name ≡ entry.ghost_name) × IsOnlyRead trace sum entry.now r.now
+IsOverLog {D} {C} trace sum entry it =
+    (r : MutBor (Log D C)) × (log_in it.source ≡ Some r) × (r.ghost_name ≡ entry.ghost_name) × IsOnlyRead trace sum entry.now r.now
 
 -- so was the log that an iterator borrows, where it borrows one
 abbrev pub LogIsReadFor : {D C : Type 0} → (D → Trace) → (List ℕ → ℕ) → Option (Result Item Error) → Source D C → Source D C → Type 0
@@ -96,13 +97,15 @@ LogIsReadFor trace sum item (source.Log r) (source.Log s) = IsReadFor trace sum 
 
 -- What a call of an iterator gives: the next message of those that are ahead, or none where it is over, or an error. Behind an error and
 -- where none came it is over. What it borrows was only read, and it goes on borrowing the same.
-pub record IsNext {D C : Type 0} (trace : D → Trace) (faults : D → ℕ) (sum : List ℕ → ℕ) (old : LogIter D C) (result : Option (Result Item Error)) (new : LogIter D C) : Type 0 where
+pub record IsNext {D C : Type 0} (trace : D → Trace) (faults : D → ℕ) (sum : List ℕ → ℕ) (old : LogIter D C) (result : Option (Result Item Error))
+    (new : LogIter D C) : Type 0 where
   pub gives : (items : List Item) (damage : Damage) → IsAhead trace sum old items damage → NextGives (IsAhead trace sum new) items damage result
   pub ended : BehindLast result (IsOver new)
   pub over : IsOver old → result ≡ None
   -- a refusal is the one item, and nothing is read for it
   pub refused : IfSome (refusal_of old) (λ e. (result ≡ Some (Err e)) × BorrowsStill old new)
-  pub answers : IfNone (refusal_of old) (NextAnswers sum (state_of (trace (reads_of old).device)).blobs.file result (faults (reads_of old).device) (faults (reads_of new).device))
+  pub answers : IfNone (refusal_of old)
+      (NextAnswers sum (state_of (trace (reads_of old).device)).blobs.file result (faults (reads_of old).device) (faults (reads_of new).device))
   pub reads : OnlyReads trace (reads_of old) (reads_of new)
   pub log : IfNone (refusal_of old) (LogIsReadFor trace sum result old.source new.source)
   pub same_reference : BorrowSame old.source new.source
@@ -120,9 +123,11 @@ GoesOver trace sum log lsn it =
     let size = segment_size_of log in
     let s = state_of (trace (device_of log)) in
     (ss : List Segment) × AreSegments size (machine_at log) (begins_from size lsn) (stable_end log) ss
-    × ((items : List Item) (damage : Damage) → IsIteration sum size s.log.bytes s.blobs.file (stable_end log) true ss items damage → IsAhead trace sum it items damage)
+    × ((items : List Item) (damage : Damage) → IsIteration sum size s.log.bytes s.blobs.file (stable_end log) true ss items damage
+    → IsAhead trace sum it items damage)
 
--- It gives the messages of a history from the segment that holds a place on and below the stable end, of which a slot has the segment and, where they name a blob, that is there; by place. And it doesn't end at damage.
+-- It gives the messages of a history from the segment that holds a place on and below the stable end, of which a slot has the segment and, where they name
+-- a blob, that is there; by place. And it doesn't end at damage.
 abbrev pub GivesMessages : {D C : Type 0} → (D → Trace) → (List ℕ → ℕ) → Log D C → History → ℤ → LogIter D C → Type 0
 GivesMessages trace sum log H lsn it =
     let size = segment_size_of log in

@@ -8,7 +8,8 @@ use Rattle.sled_store.specs.Device.{Trace}
 use Rattle.sled_store.specs.Moments.{IsLater, LeavesOnly}
 use Rattle.sled_core.specs.declared.logger.Log.{Log}
 use Rattle.sled_core.specs.declared.reservation.Reservation.{Reservation}
-use Rattle.sled_core.specs.Fits.{Awaits, Holds, NoneSealed, buffers_of, config_of, current_begin, current_of, device_of, fault_of, kept_batches, line_of, machine_at, noted_in, pins_of, position_of, reserved_end, segment_size_of, start_of, synced_end, waiting_of}
+use Rattle.sled_core.specs.Fits.{Awaits, Holds, NoneSealed, buffers_of, config_of, current_begin, current_of, device_of, fault_of, kept_batches, line_of}
+use Rattle.sled_core.specs.Fits.{machine_at, noted_in, pins_of, position_of, reserved_end, segment_size_of, start_of, synced_end, waiting_of}
 use Rattle.sled_store.specs.SegmentStates.{next_slot}
 use Rattle.sled_core.specs.Marked.{BeginsMarked}
 use Rattle.sled_core.specs.Positions.{is_short}
@@ -29,7 +30,8 @@ pub record OnlyReads {D C : Type 0} (trace : D → Trace) (old new : RunningConf
   pub checksum : new.checksum ≡ old.checksum
   pub unwritten : trace new.device ≡ trace old.device
 
--- The log goes on from what it was: its device's trace goes on from the old one, what is on its device without a gap doesn't get less, at each moment between them a crash leaves what can be recovered, and what blobs hold stays.
+-- The log goes on from what it was: its device's trace goes on from the old one, what is on its device without a gap doesn't get less, at each moment
+-- between them a crash leaves what can be recovered, and what blobs hold stays.
 pub record GoesOn {D C : Type 0} (trace : D → Trace) (sum : List ℕ → ℕ) (old new : Log D C) : Type 0 where
   pub config : ConfigKept (config_of old) (config_of new)
   pub later : IsLater (trace (device_of old)) (trace (device_of new))
@@ -56,7 +58,8 @@ abbrev pub KeepsOthers : {D C : Type 0} → (D → Trace) → (List ℕ → ℕ)
 KeepsOthers trace sum ticket old new =
     (H : History) (other : Reservation) (m : Message) → Holds trace sum old H → Awaits old other m → place_of other ≢ place_of ticket → Awaits new other m
 
--- What a call that writes up to a place seals: what begins below it, where it is held, and nothing where it succeeds and no reservation is open. Where no buffer was sealed, nothing is written by one that fails.
+-- What a call that writes up to a place seals: what begins below it, where it is held, and nothing where it succeeds and no reservation is open. Where no
+-- buffer was sealed, nothing is written by one that fails.
 pub record SealsBelow {T D C : Type 0} (result : Result T Error) (to : ℕ) (old new : Log D C) : Type 0 where
   pub held : IsHeld result → to ≤ current_begin new
   pub none : NoneSealed old → OnOk result (NoneSealed new)
@@ -93,7 +96,10 @@ abbrev pub start_sealed : {D C : Type 0} → Log D C → BufferStart
 start_sealed log =
     if is_short (segment_size_of log) (length (current_of log).parts.bytes)
     then record { place = (current_of log).parts.site.place + segment_size_of log; lid = next_slot (machine_at log) * segment_size_of log }
-    else record { place = (current_of log).parts.site.place + length (current_of log).parts.bytes; lid = (current_of log).parts.site.slot + length (current_of log).parts.bytes }
+    else record {
+      place = (current_of log).parts.site.place + length (current_of log).parts.bytes;
+      lid = (current_of log).parts.site.slot + length (current_of log).parts.bytes;
+    }
 
 -- the sealed buffers, once those that begin below a place are sealed
 abbrev pub sealed_for : {D C : Type 0} → (List ℕ → ℕ) → ℕ → Log D C → List BufferAt

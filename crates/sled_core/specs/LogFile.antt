@@ -47,8 +47,10 @@ pub record HasHeader (sum : List ℕ → ℕ) (log : List ℕ) (site : SegmentPo
   pub header : IsHeader sum (part log site.slot 20) (pos site.place) mark
   pub below : (n : ℕ) → mark ≡ pos n → n < site.place
 
--- What stands in the log file: behind the header of the current segment, up to an offset, those of its messages that have no blob; in other slots those messages of earlier segments that stay and have none.
-pub record IsLogFile (sum : List ℕ → ℕ) (size : ℕ) (log : List ℕ) (site : SegmentPosition) (from : ℕ) (messages : List Message) (stays : Message → Type 0) : Type 0 where
+-- What stands in the log file: behind the header of the current segment, up to an offset, those of its messages that have no blob; in other slots those
+-- messages of earlier segments that stay and have none.
+pub record IsLogFile (sum : List ℕ → ℕ) (size : ℕ) (log : List ℕ) (site : SegmentPosition) (from : ℕ) (messages : List Message)
+    (stays : Message → Type 0) : Type 0 where
   pub own : (m : Message) → Contains messages m → site.place ≤ m.place → (lid : ℕ) → m.pointer ≡ Inline lid → StandsHere sum size log site from lid m
   pub elsewhere : (m : Message) → stays m → m.place < site.place → (lid : ℕ) → m.pointer ≡ Inline lid → StandsElsewhere sum size log site lid m
   pub begun : 0 < from → 20 ≤ from

@@ -9,7 +9,8 @@ use Rattle.sled_core.specs.Tail.{place_of_mark}
 abbrev pub begins_from : ℕ → ℤ → ℕ
 begins_from size lsn = place_of_mark lsn / size * size
 
--- the segment of the k-th slot as a reader has it, where it begins from one place up to another (and ends below 2^63, as each does): nothing is said of its mark
+-- the segment of the k-th slot as a reader has it, where it begins from one place up to another (and ends below 2^63, as each does): nothing is said of its
+-- mark
 abbrev pub segment_within : ℕ → ℕ → ℕ → ℕ → SlotState → List Segment
 segment_within size from to k s =
     if not (is_free s.state) && nat_le from s.lsn && nat_lt s.lsn to && nat_lt (s.lsn + size) (2 ^ 63)

@@ -23,4 +23,5 @@ item_of n = (n.kind, n.page, pos n.place, n.pointer, n.size)
 -- The messages of a history from one place on and below another whose segment a slot has, and whose blob, if any, is there; by place.
 pub record AreOnFile (size : ℕ) (m : Machine) (blobs : ℤ → Option (List ℕ)) (H : History) (from to : ℕ) (ms : List Message) : Type 0 where
   pub apart : LieApart ms
-  pub are : (n : Message) → Contains ms n ↔ (Contains H.messages n × (from ≤ n.place) × (n.place < to) × HasSegment m (n.place / size * size) × HasBlobThere blobs n.pointer)
+  pub are : (n : Message)
+      → Contains ms n ↔ (Contains H.messages n × (from ≤ n.place) × (n.place < to) × HasSegment m (n.place / size * size) × HasBlobThere blobs n.pointer)

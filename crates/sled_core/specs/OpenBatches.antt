@@ -8,7 +8,8 @@ use Rattle.sled_core.specs.declared.logger.batches.NotedBatch.{NotedBatch}
 -- The stable place, where what is read ends at this one: the lowest place of the batches that are open there; where none is, that one itself.
 abbrev pub stable_below : ℕ → List Batch → ℕ
 stable_below reach [] = reach
-stable_below reach (b ∷ bs) = if nat_lt b.low reach then (if nat_lt b.peg reach then stable_below reach bs else min b.low (stable_below reach bs)) else stable_below reach bs
+stable_below reach (b ∷ bs) =
+    if nat_lt b.low reach then (if nat_lt b.peg reach then stable_below reach bs else min b.low (stable_below reach bs)) else stable_below reach bs
 
 -- A batch that is open at a place.
 abbrev pub IsOpenBatch : ℕ → Batch → Type 0
@@ -27,7 +28,8 @@ not_whole reach (b ∷ bs) = if nat_lt b.peg reach then not_whole reach bs else 
 abbrev pub batch_of : NotedBatch → Batch
 batch_of b = record { low = b.low; peg = b.peg }
 
--- Up to where has to be read for a place to be stable: behind the last of these batches that has the place, below its peg; behind the place itself where none has.
+-- Up to where has to be read for a place to be stable: behind the last of these batches that has the place, below its peg; behind the place itself where
+-- none has.
 abbrev pub behind_batch : ℕ → List Batch → ℕ
 behind_batch behind [] = behind
 behind_batch behind (b ∷ bs) = if nat_lt b.low behind then max (b.peg + 1) (behind_batch behind bs) else behind_batch behind bs

@@ -31,7 +31,8 @@ abbrev pub removing : Option ℤ → List Event
 removing None = []
 removing (Some p) = removing_blobs (p ∷ [])
 
--- The log goes on without a blob, if one is named: what it held it holds still, and of a history that doesn't name the blob it fits what it fitted, also at each moment of a crash.
+-- The log goes on without a blob, if one is named: what it held it holds still, and of a history that doesn't name the blob it fits what it fitted, also at
+-- each moment of a crash.
 pub record PreservesWithout {D C : Type 0} (trace : D → Trace) (sum : List ℕ → ℕ) (blob : Option ℤ) (old new : Log D C) : Type 0 where
   pub config : ConfigKept (config_of old) (config_of new)
   pub later : IsLater (trace (device_of old)) (trace (device_of new))
@@ -48,7 +49,8 @@ pub record PreservesWithout {D C : Type 0} (trace : D → Trace) (sum : List ℕ
 -- Why a blob was not removed, if there was one: the log kept a failure, or the device failed in this call, and the log keeps that.
 abbrev pub RemovedAnswers : {T : Type 0} → Result T Error → Option ℤ → Option IoError → Option IoError → ℕ → ℕ → Type 0
 RemovedAnswers (Ok _) blob old new before after = (old ≡ None) × (new ≡ None) × (after ≡ before)
-RemovedAnswers (Err (Io e)) blob old new before after = ((old ≡ Some e) × (new ≡ Some e) × (after ≡ before)) ⊎ (IsSome blob × (old ≡ None) × (new ≡ Some e) × IsTrue (is_fault e) × (after ≡ (before + 1) % 2 ^ 64))
+RemovedAnswers (Err (Io e)) blob old new before after =
+    ((old ≡ Some e) × (new ≡ Some e) × (after ≡ before)) ⊎ (IsSome blob × (old ≡ None) × (new ≡ Some e) × IsTrue (is_fault e) × (after ≡ (before + 1) % 2 ^ 64))
 RemovedAnswers (Err _) blob old new before after = ⊥
 
 -- What a call asks of the device that removes it.

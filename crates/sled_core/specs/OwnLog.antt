@@ -1,4 +1,5 @@
--- What is the log's own of a log file while a log runs: in the slot of a segment that isn't wholly on the device all that is written of it, also behind a gap; in each other slot what a reader reads there.
+-- What is the log's own of a log file while a log runs: in the slot of a segment that isn't wholly on the device all that is written of it, also behind a
+-- gap; in each other slot what a reader reads there.
 use Rattle.std.specs.Prelude.{◌≡◌, ◌≢◌, ◌≤◌, ◌<◌, ◌+◌, ◌*◌, ◌/◌, ℕ, ℤ, pos, true, List, [], ◌∷◌, length, All, Contains}
 use Rattle.sled_codec.specs.Places.{part}
 use Rattle.sled_codec.specs.Record.{IsHeader}
@@ -26,7 +27,8 @@ module _ (sum : List ℕ → ℕ) (size : ℕ) (Header : ℕ → List ℕ → Ty
   pub record HasOwnSlot (log : List ℕ) (slot : ℕ) : Type 0 where
     pub header : (to : ℕ) (lsn mark : ℤ) → IsHeader sum (part (padded to log) (slot * size) 20) lsn mark
         → (slot * size + 20 ≤ length log) × Header (slot * size) (part log (slot * size) 20)
-    pub records : (to lsn : ℕ) (mark : ℤ) (at len : ℕ) → IsHeader sum (part log (slot * size) 20) (pos lsn) mark → Reads sum size (lsn / size) (part (padded to log) (slot * size) size) 20 at len
+    pub records : (to lsn : ℕ) (mark : ℤ) (at len : ℕ) → IsHeader sum (part log (slot * size) 20) (pos lsn) mark
+        → Reads sum size (lsn / size) (part (padded to log) (slot * size) size) 20 at len
         → (slot * size + at + len ≤ length log) × Own (lsn / size) (slot * size + at) (part log (slot * size + at) len)
 
   -- So it is with all slots of a log that has these segments.
@@ -37,7 +39,8 @@ module _ (sum : List ℕ → ℕ) (size : ℕ) (Header : ℕ → List ℕ → Ty
   -- In a slot of the file as it is the header that stands there, and each record that a reader reads.
   pub record ReadsOwn (log : List ℕ) (slot : ℕ) : Type 0 where
     pub header : (lsn mark : ℤ) → IsHeader sum (part log (slot * size) 20) lsn mark → Header (slot * size) (part log (slot * size) 20)
-    pub records : (lsn : ℕ) (mark : ℤ) (at len : ℕ) → IsHeader sum (part log (slot * size) 20) (pos lsn) mark → Reads sum size (lsn / size) (part log (slot * size) size) 20 at len → Own (lsn / size) (slot * size + at) (part log (slot * size + at) len)
+    pub records : (lsn : ℕ) (mark : ℤ) (at len : ℕ) → IsHeader sum (part log (slot * size) 20) (pos lsn) mark
+        → Reads sum size (lsn / size) (part log (slot * size) size) 20 at len → Own (lsn / size) (slot * size + at) (part log (slot * size + at) len)
 
 -- So it is with what was placed on a device, in each slot of its file as it is read,
 abbrev pub ReadsPlaced : (List ℕ → ℕ) → ℕ → State → Type 0

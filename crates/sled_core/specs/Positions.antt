@@ -6,7 +6,8 @@ use Rattle.sled_store.specs.SegmentStates.{Machine, handed_out, next_slot}
 use Rattle.sled_core.specs.Begun.{SegmentView}
 use Rattle.sled_core.specs.Buffers.{record_size}
 
--- Where the next record may begin: its place, where its segment begins in the log and where that segment's slot does in the file, and which slots are left behind that one.
+-- Where the next record may begin: its place, where its segment begins in the log and where that segment's slot does in the file, and which slots are left
+-- behind that one.
 pub record Position : Type 0 where
   pub place : ℕ
   pub begins : ℕ
@@ -43,7 +44,9 @@ pointer_at q = Inline (lid_at q)
 
 -- where the next record may begin behind one of this length
 abbrev pub behind_record : ℕ → Position → ℕ → Position
-behind_record size q len = if is_short size (q.place - q.begins + len) then moved_on size q else record { place = q.place + len; begins = q.begins; slot = q.slot; machine = q.machine }
+behind_record size q len =
+    if is_short size (q.place - q.begins + len) then moved_on size q
+    else record { place = q.place + len; begins = q.begins; slot = q.slot; machine = q.machine }
 
 -- where the next record may begin behind all bytes of the segment that is being filled, with slots left as this machine has them
 abbrev pub position_in : ℕ → SegmentView → Machine → Position

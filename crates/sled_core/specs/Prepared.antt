@@ -9,7 +9,8 @@ use Rattle.sled_core.specs.declared.iobuf.record.Head.{Head}
 use Rattle.sled_core.specs.declared.logger.Log.{Log}
 use Rattle.sled_core.specs.Begun.{last_buffer}
 use Rattle.sled_core.specs.Buffers.{most_open}
-use Rattle.sled_core.specs.Fits.{KeepsTickets, current_of, machine_at, position_of, reserved_end, segment_size_of, start_behind, start_of, target_of, waiting_behind, waiting_of}
+use Rattle.sled_core.specs.Fits.{KeepsTickets, current_of, machine_at, position_of, reserved_end, segment_size_of, start_behind, start_of, target_of}
+use Rattle.sled_core.specs.Fits.{waiting_behind, waiting_of}
 use Rattle.sled_core.specs.Keeps.{KeepsSeen, Preserves}
 use Rattle.sled_core.specs.Manifests.{is_manifest}
 use Rattle.sled_core.specs.Marked.{BeginsMarked}
@@ -18,7 +19,13 @@ use Rattle.sled_core.specs.Turned.{HasPlace, HasRoomForBatch, HasRoomIn}
 
 -- behind all bytes of the segment that is being filled
 abbrev pub next_here : {D C : Type 0} → Log D C → Position
-next_here log = record { place = (current_of log).parts.site.place + length (current_of log).parts.bytes; begins = (current_of log).parts.site.place; slot = (current_of log).parts.site.slot; machine = machine_at log }
+next_here log =
+    record {
+      place = (current_of log).parts.site.place + length (current_of log).parts.bytes;
+      begins = (current_of log).parts.site.place;
+      slot = (current_of log).parts.site.slot;
+      machine = machine_at log;
+    }
 
 -- the number of that segment
 abbrev pub number_of : {D C : Type 0} → Log D C → ℕ
@@ -28,7 +35,8 @@ number_of log = (current_of log).parts.site.place / segment_size_of log
 abbrev pub text_of : Head → List ℕ
 text_of head = take head.len head.bytes
 
--- What a caller sees of a log that was made ready for the record of a page's message with a body of n bytes, and has none: that would stand where it was to stand, behind what fills the current segment if it has to, and what was reserved ends where it did.
+-- What a caller sees of a log that was made ready for the record of a page's message with a body of n bytes, and has none: that would stand where it was to
+-- stand, behind what fills the current segment if it has to, and what was reserved ends where it did.
 pub record IsMadeReady {D C : Type 0} (sum : List ℕ → ℕ) (old new : Log D C) (page n : ℕ) : Type 0 where
   pub tickets : KeepsTickets old new
   pub seen : KeepsSeen old new
@@ -37,7 +45,8 @@ pub record IsMadeReady {D C : Type 0} (sum : List ℕ → ℕ) (old new : Log D 
   pub seals : (waiting_of new ≡ waiting_behind sum old page n) × (start_of new ≡ start_behind old page n)
   pub marked : BeginsMarked sum old new
 
--- A log is ready for a record with a body of n bytes: this is its header, which the current segment and its buffer have room for, and the body behind it. It fits all that it did.
+-- A log is ready for a record with a body of n bytes: this is its header, which the current segment and its buffer have room for, and the body behind it.
+-- It fits all that it did.
 pub record IsPrepared {D C : Type 0} (trace : D → Trace) (sum : List ℕ → ℕ) (old new : Log D C) (kept : Purpose) (head : Head) (n : ℕ) : Type 0 where
   pub keeps : Preserves trace sum old new
   pub tickets : KeepsTickets old new

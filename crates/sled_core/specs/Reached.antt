@@ -12,9 +12,11 @@ use Rattle.sled_core.specs.Begun.{records_to}
 use Rattle.sled_core.specs.OpenBatches.{stable_below}
 use Rattle.sled_core.specs.Scan.{IsFoundSegment}
 use Rattle.sled_core.specs.Tail.{IsOrdering, IsScanned, Scanned, AreScanned, least_place}
-use Rattle.sled_core.specs.Recoverable.{NothingBehind, NoMessageBegins, NoBatchBegins, NoBatchEnds, StandsInline, IsOfHistory, IsSegmentOf, IsMarkOf, IsMarkBelow, LiesInSegment, IsPlacedBatch}
+use Rattle.sled_core.specs.Recoverable.{NothingBehind, NoMessageBegins, NoBatchBegins, NoBatchEnds, StandsInline, IsOfHistory, IsSegmentOf, IsMarkOf}
+use Rattle.sled_core.specs.Recoverable.{IsMarkBelow, LiesInSegment, IsPlacedBatch}
 
--- The segments that are found from that of the snapshot on are of the history, and up to a place that the log has reached they are read without a gap. What is found beyond is of the history too, however much of it there is.
+-- The segments that are found from that of the snapshot on are of the history, and up to a place that the log has reached they are read without a gap. What
+-- is found beyond is of the history too, however much of it there is.
 -- A is the stable place: the log has reached it, and no batch is open there. Behind it one may be.
 pub record StandsTo (sum : List ℕ → ℕ) (size : ℕ) (log : List ℕ) (H : History) (A : ℕ) (first : SnapshotModel) (reach : ℕ) : Type 0 where
   pub ordering : List Segment
@@ -32,9 +34,11 @@ pub record StandsTo (sum : List ℕ → ℕ) (size : ℕ) (log : List ℕ) (H : 
   pub closed : (b : Batch) → Contains H.batches b → b.low < A → b.peg < A
   -- each segment that begins below the place that was reached is there, and is read up to it or leads to the next one
   pub gapless : (z : ℕ) → z % size ≡ 0 → least_place size first ≤ z → z < reach
-      → (t : Scanned) × Contains scanned t × (t.segment.place ≡ z) × ((reach ≤ z + t.stop) ⊎ ((t.why ≢ Broken) × (u : Segment) × Contains ordering u × (u.place ≡ z + size)))
+      → (t : Scanned) × Contains scanned t × (t.segment.place ≡ z)
+      × ((reach ≤ z + t.stop) ⊎ ((t.why ≢ Broken) × (u : Segment) × Contains ordering u × (u.place ≡ z + size)))
   -- the entries of the table are there, at each cut from the place of the snapshot up to the one that was reached
-  pub needed : (cut : ℕ) → stable_place first.stable ≤ cut → cut ≤ reach → (page : ℕ) (m : Message) → Contains (table H cut page) m → IsSegmentOf sum size log H cut m × StandsInline sum size log m m.pointer
+  pub needed : (cut : ℕ) → stable_place first.stable ≤ cut → cut ≤ reach → (page : ℕ) (m : Message) → Contains (table H cut page) m
+      → IsSegmentOf sum size log H cut m × StandsInline sum size log m m.pointer
 
 -- A segment that was read to an offset, in this slot and with this place, and why reading ended there.
 pub record IsReadTo (scanned : List Scanned) (slot place stop : ℕ) (why : ScanEnd) : Type 0 where
@@ -58,11 +62,13 @@ pub record GoesOnIn (scanned : List Scanned) (slot from place : ℕ) : Type 0 wh
 abbrev pub IsSoFar : ℕ → ℕ → ℕ → ScanEnd → Type 0
 IsSoFar size from stop why = ((stop ≡ from) × (from + 32 ≤ size → why ≡ Broken)) ⊎ ((from ≡ size) × (why ≢ Broken))
 
--- A segment among those that are found, of which so much is written from its beginning on without a gap: no other slot has one of its place, its slot has no other one, and it is read up to there. A full one is read up to its records' end at least.
+-- A segment among those that are found, of which so much is written from its beginning on without a gap: no other slot has one of its place, its slot has
+-- no other one, and it is read up to there. A full one is read up to its records' end at least.
 pub record StandsIn (sum : List ℕ → ℕ) (size : ℕ) (log : List ℕ) (least : ℕ) (scanned : List Scanned) (site : SegmentPosition) (from records : ℕ) : Type 0 where
   pub only : (s : Segment) → IsFoundSegment sum size log least s → s.place ≡ site.place → s.slot ≡ site.slot
   pub own : (s : Segment) → IsFoundSegment sum size log least s → s.slot ≡ site.slot → s.place ≡ site.place
-  pub read : 0 < from → (stop : ℕ) × (why : ScanEnd) × IsReadTo scanned site.slot site.place stop why × IsSoFar size from stop why × (from ≡ size → records ≤ stop)
+  pub read : 0 < from
+      → (stop : ℕ) × (why : ScanEnd) × IsReadTo scanned site.slot site.place stop why × IsSoFar size from stop why × (from ≡ size → records ≤ stop)
 
 -- The segment before one at this place is found, begins below what was reached, and leads on.
 pub record LeadsTo (sum : List ℕ → ℕ) (size : ℕ) (log : List ℕ) (least reach place : ℕ) : Type 0 where
@@ -85,7 +91,8 @@ pub record BeginsNext (size : ℕ) (H : History) (reach place : ℕ) : Type 0 wh
   pub no_batch : NoBatchBegins H reach place
   pub no_end : NoBatchEnds H reach place
 
--- What was reached ends where so much of a segment is written; where nothing of it is, there where it begins, or before that, with nothing of the history between.
+-- What was reached ends where so much of a segment is written; where nothing of it is, there where it begins, or before that, with nothing of the history
+-- between.
 abbrev pub ReachesIn : ℕ → History → ℕ → ℕ → ℕ → Type 0
 ReachesIn size H place from reach = (reach ≡ place + from) ⊎ ((from ≡ 0) × BeginsNext size H reach place)
 
@@ -104,8 +111,11 @@ FollowApart site (x ∷ xs) = ((y : BegunSegment) → Contains (x ∷ xs) y → 
 abbrev pub BeginsOne : List BegunSegment → ℕ → Type 0
 BeginsOne others place = (x : BegunSegment) × Contains others x × (x.site.place ≡ place)
 
--- A reader reads the log file without a gap up to a place, where a write of a segment goes on, and doesn't stop before the stable place of that. That segment and the others that were begun behind it stand there, each as far as it is written, no other one lies behind it, and no mark behind what is written.
-pub record StandsAmong (sum : List ℕ → ℕ) (size : ℕ) (log : List ℕ) (site : SegmentPosition) (from : ℕ) (others : List BegunSegment) (reach : ℕ) (H : History) (first : SnapshotModel) : Type 0 where
+-- A reader reads the log file without a gap up to a place, where a write of a segment goes on, and doesn't stop before the stable place of that. That
+-- segment and the others that were begun behind it stand there, each as far as it is written, no other one lies behind it, and no mark behind what is
+-- written.
+pub record StandsAmong (sum : List ℕ → ℕ) (size : ℕ) (log : List ℕ) (site : SegmentPosition) (from : ℕ) (others : List BegunSegment) (reach : ℕ) (H : History)
+    (first : SnapshotModel) : Type 0 where
   pub stands : StandsTo sum size log H (stable_below reach H.batches) first reach
   pub reached : ReachesIn size H site.place from reach
   pub led : IsLed sum size log (least_place size first) reach site.place

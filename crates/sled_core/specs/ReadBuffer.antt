@@ -1,5 +1,6 @@
 -- What a read writes first: the one buffer that has the place of the message, or of its blob, where that isn't stable; and what it answers.
-use Rattle.std.specs.Prelude.{◌≡◌, ◌⊎◌, ◌≤ℤ◌, ◌<ℤ◌, ◌<◌, int_lt, nat_le, unsigned_abs, ℕ, ℤ, pos, true, if◌then◌else◌, List, [], Option, None, Some, Result, Ok, Err, OnOk, OnErr}
+use Rattle.std.specs.Prelude.{◌≡◌, ◌⊎◌, ◌≤ℤ◌, ◌<ℤ◌, ◌<◌, int_lt, nat_le, unsigned_abs, ℕ, ℤ, pos, true, if◌then◌else◌, List, [], Option, None, Some, Result, Ok}
+use Rattle.std.specs.Prelude.{Err, OnOk, OnErr}
 use Rattle.std.specs.declared.io.Error.{Error as IoError}
 use Rattle.sled_codec.specs.declared.result.DiskPtr.{DiskPtr}
 use Rattle.sled_codec.specs.declared.result.DiskPtr.TheVariants.{Inline, Blob}
@@ -12,7 +13,8 @@ use Rattle.sled_store.specs.Device.{Event, Trace}
 use Rattle.sled_store.specs.Script.{Performs, after_all}
 use Rattle.sled_core.specs.declared.logger.Log.{Log}
 use Rattle.sled_core.specs.Causes.{HeldAnswers, IsFaultAt, IsHeld, OnDone}
-use Rattle.sled_core.specs.Fits.{IsUsedUp, NoneSealed, buffers_of, current_begin, device_of, fault_of, reserved_end, sealing_end, segment_size_of, start_of, synced_end, waiting_of}
+use Rattle.sled_core.specs.Fits.{IsUsedUp, NoneSealed, buffers_of, current_begin, device_of, fault_of, reserved_end, sealing_end, segment_size_of, start_of}
+use Rattle.sled_core.specs.Fits.{synced_end, waiting_of}
 use Rattle.sled_core.specs.Keeps.{start_sealed}
 use Rattle.sled_core.specs.Marked.{BeginsMarked}
 use Rattle.sled_core.specs.Reading.{IsNoPlace}
@@ -20,7 +22,8 @@ use Rattle.sled_core.specs.ReadPointer.{place_read}
 use Rattle.sled_core.specs.Stable.{IsNotReserved}
 use Rattle.sled_core.specs.Waiting.{BufferAt, BufferStart, held_around, none_around, without_around, write_around}
 
--- The calls that bring the buffer of a place to the device: none where the place is stable, or its buffer is written or has an open reservation; else one write of that whole buffer, and a sync.
+-- The calls that bring the buffer of a place to the device: none where the place is stable, or its buffer is written or has an open reservation; else one
+-- write of that whole buffer, and a sync.
 abbrev pub settling : {D C : Type 0} → (List ℕ → ℕ) → Log D C → ℤ → List Event
 settling sum log lsn = if int_lt lsn (pos (synced_end log)) then [] else write_around (unsigned_abs lsn) (buffers_of sum log)
 
@@ -50,7 +53,8 @@ IsMissed _ = ⊥
 abbrev pub IsMade : {D C : Type 0} → (D → Trace) → (List ℕ → ℕ) → ℤ → Log D C → Log D C → Type 0
 IsMade trace sum at old new = (held_at sum old at ≡ None) × (trace (device_of new) ≡ after_all (settling sum old at) (trace (device_of old)))
 
--- What a read of a pointer writes: by the calls that settle its place alone, and by all of them where it succeeded, was held, or found damage or no blob, for which it looks where nothing holds it.
+-- What a read of a pointer writes: by the calls that settle its place alone, and by all of them where it succeeded, was held, or found damage or no blob,
+-- for which it looks where nothing holds it.
 pub record Settles {T D C : Type 0} (trace : D → Trace) (sum : List ℕ → ℕ) (result : Result T Error) (lsn : ℤ) (p : DiskPtr) (old new : Log D C) : Type 0 where
   pub made : OnDone result (trace (device_of new) ≡ after_all (settling sum old (place_read lsn p)) (trace (device_of old)))
   pub damaged : IsCorruption result → IsNoPlace (segment_size_of old) lsn (lid_of p) ⊎ IsMade trace sum (place_read lsn p) old new
@@ -60,7 +64,8 @@ pub record Settles {T D C : Type 0} (trace : D → Trace) (sum : List ℕ → �
   pub settled : OnOk result (IsSettled new lsn p)
   pub unwritten : place_read lsn p <ℤ pos (synced_end old) → trace (device_of new) ≡ trace (device_of old)
 
--- What a read seals: nothing where its place is stable or in a sealed buffer; else the current buffer, at most, which is written then unless an open reservation holds it.
+-- What a read seals: nothing where its place is stable or in a sealed buffer; else the current buffer, at most, which is written then unless an open
+-- reservation holds it.
 pub record SealsAround {T D C : Type 0} (result : Result T Error) (lsn : ℤ) (old new : Log D C) : Type 0 where
   pub still : lsn <ℤ pos (synced_end old) → waiting_of new ≡ waiting_of old
   pub apart : lsn <ℤ pos (current_begin old) → current_begin new ≡ current_begin old
@@ -88,12 +93,14 @@ LeavesSealed sum place old new = (waiting_of new ≡ sealed_at sum place old) ×
 abbrev pub LeavesWritten : {D C : Type 0} → (List ℕ → ℕ) → ℕ → Log D C → Log D C → Type 0
 LeavesWritten sum place old new = (waiting_of new ≡ without_around place (sealed_at sum place old)) × (start_of new ≡ start_at place old)
 
--- What a read of a place that isn't stable leaves of the buffers: where it succeeds the one that has the place is written; where it is held that one is sealed; else one of the three.
+-- What a read of a place that isn't stable leaves of the buffers: where it succeeds the one that has the place is written; where it is held that one is
+-- sealed; else one of the three.
 pub record WritesAround {T D C : Type 0} (sum : List ℕ → ℕ) (result : Result T Error) (lsn : ℤ) (old new : Log D C) : Type 0 where
   pub still : lsn <ℤ pos (synced_end old) → LeavesUnsealed sum (unsigned_abs lsn) old new
   pub written : pos (synced_end old) ≤ℤ lsn → OnOk result (LeavesWritten sum (unsigned_abs lsn) old new)
   pub held : IsHeld result → LeavesSealed sum (unsigned_abs lsn) old new
-  pub some : OnErr result (LeavesUnsealed sum (unsigned_abs lsn) old new ⊎ LeavesSealed sum (unsigned_abs lsn) old new ⊎ LeavesWritten sum (unsigned_abs lsn) old new)
+  pub some : OnErr result (LeavesUnsealed sum (unsigned_abs lsn) old new ⊎ LeavesSealed sum (unsigned_abs lsn) old new
+      ⊎ LeavesWritten sum (unsigned_abs lsn) old new)
   -- a segment that was begun has the last stable place for its mark
   pub marked : BeginsMarked sum old new
 
@@ -101,21 +108,34 @@ pub record WritesAround {T D C : Type 0} (sum : List ℕ → ℕ) (result : Resu
 pub record RefusesPlace {T D C : Type 0} (result : Result T Error) (lsn : ℤ) (p : DiskPtr) (old new : Log D C) : Type 0 where
   pub faulty : (e : IoError) → fault_of old ≡ Some e → new ≡ old
   pub no_place : fault_of old ≡ None → IsNoPlace (segment_size_of old) lsn (lid_of p) → IsCorruption result × (new ≡ old)
-  pub not_reserved : fault_of old ≡ None → (IsNoPlace (segment_size_of old) lsn (lid_of p) → ⊥) → pos (reserved_end old) ≤ℤ place_read lsn p → pos (synced_end old) ≤ℤ place_read lsn p → IsNotReserved result
+  pub not_reserved : fault_of old ≡ None → (IsNoPlace (segment_size_of old) lsn (lid_of p) → ⊥) → pos (reserved_end old) ≤ℤ place_read lsn p
+      → pos (synced_end old) ≤ℤ place_read lsn p → IsNotReserved result
   pub unchanged : IsNotReserved result → new ≡ old
 
--- A place is settled, where all is stable before the one place and what was reserved ends before the other: as each call that writes buffers, and not reserved exactly where that is so.
+-- A place is settled, where all is stable before the one place and what was reserved ends before the other: as each call that writes buffers, and not
+-- reserved exactly where that is so.
 abbrev pub SettleAnswers : {T : Type 0} → Result T Error → ℤ → ℕ → ℕ → Option ℕ → Type 0 → Option IoError → ℕ → ℕ → Type 0
-SettleAnswers (Err (NotReserved at)) lsn stable end held used new before after = (at ≡ lsn) × (pos stable ≤ℤ lsn) × (pos end ≤ℤ lsn) × (new ≡ None) × (after ≡ before)
+SettleAnswers (Err (NotReserved at)) lsn stable end held used new before after =
+    (at ≡ lsn) × (pos stable ≤ℤ lsn) × (pos end ≤ℤ lsn) × (new ≡ None) × (after ≡ before)
 SettleAnswers result lsn stable end held used new before after = ((lsn <ℤ pos stable) ⊎ (lsn <ℤ pos end)) × HeldAnswers result held used None new before after
 
--- A read of a pointer by a place, where all is stable before the one place and what was reserved ends before the other, and an open reservation of the place's buffer begins there: as each call that may touch the device, and damage or a missing blob besides. Held it is exactly where there is such a reservation, and places are used up exactly where that is so.
-abbrev pub ReadAnswers : {T : Type 0} → (List ℕ → ℕ) → (ℤ → Option (List ℕ)) → DiskPtr → Result T Error → ℤ → ℕ → ℕ → Option ℕ → Type 0 → Option IoError → Option IoError → ℕ → ℕ → Type 0
-ReadAnswers sum blobs p (Ok _) lsn stable end held used old new before after = ((lsn <ℤ pos stable) ⊎ (lsn <ℤ pos end)) × (held ≡ None) × (used → ⊥) × (old ≡ None) × (new ≡ None) × (after ≡ before)
-ReadAnswers sum blobs p (Err (Io e)) lsn stable end held used old new before after = IsFaultAt blobs p e (((lsn <ℤ pos stable) ⊎ (lsn <ℤ pos end)) × (held ≡ None) × (used → ⊥)) old new before after
-ReadAnswers sum blobs p (Err OutOfMemory) lsn stable end held used old new before after = ((lsn <ℤ pos stable) ⊎ (lsn <ℤ pos end)) × (used → ⊥) × (old ≡ None) × (new ≡ None) × (after ≡ before)
-ReadAnswers sum blobs p (Err (Corruption at)) lsn stable end held used old new before after = (old ≡ None) × (new ≡ None) × (after ≡ before) × NamesDamage sum blobs at
-ReadAnswers sum blobs p (Err (Held at)) lsn stable end held used old new before after = (lsn <ℤ pos end) × ((place : ℕ) × (held ≡ Some place) × (at ≡ pos place)) × (used → ⊥) × (old ≡ None) × (new ≡ None) × (after ≡ before)
-ReadAnswers sum blobs p (Err PlacesUsedUp) lsn stable end held used old new before after = (lsn <ℤ pos end) × used × (old ≡ None) × (new ≡ None) × (after ≡ before)
-ReadAnswers sum blobs p (Err (NotReserved at)) lsn stable end held used old new before after = (at ≡ lsn) × (pos stable ≤ℤ lsn) × (pos end ≤ℤ lsn) × (old ≡ None) × (new ≡ None) × (after ≡ before)
+-- A read of a pointer by a place, where all is stable before the one place and what was reserved ends before the other, and an open reservation of the
+-- place's buffer begins there: as each call that may touch the device, and damage or a missing blob besides. Held it is exactly where there is such a
+-- reservation, and places are used up exactly where that is so.
+abbrev pub ReadAnswers : {T : Type 0} → (List ℕ → ℕ) → (ℤ → Option (List ℕ)) → DiskPtr → Result T Error → ℤ → ℕ → ℕ → Option ℕ → Type 0 → Option IoError
+    → Option IoError → ℕ → ℕ → Type 0
+ReadAnswers sum blobs p (Ok _) lsn stable end held used old new before after =
+    ((lsn <ℤ pos stable) ⊎ (lsn <ℤ pos end)) × (held ≡ None) × (used → ⊥) × (old ≡ None) × (new ≡ None) × (after ≡ before)
+ReadAnswers sum blobs p (Err (Io e)) lsn stable end held used old new before after =
+    IsFaultAt blobs p e (((lsn <ℤ pos stable) ⊎ (lsn <ℤ pos end)) × (held ≡ None) × (used → ⊥)) old new before after
+ReadAnswers sum blobs p (Err OutOfMemory) lsn stable end held used old new before after =
+    ((lsn <ℤ pos stable) ⊎ (lsn <ℤ pos end)) × (used → ⊥) × (old ≡ None) × (new ≡ None) × (after ≡ before)
+ReadAnswers sum blobs p (Err (Corruption at)) lsn stable end held used old new before after =
+    (old ≡ None) × (new ≡ None) × (after ≡ before) × NamesDamage sum blobs at
+ReadAnswers sum blobs p (Err (Held at)) lsn stable end held used old new before after =
+    (lsn <ℤ pos end) × ((place : ℕ) × (held ≡ Some place) × (at ≡ pos place)) × (used → ⊥) × (old ≡ None) × (new ≡ None) × (after ≡ before)
+ReadAnswers sum blobs p (Err PlacesUsedUp) lsn stable end held used old new before after =
+    (lsn <ℤ pos end) × used × (old ≡ None) × (new ≡ None) × (after ≡ before)
+ReadAnswers sum blobs p (Err (NotReserved at)) lsn stable end held used old new before after =
+    (at ≡ lsn) × (pos stable ≤ℤ lsn) × (pos end ≤ℤ lsn) × (old ≡ None) × (new ≡ None) × (after ≡ before)
 ReadAnswers sum blobs p (Err _) lsn stable end held used old new before after = ⊥

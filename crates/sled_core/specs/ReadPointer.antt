@@ -44,7 +44,8 @@ IsReadOf sum size s page number (ptr.Blob lid place) read = IsBlobRead sum s.blo
 -- The blob of a place has fewer than five bytes, where nothing is named; or its checksum fails, where it is named.
 abbrev pub IsBlobDamage : (List ℕ → ℕ) → Option (List ℕ) → ℤ → Option DiskPtr → Type 0
 IsBlobDamage sum file place None = (bytes : List ℕ) × (file ≡ Some bytes) × (length bytes < 5)
-IsBlobDamage sum file place (Some (ptr.Blob lid at)) = (lid ≡ 0) × (at ≡ place) × (bytes : List ℕ) × (file ≡ Some bytes) × (5 ≤ length bytes) × IsDamagedBlob sum bytes
+IsBlobDamage sum file place (Some (ptr.Blob lid at)) =
+    (lid ≡ 0) × (at ≡ place) × (bytes : List ℕ) × (file ≡ Some bytes) × (5 ≤ length bytes) × IsDamagedBlob sum bytes
 IsBlobDamage sum file place (Some (ptr.Inline lid)) = ⊥
 
 -- why a pointer can't be read: its record can't, where its blob is named or nothing, or for a message whose item is a blob that is damaged
@@ -75,7 +76,8 @@ pub record IsStableBlob {D C : Type 0} (log : Log D C) (H : History) (m : Messag
   pub pointer : m.pointer ≡ p
   pub beside : IsInline p → ⊥
 
--- The message is given, unless the device fails, memory is refused, or the log keeps a failure: its blob is neither missing nor damaged, and nothing holds the read.
+-- The message is given, unless the device fails, memory is refused, or the log keeps a failure: its blob is neither missing nor damaged, and nothing holds
+-- the read.
 abbrev pub GivesBlob : Message → Option IoError → Result LogRead Error → Type 0
 GivesBlob m kept (Ok read) = GivesMessage m read
 GivesBlob m kept (Err (Io e)) = kept ≡ None → error_kind e ≢ NotFound

@@ -1,6 +1,7 @@
 -- What a reader finds at an offset of the log file.
 use Rattle.std.specs.Borrow.{Bor}
-use Rattle.std.specs.Prelude.{Some, take, replicate, ◌^◌, ◌<◌, Option, None, ◌≡◌, ◌≢◌, ◌⊎◌, ◌+◌, ◌%◌, ◌≤◌, ℕ, Bool, true, false, List, ◌++◌, length, drop, ℤ, pos, ◌<ℤ◌}
+use Rattle.std.specs.Prelude.{Some, take, replicate, ◌^◌, ◌<◌, Option, None, ◌≡◌, ◌≢◌, ◌⊎◌, ◌+◌, ◌%◌, ◌≤◌, ℕ, Bool, true, false, List, ◌++◌, length, drop, ℤ}
+use Rattle.std.specs.Prelude.{pos, ◌<ℤ◌}
 use Rattle.sled_codec.specs.declared.serialization.message.MessageHeader.{MessageHeader}
 use Rattle.sled_codec.specs.declared.serialization.message.MessageKind.{MessageKind}
 use Rattle.sled_codec.specs.declared.serialization.message.MessageKind.TheVariants as kind
@@ -99,11 +100,15 @@ HoldsAs header body n (BatchManifest peg len) = (len ≡ n) × (header.kind ≡ 
 abbrev pub IsRecordRead : (List ℕ → ℕ) → ℕ → List ℕ → ℕ → ℕ → LogRead → Type 0
 IsRecordRead sum size log lid number (Inline h bytes len) = StandsAt sum size log lid number h bytes.items len × (is_inline h.kind ≡ true)
 IsRecordRead sum size log lid number (Blob h bytes place len) = ⊥
-IsRecordRead sum size log lid number (Canceled len) = (h : MessageHeader) × (body : List ℕ) × StandsAt sum size log lid number h body len × (h.kind ≡ kind.Canceled)
-IsRecordRead sum size log lid number (Cap segment) = (h : MessageHeader) × (body : List ℕ) × (len : ℕ) × StandsAt sum size log lid number h body len × (h.kind ≡ kind.Cap) × (segment.0 ≡ number)
+IsRecordRead sum size log lid number (Canceled len) =
+    (h : MessageHeader) × (body : List ℕ) × StandsAt sum size log lid number h body len × (h.kind ≡ kind.Canceled)
+IsRecordRead sum size log lid number (Cap segment) =
+    (h : MessageHeader) × (body : List ℕ) × (len : ℕ) × StandsAt sum size log lid number h body len × (h.kind ≡ kind.Cap) × (segment.0 ≡ number)
 IsRecordRead sum size log lid number Corrupted = (h : MessageHeader) (body : List ℕ) (len : ℕ) → StandsAt sum size log lid number h body len → ⊥
-IsRecordRead sum size log lid number (DanglingBlob h place len) = (body : List ℕ) × StandsAt sum size log lid number h body len × (is_blob h.kind ≡ true) × SpellsSigned body place
-IsRecordRead sum size log lid number (BatchManifest peg len) = (h : MessageHeader) × (body : List ℕ) × StandsAt sum size log lid number h body len × (h.kind ≡ kind.BatchManifest) × SpellsSigned body peg
+IsRecordRead sum size log lid number (DanglingBlob h place len) =
+    (body : List ℕ) × StandsAt sum size log lid number h body len × (is_blob h.kind ≡ true) × SpellsSigned body place
+IsRecordRead sum size log lid number (BatchManifest peg len) =
+    (h : MessageHeader) × (body : List ℕ) × StandsAt sum size log lid number h body len × (h.kind ≡ kind.BatchManifest) × SpellsSigned body peg
 
 -- what is answered for a message of this header whose blob is at a place: its item, or that the blob is missing
 abbrev pub IsWithItem : (List ℕ → ℕ) → (ℤ → Option (List ℕ)) → MessageHeader → ℤ → ℕ → LogRead → Type 0
@@ -114,8 +119,10 @@ IsWithItem sum blobs header place n _ = ⊥
 -- What is read is what stands there, with the item of a message whose blob is there.
 abbrev pub IsReading : (List ℕ → ℕ) → ℕ → List ℕ → (ℤ → Option (List ℕ)) → ℕ → ℕ → LogRead → Type 0
 IsReading sum size log blobs lid number (Blob h bytes place len) =
-    (body : List ℕ) × StandsAt sum size log lid number h body len × (is_blob h.kind ≡ true) × SpellsSigned body place × IsItemOf sum h.kind (blobs place) (Some bytes.items)
-IsReading sum size log blobs lid number (DanglingBlob h place len) = (body : List ℕ) × StandsAt sum size log lid number h body len × (is_blob h.kind ≡ true) × SpellsSigned body place × (blobs place ≡ None)
+    (body : List ℕ) × StandsAt sum size log lid number h body len × (is_blob h.kind ≡ true) × SpellsSigned body place
+    × IsItemOf sum h.kind (blobs place) (Some bytes.items)
+IsReading sum size log blobs lid number (DanglingBlob h place len) =
+    (body : List ℕ) × StandsAt sum size log lid number h body len × (is_blob h.kind ≡ true) × SpellsSigned body place × (blobs place ≡ None)
 IsReading sum size log blobs lid number read = IsRecordRead sum size log lid number read
 
 -- A record stands there whose body has to be a place, and has not the eight bytes of one.
@@ -150,7 +157,8 @@ IsUnreadableAs sum size log blobs lid number at =
 -- The message is given: its kind, its page and its item, and how long its record is, or where its blob lies.
 abbrev pub GivesMessage : Message → LogRead → Type 0
 GivesMessage m (Inline h bytes len) = (kind_written m.kind m.page false ≡ Some h.kind) × (h.pid ≡ m.page) × (bytes.items ≡ m.bytes) × (len ≡ m.size)
-GivesMessage m (Blob h bytes place len) = (kind_written m.kind m.page true ≡ Some h.kind) × (h.pid ≡ m.page) × (bytes.items ≡ m.bytes) × ((lid : ℕ) × (m.pointer ≡ ptr.Blob lid place))
+GivesMessage m (Blob h bytes place len) =
+    (kind_written m.kind m.page true ≡ Some h.kind) × (h.pid ≡ m.page) × (bytes.items ≡ m.bytes) × ((lid : ℕ) × (m.pointer ≡ ptr.Blob lid place))
 GivesMessage m _ = ⊥
 
 -- the item stands in the record

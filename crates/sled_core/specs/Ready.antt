@@ -22,13 +22,15 @@ pub record StandsUsed (sum : List ℕ → ℕ) (size : ℕ) (log : List ℕ) (s 
 -- the entries that a snapshot is the table of have their records, where they have no blob
 abbrev pub HaveRecords : (List ℕ → ℕ) → ℕ → List ℕ → SnapshotModel → History → ℕ → Type 0
 HaveRecords sum size log s H below =
-    (page : ℕ) (m : Message) → Contains (table H (stable_place s.stable) page) m → m.place < below → (lid : ℕ) → m.pointer ≡ Inline lid → StandsUsed sum size log s lid m
+    (page : ℕ) (m : Message) → Contains (table H (stable_place s.stable) page) m → m.place < below → (lid : ℕ) → m.pointer ≡ Inline lid
+    → StandsUsed sum size log s lid m
 
 -- where the active segment of a snapshot lies
 abbrev pub active_site : ℕ → ℕ → ℕ → SegmentPosition
 active_site size stable active = record { place = stable / size * size; slot = active }
 
--- What stands in the log file where the active segment goes on behind the stable place: its messages up to that place, behind its header, with zeros behind them, and the entries of earlier segments.
+-- What stands in the log file where the active segment goes on behind the stable place: its messages up to that place, behind its header, with zeros behind
+-- them, and the entries of earlier segments.
 pub record HasActive (sum : List ℕ → ℕ) (size : ℕ) (log : List ℕ) (s : SnapshotModel) (active : ℕ) (H : History) : Type 0 where
   pub inside : 20 ≤ stable_place s.stable % size
   pub header : HasHeader sum log (active_site size (stable_place s.stable) active)
@@ -46,7 +48,8 @@ abbrev pub HasFile : (List ℕ → ℕ) → ℕ → List ℕ → SnapshotModel �
 HasFile sum size log s None H = HasNoActive sum size log s H
 HasFile sum size log s (Some active) H = HasActive sum size log s active H
 
--- Snapshot and device are ready for a log that holds this history: the snapshot is the table of the whole history, as the newest one of the device is, and the log file is settled and has what the table needs. (Which slot is active, the newest one may say otherwise.)
+-- Snapshot and device are ready for a log that holds this history: the snapshot is the table of the whole history, as the newest one of the device is, and
+-- the log file is settled and has what the table needs. (Which slot is active, the newest one may say otherwise.)
 pub record IsReady (sum : List ℕ → ℕ) (size : ℕ) (device : State) (s : SnapshotModel) (H : History) : Type 0 where
   pub log : List ℕ
   pub settled : device.log ≡ at_rest log

@@ -45,7 +45,8 @@ pub record HasOwn (ready : ReadyBuffers) (place from : ℕ) (bs : List Sealed) (
   pub low : All (λ p. p < place + from) before
   pub high : All (λ p. place + sealed_end from bs ≤ p) behind
 
--- A reservation of a segment has ended of which a sealed buffer had it, or the current one: the segment has this buffer now, and had these ones sealed, and these reservations.
+-- A reservation of a segment has ended of which a sealed buffer had it, or the current one: the segment has this buffer now, and had these ones sealed, and
+-- these reservations.
 pub record EndedOne (b : IoBuf) (index : ℕ) (bs : List Sealed) (rs : List Reserved) : Type 0 where
   pub sealed : b.sealed.items ≡ one_ended index bs
   pub are : AreSealed b.written_len rs bs

@@ -1,6 +1,7 @@
 -- When a recovery can go on from a content without losing what was acknowledged: the invariant behind the headline.
 -- Its parts, over snapshots, the log file and blobs, share only the history, the end of what was acknowledged, the floor and the cuts.
-use Rattle.std.specs.Prelude.{◌≡◌, ◌≢◌, ◌⊎◌, ◌+◌, ◌*◌, ◌/◌, ◌%◌, ◌≤◌, ◌<◌, ◌≤ℤ◌, ◌<ℤ◌, ◌-ℤ◌, ℕ, ℤ, pos, nat_lt, true, List, [], ◌∷◌, replicate, if◌then◌else◌, Option, Some, None, Contains}
+use Rattle.std.specs.Prelude.{◌≡◌, ◌≢◌, ◌⊎◌, ◌+◌, ◌*◌, ◌/◌, ◌%◌, ◌≤◌, ◌<◌, ◌≤ℤ◌, ◌<ℤ◌, ◌-ℤ◌, ℕ, ℤ, pos, nat_lt, true, List, [], ◌∷◌, replicate, if◌then◌else◌}
+use Rattle.std.specs.Prelude.{Option, Some, None, Contains}
 use Rattle.sled_codec.specs.declared.result.DiskPtr.{DiskPtr}
 use Rattle.sled_codec.specs.declared.result.DiskPtr.TheVariants.{Inline, Blob}
 use Rattle.sled_codec.specs.declared.serialization.message.MessageKind.{MessageKind}
@@ -41,7 +42,9 @@ pub record NoForeign (sum : List ℕ → ℕ) (size : ℕ) (past : State) (left 
   pub snapshots : NoForeignNames (λ bytes. (s : SnapshotModel) × IsSnapshotFile sum bytes s) past.snapshots left.snapshots
   pub zeros : NoHeaderOfZeros sum
 
--- What is read now is the log's own: only what the log itself wrote passes as its own in the log file, and under the names whose bytes are synced; and zeros pass as no header. So it is where nothing that is read is foreign. (Of a file that was never synced nothing is asked: a call that failed may have left any bytes in it, and no message of a log names it.)
+-- What is read now is the log's own: only what the log itself wrote passes as its own in the log file, and under the names whose bytes are synced; and
+-- zeros pass as no header. So it is where nothing that is read is foreign. (Of a file that was never synced nothing is asked: a call that failed may have
+-- left any bytes in it, and no message of a log names it.)
 pub record ReadsOnlyOwn (sum : List ℕ → ℕ) (size : ℕ) (s : State) : Type 0 where
   pub log : NoForeignLog sum size s.log s.placed s.log.bytes
   pub names : ReadsStayOwn sum s
@@ -81,7 +84,9 @@ NoBatchBegins H from to = (b : Batch) → Contains H.batches b → (b.low < from
 
 -- a record names the blob of a message, under the kind of a message that has one
 abbrev pub NamesBlobOf : RecordContent → Message → Type 0
-NamesBlobOf what m = (k : MessageKind) × (lid : ℕ) × (place : ℤ) × (m.pointer ≡ Blob lid place) × (kind_written m.kind m.page true ≡ Some k) × (what ≡ NamesBlob k m.page lid place)
+NamesBlobOf what m =
+    (k : MessageKind) × (lid : ℕ) × (place : ℤ) × (m.pointer ≡ Blob lid place) × (kind_written m.kind m.page true ≡ Some k)
+    × (what ≡ NamesBlob k m.page lid place)
 
 -- what a reader meets of the log file is a message: with its item, or with the place of the blob that has it
 pub record MeetsMessage (x : ScannedRecord) (m : Message) : Type 0 where
@@ -93,21 +98,26 @@ pub record MeetsMessage (x : ScannedRecord) (m : Message) : Type 0 where
 abbrev pub NoBatchEnds : History → ℕ → ℕ → Type 0
 NoBatchEnds H from to = (b : Batch) → Contains H.batches b → (b.peg < from) ⊎ (to ≤ b.peg)
 
--- Behind where the reading of a segment ends for a Cap nothing of a history begins in the segment; and where it ends for that, or for want of room, no batch ends there.
+-- Behind where the reading of a segment ends for a Cap nothing of a history begins in the segment; and where it ends for that, or for want of room, no
+-- batch ends there.
 abbrev pub NothingBehind : ℕ → History → ℕ → ℕ → ScanEnd → Type 0
 NothingBehind size H place stop why =
-    (why ≡ Capped → NoMessageBegins H (place + stop) (place + size) × NoBatchBegins H (place + stop) (place + size)) × (why ≢ Broken → NoBatchEnds H (place + stop) (place + size))
+    (why ≡ Capped → NoMessageBegins H (place + stop) (place + size) × NoBatchBegins H (place + stop) (place + size))
+    × (why ≢ Broken → NoBatchEnds H (place + stop) (place + size))
 
 -- the record of a message stands at its pointer, where it has the item
 abbrev pub StandsInline : (List ℕ → ℕ) → ℕ → List ℕ → Message → DiskPtr → Type 0
 StandsInline sum size log m (Inline lid) = MessageStands sum size log lid (m.place / size) m
 StandsInline sum size log m (Blob lid place) = Unit {0}
 
--- What a reader meets is of the history: a message, the beginning of a batch, or a record that was given up. Nothing else of the history begins within its bytes.
+-- What a reader meets is of the history: a message, the beginning of a batch, or a record that was given up. Nothing else of the history begins within its
+-- bytes.
 abbrev pub IsOfHistory : (List ℕ → ℕ) → ℕ → List ℕ → History → ScannedRecord → Type 0
 IsOfHistory sum size log H x =
-    ((m : Message) × Contains H.messages m × MeetsMessage x m × StandsInline sum size log m m.pointer × NoMessageBegins H (x.place + 1) (x.place + x.len) × NoBatchBegins H x.place (x.place + x.len))
-    ⊎ ((b : Batch) × Contains H.batches b × (x.place ≡ b.low) × (x.what ≡ BatchStart (pos b.peg)) × NoMessageBegins H x.place (x.place + x.len) × NoBatchBegins H (x.place + 1) (x.place + x.len))
+    ((m : Message) × Contains H.messages m × MeetsMessage x m × StandsInline sum size log m m.pointer × NoMessageBegins H (x.place + 1) (x.place + x.len)
+    × NoBatchBegins H x.place (x.place + x.len))
+    ⊎ ((b : Batch) × Contains H.batches b × (x.place ≡ b.low) × (x.what ≡ BatchStart (pos b.peg)) × NoMessageBegins H x.place (x.place + x.len)
+    × NoBatchBegins H (x.place + 1) (x.place + x.len))
     ⊎ ((x.what ≡ Skipped) × NoMessageBegins H x.place (x.place + x.len) × NoBatchBegins H x.place (x.place + x.len))
 
 -- a reader that begins behind the header of a segment comes to a message
@@ -146,10 +156,12 @@ pub record IsMarkOf (H : History) (s : Segment) : Type 0 where
   pub below : s.mark <ℤ pos s.place
   pub apart : (b : Batch) → Contains H.batches b → (s.mark <ℤ pos b.low) ⊎ (pos b.peg ≤ℤ s.mark)
 
--- A mark lies below the cut; or below the end of the segment of the cut, where nothing of the history begins between the two, and no batch ends. (A stable end behind a Cap is the end of its segment, and the cut is where the Cap begins.)
+-- A mark lies below the cut; or below the end of the segment of the cut, where nothing of the history begins between the two, and no batch ends. (A stable
+-- end behind a Cap is the end of its segment, and the cut is where the Cap begins.)
 abbrev pub IsMarkBelow : ℕ → History → ℕ → ℤ → Type 0
 IsMarkBelow size H cut mark =
-    (mark <ℤ pos cut) ⊎ ((n : ℕ) × (mark ≡ pos n) × (n < raised size cut) × NoMessageBegins H cut (n + 1) × NoBatchBegins H cut (n + 1) × NoBatchEnds H cut (n + 1))
+    (mark <ℤ pos cut)
+    ⊎ ((n : ℕ) × (mark ≡ pos n) × (n < raised size cut) × NoMessageBegins H cut (n + 1) × NoBatchBegins H cut (n + 1) × NoBatchEnds H cut (n + 1))
 
 -- A record can begin at a place: behind the header of its segment, where the longest header of a record has room.
 pub record BeginsInSegment (size place : ℕ) : Type 0 where
@@ -192,7 +204,8 @@ abbrev pub cut_from : ℕ → SnapshotModel → List Scanned → Option ℕ → 
 cut_from size first scanned None = (stable_place first.stable, first.active)
 cut_from size first scanned (Some end) = cut_over size first end (scanned_below end scanned)
 
--- The segments that are found are of the history, and those that a table below the cut needs are there. The cut passes what was acknowledged. What begins below the cut lies as a log places it.
+-- The segments that are found are of the history, and those that a table below the cut needs are there. The cut passes what was acknowledged. What begins
+-- below the cut lies as a log places it.
 pub record IsRecoverableLog (sum : List ℕ → ℕ) (size : ℕ) (log : List ℕ) (H : History) (A : ℕ) (first : SnapshotModel) (cut : ℕ × Option ℕ) : Type 0 where
   pub ordering : List Segment
   pub numbers : IsOrdering sum size log (least_place size first) ordering
@@ -203,7 +216,8 @@ pub record IsRecoverableLog (sum : List ℕ → ℕ) (size : ℕ) (log : List �
   pub marks : (s : Segment) → Contains ordering s → IsMarkOf H s
   pub truth : (s : Scanned) (x : ScannedRecord) → Contains scanned s → Contains s.met x → IsOfHistory sum size log H x
   pub caps : (s : Scanned) → Contains scanned s → NothingBehind size H s.segment.place s.stop s.why
-  pub tail_there : ((s : Segment) × Contains ordering s × (s.place ≡ tail_begins size (least_place size first) ordering)) ⊎ (tail_begins size (least_place size first) ordering ≡ stable_place first.stable)
+  pub tail_there : ((s : Segment) × Contains ordering s × (s.place ≡ tail_begins size (least_place size first) ordering))
+      ⊎ (tail_begins size (least_place size first) ordering ≡ stable_place first.stable)
   pub is_cut : cut ≡ cut_from size first scanned (tail_end tail)
   pub not_below : stable_place first.stable ≤ cut.0
   pub passes : A ≤ cut.0

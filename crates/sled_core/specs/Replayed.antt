@@ -30,7 +30,8 @@ scanned_of segment scan = record { segment = segment; met = scan.met.items; stop
 -- A segment as the pass reads it: to its end, or to any place behind a batch that is open. What stands behind that batch is neither asked for nor looked at.
 abbrev pub IsReplayed : (List ℕ → ℕ) → ℕ → List ℕ → ℕ → Scanned → Type 0
 IsReplayed sum size log end s =
-    IsPath sum size log s.segment.slot s.segment.place 20 s.met s.stop × IfNone (open_at end s.met) (IsEnd sum size log s.segment.slot s.segment.place s.stop s.why)
+    IsPath sum size log s.segment.slot s.segment.place 20 s.met s.stop
+    × IfNone (open_at end s.met) (IsEnd sum size log s.segment.slot s.segment.place s.stop s.why)
 
 -- A damaged record is met in a segment of the pass, before a batch that is open.
 pub record IsDamagedBefore (sum : List ℕ → ℕ) (size : ℕ) (log : List ℕ) (end : ℕ) (segment : Segment) : Type 0 where

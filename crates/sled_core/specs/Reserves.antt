@@ -3,7 +3,8 @@ use Rattle.std.specs.declared.io.Error.{Error as IoError}
 use Rattle.std.specs.declared.io.ErrorKind.TheVariants.{AlreadyExists}
 use Rattle.std.specs.IoError.{error_kind}
 use Rattle.sled_store.specs.Answers.{is_fault}
-use Rattle.std.specs.Prelude.{◌≡◌, ◌⊎◌, ◌+◌, ◌%◌, ◌^◌, ◌++◌, ◌∷◌, [], IsTrue, IsSome, ℕ, ℤ, pos, Bool, true, false, List, Option, None, Some, Result, Ok, Err, IfOk, OnOk}
+use Rattle.std.specs.Prelude.{◌≡◌, ◌⊎◌, ◌+◌, ◌%◌, ◌^◌, ◌++◌, ◌∷◌, [], IsTrue, IsSome, ℕ, ℤ, pos, Bool, true, false, List, Option, None, Some, Result, Ok, Err}
+use Rattle.std.specs.Prelude.{IfOk, OnOk}
 use Rattle.sled_codec.specs.declared.result.Error.{Error}
 use Rattle.sled_codec.specs.declared.result.Error.TheVariants.{Io, OutOfMemory}
 use Rattle.sled_codec.specs.declared.serialization.message.LogKind.{LogKind}
@@ -14,7 +15,8 @@ use Rattle.sled_store.specs.Device.{Trace, state_of}
 use Rattle.sled_store.specs.Script.{Performs, after_all}
 use Rattle.sled_core.specs.declared.logger.Log.{Log}
 use Rattle.sled_core.specs.Causes.{ReserveAnswers, ReserveCauses}
-use Rattle.sled_core.specs.Fits.{Awaits, IsLeastOpen, IsUnchanged, IsUsedUpFor, blob_at, config_of, device_of, fault_of, message_as, open_for, open_places, position_behind, position_of, reserved_end, size_for, start_behind, start_of, target_of, waiting_behind, waiting_of}
+use Rattle.sled_core.specs.Fits.{Awaits, IsLeastOpen, IsUnchanged, IsUsedUpFor, blob_at, config_of, device_of, fault_of, message_as, open_for, open_places}
+use Rattle.sled_core.specs.Fits.{position_behind, position_of, reserved_end, size_for, start_behind, start_of, target_of, waiting_behind, waiting_of}
 use Rattle.sled_core.specs.Keeps.{KeepsSeen, Preserves}
 use Rattle.sled_core.specs.Manifests.{is_manifest, kind_for}
 use Rattle.sled_core.specs.Marked.{BeginsMarked}
@@ -24,10 +26,13 @@ use Rattle.sled_core.specs.Tickets.{is_manifest_of, own_blob}
 use Rattle.sled_core.specs.declared.reservation.Reservation.{Reservation}
 use Rattle.sled_codec.specs.History.{Message}
 
--- A blob is made for a message of a kind, where it has one: at this place, with this item, its bytes are synced and then its name. A refusal leaves the device as it was.
-pub record MakesBlob {T D C : Type 0} (trace : D → Trace) (sum : List ℕ → ℕ) (result : Result T Error) (kind : Option MessageKind) (place : ℤ) (item : List ℕ) (old new : Log D C) : Type 0 where
+-- A blob is made for a message of a kind, where it has one: at this place, with this item, its bytes are synced and then its name. A refusal leaves the
+-- device as it was.
+pub record MakesBlob {T D C : Type 0} (trace : D → Trace) (sum : List ℕ → ℕ) (result : Result T Error) (kind : Option MessageKind) (place : ℤ) (item : List ℕ)
+    (old new : Log D C) : Type 0 where
   pub calls : (k : MessageKind) → kind ≡ Some k → Performs (making place (blob_bytes sum (code_of k) item)) (trace (device_of old)) (trace (device_of new))
-  pub done : (k : MessageKind) → kind ≡ Some k → OnOk result (trace (device_of new) ≡ after_all (making place (blob_bytes sum (code_of k) item)) (trace (device_of old)))
+  pub done : (k : MessageKind) → kind ≡ Some k
+      → OnOk result (trace (device_of new) ≡ after_all (making place (blob_bytes sum (code_of k) item)) (trace (device_of old)))
   pub refused : UnlessFault result (trace (device_of old)) (trace (device_of new))
 
 -- A reservation makes the blob of an item that goes to one; else it leaves the device alone.
@@ -35,10 +40,12 @@ abbrev pub TouchesBlob : {T D C : Type 0} → (D → Trace) → (List ℕ → �
 TouchesBlob trace sum result false kind place item old new = config_of new ≡ config_of old
 TouchesBlob trace sum result true kind place item old new = MakesBlob trace sum result kind place item old new
 
--- What a refusal leaves of a log: it is as it was; where the item goes to a blob and that was refused, or memory for it, a further segment may have been begun. A failure of the device left it so only where the log kept that before.
+-- What a refusal leaves of a log: it is as it was; where the item goes to a blob and that was refused, or memory for it, a further segment may have been
+-- begun. A failure of the device left it so only where the log kept that before.
 abbrev pub RefusalLeaves : {T D C : Type 0} → (List ℕ → ℕ) → Result T Error → Bool → Log D C → Log D C → ℕ → ℕ → Type 0
 RefusalLeaves sum (Ok _) in_blob old new page n = Unit {0}
-RefusalLeaves sum (Err (Io e)) in_blob old new page n = ((fault_of old ≡ Some e) × IsUnchanged old new) ⊎ ((in_blob ≡ true) × (fault_of old ≡ None) × IsMadeReady sum old new page n)
+RefusalLeaves sum (Err (Io e)) in_blob old new page n =
+    ((fault_of old ≡ Some e) × IsUnchanged old new) ⊎ ((in_blob ≡ true) × (fault_of old ≡ None) × IsMadeReady sum old new page n)
 RefusalLeaves sum (Err OutOfMemory) in_blob old new page n = IsUnchanged old new ⊎ ((in_blob ≡ true) × IsMadeReady sum old new page n)
 RefusalLeaves sum (Err _) in_blob old new page n = IsUnchanged old new
 
@@ -55,7 +62,9 @@ reserve_causes trace faults kind page blob n old new = record {
   after = faults (device_of new);
 }
 
--- A log has a reservation of a page's record with a body of n bytes, behind all that it had: what is reserved ends with that record, whose place comes last among the open ones. Where it had no room in the current segment, that is sealed, and a further one begins with it, whose header has the last stable place for its mark.
+-- A log has a reservation of a page's record with a body of n bytes, behind all that it had: what is reserved ends with that record, whose place comes last
+-- among the open ones. Where it had no room in the current segment, that is sealed, and a further one begins with it, whose header has the last stable
+-- place for its mark.
 pub record StandsBehind {D C : Type 0} (sum : List ℕ → ℕ) (old new : Log D C) (page n : ℕ) : Type 0 where
   pub position : position_of new ≡ position_behind old page n
   pub reserved : reserved_end new ≡ (target_of old page n).place + size_for old page n
@@ -65,7 +74,8 @@ pub record StandsBehind {D C : Type 0} (sum : List ℕ → ℕ) (old new : Log D
   pub marked : BeginsMarked sum old new
 
 -- What a reservation comes to, by whether the item goes to a blob, and how long the body of its record is.
-pub record ReservesAs {D C : Type 0} (trace : D → Trace) (faults : D → ℕ) (sum : List ℕ → ℕ) (result : Result Reservation Error) (kind : LogKind) (page : ℕ) (item : List ℕ) (blob : Bool) (n : ℕ) (old new : Log D C) : Type 0 where
+pub record ReservesAs {D C : Type 0} (trace : D → Trace) (faults : D → ℕ) (sum : List ℕ → ℕ) (result : Result Reservation Error) (kind : LogKind) (page : ℕ)
+    (item : List ℕ) (blob : Bool) (n : ℕ) (old new : Log D C) : Type 0 where
   pub ticket : IfOk result (λ ticket. Awaits new ticket (message_as old kind page blob n item))
   pub stored : OnOk result (IsStored trace sum new (message_as old kind page blob n item))
   pub manifest : IfOk result (λ ticket. is_manifest_of ticket ≡ is_manifest kind page)
@@ -82,6 +92,7 @@ pub record ReservesAs {D C : Type 0} (trace : D → Trace) (faults : D → ℕ) 
 -- Why a blob was not made, and what the log keeps of that: a failure of the device alone.
 abbrev pub MadeAnswers : {T : Type 0} → Result T Error → Option (List ℕ) → Option IoError → ℕ → ℕ → Type 0
 MadeAnswers (Ok _) file new before after = (new ≡ None) × (file ≡ None) × (after ≡ before)
-MadeAnswers (Err (Io e)) file new before after = ((new ≡ Some e) × IsTrue (is_fault e) × (after ≡ (before + 1) % 2 ^ 64)) ⊎ ((new ≡ None) × (error_kind e ≡ AlreadyExists) × IsSome file × (after ≡ before))
+MadeAnswers (Err (Io e)) file new before after =
+    ((new ≡ Some e) × IsTrue (is_fault e) × (after ≡ (before + 1) % 2 ^ 64)) ⊎ ((new ≡ None) × (error_kind e ≡ AlreadyExists) × IsSome file × (after ≡ before))
 MadeAnswers (Err OutOfMemory) file new before after = (new ≡ None) × (after ≡ before)
 MadeAnswers (Err _) file new before after = ⊥

@@ -73,4 +73,6 @@ IsScan sum size log slot place ms stop why = IsPath sum size log slot place 20 m
 
 -- A damaged record is met in a segment.
 unfoldable pub IsDamagedIn : (List ℕ → ℕ) → ℕ → List ℕ → ℕ → ℕ → Type 0
-IsDamagedIn sum size log slot place = (ms : List ScannedRecord) × (next : ℕ) × IsPath sum size log slot place 20 ms next × (next + 32 ≤ size) × IsMalformed sum size log (slot + next) (place / size)
+IsDamagedIn sum size log slot place =
+    (ms : List ScannedRecord) × (next : ℕ) × IsPath sum size log slot place 20 ms next × (next + 32 ≤ size)
+    × IsMalformed sum size log (slot + next) (place / size)

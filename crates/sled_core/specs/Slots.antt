@@ -11,11 +11,14 @@ use Rattle.sled_core.specs.Tail.{least_place}
 
 -- The header of its segment stands in each slot that isn't free whose segment begins below a place.
 abbrev pub AreBegun : (List ℕ → ℕ) → ℕ → List ℕ → ℕ → Machine → Type 0
-AreBegun sum size log below m = (k : ℕ) → is_free (slot_at m k).state ≡ false → (slot_at m k).lsn < below → (mark : ℤ) × IsHeader sum (part log (k * size) 20) (pos (slot_at m k).lsn) mark
+AreBegun sum size log below m =
+    (k : ℕ) → is_free (slot_at m k).state ≡ false → (slot_at m k).lsn < below → (mark : ℤ) × IsHeader sum (part log (k * size) 20) (pos (slot_at m k).lsn) mark
 
--- The newest snapshot is the one with which the log began. Each slot that isn't free and whose segment is older than that of its stable place has an entry of its table.
+-- The newest snapshot is the one with which the log began. Each slot that isn't free and whose segment is older than that of its stable place has an entry
+-- of its table.
 pub record HaveEntries (sum : List ℕ → ℕ) (size : ℕ) (snapshots : ℤ → Option (List ℕ)) (H : History) (m : Machine) : Type 0 where
   pub first : SnapshotModel
   pub begins : BeginsFrom sum snapshots first
   pub entry : (k : ℕ) → is_free (slot_at m k).state ≡ false → (slot_at m k).lsn < least_place size first
-      → (page : ℕ) × (e : Message) × Contains (table H (stable_place first.stable) page) e × (e.place / size * size ≡ (slot_at m k).lsn) × (lid_of e.pointer / size ≡ k)
+      → (page : ℕ) × (e : Message) × Contains (table H (stable_place first.stable) page) e × (e.place / size * size ≡ (slot_at m k).lsn)
+      × (lid_of e.pointer / size ≡ k)

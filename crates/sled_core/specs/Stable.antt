@@ -1,5 +1,6 @@
 -- What makes a place durable, and why that fails.
-use Rattle.std.specs.Prelude.{◌≡◌, ◌⊎◌, ◌≤◌, ◌≤ℤ◌, ◌<ℤ◌, ◌+◌, ◌%◌, ◌^◌, ℕ, ℤ, pos, negsuc, int_lt, if◌then◌else◌, List, [], ◌∷◌, Option, None, Some, IsTrue, Result, Ok, Err}
+use Rattle.std.specs.Prelude.{◌≡◌, ◌⊎◌, ◌≤◌, ◌≤ℤ◌, ◌<ℤ◌, ◌+◌, ◌%◌, ◌^◌, ℕ, ℤ, pos, negsuc, int_lt, if◌then◌else◌, List, [], ◌∷◌, Option, None, Some, IsTrue}
+use Rattle.std.specs.Prelude.{Result, Ok, Err}
 use Rattle.std.specs.declared.io.Error.{Error as IoError}
 use Rattle.sled_codec.specs.declared.result.Error.{Error}
 use Rattle.sled_codec.specs.declared.result.Error.TheVariants.{Io, OutOfMemory, Held, NotReserved, PlacesUsedUp}
@@ -34,14 +35,22 @@ abbrev pub IsNotReserved : {T : Type 0} → Result T Error → Type 0
 IsNotReserved (Err (NotReserved at)) = Unit {0}
 IsNotReserved _ = ⊥
 
--- A call that makes a place durable, where what was reserved ends before this one: as each that may touch the device. That the place was not reserved it answers exactly where that lies behind it and behind the stable end, and no failure is kept. The device fails in it, and memory is refused, only where the place was reserved and isn't stable.
+-- A call that makes a place durable, where what was reserved ends before this one: as each that may touch the device. That the place was not reserved it
+-- answers exactly where that lies behind it and behind the stable end, and no failure is kept. The device fails in it, and memory is refused, only where
+-- the place was reserved and isn't stable.
 abbrev pub StableAnswers : {T : Type 0} → Result T Error → ℤ → ℕ → ℕ → Option ℕ → Type 0 → Option IoError → Option IoError → ℕ → ℕ → Type 0
-StableAnswers (Err (NotReserved at)) lsn stable end held used old new before after = (at ≡ lsn) × (pos stable ≤ℤ lsn) × (pos end ≤ℤ lsn) × (old ≡ None) × (new ≡ None) × (after ≡ before)
-StableAnswers (Ok n) lsn stable end held used old new before after = ((lsn <ℤ pos stable) ⊎ (lsn <ℤ pos end)) × HeldAnswers (Ok n) held used old new before after
-StableAnswers (Err OutOfMemory) lsn stable end held used old new before after = (pos stable ≤ℤ lsn) × (lsn <ℤ pos end) × (used → ⊥) × (old ≡ None) × (new ≡ None) × (after ≡ before)
-StableAnswers (Err (Held at)) lsn stable end held used old new before after = (pos stable ≤ℤ lsn) × (lsn <ℤ pos end) × HeldAnswers {T = ℕ} (Err (Held at)) held used old new before after
-StableAnswers (Err PlacesUsedUp) lsn stable end held used old new before after = (pos stable ≤ℤ lsn) × (lsn <ℤ pos end) × HeldAnswers {T = ℕ} (Err PlacesUsedUp) held used old new before after
-StableAnswers (Err (Io e)) lsn stable end held used old new before after = (old ≡ None → (pos stable ≤ℤ lsn) × (lsn <ℤ pos end)) × IsFault e old new before after
+StableAnswers (Err (NotReserved at)) lsn stable end held used old new before after =
+    (at ≡ lsn) × (pos stable ≤ℤ lsn) × (pos end ≤ℤ lsn) × (old ≡ None) × (new ≡ None) × (after ≡ before)
+StableAnswers (Ok n) lsn stable end held used old new before after =
+    ((lsn <ℤ pos stable) ⊎ (lsn <ℤ pos end)) × HeldAnswers (Ok n) held used old new before after
+StableAnswers (Err OutOfMemory) lsn stable end held used old new before after =
+    (pos stable ≤ℤ lsn) × (lsn <ℤ pos end) × (used → ⊥) × (old ≡ None) × (new ≡ None) × (after ≡ before)
+StableAnswers (Err (Held at)) lsn stable end held used old new before after =
+    (pos stable ≤ℤ lsn) × (lsn <ℤ pos end) × HeldAnswers {T = ℕ} (Err (Held at)) held used old new before after
+StableAnswers (Err PlacesUsedUp) lsn stable end held used old new before after =
+    (pos stable ≤ℤ lsn) × (lsn <ℤ pos end) × HeldAnswers {T = ℕ} (Err PlacesUsedUp) held used old new before after
+StableAnswers (Err (Io e)) lsn stable end held used old new before after =
+    (old ≡ None → (pos stable ≤ℤ lsn) × (lsn <ℤ pos end)) × IsFault e old new before after
 StableAnswers (Err _) lsn stable end held used old new before after = ⊥
 
 -- What a call that makes these calls of the device spares: it does nothing where the log keeps a failure, and where there is nothing to do the device has none.
@@ -56,13 +65,16 @@ pub record SyncsAll {D C : Type 0} (old new : Log D C) : Type 0 where
   -- and no batch holds the stable end up
   pub stable : stable_end new ≡ synced_end new
 
--- The last flush of a log, of which a reservation may be open: it failed for the failure that the log kept, for one of this call, which is counted, for want of memory or of a further segment, or was held.
+-- The last flush of a log, of which a reservation may be open: it failed for the failure that the log kept, for one of this call, which is counted, for
+-- want of memory or of a further segment, or was held.
 abbrev pub CloseAnswers : {T : Type 0} → Result T Error → Option ℕ → Type 0 → Option IoError → ℕ → ℕ → Type 0
 CloseAnswers (Ok _) held used fault before after = (held ≡ None) × (used → ⊥) × (fault ≡ None) × (after ≡ before)
-CloseAnswers (Err (Io e)) held used fault before after = ((fault ≡ Some e) × (after ≡ before)) ⊎ ((fault ≡ None) × (after ≡ (before + 1) % 2 ^ 64) × IsTrue (is_fault e))
+CloseAnswers (Err (Io e)) held used fault before after =
+    ((fault ≡ Some e) × (after ≡ before)) ⊎ ((fault ≡ None) × (after ≡ (before + 1) % 2 ^ 64) × IsTrue (is_fault e))
 CloseAnswers (Err OutOfMemory) held used fault before after = (used → ⊥) × (fault ≡ None) × (after ≡ before)
 CloseAnswers (Err PlacesUsedUp) held used fault before after = used × (fault ≡ None) × (after ≡ before)
-CloseAnswers (Err (Held at)) held used fault before after = ((place : ℕ) × (held ≡ Some place) × (at ≡ pos place)) × (used → ⊥) × (fault ≡ None) × (after ≡ before)
+CloseAnswers (Err (Held at)) held used fault before after =
+    ((place : ℕ) × (held ≡ Some place) × (at ≡ pos place)) × (used → ⊥) × (fault ≡ None) × (after ≡ before)
 CloseAnswers (Err _) held used fault before after = ⊥
 
 -- where the first of these buffers begins, or else the current one

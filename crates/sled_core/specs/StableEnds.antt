@@ -1,6 +1,7 @@
 -- Which places of a log are durable, and up to which place all are. An interval is a pair of places, both of which are in it; a batch is the pair of
 -- its lowest place and its peg, the place at which it is whole.
-use Rattle.std.specs.Prelude.{◌≡◌, ◌⊎◌, ◌≤ℤ◌, ◌<ℤ◌, ◌-ℤ◌, ℤ, pos, ⊤, List, [], ◌∷◌, Any, All, Contains, int_lt, FitsSigned, if◌then◌else◌, map, Option, None, Some}
+use Rattle.std.specs.Prelude.{◌≡◌, ◌⊎◌, ◌≤ℤ◌, ◌<ℤ◌, ◌-ℤ◌, ℤ, pos, ⊤, List, [], ◌∷◌, Any, All, Contains, int_lt, FitsSigned, if◌then◌else◌, map, Option, None}
+use Rattle.std.specs.Prelude.{Some}
 use Rattle.std.specs.declared.cmp.Reverse.{Reverse}
 use Rattle.std.specs.declared.cmp.Ordering.{Ordering}
 use Rattle.std.specs.Int.{w64}

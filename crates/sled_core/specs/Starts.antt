@@ -10,7 +10,8 @@ use Rattle.sled_store.specs.StartCauses.{StartRefuses}
 use Rattle.sled_store.specs.Device.{Trace, state_of}
 use Rattle.sled_store.specs.Script.{Performs, after_all}
 use Rattle.sled_store.specs.Started.{started}
-use Rattle.sled_core.specs.Fits.{NoneOpen, NoneSealed, config_of, fault_of, kept_batches, noted_in, pins_of, position_of, reserved_end, segment_size_of, start_of, synced_end}
+use Rattle.sled_core.specs.Fits.{NoneOpen, NoneSealed, config_of, fault_of, kept_batches, noted_in, pins_of, position_of, reserved_end, segment_size_of}
+use Rattle.sled_core.specs.Fits.{start_of, synced_end}
 use Rattle.sled_core.specs.FreeSlots.{begun_machine}
 use Rattle.sled_core.specs.Positions.{Position, is_short, next_segment_at}
 use Rattle.sled_core.specs.Waiting.{BufferStart}
@@ -20,7 +21,8 @@ abbrev pub config_left : {D C : Type 0} → Result (Log D C) (Error × RunningCo
 config_left (Ok log) = config_of log
 config_left (Err e) = e.1
 
--- where the segment lies in which a log begins from a snapshot, on a file of this length: that of the active slot, or a new one in the lowest slot that the snapshot doesn't use
+-- where the segment lies in which a log begins from a snapshot, on a file of this length: that of the active slot, or a new one in the lowest slot that the
+-- snapshot doesn't use
 abbrev pub site_from : ℕ → ℕ → SnapshotModel → SegmentPosition
 site_from size len s = record { place = (beginning_of size len s).place; slot = (beginning_of size len s).slot }
 
@@ -29,7 +31,12 @@ abbrev pub position_from : ℕ → ℕ → SnapshotModel → Position
 position_from size len s =
     let offset = max 20 (offset_at size (stable_place s.stable) s.active) in
     if is_short size offset then next_segment_at size (site_from size len s).place (begun_machine size len s)
-    else record { place = (site_from size len s).place + offset; begins = (site_from size len s).place; slot = (site_from size len s).slot; machine = begun_machine size len s }
+    else record {
+      place = (site_from size len s).place + offset;
+      begins = (site_from size len s).place;
+      slot = (site_from size len s).slot;
+      machine = begun_machine size len s;
+    }
 
 -- where its current buffer begins: there, or at the beginning of a new segment
 abbrev pub start_from : ℕ → ℕ → SnapshotModel → BufferStart

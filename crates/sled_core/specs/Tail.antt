@@ -1,6 +1,7 @@
 -- What a reader finds of a log in its file: the segments from a place on, the tail of the log, and where a pass over all of it stops.
 -- Stated for any number of segments and for all kinds of messages.
-use Rattle.std.specs.Prelude.{◌≡◌, ◌≢◌, ◌⊎◌, ◌↔◌, ◌+◌, ◌*◌, ◌/◌, ℕ, ℤ, pos, negsuc, max, nat_lt, int_le, Bool, true, false, ◌&&◌, if◌then◌else◌, List, [], ◌∷◌, Option, Some, None, Contains}
+use Rattle.std.specs.Prelude.{◌≡◌, ◌≢◌, ◌⊎◌, ◌↔◌, ◌+◌, ◌*◌, ◌/◌, ℕ, ℤ, pos, negsuc, max, nat_lt, int_le, Bool, true, false, ◌&&◌, if◌then◌else◌, List, [], ◌∷◌}
+use Rattle.std.specs.Prelude.{Option, Some, None, Contains}
 use Rattle.sled_codec.specs.Snapshots.{SnapshotModel, stable_place}
 use Rattle.sled_core.specs.declared.iterator.scan.ScannedRecord.{ScannedRecord}
 use Rattle.sled_core.specs.declared.iterator.scan.RecordContent.{RecordContent}
@@ -124,7 +125,8 @@ cut_of size at = if is_filled size at then (at.0.place + size, None) else (at.1,
 abbrev pub IsTailPart : (List ℕ → ℕ) → ℕ → List ℕ → List Segment → ℕ → List Scanned → ℕ → Type 0
 IsTailPart sum size log ordering place [] next = next ≡ place
 IsTailPart sum size log ordering place (s ∷ ss) next =
-    Contains ordering s.segment × (s.segment.place ≡ place) × IsScanned sum size log s × (s.why ≢ Broken) × IsTailPart sum size log ordering (place + size) ss next
+    Contains ordering s.segment × (s.segment.place ≡ place) × IsScanned sum size log s × (s.why ≢ Broken)
+    × IsTailPart sum size log ordering (place + size) ss next
 
 -- the segment that holds the place with which a snapshot ends
 abbrev pub least_place : ℕ → SnapshotModel → ℕ

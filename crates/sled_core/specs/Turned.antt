@@ -1,5 +1,6 @@
 -- What the calls of a log make of its segments, one behind another.
-use Rattle.std.specs.Prelude.{◌≡◌, ◌+◌, ◌*◌, ◌≤◌, ◌<◌, ◌==◌, ◌-◌, ◌-ℤ◌, ℕ, ℤ, pos, Bool, if◌then◌else◌, List, [], ◌∷◌, ◌++◌, length, drop, set, slice_get, take, nat_lt, true, false, Option, None, Some, vec_capacity}
+use Rattle.std.specs.Prelude.{◌≡◌, ◌+◌, ◌*◌, ◌≤◌, ◌<◌, ◌==◌, ◌-◌, ◌-ℤ◌, ℕ, ℤ, pos, Bool, if◌then◌else◌, List, [], ◌∷◌, ◌++◌, length, drop, set, slice_get, take}
+use Rattle.std.specs.Prelude.{nat_lt, true, false, Option, None, Some, vec_capacity}
 use Rattle.std.specs.VecDeque.{deque_len, deque_capacity}
 use Rattle.sled_codec.specs.Record.{short_header}
 use Rattle.sled_codec.specs.Written.{written}
@@ -15,7 +16,8 @@ use Rattle.sled_core.specs.declared.logger.Log.{Log}
 use Rattle.sled_core.specs.Begun.{SegmentView, view_at}
 use Rattle.sled_core.specs.Buffers.{ended, most_open, open_in, pointer_as}
 use Rattle.sled_core.specs.Fits.{current_of, segment_size_of}
-use Rattle.sled_core.specs.SealedBuffers.{behind_run, bytes_between, first_ready, is_ready, one_ended, run_count, run_end, sealed_count, sealed_end, writing, written_at}
+use Rattle.sled_core.specs.SealedBuffers.{behind_run, bytes_between, first_ready, is_ready, one_ended, run_count, run_end, sealed_count, sealed_end, writing}
+use Rattle.sled_core.specs.SealedBuffers.{written_at}
 use Rattle.sled_core.specs.declared.reservation.Reservation.{Reservation}
 use Rattle.sled_core.specs.Tickets.{IsFor, index_of, len_of, place_of, pointer_of}
 use Rattle.sled_core.specs.Waiting.{at_last, closed_now, last_of, with_parts}
@@ -52,7 +54,15 @@ abbrev pub written_now : ℕ → SegmentView → SegmentView
 written_now k v =
     let now = written_at k v.parts.sealed in
     record {
-      parts = record { site = v.parts.site; bytes = v.parts.bytes; written_len = run_end v.parts.written_len now; filled = v.parts.filled; sealed = behind_run now; reserved = drop (run_count now) v.parts.reserved };
+      parts =
+          record {
+            site = v.parts.site;
+            bytes = v.parts.bytes;
+            written_len = run_end v.parts.written_len now;
+            filled = v.parts.filled;
+            sealed = behind_run now;
+            reserved = drop (run_count now) v.parts.reserved;
+          };
       gone = v.gone + run_count now;
     }
 
@@ -108,7 +118,18 @@ pub record CanClose (b : IoBuf) (size : ℕ) : Type 0 where
 
 -- The buffer of a segment that begins there, with its header alone, whose mark is the place before this one.
 pub record IsBegunView (sum : List ℕ → ℕ) (site : SegmentPosition) (stable : ℕ) (b : IoBuf) : Type 0 where
-  pub view : view_at site b ≡ record { parts = record { site = site; bytes = short_header sum (pos site.place) (pos stable -ℤ pos 1); written_len = 0; filled = None; sealed = []; reserved = [] }; gone = 0 }
+  pub view : view_at site b
+      ≡ record {
+        parts = record {
+          site = site;
+          bytes = short_header sum (pos site.place) (pos stable -ℤ pos 1);
+          written_len = 0;
+          filled = None;
+          sealed = [];
+          reserved = [];
+        };
+        gone = 0;
+      }
 
 -- A record of this length has a place in the segment that is being filled.
 pub record HasPlace {D C : Type 0} (log : Log D C) (len : ℕ) : Type 0 where

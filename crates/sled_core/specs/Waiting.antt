@@ -1,5 +1,6 @@
 -- The buffers of a log that aren't on the device, by place, whatever segments they are of; and what is written of them.
-use Rattle.std.specs.Prelude.{◌≡◌, ◌+◌, ◌/◌, ◌&&◌, ◌==◌, ◌-◌, nat_lt, nat_le, ℕ, suc, Bool, true, false, if◌then◌else◌, List, [], ◌∷◌, ◌++◌, length, map, take, drop, Option, None, Some}
+use Rattle.std.specs.Prelude.{◌≡◌, ◌+◌, ◌/◌, ◌&&◌, ◌==◌, ◌-◌, nat_lt, nat_le, ℕ, suc, Bool, true, false, if◌then◌else◌, List, [], ◌∷◌, ◌++◌, length, map, take}
+use Rattle.std.specs.Prelude.{drop, Option, None, Some}
 use Rattle.sled_store.specs.Device.{Event}
 use Rattle.sled_core.specs.declared.iobuf.Reserved.{Reserved}
 use Rattle.sled_core.specs.declared.iobuf.Sealed.{Sealed}
@@ -54,24 +55,45 @@ unwritten (v ∷ vs) = unwritten_of v.parts ++ unwritten vs
 
 -- the segment with other bytes and reservations behind what is written, and with these buffers sealed
 abbrev pub with_parts : SegmentView → List ℕ → List Sealed → List Reserved → SegmentView
-with_parts v bytes sealed reserved = record { parts = record { site = v.parts.site; bytes = bytes; written_len = v.parts.written_len; filled = v.parts.filled; sealed = sealed; reserved = reserved }; gone = v.gone }
+with_parts v bytes sealed reserved =
+    record {
+      parts = record {
+        site = v.parts.site;
+        bytes = bytes;
+        written_len = v.parts.written_len;
+        filled = v.parts.filled;
+        sealed = sealed;
+        reserved = reserved;
+      };
+      gone = v.gone;
+    }
 
 -- the segment once its current buffer is sealed
 abbrev pub sealed_now : SegmentView → SegmentView
-sealed_now v = with_parts v v.parts.bytes (v.parts.sealed ++ seal_at (length v.parts.bytes) (drop (sealed_count v.parts.sealed) v.parts.reserved) ∷ []) v.parts.reserved
+sealed_now v =
+    with_parts v v.parts.bytes (v.parts.sealed ++ seal_at (length v.parts.bytes) (drop (sealed_count v.parts.sealed) v.parts.reserved) ∷ []) v.parts.reserved
 
 -- the segment of this size with what fills it behind its bytes
 abbrev pub with_filling : ℕ → SegmentView → List ℕ → SegmentView
 with_filling size v rest =
     let from = length v.parts.bytes in
     record {
-      parts = record { site = v.parts.site; bytes = v.parts.bytes ++ rest; written_len = v.parts.written_len; filled = Some from; sealed = v.parts.sealed; reserved = v.parts.reserved ++ padding_at size from ∷ [] };
+      parts =
+          record {
+            site = v.parts.site;
+            bytes = v.parts.bytes ++ rest;
+            written_len = v.parts.written_len;
+            filled = Some from;
+            sealed = v.parts.sealed;
+            reserved = v.parts.reserved ++ padding_at size from ∷ [];
+          };
       gone = v.gone;
     }
 
 -- the segment once it is filled to its end
 abbrev pub filled_now : (List ℕ → ℕ) → ℕ → SegmentView → SegmentView
-filled_now sum size v = if nat_lt (length v.parts.bytes) size then with_filling size v (segment_rest sum size (v.parts.site.place / size) (length v.parts.bytes)) else v
+filled_now sum size v =
+    if nat_lt (length v.parts.bytes) size then with_filling size v (segment_rest sum size (v.parts.site.place / size) (length v.parts.bytes)) else v
 
 -- the segment once it is filled and sealed to its end
 abbrev pub closed_now : (List ℕ → ℕ) → ℕ → SegmentView → SegmentView

@@ -1,4 +1,5 @@
--- What the bytes of a buffer are that a log writes: the header of its segment, where it begins with that; whole records, each with its sum; and what fills the segment.
+-- What the bytes of a buffer are that a log writes: the header of its segment, where it begins with that; whole records, each with its sum; and what fills
+-- the segment.
 use Rattle.std.specs.Prelude.{◌≡◌, ◌⊎◌, ◌+◌, ◌/◌, ◌%◌, ◌≤◌, ◌<ℤ◌, ◌∷◌, ◌++◌, ℕ, ℤ, pos, List, [], length}
 use Rattle.sled_codec.specs.declared.serialization.message.MessageKind.{MessageKind}
 use Rattle.sled_codec.specs.Record.{short_header, short_record}

@@ -6,7 +6,8 @@ use Rattle.std.specs.declared.alloc.Global.{Global}
 use Rattle.std.specs.declared.io.Error.{Error}
 use Rattle.std.specs.declared.io.ErrorKind.{ErrorKind}
 use Rattle.sled_store.specs.Answers.{is_fault_kind}
-use Rattle.sled_store.specs.Device.{Event, Trace, Left, Wrote, Cut, Synced, BlobMade, BlobSynced, BlobRemoved, SnapshotFilled, SnapshotPublished, SnapshotRemoved, NamesSynced, Crashed, Given}
+use Rattle.sled_store.specs.Device.{Event, Trace, Left, Wrote, Cut, Synced, BlobMade, BlobSynced, BlobRemoved, SnapshotFilled, SnapshotPublished}
+use Rattle.sled_store.specs.Device.{SnapshotRemoved, NamesSynced, Crashed, Given}
 use Rattle.sled_file.specs.CallRecords.{Call}
 use Rattle.sled_file.specs.declared.mirror.Mirror.{Mirror}
 use Rattle.sled_file.specs.declared.calls.Asked.{Asked}

@@ -32,7 +32,8 @@ abbrev pub JoinsWithBlob : History → Message → DiskPtr → Type 0
 JoinsWithBlob H m (Inline lid) = Unit {0}
 JoinsWithBlob H m (Blob lid place) = (place ≡ pos m.place) ⊎ ((x : Message) × Contains H.messages x × (x.place < m.place) × (place ≡ pos x.place))
 
--- A message that may come to such a history, behind all of its page: a Link or a Free only where the page has a Replace, and a Link only where it has fewer than 254.
+-- A message that may come to such a history, behind all of its page: a Link or a Free only where the page has a Replace, and a Link only where it has fewer
+-- than 254.
 pub record MayJoin (H : History) (m : Message) : Type 0 where
   pub changes : ChangesPage m.kind
   pub small : m.page < 2 ^ 64 - 1

@@ -15,7 +15,8 @@ abbrev pub unreserved : History → ℕ → ℕ → Unstored
 unreserved H A f = record { history = H; acknowledged = A; floor = f; tickets = [] }
 
 -- What a start makes of a table that was recovered.
-pub record HasStartedAt {D C : Type 0} (view : D → DeviceView) (sum : List ℕ → ℕ) (config : RunningConfig D C) (s : SnapshotModel) (result : Phase D C × Reply) (k : Unstored) : Type 0 where
+pub record HasStartedAt {D C : Type 0} (view : D → DeviceView) (sum : List ℕ → ℕ) (config : RunningConfig D C) (s : SnapshotModel) (result : Phase D C × Reply)
+    (k : Unstored) : Type 0 where
   pub log : log_in result.0 [] ≡ log_opened config.config.segment_size (length_of (view config.device)) s result.1
   pub at : IsAt (traces view) sum result.0 k
   pub why : SaysWhy result.1 (view config.device).failures (device_in view result.0).failures

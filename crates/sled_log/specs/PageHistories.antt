@@ -12,7 +12,8 @@ pub record IsLastBeginning (H : History) (cut page : ℕ) (m : Message) : Type 0
   pub begins : (m.kind ≡ Replace) ⊎ (m.kind ≡ Free)
   pub last : (x : Message) → Contains H.messages x → x.page ≡ page → x.place < cut → m.place < x.place → x.kind ≡ Link
 
--- A message that may come to an orderly history, behind all of its page, where each lower page has a Replace: a Link or a Free only where its page has one, and a Link only where it has fewer than 254.
+-- A message that may come to an orderly history, behind all of its page, where each lower page has a Replace: a Link or a Free only where its page has one,
+-- and a Link only where it has fewer than 254.
 pub record MayAdd (H : History) (m : Message) : Type 0 where
   pub changes : ChangesPage m.kind
   pub page : m.page ≢ 2 ^ 64 - 1

@@ -1,5 +1,6 @@
 -- What the code of recovery speaks of, beside what recovery makes of a log file.
-use Rattle.std.specs.Prelude.{◌≡◌, ◌⊎◌, ℤ, ◌+◌, ◌^◌, ◌≤◌, ◌<◌, ℕ, Bool, true, false, List, [], ◌∷◌, ◌++◌, length, map, is_some, if◌then◌else◌, Option, Some, None, IfSome, IfNone, Contains}
+use Rattle.std.specs.Prelude.{◌≡◌, ◌⊎◌, ℤ, ◌+◌, ◌^◌, ◌≤◌, ◌<◌, ℕ, Bool, true, false, List, [], ◌∷◌, ◌++◌, length, map, is_some, if◌then◌else◌, Option, Some}
+use Rattle.std.specs.Prelude.{None, IfSome, IfNone, Contains}
 use Rattle.std.specs.List.{All}
 use Rattle.sled_codec.specs.declared.serialization.snapshot.Snapshot.{Snapshot}
 use Rattle.sled_codec.specs.declared.result.Error.{Error}
@@ -12,7 +13,8 @@ use Rattle.sled_core.specs.declared.iterator.Segment.{Segment}
 pub use Rattle.sled_core.specs.Replayed.{CanBeRead, IsDamagedBefore}
 use Rattle.sled_log.specs.declared.snapshot.pass.Pass.{Pass}
 use Rattle.sled_log.specs.declared.snapshot.pass.Replay.{Replay}
-use Rattle.sled_log.specs.Recovery.{AreClosed, Scanned, Outcome, AreScanned, AreReplayed, ContinuesFrom, IsDamagedPass, NamesKind, Passes, given, has_no_table, open_at, passed_all, stops_in, scanned_of, StopsOrGoesOn, before_open, MeetsBadBlob, HaveGoodBlobs, resolved_scan, table_of}
+use Rattle.sled_log.specs.Recovery.{AreClosed, Scanned, Outcome, AreScanned, AreReplayed, ContinuesFrom, IsDamagedPass, NamesKind, Passes, given, has_no_table}
+use Rattle.sled_log.specs.Recovery.{open_at, passed_all, stops_in, scanned_of, StopsOrGoesOn, before_open, MeetsBadBlob, HaveGoodBlobs, resolved_scan, table_of}
 
 -- each of these can be read
 abbrev pub CanAllBeRead : ℕ → List ℕ → List Segment → Type 0
@@ -58,7 +60,8 @@ up_to_open end [] = []
 up_to_open end (s ∷ ss) = if is_some (open_at end s.met) then s ∷ [] else s ∷ up_to_open end ss
 
 -- These are what the pass meets in segments, with their blobs, each of which is missing or passes for its record.
-pub record AreResolved (sum : List ℕ → ℕ) (size : ℕ) (log : List ℕ) (blobs : ℤ → Option (List ℕ)) (end : ℕ) (segments : List Segment) (passes : List Scanned) : Type 0 where
+pub record AreResolved (sum : List ℕ → ℕ) (size : ℕ) (log : List ℕ) (blobs : ℤ → Option (List ℕ)) (end : ℕ) (segments : List Segment)
+    (passes : List Scanned) : Type 0 where
   pub scanned : List Scanned
   pub replayed : AreReplayed sum size log end segments scanned
   pub fine : MeetsBadPass sum blobs end scanned → ⊥
@@ -84,7 +87,8 @@ IsOfBlob sum blobs (Corruption at) = NamesDamage sum blobs at
 IsOfBlob sum blobs _ = ⊥
 
 -- What a pass that met these has come to: a blob that doesn't pass for its record, or else what it made of a snapshot.
-pub record IsSoFar (sum : List ℕ → ℕ) (blobs : ℤ → Option (List ℕ)) (end : ℕ) (first : SnapshotModel) (passes : List Scanned) (bad : Option Error) (r : Replay) : Type 0 where
+pub record IsSoFar (sum : List ℕ → ℕ) (blobs : ℤ → Option (List ℕ)) (end : ℕ) (first : SnapshotModel) (passes : List Scanned) (bad : Option Error)
+    (r : Replay) : Type 0 where
   pub meets : IfSome bad (λ e. IsOfBlob sum blobs e × MeetsBadPass sum blobs end passes)
   pub fine : IfNone bad ((MeetsBadPass sum blobs end passes → ⊥) × HasMade end first (map (resolved_scan blobs end) passes) r)
 
@@ -94,7 +98,8 @@ GoesOnBehind end true passes = (more : List Scanned) → up_to_open end (passes 
 GoesOnBehind end false passes = AreClosed end passes
 
 -- What a pass over segments has come to.
-pub record IsReplay (sum : List ℕ → ℕ) (size : ℕ) (log : List ℕ) (blobs : ℤ → Option (List ℕ)) (end : ℕ) (first : SnapshotModel) (segments : List Segment) (bad : Option Error) (r : Replay) : Type 0 where
+pub record IsReplay (sum : List ℕ → ℕ) (size : ℕ) (log : List ℕ) (blobs : ℤ → Option (List ℕ)) (end : ℕ) (first : SnapshotModel) (segments : List Segment)
+    (bad : Option Error) (r : Replay) : Type 0 where
   pub passes : List Scanned
   pub replayed : AreReplayed sum size log end segments passes
   pub so_far : IsSoFar sum blobs end first passes bad r
@@ -106,7 +111,8 @@ FitsStop size None = Unit {0}
 FitsStop size (Some at) = (at.0.place + size < 2 ^ 63) × (at.0.slot + size < 2 ^ 63) × (at.1 ≤ at.0.place + size)
 
 -- These are all that is met in segments, with the blobs of what is met before a batch that is open. All blobs were looked at.
-pub record AreLookedUp (sum : List ℕ → ℕ) (size : ℕ) (log : List ℕ) (blobs : ℤ → Option (List ℕ)) (end : ℕ) (segments : List Segment) (passes : List Scanned) : Type 0 where
+pub record AreLookedUp (sum : List ℕ → ℕ) (size : ℕ) (log : List ℕ) (blobs : ℤ → Option (List ℕ)) (end : ℕ) (segments : List Segment)
+    (passes : List Scanned) : Type 0 where
   pub scanned : List Scanned
   pub are : AreScanned sum size log segments scanned
   pub good : HaveGoodBlobs sum blobs scanned

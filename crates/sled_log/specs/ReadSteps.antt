@@ -10,7 +10,8 @@ use Rattle.sled_core.specs.ReadPointer.{place_read}
 use Rattle.sled_core.specs.Waiting.{BufferAt, Span, write_around}
 use Rattle.sled_log.specs.declared.session.command.Reply.{Reply}
 use Rattle.sled_log.specs.declared.session.command.Reply.TheVariants as reply
-use Rattle.sled_log.specs.RunStates.{DeviceView, EndsInReach, LogView, RunState, held, is_present, opens, sealed_around, spans_place, spans_without, start_around, with_log}
+use Rattle.sled_log.specs.RunStates.{DeviceView, EndsInReach, LogView, RunState, held, is_present, opens, sealed_around, spans_place, spans_without}
+use Rattle.sled_log.specs.RunStates.{start_around, with_log}
 use Rattle.sled_log.specs.WriteSteps.{Fails, KeepsFailing, LeavesLog, Writes, WritesSome, flushed}
 
 -- the place that a read of a message brings to the device: its own, or that of its blob
@@ -49,7 +50,8 @@ FailsAt sum size a l at e old new b =
     Fails l e (holding_read l at) ((l.start.place ≤ at) × (EndsInReach size l.position → ⊥)) old new (λ fault.
     (WritesSome sum size l (sealed_around at l) (reading_around l at) 0 e fault old new
     × (LeavesLog a l new b l.waiting l.start fault ⊎ LeavesLog a l new b (sealed_around at l) (start_around at l) fault))
-    ⊎ (Writes sum size l (sealed_around at l) (reading_around l at) old new × LeavesLog a l new b (spans_without at (sealed_around at l)) (start_around at l) fault))
+    ⊎ (Writes sum size l (sealed_around at l) (reading_around l at) old new
+    × LeavesLog a l new b (spans_without at (sealed_around at l)) (start_around at l) fault))
 
 -- Some messages of a page were read, and the next one was not.
 pub record ReadStops (sum : List ℕ → ℕ) (size : ℕ) (a : RunState) (l : LogView) (ms : List Message) (e : Error) (new : DeviceView) (b : RunState) : Type 0 where
@@ -63,7 +65,8 @@ pub record ReadStops (sum : List ℕ → ℕ) (size : ℕ) (a : RunState) (l : L
   pub fails : FailsAt sum size a log (read_at message) e mid new b
 
 -- All messages of a page that is present were read, and their items are answered.
-pub record HasRead (sum : List ℕ → ℕ) (size : ℕ) (a : RunState) (l : LogView) (ms : List Message) (items : List (Vec ℕ Global)) (new : DeviceView) (b : RunState) : Type 0 where
+pub record HasRead (sum : List ℕ → ℕ) (size : ℕ) (a : RunState) (l : LogView) (ms : List Message) (items : List (Vec ℕ Global)) (new : DeviceView)
+    (b : RunState) : Type 0 where
   pub present : is_present ms ≡ true
   pub sound : l.fault ≡ None
   pub items_are : map (λ v. v.items) items ≡ map (λ m. m.bytes) ms

@@ -1,6 +1,7 @@
 -- What recovery makes of a content: which snapshot it begins from, which segments it finds, where the tail of the log ends,
 -- which messages it applies, and the cut. Stated for any number of segments and for all kinds of messages.
-use Rattle.std.specs.Prelude.{◌≡◌, ◌⊎◌, ◌+◌, ◌-◌, ◌/◌, ◌%◌, ◌^◌, ◌≤◌, ℕ, ℤ, pos, nat_lt, int_lt, Bool, true, false, ◌&&◌, ◌||◌, not, ◌==◌, if◌then◌else◌, List, [], ◌∷◌, ◌++◌, length, drop, set, get_or, replicate, Option, Some, None, map, Contains}
+use Rattle.std.specs.Prelude.{◌≡◌, ◌⊎◌, ◌+◌, ◌-◌, ◌/◌, ◌%◌, ◌^◌, ◌≤◌, ℕ, ℤ, pos, nat_lt, int_lt, Bool, true, false, ◌&&◌, ◌||◌, not, ◌==◌, if◌then◌else◌, List}
+use Rattle.std.specs.Prelude.{[], ◌∷◌, ◌++◌, length, drop, set, get_or, replicate, Option, Some, None, map, Contains}
 use Rattle.sled_codec.specs.declared.serialization.message.LogKind.{LogKind}
 use Rattle.sled_codec.specs.declared.serialization.message.LogKind.TheVariants as does
 use Rattle.sled_codec.specs.History.{Message}
@@ -15,7 +16,8 @@ use Rattle.sled_core.specs.declared.iterator.Segment.{Segment}
 use Rattle.sled_core.specs.Reading.{IsMalformed}
 use Rattle.sled_core.specs.Scan.{IsDamagedIn, IsPath}
 pub use Rattle.sled_core.specs.Replayed.{IsReplayed, scanned_of, NamesKind, HasBadBlob, with_blob, resolved}
-pub use Rattle.sled_core.specs.Tail.{IsUnordered, is_ascending, IsOrdering, Scanned, IsScanned, place_of_mark, greatest_mark, tail_begins, GoesOn, IsTail, tail_end, begun_below, AreScanned, opens, before_open, open_at, stops_in, is_filled, cut_of, IsTailPart, least_place}
+pub use Rattle.sled_core.specs.Tail.{IsUnordered, is_ascending, IsOrdering, Scanned, IsScanned, place_of_mark, greatest_mark, tail_begins, GoesOn, IsTail}
+pub use Rattle.sled_core.specs.Tail.{tail_end, begun_below, AreScanned, opens, before_open, open_at, stops_in, is_filled, cut_of, IsTailPart, least_place}
 
 -- The pass over the messages.
 
@@ -29,7 +31,8 @@ abbrev pub AreReplayed : (List ℕ → ℕ) → ℕ → List ℕ → ℕ → Lis
 AreReplayed sum size log end [] [] = Unit {0}
 AreReplayed sum size log end [] (x ∷ xs) = ⊥
 AreReplayed sum size log end (s ∷ ss) [] = ⊥
-AreReplayed sum size log end (s ∷ ss) (x ∷ xs) = (x.segment ≡ s) × IsReplayed sum size log end x × StopsOrGoesOn (open_at end x.met) xs (AreReplayed sum size log end ss xs)
+AreReplayed sum size log end (s ∷ ss) (x ∷ xs) =
+    (x.segment ≡ s) × IsReplayed sum size log end x × StopsOrGoesOn (open_at end x.met) xs (AreReplayed sum size log end ss xs)
 
 -- Blobs.
 
@@ -165,7 +168,9 @@ unchanged first unread = record { model = first; shred_range = None; is_new = fa
 -- What comes of the segments that the pass reads, where these slots have the others. Where it reads none, the snapshot stays as it was.
 abbrev pub outcome_of : ℕ → SnapshotModel → ℕ → List Scanned → List ℕ → Outcome
 outcome_of size first end [] unread = Recovered (unchanged first unread)
-outcome_of size first end (s ∷ ss) unread = concluded size first unread (given (stable_place first.stable) (passed_in end s (open_at end s.met) ss)) (cut_of size (stops_in end s (open_at end s.met) ss))
+outcome_of size first end (s ∷ ss) unread =
+    concluded size first unread (given (stable_place first.stable) (passed_in end s (open_at end s.met) ss))
+    (cut_of size (stops_in end s (open_at end s.met) ss))
 
 -- The whole.
 
@@ -219,7 +224,8 @@ abbrev pub Passes : (List ℕ → ℕ) → ℕ → List ℕ → (ℤ → Option 
 Passes sum size log blobs first ordering None o = o ≡ Recovered (unchanged first (slots_of ordering))
 Passes sum size log blobs first ordering (Some end) o =
     ((o ≡ Damaged) × IsDamagedPass sum size log end (begun_below end ordering))
-    ⊎ ((passes : List Scanned) × AreReplayed sum size log end (begun_below end ordering) passes × PassesOver sum size blobs first end passes (slots_of (drop (length passes) ordering)) o)
+    ⊎ ((passes : List Scanned) × AreReplayed sum size log end (begun_below end ordering) passes
+    × PassesOver sum size blobs first end passes (slots_of (drop (length passes) ordering)) o)
 
 -- the blob of each record that is met in these is missing or passes for it
 abbrev pub HaveGoodBlobs : (List ℕ → ℕ) → (ℤ → Option (List ℕ)) → List Scanned → Type 0
@@ -229,7 +235,8 @@ HaveGoodBlobs sum blobs scanned = (s : Scanned) → Contains scanned s → Meets
 abbrev pub Replays : (List ℕ → ℕ) → ℕ → List ℕ → (ℤ → Option (List ℕ)) → SnapshotModel → List Segment → ℕ → Outcome → Type 0
 Replays sum size log blobs first ordering tail o =
     ((o ≡ Damaged) × IsDamagedTail sum size log blobs ordering tail)
-    ⊎ ((scanned : List Scanned) × IsTail sum size log ordering tail scanned × HaveGoodBlobs sum blobs scanned × Passes sum size log blobs first ordering (tail_end scanned) o)
+    ⊎ ((scanned : List Scanned) × IsTail sum size log ordering tail scanned × HaveGoodBlobs sum blobs scanned
+    × Passes sum size log blobs first ordering (tail_end scanned) o)
 
 -- What recovery makes of a log file and of blobs from a snapshot on.
 unfoldable pub ContinuesFrom : (List ℕ → ℕ) → ℕ → List ℕ → (ℤ → Option (List ℕ)) → SnapshotModel → Outcome → Type 0

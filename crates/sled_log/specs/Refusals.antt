@@ -7,7 +7,8 @@ use Rattle.sled_log.specs.declared.session.command.Refusal.{Refusal}
 use Rattle.sled_log.specs.declared.session.command.Refusal.TheVariants as why
 use Rattle.sled_log.specs.declared.session.command.Reply.{Reply}
 use Rattle.sled_log.specs.declared.session.command.Reply.TheVariants as reply
-use Rattle.sled_log.specs.RunStates.{LogView, RunState, has_message, has_page, has_ticket, in_batch, is_present, one_blob, open_messages, page_now, pending_in_view}
+use Rattle.sled_log.specs.RunStates.{LogView, RunState, has_message, has_page, has_ticket, in_batch, is_present, one_blob, open_messages, page_now}
+use Rattle.sled_log.specs.RunStates.{pending_in_view}
 
 -- this reason, where it fits, or else another
 abbrev pub when : Bool → Refusal → Option Refusal → Option Refusal

@@ -47,11 +47,13 @@ pub record HoldsTicket {D C : Type 0} (old new : Opened D C) (kind : LogKind) (p
   pub told : result ≡ reply.Reserved (length old.tickets.items) (place_of reservation) (pointer_of reservation)
 
 -- What a reservation comes to.
-pub record HasTried {D C : Type 0} (view : D → DeviceView) (sum : List ℕ → ℕ) (old : Opened D C) (kind : LogKind) (page : ℕ) (bytes : List ℕ) (new : Opened D C) (result : Reply) (k : Unstored) : Type 0 where
+pub record HasTried {D C : Type 0} (view : D → DeviceView) (sum : List ℕ → ℕ) (old : Opened D C) (kind : LogKind) (page : ℕ) (bytes : List ℕ)
+    (new : Opened D C) (result : Reply) (k : Unstored) : Type 0 where
   pub not_refused : reason_of result ≡ None
   pub acts : ReserveActs sum (segment_size_of old.log) (seen old k.tickets) kind page bytes (device_in view (Open old)) result (device_in view (Open new))
   pub tickets : Unstored
-  pub step : ReserveStep (segment_size_of old.log) (stands view (Open old) k) (seen old k.tickets) kind page bytes result (device_in view (Open new)) (stands view (Open new) tickets)
+  pub step : ReserveStep (segment_size_of old.log) (stands view (Open old) k) (seen old k.tickets) kind page bytes result (device_in view (Open new))
+      (stands view (Open new) tickets)
   pub at : IsOpenAt (traces view) sum new tickets
 
 abbrev pub Reserves : {D C : Type 0} → (D → DeviceView) → (List ℕ → ℕ) → Opened D C → LogKind → ℕ → List ℕ → Opened D C → Reply → Type 0

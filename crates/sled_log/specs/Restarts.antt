@@ -21,7 +21,8 @@ pub record CanRestart {D C : Type 0} (trace : D → Trace) (sum : List ℕ → �
   pub orderly : IsOrderly H
   pub zeros : NoHeaderOfZeros sum
 
--- a flush failed: for the failure that the log kept, for one of this call, which is counted, for want of a further segment, where it needs one that isn't in reach, or else for want of memory
+-- a flush failed: for the failure that the log kept, for one of this call, which is counted, for want of a further segment, where it needs one that isn't
+-- in reach, or else for want of memory
 abbrev pub FlushFails : {T : Type 0} → Result T Error → Type 0 → Option IoError → ℕ → ℕ → Type 0
 FlushFails (Err (Io e)) used fault before after =
     ((fault ≡ Some e) × (after ≡ before)) ⊎ ((fault ≡ None) × (after ≡ (before + 1) % 2 ^ 64) × IsTrue (is_fault e))

@@ -12,7 +12,9 @@ use Rattle.sled_log.specs.WritesBack.{HasWrittenBack, IsWrittenBack, WritesBehin
 
 -- The newest snapshot now has the table of this one, and is this one or was there before.
 abbrev pub BeginsAgain : (List ℕ → ℕ) → (ℤ → Option (List ℕ)) → State → SnapshotModel → Type 0
-BeginsAgain sum snapshots new s = (first : SnapshotModel) × BeginsFrom sum new.snapshots.file first × (first.stable ≡ s.stable) × (first.pages ≡ s.pages) × ((first ≡ s) ⊎ BeginsFrom sum snapshots first)
+BeginsAgain sum snapshots new s =
+    (first : SnapshotModel) × BeginsFrom sum new.snapshots.file first × (first.stable ≡ s.stable) × (first.pages ≡ s.pages)
+    × ((first ≡ s) ⊎ BeginsFrom sum snapshots first)
 
 -- The calls of a recovery: it settles the device, and where it comes to a conclusion writes that back; all of them or up to one that failed.
 abbrev pub RecoveryCalls : (List ℕ → ℕ) → ℕ → Trace → Trace → Type 0

@@ -132,7 +132,8 @@ abbrev pub HasBatch : List (Option Message) → Option ℕ → Type 0
 HasBatch tickets None = in_batch tickets ≡ false
 HasBatch tickets (Some n) = (m : Message) × (slice_get tickets n ≡ Some (Some m)) × (m.page ≡ manifest_page)
 
--- The tickets that are open are for these messages, by number and so by place; no two are of one page, so one at most is of a manifest, and as long as the log keeps no failure no other reservation of it is open.
+-- The tickets that are open are for these messages, by number and so by place; no two are of one page, so one at most is of a manifest, and as long as the
+-- log keeps no failure no other reservation of it is open.
 pub record HasTickets {D C : Type 0} (trace : D → Trace) (sum : List ℕ → ℕ) (opened : Opened D C) (H : History) (tickets : List (Option Message)) : Type 0 where
   pub as_many : length opened.tickets.items ≡ length tickets
   pub each : (n : ℕ) (m : Message) → slice_get tickets n ≡ Some (Some m) → IsTicketFor trace sum opened H n m
@@ -160,7 +161,8 @@ IsAt trace sum (Closed config) k = IsClosedAt sum config.config.segment_size (tr
 IsAt trace sum (Open opened) k = IsOpenAt trace sum opened k
 
 -- A command that isn't refused leads from a phase to the next one: what holds there holds again, unless what is foreign was read or left.
-pub record Does {D C : Type 0} (view : D → DeviceView) (sum : List ℕ → ℕ) (phase : Phase D C) (command : Command) (result : Phase D C × Reply) (k : Unstored) : Type 0 where
+pub record Does {D C : Type 0} (view : D → DeviceView) (sum : List ℕ → ℕ) (phase : Phase D C) (command : Command) (result : Phase D C × Reply)
+    (k : Unstored) : Type 0 where
   pub not_refused : reason_of result.1 ≡ None
   pub next : Unstored
   pub step : IsStep sum (size_of phase) (stands view phase k) command result.1 (device_in view result.0) (stands view result.0 next)
@@ -176,7 +178,8 @@ StandsIn view sum phase a = (k : Unstored) × (a ≡ stands view phase k) × IsA
 
 -- A command is answered from a phase, and leads to the next one.
 abbrev pub AnswersIn : {D C : Type 0} → (D → DeviceView) → (List ℕ → ℕ) → Phase D C → Command → Phase D C × Reply → Type 0
-AnswersIn view sum phase command result = (a : RunState) → StandsIn view sum phase a → Carries sum (size_of phase) a command result.1 (StandsIn view sum result.0)
+AnswersIn view sum phase command result =
+    (a : RunState) → StandsIn view sum phase a → Carries sum (size_of phase) a command result.1 (StandsIn view sum result.0)
 
 -- the trace goes on, with the same sizes and the same checksum
 pub record RunsOn {D C : Type 0} (trace : D → Trace) (old new : RunningConfig D C) : Type 0 where

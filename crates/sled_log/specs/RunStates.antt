@@ -1,5 +1,6 @@
 -- Where a run of commands stands between two commands.
-use Rattle.std.specs.Prelude.{◌≡◌, ◌≤◌, ◌<◌, ◌+◌, ◌-◌, ◌%◌, ◌^◌, ◌&&◌, ◌==◌, ◌∷◌, ◌++◌, nat_lt, nat_le, not, zero, suc, if◌then◌else◌, ℕ, ℤ, Bool, true, false, List, [], length, slice_get, Option, None, Some, Contains}
+use Rattle.std.specs.Prelude.{◌≡◌, ◌≤◌, ◌<◌, ◌+◌, ◌-◌, ◌%◌, ◌^◌, ◌&&◌, ◌==◌, ◌∷◌, ◌++◌, nat_lt, nat_le, not, zero, suc, if◌then◌else◌, ℕ, ℤ, Bool, true, false}
+use Rattle.std.specs.Prelude.{List, [], length, slice_get, Option, None, Some, Contains}
 use Rattle.std.specs.declared.io.Error.{Error as IoError}
 use Rattle.sled_codec.specs.declared.result.DiskPtr.{DiskPtr}
 use Rattle.sled_codec.specs.declared.result.DiskPtr.TheVariants.{Inline, Blob}
@@ -149,7 +150,8 @@ waiting_with l q = if is_behind l q then l.waiting ++ current_span l q ∷ [] el
 abbrev pub start_with : LogView → Position → BufferStart
 start_with l q = if is_behind l q then next_start l q else l.start
 
--- The log ready for a record that begins at a position, which it has none of, with the failure that it keeps: behind what fills the current segment, where the record begins a further one. What was reserved ends where it did.
+-- The log ready for a record that begins at a position, which it has none of, with the failure that it keeps: behind what fills the current segment, where
+-- the record begins a further one. What was reserved ends where it did.
 abbrev pub made_ready : LogView → Position → Option IoError → LogView
 made_ready l q fault = record l { position = q; waiting = waiting_with l q; start = start_with l q; fault = fault }
 

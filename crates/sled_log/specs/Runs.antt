@@ -105,7 +105,8 @@ module _ (sum : List ℕ → ℕ) (size : ℕ) where
   IsStep a c (reply.Refused w) new b = (new ≡ a.device) × (b ≡ a)
   IsStep a c r new b = StepBy a a.log c r new b
 
-  -- A command was carried out from where a run stands, and told so: it is refused exactly where a reason fits, with the first one, and comes to a step. Where it
+  -- A command was carried out from where a run stands, and told so: it is refused exactly where a reason fits, with the first one, and comes to a step.
+  -- Where it
   -- reads or leaves nothing foreign, what is claimed of where that leads holds.
   pub record Carries (a : RunState) (c : Command) (r : Reply) (Leads : RunState → Type 0) : Type 0 where
     pub refused : reason_of r ≡ refusal_for a c

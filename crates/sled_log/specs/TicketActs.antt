@@ -19,7 +19,8 @@ use Rattle.sled_log.specs.declared.session.command.Reply.TheVariants as reply
 use Rattle.sled_log.specs.RunStates.{DeviceView, LogView, body_in, target_in}
 use Rattle.sled_log.specs.TicketSteps.{own_of}
 
--- These calls on a blob were made: all of them where the command did what it is for, those up to one that failed where the device did, and none where it was refused.
+-- These calls on a blob were made: all of them where the command did what it is for, those up to one that failed where the device did, and none where it
+-- was refused.
 abbrev pub BlobActs : List Event → Option IoError → DeviceView → Reply → DeviceView → Type 0
 BlobActs es fault old (reply.Failed (Io e)) new =
     Performs es old.trace new.trace × (IsTrue (is_fault e) ⊎ (new.trace ≡ old.trace)) × (IsSome fault → new ≡ old)
@@ -35,7 +36,9 @@ making_for sum (Some kind) place bytes = making place (blob_bytes sum (code_of k
 -- A reservation makes the blob of an item that goes to one.
 abbrev pub ReserveActs : (List ℕ → ℕ) → ℕ → LogView → LogKind → ℕ → List ℕ → DeviceView → Reply → DeviceView → Type 0
 ReserveActs sum size l kind page bytes old r new =
-    MatchBool (in_blob size (length bytes)) (BlobActs (making_for sum (kind_for kind page true 8) (pos (target_in size l page (body_in size (length bytes))).place) bytes) l.fault old r new) (new ≡ old)
+    MatchBool (in_blob size (length bytes))
+    (BlobActs (making_for sum (kind_for kind page true 8) (pos (target_in size l page (body_in size (length bytes))).place) bytes) l.fault old r new) (new
+    ≡ old)
 
 -- the blob that the reservation of a ticket made
 abbrev pub own_by : Option (Option Message) → Option ℤ

@@ -1,5 +1,6 @@
 -- What the commands come to that keep places for messages, complete these, give them up, and begin and end batches.
-use Rattle.std.specs.Prelude.{◌≡◌, ◌⊎◌, ◌+◌, ◌-◌, ◌<◌, ◌==◌, ◌∷◌, ◌++◌, ℕ, ℤ, pos, set, if◌then◌else◌, true, List, [], length, slice_get, Option, None, Some, Err}
+use Rattle.std.specs.Prelude.{◌≡◌, ◌⊎◌, ◌+◌, ◌-◌, ◌<◌, ◌==◌, ◌∷◌, ◌++◌, ℕ, ℤ, pos, set, if◌then◌else◌, true, List, [], length, slice_get, Option, None, Some}
+use Rattle.std.specs.Prelude.{Err}
 use Rattle.std.specs.Ordering.{int_eq}
 use Rattle.std.specs.declared.io.Error.{Error as IoError}
 use Rattle.sled_codec.specs.declared.result.DiskPtr.{DiskPtr}
@@ -20,7 +21,8 @@ use Rattle.sled_core.specs.Positions.{Position, behind_record}
 use Rattle.sled_core.specs.Reserves.{MadeAnswers}
 use Rattle.sled_log.specs.declared.session.command.Reply.{Reply}
 use Rattle.sled_log.specs.declared.session.command.Reply.TheVariants as reply
-use Rattle.sled_log.specs.RunStates.{DeviceView, EndsInReach, LogView, RunState, body_in, is_behind, made_ready, message_at, one_blob, opens, page_now, places_without, rewriting_at, start_with, target_in, waiting_with, with_log}
+use Rattle.sled_log.specs.RunStates.{DeviceView, EndsInReach, LogView, RunState, body_in, is_behind, made_ready, message_at, one_blob, opens, page_now}
+use Rattle.sled_log.specs.RunStates.{places_without, rewriting_at, start_with, target_in, waiting_with, with_log}
 
 -- the place and the pointer that are answered are those of a message
 abbrev pub IsAnswerFor : Message → ℤ → DiskPtr → Type 0
@@ -42,7 +44,8 @@ abbrev pub opens_beside : LogView → Position → List ℕ
 opens_beside l q = if is_behind l q then [] else places_from l.start.place (opens l)
 
 -- A place was kept for this message, under the next number.
-pub record HasReserved (size : ℕ) (a : RunState) (l : LogView) (q : Position) (m : Message) (ticket : ℕ) (place : ℤ) (pointer : DiskPtr) (new : DeviceView) (b : RunState) : Type 0 where
+pub record HasReserved (size : ℕ) (a : RunState) (l : LogView) (q : Position) (m : Message) (ticket : ℕ) (place : ℤ) (pointer : DiskPtr) (new : DeviceView)
+    (b : RunState) : Type 0 where
   pub fault : l.fault ≡ None
   pub in_reach : EndsInReach size q
   pub few : length (opens_beside l q) < most_open
@@ -72,7 +75,8 @@ abbrev pub HasRecordPlace : ℕ → LogView → Position → Error → Type 0
 HasRecordPlace size l q OutOfMemory = Unit {0}
 HasRecordPlace size l q _ = EndsInReach size q × (length (opens_beside l q) < most_open)
 
--- The blob of an item wasn't made: the device failed, and the log keeps that; or there was one of that name, or memory for it was refused, and it keeps neither. It is ready for the record then, which it has none of.
+-- The blob of an item wasn't made: the device failed, and the log keeps that; or there was one of that name, or memory for it was refused, and it keeps
+-- neither. It is ready for the record then, which it has none of.
 pub record BlobRefused (size : ℕ) (a : RunState) (l : LogView) (q : Position) (e : Error) (new : DeviceView) (b : RunState) : Type 0 where
   pub fault : l.fault ≡ None
   pub room : HasRecordPlace size l q e
@@ -89,7 +93,8 @@ ReserveStep size a l kind page bytes (reply.Failed e) new b =
 ReserveStep size a l kind page bytes _ new b = ⊥
 
 -- A place was kept for a Replace of a page that is one Replace with its item in a blob: the item stays there.
-pub record HasRewritten (size : ℕ) (a : RunState) (l : LogView) (page ticket : ℕ) (place : ℤ) (pointer : DiskPtr) (new : DeviceView) (b : RunState) : Type 0 where
+pub record HasRewritten (size : ℕ) (a : RunState) (l : LogView) (page ticket : ℕ) (place : ℤ) (pointer : DiskPtr) (new : DeviceView)
+    (b : RunState) : Type 0 where
   pub message : Message
   pub is : page_now a.history page ≡ message ∷ []
   pub blob : ℤ
@@ -138,7 +143,8 @@ pub record HasAborted (a : RunState) (l : LogView) (t : ℕ) (place : ℤ) (poin
   pub answer : IsAnswerFor message place pointer
   pub leads : b ≡ with_log a new (Some (spent l t (places_without message.place (opens l)) l.begun))
 
--- the blob that the reservation of a session's message made, which lies at a place: its name is that place, while the item of a rewritten one stays in the blob of an earlier message
+-- the blob that the reservation of a session's message made, which lies at a place: its name is that place, while the item of a rewritten one stays in the
+-- blob of an earlier message
 abbrev pub own_in : ℤ → DiskPtr → Option ℤ
 own_in place (Inline lid) = None
 own_in place (Blob lid blob) = if int_eq blob place then Some blob else None

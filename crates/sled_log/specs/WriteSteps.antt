@@ -19,7 +19,8 @@ use Rattle.sled_core.specs.WholeBuffers.{IsWholeBuffer}
 use Rattle.sled_core.specs.Running.{end_below}
 use Rattle.sled_log.specs.declared.session.command.Reply.{Reply}
 use Rattle.sled_log.specs.declared.session.command.Reply.TheVariants as reply
-use Rattle.sled_log.specs.RunStates.{DeviceView, EndsInReach, LogView, RunState, first_waiting, held, held_among, opens, sealed_below, spans_below, spans_from, stable_of, start_below, with_log, without_unheld}
+use Rattle.sled_log.specs.RunStates.{DeviceView, EndsInReach, LogView, RunState, first_waiting, held, held_among, opens, sealed_below, spans_below, spans_from}
+use Rattle.sled_log.specs.RunStates.{stable_of, start_below, with_log, without_unheld}
 
 -- Failures.
 
@@ -129,8 +130,9 @@ abbrev pub FailsTo : (List ℕ → ℕ) → ℕ → RunState → LogView → ℕ
 FailsTo sum size a l to e new b =
     Fails l e (holding to l) ((l.start.place < to) × (EndsInReach size l.position → ⊥)) a.device new (λ fault.
     (count : ℕ) × WritesSome sum size l (written_below to l) writes_free count e fault a.device new
-    × ((LeavesLog a l new b (drop count (sealed_below to l)) (start_below to l) fault × (first_waiting (drop count (sealed_below to l)) (start_below to l) < to))
-      ⊎ ((count ≡ 0) × LeavesLog a l new b l.waiting l.start fault)))
+    × ((LeavesLog a l new b (drop count (sealed_below to l)) (start_below to l) fault
+    × (first_waiting (drop count (sealed_below to l)) (start_below to l) < to))
+    ⊎ ((count ≡ 0) × LeavesLog a l new b l.waiting l.start fault)))
 
 -- All that was reserved is written, so all completed messages are on the device: their records are, as the log has them, without the items that blobs have.
 pub record HasFlushed (sum : List ℕ → ℕ) (size : ℕ) (a : RunState) (l : LogView) (n : ℕ) (new : DeviceView) (b : RunState) : Type 0 where
@@ -171,5 +173,6 @@ WriteStep sum size a l i reply.Written new b =
     × LeavesLog a l new b (without_unheld (opens l) i l.waiting) l.start None
 WriteStep sum size a l i (reply.Failed e) new b =
     KeepsFailing a l e new b
-    ⊎ Fails l e None ⊥ a.device new (λ fault. WritesSome sum size l l.waiting (write_pending i) 0 e fault a.device new × LeavesLog a l new b l.waiting l.start fault)
+    ⊎ Fails l e None ⊥ a.device new (λ fault. WritesSome sum size l l.waiting (write_pending i) 0 e fault a.device new
+    × LeavesLog a l new b l.waiting l.start fault)
 WriteStep sum size a l i _ new b = ⊥

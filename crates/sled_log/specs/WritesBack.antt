@@ -1,5 +1,6 @@
 -- What recovery writes back: the calls that it makes of the device, and what is read afterwards.
-use Rattle.std.specs.Prelude.{◌≡◌, ◌≢◌, ◌⊎◌, ◌↔◌, ◌-ℤ◌, ◌^◌, ◌≤ℤ◌, ◌<ℤ◌, ℕ, ℤ, pos, true, Bool, not, if◌then◌else◌, List, [], ◌∷◌, ◌++◌, length, map, replicate, Option, Some, None, IsSome, Contains}
+use Rattle.std.specs.Prelude.{◌≡◌, ◌≢◌, ◌⊎◌, ◌↔◌, ◌-ℤ◌, ◌^◌, ◌≤ℤ◌, ◌<ℤ◌, ℕ, ℤ, pos, true, Bool, not, if◌then◌else◌, List, [], ◌∷◌, ◌++◌, length, map, replicate}
+use Rattle.std.specs.Prelude.{Option, Some, None, IsSome, Contains}
 use Rattle.std.specs.Bool.{MatchBool}
 use Rattle.std.specs.List.{filter}
 use Rattle.std.specs.Ordering.{int_cmp, int_eq}
@@ -8,7 +9,8 @@ use Rattle.std.specs.List.Sorted.{IsStrictlySortedBy}
 use Rattle.sled_codec.specs.Snapshots.{SnapshotModel, model_of, short_snapshot, FitsSnapshot}
 use Rattle.sled_codec.specs.Spelling.{low_bytes}
 use Rattle.sled_store.specs.Blobs.{removing_blobs, AreFrom, MayGo}
-use Rattle.sled_store.specs.Device.{Event, Wrote, Synced, SnapshotFilled, SnapshotPublished, SnapshotRemoved, NamesSynced, Trace, State, LogState, state_of, at_rest, overwritten}
+use Rattle.sled_store.specs.Device.{Event, Wrote, Synced, SnapshotFilled, SnapshotPublished, SnapshotRemoved, NamesSynced, Trace, State, LogState, state_of}
+use Rattle.sled_store.specs.Device.{at_rest, overwritten}
 use Rattle.sled_store.specs.Script.{Performs, after_all}
 use Rattle.sled_log.specs.Recovery.{RecoveryResult}
 use Rattle.sled_log.specs.declared.snapshot.recovery.Recovery.{Recovery}
@@ -92,11 +94,14 @@ writing_back sum size x numbers places = committing sum x numbers ++ forgetting 
 
 -- a table was published, and then all other snapshots were removed
 abbrev pub HasPublished : (List ℕ → ℕ) → SnapshotModel → Trace → Trace → Type 0
-HasPublished sum s old new = (numbers : List ℤ) × AreOthers (state_of old).snapshots.file (snapshot_number_of s) numbers × (new ≡ after_all (publishing sum s numbers) old)
+HasPublished sum s old new =
+    (numbers : List ℤ) × AreOthers (state_of old).snapshots.file (snapshot_number_of s) numbers × (new ≡ after_all (publishing sum s numbers) old)
 
 -- the same calls, all of them or up to one that failed; none of them where the table has no spelling
 abbrev pub Publishes : (List ℕ → ℕ) → SnapshotModel → Trace → Trace → Type 0
-Publishes sum s old new = (new ≡ old) ⊎ (FitsSnapshot s × (numbers : List ℤ) × MayBeRemoved (state_of old).snapshots.file (snapshot_number_of s) numbers × Performs (publishing sum s numbers) old new)
+Publishes sum s old new =
+    (new ≡ old) ⊎ (FitsSnapshot s × (numbers : List ℤ) × MayBeRemoved (state_of old).snapshots.file (snapshot_number_of s) numbers
+    × Performs (publishing sum s numbers) old new)
 
 -- a table that is new has a spelling
 abbrev pub FitsIfNew : RecoveryResult → Type 0
@@ -114,11 +119,13 @@ HasCommitted sum x old new = (numbers : List ℤ) × AreOthersIfNew x (state_of 
 abbrev pub CommitsBehind : List Event → (List ℕ → ℕ) → RecoveryResult → Trace → Trace → Type 0
 CommitsBehind first sum x old new =
     Performs (first ++ shredding x.shred_range) old new
-    ⊎ (FitsIfNew x × (numbers : List ℤ) × MayBeRemoved (state_of old).snapshots.file (snapshot_number_of x.model) numbers × Performs (first ++ committing sum x numbers) old new)
+    ⊎ (FitsIfNew x × (numbers : List ℤ) × MayBeRemoved (state_of old).snapshots.file (snapshot_number_of x.model) numbers
+    × Performs (first ++ committing sum x numbers) old new)
 
 -- all calls were made that take away what the table doesn't have
 abbrev pub HasForgotten : ℕ → List ℕ → ℤ → Trace → Trace → Type 0
-HasForgotten size unread least old new = (places : List ℤ) × AreFrom (state_of old).blobs.file least places × (new ≡ after_all (forgetting size unread places) old)
+HasForgotten size unread least old new =
+    (places : List ℤ) × AreFrom (state_of old).blobs.file least places × (new ≡ after_all (forgetting size unread places) old)
 
 -- the same calls, all of them or up to one that failed
 abbrev pub Forgets : ℕ → List ℕ → ℤ → Trace → Trace → Type 0
@@ -134,7 +141,8 @@ HasWrittenBack sum size x old new =
 abbrev pub WritesBehind : List Event → (List ℕ → ℕ) → ℕ → RecoveryResult → Trace → Trace → Type 0
 WritesBehind first sum size x old new =
     CommitsBehind first sum x old new
-    ⊎ (FitsIfNew x × (numbers : List ℤ) × AreOthersIfNew x (state_of old) numbers × (places : List ℤ) × MayGo (state_of old).blobs.file (forgotten_from x.model) places
+    ⊎ (FitsIfNew x × (numbers : List ℤ) × AreOthersIfNew x (state_of old) numbers × (places : List ℤ)
+    × MayGo (state_of old).blobs.file (forgotten_from x.model) places
     × Performs (first ++ writing_back sum size x numbers places) old new)
 
 -- so it is with no calls before them

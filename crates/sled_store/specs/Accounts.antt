@@ -1,12 +1,14 @@
 -- What an accountant keeps, as the machine that it stands for, and how its indexes are tied to the slots.
-use Rattle.std.specs.Prelude.{◌≡◌, ◌⊎◌, ◌≤◌, ◌<◌, ◌+◌, ◌*◌, ◌^◌, ℕ, true, false, IsTrue, List, [], length, map, take, drop, vec_capacity, slice_index_or, Result, Ok, Err}
+use Rattle.std.specs.Prelude.{◌≡◌, ◌⊎◌, ◌≤◌, ◌<◌, ◌+◌, ◌*◌, ◌^◌, ℕ, true, false, IsTrue, List, [], length, map, take, drop, vec_capacity, slice_index_or}
+use Rattle.std.specs.Prelude.{Result, Ok, Err}
 use Rattle.std.specs.List.{All}
 use Rattle.std.specs.List.Sorted.{IsStrictlySortedBy}
 use Rattle.std.specs.Map.{keys_of}
 use Rattle.std.specs.Ordering.{nat_cmp}
 use Rattle.sled_codec.specs.declared.result.Error.{Error}
 use Rattle.sled_codec.specs.declared.result.Error.TheVariants.{OutOfMemory, PlacesUsedUp}
-use Rattle.sled_store.specs.SegmentStates.{SlotState, Machine, is_free, is_draining, free_slot, slot_at, has_page, free_among, inactive_among, active_among, waiting_among, next_slot}
+use Rattle.sled_store.specs.SegmentStates.{SlotState, Machine, is_free, is_draining, free_slot, slot_at, has_page, free_among, inactive_among, active_among}
+use Rattle.sled_store.specs.SegmentStates.{waiting_among, next_slot}
 use Rattle.sled_store.specs.declared.segment.slot.Slot.{Slot}
 use Rattle.sled_store.specs.declared.segment.cleaner.Entry.{Entry}
 use Rattle.sled_store.specs.declared.segment.cleaner.SegmentCleaner.{SegmentCleaner}

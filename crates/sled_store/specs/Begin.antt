@@ -1,5 +1,6 @@
 -- Where a log begins on a log file, and what it asks of the snapshot that it begins from.
-use Rattle.std.specs.Prelude.{◌≡◌, ◌≢◌, ◌↔◌, ◌==◌, ◌||◌, ◌+◌, ◌-◌, ◌*◌, ◌/◌, ◌%◌, ◌^◌, ◌≤◌, ◌<◌, ◌≤ℤ◌, ℕ, zero, suc, pos, unsigned_abs, Bool, true, false, if◌then◌else◌, List, [], ◌∷◌, ◌++◌, map, replicate, Option, Some, None, IfSome, Contains}
+use Rattle.std.specs.Prelude.{◌≡◌, ◌≢◌, ◌↔◌, ◌==◌, ◌||◌, ◌+◌, ◌-◌, ◌*◌, ◌/◌, ◌%◌, ◌^◌, ◌≤◌, ◌<◌, ◌≤ℤ◌, ℕ, zero, suc, pos, unsigned_abs, Bool, true, false}
+use Rattle.std.specs.Prelude.{if◌then◌else◌, List, [], ◌∷◌, ◌++◌, map, replicate, Option, Some, None, IfSome, Contains}
 use Rattle.std.specs.List.{All, flat_map, list_any, sum_by}
 use Rattle.sled_codec.specs.Coords.{raised}
 use Rattle.sled_codec.specs.Places.{MayBegin}
@@ -38,7 +39,8 @@ sizes_in size k es = sum_by (λ e. if slot_of size e == k then e.2 else 0) es
 
 -- What is asked of a snapshot.
 
--- An entry lies below the stable place, in a slot of the file, and there as far from the slot's beginning as in its segment; it begins where a record may, and ends in the slot.
+-- An entry lies below the stable place, in a slot of the file, and there as far from the slot's beginning as in its segment; it begins where a record may,
+-- and ends in the slot.
 pub record IsPlacedIn (size slots stable : ℕ) (e : Entry) : Type 0 where
   pub not_negative : pos 0 ≤ℤ e.0
   pub below : unsigned_abs e.0 < stable

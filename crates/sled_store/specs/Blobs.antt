@@ -1,5 +1,6 @@
 -- Items that lie beside the log, each in a file of its own under the place of its message.
-use Rattle.std.specs.Prelude.{◌≡◌, ◌⊎◌, ◌↔◌, ◌≤◌, ◌≤ℤ◌, ◌+◌, ◌%◌, ◌^◌, ◌<◌, ℕ, ℤ, true, List, [], ◌∷◌, ◌++◌, length, map, filter, int_le, Option, Some, None, IsSome, IsTrue, Result, Ok, Err, Contains}
+use Rattle.std.specs.Prelude.{◌≡◌, ◌⊎◌, ◌↔◌, ◌≤◌, ◌≤ℤ◌, ◌+◌, ◌%◌, ◌^◌, ◌<◌, ℕ, ℤ, true, List, [], ◌∷◌, ◌++◌, length, map, filter, int_le, Option, Some, None}
+use Rattle.std.specs.Prelude.{IsSome, IsTrue, Result, Ok, Err, Contains}
 use Rattle.std.specs.IoError.{error_kind}
 use Rattle.std.specs.List.Sorted.{IsStrictlySortedBy}
 use Rattle.std.specs.Ordering.{int_cmp}
@@ -78,7 +79,8 @@ IsMissing _ = ⊥
 -- Why a blob was not made: one is there, the device failed, or memory was refused.
 abbrev pub MakeAnswers : {T : Type 0} → Result T Error → Option (List ℕ) → ℕ → ℕ → Type 0
 MakeAnswers (Ok _) file before after = (file ≡ None) × (after ≡ before)
-MakeAnswers (Err (Io e)) file before after = (IsTrue (is_fault e) × (after ≡ (before + 1) % 2 ^ 64)) ⊎ ((error_kind e ≡ AlreadyExists) × IsSome file × (after ≡ before))
+MakeAnswers (Err (Io e)) file before after =
+    (IsTrue (is_fault e) × (after ≡ (before + 1) % 2 ^ 64)) ⊎ ((error_kind e ≡ AlreadyExists) × IsSome file × (after ≡ before))
 MakeAnswers (Err OutOfMemory) file before after = after ≡ before
 MakeAnswers (Err _) file before after = ⊥
 
@@ -88,13 +90,16 @@ UnlessFault (Ok _) old new = Unit {0}
 UnlessFault (Err (Io e)) old new = IsTrue (is_fault e) ⊎ (new ≡ old)
 UnlessFault (Err _) old new = new ≡ old
 
--- Why a blob was not read: it is missing or damaged, the device failed, or memory was refused. Damage names the blob where its checksum fails, and nothing where it is too short to have one.
+-- Why a blob was not read: it is missing or damaged, the device failed, or memory was refused. Damage names the blob where its checksum fails, and nothing
+-- where it is too short to have one.
 abbrev pub BlobAnswers : {T : Type 0} → (List ℕ → ℕ) → ℤ → Result T Error → Option (List ℕ) → ℕ → ℕ → Type 0
 BlobAnswers sum place (Ok _) file before after = IsSome file × (after ≡ before)
-BlobAnswers sum place (Err (Io e)) file before after = (IsTrue (is_fault e) × (after ≡ (before + 1) % 2 ^ 64)) ⊎ ((error_kind e ≡ NotFound) × (file ≡ None) × (after ≡ before))
+BlobAnswers sum place (Err (Io e)) file before after =
+    (IsTrue (is_fault e) × (after ≡ (before + 1) % 2 ^ 64)) ⊎ ((error_kind e ≡ NotFound) × (file ≡ None) × (after ≡ before))
 BlobAnswers sum place (Err OutOfMemory) file before after = after ≡ before
 BlobAnswers sum place (Err (Corruption None)) file before after = (after ≡ before) × (bytes : List ℕ) × (file ≡ Some bytes) × (length bytes < 5)
-BlobAnswers sum place (Err (Corruption (Some (Blob lid at)))) file before after = (after ≡ before) × (lid ≡ 0) × (at ≡ place) × (bytes : List ℕ) × (file ≡ Some bytes) × (5 ≤ length bytes) × IsDamagedBlob sum bytes
+BlobAnswers sum place (Err (Corruption (Some (Blob lid at)))) file before after =
+    (after ≡ before) × (lid ≡ 0) × (at ≡ place) × (bytes : List ℕ) × (file ≡ Some bytes) × (5 ≤ length bytes) × IsDamagedBlob sum bytes
 BlobAnswers sum place (Err _) file before after = ⊥
 
 -- Why blobs were not removed: the device failed, or memory was refused.
@@ -118,10 +123,12 @@ ItemAnswers sum blobs (Err OutOfMemory) before after = after ≡ before
 ItemAnswers sum blobs (Err (Corruption at)) before after = (after ≡ before) × NamesDamage sum blobs at
 ItemAnswers sum blobs (Err _) before after = ⊥
 
--- What damage of the blob at a place names: that blob exactly where it has a checksum, which fails; and nothing where it is too short to have one, or holds another kind.
+-- What damage of the blob at a place names: that blob exactly where it has a checksum, which fails; and nothing where it is too short to have one, or holds
+-- another kind.
 abbrev pub NamesBlobAt : (List ℕ → ℕ) → (ℤ → Option (List ℕ)) → ℤ → Option DiskPtr → Type 0
 NamesBlobAt sum blobs place None = (bytes : List ℕ) × (blobs place ≡ Some bytes) × (5 ≤ length bytes → IsDamagedBlob sum bytes → ⊥)
-NamesBlobAt sum blobs place (Some (Blob lid at)) = (lid ≡ 0) × (at ≡ place) × (bytes : List ℕ) × (blobs place ≡ Some bytes) × (5 ≤ length bytes) × IsDamagedBlob sum bytes
+NamesBlobAt sum blobs place (Some (Blob lid at)) =
+    (lid ≡ 0) × (at ≡ place) × (bytes : List ℕ) × (blobs place ≡ Some bytes) × (5 ≤ length bytes) × IsDamagedBlob sum bytes
 NamesBlobAt sum blobs place (Some (Inline lid)) = ⊥
 
 -- where a call answers damage, this is so of what that names

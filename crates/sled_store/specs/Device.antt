@@ -1,6 +1,7 @@
 -- What was asked of a device, and what that makes of its content: as it is read now, and as a crash may leave it.
 -- A trace is the one thing that a device shows. The content, what a crash may leave and what is settled are read off it here.
-use Rattle.std.specs.Prelude.{◌≡◌, ◌⊎◌, ◌≤◌, ◌<◌, ◌+◌, ◌-◌, ◌||◌, ◌&&◌, ℕ, zero, suc, ℤ, min, max, Bool, true, false, nat_lt, nat_le, if◌then◌else◌, List, [], ◌∷◌, ◌++◌, length, take, drop, replicate, slice_index, set, Option, Some, None, IsSome, is_some, not}
+use Rattle.std.specs.Prelude.{◌≡◌, ◌⊎◌, ◌≤◌, ◌<◌, ◌+◌, ◌-◌, ◌||◌, ◌&&◌, ℕ, zero, suc, ℤ, min, max, Bool, true, false, nat_lt, nat_le, if◌then◌else◌, List, []}
+use Rattle.std.specs.Prelude.{◌∷◌, ◌++◌, length, take, drop, replicate, slice_index, set, Option, Some, None, IsSome, is_some, not}
 use Rattle.std.specs.Ordering.{int_eq}
 
 -- The bytes of the log file, the blobs by place and the snapshots by number.
@@ -137,11 +138,13 @@ unnamed s name done = if is_some (s.file name) then renamed s name done (record 
 
 -- All names are settled. What was asked of a file whose bytes may still be lost isn't yet.
 abbrev pub names_synced : NamesState → NamesState
-names_synced s = record { file = s.file; is_unsynced = s.is_unsynced; earlier = λ _. []; half_done = λ _. []; asked = λ n. if s.is_unsynced n then s.asked n else [] }
+names_synced s =
+    record { file = s.file; is_unsynced = s.is_unsynced; earlier = λ _. []; half_done = λ _. []; asked = λ n. if s.is_unsynced n then s.asked n else [] }
 
 -- the bytes of one file are settled
 abbrev pub file_synced : NamesState → ℤ → NamesState
-file_synced s name = record { file = s.file; is_unsynced = λ n. not (int_eq name n) && s.is_unsynced n; earlier = s.earlier; half_done = s.half_done; asked = s.asked }
+file_synced s name =
+    record { file = s.file; is_unsynced = λ n. not (int_eq name n) && s.is_unsynced n; earlier = s.earlier; half_done = s.half_done; asked = s.asked }
 
 -- the file that stood under a name when names were last synced; bytes that were never synced are lost
 abbrev pub settled_file : Option (List ℕ) → Bool → List NameState → Option (List ℕ)
@@ -182,7 +185,8 @@ pub record Temporary : Type 0 where
   pub asked : List ℕ
 
 abbrev pub snapshot_step : Event → Temporary → NamesState → NamesState
-snapshot_step (SnapshotPublished number done) temporary s = renamed s number done (record { file = Some temporary.bytes; is_unsynced = false }) (temporary.asked ∷ [])
+snapshot_step (SnapshotPublished number done) temporary s =
+    renamed s number done (record { file = Some temporary.bytes; is_unsynced = false }) (temporary.asked ∷ [])
 snapshot_step (SnapshotRemoved number done) temporary s = unnamed s number done
 snapshot_step NamesSynced temporary s = names_synced s
 snapshot_step (Crashed left) temporary s = names_at_rest (snapshots_left left s)
@@ -235,7 +239,14 @@ pub record State : Type 0 where
   pub placed : List Placement
 
 abbrev pub fresh : State
-fresh = record { log = at_rest []; blobs = names_at_rest (λ _. None); snapshots = names_at_rest (λ _. None); temporary = record { bytes = []; asked = [] }; placed = [] }
+fresh =
+    record {
+      log = at_rest [];
+      blobs = names_at_rest (λ _. None);
+      snapshots = names_at_rest (λ _. None);
+      temporary = record { bytes = []; asked = [] };
+      placed = [];
+    }
 
 abbrev pub step : Event → State → State
 step e s = record {

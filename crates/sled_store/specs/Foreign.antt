@@ -42,11 +42,13 @@ module _ (sum : List ℕ → ℕ) (size : ℕ) where
   RecordWasPlaced placed number at text = (write : Placement) × Contains placed write × Covers (write.at, write.bytes) at text
       × IsReached number write.bytes (first_record size write.at) (at - write.at) × HasStood write at text
 
-  -- In each slot that begins with a header, that header and each record of its number that a reader reads was placed there by the log, and stands whole. (Behind a Cap and where no record has room nothing is read, so nothing is asked of what may lie there.)
+  -- In each slot that begins with a header, that header and each record of its number that a reader reads was placed there by the log, and stands whole.
+  -- (Behind a Cap and where no record has room nothing is read, so nothing is asked of what may lie there.)
   pub record NoForeignLog (past : LogState) (placed : List Placement) (log : List ℕ) : Type 0 where
     pub headers : (slot : ℕ) (lsn mark : ℤ) → IsHeader sum (part log (slot * size) 20) lsn mark
         → HeaderWasPlaced placed (slot * size) (part log (slot * size) 20) × IsWhole past (slot * size) (part log (slot * size) 20)
-    pub records : (slot lsn : ℕ) (mark : ℤ) (at len : ℕ) → IsHeader sum (part log (slot * size) 20) (pos lsn) mark → Reads sum size (lsn / size) (part log (slot * size) size) 20 at len
+    pub records : (slot lsn : ℕ) (mark : ℤ) (at len : ℕ) → IsHeader sum (part log (slot * size) 20) (pos lsn) mark
+        → Reads sum size (lsn / size) (part log (slot * size) size) 20 at len
         → RecordWasPlaced placed (lsn / size) (slot * size + at) (part log (slot * size + at) len)
         × IsWhole past (slot * size + at) (part log (slot * size + at) len)
 

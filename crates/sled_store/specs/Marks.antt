@@ -1,10 +1,12 @@
 -- What truthful marks make of the segments: each message of a history is completed and marked at once, in place of all that its page was made of.
-use Rattle.std.specs.Prelude.{◌≡◌, ◌==◌, ◌&&◌, ◌+◌, ◌*◌, ◌/◌, ◌%◌, ◌<◌, ◌≤◌, ℕ, ℤ, pos, negsuc, max, Bool, true, false, not, nat_lt, if◌then◌else◌, List, [], map, Some, Contains}
+use Rattle.std.specs.Prelude.{◌≡◌, ◌==◌, ◌&&◌, ◌+◌, ◌*◌, ◌/◌, ◌%◌, ◌<◌, ◌≤◌, ℕ, ℤ, pos, negsuc, max, Bool, true, false, not, nat_lt, if◌then◌else◌, List, []}
+use Rattle.std.specs.Prelude.{map, Some, Contains}
 use Rattle.std.specs.List.{list_any, sum_by}
 use Rattle.sled_codec.specs.declared.serialization.message.LogKind.TheVariants.{Link}
 use Rattle.sled_codec.specs.History.{Message, Batch, History, no_history, begins_page, table, AddsMessage, AddsBatch}
 use Rattle.sled_codec.specs.Pointers.{lid_of}
-use Rattle.sled_store.specs.SegmentStates.{SlotState, Machine, unused_machine, is_free, slot_at, handed_out, LiesIn, MayMark, linked, replaced, stabilized, popped}
+use Rattle.sled_store.specs.SegmentStates.{SlotState, Machine, unused_machine, is_free, slot_at, handed_out, LiesIn, MayMark, linked, replaced, stabilized}
+use Rattle.sled_store.specs.SegmentStates.{popped}
 use Rattle.sled_store.specs.declared.segment.slot.CacheInfo.{CacheInfo}
 
 -- what a segment is told of a message

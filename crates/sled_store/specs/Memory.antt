@@ -20,7 +20,8 @@ are_in n (p ∷ patch) = nat_lt p.0 n && are_in n patch
 -- at each of the offsets a byte is the settled one, or may be lost
 abbrev pub are_kept : List (ℕ × ℕ) → ℕ → List ℕ → List ℕ → List (ℕ × ℕ) → Bool
 are_kept unsynced cut bytes settled [] = true
-are_kept unsynced cut bytes settled (p ∷ patch) = (is_unsynced_at unsynced cut p.0 || slice_index bytes p.0 == slice_index settled p.0) && are_kept unsynced cut bytes settled patch
+are_kept unsynced cut bytes settled (p ∷ patch) =
+    (is_unsynced_at unsynced cut p.0 || slice_index bytes p.0 == slice_index settled p.0) && are_kept unsynced cut bytes settled patch
 
 -- a write up to this end takes no memory
 abbrev pub has_room : MemLog → ℕ → Bool

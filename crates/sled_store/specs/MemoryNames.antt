@@ -17,7 +17,8 @@ state_kept kept = record { file = Some kept.bytes.items; is_unsynced = kept.is_u
 
 -- The states of a name with a file made on top, and removed where it is gone. One that was settled has none below.
 abbrev pub upon : List NameState → FileVersion → List NameState
-upon was kept = if kept.is_gone then absent ∷ state_kept kept ∷ (if kept.is_settled then [] else was) else state_kept kept ∷ (if kept.is_settled then [] else was)
+upon was kept =
+    if kept.is_gone then absent ∷ state_kept kept ∷ (if kept.is_settled then [] else was) else state_kept kept ∷ (if kept.is_settled then [] else was)
 
 -- the states of a name, the latest first, where these came before its files
 abbrev pub history : List NameState → List FileVersion → List NameState

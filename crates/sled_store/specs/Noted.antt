@@ -1,7 +1,8 @@
 -- What a note adds to a trace, and what a choice asks a crash to leave.
 use Rattle.std.specs.Prelude.{ℕ, ℤ, Vec, List, map}
 use Rattle.std.specs.declared.alloc.Global.{Global}
-use Rattle.sled_store.specs.Device.{Event, Left, Wrote, Cut, Synced, BlobMade, BlobSynced, BlobRemoved, SnapshotFilled, SnapshotPublished, SnapshotRemoved, NamesSynced, StopAsked, Crashed, Settled, Latest, Given}
+use Rattle.sled_store.specs.Device.{Event, Left, Wrote, Cut, Synced, BlobMade, BlobSynced, BlobRemoved, SnapshotFilled, SnapshotPublished, SnapshotRemoved}
+use Rattle.sled_store.specs.Device.{NamesSynced, StopAsked, Crashed, Settled, Latest, Given}
 use Rattle.sled_store.specs.declared.device.choice.Offer.{Offer}
 use Rattle.sled_store.specs.declared.device.choice.Choice.{Choice}
 use Rattle.sled_store.specs.declared.device.choice.Choice.TheVariants as choice

@@ -1,4 +1,5 @@
--- A set of slots as a complete binary tree in one list of marks: the root is node 1, the children of node i are 2i and 2i + 1, and the leaf of slot k is node width + k.
+-- A set of slots as a complete binary tree in one list of marks: the root is node 1, the children of node i are 2i and 2i + 1, and the leaf of slot k is
+-- node width + k.
 use Rattle.std.specs.Prelude.{◌≡◌, ◌<◌, ◌+◌, ◌*◌, ◌^◌, ◌||◌, ℕ, suc, Bool, false, List, [], ◌∷◌, length, drop, if◌then◌else◌, slice_index_or}
 
 -- whether a node is marked

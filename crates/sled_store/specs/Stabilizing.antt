@@ -48,7 +48,8 @@ abbrev pub cutting_last : ℕ → Machine → List Event
 cutting_last size m = Cut ((m.tip - 1) * size) ((m.tip - 1) * size) ∷ Synced ∷ []
 
 -- A step of the machine was made, with all of its calls; where the device failed, the first of those calls were made.
-pub record MakesStep {T : Type 0} (size : ℕ) (step : Step) (result : Result T Error) (old new : Trace) (faults faults_then : ℕ) (a : SegmentAccountant) : Type 0 where
+pub record MakesStep {T : Type 0} (size : ℕ) (step : Step) (result : Result T Error) (old new : Trace) (faults faults_then : ℕ)
+    (a : SegmentAccountant) : Type 0 where
   pub done : OnOk result (machine_of a ≡ step.machine)
   pub made : OnOk result (new ≡ after_all step.calls old)
   pub calls : Performs step.calls old new

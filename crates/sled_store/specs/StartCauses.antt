@@ -4,7 +4,8 @@ use Rattle.sled_codec.specs.declared.result.Error.{Error}
 use Rattle.sled_codec.specs.declared.result.Error.TheVariants.{Io, OutOfMemory, Corruption, PlacesUsedUp}
 use Rattle.sled_store.specs.Answers.{is_fault}
 
--- What is asked of a snapshot before a log begins on it, without the device. Damage comes first: of one on which no log can begin nothing is said about its places.
+-- What is asked of a snapshot before a log begins on it, without the device. Damage comes first: of one on which no log can begin nothing is said about its
+-- places.
 abbrev pub CheckAnswers : {T : Type 0} → Result T Error → (startable in_reach : Type 0) → Type 0
 CheckAnswers (Ok _) startable in_reach = in_reach
 CheckAnswers (Err OutOfMemory) startable in_reach = Unit {0}

@@ -46,7 +46,8 @@ found size slots s = record { slots = map (λ k. found_slot size s k (number_in 
 abbrev pub left_slots : ℕ → ℕ → SnapshotModel → ℕ
 left_slots size len s = left_after (slots_of size len) (found size (slots_of size len) s).slots
 
--- An accountant starts on a file of this length: slots that the snapshot doesn't use are filled with zeros, and cut off at the end of the file while another one is free.
+-- An accountant starts on a file of this length: slots that the snapshot doesn't use are filled with zeros, and cut off at the end of the file while
+-- another one is free.
 abbrev pub started : ℕ → ℕ → SnapshotModel → Step
 started size len s =
     let slots = slots_of size len in

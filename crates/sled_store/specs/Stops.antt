@@ -1,7 +1,8 @@
 -- The stop that a device for tests was asked for, and how the device keeps to it.
 use Rattle.std.specs.Prelude.{◌≡◌, ◌<◌, ◌==◌, ◌&&◌, ◌+◌, ◌-◌, ℕ, Bool, true, false, not, if◌then◌else◌, [], ◌∷◌, length, Option, Some, None}
 use Rattle.std.specs.Option.{option_map}
-use Rattle.sled_store.specs.Device.{Event, Trace, Wrote, Cut, Synced, BlobMade, BlobSynced, BlobRemoved, SnapshotFilled, SnapshotPublished, SnapshotRemoved, NamesSynced, StopAsked, Crashed}
+use Rattle.sled_store.specs.Device.{Event, Trace, Wrote, Cut, Synced, BlobMade, BlobSynced, BlobRemoved, SnapshotFilled, SnapshotPublished, SnapshotRemoved}
+use Rattle.sled_store.specs.Device.{NamesSynced, StopAsked, Crashed}
 
 -- a call that changes or syncs was done, as it was asked
 abbrev pub is_done : Event → Bool

@@ -1,4 +1,5 @@
--- The word that a buffer keeps of its state, by its fields: where its bytes end, how many writers it has, whether it is sealed and whether it is the last of its segment, and a salt that no two of its uses share.
+-- The word that a buffer keeps of its state, by its fields: where its bytes end, how many writers it has, whether it is sealed and whether it is the last
+-- of its segment, and a salt that no two of its uses share.
 use Rattle.std.specs.Prelude.{◌*◌, ◌/◌, ◌%◌, ◌^◌, ◌==◌, ℕ, Bool}
 
 -- The fields of a word, from its lowest bits up: 24 bits, 7, 1, 1 and 31. The salt keeps its place in the word.

@@ -250,7 +250,7 @@ module _ (sum : List ℕ → ℕ) (size : ℕ) where
         aligned = told.aligned;
         begun = omega (arith, longer, low);
         stand = filled_stand sum size (v.parts.site.place / size) bytes (max 20 v.parts.written_len) v.parts.reserved (number_small size place v f) less (segment_chain v f) told.stand;
-        begins = elim told.begins [ | inl behind ↦ inl behind | inr first ↦ inr (first.0, first.1, first.2, front ∙ first.3) ];
+        begins = elim told.begins [ inl behind ↦ inl behind | inr first ↦ inr (first.0, first.1, first.2, front ∙ first.3) ];
       }
 
   told_as_sealed : (place : ℕ) (v : SegmentView) → IsSegment size place v → IsTold v → IsTold (as_sealed sum size v)
@@ -299,9 +299,9 @@ module _ {D C : Type 0} (trace : D → Trace) (sum : List ℕ → ℕ) (log : Lo
         begins = elim (cases_lt 0 v.parts.written_len) [
           | inl some ↦ inl (on.file.begun some)
           | inr none ↦ (
-            let first : v.parts.written_len ≡ 0 = omega (arith, none) in
-            let head = segment.header first in
-            inr (first, head.mark, head.of_history.below, head.is))
+              let first : v.parts.written_len ≡ 0 = omega (arith, none) in
+              let head = segment.header first in
+              inr (first, head.mark, head.of_history.below, head.is))
         ];
       })
 

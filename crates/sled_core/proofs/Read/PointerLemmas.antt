@@ -22,7 +22,7 @@ module _ (sum : List ℕ → ℕ) (size : ℕ) (s : State) where
   reads_inline page number (Blob lid place) r inline reads = absurd inline
 
   pub damage_inline : {T : Type 0} (number : ℕ) (p : DiskPtr) (r : Result T Error) → IsInline p → IfErr r (IsDamageOf sum size s number p) → IsCorruption r → IsUnreadable sum size s.log.bytes s.blobs.file (lid_of p) number
-  damage_inline number (Inline lid) (Err (Corruption at)) inline damage is = elim damage [ | inl bad ↦ inl bad.0 | inr blob ↦ inr blob.0 ]
+  damage_inline number (Inline lid) (Err (Corruption at)) inline damage is = elim damage [ inl bad ↦ inl bad.0 | inr blob ↦ inr blob.0 ]
   damage_inline number (Blob lid place) r inline damage is = absurd inline
   damage_inline number (Inline lid) _ inline damage is = absurd is
 

@@ -406,11 +406,11 @@ module _ {D C : Type 0} (log : Log D C) (sum : List ℕ → ℕ) (begun : ℕ) (
                   held = held;
                 },
                 inl (
-                  let left = ap spans front.left ∙ drop_seen front.count (sealed_for sum to log) ∙ ap (λ (ss : List Span). drop front.count ss) sealed_seen in
-                  let start = front.start ∙ start_seen in (
-                    leaves new device now H A f position (drop front.count (sealed_below to l)) (start_below to l) (fault_of new) left start refl,
-                    subst (λ n. n < to) (first_seen new ∙ (λ i. first_waiting (left i) (start i))) front.short,
-                  )),
+                    let left = ap spans front.left ∙ drop_seen front.count (sealed_for sum to log) ∙ ap (λ (ss : List Span). drop front.count ss) sealed_seen in
+                    let start = front.start ∙ start_seen in (
+                      leaves new device now H A f position (drop front.count (sealed_below to l)) (start_below to l) (fault_of new) left start refl,
+                      subst (λ n. n < to) (first_seen new ∙ (λ i. first_waiting (left i) (start i))) front.short,
+                    )),
               )
             ];
           }
