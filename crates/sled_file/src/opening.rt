@@ -1,5 +1,8 @@
 //! How a folder is opened: it is locked, what is missing is made, all that is there is synced, and then read.
 ghost use Rattle.std.specs.Prelude.{◌≡◌, ◌∷◌, ℕ, ℤ, List, IfOk};
+ghost use Rattle.std.specs.List.Sorted.{IsStrictlySortedBy};
+ghost use Rattle.std.specs.Map.{keys_of};
+ghost use Rattle.std.specs.Ordering.{int_cmp};
 ghost use Rattle.sled_store.specs.Device.{Crashed, Given};
 
 mod reading;
@@ -106,16 +109,16 @@ pub fn open_told<S: Start, P: Progress>(
     Ok(FileDevice::new(alloc, folder, found))
 }
 
-/// Reads what is in a folder, which is changed in nothing, and is locked meanwhile. Tells how far it came.
+/// Reads what is in a folder, which is changed in nothing, and is locked meanwhile. Tells how far it came. Blobs and
+/// snapshots are in ascending order, each once.
 ///
 /// # Errors
 ///
 /// As `open`; `Io` also where the folder, its log file or its lock is missing.
-pub fn read<P: Progress>(
-    rt: &HostRuntime,
-    path: &str,
-    progress: &mut P,
-) -> Result<Offer, OpenError> {
+pub fn read<P: Progress>(rt: &HostRuntime, path: &str, progress: &mut P) -> Result<Offer, OpenError>
+    ensures blobs { IfOk result (λ found. IsStrictlySortedBy int_cmp (keys_of found.blobs.items)) }
+    ensures snapshots { IfOk result (λ found. IsStrictlySortedBy int_cmp (keys_of found.snapshots.items)) }
+{
     let alloc = rt.alloc();
     let _lock = locked(rt, &reading_only(), format!(in alloc; "{path}/lock")?)?;
     let log = open_file(rt, &reading_only(), format!(in alloc; "{path}/log")?)?;
@@ -131,7 +134,7 @@ pub fn read<P: Progress>(
 // Locks the folder, makes what is missing of it, and syncs what stands in it by name.
 fn prepare(rt: &HostRuntime, path: &str) -> Result<Handles, OpenError> {
     let alloc = rt.alloc();
-    let is_new = make_folder(rt, path)?;
+    make_folder(rt, path)?;
     let how = changing();
     let lock = locked(rt, &how, format!(in alloc; "{path}/lock")?)?;
     make_folder(rt, format!(in alloc; "{path}/blobs")?.as_str())?;
@@ -140,7 +143,7 @@ fn prepare(rt: &HostRuntime, path: &str) -> Result<Handles, OpenError> {
     let blobs = open_folder(rt, format!(in alloc; "{path}/blobs")?)?;
     let snapshots = open_folder(rt, format!(in alloc; "{path}/snapshots")?)?;
     let _ = open_folder(rt, String::from_str(alloc, path)?)?;
-    if is_new {
+    if is_unused(alloc, path, &log)? {
         let _ = open_folder(rt, format!(in alloc; "{path}/..")?)?;
     }
     Ok(Handles {
@@ -151,12 +154,21 @@ fn prepare(rt: &HostRuntime, path: &str) -> Result<Handles, OpenError> {
     })
 }
 
-// Makes a folder, unless it is there; whether it was made.
-fn make_folder(rt: &HostRuntime, path: &str) -> Result<bool, OpenError> {
+// Makes a folder, unless it is there.
+fn make_folder(rt: &HostRuntime, path: &str) -> Result<(), OpenError> {
     match fs::create_dir(rt, path) {
-        Ok(()) => Ok(true),
-        Err(error) if error.kind() == ErrorKind::AlreadyExists => Ok(false),
+        Ok(()) => Ok(()),
+        Err(error) if error.kind() == ErrorKind::AlreadyExists => Ok(()),
         Err(error) => Err(failed(rt.alloc(), path, "the folder can't be made", error)),
+    }
+}
+
+// Whether the log file has no bytes. Then the name of the folder may not be on the disk: who made it may have been ended
+// before that was synced, also an earlier opening.
+fn is_unused(alloc: Global, path: &str, log: &File) -> Result<bool, OpenError> {
+    match log.metadata() {
+        Ok(found) => Ok(found.len() == 0),
+        Err(error) => Err(failed(alloc, path, "the log file can't be looked at", error)),
     }
 }
 

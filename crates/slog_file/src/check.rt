@@ -25,7 +25,7 @@ pub(crate) fn show(rt: &HostRuntime, folder: &str) -> Result<Ended> {
     let alloc = rt.alloc();
     let size = size::of(rt, folder)?;
     let content = found(rt, folder)?;
-    let memory = filled(alloc, &content).context("the copy in memory can't be made")?;
+    let memory = filled(alloc, size, &content).context("the copy in memory can't be made")?;
     let device = NotedDevice::new(alloc, memory);
     let config = RunningConfig::new(alloc, size, device, Crc32);
     let mut writer = BufWriter::new(alloc, io::writer(rt))?;

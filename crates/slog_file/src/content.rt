@@ -4,7 +4,7 @@ use crate::progress::Told;
 use crate::size;
 use anyhow::{Context, Error, Result, anyhow};
 use sled_file::{Crc32, OpenError, read};
-use sled_log::config::RunningConfig;
+use sled_log::config::{Config, RunningConfig};
 use sled_log::device::{Device, MemDevice, Offer};
 use std::alloc::Global;
 use std::io;
@@ -17,7 +17,7 @@ pub(crate) fn load(rt: &HostRuntime, folder: &str) -> Result<Copied> {
     let alloc = rt.alloc();
     let config = size::of(rt, folder)?;
     let found = found(rt, folder)?;
-    let device = filled(alloc, &found).context("the copy in memory can't be made")?;
+    let device = filled(alloc, config, &found).context("the copy in memory can't be made")?;
     Ok(RunningConfig::new(alloc, config, device, Crc32))
 }
 
@@ -59,9 +59,19 @@ pub(crate) fn contents_of<D: Device>(alloc: Global, device: &mut D) -> io::Resul
 }
 
 /// A device in memory with this content, all of it settled.
-pub(crate) fn filled(alloc: Global, content: &Offer) -> io::Result<MemDevice> {
+pub(crate) fn filled(alloc: Global, config: Config, content: &Offer) -> io::Result<MemDevice> {
     let mut device = MemDevice::new(alloc);
-    device.write_at(0, &content.bytes)?;
+    fill(&mut device, config, content)?;
+    Ok(device)
+}
+
+/// Writes this content to a device that is empty, and settles it. Each slot of the log file has a write of its own: what
+/// stands in a slot counts as the log's own only where a write begins with its header (`docs/DEFINITIONS.md`, "NoForeign").
+pub(crate) fn fill<D: Device>(device: &mut D, config: Config, content: &Offer) -> io::Result<()> {
+    let size = config.segment_size;
+    for (slot, bytes) in content.bytes.chunks(size as usize).enumerate() {
+        device.write_at((slot as u64).saturating_mul(size), bytes)?;
+    }
     device.sync()?;
     for (place, bytes) in &content.blobs {
         device.blob_create(*place, bytes)?;
@@ -71,6 +81,5 @@ pub(crate) fn filled(alloc: Global, content: &Offer) -> io::Result<MemDevice> {
         device.snapshot_write(bytes)?;
         device.snapshot_publish(*number)?;
     }
-    device.sync_names()?;
-    Ok(device)
+    device.sync_names()
 }

@@ -13,6 +13,7 @@ use anyhow::Result;
 use sled_log::device::Device;
 use sled_log::logger::{LogOffset, MessageKind};
 use sled_log::snapshot::Snapshot;
+use std::alloc::Global;
 use std::io::{self, BufWriter, Write};
 
 /// Who prints what is found, in this order: the log file, its slots, the blobs, the snapshots, and the end.
@@ -55,12 +56,22 @@ pub(crate) fn show(rt: &HostRuntime, folder: &str, is_json: bool) -> Result<Ende
     let mut config = load(rt, folder)?;
     let mut writer = BufWriter::new(alloc, io::writer(rt))?;
     if is_json {
-        tell(&mut config, &mut JsonDump::new(alloc, folder, &mut writer))?;
+        print_json(alloc, folder, &mut config, &mut writer)?;
     } else {
         tell(&mut config, &mut TextDump::new(&mut writer))?;
     }
     writer.flush()?;
     Ok(Ended::Well)
+}
+
+/// Prints it as one object of JSON.
+pub(crate) fn print_json<W: Write>(
+    alloc: Global,
+    folder: &str,
+    config: &mut Copied,
+    writer: &mut W,
+) -> Result<()> {
+    tell(config, &mut JsonDump::new(alloc, folder, writer))
 }
 
 // Goes over all, and has it printed.

@@ -16,7 +16,7 @@ pub(crate) fn show(rt: &HostRuntime, folder: &str, is_json: bool) -> Result<Ende
     let snapshot = recovered(rt, folder, &mut config)?;
     let mut writer = BufWriter::new(alloc, io::writer(rt))?;
     if is_json {
-        as_json(alloc, folder, &snapshot, &mut Json::new(&mut writer))?;
+        print_json(alloc, folder, &snapshot, &mut Json::new(&mut writer))?;
     } else {
         as_text(&snapshot, &mut writer)?;
     }
@@ -67,7 +67,8 @@ fn entry_as_text<W: Write>(entry: &Entry, writer: &mut W) -> io::Result<()> {
     write!(writer, " {place} {at} {len}")
 }
 
-fn as_json<W: Write>(
+/// Prints it as one object of JSON.
+pub(crate) fn print_json<W: Write>(
     alloc: Global,
     folder: &str,
     snapshot: &Snapshot,

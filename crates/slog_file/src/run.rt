@@ -165,7 +165,7 @@ impl Runner<'_, '_> {
         };
         size::agree(self.rt, self.folder, config, files.len()?)?;
         let content = contents_of(alloc, &mut files)?;
-        let memory = filled(alloc, &content).context("the copy in memory can't be made")?;
+        let memory = filled(alloc, config, &content).context("the copy in memory can't be made")?;
         let device = DoubleDevice::new(memory, files);
         let session = Session::new(alloc, config, device, Crc32);
         if let Some(before) = self.running.replace(session) {

@@ -1,17 +1,22 @@
 //! What no clause says: the bytes that a folder has behind a run, worked out by hand, and which damage is found.
-use crate::content::{contents_of, filled};
+use crate::content::{contents_of, fill, filled};
 use crate::damage::reading::{find, find_behind};
 use crate::damage::{Damage, Damaged, Kind};
 use crate::double_device::DoubleDevice;
-use crate::json::quoted;
+use crate::json::{Json, quoted};
 use crate::named_files::Fault;
-use sled_file::{Unknown, open};
+use crate::noted_device::{Change, NotedDevice};
+use crate::{dump, pages};
+use sled_file::{Crc32, Unknown, open};
 use sled_log::config::{Config, RunningConfig};
 use sled_log::device::{Checksum, MemDevice, Offer, PlaceSum};
 use sled_log::logger::SegmentHeader;
+use sled_log::own::{LeftFiles, Past, nothing_is_foreign};
 use sled_log::result::{Error, Lsn};
 use sled_log::session::{Command, Reply, Session};
 use sled_log::snapshot::read_snapshot_or_default;
+use sled_store::device::foreign::names::NamesPast;
+use sled_store::device::foreign::{LogNote, LogPast, LogWrite};
 use std::alloc::{AllocError, Global};
 use std::fs;
 use std::test::Fail;
@@ -28,15 +33,15 @@ fn one_message_has_these_bytes(rt: HostRuntime) -> Result<(), Fail> {
     let alloc = rt.alloc();
     let path = "slog_file_test";
     let _ = fs::remove_dir_all(&rt, path);
+    let config = Config::new(256).expect(&rt, "a size");
     let mut files = open(&rt, path, Unknown)?;
-    let memory = filled(alloc, &contents_of(alloc, &mut files)?)?;
+    let memory = filled(alloc, config, &contents_of(alloc, &mut files)?)?;
     let commands = [
         Command::Open,
         Command::Replace(0, Vec::from_slice(alloc, &[7, 7, 7])?),
         Command::Complete(0),
         Command::Flush,
     ];
-    let config = Config::new(256).expect(&rt, "a size");
     let device = DoubleDevice::new(memory, files);
     let mut session = Session::new(alloc, config, device, PlaceSum);
     let replies = session.run(&commands);
@@ -47,6 +52,88 @@ fn one_message_has_these_bytes(rt: HostRuntime) -> Result<(), Fail> {
     let log = fs::read(&rt, "slog_file_test/log")?;
     assert_eq!(rt; log.as_slice(), ONE_MESSAGE.as_slice());
     fs::remove_dir_all(&rt, path)?;
+    Ok(())
+}
+
+// The content of a device behind these commands.
+fn content_behind<C: Checksum + Drop>(
+    alloc: Global,
+    config: Config,
+    checksum: C,
+    commands: &[Command],
+) -> Result<Offer, Fail> {
+    let mut session = Session::new(alloc, config, MemDevice::new(alloc), checksum);
+    let outcome = session.run(commands);
+    let mut device = session.end();
+    outcome?;
+    Ok(contents_of(alloc, &mut device)?)
+}
+
+// The content of a device behind thirteen messages of 20 bytes each, eleven of which fill the first segment.
+fn two_segments(alloc: Global, config: Config) -> Result<Offer, Fail> {
+    let mut commands = Vec::new(alloc);
+    commands.push(Command::Open)?;
+    for page in 0..13 {
+        commands.push(Command::Replace(page, Vec::from_slice(alloc, &[7; 11])?))?;
+        commands.push(Command::Complete(page as usize))?;
+    }
+    commands.push(Command::Flush)?;
+    content_behind(alloc, config, PlaceSum, &commands)
+}
+
+// Whether what passes as the log's own in a log file is so, where it was copied by these writes and synced.
+fn is_own(alloc: Global, log: &[u8], writes: &[Change]) -> Result<bool, Fail> {
+    let mut notes = Vec::new(alloc);
+    for change in writes {
+        if let Change::Write { at, len } | Change::Zeros { at, len } = *change {
+            let (_, behind) = log.split_at_checked(at as usize).unwrap_or((&[], &[]));
+            let bytes = behind
+                .split_at_checked(len as usize)
+                .unwrap_or((&[], &[]))
+                .0;
+            let write = LogWrite::new(at, Vec::from_slice(alloc, bytes)?);
+            notes.push(LogNote::Wrote(write))?;
+        }
+    }
+    notes.push(LogNote::Settled(Vec::from_slice(alloc, log)?))?;
+    let past = Past {
+        log: LogPast { notes },
+        blobs: no_names(alloc),
+        snapshots: no_names(alloc),
+    };
+    let left = LeftFiles {
+        log: Vec::from_slice(alloc, log)?,
+        blobs: Vec::new(alloc),
+        snapshots: Vec::new(alloc),
+    };
+    Ok(nothing_is_foreign(alloc, &PlaceSum, 256, &past, &left)?)
+}
+
+// No files.
+fn no_names(alloc: Global) -> NamesPast {
+    NamesPast {
+        settled: Vec::new(alloc),
+        asked: Vec::new(alloc),
+    }
+}
+
+// Of a copy by one write, nothing behind the first segment is.
+#[test]
+fn a_copy_of_two_segments_is_the_logs_own(rt: HostRuntime) -> Result<(), Fail> {
+    let alloc = rt.alloc();
+    let config = Config::new(256).expect(&rt, "a size");
+    let content = two_segments(alloc, config)?;
+    let log = &content.bytes;
+    let len = log.len() as u64;
+    assert!(rt; len > 256);
+    let mut device = NotedDevice::new(alloc, MemDevice::new(alloc));
+    fill(&mut device, config, &content)?;
+    assert_eq!(rt;
+        contents_of(alloc, &mut device)?.bytes.as_slice(),
+        log.as_slice()
+    );
+    assert!(rt; is_own(alloc, log, &device.changes)?);
+    assert!(rt; !is_own(alloc, log, &[Change::Write { at: 0, len }])?);
     Ok(())
 }
 
@@ -95,11 +182,11 @@ fn laid(
             .snapshots
             .push((20, Vec::from_slice(alloc, snapshot)?))?;
     }
-    let device = filled(alloc, &content)?;
-    match Config::new(256) {
-        Some(config) => Ok(RunningConfig::new(alloc, config, device, PlaceSum)),
-        None => Err(Fail::new("256 is no size")),
-    }
+    let Some(config) = Config::new(256) else {
+        return Err(Fail::new("256 is no size"));
+    };
+    let device = filled(alloc, config, &content)?;
+    Ok(RunningConfig::new(alloc, config, device, PlaceSum))
 }
 
 // What is found where a recovery answers damage; none where it answers none.
@@ -169,5 +256,63 @@ fn damage_of_other_files_is_found(rt: HostRuntime) -> Result<(), Fail> {
 fn texts_are_quoted(rt: HostRuntime) -> Result<(), Fail> {
     let line = quoted(rt.alloc(), "a\"\\\n")?;
     assert_eq!(rt; line.as_slice(), b"\"a\\\"\\\\\\u000a\"".as_slice());
+    Ok(())
+}
+
+// What a session of five messages leaves, and two files that are none. The encodings: a header of 8 bytes, and an item behind its length, or the
+// place of a blob in 8 bytes. In the file of the blob a checksum and a kind stand before an item of 30 bytes and its length.
+fn five_messages(alloc: Global, config: Config) -> Result<RunningConfig<MemDevice, Crc32>, Fail> {
+    let item = [1u8; 30];
+    let commands = [
+        Command::Open,
+        Command::Replace(0, Vec::from_slice(alloc, &[7, 7, 7])?),
+        Command::Complete(0),
+        Command::Replace(1, Vec::from_slice(alloc, &[5])?),
+        Command::Complete(1),
+        Command::Replace(2, Vec::from_slice(alloc, &item)?),
+        Command::Complete(2),
+        Command::Link(0, Vec::from_slice(alloc, &[9])?),
+        Command::Complete(3),
+        Command::Free(1),
+        Command::Complete(4),
+        Command::Flush,
+        Command::Halt,
+        Command::Open,
+    ];
+    let mut content = content_behind(alloc, config, Crc32, &commands)?;
+    content.blobs.push((99, Vec::from_slice(alloc, &[1])?))?;
+    content
+        .snapshots
+        .push((7, Vec::from_slice(alloc, &[1; 12])?))?;
+    let device = filled(alloc, config, &content)?;
+    Ok(RunningConfig::new(alloc, config, device, Crc32))
+}
+
+const DUMP_AS_JSON: &str =
+    "{\"folder\":\"folder\",\"log_bytes\":256,\"segment_size\":256,\"slots\":[{\"offset\":0,\"state\":\"segment\",\"place\":0,\"mark\":-1,\"records\":[\
+    {\"kind\":\"inline-meta\",\"page\":0,\"place\":20,\"offset\":20,\"blob\":null,\"length\":12,\"peg\":null},\
+    {\"kind\":\"counter\",\"page\":1,\"place\":32,\"offset\":32,\"blob\":null,\"length\":10,\"peg\":null},\
+    {\"kind\":\"blob-node\",\"page\":2,\"place\":42,\"offset\":42,\"blob\":42,\"length\":16,\"peg\":null},\
+    {\"kind\":\"inline-link\",\"page\":0,\"place\":58,\"offset\":58,\"blob\":null,\"length\":10,\"peg\":null},\
+    {\"kind\":\"free\",\"page\":1,\"place\":68,\"offset\":68,\"blob\":null,\"length\":8,\"peg\":null}],\"end\":76,\"ended_by\":\"zeros\"}],\
+    \"blobs\":[{\"place\":42,\"bytes\":36,\"kind\":\"blob-node\"},{\"place\":99,\"bytes\":1,\"damaged_at\":0,\"damage\":\"too-short\"}],\
+    \"snapshots\":[{\"number\":7,\"bytes\":12,\"damaged_at\":0,\"damage\":\"wrong-length\"},{\"number\":76,\"bytes\":75,\"stable\":76,\"active\":0,\"pages\":3}]}\n";
+
+const PAGES_AS_JSON: &str =
+    "{\"folder\":\"a\\\"b\",\"stable\":76,\"active\":0,\"pages\":[[{\"place\":20,\"offset\":20,\"blob\":null,\"length\":12},\
+    {\"place\":58,\"offset\":58,\"blob\":null,\"length\":10}],[],[{\"place\":42,\"offset\":42,\"blob\":42,\"length\":16}]]}\n";
+
+#[test]
+fn json_is_printed(rt: HostRuntime) -> Result<(), Fail> {
+    let alloc = rt.alloc();
+    let config = Config::new(256).expect(&rt, "a size");
+    let mut config = five_messages(alloc, config)?;
+    let mut dumped = Vec::new(alloc);
+    dump::print_json(alloc, "folder", &mut config, &mut dumped)?;
+    assert_eq!(rt; str::from_utf8(&dumped)?, DUMP_AS_JSON);
+    let snapshot = read_snapshot_or_default(&mut config)?;
+    let mut printed = Vec::new(alloc);
+    pages::print_json(alloc, "a\"b", &snapshot, &mut Json::new(&mut printed))?;
+    assert_eq!(rt; str::from_utf8(&printed)?, PAGES_AS_JSON);
     Ok(())
 }

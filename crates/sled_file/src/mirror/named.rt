@@ -2,6 +2,7 @@
 ghost use Rattle.std.specs.Prelude.{◌≡◌, ◌↔◌, ℤ, None, Some, IsSome, is_some, IfOk, OnOk, OnErr, IfErr, MatchOption, Contains, false, if◌then◌else◌};
 ghost use Rattle.std.specs.Ordering.{int_cmp, int_eq};
 ghost use Rattle.std.specs.BTreeMap.{keys};
+ghost use Rattle.std.specs.Map.{keys_of};
 ghost use Rattle.std.specs.List.Sorted.{IsStrictlySortedBy};
 ghost use Rattle.std.specs.declared.io.ErrorKind.TheVariants.{NotFound};
 ghost use Rattle.sled_store.specs.Answers.{FailsWantsOrSays, is_fault};
@@ -97,7 +98,10 @@ impl NamedFiles {
     }
 
     // All files, in ascending order of their names.
-    pub(crate) fn into_list(self, alloc: Global) -> Result<Vec<(i64, Vec<u8>)>, AllocError> {
+    pub(crate) fn into_list(self, alloc: Global) -> Result<Vec<(i64, Vec<u8>)>, AllocError>
+        ensures files { IfOk result (λ files. files.items ≡ self.files.entries) }
+        ensures ascending { IfOk result (λ files. IsStrictlySortedBy int_cmp (keys_of files.items)) }
+    {
         self.files.into_iter().collect(alloc)
     }
 }
