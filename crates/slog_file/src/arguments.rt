@@ -1,6 +1,7 @@
 //! The arguments of the program.
 
-use anyhow::Result;
+use anyhow::{Result, bail};
+use clap::error::ErrorKind;
 use clap::{Arg, ArgAction, ArgMatches, Command, Error, value_parser};
 use sled_log::result::Lsn;
 use std::alloc::{AllocError, Global};
@@ -36,6 +37,7 @@ pub(crate) fn read_words(rt: &HostRuntime, words: &[String]) -> Result<Wish> {
     match parse(rt.alloc(), words) {
         Ok(Some(asked)) => Ok(Wish::Do(asked)),
         Ok(None) => Ok(Wish::Misread),
+        Err(error) if error.kind() == ErrorKind::OutOfMemory => bail!("out of memory"),
         Err(error) => {
             error.print(rt)?;
             Ok(if error.use_stderr() {

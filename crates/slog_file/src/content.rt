@@ -1,4 +1,7 @@
 //! What a folder holds, as a device in memory.
+ghost use Rattle.std.specs.Prelude.{◌≡◌, ◌<◌, [], length, OnOk, IfOk};
+ghost use Rattle.sled_store.specs.Device.{state_of};
+ghost use Rattle.slog_file.specs.Copies.{HasSlots, IsOwnCopy, LogStays};
 
 use crate::progress::Told;
 use crate::size;
@@ -59,7 +62,9 @@ pub(crate) fn contents_of<D: Device>(alloc: Global, device: &mut D) -> io::Resul
 }
 
 /// A device in memory with this content, all of it settled.
-pub(crate) fn filled(alloc: Global, config: Config, content: &Offer) -> io::Result<MemDevice> {
+pub(crate) fn filled(alloc: Global, config: Config, content: &Offer) -> io::Result<MemDevice>
+    ensures { IfOk result (λ device. IsOwnCopy config.segment_size content.now.bytes.items (state_of (⟦<MemDevice as Device>⟧.trace device))) }
+{
     let mut device = MemDevice::new(alloc);
     fill(&mut device, config, content)?;
     Ok(device)
@@ -67,19 +72,50 @@ pub(crate) fn filled(alloc: Global, config: Config, content: &Offer) -> io::Resu
 
 /// Writes this content to a device that is empty, and settles it. Each slot of the log file has a write of its own: what
 /// stands in a slot counts as the log's own only where a write begins with its header (`docs/DEFINITIONS.md`, "NoForeign").
-pub(crate) fn fill<D: Device>(device: &mut D, config: Config, content: &Offer) -> io::Result<()> {
-    let size = config.segment_size;
-    for (slot, bytes) in content.bytes.chunks(size as usize).enumerate() {
-        device.write_at((slot as u64).saturating_mul(size), bytes)?;
-    }
+pub(crate) fn fill<D: Device>(device: &mut D, config: Config, content: &Offer) -> io::Result<()>
+    requires { D.trace device.old ≡ [] }
+    ensures { OnOk result (IsOwnCopy config.segment_size content.now.bytes.items (state_of (D.trace device.new))) }
+{
+    write_slots(device, config.segment_size as usize, &content.bytes)?;
     device.sync()?;
-    for (place, bytes) in &content.blobs {
+    make_blobs(device, &content.blobs)?;
+    publish_snapshots(device, &content.snapshots)?;
+    device.sync_names()
+}
+
+// Writes the bytes of a log file, slot by slot.
+fn write_slots<D: Device>(device: &mut D, size: usize, bytes: &[u8]) -> io::Result<()>
+    requires size { 255 < size }
+    requires empty { D.trace device.old ≡ [] }
+    ensures { OnOk result (HasSlots size bytes.now (length bytes.now) (state_of (D.trace device.new))) }
+{
+    let mut at = 0;
+    while at < bytes.len() {
+        let count = size.min(bytes.len() - at);
+        device.write_at(at as u64, &bytes[at..at + count])?;
+        at += count;
+    }
+    Ok(())
+}
+
+// Makes blobs, each under its place, and settles their bytes.
+fn make_blobs<D: Device>(device: &mut D, blobs: &[(i64, Vec<u8>)]) -> io::Result<()>
+    ensures { OnOk result (LogStays (state_of (D.trace device.old)) (state_of (D.trace device.new))) }
+{
+    for (place, bytes) in blobs {
         device.blob_create(*place, bytes)?;
         device.blob_sync(*place)?;
     }
-    for (number, bytes) in &content.snapshots {
+    Ok(())
+}
+
+// Publishes snapshots, each under its number.
+fn publish_snapshots<D: Device>(device: &mut D, snapshots: &[(i64, Vec<u8>)]) -> io::Result<()>
+    ensures { OnOk result (LogStays (state_of (D.trace device.old)) (state_of (D.trace device.new))) }
+{
+    for (number, bytes) in snapshots {
         device.snapshot_write(bytes)?;
         device.snapshot_publish(*number)?;
     }
-    device.sync_names()
+    Ok(())
 }
