@@ -47,7 +47,7 @@ shorter m = record m { tip = m.tip - 1 }
 abbrev pub cutting_last : ℕ → Machine → List Event
 cutting_last size m = Cut ((m.tip - 1) * size) ((m.tip - 1) * size) ∷ Synced ∷ []
 
--- A step of the machine was made, with all of its calls; where the device failed, the first of those calls were made.
+-- A step of the machine was made, with all of its calls; where the device failed, the first of those calls were made. The accountant stays one then, too.
 pub record MakesStep {T : Type 0} (size : ℕ) (step : Step) (result : Result T Error) (old new : Trace) (faults faults_then : ℕ)
     (a : SegmentAccountant) : Type 0 where
   pub done : OnOk result (machine_of a ≡ step.machine)
@@ -55,4 +55,4 @@ pub record MakesStep {T : Type 0} (size : ℕ) (step : Step) (result : Result T 
   pub calls : Performs step.calls old new
   pub answers : RemoveAnswers result faults faults_then
   pub memory : IfErr result (λ e. e ≢ OutOfMemory)
-  pub account : OnOk result (IsAccountant size a)
+  pub account : IsAccountant size a

@@ -24,7 +24,7 @@ impl SegmentAccountant {
     ///
     /// # Errors
     ///
-    /// `Io` where the device failed.
+    /// `Io` where the device failed: the first of the calls were made, and the accountant stays one, in a state on the way.
     pub fn stabilize<D: Device, C: Checksum>(
         &mut self,
         config: &mut RunningConfig<D, C>,
@@ -38,7 +38,7 @@ impl SegmentAccountant {
             (D.trace config.old.device) (D.trace config.new.device) }
         ensures answers { RemoveAnswers result (D.faults config.old.device) (D.faults config.new.device) }
         ensures memory { IfErr result (λ e. e ≢ Error.OutOfMemory) }
-        ensures account { OnOk result (IsAccountant config.old.config.segment_size self.new) }
+        ensures account { IsAccountant config.old.config.segment_size self.new }
         ensures config { config.new.config ≡ config.old.config }
         ensures checksum { config.new.checksum ≡ config.old.checksum }
     {

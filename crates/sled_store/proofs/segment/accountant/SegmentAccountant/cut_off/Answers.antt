@@ -49,7 +49,7 @@ returns-in_err-cut_last-clause-step g c = record {
   calls = cut_failed c.args.self.now.size c.loop-self.self.size (machine_of c.loop-self.self) _ _ _ c.loop-self.invariant.leads (g.D.Device.trace c.cut_last.new.device) (c.may_cut.ensures.0 c.loop-self-test.true) c.loop-self.invariant.account.size_is c.cut_last.ensures.calls;
   answers = search rules;
   memory = search rules;
-  account = search rules;
+  account = subst (λ n. IsAccountant n c.cut_last.new.self) c.loop-self.invariant.account.size_is c.cut_last.ensures.account;
 }
 
 pub returns-clause-step : goal.returns-clause-step

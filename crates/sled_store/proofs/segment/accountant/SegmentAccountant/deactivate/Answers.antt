@@ -78,7 +78,7 @@ returns-in_err-remove_blobs-clause-step g c =
     let old : Trace = g.D.Device.trace c.args.device.now in
     let new : Trace = g.D.Device.trace c.remove_blobs.new.device in
     let blobs = blobs_are a c.args.slot c.index-s.result.now c.keys.result.now c.requires.slot c.index-s.ensures c.keys.ensures in
-    record { done = search rules; made = search rules; calls = failed_gone a.size c.args.place c.args.slot (machine_of a) old new (subst (λ (l : List ℤ). Performs (removing_blobs l) old new) blobs c.remove_blobs.ensures.calls); answers = search rules; memory = let told = c.in_err-remove_blobs.ensures.memory in search rules; account = search rules }
+    record { done = search rules; made = search rules; calls = failed_gone a.size c.args.place c.args.slot (machine_of a) old new (subst (λ (l : List ℤ). Performs (removing_blobs l) old new) blobs c.remove_blobs.ensures.calls); answers = search rules; memory = let told = c.in_err-remove_blobs.ensures.memory in search rules; account = c.requires.account }
 
 pub returns-in_err-free_waiting-clause-step : goal.returns-in_err-free_waiting-clause-step
 returns-in_err-free_waiting-clause-step g c =
@@ -89,7 +89,7 @@ returns-in_err-free_waiting-clause-step g c =
     let blobs = blobs_are a c.args.slot c.index-s.result.now c.keys.result.now c.requires.slot c.index-s.ensures c.keys.ensures in
     let made1 : IsMade (gone a.size c.args.place c.args.slot (machine_of a) old) old m1 h1 =
     record { machine = c.make_inactive.ensures.machine; trace = subst (λ (l : List ℤ). h1 ≡ after_all (removing_blobs l) old) blobs c.in_ok-remove_blobs.ensures.made } in
-    record { done = search rules; made = search rules; calls = failed_waits a.size c.args.place c.args.slot (machine_of a) old m1 h1 made1 (g.D.Device.trace c.free_waiting.new.device) (calls_same (λ n. waiting_freed n c.args.place m1) a.size c.make_inactive.new.self.size h1 (g.D.Device.trace c.free_waiting.new.device) c.make_inactive.ensures.account.size_is c.free_waiting.ensures.step.calls); answers = let told = c.in_err-free_waiting.ensures.step.answers in search rules; memory = let told = c.in_err-free_waiting.ensures.step.memory in search rules; account = search rules }
+    record { done = search rules; made = search rules; calls = failed_waits a.size c.args.place c.args.slot (machine_of a) old m1 h1 made1 (g.D.Device.trace c.free_waiting.new.device) (calls_same (λ n. waiting_freed n c.args.place m1) a.size c.make_inactive.new.self.size h1 (g.D.Device.trace c.free_waiting.new.device) c.make_inactive.ensures.account.size_is c.free_waiting.ensures.step.calls); answers = let told = c.in_err-free_waiting.ensures.step.answers in search rules; memory = let told = c.in_err-free_waiting.ensures.step.memory in search rules; account = subst (λ n. IsAccountant n c.free_waiting.new.self) c.make_inactive.ensures.account.size_is c.free_waiting.ensures.step.account }
 
 pub returns-in_err-test-clause-step : goal.returns-in_err-test-clause-step
 returns-in_err-test-clause-step g c =
@@ -106,7 +106,7 @@ returns-in_err-test-clause-step g c =
     let made2 : IsMade (waiting_freed a.size c.args.place m1) h1 m2 h2 =
     made_same (λ n. waiting_freed n c.args.place m1) a.size c.make_inactive.new.self.size h1 m2 h2 same1 c.in_ok-free_waiting.ensures.step.done c.in_ok-free_waiting.ensures.step.made in
     let same2 : c.free_waiting.new.self.size ≡ a.size = c.in_ok-free_waiting.ensures.step.account.size_is ∙ same1 in
-    record { done = search rules; made = search rules; calls = failed_test a.size c.args.place c.args.slot (machine_of a) old m1 h1 made1 m2 h2 made2 (g.D.Device.trace c.test.new.device) (calls_same (λ n. tested n c.args.slot m2) a.size c.free_waiting.new.self.size h2 (g.D.Device.trace c.test.new.device) same2 c.test.ensures.step.calls); answers = let told = c.in_err-test.ensures.step.answers in search rules; memory = let told = c.in_err-test.ensures.step.memory in search rules; account = search rules }
+    record { done = search rules; made = search rules; calls = failed_test a.size c.args.place c.args.slot (machine_of a) old m1 h1 made1 m2 h2 made2 (g.D.Device.trace c.test.new.device) (calls_same (λ n. tested n c.args.slot m2) a.size c.free_waiting.new.self.size h2 (g.D.Device.trace c.test.new.device) same2 c.test.ensures.step.calls); answers = let told = c.in_err-test.ensures.step.answers in search rules; memory = let told = c.in_err-test.ensures.step.memory in search rules; account = subst (λ n. IsAccountant n c.test.new.self) same2 c.test.ensures.step.account }
 
 pub returns-clause-step : goal.returns-clause-step
 returns-clause-step g c =

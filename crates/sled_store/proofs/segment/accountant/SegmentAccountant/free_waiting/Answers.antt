@@ -88,7 +88,7 @@ returns-in_err-free-clause-step g c =
           (calls_same (λ n. freed n k m) size c.loop-slot.self.size (g.D.Device.trace c.loop-slot.device) (g.D.Device.trace c.free.new.device) c.loop-slot.invariant.account.size_is c.free.ensures.step.calls);
       answers = let told = c.in_err-free.ensures.step.answers in search rules;
       memory = let told = c.in_err-free.ensures.step.memory in search rules;
-      account = search rules;
+      account = subst (λ n. IsAccountant n c.free.new.self) c.loop-slot.invariant.account.size_is c.free.ensures.step.account;
     }
 
 none_left : (size place : ℕ) (a : SegmentAccountant) (o : Option ℕ) → IsAccountant size a → o ≡ slice_get (slots_at place a.waiting.0) 0 → ((k : ℕ) → o ≡ Some k → ⊥) → waiting_for place (machine_of a) ≡ []

@@ -119,6 +119,10 @@ returns-in_err-deactivate-clause-calls g c =
     turn_failed (deactivated size) (due_among size c.args.mark (active_among m.slots)) m _ _ _ (leads_at size (to_z w64 (of_z w64 c.args.mark)) c.args.mark m (g.D.Device.trace c.loop-place.config.device) (machine_of c.args.self.now) (g.D.Device.trace c.args.config.now.device) (to_z-of_z w64 c.args.mark c.ranges.mark) c.loop-place.invariant.leads) w _ (g.D.Device.trace c.deactivate.new.device) list
     (calls_same (λ n. deactivated n w m) size c.loop-place.self.size (g.D.Device.trace c.loop-place.config.device) (g.D.Device.trace c.deactivate.new.device) same c.deactivate.ensures.step.calls)
 
+pub returns-in_err-deactivate-clause-account : goal.returns-in_err-deactivate-clause-account
+returns-in_err-deactivate-clause-account g c =
+    subst (λ n. IsAccountant n c.deactivate.new.self) c.loop-place.invariant.account.size_is c.deactivate.ensures.step.account
+
 pub returns-clause-done : goal.returns-clause-done
 returns-clause-done g c =
     let size : ℕ = c.args.config.now.config.segment_size in
