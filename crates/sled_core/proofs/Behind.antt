@@ -2,6 +2,8 @@ pub mod Around
 pub mod Begins
 pub mod Calls
 pub mod Completes
+pub mod FirstHoldsMarked
+pub mod FirstWritten
 pub mod FitsBegun
 pub mod FitsCalls
 pub mod FitsCompleted
@@ -19,6 +21,7 @@ pub mod HoldsMarked
 pub mod OneWrite
 pub mod Promoted
 pub mod Refilled
+pub mod SealedFits
 pub mod Shorter
 pub mod Stays
 pub mod Writes

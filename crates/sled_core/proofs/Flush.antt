@@ -1,12 +1,6 @@
 pub mod Completed
-pub mod FirstWritten
 pub mod FlushLemmas
 pub mod LogFileKept
-pub mod LogFileLemmas
-pub mod Padded
 pub mod SameFits
-pub mod SealedFile
-pub mod SealedFits
 pub mod Settled
-pub mod WriteFits
 pub mod WrittenFile

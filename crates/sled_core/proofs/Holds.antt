@@ -1,6 +1,4 @@
 pub mod Added
-pub mod FitsBatches
-pub mod AddedBatch
 pub mod BatchLemmas
 pub mod BegunLemmas
 pub mod BegunMarks
@@ -9,15 +7,17 @@ pub mod BufferEnds
 pub mod CallMoments
 pub mod CanceledLemmas
 pub mod CompletedLemmas
+pub mod Facts
+pub mod Filled
+pub mod FitsBatches
 pub mod HoldsLemmas
-pub mod HoldsMarked
-pub mod KeptCalls
 pub mod LastEnds
 pub mod LessClaimed
 pub mod MarkedLemmas
 pub mod MarkedSegments
-pub mod OpenTickets
 pub mod MessagesBeside
+pub mod Nth
+pub mod OpenEnds
 pub mod PegLemmas
 pub mod PlacedBatches
 pub mod PlacesBeside
@@ -30,4 +30,4 @@ pub mod StandsBatch
 pub mod StoredItems
 pub mod WholeHistory
 pub mod WholeLemmas
-pub mod WithoutBlob
+pub mod WriteFits

@@ -4,13 +4,10 @@ pub mod Calls
 pub mod Kept
 pub mod Line
 pub mod LineChanges
-pub mod LogWritten
 pub mod NoHeader
 pub mod NoneForeign
-pub mod OfLog
 pub mod Paths
 pub mod Placed
-pub mod PlacedWrite
 pub mod Recovering
 pub mod ScanEnds
 pub mod SealedRanges

@@ -1,3 +1,4 @@
+pub mod AddedBatch
 pub mod BufferPath
 pub mod BufferStands
 pub mod ByPlace
@@ -9,14 +10,14 @@ pub mod LongerStands
 pub mod Marks
 pub mod MetWritten
 pub mod NextSegment
-pub mod OneWrite
 pub mod NotedSteps
+pub mod OneWrite
 pub mod OpenBatch
-pub mod OpenEnds
+pub mod OpenTickets
 pub mod PutIn
-pub mod ReadOn
 pub mod ReachedCut
 pub mod ReachedEntries
+pub mod ReadOn
 pub mod Recoverable
 pub mod Reread
 pub mod Searched

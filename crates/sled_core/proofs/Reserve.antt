@@ -2,7 +2,6 @@ pub mod Batches
 pub mod BeginBelow
 pub mod CompletesLemmas
 pub mod Entries
-pub mod Filled
 pub mod Heads
 pub mod MarksLemmas
 pub mod OpenCounts

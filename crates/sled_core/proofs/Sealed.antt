@@ -18,6 +18,7 @@ pub mod OneWritten
 pub mod OtherBehind
 pub mod OtherSealed
 pub mod OtherWritten
+pub mod Padded
 pub mod Progress
 pub mod RecordsEnd
 pub mod RestWritten
@@ -25,6 +26,7 @@ pub mod RunPath
 pub mod Runs
 pub mod SealedCalls
 pub mod SealedCounts
+pub mod SealedFile
 pub mod Slices
 pub mod WriteMoments
 pub mod Zeros

@@ -3,7 +3,6 @@ pub mod KnownEnds
 pub mod Noted
 pub mod OfLog
 pub mod OneEnd
-pub mod Places
 pub mod SlowEnd
 pub mod TakenIn
 pub mod Waiting

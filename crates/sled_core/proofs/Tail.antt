@@ -1,5 +1,6 @@
 pub mod Covered
 pub mod GreatestMark
+pub mod LogFileLemmas
 pub mod Moved
 pub mod Multiples
 pub mod OfHistory

@@ -17,5 +17,6 @@ pub mod StartIndex
 pub mod StartNext
 pub mod StartPages
 pub mod StartSlots
+pub mod StartedFile
 pub mod TreeLemmas
 pub mod WithLemmas

@@ -6,6 +6,5 @@ pub mod FitLemmas
 pub mod SlotTableLemmas
 pub mod SnapshotEntries
 pub mod StartLemmas
-pub mod StartedFile
 pub mod TableEntries
 pub mod TableWeights

@@ -22,7 +22,7 @@ use Rattle.sled_core.specs.SealedBuffers.{AreZeros}
 use Rattle.sled_core.proofs.Holds.BatchLemmas.{none_batched}
 use Rattle.sled_core.proofs.Behind.Around.{behind_below, behind_place, together}
 use Rattle.sled_core.proofs.Flush.FlushLemmas.{on_file}
-use Rattle.sled_core.proofs.Flush.LogFileLemmas.{stands_some}
+use Rattle.sled_core.proofs.Tail.LogFileLemmas.{stands_some}
 use Rattle.sled_core.proofs.Flush.Settled.{rests}
 use Rattle.sled_core.proofs.Reached.BufferPath.{buffer_header, mark_same}
 use Rattle.sled_core.proofs.Read.PathLemmas.{zeros_empty}

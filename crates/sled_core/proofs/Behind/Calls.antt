@@ -30,7 +30,7 @@ use Rattle.sled_core.proofs.Holds.HoldsLemmas.{segment-append}
 use Rattle.sled_core.proofs.Holds.SealedCalls.{segment-sealed}
 use Rattle.sled_core.proofs.Reserve.CompletesLemmas.{fits}
 use Rattle.sled_core.proofs.Reserve.Entries.{open_plain, reserved_in}
-use Rattle.sled_core.proofs.Reserve.Filled.{filled_batches, filled_chain, filled_long, filled_messages, filled_stand}
+use Rattle.sled_core.proofs.Holds.Filled.{filled_batches, filled_chain, filled_long, filled_messages, filled_stand}
 use Rattle.sled_core.proofs.Reserve.OpenCounts.{open_fewer}
 use Rattle.sled_core.proofs.Reserve.Ranges.{at_there, chain_within, length-written, part-written_before}
 use Rattle.sled_core.proofs.Sealed.Appended.{end_one, seal_are}

@@ -18,7 +18,7 @@ use Rattle.sled_core.specs.Running.{FitsIn}
 use Rattle.sled_core.specs.SealedBuffers.{AreZeros}
 use Rattle.sled_core.proofs.Behind.Around.{behind_place}
 use Rattle.sled_core.proofs.Behind.Begins.{begun_with, behind-begins, far, next_above, next_apart}
-use Rattle.sled_core.proofs.Flush.Padded.{padded_get}
+use Rattle.sled_core.proofs.Sealed.Padded.{padded_get}
 use Rattle.sled_core.proofs.Reached.NextSegment.{begins_behind}
 
 module _ (sum : List ℕ → ℕ) (size : ℕ) (site : SegmentPosition) (device : State) (fault : Option IoError) (bytes : List ℕ) (from : ℕ) (bs : List Sealed) (rs : List Reserved) (pins : ℕ) (H : History) (A f : ℕ) (U : List Message)

@@ -25,9 +25,9 @@ use Rattle.sled_core.proofs.Behind.Calls.{held_here}
 use Rattle.sled_core.proofs.Behind.FitsCompleted.{front_low}
 use Rattle.sled_core.proofs.Behind.FitsMoved.{begun_same}
 use Rattle.sled_core.proofs.Flush.Completed.{grows}
-use Rattle.sled_core.proofs.Flush.Padded.{padded_get}
+use Rattle.sled_core.proofs.Sealed.Padded.{padded_get}
 use Rattle.sled_core.proofs.Flush.Settled.{rests, settled_recoverable}
-use Rattle.sled_core.proofs.Holds.AddedBatch.{message_was, no_batch, no_end}
+use Rattle.sled_core.proofs.Reached.AddedBatch.{message_was, no_batch, no_end}
 use Rattle.sled_core.proofs.Holds.BegunMarks.{blobs-marks, entries-marks, names-marks}
 use Rattle.sled_core.proofs.Holds.PegLemmas.{IsOff, LiesBesideFilling, behind_beside, beside_padded}
 use Rattle.sled_core.proofs.Holds.StandsBatch.{other-marks}

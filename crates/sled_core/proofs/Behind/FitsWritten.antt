@@ -29,7 +29,7 @@ use Rattle.sled_core.proofs.Behind.OneWrite.{reaches, some_asked, torn_one, whol
 use Rattle.sled_core.proofs.Behind.Shorter.{shorter_stands}
 use Rattle.sled_core.proofs.Behind.Writes.{behind-written}
 use Rattle.sled_core.proofs.Blobs.StaysOwn.{own_same}
-use Rattle.sled_core.proofs.Flush.Padded.{length-padded, overwritten-further, padded_get, padded_long, padded_none}
+use Rattle.sled_core.proofs.Sealed.Padded.{length-padded, overwritten-further, padded_get, padded_long, padded_none}
 use Rattle.sled_core.proofs.Flush.Settled.{rests}
 use Rattle.sled_core.proofs.Holds.WholeHistory.{whole_ascends}
 use Rattle.sled_core.proofs.Reached.SegmentsBeside.{grown_one}

@@ -26,7 +26,7 @@ use Rattle.sled_core.proofs.Behind.FullHolds.{emptied, none_reserved, none_seale
 use Rattle.sled_core.proofs.Behind.FullNext.{at_place, follow, full_file, full_here, here, holds_now, ordered, rest}
 use Rattle.sled_core.proofs.Behind.FullRead.{ends_read, inside, no_batch_behind, no_end_behind, none_behind, same_stop}
 use Rattle.sled_core.proofs.Behind.FullZeros.{zeros_or_not}
-use Rattle.sled_core.proofs.Flush.Padded.{padded_none}
+use Rattle.sled_core.proofs.Sealed.Padded.{padded_none}
 use Rattle.sled_core.proofs.Flush.Settled.{blobs_higher, entries_higher, settled_recoverable}
 use Rattle.sled_core.proofs.Holds.WholeHistory.{later_above, of_first, which_part}
 use Rattle.sled_core.proofs.Flush.Completed.{all_below}

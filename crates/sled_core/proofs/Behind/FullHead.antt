@@ -20,7 +20,7 @@ use Rattle.sled_core.specs.Reached.{BegunSegment, StandsAmong}
 use Rattle.sled_core.specs.Recoverable.{NoBatchBegins, NoBatchEnds, NoHeaderOfZeros, NoMessageBegins}
 use Rattle.sled_core.specs.SealedBuffers.{AreSealed, Laid, run_end, run_count, bytes_between}
 use Rattle.sled_core.specs.Tail.{least_place}
-use Rattle.sled_core.proofs.Flush.Padded.{padded_long}
+use Rattle.sled_core.proofs.Sealed.Padded.{padded_long}
 use Rattle.sled_core.proofs.Reached.BufferPath.{HasOnly}
 use Rattle.sled_core.specs.Full.{StandsFull}
 use Rattle.sled_core.proofs.Reached.StandsTo.{StandsTo}

@@ -18,7 +18,7 @@ use Rattle.sled_core.specs.Reached.{FollowApart, StandsAmong}
 use Rattle.sled_core.specs.Recoverable.{NoBatchBegins, NoBatchEnds, NoHeaderOfZeros}
 use Rattle.sled_core.specs.Running.{BlobsFit, FitsIn, KeepsEntries, KeepsItems}
 use Rattle.sled_core.proofs.Behind.Promoted.{promoted}
-use Rattle.sled_core.proofs.Flush.Padded.{padded_none}
+use Rattle.sled_core.proofs.Sealed.Padded.{padded_none}
 use Rattle.sled_core.proofs.Flush.Settled.{blobs_higher, entries_higher, rests, settled_recoverable}
 use Rattle.sled_core.proofs.Holds.ReachLemmas.{written_before}
 use Rattle.sled_core.proofs.Holds.WholeHistory.{later_above, of_first, which_part, whole_ascends}

@@ -20,10 +20,10 @@ use Rattle.sled_core.specs.SealedBuffers.{AreSealed, FirstUnwritten, behind_run,
 use Rattle.sled_core.proofs.Behind.FullHead.{plain_run}
 use Rattle.sled_core.proofs.Behind.FullHolds.{emptied, none_reserved, none_sealed, rise_behind}
 use Rattle.sled_core.proofs.Flush.FlushLemmas.{holds_over}
-use Rattle.sled_core.proofs.Flush.SealedFile.{stop_up}
-use Rattle.sled_core.proofs.Flush.FirstWritten.{ends_full, full_first, last_low, last_up, last_whole, reaches_first, rest_batches, segment_first, torn_first}
-use Rattle.sled_core.proofs.Flush.SealedFits.{asked_range}
-use Rattle.sled_core.proofs.Flush.WriteFits.{fits_filled}
+use Rattle.sled_core.proofs.Sealed.SealedFile.{stop_up}
+use Rattle.sled_core.proofs.Behind.FirstWritten.{ends_full, full_first, last_low, last_up, last_whole, reaches_first, rest_batches, segment_first, torn_first}
+use Rattle.sled_core.proofs.Behind.SealedFits.{asked_range}
+use Rattle.sled_core.proofs.Holds.WriteFits.{fits_filled}
 use Rattle.sled_core.proofs.Holds.BehindKept.{others_written}
 use Rattle.sled_core.proofs.Reserve.Ranges.{there_split}
 use Rattle.sled_core.proofs.Sealed.LaidLemmas.{EndsRise, ends_below}

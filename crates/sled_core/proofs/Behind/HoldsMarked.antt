@@ -26,7 +26,7 @@ use Rattle.sled_core.proofs.Flush.Completed.{grows}
 use Rattle.sled_core.proofs.Holds.BegunMarks.{begun-marks, stays-marks, stays_below-marks}
 use Rattle.sled_core.proofs.Holds.BehindKept.{behind_fewer}
 use Rattle.sled_core.proofs.Holds.CompletedLemmas.{segment-fewer}
-use Rattle.sled_core.proofs.Holds.HoldsMarked.{InReach, begin_from, behind-with, marks_higher, noted_adds, noted_history}
+use Rattle.sled_core.proofs.Behind.FirstHoldsMarked.{InReach, begin_from, behind-with, marks_higher, noted_adds, noted_history}
 use Rattle.sled_core.proofs.Holds.MarkedSegments.{marks_alone, marks_behind, marks_head, marks_long, marks_within, segment-marked, segment-with}
 use Rattle.sled_core.proofs.Holds.PegLemmas.{IsOff, LiesOff}
 use Rattle.sled_core.proofs.Reached.Marks.{less_than}

@@ -28,10 +28,10 @@ use Rattle.sled_core.proofs.Behind.Around.{HoldAround, behind_place, held_around
 use Rattle.sled_core.proofs.Behind.Calls.{held_here}
 use Rattle.sled_core.proofs.Behind.FitsCompleted.{front_low, of_segment}
 use Rattle.sled_core.proofs.Flush.Completed.{front_only, has_only}
-use Rattle.sled_core.proofs.Flush.FirstWritten.{none_or_begun}
+use Rattle.sled_core.proofs.Behind.FirstWritten.{none_or_begun}
 use Rattle.sled_core.proofs.Flush.FlushLemmas.{on_file}
-use Rattle.sled_core.proofs.Flush.Padded.{length-padded, padded_get}
-use Rattle.sled_core.proofs.Flush.SealedFile.{chain_done}
+use Rattle.sled_core.proofs.Sealed.Padded.{length-padded, padded_get}
+use Rattle.sled_core.proofs.Sealed.SealedFile.{chain_done}
 use Rattle.sled_core.proofs.Holds.WholeHistory.{whole_ascends}
 use Rattle.sled_core.proofs.Reached.BufferPath.{HasOnly, buffer_header, mark_same}
 use Rattle.sled_core.proofs.Reached.SegmentsBeside.{grown_one}

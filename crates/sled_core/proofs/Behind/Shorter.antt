@@ -13,7 +13,7 @@ use Rattle.sled_core.specs.Reached.{BegunSegment, IsLed, StandsAmong, StandsIn}
 use Rattle.sled_core.specs.Recoverable.{NoHeaderOfZeros}
 use Rattle.sled_core.specs.Scan.{IsFoundSegment}
 use Rattle.sled_core.specs.Tail.{IsScanned, Scanned, least_place}
-use Rattle.sled_core.proofs.Flush.Padded.{padded_get}
+use Rattle.sled_core.proofs.Sealed.Padded.{padded_get}
 use Rattle.sled_core.proofs.Read.FoundLemmas.{found_there}
 use Rattle.sled_core.proofs.Reached.Higher.{known_in}
 use Rattle.sled_core.proofs.Reached.KeptStands.{kept_stands, scan_kept}

@@ -20,7 +20,7 @@ use Rattle.sled_core.proofs.Flush.Completed.{grows}
 use Rattle.sled_core.proofs.Behind.FitsMoved.{marks_same}
 use Rattle.sled_core.proofs.Flush.FlushLemmas.{begun-more, on_file}
 use Rattle.sled_core.proofs.Flush.LogFileKept.{elsewhere_kept}
-use Rattle.sled_core.proofs.Flush.SealedFits.{segment_written_one}
+use Rattle.sled_core.proofs.Behind.SealedFits.{segment_written_one}
 use Rattle.sled_core.proofs.Holds.BehindKept.{behind_beside, segment_beside, slots_apart}
 use Rattle.sled_core.proofs.Holds.CompletedLemmas.{segment-fewer}
 use Rattle.sled_core.proofs.Reached.SegmentsBeside.{follows}

@@ -18,7 +18,7 @@ use Rattle.sled_store.proofs.Own.ReaderLemmas.{reads_reached}
 use Rattle.sled_store.proofs.LogFile.OverwrittenLemmas.{length-overwritten, overwritten-end, overwritten-part}
 use Rattle.sled_core.specs.Own.{IsSomeRecord, written_out_of_order}
 use Rattle.sled_core.specs.Recoverable.{NoForeign, NoHeaderOfZeros}
-use Rattle.sled_core.proofs.Flush.LogFileLemmas.{part_kept}
+use Rattle.sled_core.proofs.Tail.LogFileLemmas.{part_kept}
 use Rattle.sled_core.proofs.Crash.OwnLemmas.{no_names_own, first_own, first_of_slot}
 
 -- where a record stands no other one does

@@ -4,7 +4,7 @@ use Rattle.sled_codec.specs.History.{Message}
 use Rattle.sled_store.specs.Device.{overwritten}
 use Rattle.sled_core.specs.declared.iobuf.SegmentPosition.{SegmentPosition}
 use Rattle.sled_core.specs.LogFile.{StandsHere, StandsElsewhere}
-use Rattle.sled_core.proofs.Flush.LogFileLemmas.{message_kept}
+use Rattle.sled_core.proofs.Tail.LogFileLemmas.{message_kept}
 
 -- a record that stands below an offset stands below a higher one
 pub here_below : (sum : List ℕ → ℕ) (size : ℕ) (log : List ℕ) (site : SegmentPosition) (from to lid : ℕ) (m : Message) → from ≤ to → StandsHere sum size log site from lid m → StandsHere sum size log site to lid m

@@ -10,7 +10,7 @@ use Rattle.sled_core.specs.Fits.{IsBegunFrom}
 use Rattle.sled_core.specs.LogFile.{StaysBelow, StaysFrom}
 use Rattle.sled_core.specs.Recoverable.{AreRecoverableBlobs, AreRecoverableSnapshots, IsTableFile}
 use Rattle.sled_core.specs.Running.{BlobsFit, KeepsEntries, NamesFit}
-use Rattle.sled_core.proofs.Holds.AddedBatch.{entry_was, message_stays, message_was, same_table, was_or_batch}
+use Rattle.sled_core.proofs.Reached.AddedBatch.{entry_was, message_stays, message_was, same_table, was_or_batch}
 use Rattle.sled_core.proofs.Holds.BegunLemmas.{not_above_newest}
 
 module _ (H H' : History) (b : Batch) (adds : AddsBatch H b H') where

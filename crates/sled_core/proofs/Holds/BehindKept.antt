@@ -19,7 +19,7 @@ use Rattle.sled_core.specs.Reached.{BegunSegment}
 use Rattle.sled_core.specs.SealedBuffers.{AreSealed, Laid, sealed_end}
 use Rattle.sled_core.proofs.Flush.FlushLemmas.{on_file}
 use Rattle.sled_core.proofs.Holds.CompletedLemmas.{segment-fewer}
-use Rattle.sled_core.proofs.Flush.LogFileLemmas.{file_grows, header_there, message_kept, part_kept}
+use Rattle.sled_core.proofs.Tail.LogFileLemmas.{file_grows, header_there, message_kept, part_kept}
 use Rattle.sled_core.proofs.Flush.LogFileKept.{elsewhere_kept}
 use Rattle.sled_core.proofs.Reached.SegmentsBeside.{follows}
 use Rattle.sled_core.proofs.Sealed.Ended.{ends_rise}

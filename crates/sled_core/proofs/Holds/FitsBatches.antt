@@ -7,7 +7,7 @@ use Rattle.sled_store.proofs.Segments.Elements.{in_nothing}
 use Rattle.sled_core.specs.Fits.{CloseBelow, FitsBatches}
 use Rattle.sled_core.specs.OpenBatches.{AreApart, not_whole, stable_below, with_batch}
 use Rattle.sled_core.proofs.Holds.Added.{was_or_added}
-use Rattle.sled_core.proofs.Holds.AddedBatch.{batch_stays, batch_there, message_was, was_or_batch}
+use Rattle.sled_core.proofs.Reached.AddedBatch.{batch_stays, batch_there, message_was, was_or_batch}
 use Rattle.sled_core.proofs.Holds.BatchLemmas.{closed_up}
 use Rattle.sled_core.proofs.Reached.ByPlace.{with_cases, with_own, with_rest}
 use Rattle.sled_core.proofs.Reached.OpenBatch.{apart_further, apart_noted, ended_apart, not_whole_there, stable_alike, whole_not}

@@ -18,9 +18,9 @@ use Rattle.sled_core.specs.Reached.{BegunSegment, StandsAmong}
 use Rattle.sled_core.specs.Recoverable.{IsPlacedBatch, LeavesRecoverable, NoBatchBegins, NoBatchEnds, NoHeaderOfZeros}
 use Rattle.sled_core.specs.Running.{BlobsFit, FitsIn, KeepsEntries, KeepsItems, NamesFit}
 use Rattle.sled_core.specs.SealedBuffers.{AreSealed, AreZeros, FirstUnwritten}
-use Rattle.sled_core.proofs.Flush.Padded.{padded_get}
+use Rattle.sled_core.proofs.Sealed.Padded.{padded_get}
 use Rattle.sled_core.proofs.Flush.Settled.{rests, settled_recoverable}
-use Rattle.sled_core.proofs.Holds.AddedBatch.{message_was, no_batch, no_end}
+use Rattle.sled_core.proofs.Reached.AddedBatch.{message_was, no_batch, no_end}
 use Rattle.sled_core.proofs.Holds.BegunMarks.{blobs-marks, entries-marks, names-marks}
 use Rattle.sled_core.proofs.Holds.PegLemmas.{IsOff, LiesBesideFilling, behind_beside, beside_padded}
 use Rattle.sled_core.proofs.Holds.StandsBatch.{alone-marks}

@@ -14,7 +14,7 @@ use Rattle.sled_core.specs.Fits.{HoldBehind, HoldsNext, begun_segment}
 use Rattle.sled_core.specs.LogFile.{padded}
 use Rattle.sled_core.specs.Reached.{BegunSegment}
 use Rattle.sled_core.specs.SealedBuffers.{AreZeros, FirstUnwritten}
-use Rattle.sled_core.proofs.Flush.Padded.{padded_get}
+use Rattle.sled_core.proofs.Sealed.Padded.{padded_get}
 use Rattle.sled_core.proofs.Sealed.RecordsEnd.{covered_behind}
 use Rattle.sled_core.proofs.Sealed.Zeros.{begin_zeros}
 

@@ -11,7 +11,7 @@ use Rattle.sled_core.specs.declared.iobuf.SegmentPosition.{SegmentPosition}
 use Rattle.sled_core.specs.Buffers.{Stands}
 use Rattle.sled_core.specs.Fits.{HoldsSegment, log_parts}
 use Rattle.sled_core.specs.Recoverable.{BeginsInSegment, IsPlacedBatch}
-use Rattle.sled_core.proofs.Holds.AddedBatch.{was_or_batch}
+use Rattle.sled_core.proofs.Reached.AddedBatch.{was_or_batch}
 use Rattle.sled_core.proofs.Read.ScanLemmas.{aligned_offset}
 use Rattle.sled_core.proofs.Reserve.Entries.{open_plain, reserved_in}
 use Rattle.sled_core.proofs.Reserve.Ranges.{at_there, chain_within}

@@ -38,7 +38,7 @@ use Rattle.sled_core.proofs.Reserve.Ranges.{all_own, at_there, completed_between
 use Rattle.sled_core.proofs.Reserve.Entries.{completed_plain, reserved_in, some_long}
 use Rattle.sled_core.proofs.Flush.Completed.{all_below, which}
 use Rattle.sled_core.proofs.Holds.WholeHistory.{whole_apart}
-use Rattle.sled_core.proofs.Line.Facts.{current_facts, nth_facts}
+use Rattle.sled_core.proofs.Holds.Facts.{current_facts, nth_facts}
 use Rattle.sled_core.proofs.Read.ScanLemmas.{aligned_offset}
 
 -- A message lies behind a place in a segment, and its record where one may begin; where its blob was made no later, it lies as a log places messages.

@@ -21,14 +21,14 @@ use Rattle.sled_core.specs.Recoverable.{LeavesRecoverable, NoBatchBegins, NoBatc
 use Rattle.sled_core.specs.SealedBuffers.{AreSealed, AreZeros, FirstUnwritten}
 use Rattle.sled_core.proofs.Holds.Added.{was_or_added}
 use Rattle.sled_core.proofs.Holds.BegunLemmas.{names-adds, blobs-adds, entries-adds}
-use Rattle.sled_core.proofs.Flush.Padded.{padded_get}
+use Rattle.sled_core.proofs.Sealed.Padded.{padded_get}
 use Rattle.sled_core.proofs.Holds.FitsBatches.{stable_noted}
 use Rattle.sled_core.proofs.Holds.ReachLemmas.{LiesBehind, completed_behind}
 use Rattle.sled_core.proofs.Flush.Settled.{leaves_less, rests, settled_recoverable}
 use Rattle.sled_core.proofs.Holds.StandsAdds.{alone-adds}
 use Rattle.sled_core.proofs.Holds.WholeHistory.{of_first, whole_ascends}
 use Rattle.sled_core.proofs.Logged.Messages.{adds_logged, end_logged, below_in_log}
-use Rattle.sled_core.proofs.Reached.OpenEnds.{acknowledged_stable}
+use Rattle.sled_core.proofs.Holds.OpenEnds.{acknowledged_stable}
 use Rattle.sled_core.proofs.Reached.StableBelow.{stable_low}
 use Rattle.sled_core.proofs.Sealed.Zeros.{begin_zeros}
 

@@ -17,7 +17,7 @@ use Rattle.sled_core.specs.Recoverable.{NothingBehind, BeginsInSegment, IsMarkBe
 use Rattle.sled_core.specs.SealedBuffers.{AreZeros}
 use Rattle.sled_core.specs.Scan.{IsFoundSegment, IsScan}
 use Rattle.sled_core.specs.Tail.{least_place, Scanned}
-use Rattle.sled_core.proofs.Holds.AddedBatch.{batch_stays, batch_there, entry_was, message_stays, message_was, no_batch, no_end, no_message, was_or_batch}
+use Rattle.sled_core.proofs.Reached.AddedBatch.{batch_stays, batch_there, entry_was, message_stays, message_was, no_batch, no_end, no_message, was_or_batch}
 use Rattle.sled_core.proofs.Holds.PlacesBeside.{LiesBeside, cap_beside, first_below, lies_beside, met_beside}
 use Rattle.sled_core.proofs.Holds.PegLemmas.{LiesBesideFilling}
 use Rattle.sled_core.proofs.Reached.Marks.{less_than}

@@ -27,7 +27,7 @@ use Rattle.sled_core.specs.Running.{Fits, FitsWith}
 use Rattle.sled_core.proofs.Holds.ReachLemmas.{line_below}
 use Rattle.sled_core.proofs.Holds.WholeHistory.{whole_apart}
 use Rattle.sled_core.proofs.Line.Ends.{with_part}
-use Rattle.sled_core.proofs.Line.Facts.{IsSegment, current_facts}
+use Rattle.sled_core.proofs.Holds.Facts.{IsSegment, current_facts}
 use Rattle.sled_core.proofs.Line.Segments.{AreSegments, line_segments, nth_segment}
 use Rattle.sled_core.proofs.Line.WrittenSlots.{headers_line}
 use Rattle.sled_core.proofs.Logged.Messages.{logged_apart, logged_there, logged_twice}

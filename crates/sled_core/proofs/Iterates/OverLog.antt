@@ -10,7 +10,7 @@ use Rattle.sled_core.specs.declared.logger.Log.{Log}
 use Rattle.sled_core.specs.Iterates.{Item}
 use Rattle.sled_core.specs.Iterators.{BorrowsLog, IsLogOf, IsNext, IsOnlyRead, IsOverLog, LogIsReadFor}
 use Rattle.sled_core.specs.Sources.{BorrowSame, log_in}
-use Rattle.sled_core.proofs.Holds.KeptCalls.{kept_further, kept_still}
+use Rattle.sled_core.proofs.Line.KeptCalls.{kept_further, kept_still}
 
 none_some : {A : Type 0} (a : A) → None ≡ Some a → ⊥
 none_some a is = cc

@@ -20,7 +20,7 @@ use Rattle.sled_core.specs.Marked.{KeepsSegment}
 use Rattle.sled_core.specs.SealedBuffers.{first_ready}
 use Rattle.sled_core.specs.Turned.{IsReadyIn, promoted, ready_below, write_in, written_now}
 use Rattle.sled_core.specs.Waiting.{BufferAt, held_below, unwritten, writes_below}
-use Rattle.sled_core.proofs.Holds.KeptCalls.{kept_further, kept_still, position_further, position_still, tickets_further, tickets_still}
+use Rattle.sled_core.proofs.Line.KeptCalls.{kept_further, kept_still, position_further, position_still, tickets_further, tickets_still}
 use Rattle.sled_core.proofs.Line.HeaderMarks.{segment_further, segment_written}
 use Rattle.sled_core.proofs.Line.Below.{BeginFrom, IsFirst, IsStuck, first_fewer, first_holds, first_there_ready, first_writes, line_first, line_past, line_stuck}
 use Rattle.sled_core.proofs.Line.Current.{current_holds, current_writes}

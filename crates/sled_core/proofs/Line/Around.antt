@@ -16,7 +16,7 @@ use Rattle.sled_core.specs.Turned.{written_now}
 use Rattle.sled_core.specs.Waiting.{BufferAt, buffer_at, has_place, held_around, none_around, unless_held, unwritten, unwritten_in, unwritten_of, without_around, write_around}
 use Rattle.sled_core.proofs.Line.Below.{BeginFrom, lie_begin}
 use Rattle.sled_core.proofs.Line.Lying.{LieBetween, end_of, lie_up, line_lie, unwritten_lie, unwritten_run}
-use Rattle.sled_core.proofs.Line.Nth.{nth_set}
+use Rattle.sled_core.proofs.Holds.Nth.{nth_set}
 use Rattle.sled_core.proofs.Line.Segments.{AreSegments}
 use Rattle.sled_core.proofs.Reserve.Ranges.{there_split}
 

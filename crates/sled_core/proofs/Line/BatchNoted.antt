@@ -25,19 +25,19 @@ use Rattle.sled_core.specs.Running.{Fits}
 use Rattle.sled_core.specs.Tickets.{IsFor, index_of, is_manifest_of, place_of}
 use Rattle.sled_core.specs.Turned.{ChangesLine, NotesBatch, ended_now}
 use Rattle.sled_core.specs.Waiting.{last_of, spans, start_in, unwritten}
-use Rattle.sled_core.proofs.Holds.HoldsMarked.{noted_adds, noted_history}
-use Rattle.sled_core.proofs.Holds.KeptCalls.{goes_on_quietly, position_further}
+use Rattle.sled_core.proofs.Behind.FirstHoldsMarked.{noted_adds, noted_history}
+use Rattle.sled_core.proofs.Line.KeptCalls.{goes_on_quietly, position_further}
 use Rattle.sled_core.proofs.Line.EndedKeeps.{keeps_ended, position_ended}
 use Rattle.sled_core.proofs.Line.EndedLine.{marking_short}
 use Rattle.sled_core.proofs.Line.EndedTickets.{ended_takes, others_await, ticket_among, ticket_there}
 use Rattle.sled_core.proofs.Line.EndsBatch.{fits_noted, holds_noted, line_unwritten}
-use Rattle.sled_core.proofs.Line.Facts.{IsSegment, nth_facts}
+use Rattle.sled_core.proofs.Holds.Facts.{IsSegment, nth_facts}
 use Rattle.sled_core.proofs.Line.Fillings.{log_off}
 use Rattle.sled_core.proofs.Line.LogSpans.{ended_buffers}
 use Rattle.sled_core.proofs.Line.Moves.{fits_as, holds_as}
 use Rattle.sled_core.proofs.Reached.ByPlace.{left_with, stable_with_batch}
 use Rattle.sled_core.proofs.Reserve.Ranges.{at_there}
-use Rattle.sled_core.proofs.Stable.Places.{reserved_ends, reserved_in_reach}
+use Rattle.sled_core.proofs.Line.Places.{reserved_ends, reserved_in_reach}
 
 -- A log has noted a batch, and is otherwise what it was.
 module _ {D C : Type 0} (mid new : Log D C) (rest : NotesBatch mid new) where

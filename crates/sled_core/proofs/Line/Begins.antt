@@ -37,10 +37,10 @@ use Rattle.sled_core.proofs.Behind.Around.{behind_place, behind_place_is}
 use Rattle.sled_core.proofs.Behind.Begins.{behind-begins}
 use Rattle.sled_core.proofs.Behind.FitsBegun.{behind-fits-begun}
 use Rattle.sled_core.proofs.Holds.FitsBatches.{batches_up, stable_noted}
-use Rattle.sled_core.proofs.Holds.KeptCalls.{goes_on_quietly}
+use Rattle.sled_core.proofs.Line.KeptCalls.{goes_on_quietly}
 use Rattle.sled_core.proofs.Line.Closes.{IsClosable, filled_gone, filled_length, filled_message, filled_site, filled_there, filled_written, line_closed, line_fits_closed}
 use Rattle.sled_core.proofs.Line.Ends.{line_holds}
-use Rattle.sled_core.proofs.Line.Facts.{IsSegment, current_facts, nth_facts}
+use Rattle.sled_core.proofs.Holds.Facts.{IsSegment, current_facts, nth_facts}
 use Rattle.sled_core.proofs.Line.Last.{All-at_last, last_behind_all, last_get_of, unwritten-append}
 use Rattle.sled_core.proofs.Line.LineEnds.{end_at_last, kept_same, noted_later, noted_same}
 use Rattle.sled_core.proofs.Line.Moves.{fits_as, holds_as}

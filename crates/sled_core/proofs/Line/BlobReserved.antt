@@ -37,7 +37,7 @@ use Rattle.sled_core.specs.Running.{IsStored, KeepsItem}
 use Rattle.sled_core.specs.Turned.{ChangesDevice, HasPlace, HasRoomForBatch, HasRoomIn}
 use Rattle.sled_core.specs.Waiting.{last_of, start_in, unwritten}
 use Rattle.sled_core.proofs.Blobs.ItemsStay.{blobs_made, item_made}
-use Rattle.sled_core.proofs.Holds.KeptCalls.{kept_further}
+use Rattle.sled_core.proofs.Line.KeptCalls.{kept_further}
 use Rattle.sled_core.proofs.Line.HeaderMarks.{marked_same}
 use Rattle.sled_core.proofs.Line.LineEnds.{noted_same}
 use Rattle.sled_core.proofs.Line.LogWrites.{same_line}

@@ -13,7 +13,7 @@ use Rattle.sled_core.specs.Fits.{FirstWaits, current_begin, synced_end, waiting_
 use Rattle.sled_core.specs.SealedBuffers.{AreSealed, FirstUnwritten, behind_run, bytes_between, is_ready, now_written, ready_count, ready_marked, ready_write, run_count, run_end, sealed_end, writing, written_at}
 use Rattle.sled_core.specs.Turned.{IsReadyIn, promoted, write_in, written_now}
 use Rattle.sled_core.specs.Waiting.{BufferAt, buffer_at, is_unheld, last_of, pending_in, placed, unwritten, unwritten_in, unwritten_of, without_pending, write_pending}
-use Rattle.sled_core.proofs.Line.Facts.{IsSegment}
+use Rattle.sled_core.proofs.Holds.Facts.{IsSegment}
 use Rattle.sled_core.proofs.Line.Segments.{AreSegments, by_front, full_unsealed}
 use Rattle.sled_core.proofs.Sealed.Progress.{pending_marked, pending_write}
 

@@ -20,7 +20,7 @@ use Rattle.sled_core.specs.SealedBuffers.{one_ended, seal_at, sealed_count}
 use Rattle.sled_core.specs.Turned.{ended_now}
 use Rattle.sled_core.specs.Waiting.{as_sealed, at_last, buffers_in, closed_now, holds_any, sealed_now, turned_now, unwritten, unwritten_in, unwritten_of, with_filling}
 use Rattle.sled_core.proofs.Line.EndedLine.{ended_bytes}
-use Rattle.sled_core.proofs.Line.Facts.{IsSegment}
+use Rattle.sled_core.proofs.Holds.Facts.{IsSegment}
 use Rattle.sled_core.proofs.Reserve.Ranges.{at_there, part-append}
 use Rattle.sled_core.proofs.Sealed.Covering.{StandsIn, last_stands, sealed_stands, stands_left, stands_right}
 use Rattle.sled_core.proofs.Sealed.Ended.{get_behind, lies_in}

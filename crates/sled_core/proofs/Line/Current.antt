@@ -11,7 +11,7 @@ use Rattle.sled_core.specs.Positions.{is_short}
 use Rattle.sled_core.specs.SealedBuffers.{AreSealed, bytes_between, seal_at, sealed_count, sealed_end}
 use Rattle.sled_core.specs.Waiting.{BufferAt, as_sealed, buffer_at, buffers_in, filled_now, held_below, holds_any, sealed_now, turned_now, unwritten, unwritten_in, unwritten_of, with_filling, writes_below}
 use Rattle.sled_core.proofs.Line.Below.{BeginFrom, begin_lower, held_front, writes_front}
-use Rattle.sled_core.proofs.Line.Facts.{IsSegment}
+use Rattle.sled_core.proofs.Holds.Facts.{IsSegment}
 use Rattle.sled_core.proofs.Line.Lying.{end_of}
 use Rattle.sled_core.proofs.Line.Segments.{AreSegments}
 use Rattle.sled_core.proofs.Sealed.Ended.{ends_up}

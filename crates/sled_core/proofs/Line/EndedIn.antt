@@ -18,7 +18,7 @@ use Rattle.sled_core.specs.OpenPlaces.{open_manifests}
 use Rattle.sled_core.specs.SealedBuffers.{one_ended}
 use Rattle.sled_core.specs.Turned.{HasOpenIn, ended_now}
 use Rattle.sled_core.proofs.Line.EndedLine.{behind_within, canceling_short, completing_short, ended_view, filled_over, first_is, first_reserved, line_behind, marking_short, mut_reserved, read_is, read_there}
-use Rattle.sled_core.proofs.Line.Facts.{nth_facts}
+use Rattle.sled_core.proofs.Holds.Facts.{nth_facts}
 use Rattle.sled_core.proofs.Line.Filling.{follow_in, follow_with}
 use Rattle.sled_core.proofs.Line.OpenManifests.{fewer_counted, manifests_ended}
 

@@ -25,12 +25,12 @@ use Rattle.sled_core.specs.Running.{Fits, FitsWith}
 use Rattle.sled_core.specs.SealedBuffers.{one_ended, one_fewer}
 use Rattle.sled_core.specs.Turned.{ChangesLine, ended_now}
 use Rattle.sled_core.specs.Waiting.{buffer_at, unwritten, unwritten_in, unwritten_of}
-use Rattle.sled_core.proofs.Holds.KeptCalls.{goes_on_quietly}
+use Rattle.sled_core.proofs.Line.KeptCalls.{goes_on_quietly}
 use Rattle.sled_core.proofs.Line.LineEnds.{kept_same, noted_later, noted_same}
 use Rattle.sled_core.proofs.Line.EndedLine.{over_bytes}
 use Rattle.sled_core.proofs.Line.Ends.{set_keeps}
-use Rattle.sled_core.proofs.Line.Facts.{nth_facts}
-use Rattle.sled_core.proofs.Line.Nth.{last_get}
+use Rattle.sled_core.proofs.Holds.Facts.{nth_facts}
+use Rattle.sled_core.proofs.Holds.Nth.{last_get}
 
 -- No buffer is sealed that isn't written where none was.
 

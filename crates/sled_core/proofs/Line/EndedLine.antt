@@ -20,9 +20,9 @@ use Rattle.sled_core.specs.Buffers.{IsHeaded, body_in, canceling, completing, en
 use Rattle.sled_core.specs.Fits.{line_of}
 use Rattle.sled_core.specs.SealedBuffers.{one_ended}
 use Rattle.sled_core.specs.Turned.{HasOpenIn, ended_now}
-use Rattle.sled_core.proofs.Line.Facts.{IsSegment}
+use Rattle.sled_core.proofs.Holds.Facts.{IsSegment}
 use Rattle.sled_core.proofs.Line.Marks.{line_set}
-use Rattle.sled_core.proofs.Line.Nth.{get_map}
+use Rattle.sled_core.proofs.Holds.Nth.{get_map}
 use Rattle.sled_core.proofs.Line.Segments.{filled_set}
 use Rattle.sled_core.proofs.Reserve.MarksLemmas.{marking_long}
 use Rattle.sled_core.proofs.Reserve.Parts.{there_is}

@@ -22,8 +22,8 @@ use Rattle.sled_core.specs.Tickets.{IsFor, index_of, place_of}
 use Rattle.sled_core.specs.Turned.{HasOpenIn, ended_now}
 use Rattle.sled_core.proofs.Holds.CompletedLemmas.{others_stay}
 use Rattle.sled_core.proofs.Line.Ends.{with_segment}
-use Rattle.sled_core.proofs.Line.Facts.{IsSegment, nth_facts}
-use Rattle.sled_core.proofs.Line.Nth.{set_get, set_other}
+use Rattle.sled_core.proofs.Holds.Facts.{IsSegment, nth_facts}
+use Rattle.sled_core.proofs.Holds.Nth.{set_get, set_other}
 use Rattle.sled_core.proofs.Line.OpenPlaces.{takes_ended, takes_in}
 use Rattle.sled_core.proofs.Reserve.Ranges.{at_there}
 use Rattle.sled_core.proofs.Sealed.Around.{whole_chain}

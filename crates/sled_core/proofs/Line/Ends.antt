@@ -34,9 +34,9 @@ use Rattle.sled_core.proofs.Holds.MessagesBeside.{batch_beside}
 use Rattle.sled_core.proofs.Holds.RunningLemmas.{fits-completed, fits-moved}
 use Rattle.sled_core.proofs.Holds.WholeHistory.{of_head}
 use Rattle.sled_core.proofs.Holds.WholeLemmas.{holds-aborted, holds-complete}
-use Rattle.sled_core.proofs.Line.Facts.{IsSegment}
+use Rattle.sled_core.proofs.Holds.Facts.{IsSegment}
 use Rattle.sled_core.proofs.Line.LineEnds.{end_set, first_set}
-use Rattle.sled_core.proofs.Line.Nth.{parts_set, parts_split}
+use Rattle.sled_core.proofs.Holds.Nth.{parts_set, parts_split}
 use Rattle.sled_core.proofs.Line.OlderSlots.{entries_adds, newest_low}
 use Rattle.sled_core.proofs.OwnLog.Calls.{own_ended}
 use Rattle.sled_core.proofs.Logged.Messages.{adds_logged, put_real}

@@ -23,13 +23,13 @@ use Rattle.sled_core.specs.Slots.{AreBegun}
 use Rattle.sled_core.specs.Turned.{ended_now}
 use Rattle.sled_core.proofs.Flush.Completed.{all_below}
 use Rattle.sled_core.proofs.Holds.FitsBatches.{batches_noted, batches_up}
-use Rattle.sled_core.proofs.Holds.HoldsMarked.{begin_from, noted_adds, noted_history}
+use Rattle.sled_core.proofs.Behind.FirstHoldsMarked.{begin_from, noted_adds, noted_history}
 use Rattle.sled_core.proofs.Holds.MessagesBeside.{message_before}
 use Rattle.sled_core.proofs.Holds.WholeHistory.{behind_above}
 use Rattle.sled_core.proofs.Holds.PegLemmas.{IsOff}
 use Rattle.sled_core.proofs.Line.EndedTickets.{entry_low, segment_chain}
 use Rattle.sled_core.proofs.Line.Ends.{line_holds, slots_set, written_inside, written_set}
-use Rattle.sled_core.proofs.Line.Facts.{IsSegment}
+use Rattle.sled_core.proofs.Holds.Facts.{IsSegment}
 use Rattle.sled_core.proofs.Line.LineEnds.{end_set, first_set}
 use Rattle.sled_core.proofs.Line.Noted.{mark_fits, mark_holds, mark_placed}
 use Rattle.sled_core.proofs.Line.OlderSlots.{entries_noted}

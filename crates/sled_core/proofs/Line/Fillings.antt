@@ -11,7 +11,7 @@ use Rattle.sled_core.specs.declared.logger.Log.{Log}
 use Rattle.sled_core.specs.Fits.{line_of, reserved_end, segment_size_of}
 use Rattle.sled_core.proofs.Holds.PegLemmas.{IsOff, LiesOff}
 use Rattle.sled_core.proofs.Line.Entered.{unfilled_to}
-use Rattle.sled_core.proofs.Line.Facts.{nth_facts}
+use Rattle.sled_core.proofs.Holds.Facts.{nth_facts}
 use Rattle.sled_core.proofs.Line.Segments.{AreSegments, line_segments}
 
 -- The records of a segment go up to what fills it, if anything does.

@@ -26,8 +26,8 @@ use Rattle.sled_core.specs.Slots.{AreBegun}
 use Rattle.sled_core.specs.Turned.{ChangesSlots, HasPlace, reserved_now}
 use Rattle.sled_core.specs.Waiting.{at_last, last_of}
 use Rattle.sled_core.proofs.Holds.FitsBatches.{batches_up}
-use Rattle.sled_core.proofs.Holds.KeptCalls.{goes_on_quietly}
-use Rattle.sled_core.proofs.Line.Facts.{current_facts}
+use Rattle.sled_core.proofs.Line.KeptCalls.{goes_on_quietly}
+use Rattle.sled_core.proofs.Holds.Facts.{current_facts}
 use Rattle.sled_core.proofs.Line.Last.{last_changed}
 use Rattle.sled_core.proofs.Line.LineEnds.{end_last, first_at_last, kept_same, noted_later, noted_same}
 use Rattle.sled_core.proofs.Line.Moves.{fits_as, holds_as}

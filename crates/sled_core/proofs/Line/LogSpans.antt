@@ -14,7 +14,7 @@ use Rattle.sled_core.specs.Positions.{is_short}
 use Rattle.sled_core.specs.Turned.{ended_now, next_line, promoted, reserved_now, written_now}
 use Rattle.sled_core.specs.Waiting.{BufferAt, BufferStart, at_last, closed_now, last_of, not_below, sealed_now, spans, start_in, unwritten}
 use Rattle.sled_core.proofs.Line.Below.{BeginFrom, IsFirst}
-use Rattle.sled_core.proofs.Line.Facts.{current_facts}
+use Rattle.sled_core.proofs.Holds.Facts.{current_facts}
 use Rattle.sled_core.proofs.Line.Spans.{ended_spans, ended_start, next_start, next_unwritten, reserved_start, reserved_unwritten, sealed_start, written_start}
 
 -- A log whose segments are these has these buffers, and its current one begins there.

@@ -31,12 +31,12 @@ use Rattle.sled_core.proofs.Line.Ends.{line_holds}
 use Rattle.sled_core.proofs.Line.Faulty.{fits_line_faulty, fits_with_device, holds_line_faulty, holds_with_device, names_written, slots_line_faulty}
 use Rattle.sled_core.proofs.Line.LineEnds.{end_left, end_set}
 use Rattle.sled_core.proofs.Line.Promotes.{end_promoted, holds_promoted}
-use Rattle.sled_core.proofs.Line.Facts.{nth_facts}
+use Rattle.sled_core.proofs.Holds.Facts.{nth_facts}
 use Rattle.sled_core.proofs.Line.Fillings.{log_recorded}
 use Rattle.sled_core.proofs.Line.Segments.{AreSegments, filled_promoted, filled_written, follow_segments, line_segments, promoted_waits, run_written, segments_promoted, set_segment, written_segment}
 use Rattle.sled_core.proofs.Line.Writes.{along_write, buffer_begin, buffer_bytes, buffer_calls, buffer_synced, calls_are, fits_write, holds_write, passes_line, slots_write}
 use Rattle.sled_core.proofs.Line.WrittenSlots.{begun_write}
-use Rattle.sled_core.proofs.OwnLog.PlacedWrite.{placed_left}
+use Rattle.sled_core.proofs.Line.PlacedWrite.{placed_left}
 
 module _ {D C : Type 0} (log : Log D C) (n k : ℕ) (r : IsReadyIn (line_of log) n k) where
   abbrev line : List SegmentView

@@ -10,7 +10,7 @@ use Rattle.sled_core.specs.declared.iobuf.SegmentPosition.{SegmentPosition}
 use Rattle.sled_core.specs.declared.logger.segments.SegmentBuffer.{SegmentBuffer}
 use Rattle.sled_core.specs.SealedBuffers.{behind_run, is_ready, run_count, run_end, written_at}
 use Rattle.sled_core.specs.Turned.{IsReadyIn, written_now}
-use Rattle.sled_core.proofs.Line.Nth.{behind_get}
+use Rattle.sled_core.proofs.Holds.Nth.{behind_get}
 
 -- the one that code has at the index before, where it isn't the first one
 pub line_get : (site : SegmentPosition) (b : IoBuf) (ss : List SegmentBuffer) (n : ℕ) (s : SegmentBuffer) → 0 < n → slice_get ss (n - 1) ≡ Some s → slice_get (line_at site b ss) n ≡ Some (segment_view s)

@@ -14,7 +14,7 @@ use Rattle.sled_core.specs.Waiting.{closed_now, last_of}
 use Rattle.sled_core.proofs.Line.Begins.{closable}
 use Rattle.sled_core.proofs.Line.Closes.{IsClosable, closed_begin, closed_ends, closed_entered, closed_records, filled_site}
 use Rattle.sled_core.proofs.Line.Entered.{filled_begun, filled_last, last_unfilled, last_used}
-use Rattle.sled_core.proofs.Line.Facts.{IsSegment}
+use Rattle.sled_core.proofs.Holds.Facts.{IsSegment}
 
 -- They follow one another with one more at the end.
 pub follow_one : (size place : ℕ) (ss : List SegmentBuffer) (s : SegmentBuffer) → s.site.place ≡ place + length ss * size → length s.buffer.bytes.items ≤ size → s.site.place + size < 2 ^ 63 → s.site.slot + size < 2 ^ 63 → FollowOn size place ss

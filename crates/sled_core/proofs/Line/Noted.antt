@@ -17,13 +17,13 @@ use Rattle.sled_core.specs.Running.{FitsIn, FitsLine}
 use Rattle.sled_core.specs.Turned.{ended_now}
 use Rattle.sled_core.proofs.Behind.FitsMarked.{behind-fits-marked}
 use Rattle.sled_core.proofs.Behind.HoldsMarked.{batch_above, batch_alone, batch_inside, behind-holds-marked}
-use Rattle.sled_core.proofs.Holds.HoldsMarked.{InReach, first_above, first_alone, first_inside, first_long, holds-marked, noted_adds, noted_history}
+use Rattle.sled_core.proofs.Behind.FirstHoldsMarked.{InReach, first_above, first_alone, first_inside, first_long, holds-marked, noted_adds, noted_history}
 use Rattle.sled_core.proofs.Holds.MarkedLemmas.{fits-marked}
 use Rattle.sled_core.proofs.Holds.PegLemmas.{IsOff}
 use Rattle.sled_core.proofs.Holds.PlacedBatches.{begins_there, placed-with}
 use Rattle.sled_core.proofs.Line.Ends.{with_segment}
-use Rattle.sled_core.proofs.Line.Facts.{IsSegment}
-use Rattle.sled_core.proofs.Line.Nth.{parts_set, parts_split}
+use Rattle.sled_core.proofs.Holds.Facts.{IsSegment}
+use Rattle.sled_core.proofs.Holds.Nth.{parts_set, parts_split}
 
 -- A place lies in nothing that fills one of the segments.
 pub all_off : (size peg : ℕ) (vs : List SegmentView) → ((k : ℕ) (x : SegmentView) → slice_get vs k ≡ Some x → IsOff size peg x.parts) → All (IsOff size peg) (map parts_in vs)

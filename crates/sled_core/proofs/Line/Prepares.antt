@@ -27,7 +27,7 @@ use Rattle.sled_core.specs.Prepared.{IsPrepared, next_here, number_of, text_of}
 use Rattle.sled_core.specs.Reserves.{StandsBehind}
 use Rattle.sled_core.specs.Turned.{ChangesLine, ChangesSlots, HasPlace, HasRoomForBatch, HasRoomIn, IsTicketFor, begun_view, next_line, reserved_now}
 use Rattle.sled_core.specs.Waiting.{BufferAt, BufferStart, at_last, closed_now, unwritten}
-use Rattle.sled_core.proofs.Holds.KeptCalls.{kept_further}
+use Rattle.sled_core.proofs.Line.KeptCalls.{kept_further}
 use Rattle.sled_core.proofs.Line.Begins.{begins_current, begins_keeps, begins_same, begins_tickets}
 use Rattle.sled_core.proofs.Line.HeaderMarks.{begun_marked, marked_further, none_begun}
 use Rattle.sled_core.proofs.Line.LogReserves.{placeholder_fits, record_long, reserves_current, reserves_keeps, reserves_opens, reserves_others, reserves_position, reserves_same, target_here, target_next}

@@ -20,7 +20,7 @@ use Rattle.sled_core.specs.Running.{FitsWith, IsStored, KeepsEntries, KeepsItem}
 use Rattle.sled_core.proofs.Flush.Settled.{entries_higher}
 use Rattle.sled_core.proofs.Holds.ReachLemmas.{position_past}
 use Rattle.sled_core.proofs.Holds.WholeHistory.{whole_ascends}
-use Rattle.sled_core.proofs.Line.Facts.{current_facts}
+use Rattle.sled_core.proofs.Holds.Facts.{current_facts}
 use Rattle.sled_core.proofs.Line.Lying.{lie_up, line_lie}
 use Rattle.sled_core.proofs.Line.Segments.{line_segments}
 use Rattle.sled_core.proofs.Reached.StableBelow.{stable_low}

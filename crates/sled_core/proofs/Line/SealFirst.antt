@@ -17,11 +17,11 @@ use Rattle.sled_core.specs.Keeps.{LeavesAbove, LeavesSome, Preserves, SamePositi
 use Rattle.sled_core.specs.Marked.{BeginsMarked}
 use Rattle.sled_core.specs.Positions.{is_short}
 use Rattle.sled_core.specs.Waiting.{BufferAt, held_below, holds_any, writes_below}
-use Rattle.sled_core.proofs.Holds.KeptCalls.{kept_still, position_further, position_still, tickets_further, tickets_still}
+use Rattle.sled_core.proofs.Line.KeptCalls.{kept_still, position_further, position_still, tickets_further, tickets_still}
 use Rattle.sled_core.proofs.Line.Below.{begin_all, held_front, line_past, writes_front}
 use Rattle.sled_core.proofs.Line.Current.{ComeBehind, line_current}
 use Rattle.sled_core.proofs.Line.Entered.{filled_last}
-use Rattle.sled_core.proofs.Line.Facts.{current_facts}
+use Rattle.sled_core.proofs.Holds.Facts.{current_facts}
 use Rattle.sled_core.proofs.Line.HeaderMarks.{none_begun}
 use Rattle.sled_core.proofs.Line.LogSpans.{above_first, leaves_above, left_all, same_buffers, some_first}
 use Rattle.sled_core.proofs.Line.Lying.{lie_up, line_lie}

@@ -16,7 +16,7 @@ use Rattle.sled_core.specs.Keeps.{Preserves, SamePosition, start_sealed}
 use Rattle.sled_core.specs.Marked.{BeginsMarked, KeepsSegment}
 use Rattle.sled_core.specs.ReadBuffer.{IsUsedUpAt, LeavesSealed, LeavesWritten, WritesAround, held_at, settling}
 use Rattle.sled_core.specs.Waiting.{BufferAt, Span, has_place, without_around}
-use Rattle.sled_core.proofs.Holds.KeptCalls.{kept_still, position_still, tickets_still}
+use Rattle.sled_core.proofs.Line.KeptCalls.{kept_still, position_still, tickets_still}
 use Rattle.sled_core.proofs.Line.Around.{found, found_front, held_found, held_of, writes_found, writes_of}
 use Rattle.sled_core.proofs.Line.Below.{begin_all}
 use Rattle.sled_core.proofs.Line.Entered.{filled_last}

@@ -16,7 +16,7 @@ use Rattle.sled_core.specs.Fits.{line_of}
 use Rattle.sled_core.specs.SealedBuffers.{AreSealed, behind_run, is_ready, run_count, sealed_count, sealed_end, written_at}
 use Rattle.sled_core.specs.Turned.{promoted, written_now}
 use Rattle.sled_core.proofs.Behind.FullHolds.{none_sealed}
-use Rattle.sled_core.proofs.Line.Facts.{IsSegment, nth_facts}
+use Rattle.sled_core.proofs.Holds.Facts.{IsSegment, nth_facts}
 use Rattle.sled_core.proofs.Reserve.BeginBelow.{entered_left}
 use Rattle.sled_core.proofs.Reserve.Ranges.{chain_grows}
 use Rattle.sled_core.proofs.Reserve.RecordEnds.{records_fewer}

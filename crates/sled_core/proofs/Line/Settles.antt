@@ -22,7 +22,7 @@ use Rattle.sled_core.specs.Waiting.{BufferAt, Span, buffer_at, has_place, held_a
 use Rattle.sled_core.proofs.Line.Around.{IsAround, all_found, begin_above, fewer_line, found, found_above, found_front, found_in, found_line, found_there, found_written, held_found, held_of, is_none, left_of, none_found, without_in, without_line, without_none, writes_found, writes_of}
 use Rattle.sled_core.proofs.Line.Below.{lie_begin, none_first}
 use Rattle.sled_core.proofs.Line.Entered.{filled_last}
-use Rattle.sled_core.proofs.Line.Facts.{IsSegment, current_facts, nth_facts}
+use Rattle.sled_core.proofs.Holds.Facts.{IsSegment, current_facts, nth_facts}
 use Rattle.sled_core.proofs.Line.Lying.{end_of, lie_up, line_lie, promoted_end, promoted_unwritten, segments_within, set_end, set_within, unwritten_lie, unwritten_run}
 use Rattle.sled_core.proofs.Line.Segments.{line_segments}
 use Rattle.sled_core.proofs.Line.Shows.{buffers_add, buffers_still}

@@ -17,7 +17,7 @@ use Rattle.sled_core.specs.SealedBuffers.{seal_at, sealed_count, sealed_end}
 use Rattle.sled_core.specs.Waiting.{BufferAt, HasLength, as_sealed, at_last, buffer_at, closed_now, filled_now, holds_any, placed, sealed_now, turned_now, unwritten, unwritten_in, unwritten_of}
 use Rattle.sled_core.proofs.Line.Below.{none_first}
 use Rattle.sled_core.proofs.Line.Closes.{by_filled, filled_begin, filled_ended}
-use Rattle.sled_core.proofs.Line.Facts.{IsSegment, current_facts}
+use Rattle.sled_core.proofs.Holds.Facts.{IsSegment, current_facts}
 use Rattle.sled_core.proofs.Line.Last.{All-at_last}
 use Rattle.sled_core.proofs.Line.Segments.{AreSegments, line_segments}
 use Rattle.sled_core.proofs.Line.Spans.{AddsSpan, at_last_more, at_last_unwritten, closed_adds, current_span, line_closed_adds, sealed_adds}

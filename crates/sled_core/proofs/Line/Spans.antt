@@ -13,7 +13,7 @@ use Rattle.sled_core.specs.Turned.{begun_view, ended_now, next_line, promoted, r
 use Rattle.sled_core.specs.Waiting.{BufferAt, Span, at_last, buffer_at, closed_now, filled_now, last_of, sealed_now, span_of, spans, start_in, unwritten, unwritten_in, unwritten_of}
 use Rattle.sled_core.proofs.Line.Closes.{filled_length}
 use Rattle.sled_core.proofs.Line.Current.{filled_same, unwritten_more, unwritten_one}
-use Rattle.sled_core.proofs.Line.Facts.{IsSegment}
+use Rattle.sled_core.proofs.Holds.Facts.{IsSegment}
 use Rattle.sled_core.proofs.Line.Last.{last_behind_all, last_changed, unwritten-append}
 use Rattle.sled_core.proofs.Line.Promotes.{last_promoted, last_set}
 use Rattle.sled_core.proofs.Line.Segments.{written_begin}

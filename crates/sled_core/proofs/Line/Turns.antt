@@ -16,7 +16,7 @@ use Rattle.sled_core.specs.Turned.{ChangesSlots, begun_view, next_line}
 use Rattle.sled_core.specs.Waiting.{BufferAt, as_sealed, at_last, buffer_at, closed_now, holds_any, sealed_now, turned_now, unwritten}
 use Rattle.sled_core.proofs.Line.Begins.{begins_position}
 use Rattle.sled_core.proofs.Line.Entered.{filled_last}
-use Rattle.sled_core.proofs.Line.Facts.{current_facts}
+use Rattle.sled_core.proofs.Holds.Facts.{current_facts}
 use Rattle.sled_core.proofs.Line.Last.{at_last_same, unwritten-append}
 use Rattle.sled_core.proofs.Line.LogSpans.{next_buffers}
 

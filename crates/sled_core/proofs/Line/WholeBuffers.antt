@@ -29,12 +29,12 @@ use Rattle.sled_core.specs.WholeBuffers.{IsFilling, IsHead, IsWholeBuffer, IsWho
 use Rattle.sled_core.proofs.Line.Closes.{by_filled, filled_up, more_of}
 use Rattle.sled_core.proofs.Line.EndedTickets.{segment_chain}
 use Rattle.sled_core.proofs.Line.Ends.{with_part}
-use Rattle.sled_core.proofs.Line.Facts.{IsSegment}
+use Rattle.sled_core.proofs.Holds.Facts.{IsSegment}
 use Rattle.sled_core.proofs.Line.OpenSeen.{AreLaid, IsLaid, begun_rest, line_laid}
 use Rattle.sled_core.proofs.Line.Segments.{AreSegments, line_segments, nth_segment}
 use Rattle.sled_core.proofs.Line.Shows.{number_small}
 use Rattle.sled_core.proofs.Read.ScanLemmas.{aligned_number, aligned_offset}
-use Rattle.sled_core.proofs.Reserve.Filled.{filled_stand}
+use Rattle.sled_core.proofs.Holds.Filled.{filled_stand}
 use Rattle.sled_core.proofs.Reserve.Ranges.{chain_grows}
 use Rattle.sled_core.proofs.Sealed.OneWritten.{length-between}
 

@@ -23,10 +23,10 @@ use Rattle.sled_core.specs.Turned.{promoted, write_in, write_of, written_now}
 use Rattle.sled_core.proofs.Behind.FitsWritten.{behind-along, behind-fits-written}
 use Rattle.sled_core.proofs.Behind.FullWrites.{fits_written_full, written_plain}
 use Rattle.sled_core.proofs.Behind.Writes.{behind-written}
-use Rattle.sled_core.proofs.Flush.SealedFits.{fits_written_one, holds_written_one, write_along}
-use Rattle.sled_core.proofs.Line.Facts.{IsSegment}
+use Rattle.sled_core.proofs.Behind.SealedFits.{fits_written_one, holds_written_one, write_along}
+use Rattle.sled_core.proofs.Holds.Facts.{IsSegment}
 use Rattle.sled_core.proofs.Line.LineEnds.{end_left, end_set}
-use Rattle.sled_core.proofs.Line.Nth.{parts_set, parts_split}
+use Rattle.sled_core.proofs.Holds.Nth.{parts_set, parts_split}
 use Rattle.sled_core.proofs.Line.Promotes.{fits_full}
 use Rattle.sled_core.proofs.Line.Segments.{AreSegments, all_promoted, nth_segment, promoted_same, set_segment, written_segment, written_within}
 use Rattle.sled_core.proofs.Sealed.Ended.{ends_rise}

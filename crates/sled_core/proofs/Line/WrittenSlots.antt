@@ -20,7 +20,7 @@ use Rattle.sled_core.specs.SealedBuffers.{is_ready}
 use Rattle.sled_core.specs.Slots.{AreBegun}
 use Rattle.sled_core.specs.Turned.{promoted, written_now}
 use Rattle.sled_core.proofs.Line.Ends.{with_part}
-use Rattle.sled_core.proofs.Line.Facts.{IsSegment}
+use Rattle.sled_core.proofs.Holds.Facts.{IsSegment}
 use Rattle.sled_core.proofs.Line.LineEnds.{first_set}
 use Rattle.sled_core.proofs.Line.Segments.{AreSegments, by_front, nth_segment, set_segment, written_segment}
 use Rattle.sled_core.proofs.Line.Writes.{buffer_begin, buffer_bytes, buffer_synced, holds_write, rises}

@@ -9,7 +9,7 @@ use Rattle.sled_store.proofs.Segments.Elements.{in_cases, in_first, in_nothing, 
 use Rattle.sled_core.specs.Begun.{SegmentView}
 use Rattle.sled_core.specs.LogFile.{padded}
 use Rattle.sled_core.specs.OwnLog.{HasOwnSlot, IsOwnFile}
-use Rattle.sled_core.proofs.Flush.Padded.{padded_none}
+use Rattle.sled_core.proofs.Sealed.Padded.{padded_none}
 
 -- a segment of a line lies in a slot, or none does
 in_line_or_not : (size : ℕ) (line : List SegmentView) (slot : ℕ) → ((v : SegmentView) × Contains line v × (v.parts.site.slot ≡ slot * size)) ⊎ ((v : SegmentView) → Contains line v → v.parts.site.slot ≢ slot * size)

@@ -11,8 +11,8 @@ use Rattle.sled_store.proofs.LogFile.OverwrittenLemmas.{length-overwritten}
 use Rattle.sled_store.proofs.Own.RangeLemmas.{range_stays}
 use Rattle.sled_core.specs.LogFile.{padded}
 use Rattle.sled_core.specs.OwnLog.{HasOwnSlot}
-use Rattle.sled_core.proofs.Flush.LogFileLemmas.{file_grows, part_kept}
-use Rattle.sled_core.proofs.Flush.Padded.{length-padded, padded_get, padded_none}
+use Rattle.sled_core.proofs.Tail.LogFileLemmas.{file_grows, part_kept}
+use Rattle.sled_core.proofs.Sealed.Padded.{length-padded, padded_get, padded_none}
 use Rattle.sled_core.proofs.Sealed.OneWritten.{overwritten_beside}
 
 -- the same bytes of files of one length

@@ -9,7 +9,7 @@ use Rattle.sled_store.proofs.Crashes.ForeignLemmas.{take_again}
 use Rattle.sled_store.proofs.Crashes.StoodLemmas.{header_settled, record_settled}
 use Rattle.sled_store.proofs.Own.ReaderLemmas.{no_lower}
 use Rattle.sled_store.proofs.Segments.Elements.{in_first, in_rest}
-use Rattle.sled_core.proofs.Flush.LogFileLemmas.{part_laid}
+use Rattle.sled_core.proofs.Tail.LogFileLemmas.{part_laid}
 use Rattle.sled_core.proofs.OwnLog.Kept.{HeadersStay, RecordsStay, part_in}
 use Rattle.sled_core.proofs.OwnLog.Written.{covered, reached_there}
 

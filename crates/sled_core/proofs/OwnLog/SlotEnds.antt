@@ -14,7 +14,7 @@ use Rattle.sled_core.specs.LogFile.{padded}
 use Rattle.sled_core.specs.OwnLog.{HasOwnSlot}
 use Rattle.sled_core.specs.Recoverable.{NoHeaderOfZeros}
 use Rattle.sled_core.specs.SealedBuffers.{AreZeros}
-use Rattle.sled_core.proofs.Flush.Padded.{length-padded, padded_get}
+use Rattle.sled_core.proofs.Sealed.Padded.{length-padded, padded_get}
 use Rattle.sled_core.proofs.OwnLog.Kept.{part_in}
 use Rattle.sled_core.proofs.OwnLog.NoHeader.{no_header_of}
 

@@ -18,7 +18,7 @@ use Rattle.sled_store.specs.Foreign.{HeaderWasPlaced, RecordWasPlaced}
 use Rattle.sled_store.specs.Readers.{IsOwnRange}
 use Rattle.sled_store.proofs.Segments.Elements.{in_first}
 use Rattle.sled_store.proofs.Segments.FilledLemmas.{free_has, slot_before}
-use Rattle.sled_store.proofs.Segments.StartedFile.{left_within, started_file, started_past, started_zero}
+use Rattle.sled_store.proofs.Accounts.StartedFile.{left_within, started_file, started_past, started_zero}
 use Rattle.sled_core.specs.declared.iobuf.Sealed.{Sealed}
 use Rattle.sled_core.specs.declared.iobuf.SegmentPosition.{SegmentPosition}
 use Rattle.sled_core.specs.declared.iterator.Segment.{Segment}

@@ -9,11 +9,11 @@ use Rattle.sled_store.specs.Device.{Cut, Synced, Trace, state_of, step}
 use Rattle.sled_store.specs.Script.{after_all}
 use Rattle.sled_store.specs.SegmentStates.{SlotState, cutting, may_be_cut}
 use Rattle.sled_store.specs.Started.{found, started}
-use Rattle.sled_store.proofs.Segments.StartedFile.{free_begin}
+use Rattle.sled_store.proofs.Accounts.StartedFile.{free_begin}
 use Rattle.sled_store.proofs.Traces.ScriptLemmas.{after_joined}
 use Rattle.sled_core.specs.OwnLog.{ReadsPlaced}
 use Rattle.sled_core.specs.Recoverable.{NoHeaderOfZeros}
-use Rattle.sled_core.proofs.Flush.LogFileLemmas.{file_grows}
+use Rattle.sled_core.proofs.Tail.LogFileLemmas.{file_grows}
 use Rattle.sled_core.proofs.OwnLog.Starting.{file_synced, slot_overwritten, slots_cut}
 
 module _ (sum : List ℕ → ℕ) (size : ℕ) (none : NoHeaderOfZeros sum) (big : 32 ≤ size) where

@@ -14,7 +14,7 @@ use Rattle.sled_core.proofs.OwnLog.AllSlots.{header_own, record_own}
 use Rattle.sled_core.proofs.OwnLog.Kept.{HeadersStay, RecordsStay, part_in, range_kept, same_parts}
 use Rattle.sled_core.proofs.OwnLog.SlotEnds.{slot_unbegun}
 use Rattle.sled_core.proofs.OwnLog.SlotOfRange.{range_before, slot_of_range}
-use Rattle.sled_core.proofs.Flush.LogFileLemmas.{part_kept}
+use Rattle.sled_core.proofs.Tail.LogFileLemmas.{part_kept}
 use Rattle.sled_core.proofs.Sealed.OneWritten.{overwritten_beside}
 use Rattle.sled_core.proofs.Torn.ZeroedSlots.{zeros_read}
 

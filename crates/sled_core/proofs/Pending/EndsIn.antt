@@ -16,7 +16,7 @@ use Rattle.sled_core.specs.ReadyBuffers.{AreReady, EndedOne, HasOwn}
 use Rattle.sled_core.specs.SealedBuffers.{one_ended}
 use Rattle.sled_core.specs.Turned.{HasOpenIn, ended_now}
 use Rattle.sled_core.proofs.Line.EndedLine.{ended_view}
-use Rattle.sled_core.proofs.Line.Facts.{nth_facts}
+use Rattle.sled_core.proofs.Holds.Facts.{nth_facts}
 use Rattle.sled_core.proofs.Pending.Logs.{ended_asks, ended_ready}
 
 module _ {D C : Type 0} (log : Log D C) (n index : ℕ) (its : HasOpenIn (line_of log) n index) (how : List ℕ → Reserved → List ℕ) (state : ReservationState) (site : SegmentPosition) (old new : IoBuf) where

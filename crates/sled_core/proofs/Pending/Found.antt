@@ -20,7 +20,7 @@ use Rattle.sled_core.specs.SealedBuffers.{is_ready, ready_count, sealed_end}
 use Rattle.sled_core.specs.Turned.{begin_at}
 use Rattle.sled_core.specs.Waiting.{pending_in, unwritten}
 use Rattle.sled_core.proofs.Line.Buffers.{Finds, finds_behind, finds_first, pending_first}
-use Rattle.sled_core.proofs.Line.Facts.{IsSegment, nth_facts}
+use Rattle.sled_core.proofs.Holds.Facts.{IsSegment, nth_facts}
 use Rattle.sled_core.proofs.Line.Segments.{AreSegments, line_segments}
 use Rattle.sled_core.proofs.Pending.Places.{Rise, rise_of, rise_up}
 use Rattle.sled_core.proofs.Pending.Segments.{ready_of}

@@ -21,7 +21,7 @@ use Rattle.sled_core.proofs.Line.Segments.{line_segments, nth_segment}
 use Rattle.sled_core.proofs.Pending.Places.{held_run, ready_run}
 use Rattle.sled_core.proofs.Pending.Segments.{at_last_ready, before_places, behind_places, last_ready, other_held, own_ready, promoted_ready, set_ready}
 use Rattle.sled_core.proofs.Reserve.Ranges.{at_there}
-use Rattle.sled_core.proofs.Line.Nth.{set_get}
+use Rattle.sled_core.proofs.Holds.Nth.{set_get}
 
 -- A segment with one more sealed buffer, which isn't written.
 pub record SealsOne (v w : SegmentView) : Type 0 where

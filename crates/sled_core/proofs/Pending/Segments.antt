@@ -9,8 +9,8 @@ use Rattle.sled_core.specs.ReadyBuffers.{AreReady, HasOwn, held_buffers, held_in
 use Rattle.sled_core.specs.SealedBuffers.{sealed_end}
 use Rattle.sled_core.specs.Turned.{promoted}
 use Rattle.sled_core.specs.Waiting.{at_last, last_of}
-use Rattle.sled_core.proofs.Line.Facts.{IsSegment}
-use Rattle.sled_core.proofs.Line.Nth.{at_last_set, last_get}
+use Rattle.sled_core.proofs.Holds.Facts.{IsSegment}
+use Rattle.sled_core.proofs.Holds.Nth.{at_last_set, last_get}
 use Rattle.sled_core.proofs.Line.Segments.{AreSegments, by_front, full_unsealed, nth_segment}
 use Rattle.sled_core.proofs.Pending.Places.{ready_above, ready_below, rise_of}
 

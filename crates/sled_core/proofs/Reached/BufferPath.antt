@@ -24,7 +24,7 @@ use Rattle.sled_core.specs.Reached.{BeginsNext}
 use Rattle.sled_core.specs.Fits.{HasMark}
 use Rattle.sled_core.specs.Recoverable.{NoBatchBegins, IsOfHistory, IsMarkOf, IsMarkBelow}
 use Rattle.sled_core.specs.Scan.{IsPath, IsEnd, EndsThere}
-use Rattle.sled_core.proofs.Holds.OpenTickets.{by_first}
+use Rattle.sled_core.proofs.Reached.OpenTickets.{by_first}
 use Rattle.sled_core.proofs.Read.PathLemmas.{zeros_empty}
 use Rattle.sled_core.proofs.Reserve.Entries.{completed_plain, reserved_in, some_in, some_long, manifest_plain}
 use Rattle.sled_core.proofs.Reserve.Ranges.{chain_grows, completed_between, own_cases, own_rest}

@@ -37,7 +37,7 @@ use Rattle.sled_core.specs.Recoverable.{MeetsMessage, NamesBlobOf, StandsInline}
 use Rattle.sled_core.specs.Scan.{IsMet, IsPath}
 use Rattle.sled_core.proofs.Reserve.CompletesLemmas.{kind_of_message}
 use Rattle.sled_core.proofs.Reserve.MarksLemmas.{blobless, kind_of_manifest}
-use Rattle.sled_core.proofs.Holds.OpenTickets.{by_first}
+use Rattle.sled_core.proofs.Reached.OpenTickets.{by_first}
 use Rattle.sled_core.proofs.Read.GivesLemmas.{kind_blob}
 use Rattle.sled_core.proofs.Read.PathLemmas.{is_met}
 use Rattle.sled_core.proofs.Read.ScanLemmas.{aligned_number, aligned_offset}

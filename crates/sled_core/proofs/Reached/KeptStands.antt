@@ -16,7 +16,7 @@ use Rattle.sled_core.specs.declared.iterator.scan.ScanEnd.TheVariants.{Full, Cap
 use Rattle.sled_core.specs.Reading.{StandsAt}
 use Rattle.sled_core.specs.Recoverable.{StandsInline, IsReachedIn, IsReadOn, IsSegmentOf}
 use Rattle.sled_core.specs.Scan.{IsFoundSegment, IsMet, IsPath, IsEnd, EndsThere, IsScan}
-use Rattle.sled_core.proofs.Flush.LogFileLemmas.{record_moved}
+use Rattle.sled_core.proofs.Tail.LogFileLemmas.{record_moved}
 use Rattle.sled_core.proofs.Torn.AlikeSlots.{SameIn, slot_found}
 use Rattle.sled_core.proofs.Torn.KeptSlots.{KeepsSlots}
 use Rattle.sled_core.proofs.Torn.TornRecords.{long_enough}

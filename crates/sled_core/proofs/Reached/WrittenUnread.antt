@@ -18,7 +18,7 @@ use Rattle.sled_core.specs.declared.iterator.scan.ScanEnd.TheVariants.{Full, Cap
 use Rattle.sled_core.specs.Recoverable.{NoHeaderOfZeros}
 use Rattle.sled_core.specs.Scan.{IsScan, IsEnd, EndsThere}
 use Rattle.sled_core.specs.Tail.{Scanned}
-use Rattle.sled_core.proofs.Flush.LogFileLemmas.{record_moved}
+use Rattle.sled_core.proofs.Tail.LogFileLemmas.{record_moved}
 use Rattle.sled_core.proofs.Read.PathLemmas.{zeros_empty}
 use Rattle.sled_core.proofs.Tail.OneTail.{segment_there}
 use Rattle.sled_core.proofs.Torn.TornLemmas.{after_write}

@@ -11,7 +11,7 @@ use Rattle.sled_core.specs.declared.iterator.scan.ScannedRecord.{ScannedRecord}
 use Rattle.sled_core.specs.declared.iterator.scan.ScanEnd.{ScanEnd}
 use Rattle.sled_core.specs.declared.iterator.scan.ScanEnd.TheVariants.{Full, Capped, Broken}
 use Rattle.sled_core.specs.Scan.{IsMet, IsPath, IsEnd, EndsThere, IsScan}
-use Rattle.sled_core.proofs.Flush.LogFileLemmas.{record_moved}
+use Rattle.sled_core.proofs.Tail.LogFileLemmas.{record_moved}
 use Rattle.sled_core.proofs.Read.FoundLemmas.{found_there}
 use Rattle.sled_core.proofs.Read.ScanLemmas.{aligned_offset}
 use Rattle.sled_core.proofs.Torn.TornLemmas.{after_write, left_grows, part_left}

@@ -15,7 +15,7 @@ use Rattle.sled_core.specs.declared.iterator.Segment.{Segment}
 use Rattle.sled_core.specs.Reached.{IsSoFar, StandsIn}
 use Rattle.sled_core.specs.Scan.{IsFoundSegment, IsEnd, IsScan}
 use Rattle.sled_core.specs.Tail.{Scanned, IsScanned, least_place}
-use Rattle.sled_core.proofs.Flush.LogFileLemmas.{part_kept}
+use Rattle.sled_core.proofs.Tail.LogFileLemmas.{part_kept}
 use Rattle.sled_core.proofs.Read.FoundLemmas.{pos_injective}
 use Rattle.sled_core.proofs.Reached.Higher.{known_in}
 use Rattle.sled_core.proofs.Reached.LeftBeside.{IsSameBeside}

@@ -4,7 +4,7 @@ use Rattle.std.specs.List.{slice_get}
 use Rattle.sled_core.specs.declared.iobuf.ReservationState.TheVariants.{Open}
 use Rattle.sled_core.specs.declared.iobuf.Reserved.{Reserved}
 use Rattle.sled_core.specs.Buffers.{none_open, open_state}
-use Rattle.sled_core.proofs.Holds.OpenTickets.{by_first}
+use Rattle.sled_core.proofs.Reached.OpenTickets.{by_first}
 
 -- where all have ended none is open
 pub not_open : (rs : List Reserved) (i : ℕ) (r : Reserved) → none_open rs ≡ true → slice_get rs i ≡ Some r → r.state ≡ Open → ⊥

@@ -28,8 +28,8 @@ use Rattle.sled_core.specs.Recoverable.{NoBatchEnds, NoHeaderOfZeros}
 use Rattle.sled_core.specs.Scan.{IsFoundSegment}
 use Rattle.sled_core.specs.SealedBuffers.{Agrees, AreSealed, Laid, run_end, run_count, bytes_between}
 use Rattle.sled_core.specs.Tail.{least_place}
-use Rattle.sled_core.proofs.Flush.LogFileLemmas.{part_kept}
-use Rattle.sled_core.proofs.Flush.SealedFile.{chain_done}
+use Rattle.sled_core.proofs.Tail.LogFileLemmas.{part_kept}
+use Rattle.sled_core.proofs.Sealed.SealedFile.{chain_done}
 use Rattle.sled_core.proofs.Read.FoundLemmas.{found_there}
 use Rattle.sled_core.proofs.Reached.BufferPath.{HasOnly, buffer_header}
 use Rattle.sled_core.proofs.Reached.BufferStands.{met_in, same_part}

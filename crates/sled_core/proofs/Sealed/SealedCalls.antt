@@ -18,8 +18,8 @@ use Rattle.sled_core.specs.Reached.{BegunSegment, StandsAmong}
 use Rattle.sled_core.specs.Recoverable.{NoBatchEnds, NoHeaderOfZeros}
 use Rattle.sled_core.specs.SealedBuffers.{Agrees, AreSealed, Laid, run_count, run_end, sealed_end, bytes_between}
 use Rattle.sled_core.specs.Tail.{least_place}
-use Rattle.sled_core.proofs.Flush.LogFileLemmas.{header_kept}
-use Rattle.sled_core.proofs.Flush.Padded.{length-padded, overwritten-further, padded_get, padded_long}
+use Rattle.sled_core.proofs.Tail.LogFileLemmas.{header_kept}
+use Rattle.sled_core.proofs.Sealed.Padded.{length-padded, overwritten-further, padded_get, padded_long}
 use Rattle.sled_core.proofs.Reserve.Ranges.{part-append}
 use Rattle.sled_codec.specs.Record.{IsHeader}
 use Rattle.sled_core.proofs.Flush.WrittenFile.{header_written}

@@ -10,7 +10,7 @@ use Rattle.sled_store.specs.SlotTables.{active_entry, number_in}
 use Rattle.sled_store.specs.Started.{all_entries, found, found_slot, started}
 use Rattle.sled_store.proofs.Accounts.StartNext.{free_found, left_below, lowest_within, next_started}
 use Rattle.sled_store.proofs.Segments.EntryLemmas.{same_number}
-use Rattle.sled_store.proofs.Segments.StartedFile.{started_file}
+use Rattle.sled_store.proofs.Accounts.StartedFile.{started_file}
 use Rattle.sled_core.specs.Begun.{SegmentView}
 use Rattle.sled_core.specs.declared.iobuf.SegmentPosition.{SegmentPosition}
 use Rattle.sled_core.specs.FreeSlots.{FreeAreZeros, HasSlot, HasSlots, HaveOwn, begun_machine, with_current}

@@ -24,7 +24,7 @@ use Rattle.sled_store.proofs.Traces.MomentLemmas.{at_last}
 use Rattle.sled_store.proofs.Traces.ScriptLemmas.{performs_throughout, along_last}
 use Rattle.sled_core.specs.LogFile.{MessageStands}
 use Rattle.sled_core.specs.Good.{HasOwnBlob, ReadsAt, IsGood}
-use Rattle.sled_core.proofs.Flush.LogFileLemmas.{stands_some}
+use Rattle.sled_core.proofs.Tail.LogFileLemmas.{stands_some}
 use Rattle.sled_core.proofs.Start.UsedEntries.{entry_used}
 use Rattle.sled_core.proofs.Tail.Moved.{message_moved}
 use Rattle.sled_core.proofs.Torn.KeptSlots.{along_both}

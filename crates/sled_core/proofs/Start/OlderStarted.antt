@@ -10,7 +10,7 @@ use Rattle.sled_store.specs.Begin.{IsStartable, entries_of, is_used, place_at, s
 use Rattle.sled_store.specs.Device.{State}
 use Rattle.sled_store.specs.SegmentStates.{Machine, is_free, slot_at}
 use Rattle.sled_store.specs.SnapshotFiles.{BeginsFrom}
-use Rattle.sled_store.proofs.Segments.StartedFile.{started_file, started_part}
+use Rattle.sled_store.proofs.Accounts.StartedFile.{started_file, started_part}
 use Rattle.sled_core.specs.declared.iterator.Segment.{Segment}
 use Rattle.sled_core.specs.FreeSlots.{begun_machine}
 use Rattle.sled_core.specs.Reached.{StandsActive}

@@ -10,7 +10,7 @@ use Rattle.sled_codec.specs.Pointers.{lid_of}
 use Rattle.sled_codec.specs.Snapshots.{SnapshotModel, stable_place}
 use Rattle.sled_store.specs.Begin.{slots_of, is_used, unused}
 use Rattle.sled_store.proofs.Segments.FilledLemmas.{free_below, free_has}
-use Rattle.sled_store.proofs.Segments.StartedFile.{started_file, started_short, started_there, started_zero, left_within}
+use Rattle.sled_store.proofs.Accounts.StartedFile.{started_file, started_short, started_there, started_zero, left_within}
 use Rattle.sled_core.specs.declared.iterator.Segment.{Segment}
 use Rattle.sled_core.specs.LogFile.{padded}
 use Rattle.sled_core.specs.Reached.{StandsActive}

@@ -23,7 +23,7 @@ use Rattle.sled_core.specs.SealedBuffers.{AreZeros}
 use Rattle.sled_core.proofs.Holds.BatchLemmas.{closed_up, none_batched}
 use Rattle.sled_core.specs.Ready.{HasActive, HasNoActive, HasFile, IsReady, active_site}
 use Rattle.sled_store.proofs.Segments.Elements.{in_nothing}
-use Rattle.sled_store.proofs.Segments.StartedFile.{started_file}
+use Rattle.sled_store.proofs.Accounts.StartedFile.{started_file}
 use Rattle.sled_core.proofs.Reached.BufferPath.{buffer_mark}
 use Rattle.sled_core.proofs.Start.UsedLemmas.{active_clean, active_file, new_file, new_clean}
 

@@ -13,7 +13,7 @@ use Rattle.sled_core.specs.declared.iobuf.Reserved.{Reserved}
 use Rattle.sled_core.specs.declared.iobuf.Sealed.{Sealed}
 use Rattle.sled_core.specs.declared.iobuf.SegmentPosition.{SegmentPosition}
 use Rattle.sled_store.specs.Begin.{slots_of, unused, first_or, beginning_at, beginning_of, MayBeActive, IsStartable}
-use Rattle.sled_store.proofs.Segments.StartedFile.{started_file}
+use Rattle.sled_store.proofs.Accounts.StartedFile.{started_file}
 use Rattle.sled_core.specs.Fits.{log_parts, HoldsIn}
 use Rattle.sled_core.specs.LogFile.{padded}
 use Rattle.sled_core.specs.Logged.{in_log, logged}

@@ -19,8 +19,8 @@ use Rattle.sled_core.specs.Fits.{EndBelow}
 use Rattle.sled_core.specs.SealedBuffers.{AreZeros}
 use Rattle.sled_core.specs.Ready.{HasActive, HasNoActive, active_site}
 use Rattle.sled_store.proofs.Segments.FilledLemmas.{slot_before, slot_inside, free_below, first_there}
-use Rattle.sled_store.proofs.Segments.StartedFile.{started_file, started_there, started_part, started_byte, started_zero, started_past, left_within}
-use Rattle.sled_core.proofs.Flush.LogFileLemmas.{stands_some}
+use Rattle.sled_store.proofs.Accounts.StartedFile.{started_file, started_there, started_part, started_byte, started_zero, started_past, left_within}
+use Rattle.sled_core.proofs.Tail.LogFileLemmas.{stands_some}
 use Rattle.sled_core.proofs.Start.Entries.{table_entry, active_used}
 use Rattle.sled_core.proofs.Read.ScanLemmas.{aligned_number}
 use Rattle.sled_core.proofs.Tail.Moved.{message_moved}

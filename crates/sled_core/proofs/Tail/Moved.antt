@@ -13,7 +13,7 @@ use Rattle.sled_core.specs.declared.iterator.scan.RecordContent.TheVariants.{Giv
 use Rattle.sled_core.specs.LogFile.{MessageStands}
 use Rattle.sled_core.specs.Recoverable.{StandsInline, MeetsMessage, IsOfHistory}
 use Rattle.sled_core.specs.Scan.{Says, IsFoundSegment, IsMet}
-use Rattle.sled_core.proofs.Flush.LogFileLemmas.{record_moved}
+use Rattle.sled_core.proofs.Tail.LogFileLemmas.{record_moved}
 use Rattle.sled_core.proofs.Read.FoundLemmas.{pos_injective}
 
 -- A slot begins at a multiple of the size.

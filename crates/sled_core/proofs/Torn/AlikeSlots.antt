@@ -11,7 +11,7 @@ use Rattle.sled_core.specs.declared.iterator.scan.ScannedRecord.{ScannedRecord}
 use Rattle.sled_core.specs.declared.iterator.scan.ScanEnd.{ScanEnd}
 use Rattle.sled_core.specs.Reading.{StandsAt}
 use Rattle.sled_core.specs.Scan.{IsFoundSegment, IsScan}
-use Rattle.sled_core.proofs.Flush.LogFileLemmas.{record_moved}
+use Rattle.sled_core.proofs.Tail.LogFileLemmas.{record_moved}
 use Rattle.sled_core.proofs.Read.FoundLemmas.{found_there}
 use Rattle.sled_core.proofs.Torn.TornRecords.{long_enough, record_read}
 use Rattle.sled_core.proofs.Torn.WrittenBeside.{found_moved}

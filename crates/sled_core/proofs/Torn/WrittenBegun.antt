@@ -12,7 +12,7 @@ use Rattle.sled_core.specs.declared.iterator.scan.ScannedRecord.{ScannedRecord}
 use Rattle.sled_core.specs.declared.iterator.scan.ScanEnd.{ScanEnd}
 use Rattle.sled_core.specs.Recoverable.{NoHeaderOfZeros}
 use Rattle.sled_core.specs.Scan.{IsScan}
-use Rattle.sled_core.proofs.Flush.LogFileLemmas.{part_laid}
+use Rattle.sled_core.proofs.Tail.LogFileLemmas.{part_laid}
 use Rattle.sled_core.proofs.Torn.TornLemmas.{after_write}
 use Rattle.sled_core.proofs.Torn.TornRecords.{same_or_not}
 use Rattle.sled_core.proofs.Torn.WrittenParts.{twenty, header_where}

@@ -10,7 +10,7 @@ use Rattle.sled_store.specs.Readers.{at_start}
 use Rattle.sled_core.specs.declared.iterator.scan.ScannedRecord.{ScannedRecord}
 use Rattle.sled_core.specs.declared.iterator.scan.ScanEnd.{ScanEnd}
 use Rattle.sled_core.specs.Scan.{IsMet, IsPath, IsEnd, IsScan}
-use Rattle.sled_core.proofs.Flush.LogFileLemmas.{part_kept}
+use Rattle.sled_core.proofs.Tail.LogFileLemmas.{part_kept}
 use Rattle.sled_core.proofs.Torn.TornLemmas.{after_write, left_grows, part_left}
 use Rattle.sled_core.proofs.Torn.WrittenParts.{twenty, in_this_file, comes_along, path_rises, paths_joined, path_stays, path_whole, header_where}
 use Rattle.sled_core.proofs.Torn.WrittenRecords.{AlikeAlong, AreClear, MeetsFirst, alike_joined, meets_first}

@@ -15,7 +15,7 @@ use Rattle.sled_core.specs.declared.iterator.scan.ScanEnd.{ScanEnd}
 use Rattle.sled_core.specs.declared.iterator.scan.ScanEnd.TheVariants.{Full, Capped, Broken}
 use Rattle.sled_core.specs.Reading.{StandsAt}
 use Rattle.sled_core.specs.Scan.{IsMet, IsPath, IsEnd, EndsThere, IsScan}
-use Rattle.sled_core.proofs.Flush.LogFileLemmas.{record_moved, file_grows, part_kept, part_laid}
+use Rattle.sled_core.proofs.Tail.LogFileLemmas.{record_moved, file_grows, part_kept, part_laid}
 use Rattle.sled_core.proofs.Read.ScanLemmas.{aligned_offset}
 use Rattle.sled_core.proofs.Torn.TornLemmas.{after_write, left_grows, part_left}
 use Rattle.sled_core.proofs.Torn.TornRecords.{the_only, long_enough, record_reached, record_read, says_plain}

@@ -15,7 +15,7 @@ use Rattle.sled_core.specs.declared.iterator.scan.ScanEnd.TheVariants.{Full, Cap
 use Rattle.sled_core.proofs.Read.PathLemmas.{IsEmpty}
 use Rattle.sled_core.specs.Reading.{StandsAt}
 use Rattle.sled_core.specs.Scan.{IsMet, IsPath, IsEnd, EndsThere}
-use Rattle.sled_core.proofs.Flush.LogFileLemmas.{part_kept, record_moved}
+use Rattle.sled_core.proofs.Tail.LogFileLemmas.{part_kept, record_moved}
 use Rattle.sled_core.proofs.Read.GivesLemmas.{one_len}
 use Rattle.sled_core.proofs.Read.PathLemmas.{zeros_empty}
 use Rattle.sled_core.proofs.Torn.TornLemmas.{after_write}

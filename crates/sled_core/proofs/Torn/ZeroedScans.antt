@@ -15,7 +15,7 @@ use Rattle.sled_core.specs.declared.iterator.scan.ScanEnd.TheVariants.{Full, Cap
 use Rattle.sled_core.proofs.Read.PathLemmas.{IsEmpty}
 use Rattle.sled_core.specs.Reading.{StandsAt}
 use Rattle.sled_core.specs.Scan.{IsMet, IsPath, IsEnd, EndsThere, IsScan}
-use Rattle.sled_core.proofs.Flush.LogFileLemmas.{record_moved}
+use Rattle.sled_core.proofs.Tail.LogFileLemmas.{record_moved}
 use Rattle.sled_core.proofs.Read.GivesLemmas.{one_len}
 use Rattle.sled_core.proofs.Torn.TornLemmas.{after_write}
 use Rattle.sled_core.proofs.Torn.TornRecords.{same_or_not, long_enough, says_plain}

@@ -17,7 +17,7 @@ use Rattle.sled_core.specs.OwnLog.{ReadsPlaced}
 use Rattle.sled_core.specs.Recoverable.{ActiveFits, IsRecoverableLog, NoHeaderOfZeros, ReadsOnlyOwn}
 use Rattle.sled_core.specs.Scan.{IsPath, IsScan}
 use Rattle.sled_core.specs.declared.iterator.scan.ScannedRecord.{ScannedRecord}
-use Rattle.sled_core.proofs.Flush.LogFileLemmas.{file_grows}
+use Rattle.sled_core.proofs.Tail.LogFileLemmas.{file_grows}
 use Rattle.sled_core.proofs.OwnLog.NoneForeign.{was_placed}
 use Rattle.sled_core.proofs.OwnLog.Paths.{path_reads}
 use Rattle.sled_core.proofs.OwnLog.Recovering.{rest_filled}

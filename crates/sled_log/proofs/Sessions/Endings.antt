@@ -8,7 +8,7 @@ use Rattle.std.proofs.lemmas.Option.{slice_get_read}
 use Rattle.sled_codec.specs.declared.serialization.snapshot.PageState.{PageState}
 use Rattle.sled_codec.specs.Snapshots.{Page, Uninitialized, page_of}
 use Rattle.sled_core.specs.Fits.{IsOpen}
-use Rattle.sled_core.proofs.Line.Nth.{set_get}
+use Rattle.sled_core.proofs.Holds.Nth.{set_get}
 use Rattle.sled_log.specs.declared.session.opened.Opened.{Opened}
 use Rattle.sled_log.specs.declared.session.opened.Ticket.{Ticket}
 use Rattle.sled_log.specs.Endings.{HasRoomOn, TakesTicket, batch_left, put_at}

@@ -14,7 +14,7 @@ use Rattle.sled_core.specs.Causes.{HeldAnswers, OnDone}
 use Rattle.sled_core.specs.declared.logger.Log.{Log}
 use Rattle.sled_core.specs.Fits.{FirstWaits, IsUsedUpBelow, buffers_of, current_begin, device_of, fault_of, held_len, holding_below, reserved_end, segment_size_of, stable_end, synced_end, waiting_of, writing_below}
 use Rattle.sled_core.specs.Fronts.{CameTo}
-use Rattle.sled_core.proofs.Stable.Places.{behind_stable}
+use Rattle.sled_core.proofs.Line.Places.{behind_stable}
 use Rattle.sled_core.specs.Stable.{IsNotReserved, StableAnswers, held_for, stabilizing, target_for}
 use Rattle.sled_core.specs.Waiting.{BufferAt, Span, begun_below, spans}
 use Rattle.sled_core.proofs.Line.Settles.{stable_up}

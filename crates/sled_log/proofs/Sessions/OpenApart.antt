@@ -21,7 +21,7 @@ use Rattle.sled_core.specs.OwnBlobs.{AreBeside, IsBeside}
 use Rattle.sled_core.specs.Reading.{IsInline}
 use Rattle.sled_core.specs.Tickets.{index_of, is_manifest_of}
 use Rattle.sled_core.proofs.Line.Ends.{holds_completed}
-use Rattle.sled_core.proofs.Line.Facts.{nth_facts}
+use Rattle.sled_core.proofs.Holds.Facts.{nth_facts}
 use Rattle.sled_core.proofs.Logged.Messages.{adds_real}
 use Rattle.sled_core.proofs.Read.FoundLemmas.{pos_injective}
 use Rattle.sled_log.specs.Made.{HasBlobIn, IsMade, JoinsWithBlob}

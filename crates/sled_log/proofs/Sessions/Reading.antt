@@ -39,9 +39,9 @@ use Rattle.sled_core.specs.ReadBuffer.{IsUsedUpAt, ReadAnswers, Settles, WritesA
 use Rattle.sled_core.specs.SealedBuffers.{writing}
 use Rattle.sled_core.specs.Waiting.{BufferAt, BufferStart, HasLength, Span, has_place, held_around, span_of, spans, unless_held, without_around, write_around}
 use Rattle.sled_core.proofs.Holds.BufferEnds.{written_behind}
-use Rattle.sled_core.proofs.Holds.KeptCalls.{kept_further, kept_still, position_further, position_still, tickets_further}
+use Rattle.sled_core.proofs.Line.KeptCalls.{kept_further, kept_still, position_further, position_still, tickets_further}
 use Rattle.sled_core.proofs.Line.Entered.{filled_last}
-use Rattle.sled_core.proofs.Line.Facts.{current_facts}
+use Rattle.sled_core.proofs.Holds.Facts.{current_facts}
 use Rattle.sled_core.specs.WholeBuffers.{IsWholeBuffer}
 use Rattle.sled_core.proofs.Line.Shows.{buffers_add}
 use Rattle.sled_core.proofs.PublicLaws.{fits_reach, place_back, reserved_small, shows_current, shows_empty, shows_long}

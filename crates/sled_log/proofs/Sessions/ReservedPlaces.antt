@@ -13,7 +13,7 @@ use Rattle.sled_core.specs.OpenPlaces.{places_from}
 use Rattle.sled_core.specs.Positions.{Position, is_short, next_segment_at, position_in}
 use Rattle.sled_core.specs.Waiting.{at_last, closed_now, spans, unwritten}
 use Rattle.sled_core.proofs.Line.Entered.{filled_last}
-use Rattle.sled_core.proofs.Line.Facts.{current_facts}
+use Rattle.sled_core.proofs.Holds.Facts.{current_facts}
 use Rattle.sled_core.proofs.Line.Targets.{LiesHere, LiesNext, lies}
 use Rattle.sled_core.proofs.PublicLaws.{current_count, current_least, shows_behind, target_above as put_above}
 use Rattle.sled_log.specs.RunPhases.{seen_log}

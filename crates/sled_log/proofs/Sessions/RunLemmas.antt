@@ -25,7 +25,7 @@ use Rattle.sled_core.specs.Fits.{config_of, device_of, segment_size_of}
 use Rattle.sled_core.specs.Recoverable.{NoForeign, Recoverable, LeavesRecoverable}
 use Rattle.sled_core.proofs.Start.FreshReady.{fresh_leaves}
 use Rattle.sled_core.proofs.Holds.RunningLemmas.{fits_leaves}
-use Rattle.sled_core.proofs.OwnLog.OfLog.{fits_reads_own}
+use Rattle.sled_core.proofs.Line.OfLog.{fits_reads_own}
 use Rattle.sled_log.specs.declared.session.Phase.{Phase}
 use Rattle.sled_log.specs.declared.session.Phase.TheVariants as phase
 use Rattle.sled_log.specs.declared.session.opened.Opened.{Opened}

@@ -11,7 +11,7 @@ use Rattle.sled_store.proofs.Segments.Elements.{in_first, in_cases}
 use Rattle.sled_core.specs.Fits.{Awaits, fault_of, open_places, reserved_end}
 use Rattle.sled_core.specs.Manifests.{manifest_page}
 use Rattle.sled_core.specs.OpenPlaces.{TakesOut}
-use Rattle.sled_core.proofs.Line.Nth.{set_other, set_get}
+use Rattle.sled_core.proofs.Holds.Nth.{set_other, set_get}
 use Rattle.sled_store.specs.Device.{Trace}
 use Rattle.sled_log.specs.declared.session.opened.Opened.{Opened}
 use Rattle.sled_log.specs.declared.session.opened.Ticket.{Ticket}

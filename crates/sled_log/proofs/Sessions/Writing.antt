@@ -28,7 +28,7 @@ use Rattle.sled_core.specs.OpenBatches.{not_whole, stable_below}
 use Rattle.sled_core.specs.Waiting.{BufferAt, BufferStart, HasLength, Span, begun_below, first_held, held_below, is_unheld, not_below, pending_in, spans, unless_held, without_pending, writes_below}
 use Rattle.sled_core.specs.WholeBuffers.{IsWholeBuffer}
 use Rattle.sled_core.proofs.Line.Entered.{filled_last}
-use Rattle.sled_core.proofs.Line.Facts.{current_facts}
+use Rattle.sled_core.proofs.Holds.Facts.{current_facts}
 use Rattle.sled_core.proofs.Line.Positions.{end_seen, next_seen}
 use Rattle.sled_core.proofs.Line.Settles.{stable_up}
 use Rattle.sled_core.proofs.Line.Shows.{buffers_add}

@@ -1,5 +1,5 @@
 -- What a log has on its device it placed there.
-use Rattle.sled_core.proofs.OwnLog.OfLog.{fits_reads_own}
+use Rattle.sled_core.proofs.Line.OfLog.{fits_reads_own}
 use Rattle.sled_core.proofs.laws.what_a_log_reads_is_its_own.Goals as goal
 
 pub returns : goal.returns

@@ -20,7 +20,7 @@ use Rattle.sled_core.proofs.Blobs.FirmContent.{read_recoverable}
 use Rattle.sled_core.specs.Running.{Ready, end_below}
 use Rattle.sled_core.proofs.Holds.ReachLemmas.{fits_holds}
 use Rattle.sled_core.proofs.Holds.RunningLemmas.{fits_leaves}
-use Rattle.sled_core.proofs.OwnLog.OfLog.{fits_reads_own}
+use Rattle.sled_core.proofs.Line.OfLog.{fits_reads_own}
 use Rattle.sled_core.proofs.Read.ReadingLemmas.{if_ok}
 use Rattle.sled_log.specs.Orderly.{CanRecover}
 use Rattle.sled_log.specs.Restarts.{FlushFails, HasRestarted}

@@ -4,8 +4,8 @@ use Rattle.sled_core.specs.Begun.{SegmentView}
 use Rattle.sled_core.specs.Fits.{AwaitsIn, line_of}
 use Rattle.sled_core.specs.Logged.{in_log}
 use Rattle.sled_core.specs.Tickets.{own_blob}
-use Rattle.sled_core.proofs.Holds.KeptCalls.{position_still}
-use Rattle.sled_core.proofs.Holds.WithoutBlob.{without_further, without_still}
+use Rattle.sled_core.proofs.Line.KeptCalls.{position_still}
+use Rattle.sled_core.proofs.Line.WithoutBlob.{without_further, without_still}
 use Rattle.sled_core.proofs.Line.BlobRemoved.{removes_further, removes_nothing}
 use Rattle.sled_core.proofs.Line.LogWrites.{same_line}
 use Rattle.sled_core.proofs.logger.Log.abort.Goals as goal

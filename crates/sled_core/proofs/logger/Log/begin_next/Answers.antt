@@ -15,7 +15,7 @@ use Rattle.sled_core.specs.Turned.{CanClose, ChangesLine, HasRoomIn, IsBegunView
 use Rattle.sled_core.specs.Waiting.{at_last, closed_now, last_of}
 use Rattle.sled_core.proofs.Line.Begins.{closable}
 use Rattle.sled_core.proofs.Line.Closes.{IsClosable, filled_length, filled_written}
-use Rattle.sled_core.proofs.Line.Facts.{current_facts, nth_facts}
+use Rattle.sled_core.proofs.Holds.Facts.{current_facts, nth_facts}
 use Rattle.sled_codec.proofs.Segments.{length-short_header}
 use Rattle.sled_core.proofs.Line.OpenManifests.{manifests_next}
 use Rattle.sled_core.proofs.Line.Nexts.{begun_is, filled_next, follow_one, last_one, line_more}
@@ -30,7 +30,7 @@ use Rattle.sled_core.proofs.Line.Entered.{filled_last}
 use Rattle.sled_core.proofs.Line.Outcomes.{all_err}
 use Rattle.sled_core.proofs.Line.Unchanged.{left_alone, unchanged_still}
 use Rattle.sled_core.proofs.Line.Filling.{follow_in, follow_with, last_none, line_first, line_last, read_last}
-use Rattle.sled_core.proofs.Line.Nth.{last_behind, last_buffer_behind}
+use Rattle.sled_core.proofs.Holds.Nth.{last_behind, last_buffer_behind}
 use Rattle.sled_core.proofs.logger.Log.begin_next.Given.{Over}
 use Rattle.sled_core.proofs.logger.Log.begin_next.Goals.{After-push_back_reserved, then-n-eq0, else-n-eq0}
 use Rattle.sled_core.proofs.logger.Log.begin_next.Goals as goal

@@ -6,7 +6,7 @@ use Rattle.sled_core.specs.Fits.{noted_in, reserved_end}
 use Rattle.sled_core.specs.OpenBatches.{batch_of, behind_batch, not_whole}
 use Rattle.sled_core.proofs.Line.NoneLeft.{noted_pegs}
 use Rattle.sled_core.proofs.Reached.NotedSteps.{behind_within}
-use Rattle.sled_core.proofs.Stable.Places.{reserved_in_reach}
+use Rattle.sled_core.proofs.Line.Places.{reserved_in_reach}
 use Rattle.sled_core.proofs.logger.Log.behind_batch.Goals as goal
 
 pub behind_last-requires-clause-pegs : goal.behind_last-requires-clause-pegs

@@ -14,13 +14,13 @@ use Rattle.sled_core.specs.Logged.{logged, in_log}
 use Rattle.sled_core.specs.OpenPlaces.{TakesOut, open_places_along}
 use Rattle.sled_core.specs.Running.{Fits}
 use Rattle.sled_core.specs.Tickets.{place_of}
-use Rattle.sled_core.proofs.Holds.KeptCalls.{goes_on_still}
+use Rattle.sled_core.proofs.Line.KeptCalls.{goes_on_still}
 use Rattle.sled_core.proofs.Line.BatchNoted.{kind_there, reserved_at}
 use Rattle.sled_core.proofs.Line.EndedKeeps.{fits_ended, goes_on_ended, holds_ended, keeps_ended, position_ended}
 use Rattle.sled_core.proofs.Line.EndedTickets.{ended_takes, others_await, says_place, ticket_above, ticket_among, ticket_open, ticket_there}
 use Rattle.sled_core.proofs.Line.Ends.{fits_completed, holds_completed}
 use Rattle.sled_core.proofs.Line.EndedLine.{completing_short}
-use Rattle.sled_core.proofs.Line.Facts.{nth_facts}
+use Rattle.sled_core.proofs.Holds.Facts.{nth_facts}
 use Rattle.sled_core.proofs.Line.LogSpans.{ended_buffers}
 use Rattle.sled_core.proofs.Logged.Messages.{put_real}
 use Rattle.sled_core.proofs.logger.Log.complete.Given.{Over}

@@ -6,8 +6,8 @@ use Rattle.sled_core.specs.Begun.{SegmentView, segment_view, view_at}
 use Rattle.sled_core.specs.Fits.{current_of}
 use Rattle.sled_core.specs.declared.logger.Log.{Log}
 use Rattle.sled_core.specs.declared.logger.segments.SegmentBuffer.{SegmentBuffer}
-use Rattle.sled_core.proofs.Line.Facts.{current_facts}
-use Rattle.sled_core.proofs.Line.Nth.{last_behind, last_buffer_behind}
+use Rattle.sled_core.proofs.Holds.Facts.{current_facts}
+use Rattle.sled_core.proofs.Holds.Nth.{last_behind, last_buffer_behind}
 use Rattle.sled_core.proofs.logger.Log.current.Goals as goal
 
 -- what is at the end of a list of segments

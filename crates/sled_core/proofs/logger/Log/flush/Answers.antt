@@ -6,7 +6,7 @@ use Rattle.std.proofs.lemmas.Result.{err_from_is_err_and}
 use Rattle.sled_codec.specs.declared.result.Error.TheVariants.{Io}
 use Rattle.sled_core.specs.Fits.{fault_of, reserved_end, stable_end, synced_end}
 use Rattle.sled_core.specs.Running.{Fits, end_below}
-use Rattle.sled_core.proofs.Holds.KeptCalls.{kept_still}
+use Rattle.sled_core.proofs.Line.KeptCalls.{kept_still}
 use Rattle.sled_core.proofs.Holds.RunningLemmas.{fits-acknowledged}
 use Rattle.sled_core.proofs.Line.LineEnds.{stable_kept}
 use Rattle.sled_core.proofs.Line.NoneLeft.{all_stable, all_written}

@@ -23,13 +23,13 @@ use Rattle.sled_core.specs.Tickets.{place_of}
 use Rattle.sled_core.specs.Turned.{ended_now}
 use Rattle.sled_core.specs.Waiting.{BufferAt, buffers_in}
 use Rattle.sled_core.proofs.Holds.CanceledLemmas.{canceled_long, canceled_there}
-use Rattle.sled_core.proofs.Holds.KeptCalls.{kept_still}
+use Rattle.sled_core.proofs.Line.KeptCalls.{kept_still}
 use Rattle.sled_core.proofs.Line.Canceled.{ended_stands}
 use Rattle.sled_core.proofs.Line.EndedKeeps.{fits_ended, goes_on_ended, left_ended, holds_ended, keeps_ended, position_ended}
 use Rattle.sled_core.proofs.Line.EndedTickets.{ended_takes, others_await, says_place, ticket_above, ticket_among, ticket_open, ticket_there}
 use Rattle.sled_core.proofs.Line.Ends.{fits_aborted, holds_aborted, with_segment}
 use Rattle.sled_core.proofs.Line.EndedLine.{canceling_short}
-use Rattle.sled_core.proofs.Line.Facts.{nth_facts}
+use Rattle.sled_core.proofs.Holds.Facts.{nth_facts}
 use Rattle.sled_core.proofs.Line.LogSpans.{ended_buffers}
 use Rattle.sled_core.proofs.Reserve.Entries.{open_plain, reserved_in}
 use Rattle.sled_core.proofs.Reserve.Ranges.{at_there}

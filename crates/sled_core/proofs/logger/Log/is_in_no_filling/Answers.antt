@@ -9,7 +9,7 @@ use Rattle.sled_core.specs.Begun.{SegmentView, records_to, segment_view, view_at
 use Rattle.sled_core.specs.declared.logger.Log.{Log}
 use Rattle.sled_core.specs.Fits.{current_of, line_of, reserved_end, segment_size_of}
 use Rattle.sled_core.proofs.Line.Entered.{filled_last}
-use Rattle.sled_core.proofs.Line.Facts.{current_facts, nth_facts}
+use Rattle.sled_core.proofs.Holds.Facts.{current_facts, nth_facts}
 use Rattle.sled_core.proofs.Line.Fillings.{one_filling}
 use Rattle.sled_core.proofs.Line.Settles.{number_inside, place_low}
 use Rattle.sled_core.proofs.logger.Log.is_in_no_filling.Goals as goal

@@ -13,8 +13,8 @@ use Rattle.sled_core.specs.Tickets.{IsFor, index_of, place_of}
 use Rattle.sled_core.specs.Turned.{IsOpenIn}
 use Rattle.sled_core.proofs.Line.EndedLine.{behind_within}
 use Rattle.sled_core.proofs.Line.EndedTickets.{says_place, ticket_above, ticket_among}
-use Rattle.sled_core.proofs.Line.Facts.{nth_facts}
-use Rattle.sled_core.proofs.Line.Nth.{behind_get}
+use Rattle.sled_core.proofs.Holds.Facts.{nth_facts}
+use Rattle.sled_core.proofs.Holds.Nth.{behind_get}
 use Rattle.sled_core.proofs.Reserve.Parts.{there_is}
 use Rattle.sled_core.proofs.logger.Log.is_open.Given.{Over}
 use Rattle.sled_core.proofs.logger.Log.is_open.Goals as goal

@@ -20,7 +20,7 @@ use Rattle.sled_core.specs.Waiting.{at_last}
 use Rattle.sled_core.proofs.Line.Entered.{filled_last}
 use Rattle.sled_core.proofs.Line.Segments.{line_segments}
 use Rattle.sled_core.proofs.Line.Filling.{follow_with, last_none, line_first, line_last, read_last}
-use Rattle.sled_core.proofs.Line.Nth.{last_behind, last_buffer_behind}
+use Rattle.sled_core.proofs.Holds.Nth.{last_behind, last_buffer_behind}
 use Rattle.sled_core.proofs.Line.OpenManifests.{manifests_reserved, more_counted, room_more}
 use Rattle.sled_core.proofs.Line.Reserves.{filled_reserved}
 use Rattle.sled_core.proofs.Pending.Segments.{at_last_same}

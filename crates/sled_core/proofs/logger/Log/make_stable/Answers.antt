@@ -16,11 +16,11 @@ use Rattle.sled_core.specs.Running.{Fits}
 use Rattle.sled_core.specs.OpenBatches.{behind_batch}
 use Rattle.sled_core.specs.Stable.{behind_place, held_for, target_for}
 use Rattle.sled_core.specs.declared.logger.Log.{Log}
-use Rattle.sled_core.proofs.Holds.KeptCalls.{kept_still, position_still, tickets_still}
+use Rattle.sled_core.proofs.Line.KeptCalls.{kept_still, position_still, tickets_still}
 use Rattle.sled_core.proofs.Holds.RunningLemmas.{fits-acknowledged}
 use Rattle.sled_core.proofs.Line.LineEnds.{stable_kept, stable_reached}
 use Rattle.sled_core.proofs.Line.SealFirst.{still_came, unused_already, writes_already, writes_err, writes_none, writes_ok}
-use Rattle.sled_core.proofs.Stable.Places.{above_read, behind_read, behind_stable, done_as, held_up, holds_none, inside_read, reserved_in_reach, stable_answers, wrote_for}
+use Rattle.sled_core.proofs.Line.Places.{above_read, behind_read, behind_stable, done_as, held_up, holds_none, inside_read, reserved_in_reach, stable_answers, wrote_for}
 use Rattle.sled_core.proofs.logger.Log.make_stable.Given as given
 use Rattle.sled_core.proofs.logger.Log.make_stable.Goals as goal
 

@@ -7,7 +7,7 @@ use Rattle.sled_codec.specs.History.{Batch}
 use Rattle.sled_core.specs.Batches.{LiesInNoFilling}
 use Rattle.sled_core.specs.Fits.{line_of, noted_in, reserved_end, segment_size_of}
 use Rattle.sled_core.specs.Tickets.{place_of}
-use Rattle.sled_core.proofs.Stable.Places.{inside_read, reserved_in_reach}
+use Rattle.sled_core.proofs.Line.Places.{inside_read, reserved_in_reach}
 use Rattle.sled_core.proofs.logger.Log.may_end_at.Goals as goal
 use Rattle.sled_core.proofs.logger.Log.may_end_at.Goals.{then-peg-place-via-then-peg-place, then-peg-place-via-else-peg-place+then-peg-self}
 

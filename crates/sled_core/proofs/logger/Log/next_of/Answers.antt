@@ -6,7 +6,7 @@ use Rattle.sled_core.specs.Fits.{Holds, current_of}
 use Rattle.sled_core.specs.Logged.{logged}
 use Rattle.sled_core.specs.Positions.{position_in}
 use Rattle.sled_core.specs.Running.{Fits}
-use Rattle.sled_core.proofs.Holds.KeptCalls.{goes_on_quietly}
+use Rattle.sled_core.proofs.Line.KeptCalls.{goes_on_quietly}
 use Rattle.sled_core.proofs.Iterates.Failures.{first_kept, first_none}
 use Rattle.sled_core.proofs.Line.Faulty.{fits_with_kept, holds_with_kept}
 use Rattle.sled_core.proofs.Line.LineEnds.{noted_still}

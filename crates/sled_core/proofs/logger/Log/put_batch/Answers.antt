@@ -1,5 +1,5 @@
 use Rattle.std.proofs.Common.{arith}
-use Rattle.sled_core.proofs.Stable.Places.{reserved_in_reach}
+use Rattle.sled_core.proofs.Line.Places.{reserved_in_reach}
 use Rattle.sled_core.proofs.logger.Log.put_batch.Goals as goal
 
 pub put_in-requires-clause-in_reach : goal.put_in-requires-clause-in_reach

@@ -24,7 +24,7 @@ use Rattle.sled_core.specs.Fronts.{CameAround}
 use Rattle.sled_core.specs.ReadBuffer.{IsUsedUpAt, IsWrittenPlace, ReadAnswers, SealsAround, SettleAnswers, WritesAround, held_at, settling}
 use Rattle.sled_core.specs.Reading.{IsInline, IsNoPlace, GivesMessage}
 use Rattle.sled_core.specs.ReadPointer.{GivesBlob, IsDamageOf, IsStableBlob, place_read}
-use Rattle.sled_core.proofs.Holds.KeptCalls.{kept_further, kept_still, tickets_further}
+use Rattle.sled_core.proofs.Line.KeptCalls.{kept_further, kept_still, tickets_further}
 use Rattle.sled_core.proofs.Holds.ReachLemmas.{fits_holds}
 use Rattle.sled_core.proofs.Line.Advanced.{same_current}
 use Rattle.sled_core.proofs.Line.CameFar.{around_none, came_behind, seals_none, still_around}

@@ -4,7 +4,7 @@ use Rattle.sled_store.specs.declared.config.Config.{Config}
 use Rattle.sled_core.specs.Fits.{Holds}
 use Rattle.sled_core.specs.Logged.{logged}
 use Rattle.sled_core.specs.Running.{Fits}
-use Rattle.sled_core.proofs.Holds.KeptCalls.{goes_on_quietly}
+use Rattle.sled_core.proofs.Line.KeptCalls.{goes_on_quietly}
 use Rattle.sled_core.proofs.Line.Faulty.{fits_with_kept, holds_with_kept, none_or_kept}
 use Rattle.sled_core.proofs.Line.LineEnds.{noted_still}
 use Rattle.sled_core.proofs.logger.Log.read_settled.Goals as goal

@@ -7,7 +7,7 @@ use Rattle.sled_store.specs.Device.{BlobRemoved, Trace}
 use Rattle.sled_store.specs.Script.{Performs}
 use Rattle.sled_core.specs.OwnBlobs.{RemovesBlob}
 use Rattle.sled_core.specs.declared.logger.Log.{Log}
-use Rattle.sled_core.proofs.Holds.WithoutBlob.{without_still}
+use Rattle.sled_core.proofs.Line.WithoutBlob.{without_still}
 use Rattle.sled_core.proofs.Line.BlobRemoved.{removed_blob_keeps, removed_whole}
 use Rattle.sled_core.proofs.Line.Faulty.{none_or_kept}
 use Rattle.sled_core.proofs.logger.Log.remove_own.Goals as goal

@@ -3,7 +3,7 @@ use Rattle.std.proofs.Common.{◌≡◌, ◌∙◌, inl, sym, ℕ, List, length,
 use Rattle.sled_codec.specs.declared.result.Error.TheVariants.{Io}
 use Rattle.sled_core.specs.Fits.{body_length, in_blob_of}
 use Rattle.sled_core.specs.Reserves.{ReservesAs}
-use Rattle.sled_core.proofs.Holds.KeptCalls.{kept_still}
+use Rattle.sled_core.proofs.Line.KeptCalls.{kept_still}
 use Rattle.sled_core.proofs.Line.Reserved.{device_same, reserved_blob, reserved_inline}
 use Rattle.sled_core.proofs.Line.Unchanged.{unchanged_still}
 use Rattle.sled_core.proofs.logger.Log.reserve.Given as given

@@ -4,7 +4,7 @@ use Rattle.std.specs.Prelude.{FitsSigned}
 use Rattle.std.proofs.lemmas.Int.{ints, to_z-of_z, to_z_pos}
 use Rattle.sled_core.specs.declared.logger.Log.{Log}
 use Rattle.sled_core.specs.Fits.{reserved_end}
-use Rattle.sled_core.proofs.Stable.Places.{reserved_in_reach}
+use Rattle.sled_core.proofs.Line.Places.{reserved_in_reach}
 use Rattle.sled_core.proofs.logger.Log.reserved_offset.Goals as goal
 
 as_read : {D C : Type 0} (log : Log D C) → to_z w64 (reserved_end log) ≡ pos (reserved_end log)

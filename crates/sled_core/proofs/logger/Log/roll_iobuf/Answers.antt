@@ -8,7 +8,7 @@ use Rattle.sled_core.specs.Causes.{FaultOrMemory}
 use Rattle.sled_core.specs.Begun.{SegmentView, begin_of}
 use Rattle.sled_core.specs.declared.iobuf.IoBuf.{IoBuf}
 use Rattle.sled_core.specs.Fits.{held_len}
-use Rattle.sled_core.proofs.Holds.KeptCalls.{kept_still}
+use Rattle.sled_core.proofs.Line.KeptCalls.{kept_still}
 use Rattle.sled_core.proofs.Line.Shows.{buffers_still}
 use Rattle.sled_core.proofs.logger.Log.roll_iobuf.Goals as goal
 

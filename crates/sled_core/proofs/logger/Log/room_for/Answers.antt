@@ -15,7 +15,7 @@ use Rattle.sled_core.specs.OpenPlaces.{open_manifests}
 use Rattle.sled_core.specs.SealedBuffers.{sealed_count}
 use Rattle.sled_core.specs.Turned.{HasRoomIn}
 use Rattle.sled_core.proofs.Line.Filling.{follow_in, follow_with, line_kept, read_last}
-use Rattle.sled_core.proofs.Line.Nth.{last_buffer_behind, last_buffer_set}
+use Rattle.sled_core.proofs.Holds.Nth.{last_buffer_behind, last_buffer_set}
 use Rattle.sled_core.proofs.Line.Outcomes.{on_both}
 use Rattle.sled_core.proofs.Reserve.OpenCounts.{first_there}
 use Rattle.sled_core.proofs.Pending.Segments.{still_ready}

@@ -12,7 +12,7 @@ use Rattle.sled_core.specs.OpenBatches.{AreByPlace, batch_of}
 use Rattle.sled_core.specs.OpenPlaces.{open_manifests}
 use Rattle.sled_core.specs.Turned.{CanClose}
 use Rattle.sled_core.proofs.Line.Filling.{follow_in, follow_with, line_kept, read_last}
-use Rattle.sled_core.proofs.Line.Nth.{last_buffer_set}
+use Rattle.sled_core.proofs.Holds.Nth.{last_buffer_set}
 use Rattle.sled_core.proofs.Pending.Segments.{still_ready}
 use Rattle.sled_core.proofs.logger.Log.room_to_close.Goals as goal
 

@@ -14,9 +14,9 @@ use Rattle.sled_core.specs.ReadyBuffers.{AreReady}
 use Rattle.sled_core.specs.SealedBuffers.{seal_at, sealed_count}
 use Rattle.sled_core.specs.Waiting.{at_last, holds_any, sealed_now}
 use Rattle.sled_core.proofs.Line.Entered.{filled_sealed}
-use Rattle.sled_core.proofs.Line.Facts.{current_facts}
+use Rattle.sled_core.proofs.Holds.Facts.{current_facts}
 use Rattle.sled_core.proofs.Line.Filling.{follow_in, follow_with, last_none, line_first, line_kept, line_last, read_last}
-use Rattle.sled_core.proofs.Line.Nth.{last_behind}
+use Rattle.sled_core.proofs.Holds.Nth.{last_behind}
 use Rattle.sled_core.proofs.Line.OpenManifests.{manifests_sealed}
 use Rattle.sled_core.proofs.Line.Outcomes.{all_err}
 use Rattle.sled_core.proofs.Pending.Logs.{seals_now, seals_ready}

@@ -6,8 +6,8 @@ use Rattle.sled_core.specs.Begun.{view_at}
 use Rattle.sled_core.specs.Fits.{line_of}
 use Rattle.sled_core.specs.declared.logger.Log.{Log}
 use Rattle.sled_core.specs.declared.logger.segments.SegmentBuffer.{SegmentBuffer}
-use Rattle.sled_core.proofs.Line.Facts.{IsSegment, nth_facts}
-use Rattle.sled_core.proofs.Line.Nth.{behind_get}
+use Rattle.sled_core.proofs.Holds.Facts.{IsSegment, nth_facts}
+use Rattle.sled_core.proofs.Holds.Nth.{behind_get}
 use Rattle.sled_core.proofs.logger.Log.segment.Goals as goal
 
 -- it is read twice, for where it lies and for its buffer

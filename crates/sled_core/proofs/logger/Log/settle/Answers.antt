@@ -12,7 +12,7 @@ use Rattle.sled_core.specs.declared.logger.Log.{Log}
 use Rattle.sled_core.specs.Fits.{current_begin, synced_end}
 use Rattle.sled_core.specs.ReadBuffer.{IsUsedUpAt, settling}
 use Rattle.sled_core.specs.Waiting.{BufferStart}
-use Rattle.sled_core.proofs.Holds.KeptCalls.{kept_further, kept_still, position_further, tickets_further}
+use Rattle.sled_core.proofs.Line.KeptCalls.{kept_further, kept_still, position_further, tickets_further}
 use Rattle.sled_core.proofs.Line.Advanced.{same_current}
 use Rattle.sled_core.proofs.Line.LogSpans.{same_buffers}
 use Rattle.sled_core.proofs.Line.Outcomes.{answers_used, on_err, seal_answers, seal_not_done, seal_not_held}

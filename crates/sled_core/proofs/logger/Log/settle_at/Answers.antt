@@ -9,7 +9,7 @@ use Rattle.sled_core.specs.Causes.{HeldAnswers, OnDone}
 use Rattle.sled_core.specs.Fits.{device_of, fault_of, reserved_end, synced_end}
 use Rattle.sled_core.specs.Fronts.{CameAround}
 use Rattle.sled_core.specs.ReadBuffer.{IsUsedUpAt, SealsAround, WritesAround, held_at, settling}
-use Rattle.sled_core.proofs.Holds.KeptCalls.{kept_still, position_still, tickets_still}
+use Rattle.sled_core.proofs.Line.KeptCalls.{kept_still, position_still, tickets_still}
 use Rattle.sled_core.proofs.Line.CameFar.{around_none, still_around}
 use Rattle.sled_core.proofs.Line.Reads.{above_zero, at_place, settle_answers}
 use Rattle.sled_core.proofs.logger.Log.settle_at.Given as given

@@ -39,7 +39,7 @@ use Rattle.sled_core.specs.Starts.{site_from}
 use Rattle.sled_core.specs.Waiting.{last_of, start_in, unwritten, unwritten_in}
 use Rattle.sled_core.specs.declared.iobuf.SegmentPosition.{SegmentPosition}
 use Rattle.sled_core.specs.Running.{Ready, Fits, FitsIn, FitsLine}
-use Rattle.sled_store.proofs.Segments.StartedFile.{started_file, started-log, started-snapshots, started-blobs}
+use Rattle.sled_store.proofs.Accounts.StartedFile.{started_file, started-log, started-snapshots, started-blobs}
 use Rattle.sled_core.proofs.Holds.FitsBatches.{batches_begun}
 use Rattle.sled_core.proofs.Logged.Messages.{logged_twice}
 use Rattle.sled_core.proofs.Logged.Names.{ready_alike}

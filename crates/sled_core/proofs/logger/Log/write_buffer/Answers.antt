@@ -31,7 +31,7 @@ use Rattle.sled_core.specs.SealedBuffers.{is_ready, written_at}
 use Rattle.sled_core.specs.Turned.{ChangesDevice, IsReadyIn, promoted, written_now}
 use Rattle.sled_core.specs.Waiting.{last_of}
 use Rattle.sled_core.proofs.Holds.StoredItems.{items_same}
-use Rattle.sled_core.proofs.Line.Facts.{nth_facts}
+use Rattle.sled_core.proofs.Holds.Facts.{nth_facts}
 use Rattle.sled_core.proofs.Line.Faulty.{fits_with_same, holds_with_same}
 use Rattle.sled_core.proofs.Line.LineEnds.{kept_same, noted_later, noted_same}
 use Rattle.sled_core.proofs.Line.LogWrites.{KeepsInvariants, crash_write, end_grows, fits_done, fits_failed, holds_done, holds_failed, keeps_invariants, line_after, line_left, names, noted_left, same_line, segments_written}

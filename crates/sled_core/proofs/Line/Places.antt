@@ -13,7 +13,7 @@ use Rattle.sled_core.specs.Causes.{HeldAnswers, OnDone}
 use Rattle.sled_core.specs.Fits.{holding_below, line_end, line_of, noted_in, reserved_end, stable_end, synced_end, writing_below}
 use Rattle.sled_core.specs.Stable.{StableAnswers, behind_place, held_for, stabilizing, target_for}
 use Rattle.sled_core.proofs.Line.Entered.{filled_last}
-use Rattle.sled_core.proofs.Line.Facts.{current_facts}
+use Rattle.sled_core.proofs.Holds.Facts.{current_facts}
 use Rattle.sled_core.proofs.Line.LineEnds.{behind_still}
 use Rattle.sled_core.proofs.Reached.StableBelow.{stable_low}
 

@@ -23,11 +23,11 @@ use Rattle.sled_core.specs.Recoverable.{LeavesRecoverable, NoHeaderOfZeros}
 use Rattle.sled_core.specs.Running.{FitsIn}
 use Rattle.sled_core.specs.SealedBuffers.{AreSealed, FirstUnwritten, Laid, sealed_end, now_written, written_at, run_end, run_count, behind_run, bytes_between, is_ready}
 use Rattle.sled_core.proofs.Reserve.Ranges.{there_split}
-use Rattle.sled_core.proofs.Flush.FirstWritten.{alone_first, ends_first, ends_full, full_first, last_low, last_up, last_whole, none_or_begun, plain_below, reaches_first, rest_batches, rise_in, segment_first, torn_first}
+use Rattle.sled_core.proofs.Behind.FirstWritten.{alone_first, ends_first, ends_full, full_first, last_low, last_up, last_whole, none_or_begun, plain_below, reaches_first, rest_batches, rise_in, segment_first, torn_first}
 use Rattle.sled_core.proofs.Flush.FlushLemmas.{holds_over, on_file}
-use Rattle.sled_core.proofs.Flush.SealedFile.{file_beside, stop_up}
+use Rattle.sled_core.proofs.Sealed.SealedFile.{file_beside, stop_up}
 use Rattle.sled_core.proofs.Reserve.RecordEnds.{none_between}
-use Rattle.sled_core.proofs.Flush.WriteFits.{along_behind, fits_behind}
+use Rattle.sled_core.proofs.Holds.WriteFits.{along_behind, fits_behind}
 use Rattle.sled_core.proofs.Holds.BehindKept.{others_written}
 use Rattle.sled_core.proofs.Reached.StandsTo.{StandsTo}
 use Rattle.sled_core.proofs.Sealed.BehindUnwritten.{torn_behind_unwritten}

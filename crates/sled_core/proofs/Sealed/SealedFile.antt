@@ -13,7 +13,7 @@ use Rattle.sled_core.specs.Buffers.{IsChain, completed_in, Stands}
 use Rattle.sled_core.specs.Fits.{HasMark}
 use Rattle.sled_core.specs.LogFile.{IsLogFile}
 use Rattle.sled_core.specs.SealedBuffers.{Agrees, AreSealed, Laid, now_written, run_end, run_count, bytes_between}
-use Rattle.sled_core.proofs.Flush.LogFileLemmas.{header_kept}
+use Rattle.sled_core.proofs.Tail.LogFileLemmas.{header_kept}
 use Rattle.sled_core.proofs.Flush.WrittenFile.{file_more}
 use Rattle.sled_core.proofs.Reached.BufferStands.{StandsOwn, own_in}
 use Rattle.sled_core.proofs.Reserve.Ranges.{chain_grows}

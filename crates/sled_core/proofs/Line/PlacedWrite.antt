@@ -19,7 +19,7 @@ use Rattle.sled_core.specs.Turned.{promoted, written_now}
 use Rattle.sled_core.proofs.Line.Ends.{with_part}
 use Rattle.sled_core.proofs.Line.Segments.{AreSegments, nth_segment}
 use Rattle.sled_core.proofs.Line.Writes.{buffer_begin, buffer_bytes, buffer_synced}
-use Rattle.sled_core.proofs.OwnLog.LogWritten.{begun, fits, own_left, some_bytes, twenty}
+use Rattle.sled_core.proofs.Line.LogWritten.{begun, fits, own_left, some_bytes, twenty}
 use Rattle.sled_core.proofs.OwnLog.Placed.{header_laid, headers_stay, record_laid, records_stay}
 use Rattle.sled_core.proofs.Reserve.Ranges.{at_there, chain_grows}
 

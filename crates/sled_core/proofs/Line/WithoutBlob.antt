@@ -15,7 +15,7 @@ use Rattle.sled_core.specs.Fits.{KeepsAll, device_of, fault_of, kept_batches}
 use Rattle.sled_core.specs.Keeps.{KeepsSeen, Preserves}
 use Rattle.sled_core.specs.OwnBlobs.{PreservesWithout, RemovedAnswers, RemovesBlob}
 use Rattle.sled_core.specs.Recoverable.{RecoverableIfOwn}
-use Rattle.sled_core.proofs.Holds.KeptCalls.{kept_still}
+use Rattle.sled_core.proofs.Line.KeptCalls.{kept_still}
 use Rattle.sled_core.proofs.Line.LineEnds.{noted_further}
 
 module _ {D C : Type 0} (trace : D → Trace) (sum : List ℕ → ℕ) where

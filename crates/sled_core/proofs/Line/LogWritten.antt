@@ -21,7 +21,7 @@ use Rattle.sled_core.specs.Recoverable.{NoHeaderOfZeros}
 use Rattle.sled_core.specs.SealedBuffers.{AreSealed, is_ready, written_at}
 use Rattle.sled_core.specs.Turned.{promoted, written_now}
 use Rattle.sled_core.proofs.Line.Ends.{with_part}
-use Rattle.sled_core.proofs.Line.Facts.{IsSegment}
+use Rattle.sled_core.proofs.Holds.Facts.{IsSegment}
 use Rattle.sled_core.proofs.Line.Segments.{AreSegments, by_front, full_unsealed, nth_segment, set_segment, written_segment, written_within}
 use Rattle.sled_core.proofs.Line.Writes.{buffer_begin, buffer_bytes, buffer_synced, holds_write, rises}
 use Rattle.sled_core.proofs.Line.WrittenSlots.{headers_line}

@@ -22,7 +22,7 @@ use Rattle.sled_core.specs.Reached.{StandsAmong}
 use Rattle.sled_core.specs.Recoverable.{LeavesRecoverable, NoBatchBegins, NoBatchEnds, NoHeaderOfZeros}
 use Rattle.sled_core.specs.Running.{BlobsFit, FitsIn, KeepsEntries, KeepsItems, NamesFit}
 use Rattle.sled_core.proofs.Blobs.StaysOwn.{own_same}
-use Rattle.sled_core.proofs.Flush.Padded.{padded_none}
+use Rattle.sled_core.proofs.Sealed.Padded.{padded_none}
 use Rattle.sled_core.proofs.Flush.Settled.{entries_higher, rests}
 use Rattle.sled_core.proofs.Holds.WholeHistory.{whole_ascends}
 use Rattle.sled_core.proofs.Reached.StandsTo.{StandsTo}

@@ -10,7 +10,7 @@ use Rattle.sled_core.specs.declared.logger.Log.{Log}
 use Rattle.sled_core.specs.declared.logger.segments.SegmentBuffer.{SegmentBuffer}
 use Rattle.sled_core.specs.Fits.{current_of, line_of}
 use Rattle.sled_core.specs.SealedBuffers.{AreSealed, FirstUnwritten, sealed_count}
-use Rattle.sled_core.proofs.Line.Nth.{last_get}
+use Rattle.sled_core.proofs.Holds.Nth.{last_get}
 
 -- A segment at a place: within its size and in reach, with its buffers and reservations one behind another.
 pub record IsSegment (size place : ℕ) (v : SegmentView) : Type 0 where

@@ -31,7 +31,7 @@ use Rattle.sled_core.proofs.Reserve.Entries.{some_long}
 use Rattle.sled_core.proofs.Reserve.Ranges.{chain_grows, completed-append, completed_between}
 use Rattle.sled_core.proofs.Flush.Completed.{all_apart, has_only, front_only}
 use Rattle.sled_core.proofs.Flush.FlushLemmas.{on_file}
-use Rattle.sled_core.proofs.Flush.SealedFile.{chain_done, first_file, stop_up}
+use Rattle.sled_core.proofs.Sealed.SealedFile.{chain_done, first_file, stop_up}
 use Rattle.sled_core.proofs.Holds.ReachLemmas.{written_before}
 use Rattle.sled_core.proofs.Holds.BatchLemmas.{same_batched, written_batched}
 use Rattle.sled_core.proofs.Holds.WholeHistory.{later_above, which_part, whole_ascends, whole_only}

@@ -13,7 +13,7 @@ use Rattle.sled_core.specs.OwnLog.{HasOwnSlot, IsOwnSegment, ReadsPlaced}
 use Rattle.sled_core.specs.Recoverable.{NoHeaderOfZeros, ReadsOnlyOwn}
 use Rattle.sled_core.specs.Running.{Fits, FitsWith}
 use Rattle.sled_core.proofs.Line.Ends.{line_holds, with_part}
-use Rattle.sled_core.proofs.Line.Facts.{IsSegment}
+use Rattle.sled_core.proofs.Holds.Facts.{IsSegment}
 use Rattle.sled_core.proofs.Line.Segments.{line_segments, nth_segment}
 use Rattle.sled_core.proofs.Line.WrittenSlots.{headers_line}
 use Rattle.sled_core.proofs.OwnLog.AllSlots.{all_slots, header_own, record_own}
