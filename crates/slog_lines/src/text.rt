@@ -110,169 +110,101 @@ fn value(digit: u8) -> Option<u8>
     }
 }
 
-/// Prints the line of a reply.
+/// Prints the line of a reply. It takes memory for the items of a page alone, so that a reply which says that memory was
+/// refused is printed without any.
 ///
 /// # Errors
 ///
-/// That of the writer, or `OutOfMemory` where memory for the line was refused; nothing is printed then.
+/// That of the writer, or `OutOfMemory` where memory for the items was refused; nothing is printed then.
 pub fn print<W: Write>(alloc: Global, writer: &mut W, reply: &Reply) -> io::Result<()> {
-    let mut line = Line {
-        text: String::new(alloc),
-        is_whole: true,
-    };
-    line.reply(alloc, reply);
-    line.push("\n");
-    line.print(writer)
+    match reply {
+        Reply::Opened {
+            stable,
+            active,
+            pages,
+        } => opened(writer, *stable, *active, *pages),
+        Reply::Reserved(ticket, place, pointer) => reserved(writer, *ticket, *place, *pointer),
+        Reply::Done(place, pointer) => done(writer, *place, *pointer),
+        Reply::Flushed(grown) => writeln!(writer, "flushed {grown}"),
+        Reply::Page(items) => page(alloc, writer, items),
+        Reply::Failed(e) => error(writer, e),
+        Reply::Refused(refusal) => writeln!(writer, "refused {}", word_of(*refusal)),
+        Reply::Written => writeln!(writer, "written"),
+        Reply::FreePage => writeln!(writer, "page free"),
+        Reply::Halted => writeln!(writer, "halted"),
+        Reply::Armed => writeln!(writer, "armed"),
+        Reply::Crashed(true) => writeln!(writer, "crashed"),
+        Reply::Crashed(false) => writeln!(writer, "crashed settled"),
+        Reply::Stopped => writeln!(writer, "stopped"),
+    }
 }
 
-// A line that is written piece by piece. It isn't whole where memory was refused for a piece.
-#[derive(Drop)]
-struct Line {
-    text: String,
-    is_whole: bool,
+// Prints what a recovery found, with a dash for what is missing.
+fn opened<W: Write>(
+    writer: &mut W,
+    stable: Option<Lsn>,
+    active: Option<LogOffset>,
+    pages: usize,
+) -> io::Result<()> {
+    match (stable, active) {
+        (Some(place), Some(slot)) => writeln!(writer, "opened {place} {slot} {pages}"),
+        (Some(place), None) => writeln!(writer, "opened {place} - {pages}"),
+        (None, Some(slot)) => writeln!(writer, "opened - {slot} {pages}"),
+        (None, None) => writeln!(writer, "opened - - {pages}"),
+    }
 }
 
-impl Line {
-    // Prints the line, where it is whole.
-    fn print<W: Write>(&self, writer: &mut W) -> io::Result<()> {
-        if self.is_whole {
-            writer.write_all(self.text.as_bytes())
-        } else {
-            Err(io::Error::from(io::ErrorKind::OutOfMemory))
+// Prints a ticket with its place, and where the message lies.
+fn reserved<W: Write>(
+    writer: &mut W,
+    ticket: usize,
+    place: Lsn,
+    pointer: DiskPtr,
+) -> io::Result<()> {
+    match pointer {
+        DiskPtr::Inline(lid) => writeln!(writer, "reserved {ticket} {place} I:{lid}"),
+        DiskPtr::Blob(lid, blob) => writeln!(writer, "reserved {ticket} {place} B:{lid}:{blob}"),
+    }
+}
+
+// Prints the place of a message that is ended, and where it lies.
+fn done<W: Write>(writer: &mut W, place: Lsn, pointer: DiskPtr) -> io::Result<()> {
+    match pointer {
+        DiskPtr::Inline(lid) => writeln!(writer, "done {place} I:{lid}"),
+        DiskPtr::Blob(lid, blob) => writeln!(writer, "done {place} B:{lid}:{blob}"),
+    }
+}
+
+// Prints the items of a page, as one text: nothing, where memory for that is refused.
+fn page<W: Write>(alloc: Global, writer: &mut W, items: &[Vec<u8>]) -> io::Result<()> {
+    let line = page_line(alloc, items)?;
+    writer.write_all(line.as_bytes())
+}
+
+// The line of a page.
+fn page_line(alloc: Global, items: &[Vec<u8>]) -> Result<String, AllocError> {
+    let mut line = String::from_str(alloc, "page")?;
+    for item in items {
+        push_item(alloc, &mut line, item)?;
+    }
+    line.push_str("\n")?;
+    Ok(line)
+}
+
+// Adds an item.
+fn push_item(alloc: Global, line: &mut String, item: &[u8]) -> Result<(), AllocError> {
+    let digits = hex(alloc, item)?;
+    line.push_str(" ")?;
+    line.push_str(&digits)
+}
+
+// Prints an error of the log.
+fn error<W: Write>(writer: &mut W, e: &Error) -> io::Result<()> {
+    match e {
+        Error::Held(place) | Error::NotReserved(place) => {
+            writeln!(writer, "error{} {place}", word_of_error(e))
         }
-    }
-
-    // Adds a piece.
-    fn push(&mut self, piece: &str) {
-        let is_written = self.text.push_str(piece).is_ok();
-        self.is_whole &= is_written;
-    }
-
-    // Adds a number.
-    fn number(&mut self, n: u64) {
-        let is_written = write!(&mut self.text, "{n}").is_ok();
-        self.is_whole &= is_written;
-    }
-
-    // Adds a place.
-    fn place(&mut self, place: Lsn) {
-        let is_written = write!(&mut self.text, "{place}").is_ok();
-        self.is_whole &= is_written;
-    }
-
-    // Adds where a message lies.
-    fn pointer(&mut self, at: DiskPtr) {
-        match at {
-            DiskPtr::Inline(lid) => self.inline(lid),
-            DiskPtr::Blob(lid, place) => self.blob(lid, place),
-        }
-    }
-
-    fn inline(&mut self, lid: u64) {
-        self.push("I:");
-        self.number(lid);
-    }
-
-    fn blob(&mut self, lid: u64, place: Lsn) {
-        self.push("B:");
-        self.number(lid);
-        self.push(":");
-        self.place(place);
-    }
-
-    // Adds a place and a pointer.
-    fn spot(&mut self, place: Lsn, at: DiskPtr) {
-        self.place(place);
-        self.push(" ");
-        self.pointer(at);
-    }
-
-    // Adds bytes.
-    fn bytes(&mut self, alloc: Global, bytes: &[u8]) {
-        match hex(alloc, bytes) {
-            Ok(text) => self.push(&text),
-            Err(_) => self.is_whole = false,
-        }
-    }
-
-    // Adds a reply.
-    fn reply(&mut self, alloc: Global, reply: &Reply) {
-        match reply {
-            Reply::Opened {
-                stable,
-                active,
-                pages,
-            } => self.opened(*stable, *active, *pages),
-            Reply::Reserved(ticket, place, pointer) => self.reserved(*ticket, *place, *pointer),
-            Reply::Done(place, pointer) => self.done(*place, *pointer),
-            Reply::Written => self.push("written"),
-            Reply::Flushed(grown) => self.flushed(*grown),
-            Reply::Page(items) => self.page(alloc, items),
-            Reply::FreePage => self.push("page free"),
-            Reply::Halted => self.push("halted"),
-            Reply::Armed => self.push("armed"),
-            Reply::Crashed(true) => self.push("crashed"),
-            Reply::Crashed(false) => self.push("crashed settled"),
-            Reply::Failed(e) => self.error(e),
-            Reply::Stopped => self.push("stopped"),
-            Reply::Refused(refusal) => self.refused(*refusal),
-        }
-    }
-
-    // Adds what a recovery found, with a dash for what is missing.
-    fn opened(&mut self, stable: Option<Lsn>, active: Option<LogOffset>, pages: usize) {
-        self.push("opened ");
-        match stable {
-            Some(place) => self.place(place),
-            None => self.push("-"),
-        }
-        self.push(" ");
-        match active {
-            Some(slot) => self.number(slot),
-            None => self.push("-"),
-        }
-        self.push(" ");
-        self.number(pages as u64);
-    }
-
-    fn reserved(&mut self, ticket: usize, place: Lsn, at: DiskPtr) {
-        self.push("reserved ");
-        self.number(ticket as u64);
-        self.push(" ");
-        self.spot(place, at);
-    }
-
-    fn done(&mut self, place: Lsn, at: DiskPtr) {
-        self.push("done ");
-        self.spot(place, at);
-    }
-
-    fn flushed(&mut self, grown: usize) {
-        self.push("flushed ");
-        self.number(grown as u64);
-    }
-
-    fn page(&mut self, alloc: Global, items: &[Vec<u8>]) {
-        self.push("page");
-        for item in items {
-            self.push(" ");
-            self.bytes(alloc, item);
-        }
-    }
-
-    fn refused(&mut self, refusal: Refusal) {
-        self.push("refused ");
-        self.push(word_of(refusal));
-    }
-
-    // Adds an error of the log.
-    fn error(&mut self, e: &Error) {
-        self.push("error");
-        self.push(word_of_error(e));
-        match e {
-            Error::Held(place) | Error::NotReserved(place) => self.place(*place),
-            _ => {}
-        }
+        _ => writeln!(writer, "error{}", word_of_error(e)),
     }
 }
 
@@ -291,15 +223,15 @@ fn word_of(refusal: Refusal) -> &'static str {
     }
 }
 
-// The word of an error of the log. Those for users of the library alone come from no call of it.
+// The word of an error of the log, without its place. Those for users of the library alone come from no call of it.
 fn word_of_error(e: &Error) -> &'static str {
     match e {
         Error::Corruption { at: _ } => " corruption",
         Error::Unsupported(_) => " unsupported",
         Error::Io(_) => " io",
         Error::OutOfMemory => " memory",
-        Error::Held(_) => " held ",
-        Error::NotReserved(_) => " not-reserved ",
+        Error::Held(_) => " held",
+        Error::NotReserved(_) => " not-reserved",
         Error::PlacesUsedUp => " places",
         Error::CollectionNotFound(_) | Error::ReportableBug(_) => "",
     }
