@@ -5,7 +5,7 @@ use Rattle.sled_store.specs.Script.{after_all}
 use Rattle.sled_core.specs.declared.logger.Log.{Log}
 use Rattle.sled_core.specs.Fits.{device_of, fault_of, start_of, synced_end, waiting_of, writing_below}
 use Rattle.sled_core.specs.Keeps.{sealed_for, start_for}
-use Rattle.sled_core.specs.ReadBuffer.{LeavesSealed, LeavesUnsealed, LeavesWritten, settling}
+use Rattle.sled_core.specs.ReadBuffer.{LeavesSealed, LeavesUnsealed, LeavesWritten, held_at, settling}
 
 -- how many times the log file was synced
 abbrev pub syncs : Trace → ℕ
@@ -42,9 +42,10 @@ pub record SealedNone {D C : Type 0} (trace : D → Trace) (old new : Log D C) :
 abbrev pub CameTo : {D C : Type 0} → (D → Trace) → (List ℕ → ℕ) → ℕ → Log D C → Log D C → Type 0
 CameTo trace sum to old new = SealedNone trace old new ⊎ WroteFront trace sum to old new
 
--- How far a read of a place came: the buffer that has it was not sealed; or sealed, and not written; or written too, whole.
+-- How far a read of a place came: the buffer that has it was not sealed; or sealed, and not written; or written too, whole, as nothing held it up.
 abbrev pub CameAround : {D C : Type 0} → (D → Trace) → (List ℕ → ℕ) → ℕ → Log D C → Log D C → Type 0
 CameAround trace sum at old new =
     (LeavesUnsealed sum at old new × (trace (device_of new) ≡ trace (device_of old)))
     ⊎ (LeavesSealed sum at old new × WroteNone trace old new)
-    ⊎ (LeavesWritten sum at old new × (trace (device_of new) ≡ after_all (settling sum old (pos at)) (trace (device_of old))))
+    ⊎ (LeavesWritten sum at old new × (trace (device_of new) ≡ after_all (settling sum old (pos at)) (trace (device_of old)))
+        × (held_at sum old (pos at) ≡ None))

@@ -10,7 +10,6 @@ use Rattle.sled_codec.specs.Spelling.{short_bytes}
 use Rattle.sled_codec.specs.Snapshots.{SnapshotModel, stable_place}
 use Rattle.sled_codec.specs.History.{Batch, Batched, Completed, HistoryEvent, Message, Step, below}
 use Rattle.sled_store.specs.Device.{content_of, state_of}
-use Rattle.sled_store.specs.Moments.{IsLater}
 use Rattle.sled_core.specs.Good.{IsGood}
 use Rattle.sled_core.specs.Manifests.{manifest_page}
 use Rattle.sled_log.specs.declared.session.command.Command.{Command}
@@ -18,7 +17,7 @@ use Rattle.sled_log.specs.declared.session.command.Command.TheVariants as comman
 use Rattle.sled_log.specs.declared.session.command.Reply.{Reply}
 use Rattle.sled_log.specs.declared.session.command.Reply.TheVariants as reply
 use Rattle.sled_log.specs.OpenSteps.{IsShown, IsStartCause}
-use Rattle.sled_log.specs.Runs.{IsOwn}
+use Rattle.sled_log.specs.Runs.{Carries}
 use Rattle.sled_log.specs.RunStates.{HasAll, RunState, page_now, tickets_of}
 use Rattle.sled_log.specs.TicketSteps.{blank_manifest}
 
@@ -68,11 +67,12 @@ Moves sum size p command.Open (reply.Failed e) q =
 Moves sum size p command.Open reply.Stopped q = IsTrue q.device.is_stopped × (Stays p q ⊎ ((s : SnapshotModel) × Restores sum size p s q))
 Moves sum size p c r q = Stays p q
 
--- The commands are answered one behind another, each from where the one before led to, on the same device, as long as a recovery reads and a crash leaves
--- only what the log itself wrote; and what is claimed of the end holds.
-unfoldable pub Recovers : (List ℕ → ℕ) → ℕ → RunState → List Command → List Reply → (RunState → Type 0) → Type 0
-Recovers sum size p [] [] End = End p
-Recovers sum size p (c ∷ cs) (r ∷ rs) End = IsOwn sum size (state_of p.device.trace) c r
-    → (q : RunState) × IsLater p.device.trace q.device.trace × Moves sum size p c r q × Recovers sum size q cs rs End
-Recovers sum size p [] (r ∷ rs) End = ⊥
-Recovers sum size p (c ∷ cs) [] End = ⊥
+-- The commands are answered one behind another, each from where the one before led to: `Carries` says of log and device which place that is, and this what it
+-- means. What is claimed of each place between two commands holds there, and what is claimed of the end. All behind a command holds as long as a recovery reads
+-- and a crash leaves only what the log itself wrote.
+unfoldable pub Recovers : (List ℕ → ℕ) → ℕ → (RunState → Type 0) → RunState → List Command → List Reply → (RunState → Type 0) → Type 0
+Recovers sum size Between p [] [] End = End p
+Recovers sum size Between p (c ∷ cs) (r ∷ rs) End =
+    Carries sum size p c r (λ q. Between q × Moves sum size p c r q × Recovers sum size Between q cs rs End)
+Recovers sum size Between p [] (r ∷ rs) End = ⊥
+Recovers sum size Between p (c ∷ cs) [] End = ⊥

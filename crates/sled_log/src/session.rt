@@ -76,8 +76,8 @@ impl<D: CrashDevice, C: Checksum> Session<D, C> {
             let size = segment_size_in self.old in (a : RunState) → StandsAt view C.sum_of self.old a → IfOk result (λ replies.
             Runs C.sum_of size (SomeStands D C view C.sum_of size) a commands.now replies.items (StandsAt view C.sum_of self.new)) }
         ensures recovers { let view = view_by D.trace D.faults D.is_stopped in
-            (a : RunState) → StandsAt view C.sum_of self.old a → IfOk result (λ replies.
-            Recovers C.sum_of (segment_size_in self.old) a commands.now replies.items (StandsAt view C.sum_of self.new)) }
+            let size = segment_size_in self.old in (a : RunState) → StandsAt view C.sum_of self.old a → IfOk result (λ replies.
+            Recovers C.sum_of size (SomeStands D C view C.sum_of size) a commands.now replies.items (StandsAt view C.sum_of self.new)) }
         ensures devices { let view = view_by D.trace D.faults D.is_stopped in
             (on : Bool) (device : DeviceView) → StandsOver view self.old on device → IfOk result (λ replies.
             Devices C.sum_of (segment_size_in self.old) on device commands.now replies.items (StandsOver view self.new)) }

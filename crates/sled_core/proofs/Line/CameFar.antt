@@ -1,5 +1,5 @@
 -- A call that writes buffers and fails: as many are gone as it synced, and unless the device failed each of them was written whole.
-use Rattle.std.proofs.Common.{◌≡◌, ◌∙◌, ◌⊎◌, ◌≤◌, ◌<◌, ◌≤ℤ◌, ◌<ℤ◌, ◌*◌, ap, sym, refl, arith, inl, inr, ℕ, ℤ, pos, Bool, false, nat_lt, if◌then◌else◌, List, ◌∷◌, ◌++◌, take, drop, Result, Ok, Err, OnErr}
+use Rattle.std.proofs.Common.{◌≡◌, ◌∙◌, ◌⊎◌, ◌≤◌, ◌<◌, ◌≤ℤ◌, ◌<ℤ◌, ◌*◌, ap, sym, refl, arith, inl, inr, ℕ, ℤ, pos, Bool, false, nat_lt, if◌then◌else◌, List, ◌∷◌, ◌++◌, take, drop, None, Result, Ok, Err, OnErr}
 use Rattle.std.specs.Prelude.{unsigned_abs}
 use Rattle.std.specs.declared.io.Error.{Error as IoError}
 use Rattle.std.proofs.Math.Seq.{take-append_seam}
@@ -14,7 +14,7 @@ use Rattle.sled_core.specs.declared.logger.Log.{Log}
 use Rattle.sled_core.specs.Fits.{buffers_of, current_begin, device_of, start_of, synced_end, waiting_of, writing_below}
 use Rattle.sled_core.specs.Fronts.{CameAround, WroteFront, WroteNone, syncs}
 use Rattle.sled_core.specs.Keeps.{LeavesSome, start_sealed}
-use Rattle.sled_core.specs.ReadBuffer.{SealsAround, WritesAround, settling}
+use Rattle.sled_core.specs.ReadBuffer.{SealsAround, WritesAround, held_at, settling}
 use Rattle.sled_core.specs.Waiting.{writes_below}
 use Rattle.sled_core.proofs.Line.Advanced.{Advanced, first_view, views_behind}
 use Rattle.sled_core.proofs.Line.Current.{current_writes}
@@ -78,13 +78,13 @@ on_err_both (Err e) A B P f a b = f a b
 module _ {D C : Type 0} (trace : D → Trace) (sum : List ℕ → ℕ) (old mid new : Log D C) where
   -- Its place was on the device, or is, and then its record wasn't read.
   pub came_behind : {T T' : Type 0} (lsn : ℤ) (x : T) (r : Result T' Error) → WritesAround {T = T} sum (Ok x) lsn old mid → trace (device_of mid) ≡ after_all (settling sum old lsn) (trace (device_of old))
-      → (lsn <ℤ pos (synced_end old) → trace (device_of mid) ≡ trace (device_of old)) → waiting_of new ≡ waiting_of mid → start_of new ≡ start_of mid → trace (device_of new) ≡ trace (device_of mid) → OnErr r (CameAround trace sum (unsigned_abs lsn) old new)
-  came_behind lsn x (Ok y) writes made still waiting start same = tt
-  came_behind lsn x (Err e) writes made still waiting start same = elim (or_beyond (pos (synced_end old)) lsn) [
+      → held_at sum old lsn ≡ None → (lsn <ℤ pos (synced_end old) → trace (device_of mid) ≡ trace (device_of old)) → waiting_of new ≡ waiting_of mid → start_of new ≡ start_of mid → trace (device_of new) ≡ trace (device_of mid) → OnErr r (CameAround trace sum (unsigned_abs lsn) old new)
+  came_behind lsn x (Ok y) writes made free still waiting start same = tt
+  came_behind lsn x (Err e) writes made free still waiting start same = elim (or_beyond (pos (synced_end old)) lsn) [
     | inl behind ↦ (
         let above : pos 0 ≤ℤ lsn = omega (arith, ints, behind) in
         let at : pos (unsigned_abs lsn) ≡ lsn = omega (arith, ints, above) in
-        inr (inr ((waiting ∙ (writes.written behind).0, start ∙ (writes.written behind).1), same ∙ made ∙ ap (λ z. after_all (settling sum old z) (trace (device_of old))) (sym at))))
+        inr (inr ((waiting ∙ (writes.written behind).0, start ∙ (writes.written behind).1), same ∙ made ∙ ap (λ z. after_all (settling sum old z) (trace (device_of old))) (sym at), ap (held_at sum old) at ∙ free)))
     | inr below ↦ inl ((waiting ∙ (writes.still below).0, start ∙ (writes.still below).1), same ∙ still below)
   ]
 

@@ -264,7 +264,7 @@ module _ (sum : List ℕ → ℕ) (size : ℕ) (device : DeviceView) (H : Histor
     fails_at : (o : LogView) → o.tickets ≡ l.tickets → (at : ℕ) (e : Error) (old new : DeviceView) (b : RunState) → FailsAt sum size a o at e old new b → Stays a b × Led a new b
     fails_at o is at e old new b step = elim step.came [
       | inl some ↦ elim some.1 [ inl none ↦ keeps (Some l) _ new b none (inl is) | inr sealed ↦ keeps (Some l) _ new b sealed (inl is) ]
-      | inr written ↦ keeps (Some l) _ new b written.1 (inl is)
+      | inr written ↦ keeps (Some l) _ new b written.2 (inl is)
     ]
 
     read : (ms : List Message) (r : Reply) (new : DeviceView) (b : RunState) → ReadStep sum size a l ms r new b → Stays a b × Led a new b
@@ -332,33 +332,27 @@ module _ (sum : List ℕ → ℕ) (size : ℕ) where
       (subst (λ (r : Reply). Moves sum size a c r b) is moves.0) in
       (tells (λ r. Moves sum size a c r b) new.is_stopped came moves.0 stops, moves.1)
 
-  later : (a : RunState) (new : DeviceView) (b : RunState) → IsLater a.device.trace new.trace → Led a new b → IsLater a.device.trace b.device.trace
-  later a new b on (inl same) = subst (λ (x : RunState). IsLater a.device.trace x.device.trace) (sym same) ([], refl)
-  later a new b on (inr is) = subst (λ (d : DeviceView). IsLater a.device.trace d.trace) (sym is) on
-
-  own_told : (s : State) (c : Command) (b : Bool) (came : Reply) → IsOwn sum size s c (told b came) → IsOwn sum size s c came
-  own_told s command.Open b came own = own
-  own_told s (command.Crash choice) true (reply.Crashed taken) own = own
-  own_told s (command.Crash choice) false (reply.Crashed taken) own = own
-  own_told s (command.Crash choice) b came own = tt
-  own_told s _ b came own = tt
-
   -- So a run comes to what the headline says.
   pub recovers : {D C : Type 0} (view : D → DeviceView) (Leads : RunState → Type 0) → (a : RunState) (cs : List Command) (rs : List Reply) → SomeStands D C view sum size a → Runs sum size (SomeStands D C view sum size) a cs rs Leads
-      → Recovers sum size a cs rs Leads
+      → Recovers sum size (SomeStands D C view sum size) a cs rs Leads
   unfolding Runs Recovers
   recovers view Leads a [] [] at runs = runs
-  recovers view Leads a (c ∷ cs) (r ∷ rs) at runs = λ own.
-      let came : Reply = runs.came in
-      let new : DeviceView = runs.new in
+  recovers view Leads a (c ∷ cs) (r ∷ rs) at runs =
       let b : RunState = runs.after in
-      let its = own_told (state_of a.device.trace) c new.is_stopped came (subst (IsOwn sum size (state_of a.device.trace) c) runs.is_told own) in
-      let leads = runs.leads its in
-      let moves = answered a c came new b (known view sum at.0 a at.2) its runs.step in (
-        b,
-        later a new b runs.later moves.1,
-        subst (λ (x : Reply). Moves sum size a c x b) (sym runs.is_told) moves.0,
-        recovers view Leads b cs rs leads.0 leads.1,
-      )
+      record {
+        refused = runs.refused;
+        new = runs.new;
+        came = runs.came;
+        is_told = runs.is_told;
+        later = runs.later;
+        stops = runs.stops;
+        after = b;
+        step = runs.step;
+        own = runs.own;
+        leads = λ own.
+            let leads = runs.leads own in
+            let moves = answered a c runs.came runs.new b (known view sum at.0 a at.2) own runs.step in
+            (leads.0, subst (λ (x : Reply). Moves sum size a c x b) (sym runs.is_told) moves.0, recovers view Leads b cs rs leads.0 leads.1);
+      }
   recovers view Leads a [] (r ∷ rs) at runs = absurd runs
   recovers view Leads a (c ∷ cs) [] at runs = absurd runs

@@ -299,6 +299,7 @@ module _ {D C : Type 0} (view : D → DeviceView) (sum : List ℕ → ℕ) (old 
             inr (ap over_it (leaves (sealed_around at before) (start_around at before) (fault_of new) (ap spans sealed.0.0 ∙ seen_so.are) (sealed.0.1 ∙ start_seen old sum at begun k of.read_below) refl)),
           )
           | inr (inr written) ↦ inr (
+            sym (holding_seen old sum at begun k of.read_below) ∙ written.2,
             record { buffers = sealed_at sum at old; shown = seen_so; made = written.1 ∙ ap (λ (es : List Event). after_all es old_view.trace) (calls_seen old sum at begun k of.read_below) },
             (ap over_it (leaves (spans_without at (sealed_around at before)) (start_around at before) (fault_of new)
                 (ap spans written.0.0 ∙ without_around_seen old sum at begun k of.read_below) (written.0.1 ∙ start_seen old sum at begun k of.read_below) refl)),

@@ -323,6 +323,7 @@ returns-clause-buffers g c =
       around_read place old mid sum c.read_settled.result new tt (subst (λ z. WritesAround {T = Unit {0}} sum (Ok tt) z old mid) at c.in_ok-settle_at.ensures.buffers.0) same.0 same.1 free (segment_same mid new c.read_settled.ensures.line),
       came_behind g.D.Device.trace sum old mid new place tt c.read_settled.result (subst (λ z. WritesAround {T = Unit {0}} sum (Ok tt) z old mid) at c.in_ok-settle_at.ensures.buffers.0)
           (subst (λ z. g.D.Device.trace (device_of mid) ≡ after_all (settling sum old z) (g.D.Device.trace (device_of old))) at c.in_ok-settle_at.ensures.calls)
+          (subst (λ z. held_at sum old z ≡ None) at c.in_ok-settle_at.ensures.answers.1.0)
           (λ below. ap (λ (l : Log g.row.D.Denot g.row.C.Denot). g.D.Device.trace l.config.device) (subst (λ z. z <ℤ pos (synced_end old) → mid ≡ old) at c.in_ok-settle_at.ensures.still below))
           same.0 same.1 c.read_settled.ensures.trace,
     )
