@@ -48,4 +48,4 @@ CameAround trace sum at old new =
     (LeavesUnsealed sum at old new × (trace (device_of new) ≡ trace (device_of old)))
     ⊎ (LeavesSealed sum at old new × WroteNone trace old new)
     ⊎ (LeavesWritten sum at old new × (trace (device_of new) ≡ after_all (settling sum old (pos at)) (trace (device_of old)))
-        × (held_at sum old (pos at) ≡ None))
+    × (held_at sum old (pos at) ≡ None))
