@@ -24,4 +24,5 @@ pub mod SafeItems
 pub mod SessionLemmas
 pub mod SpentTickets
 pub mod TicketsSeen
+pub mod Within
 pub mod Writing

@@ -3,6 +3,8 @@ use Rattle.std.specs.Prelude.{◌≡◌, ℕ, List, []}
 use Rattle.sled_codec.specs.History.{History}
 use Rattle.sled_codec.specs.Snapshots.{SnapshotModel}
 use Rattle.sled_store.specs.declared.config.RunningConfig.{RunningConfig}
+use Rattle.sled_store.specs.Moments.{LeavesOnly}
+use Rattle.sled_core.specs.Recoverable.{RecoverableIfOwn}
 use Rattle.sled_log.specs.declared.session.Phase.{Phase}
 use Rattle.sled_log.specs.declared.session.command.Reply.{Reply}
 use Rattle.sled_log.specs.declared.session.command.Reply.TheVariants as reply
@@ -19,6 +21,8 @@ pub record HasStartedAt {D C : Type 0} (view : D → DeviceView) (sum : List ℕ
     (k : Unstored) : Type 0 where
   pub log : log_in result.0 [] ≡ log_opened config.config.segment_size (length_of (view config.device)) s result.1
   pub at : IsAt (traces view) sum result.0 k
+  pub crash : LeavesOnly (RecoverableIfOwn sum config.config.segment_size k.history k.acknowledged k.floor) (view config.device).trace
+      (device_in view result.0).trace
   pub why : SaysWhy result.1 (view config.device).failures (device_in view result.0).failures
 
 abbrev pub Starts : {D C : Type 0} → (D → DeviceView) → (List ℕ → ℕ) → RunningConfig D C → SnapshotModel → Phase D C × Reply → Type 0

@@ -15,6 +15,7 @@ use Rattle.sled_log.specs.declared.session.command.Reply.TheVariants as reply
 use Rattle.sled_log.specs.Refusals.{is_busy, reason_of}
 use Rattle.sled_log.specs.RunPhases.{IsOpenAt, Unstored, device_in, seen, stands, traces}
 use Rattle.sled_log.specs.RunStates.{DeviceView, LogView, blob_in, is_present, page_now}
+use Rattle.sled_log.specs.Runs.{StaysRecoverable}
 use Rattle.sled_log.specs.TicketActs.{ReserveActs}
 use Rattle.sled_log.specs.TicketSteps.{ReserveStep}
 
@@ -55,6 +56,7 @@ pub record HasTried {D C : Type 0} (view : D → DeviceView) (sum : List ℕ →
   pub step : ReserveStep (segment_size_of old.log) (stands view (Open old) k) (seen old k.tickets) kind page bytes result (device_in view (Open new))
       (stands view (Open new) tickets)
   pub at : IsOpenAt (traces view) sum new tickets
+  pub crash : StaysRecoverable sum (segment_size_of old.log) (stands view (Open old) k) (device_in view (Open old)).trace (device_in view (Open new)).trace
 
 abbrev pub Reserves : {D C : Type 0} → (D → DeviceView) → (List ℕ → ℕ) → Opened D C → LogKind → ℕ → List ℕ → Opened D C → Reply → Type 0
 Reserves view sum old kind page bytes new result =

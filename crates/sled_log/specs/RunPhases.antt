@@ -28,7 +28,7 @@ use Rattle.sled_log.specs.Made.{IsMade, MayJoin}
 use Rattle.sled_log.specs.Refusals.{reason_of, refusal_for}
 use Rattle.sled_log.specs.RunStates.{DeviceView, LogView, RunState, ShowsActive, has_page, in_batch, open_messages, top}
 use Rattle.sled_log.specs.TicketSteps.{own_of}
-use Rattle.sled_log.specs.Runs.{Carries, IsOwn, IsStep}
+use Rattle.sled_log.specs.Runs.{Carries, IsOwn, IsStep, StaysWithin}
 
 -- What is seen of what code has.
 
@@ -160,13 +160,16 @@ abbrev pub IsAt : {D C : Type 0} → (D → Trace) → (List ℕ → ℕ) → Ph
 IsAt trace sum (Closed config) k = IsClosedAt sum config.config.segment_size (trace config.device) k
 IsAt trace sum (Open opened) k = IsOpenAt trace sum opened k
 
--- A command that isn't refused leads from a phase to the next one: what holds there holds again, unless what is foreign was read or left.
+-- A command that isn't refused leads from a phase to the next one: what holds there holds again, unless what is foreign was read or left, and at each moment
+-- on the way a crash leaves what can be recovered.
 pub record Does {D C : Type 0} (view : D → DeviceView) (sum : List ℕ → ℕ) (phase : Phase D C) (command : Command) (result : Phase D C × Reply)
     (k : Unstored) : Type 0 where
   pub not_refused : reason_of result.1 ≡ None
   pub next : Unstored
   pub step : IsStep sum (size_of phase) (stands view phase k) command result.1 (device_in view result.0) (stands view result.0 next)
   pub at : IsOwn sum (size_of phase) (state_of (device_in view phase).trace) command result.1 → IsAt (traces view) sum result.0 next
+  pub crash : IsOwn sum (size_of phase) (state_of (device_in view phase).trace) command result.1
+      → StaysWithin sum (size_of phase) (stands view phase k) command (device_in view result.0) (stands view result.0 next)
 
 abbrev pub CarriesOut : {D C : Type 0} → (D → DeviceView) → (List ℕ → ℕ) → Phase D C → Command → Phase D C × Reply → Type 0
 CarriesOut view sum phase command result =

@@ -4,20 +4,21 @@
 -- and nothing is done then. Else it makes the calls of the device that are told here, and no others; it is answered what is told here; and it leads to where
 -- the run stands then, as is told here. An opening fails only for a failure of the device or lack of memory, or where no further segment is in reach. Where it
 -- succeeds, its table is that of the completed messages below one cut, which passes all that was acknowledged, isn't below an earlier cut and splits no
--- batch; and what lies past the cut is forgotten. What is told of a recovery's table, and all that comes behind it, holds as long as only what the log itself
--- wrote passes as its own, in what a recovery reads and in what a crash leaves.
+-- batch; and what lies past the cut is forgotten. At each moment within a command, whether or not the list has a stop or a crash there, a crash leaves what
+-- can be recovered. What is told of this and of a recovery's table, and all that comes behind it, holds as long as only what the log itself wrote passes as
+-- its own, in what a recovery reads and in what a crash leaves.
 use Rattle.std.specs.Prelude.{◌≡◌, ◌↔◌, ◌∷◌, ℕ, if◌then◌else◌, Bool, true, false, IsTrue, List, [], Option, None, Some}
 use Rattle.sled_codec.specs.declared.result.Error.TheVariants.{Io, OutOfMemory}
 use Rattle.sled_codec.specs.declared.serialization.message.LogKind.TheVariants as does
 use Rattle.sled_codec.specs.Spelling.{short_bytes}
 use Rattle.sled_store.specs.declared.device.choice.Choice.{Choice}
-use Rattle.sled_store.specs.Device.{Left, State, StopAsked, Crashed, Settled, state_of, content_left}
+use Rattle.sled_store.specs.Device.{Left, State, Trace, StopAsked, Crashed, Settled, state_of, content_left}
 use Rattle.sled_store.specs.Chosen.{MayBeChosen}
-use Rattle.sled_store.specs.Moments.{IsLater}
+use Rattle.sled_store.specs.Moments.{IsLater, LeavesOnly}
 use Rattle.sled_store.specs.Noted.{left_of}
 use Rattle.sled_store.specs.Stops.{KeepsToStop}
 use Rattle.sled_core.specs.Manifests.{manifest_page}
-use Rattle.sled_core.specs.Recoverable.{NoForeign, ReadsOnlyOwn}
+use Rattle.sled_core.specs.Recoverable.{NoForeign, ReadsOnlyOwn, RecoverableIfOwn}
 use Rattle.sled_log.specs.declared.session.command.Command.{Command}
 use Rattle.sled_log.specs.declared.session.command.Command.TheVariants as command
 use Rattle.sled_log.specs.declared.session.command.Reply.{Reply}
@@ -105,9 +106,18 @@ module _ (sum : List ℕ → ℕ) (size : ℕ) where
   IsStep a c (reply.Refused w) new b = (new ≡ a.device) × (b ≡ a)
   IsStep a c r new b = StepBy a a.log c r new b
 
+  -- At each moment from one trace to another, what a crash leaves can be recovered, for where a run stands.
+  abbrev pub StaysRecoverable : RunState → Trace → Trace → Type 0
+  StaysRecoverable a old new = LeavesOnly (RecoverableIfOwn sum size a.history a.acknowledged a.floor) old new
+
+  -- So it is at each moment within a command, for where the run stood before it; within an opening up to some moment, and from then on for where that leads:
+  -- with what was completed below its cut for the history, and the cut for the floor.
+  abbrev pub StaysWithin : RunState → Command → DeviceView → RunState → Type 0
+  StaysWithin a command.Open new b = (mid : Trace) × StaysRecoverable a a.device.trace mid × StaysRecoverable b mid new.trace
+  StaysWithin a c new b = StaysRecoverable a a.device.trace new.trace
+
   -- A command was carried out from where a run stands, and told so: it is refused exactly where a reason fits, with the first one, and comes to a step.
-  -- Where it
-  -- reads or leaves nothing foreign, what is claimed of where that leads holds.
+  -- Where it reads or leaves nothing foreign, a crash at each moment within it leaves what can be recovered, and what is claimed of where it leads holds.
   pub record Carries (a : RunState) (c : Command) (r : Reply) (Leads : RunState → Type 0) : Type 0 where
     pub refused : reason_of r ≡ refusal_for a c
     pub new : DeviceView
@@ -117,6 +127,7 @@ module _ (sum : List ℕ → ℕ) (size : ℕ) where
     pub stops : KeepsToStop new.trace new.is_stopped
     pub after : RunState
     pub step : IsStep a c came new after
+    pub crash : IsOwn (state_of a.device.trace) c came → StaysWithin a c new after
     pub own : IsOwn (state_of a.device.trace) c came → KeepsOwn after
     pub leads : IsOwn (state_of a.device.trace) c came → Leads after
 

@@ -103,6 +103,7 @@ module _ {D C : Type 0} (view : D → DeviceView) (sum : List ℕ → ℕ) (old 
       next = tried.tickets;
       step = stepping sum size a (command.Replace page item) result now (stands view (Open new) tried.tickets) tried.not_refused (tried.acts, tried.step);
       at = λ own. tried.at;
+      crash = λ own. tried.crash;
     }
 
     pub link_does : (item : Vec ℕ Global) → HasTried view sum old does.Link page (short_bytes item.items) new result k → Does view sum (Open old) (command.Link page item) (Open new, result) k
@@ -111,6 +112,7 @@ module _ {D C : Type 0} (view : D → DeviceView) (sum : List ℕ → ℕ) (old 
       next = tried.tickets;
       step = stepping sum size a (command.Link page item) result now (stands view (Open new) tried.tickets) tried.not_refused (tried.acts, tried.step);
       at = λ own. tried.at;
+      crash = λ own. tried.crash;
     }
 
     -- that of a Free has no item
@@ -121,6 +123,7 @@ module _ {D C : Type 0} (view : D → DeviceView) (sum : List ℕ → ℕ) (old 
       step = stepping sum size a (command.Free page) result now (stands view (Open new) tried.tickets) tried.not_refused
           (alone sum size l does.Free page [] a.device result now (not_in_blob old.log 0 (let big = old.log.config.config.least in omega (arith, big))) tried.acts, tried.step);
       at = λ own. tried.at;
+      crash = λ own. tried.crash;
     }
 
 -- A manifest has its item in its record.
@@ -145,4 +148,5 @@ module _ {D C : Type 0} (view : D → DeviceView) (sum : List ℕ → ℕ) (old 
         step = stepping sum size a command.BeginBatch result now (stands view (Open new) tried.tickets) tried.not_refused
             (alone sum size (seen old k.tickets) does.Skip manifest_page blank_manifest a.device result now (manifest_inline old.log) tried.acts, tried.step);
         at = λ own. tried.at;
+        crash = λ own. tried.crash;
       }

@@ -12,7 +12,7 @@ use Rattle.sled_core.specs.declared.logger.Log.{Log}
 use Rattle.sled_core.specs.declared.reservation.Reservation.{Reservation}
 use Rattle.sled_core.specs.Batches.{EndsBatch, MayEndAt, NotesBatchOf, batch_for, with_batch_for}
 use Rattle.sled_core.specs.Causes.{FaultAnswers}
-use Rattle.sled_core.specs.Fits.{Awaits, KeepsBuffers, config_of, fault_of, noted_in, open_places, reserved_end}
+use Rattle.sled_core.specs.Fits.{Awaits, KeepsBuffers, config_of, device_of, fault_of, noted_in, open_places, reserved_end}
 use Rattle.sled_core.specs.Keeps.{SamePosition}
 use Rattle.sled_core.specs.Manifests.{is_manifest, manifest_page}
 use Rattle.sled_core.specs.OpenBatches.{with_batch}
@@ -33,6 +33,7 @@ use Rattle.sled_log.specs.RunStates.{DeviceView, LogView, in_batch, opens, place
 use Rattle.sled_log.specs.TicketSteps.{HasBegun, IsAnswerFor, batch_of, noting, spent}
 use Rattle.sled_log.proofs.Sessions.EndedTickets.{awaits_it, ended_open, failed_leads, failed_open, left, now, outstanding}
 use Rattle.sled_log.proofs.Sessions.MadeBatches.{joins_still, made_still, table_still}
+use Rattle.sled_log.proofs.Sessions.Within.{untouched}
 
 -- one less than a place that isn't the first
 one_less : (e : ℕ) → 0 < e → pos e -ℤ pos 1 ≡ pos (e - 1)
@@ -108,6 +109,7 @@ module _ {D C : Type 0} (view : D → DeviceView) (sum : List ℕ → ℕ) (old 
         next = left view sum old k at n m there mid ticket takes k.history;
         step = (ap (λ (y : Log D C). view (config_of y).device) is, (answers, (begun, failed_leads view sum old k at n m there mid ticket takes log mid.pages is pages x answers)));
         at = λ own. failed_open view sum old k at n m there mid ticket takes log mid.pages is pages x answers;
+        crash = λ own. untouched (traces view) sum old k at (traces view (device_of log)) (ap (λ (y : Log D C). traces view (device_of y)) is);
       }
   end_fails log T _ answers is = absurd answers
 
@@ -162,4 +164,5 @@ module _ {D C : Type 0} (view : D → DeviceView) (sum : List ℕ → ℕ) (old 
               (λ x ne may. joins_still k.history H' same x may)
               (λ x of ne was. absurd (ne (manifest ∙ sym of)))
               (subst (λ ms. All (λ x. x.place + x.size ≤ reserved_end old.log) ms) (sym same) at.ends);
+          crash = λ own. untouched (traces view) sum old k at (traces view (device_of log)) (ap (λ c. traces view c.device) notes.config);
         }

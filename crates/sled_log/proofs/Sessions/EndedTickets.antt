@@ -42,7 +42,7 @@ use Rattle.sled_log.specs.Made.{IsMade, MayJoin}
 use Rattle.sled_log.specs.Refusals.{when}
 use Rattle.sled_log.specs.RunPhases.{AreRising, BeginsBatch, Does, HasBatch, HasTickets, IsOpenAt, IsSafe, IsTicketFor, Unstored, device_in, seen, seen_log, stands, traces}
 use Rattle.sled_log.specs.RunStates.{DeviceView, RunState, has_message, has_ticket, open_messages, opens, places_without, top, with_log}
-use Rattle.sled_log.specs.Runs.{IsStep}
+use Rattle.sled_log.specs.Runs.{IsStep, StaysWithin}
 use Rattle.sled_log.specs.TicketActs.{RemoveActs, own_by}
 use Rattle.sled_log.specs.TicketSteps.{IsAnswerFor, own_of, spent}
 use Rattle.sled_log.proofs.Sessions.Endings.{one_there}
@@ -51,6 +51,7 @@ use Rattle.sled_log.proofs.Sessions.MadeTables.{page_of_replace, table_completed
 use Rattle.sled_log.proofs.Sessions.OpenApart.{all_beside, inline_none, none_there, ticket_beside}
 use Rattle.sled_log.proofs.Sessions.SpentTickets.{spent_places, spent_tickets, taken_out, ticket_there}
 use Rattle.sled_log.proofs.Sessions.TicketsSeen.{message_there}
+use Rattle.sled_log.proofs.Sessions.Within.{untouched}
 
 -- A ticket that may be ended is open.
 pub open_there : (stopped : Bool) (n : ℕ) (ts : List (Option Message)) → when (stopped && true) why.Stopped (when (not (has_ticket n ts)) why.Ticket None) ≡ None → (m : Message) × (slice_get ts n ≡ Some (Some m))
@@ -274,6 +275,7 @@ module _ {D C : Type 0} (view : D → DeviceView) (sum : List ℕ → ℕ) (old 
               },
             );
             at = λ own. kept_open x fault did.err.0 did.seen.noted did.position pages_are (did.keeps.fits k.history k.acknowledged k.floor at.unmarked at.fits beside_history);
+            crash = λ own. did.keeps.crash k.history k.acknowledged k.floor at.unmarked at.fits beside_history;
           }
       abort_fails T _ did pages_are = absurd did.answers
 
@@ -284,6 +286,7 @@ module _ {D C : Type 0} (view : D → DeviceView) (sum : List ℕ → ℕ) (old 
         next = left k.history;
         step = (ap (λ (y : Log D C). view (config_of y).device) is, (answers, failed_leads is pages_are x answers));
         at = λ own. failed_open is pages_are x answers;
+        crash = λ own. untouched (traces view) sum old k at (traces view (device_of log)) (ap (λ (y : Log D C). traces view (device_of y)) is);
       }
       complete_fails T _ answers is pages_are = absurd answers
 
@@ -352,6 +355,7 @@ module _ {D C : Type 0} (view : D → DeviceView) (sum : List ℕ → ℕ) (old 
               );
               at = λ own. ended_open same.pins position fault others safe opens_left k.history at.unmarked at.made (did.keeps.fits k.history k.acknowledged k.floor at.unmarked at.fits beside_history)
                   (subst (λ (ps : List Page). IsTable ps k.history top) (sym pages_are) at.table) (λ x ne may. may) (λ x of ne begun. begun_still same.noted x begun) at.ends;
+              crash = λ own. did.keeps.crash k.history k.acknowledged k.floor at.unmarked at.fits beside_history;
             }
 
         -- It comes to the history.
@@ -390,6 +394,7 @@ module _ {D C : Type 0} (view : D → DeviceView) (sum : List ℕ → ℕ) (old 
                   (all_from_in (λ x. x.place + x.size ≤ reserved_end old.log) H'.messages (λ x among. ⊎_elim
                   (λ is. subst (λ (z : Message). z.place + z.size ≤ reserved_end old.log) is had.ends)
                   (λ was. All-contains (λ z. z.place + z.size ≤ reserved_end old.log) k.history.messages x at.ends was) (came k.history H' m step x among)));
+              crash = λ own. untouched (traces view) sum old k at (traces view (device_of log)) (ap (λ c. traces view c.device) config);
             }
 
 -- Room for a page.
@@ -453,6 +458,7 @@ module _ {D C : Type 0} (view : D → DeviceView) (sum : List ℕ → ℕ) (old 
         next = did.next;
         step = subst (λ (z : ℕ × RunState). IsStep sum z.0 z.1 (command.Complete n) result.1 (device_in view result.0) (stands view result.0 did.next)) same did.step;
         at = λ own. did.at tt;
+        crash = λ own. subst (λ (z : ℕ × RunState). StaysWithin sum z.0 z.1 (command.Complete n) (device_in view result.0) (stands view result.0 did.next)) same (did.crash tt);
       }
 
   -- and where memory for it was refused nothing is done.
@@ -462,4 +468,5 @@ module _ {D C : Type 0} (view : D → DeviceView) (sum : List ℕ → ℕ) (old 
     next = k;
     step = (ap (λ (y : Log D C). view (config_of y).device) kept.log, (whole, room_stands));
     at = λ own. room_open at;
+    crash = λ own. untouched (traces view) sum old k at (traces view (device_of new.log)) (ap (λ (y : Log D C). traces view (device_of y)) kept.log);
   }

@@ -348,6 +348,7 @@ module _ (sum : List ℕ → ℕ) (size : ℕ) where
         stops = runs.stops;
         after = b;
         step = runs.step;
+        crash = runs.crash;
         own = runs.own;
         leads = λ own.
             let leads = runs.leads own in

@@ -25,7 +25,7 @@ use Rattle.sled_core.specs.Begun.{SegmentView}
 use Rattle.sled_core.specs.declared.logger.Log.{Log}
 use Rattle.sled_core.specs.declared.reservation.Reservation.{Reservation}
 use Rattle.sled_core.specs.Buffers.{pointer_as}
-use Rattle.sled_core.specs.Fits.{Awaits, AwaitsIn, FitsInline, IsUnchanged, blob_at, body_length, config_of, fault_of, in_blob, in_blob_of, message_for, noted_in, open_places, pins_of, reserved_end, segment_size_of, target_of}
+use Rattle.sled_core.specs.Fits.{Awaits, AwaitsIn, FitsInline, IsUnchanged, blob_at, body_length, config_of, device_of, fault_of, in_blob, in_blob_of, message_for, noted_in, open_places, pins_of, reserved_end, segment_size_of, target_of}
 use Rattle.sled_core.specs.Keeps.{KeepsSeen, Preserves}
 use Rattle.sled_core.specs.Logged.{in_log}
 use Rattle.sled_core.specs.Manifests.{kind_for, manifest_page}
@@ -47,12 +47,14 @@ use Rattle.sled_log.specs.Made.{JoinsWithBlob}
 use Rattle.sled_log.specs.Reservations.{HasTried, HoldsTicket, MakesRoom, MayReserve}
 use Rattle.sled_log.specs.RunPhases.{HasBatch, IsOpenAt, IsSafe, Unstored, device_in, seen, seen_log, stands, traces}
 use Rattle.sled_log.specs.RunStates.{DeviceView, LogView, RunState, has_page, open_messages, target_in, top}
+use Rattle.sled_log.specs.Runs.{StaysRecoverable}
 use Rattle.sled_log.specs.TicketActs.{BlobActs, ReserveActs, making_for}
 use Rattle.sled_log.specs.TicketSteps.{HasRecordPlace, RefusedStep, ReserveStep, own_in}
 use Rattle.sled_log.proofs.Sessions.KeptPlaces.{HasHeld, KeptPlace, held_manifest, held_message, over_log, with_ticket}
 use Rattle.sled_log.proofs.Sessions.ReservedPlaces.{beside_count, beside_least, body_fits, in_reach, out_of_reach, start_with_seen, waiting_seen}
 use Rattle.sled_log.proofs.Sessions.RunLemmas.{on_success}
 use Rattle.sled_log.proofs.Sessions.SafeItems.{safe_on}
+use Rattle.sled_log.proofs.Sessions.Within.{going_on, untouched}
 
 -- the last of these segments, of which there is one
 abbrev current_in : List SegmentView → SegmentView
@@ -220,6 +222,7 @@ module _ {D C : Type 0} (view : D → DeviceView) (sum : List ℕ → ℕ) (old 
         tickets = with_ticket k its;
         step = held.reserved;
         at = held.at;
+        crash = subst (λ (x : Log D C). StaysRecoverable sum (segment_size_of old.log) (stands view (phase.Open old) k) (traces view (device_of old.log)) (traces view (device_of x))) (sym holds.log) (going_on (traces view) sum old k at log came.keeps.goes_on);
       })
 
   -- A message of a page has a ticket then,
@@ -379,6 +382,7 @@ module _ {D C : Type 0} (view : D → DeviceView) (sum : List ℕ → ℕ) (old 
     tickets = k;
     step = inl (refused (stands view (phase.Open after) k) (unchanged_stands view old log k unchanged came.seen));
     at = still_at (traces view) sum old after k (unchanged_holds (traces view) sum old.log log unchanged came.keeps) refl refl (λ p. refl) refl at;
+    crash = going_on (traces view) sum old k at log came.keeps.goes_on;
   }
 
   -- with the log made ready
@@ -419,6 +423,7 @@ module _ {D C : Type 0} (view : D → DeviceView) (sum : List ℕ → ℕ) (old 
           },
         );
         at = still_at (traces view) sum old after k (ready_holds (traces view) sum old.log log page n made came.keeps) refl refl (λ p. refl) refl at;
+        crash = going_on (traces view) sum old k at log came.keeps.goes_on;
       }
 
   -- a device that failed, or a blob of that name
@@ -486,6 +491,7 @@ room_tried {D = D} {C = C} view sum old mid new kind page bytes result k room tr
       tickets = tried.tickets;
       step = by_room old mid (λ x begun. ReserveStep (segment_size_of x) (run x begun) (seen_log x begun k.tickets) kind page bytes result now (stands view (phase.Open new) tried.tickets)) room tried.step;
       at = tried.at;
+      crash = by_room old mid (λ x begun. StaysRecoverable sum (segment_size_of x) (run x begun) (view x.config.device).trace now.trace) room tried.crash;
     }
 
 -- the run stands where it stood
@@ -507,6 +513,7 @@ roomless_tried view sum old new kind page bytes k room whole at = record {
   tickets = k;
   step = inl (whole, room_stands view old new k room);
   at = room_at (traces view) sum old new k room at;
+  crash = untouched (traces view) sum old k at (traces view (device_of new.log)) (ap (λ x. traces view x.config.device) room.log);
 }
 
 -- The room that was made is there still, where the log keeps no failure.

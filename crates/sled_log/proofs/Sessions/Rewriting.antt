@@ -41,6 +41,7 @@ use Rattle.sled_log.proofs.Sessions.KeptPlaces.{KeptPlace, held_message, over_lo
 use Rattle.sled_log.proofs.Sessions.MadeHistories.{of_page_same}
 use Rattle.sled_log.proofs.Sessions.ReservedPlaces.{beside_least, out_of_reach}
 use Rattle.sled_log.proofs.Sessions.Reserving.{by_room, room_at, room_stands, still_at, unchanged_holds, unchanged_stands}
+use Rattle.sled_log.proofs.Sessions.Within.{untouched}
 
 -- only a Replace begins a page with something on it
 replace_kind : (k : LogKind) → is_replace k ≡ true → k ≡ does.Replace
@@ -130,8 +131,8 @@ pub record HasTriedAgain {D C : Type 0} (view : D → DeviceView) (sum : List �
   pub at : IsOpenAt (traces view) sum new tickets
 
 -- It is what the command comes to.
-pub rewrite_does : {D C : Type 0} (view : D → DeviceView) (sum : List ℕ → ℕ) (old : Opened D C) (page : ℕ) (new : Opened D C) (result : Reply) (k : Unstored) → HasTriedAgain view sum old page new result k → Does view sum (Open old) (command.Rewrite page) (Open new, result) k
-rewrite_does view sum old page new result k tried =
+pub rewrite_does : {D C : Type 0} (view : D → DeviceView) (sum : List ℕ → ℕ) (old : Opened D C) (page : ℕ) (new : Opened D C) (result : Reply) (k : Unstored) → IsOpenAt (traces view) sum old k → HasTriedAgain view sum old page new result k → Does view sum (Open old) (command.Rewrite page) (Open new, result) k
+rewrite_does view sum old page new result k at tried =
     let size : ℕ = segment_size_of old.log in
     let a : RunState = stands view (Open old) k in
     let now : DeviceView = device_in view (Open new) in
@@ -140,6 +141,7 @@ rewrite_does view sum old page new result k tried =
       next = tried.tickets;
       step = stepping sum size a (command.Rewrite page) result now (stands view (Open new) tried.tickets) tried.not_refused (tried.device, tried.step);
       at = λ own. tried.at;
+      crash = λ own. untouched (traces view) sum old k at now.trace (ap (λ (d : DeviceView). d.trace) tried.device);
     }
 
 -- Where it isn't refused, the page is one item in a blob and has no open ticket.

@@ -38,9 +38,10 @@ use Rattle.sled_log.specs.declared.session.command.Reply.TheVariants as reply
 use Rattle.sled_log.specs.Refusals.{reason_of, refusal_for, when}
 use Rattle.sled_log.specs.RunStates.{DeviceView, RunState}
 use Rattle.sled_log.specs.OpenSteps.{IsCause, IsStartCause}
-use Rattle.sled_log.specs.Runs.{Carries, IsOwn, IsStep, KeepsOwn, told}
+use Rattle.sled_log.specs.Runs.{Carries, IsOwn, IsStep, KeepsOwn, StaysRecoverable, StaysWithin, told}
 use Rattle.sled_log.specs.RunPhases.{AnswersIn, CarriesOut, Does, IsAt, IsClosedAt, IsOpenAt, RunsOn, StandsIn, Unstored, device_in, running, size_of, stands, traces}
 use Rattle.sled_log.proofs.Sessions.MadeHistories.{none_made}
+use Rattle.sled_log.proofs.Sessions.Within.{still_there, untouched}
 
 -- a place as code holds it
 pub place_back : (z : ℤ) (n : ℕ) → z ≡ pos n → n < 2 ^ 63 → pos n ≡ cast_signed w64 (cast_unsigned w64 z)
@@ -163,6 +164,7 @@ halted view sum opened config is = λ k at free. record {
   next = k;
   step = (ap (λ (x : RunningConfig _ _). view x.device) is, refl);
   at = λ own. subst (λ (x : RunningConfig _ _). IsClosedAt sum x.config.segment_size (traces view x.device) k) (sym is) (closed_at (traces view) sum opened k at);
+  crash = λ own. untouched (traces view) sum opened k at (traces view config.device) (ap (λ (x : RunningConfig _ _). traces view x.device) is);
 }
 
 -- A crash from any phase.
@@ -198,6 +200,17 @@ module _ {D C : Type 0} (view : D → DeviceView) (sum : List ℕ → ℕ) (from
       new : DeviceView
       new = device_in view result.0
 
+      owned : IsOwn sum (size_of from) (state_of (device_in view from).trace) (command.Crash choice) result.1 → IsOwn sum config.config.segment_size (state_of (view config.device).trace) (command.Crash copy) result.1
+      owned own =
+          let here : Own (size_of from) (device_in view from) (left_of choice) = subst (λ (r : Reply). IsOwn sum (size_of from) (state_of (device_in view from).trace) (command.Crash choice) r) told_is own in
+          let there : Own config.config.segment_size (view config.device) (left_of copy) =
+          subst (Own config.config.segment_size (view config.device)) (sym same) (subst (λ (d : DeviceView). Own config.config.segment_size d (left_of choice)) (sym from_device) (subst (λ n. Own n (device_in view from) (left_of choice)) (sym sizes) here)) in
+          subst (λ (r : Reply). IsOwn sum config.config.segment_size (state_of (view config.device).trace) (command.Crash copy) r) (sym told_is) there
+
+      leaves : (k : Unstored) → StaysRecoverable sum config.config.segment_size (stands view (phase.Closed config) k) (view config.device).trace new.trace → StaysRecoverable sum (size_of from) (stands view from k) (device_in view from).trace new.trace
+      leaves k stays = subst (λ (d : DeviceView). StaysRecoverable sum (size_of from) (stands view from k) d.trace new.trace) from_device
+          (subst (λ n. StaysRecoverable sum n (stands view from k) (view config.device).trace new.trace) sizes stays)
+
       by : (k : Unstored) → Does view sum (phase.Closed config) (command.Crash copy) result k → Does view sum from (command.Crash choice) result k
       by k does = let to : RunState = stands view result.0 does.next in record {
         not_refused = does.not_refused;
@@ -205,11 +218,8 @@ module _ {D C : Type 0} (view : D → DeviceView) (sum : List ℕ → ℕ) (from
         step = subst (λ (r : Reply). IsStep sum (size_of from) (stands view from k) (command.Crash choice) r new to) (sym told_is)
             (subst (λ (d : DeviceView). Crashes k to new d (left_of choice)) from_device (subst (Crashes k to new (view config.device)) same
             (subst (λ (r : Reply). IsStep sum config.config.segment_size (stands view (phase.Closed config) k) (command.Crash copy) r new to) told_is does.step)));
-        at = λ own.
-            let here : Own (size_of from) (device_in view from) (left_of choice) = subst (λ (r : Reply). IsOwn sum (size_of from) (state_of (device_in view from).trace) (command.Crash choice) r) told_is own in
-            let there : Own config.config.segment_size (view config.device) (left_of copy) =
-            subst (Own config.config.segment_size (view config.device)) (sym same) (subst (λ (d : DeviceView). Own config.config.segment_size d (left_of choice)) (sym from_device) (subst (λ n. Own n (device_in view from) (left_of choice)) (sym sizes) here)) in
-            does.at (subst (λ (r : Reply). IsOwn sum config.config.segment_size (state_of (view config.device).trace) (command.Crash copy) r) (sym told_is) there);
+        at = λ own. does.at (owned own);
+        crash = λ own. leaves k (does.crash (owned own));
       }
 
 -- A command that is carried out is told, or it was refused.
@@ -218,6 +228,15 @@ module _ {D C : Type 0} (view : D → DeviceView) (sum : List ℕ → ℕ) (from
   phase_own : (phase : Phase D C) (k : Unstored) → IsAt (traces view) sum phase k → KeepsOwn sum (size_of phase) (stands view phase k)
   phase_own (phase.Closed config) k at = tt
   phase_own (phase.Open opened) k at = λ none. fits_reads_own (traces view) sum opened.log k.history k.acknowledged k.floor at.unmarked at.fits none at.zeros
+
+  -- Where nothing is done a crash leaves what it left.
+  here : (phase : Phase D C) (k : Unstored) → IsAt (traces view) sum phase k → StaysRecoverable sum (size_of phase) (stands view phase k) (device_in view phase).trace (device_in view phase).trace
+  here (phase.Closed config) k at = still_there sum config.config.segment_size k.history k.acknowledged k.floor (traces view config.device) (traces view config.device) at.left refl
+  here (phase.Open opened) k at = untouched (traces view) sum opened k at (traces view (device_of opened.log)) refl
+
+  refused_within : (k : Unstored) → IsAt (traces view) sum from k → (d : Command) → StaysWithin sum (size_of from) (stands view from k) d (device_in view from) (stands view from k)
+  refused_within k at command.Open = ((device_in view from).trace, here from k at, here from k at)
+  refused_within k at d = here from k at
 
   pub answered : (to : Phase D C) (came : Reply) → size_of to ≡ size_of from → CarriesOut view sum from c (to, came) → IsLater (device_in view from).trace (device_in view to).trace
       → KeepsToStop (device_in view to).trace (device_in view to).is_stopped → ((k : Unstored) → IsAt (traces view) sum from k → None ≡ refusal_for (stands view from k) c) → AnswersIn view sum from c (to, told (device_in view to).is_stopped came)
@@ -234,6 +253,7 @@ module _ {D C : Type 0} (view : D → DeviceView) (sum : List ℕ → ℕ) (from
         stops = stops;
         after = stands view to does.next;
         step = does.step;
+        crash = does.crash;
         own = λ own. subst (λ n. KeepsOwn sum n (stands view to does.next)) sizes (phase_own to does.next (does.at own));
         leads = λ own. (does.next, refl, does.at own);
       })
@@ -255,6 +275,7 @@ module _ {D C : Type 0} (view : D → DeviceView) (sum : List ℕ → ℕ) (from
         stops = stops;
         after = stands view from k;
         step = (refl, refl);
+        crash = λ own. refused_within k stands_in.2 c;
         own = λ own. phase_own from k stands_in.2;
         leads = λ own. (k, refl, stands_in.2);
       })

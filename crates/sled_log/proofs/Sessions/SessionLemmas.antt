@@ -54,6 +54,7 @@ carries_over sum size a c r over carries = record {
   later = carries.later;
   after = carries.after;
   step = carries.step;
+  crash = carries.crash;
   own = carries.own;
   leads = λ own. over carries.after (carries.leads own);
 }

@@ -11,12 +11,13 @@ use Rattle.sled_codec.specs.Snapshots.{SnapshotModel, model_of, stable_place}
 use Rattle.sled_store.specs.declared.config.Config.{Config}
 use Rattle.sled_store.specs.Blobs.{ItemAnswers}
 use Rattle.sled_store.specs.Device.{NamesSynced, Synced, Trace, state_of, content_of}
+use Rattle.sled_store.specs.Moments.{LeavesOnly}
 use Rattle.sled_store.specs.Script.{Performs}
 use Rattle.sled_store.proofs.Traces.MomentLemmas.{at_last}
 use Rattle.sled_store.proofs.Histories.Ascending.{all_from_in}
 use Rattle.sled_store.proofs.Traces.ScriptLemmas.{performs_whole}
 use Rattle.sled_core.specs.Good.{IsGood}
-use Rattle.sled_core.specs.Recoverable.{LeavesRecoverable, ReadsOnlyOwn}
+use Rattle.sled_core.specs.Recoverable.{LeavesRecoverable, ReadsOnlyOwn, RecoverableIfOwn}
 use Rattle.sled_core.proofs.Blobs.FirmContent.{read_recoverable}
 use Rattle.sled_core.specs.Running.{Ready}
 use Rattle.sled_log.specs.declared.session.command.Command.TheVariants as command
@@ -30,13 +31,14 @@ use Rattle.sled_log.specs.Refusals.{reason_of}
 use Rattle.sled_log.specs.Restores.{RecoveryCalls}
 use Rattle.sled_log.specs.RunPhases.{IsAt, IsClosedAt, IsRecoveredAt, Unstored, device_in, log_in, stands, view_by}
 use Rattle.sled_log.specs.RunStates.{DeviceView, RunState, ShowsActive, length_of, top}
-use Rattle.sled_log.specs.Runs.{IsStep}
+use Rattle.sled_log.specs.Runs.{IsStep, StaysRecoverable, StaysWithin}
 use Rattle.sled_log.proofs.Ready.Convertible.{read_of}
 use Rattle.sled_log.proofs.Recovers.ShownActive.{shows_active}
 use Rattle.sled_log.proofs.Sessions.MadeHistories.{from_below, made_below}
 use Rattle.sled_log.proofs.Sessions.MadeTables.{table_below}
 use Rattle.sled_log.proofs.Sessions.RunLemmas.{cause_of, runs_on_both}
 use Rattle.sled_log.proofs.Sessions.RunLogs.{start_good}
+use Rattle.sled_log.proofs.Sessions.Within.{still_there}
 use Rattle.sled_log.proofs.WriteBack.RecoveryLater.{recovery_later}
 use Rattle.sled_log.specs.Devices.{Touches}
 use Rattle.sled_log.proofs.session.opening.open.Goals as goal
@@ -89,7 +91,7 @@ returns-in-Ok-clause-step g c = λ k at free.
     let H' : History = below k.history cut in
     let l : Unstored = unreserved H' k.acknowledged cut in
     let b : RunState = stands view c.start.result.0 l in
-    let comes : ReadsOnlyOwn sum size (state_of old.trace) → GoesOnFrom sum size a mid s c.start.result.1 new b × IsAt trace sum c.start.result.0 l = λ own.
+    let comes : ReadsOnlyOwn sum size (state_of old.trace) → GoesOnFrom sum size a mid s c.start.result.1 new b × IsAt trace sum c.start.result.0 l × StaysWithin sum size a command.Open new b = λ own.
     let can : CanRecover sum size (state_of old.trace) k.history k.acknowledged k.floor = record { orderly = at.made.orderly; left = at.left; own = own } in
     let good = c.in-Ok.ensures.good k.history k.acknowledged k.floor can in
     let kept = c.in-Ok.ensures.kept k.history k.acknowledged k.floor can in
@@ -113,6 +115,11 @@ returns-in-Ok-clause-step g c = λ k at free.
         leads = λ i. record { device = new; history = H'; acknowledged = k.acknowledged; floor = cut; log = log i };
       },
       started.at,
+      (
+        mid.trace,
+        c.read_snapshot_or_default.ensures.recoverable k.history k.acknowledged k.floor can,
+        subst (λ n. StaysRecoverable sum n b mid.trace new.trace) sizes started.crash,
+      ),
     ) in
     record {
       not_refused = not_refused;
@@ -120,6 +127,7 @@ returns-in-Ok-clause-step g c = λ k at free.
       step = opens sum size old new k.history k.acknowledged k.floor c.start.result.1 b not_refused
           (record { opens = record { snapshot = s; mid = mid; recovers = has; starts = starts }; good = λ own. (comes own).0 });
       at = λ own. (comes own).1;
+      crash = λ own. (comes own).2;
     }
 
 pub returns-in-Ok-clause-on : goal.returns-in-Ok-clause-on
@@ -150,6 +158,8 @@ returns-in-Err-clause-step g c = λ k at free.
     let new : Trace = trace c.read_snapshot_or_default.new.config.device in
     let can : ReadsOnlyOwn sum size (state_of old) → CanRecover sum size (state_of old) k.history k.acknowledged k.floor = λ own. record { orderly = at.made.orderly; left = at.left; own = own } in
     let sizes : c.read_snapshot_or_default.new.config.config.segment_size ≡ size = ap (λ (x : Config). x.segment_size) c.read_snapshot_or_default.ensures.config.config in
+    let recoverable : ReadsOnlyOwn sum size (state_of old) → LeavesOnly (RecoverableIfOwn sum size k.history k.acknowledged k.floor) old new = λ own.
+    c.read_snapshot_or_default.ensures.recoverable k.history k.acknowledged k.floor (can own) in
     record {
       not_refused = refl;
       next = k;
@@ -162,8 +172,9 @@ returns-in-Err-clause-step g c = λ k at free.
       at = λ own. record {
         made = at.made;
         left = subst (λ n. LeavesRecoverable sum n k.history k.acknowledged k.floor (state_of new)) (sym sizes)
-            (at_last (LeavesRecoverable sum size k.history k.acknowledged k.floor) old new (c.read_snapshot_or_default.ensures.recoverable k.history k.acknowledged k.floor (can own)));
+            (at_last (LeavesRecoverable sum size k.history k.acknowledged k.floor) old new (recoverable own));
       };
+      crash = λ own. (new, recoverable own, still_there sum size k.history k.acknowledged k.floor new new (at_last (LeavesRecoverable sum size k.history k.acknowledged k.floor) old new (recoverable own)) refl);
     }
 
 -- What an opening does to the device, whatever that has.

@@ -3,9 +3,11 @@ use Rattle.std.proofs.Common.{◌≡◌, ◌≤◌, ◌<◌, ◌+◌, ◌∙◌,
 use Rattle.std.proofs.lemmas.List.{length-map}
 use Rattle.sled_codec.specs.Snapshots.{SnapshotModel, model_of, stable_place}
 use Rattle.sled_store.specs.Device.{Trace, state_of}
+use Rattle.sled_store.specs.Moments.{LeavesOnly}
+use Rattle.sled_core.specs.declared.logger.Log.{Log}
 use Rattle.sled_store.proofs.Traces.MomentLemmas.{at_last}
 use Rattle.sled_core.specs.Fits.{fault_of, noted_in, open_places, pins_of, position_of, reserved_end, start_of, synced_end, waiting_of}
-use Rattle.sled_core.specs.Recoverable.{LeavesRecoverable}
+use Rattle.sled_core.specs.Recoverable.{LeavesRecoverable, RecoverableIfOwn}
 use Rattle.sled_core.specs.Waiting.{spans}
 use Rattle.sled_log.proofs.Sessions.RunLemmas.{start_cause}
 use Rattle.sled_log.proofs.Sessions.RunLogs.{starts_at}
@@ -68,6 +70,7 @@ returns-in-Ok-clause-starts g c = λ H A f at.
         };
         ends = subst (λ e. All (λ m. m.place + m.size ≤ e) H.messages) (sym end) at.ends;
       };
+      crash = subst (λ (x : Log _ _). LeavesOnly (RecoverableIfOwn sum size H A f) (trace c.args.config.device) (trace x.config.device)) (sym taken) (c.in-Ok.ensures.crash H A f at.ready);
       why = tt;
     }
 
@@ -86,5 +89,6 @@ returns-in-Err-clause-starts g c = λ H A f at.
         left = subst (λ n. LeavesRecoverable sum n H A f (state_of (trace c.in-Err.config.device))) (sym (ap (λ x. x.segment_size) c.in-Err.ensures.config.config))
             (at_last (LeavesRecoverable sum size H A f) old (trace c.in-Err.config.device) (c.in-Err.ensures.crash H A f at.ready));
       };
+      crash = c.in-Err.ensures.crash H A f at.ready;
       why = start_cause c.in-Err.e _ _ _ _ _ c.in-Err.ensures.answers starts;
     }

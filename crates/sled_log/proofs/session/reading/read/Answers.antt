@@ -7,6 +7,7 @@ use Rattle.sled_log.specs.Readings.{ReadsEntries}
 use Rattle.sled_log.specs.RunPhases.{view_by}
 use Rattle.sled_log.proofs.Sessions.MadePages.{page_free, page_not_nothing}
 use Rattle.sled_log.proofs.Sessions.Reading.{open_still, page_found, page_read}
+use Rattle.sled_log.proofs.Sessions.Within.{going_on, untouched}
 use Rattle.sled_log.proofs.session.reading.read.Goals as goal
 
 -- src/session/reading.rt:20:1
@@ -26,6 +27,7 @@ returns-in-Ok-clause-step g c = λ k at free.
       next = k;
       step = page_read view sum opened c.args.page k at new base frags (Ok c.in-Ok.items) has reads;
       at = λ own. open_still view sum opened c.args.page k at new base frags (Ok c.in-Ok.items) has reads;
+      crash = λ own. going_on g.D.Device.trace sum opened k at new reads.only.keeps.goes_on;
     }
 
 -- src/session/reading.rt:20:1
@@ -45,6 +47,7 @@ returns-in-Err-clause-step g c = λ k at free.
       next = k;
       step = page_read view sum opened c.args.page k at new base frags (Err c.in-Err.e) has reads;
       at = λ own. open_still view sum opened c.args.page k at new base frags (Err c.in-Err.e) has reads;
+      crash = λ own. going_on g.D.Device.trace sum opened k at new reads.only.keeps.goes_on;
     }
 
 -- src/session/reading.rt:20:1
@@ -60,6 +63,7 @@ returns-in-Free-clause-step g c = λ k at free.
       next = k;
       step = ((freed.message, freed.are, freed.frees), refl, refl);
       at = λ own. at;
+      crash = λ own. untouched g.D.Device.trace g.C.Checksum.sum_of opened k at _ refl;
     }
 
 -- src/session/reading.rt:20:1

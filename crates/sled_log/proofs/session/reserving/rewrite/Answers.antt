@@ -15,7 +15,7 @@ returns-then-is_err-clause-step g c = λ k at asked.
     let view = view_by g.D.Device.trace g.D.Device.faults g.D.CrashDevice.is_stopped in
     let old = c.args.opened.now in
     let mid = c.room_for.new.opened in
-    rewrite_does view g.C.Checksum.sum_of old c.args.page mid _ k
+    rewrite_does view g.C.Checksum.sum_of old c.args.page mid _ k at
     (roomless_again view g.C.Checksum.sum_of old mid k c.args.page c.room_for.ensures.room at
     (on_failure c.room_for.result _ (sym c.is_err.ensures.value ∙ c.if-is_err.true) c.room_for.ensures.whole))
 
@@ -39,7 +39,7 @@ returns-in-Ok-clause-step g c = λ k at asked.
     let mid = c.room_for.new.opened in
     let fits : SFits w64 c.in-Some.blob = search rules in
     let ticket = subst (λ z. (item : List ℕ) → Awaits c.rewrite_blob_pointer.new.self c.in-Ok.reservation (message_rewriting mid.log c.args.page z item)) (to_z-of_z w64 c.in-Some.blob fits) c.in-Ok.ensures.ticket in
-    rewrite_does view sum old c.args.page c.hold.new.opened c.hold.result k
+    rewrite_does view sum old c.args.page c.hold.new.opened c.hold.result k at
     (held_again view sum old mid k c.args.page c.room_for.ensures.room at c.rewrite_blob_pointer.new.self c.rewrite_blob_pointer.ensures.same c.rewrite_blob_pointer.ensures.keeps
     c.in-Some.blob (sym (c.blob_of.ensures k at) ∙ c.in-Some.is) c.in-Ok.reservation ticket c.in-Ok.ensures.own c.in-Ok.ensures.answers c.in-Ok.ensures.behind c.rewrite_blob_pointer.ensures.others
     c.hold.new.opened c.hold.result c.hold.ensures.held
@@ -53,6 +53,6 @@ returns-in-Err-clause-step g c = λ k at asked.
     let sum = g.C.Checksum.sum_of in
     let old = c.args.opened.now in
     let mid = c.room_for.new.opened in
-    rewrite_does view sum old c.args.page _ _ k
+    rewrite_does view sum old c.args.page _ _ k at
     (failed_again view sum old mid k c.args.page c.room_for.ensures.room at c.rewrite_blob_pointer.new.self c.rewrite_blob_pointer.ensures.same c.rewrite_blob_pointer.ensures.keeps
     c.in-Err.e c.in-Err.ensures.answers c.in-Err.ensures.err)

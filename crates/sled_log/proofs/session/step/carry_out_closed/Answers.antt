@@ -1,6 +1,6 @@
 use Rattle.std.proofs.Common.{ap, refl, subst, sym}
 use Rattle.sled_store.specs.declared.config.RunningConfig.{RunningConfig}
-use Rattle.sled_store.specs.Device.{state_of}
+use Rattle.sled_store.specs.Device.{StopAsked, state_of}
 use Rattle.sled_store.proofs.Traces.StopLemmas.{asked_later}
 use Rattle.sled_core.specs.Recoverable.{LeavesRecoverable}
 use Rattle.sled_log.specs.declared.session.Phase.TheVariants as phase
@@ -10,6 +10,7 @@ use Rattle.sled_log.specs.RunPhases.{view_by}
 use Rattle.sled_log.proofs.Sessions.Carried.{asked_going}
 use Rattle.sled_log.proofs.Sessions.RunLemmas.{carried}
 use Rattle.sled_log.proofs.Sessions.DeviceLemmas.{touched, touched_closed}
+use Rattle.sled_log.proofs.Sessions.Within.{one_more}
 use Rattle.sled_log.proofs.session.step.carry_out_closed.Goals as goal
 
 pub returns-in-Open-clause-step : goal.returns-in-Open-clause-step
@@ -36,6 +37,7 @@ returns-in-Stop-clause-step g c =
       next = k;
       step = (λ i. record { trace = asked i; failures = did.faults i; is_stopped = did.stopped i }, refl);
       at = λ own. record { made = at.made; left = subst (LeavesRecoverable g.C.Checksum.sum_of old.config.segment_size k.history k.acknowledged k.floor) (sym (ap state_of asked)) at.left };
+      crash = λ own. one_more g.C.Checksum.sum_of old.config.segment_size k.history k.acknowledged k.floor (view old.device).trace (view new.device).trace at.left (StopAsked c.in-Stop.n) asked at.left;
     })
 
 pub returns-in-Stop-clause-on : goal.returns-in-Stop-clause-on

@@ -3,6 +3,7 @@ use Rattle.sled_log.specs.declared.session.Phase.TheVariants as phase
 use Rattle.sled_log.specs.RunPhases.{view_by}
 use Rattle.sled_log.proofs.Sessions.RunLemmas.{crashed}
 use Rattle.sled_log.proofs.Sessions.DeviceLemmas.{touched_crash}
+use Rattle.sled_log.proofs.Sessions.Within.{still_there}
 use Rattle.sled_log.proofs.session.step.crash.Goals as goal
 
 pub returns-in-Ok-clause-step : goal.returns-in-Ok-clause-step
@@ -13,7 +14,13 @@ returns-in-Ok-clause-step g c =
 
 -- Without memory nothing is done.
 pub returns-in-Err-clause-step : goal.returns-in-Err-clause-step
-returns-in-Err-clause-step g c = λ k at free. record { not_refused = refl; next = k; step = (refl, refl); at = λ own. at }
+returns-in-Err-clause-step g c = λ k at free. record {
+  not_refused = refl;
+  next = k;
+  step = (refl, refl);
+  at = λ own. at;
+  crash = λ own. still_there g.C.Checksum.sum_of c.args.config.config.segment_size k.history k.acknowledged k.floor (g.D.Device.trace c.args.config.device) _ at.left refl;
+}
 
 pub returns-in-Ok-clause-device : goal.returns-in-Ok-clause-device
 returns-in-Ok-clause-device g c =

@@ -1,7 +1,8 @@
-use Rattle.std.proofs.Common.{refl, if◌then◌else◌, []}
-use Rattle.sled_store.specs.Device.{Settled}
+use Rattle.std.proofs.Common.{refl, if◌then◌else◌, [], ◌∷◌}
+use Rattle.sled_store.specs.Device.{Crashed, Settled}
 use Rattle.sled_store.specs.Noted.{left_of}
 use Rattle.sled_log.proofs.Sessions.RunLemmas.{later_one, crash_recoverable, may_be_left}
+use Rattle.sled_log.proofs.Sessions.Within.{one_more}
 use Rattle.sled_log.proofs.session.step.crash_now.Goals as goal
 
 -- the crash left what was chosen, or what was settled, and a recovery can go on from either
@@ -23,6 +24,9 @@ returns-clause-step g c = λ k at free.
         left = crash_recoverable sum c.args.config.config.segment_size k.history k.acknowledged k.floor old new (if taken then left_of c.args.choice else Settled []) at.left left
             (may_be_left old c.args.choice taken c.crash-taken.ensures.taken.0) own;
       };
+      crash = λ own. one_more sum c.args.config.config.segment_size k.history k.acknowledged k.floor old new at.left (Crashed (if taken then left_of c.args.choice else Settled [])) left
+          (crash_recoverable sum c.args.config.config.segment_size k.history k.acknowledged k.floor old (Crashed (if taken then left_of c.args.choice else Settled []) ∷ old) (if taken then left_of c.args.choice else Settled []) at.left refl
+          (may_be_left old c.args.choice taken c.crash-taken.ensures.taken.0) own);
     }
 
 pub returns-clause-on : goal.returns-clause-on

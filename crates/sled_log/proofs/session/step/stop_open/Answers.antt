@@ -4,6 +4,7 @@ use Rattle.sled_core.specs.Waiting.{spans}
 use Rattle.sled_log.specs.RunPhases.{view_by}
 use Rattle.sled_log.proofs.Sessions.Carried.{asked_going}
 use Rattle.sled_log.proofs.Sessions.Writing.{still_open}
+use Rattle.sled_log.proofs.Sessions.Within.{going_on}
 use Rattle.sled_log.proofs.session.step.stop_open.Goals as goal
 
 pub returns-clause-step : goal.returns-clause-step
@@ -39,6 +40,7 @@ returns-clause-step g c = λ k at free.
         }),
       );
       at = λ own. still_open trace g.C.Checksum.sum_of opened new k k.acknowledged at did.tickets did.position (λ none. sym did.rest.fault ∙ none) did.keeps (did.keeps.fits k.history k.acknowledged k.floor at.unmarked at.fits);
+      crash = λ own. going_on trace g.C.Checksum.sum_of opened k at new did.keeps.goes_on;
     }
 
 pub returns-clause-device : goal.returns-clause-device

@@ -11,6 +11,7 @@ use Rattle.sled_log.specs.RunPhases.{seen, view_by}
 use Rattle.sled_log.specs.RunStates.{LogView}
 use Rattle.sled_log.specs.WriteSteps.{stable_from}
 use Rattle.sled_log.proofs.Sessions.Writing.{fails_to, flush_in, flush_out, has_written, holding_seen, if_held, keeps_failing, kept_or_none, some_reserved, stable_seen, stays_put, still_open, was_free, whole_of, why_of, writes_seen}
+use Rattle.sled_log.proofs.Sessions.Within.{going_on}
 use Rattle.sled_log.proofs.session.writing.flush.Goals as goal
 
 pub returns-in-Ok-clause-step : goal.returns-in-Ok-clause-step
@@ -50,6 +51,7 @@ returns-in-Ok-clause-step g c = λ k at free.
       };
       at = λ own. still_open trace sum opened new k reached at c.flush.ensures.tickets position (was_free old new c.flush.ensures.spares.faulty) c.flush.ensures.keeps
           (subst (λ n. Fits trace sum new H (max k.acknowledged (end_below n H)) k.floor at.unmarked) (sym c.in-Ok.ensures.synced.stable) (c.in-Ok.ensures.acknowledges H k.acknowledged k.floor at.unmarked at.fits));
+      crash = λ own. going_on trace sum opened k at new c.flush.ensures.keeps.goes_on;
     }
 
 -- a flush that failed changes nothing of the history
@@ -84,4 +86,5 @@ returns-in-Err-clause-step g c = λ k at free.
             (if_held ℕ c.in-Err.e _ _ (λ done. done ∙ ap (λ (es : List Event). after_all es (trace (device_of old))) (writes_seen old sum begun k.tickets to some)) c.in-Err.ensures.calls) c.in-Err.ensures.buffers.1)
       ];
       at = λ own. still_open trace sum opened new k k.acknowledged at c.flush.ensures.tickets position (was_free old new c.flush.ensures.spares.faulty) c.flush.ensures.keeps (c.flush.ensures.keeps.fits H k.acknowledged k.floor at.unmarked at.fits);
+      crash = λ own. going_on trace sum opened k at new c.flush.ensures.keeps.goes_on;
     }

@@ -15,6 +15,7 @@ use Rattle.sled_log.proofs.Sessions.MadeStable.{held_seen, some_known, stabilizi
 use Rattle.sled_log.specs.declared.session.Phase.TheVariants as phase
 use Rattle.sled_log.specs.declared.session.command.Command.TheVariants as told
 use Rattle.sled_log.specs.declared.session.command.Reply.TheVariants as reply
+use Rattle.sled_log.proofs.Sessions.Within.{going_on}
 use Rattle.sled_log.proofs.session.writing.stabilize.Goals as goal
 
 pub returns-in-Ok-clause-step : goal.returns-in-Ok-clause-step
@@ -50,6 +51,7 @@ returns-in-Ok-clause-step g c = λ k at free.
         subst (λ n. place <ℤ pos n) (stable_seen old sum begun k.tickets to some new (view old.config.device) (view new.config.device) H k.acknowledged k.floor put above) c.in-Ok.ensures.target,
       );
       at = λ own. still_open trace sum opened new k reached at c.make_stable.ensures.tickets position (was_free old new c.make_stable.ensures.spares.faulty) c.make_stable.ensures.keeps fits;
+      crash = λ own. going_on trace sum opened k at new c.make_stable.ensures.keeps.goes_on;
     } in
     subst (λ (z : ℤ). Does view sum (phase.Open opened) (told.Stable z) (phase.Open (over opened new), reply.Flushed c.in-Ok.more) k) (to_z-of_z w64 c.args.place c.ranges.place) done
 
@@ -72,5 +74,6 @@ returns-in-Err-clause-step g c = λ k at free.
       next = k;
       step = fails;
       at = λ own. still_open trace sum opened new k k.acknowledged at c.make_stable.ensures.tickets position (was_free old new c.make_stable.ensures.spares.faulty) c.make_stable.ensures.keeps (c.make_stable.ensures.keeps.fits k.history k.acknowledged k.floor at.unmarked at.fits);
+      crash = λ own. going_on trace sum opened k at new c.make_stable.ensures.keeps.goes_on;
     } in
     subst (λ (z : ℤ). Does view sum (phase.Open opened) (told.Stable z) (phase.Open (over opened new), reply.Failed c.in-Err.e) k) (to_z-of_z w64 c.args.place c.ranges.place) done

@@ -7,6 +7,7 @@ use Rattle.sled_log.specs.RunPhases.{seen, view_by}
 use Rattle.sled_log.specs.RunStates.{LogView, opens, pending_in_view, without_unheld}
 use Rattle.sled_log.specs.declared.session.command.Refusal.TheVariants as why
 use Rattle.sled_log.proofs.Sessions.Writing.{held_none, index_fits, keeps_failing, kept_or_none, leaves, never_held, pending_seen, shows_waiting, spared, stays_put, still_open, waiting_held, was_free, whole_of, why_of, without_seen}
+use Rattle.sled_log.proofs.Sessions.Within.{going_on}
 use Rattle.sled_log.proofs.session.writing.write.Goals as goal
 
 -- an index that isn't refused fits
@@ -40,6 +41,7 @@ returns-in-Ok-clause-step g c = λ k at free.
         leaves old sum (length opened.pages.items) k.tickets new (view old.config.device) (view new.config.device) k.history k.acknowledged k.floor (stays_put trace sum old new c.write_to_log.ensures.tickets c.write_to_log.ensures.position c.write_to_log.ensures.keeps) _ _ _ left c.write_to_log.ensures.start answers.1,
       );
       at = λ own. still_open trace sum opened new k k.acknowledged at c.write_to_log.ensures.tickets c.write_to_log.ensures.position (was_free old new c.write_to_log.ensures.faulty) c.write_to_log.ensures.keeps (c.write_to_log.ensures.keeps.fits k.history k.acknowledged k.floor at.unmarked at.fits);
+      crash = λ own. going_on trace sum opened k at new c.write_to_log.ensures.keeps.goes_on;
     }
 
 pub returns-in-Err-clause-step : goal.returns-in-Err-clause-step
@@ -82,4 +84,5 @@ returns-in-Err-clause-step g c = λ k at free.
         })
       ];
       at = λ own. still_open trace sum opened new k k.acknowledged at c.write_to_log.ensures.tickets c.write_to_log.ensures.position (was_free old new c.write_to_log.ensures.faulty) c.write_to_log.ensures.keeps (c.write_to_log.ensures.keeps.fits k.history k.acknowledged k.floor at.unmarked at.fits);
+      crash = λ own. going_on trace sum opened k at new c.write_to_log.ensures.keeps.goes_on;
     }
