@@ -7,7 +7,6 @@ use Rattle.sled_store.specs.Moments.{LeavesOnly}
 use Rattle.sled_core.specs.Recoverable.{RecoverableIfOwn}
 use Rattle.sled_log.specs.declared.session.Phase.{Phase}
 use Rattle.sled_log.specs.declared.session.command.Reply.{Reply}
-use Rattle.sled_log.specs.declared.session.command.Reply.TheVariants as reply
 use Rattle.sled_log.specs.RunPhases.{IsAt, IsRecoveredAt, Unstored, device_in, log_in, traces}
 use Rattle.sled_log.specs.RunStates.{DeviceView, length_of}
 use Rattle.sled_log.specs.OpenSteps.{SaysWhy, log_opened}

@@ -1,5 +1,5 @@
 -- Each buffer of a log that nothing holds up is whole records, each with its sum, and so is the current one as it would be sealed.
-use Rattle.std.proofs.Common.{◌≡◌, ◌≢◌, ◌∙◌, ◌⊎◌, ◌+◌, ◌-◌, ◌*◌, ◌/◌, ◌%◌, ◌≤◌, ◌<◌, ap, sym, refl, arith, subst, inl, inr, ℕ, ℤ, pos, zero, suc, max, nat_lt, Bool, true, false, if◌then◌else◌, List, [], ◌∷◌, ◌++◌, length, length-append, length-take, length-drop, map, take, drop, get_or, Option, None, Some}
+use Rattle.std.proofs.Common.{◌≡◌, ◌≢◌, ◌∙◌, ◌⊎◌, ◌+◌, ◌-◌, ◌*◌, ◌/◌, ◌%◌, ◌≤◌, ◌<◌, ap, sym, refl, arith, subst, inl, inr, ℕ, ℤ, pos, suc, max, Bool, true, false, if◌then◌else◌, List, [], ◌∷◌, ◌++◌, length, length-append, length-take, length-drop, take, drop, None, Some}
 use Rattle.std.specs.Prelude.{◌<ℤ◌}
 use Rattle.std.specs.List.{All, slice_get}
 use Rattle.std.proofs.lemmas.Bool.{cases_lt}
@@ -7,12 +7,12 @@ use Rattle.std.proofs.lemmas.List.{append_assoc, append-nil, drop-drop, drop-tak
 use Rattle.std.proofs.lemmas.List.Elements.{All-append, All-drop, All-head, All-cons, All-nil, All-tail, All-take}
 use Rattle.sled_codec.specs.declared.serialization.message.MessageKind.{MessageKind}
 use Rattle.sled_codec.specs.declared.serialization.message.MessageKind.TheVariants as kind
-use Rattle.sled_codec.specs.History.{History, Message}
+use Rattle.sled_codec.specs.History.{History}
 use Rattle.sled_codec.specs.Places.{part}
 use Rattle.sled_codec.specs.Record.{short_header, short_record}
 use Rattle.sled_store.specs.Device.{State, Trace, state_of}
-use Rattle.sled_core.specs.Begun.{SegmentView, begin_of, line_at, segment_view, view_at}
-use Rattle.sled_core.specs.Buffers.{HasText, IsChain, NoPadding, Stands, StandsBy, StandsReserved, body_in, first_open_in, none_open, open_state, padding_at, text_as, text_in}
+use Rattle.sled_core.specs.Begun.{SegmentView}
+use Rattle.sled_core.specs.Buffers.{IsChain, Stands, StandsBy, body_in, first_open_in, none_open, open_state, text_as, text_in}
 use Rattle.sled_core.specs.Caps.{segment_rest}
 use Rattle.sled_core.specs.declared.iobuf.ReservationState.{ReservationState}
 use Rattle.sled_core.specs.declared.iobuf.ReservationState.TheVariants as state
@@ -20,23 +20,22 @@ use Rattle.sled_core.specs.declared.iobuf.Reserved.{Reserved}
 use Rattle.sled_core.specs.declared.iobuf.Sealed.{Sealed}
 use Rattle.sled_core.specs.declared.iobuf.SegmentPosition.{SegmentPosition}
 use Rattle.sled_core.specs.declared.logger.Log.{Log}
-use Rattle.sled_core.specs.Fits.{Holds, HoldsLine, HoldsSegment, HoldsWith, buffers_of, fault_of, line_of, log_parts, noted_in, machine_at, segment_size_of}
+use Rattle.sled_core.specs.Fits.{Holds, HoldsLine, buffers_of, fault_of, line_of}
 use Rattle.sled_core.specs.Logged.{logged}
 use Rattle.sled_core.specs.Positions.{is_short}
 use Rattle.sled_core.specs.SealedBuffers.{AreSealed, bytes_between}
 use Rattle.sled_core.specs.Waiting.{BufferAt, as_sealed, at_last, buffer_at, closed_now, holds_any, placed, sealed_now, turned_now, unwritten, unwritten_in, unwritten_of}
-use Rattle.sled_core.specs.WholeBuffers.{IsFilling, IsHead, IsWholeBuffer, IsWholeText, RecordParts, records_text}
+use Rattle.sled_core.specs.WholeBuffers.{IsFilling, IsWholeBuffer, IsWholeText, RecordParts, records_text}
 use Rattle.sled_core.proofs.Line.Closes.{by_filled, filled_up, more_of}
 use Rattle.sled_core.proofs.Line.EndedTickets.{segment_chain}
 use Rattle.sled_core.proofs.Line.Ends.{with_part}
 use Rattle.sled_core.proofs.Holds.Facts.{IsSegment}
-use Rattle.sled_core.proofs.Line.OpenSeen.{AreLaid, IsLaid, begun_rest, line_laid}
+use Rattle.sled_core.proofs.Line.OpenSeen.{AreLaid, begun_rest, line_laid}
 use Rattle.sled_core.proofs.Line.Segments.{AreSegments, line_segments, nth_segment}
 use Rattle.sled_core.proofs.Line.Shows.{number_small}
 use Rattle.sled_core.proofs.Read.ScanLemmas.{aligned_number, aligned_offset}
 use Rattle.sled_core.proofs.Holds.Filled.{filled_stand}
 use Rattle.sled_core.proofs.Reserve.Ranges.{chain_grows}
-use Rattle.sled_core.proofs.Sealed.OneWritten.{length-between}
 
 -- The bytes of a text up to an offset, from another one on, are a part of it and those behind that.
 between_parted : (bytes : List ℕ) (at n end : ℕ) → at + n ≤ end → bytes_between bytes at end ≡ part bytes at n ++ bytes_between bytes (at + n) end

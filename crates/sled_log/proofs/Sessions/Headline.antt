@@ -14,8 +14,7 @@ use Rattle.sled_codec.specs.declared.serialization.message.LogKind.TheVariants a
 use Rattle.sled_codec.specs.Spelling.{short_bytes}
 use Rattle.sled_codec.specs.History.{Batched, Completed, History, HistoryEvent, Message, Step}
 use Rattle.sled_store.specs.declared.device.choice.Choice.{Choice}
-use Rattle.sled_store.specs.Device.{State, state_of}
-use Rattle.sled_store.specs.Moments.{IsLater}
+use Rattle.sled_store.specs.Device.{state_of}
 use Rattle.sled_core.specs.Fits.{reserved_end}
 use Rattle.sled_core.specs.Manifests.{manifest_page}
 use Rattle.sled_core.specs.Positions.{Position}

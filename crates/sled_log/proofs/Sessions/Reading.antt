@@ -50,7 +50,6 @@ use Rattle.sled_log.proofs.Sessions.MadePages.{page_present}
 use Rattle.sled_log.specs.Made.{HasBlobIn, IsMade}
 use Rattle.sled_log.specs.declared.session.Phase.TheVariants.{Open}
 use Rattle.sled_log.specs.declared.session.opened.Opened.{Opened}
-use Rattle.sled_log.specs.declared.session.command.Reply.TheVariants as reply
 use Rattle.sled_log.proofs.Sessions.Writing.{AreWhole, IsHeldBy, StaysPut, all_held, first_seen, flush_in, flush_out, if_held, next_start_seen, over, sealed_too, span_seen, still_open}
 use Rattle.sled_log.specs.Readings.{IsOfPage, IsRead, KeepsOpen, ReadsEntries, ReadsItem, page_told}
 use Rattle.sled_log.specs.RunPhases.{IsOpenAt, Unstored, seen, seen_log, stands, traces}

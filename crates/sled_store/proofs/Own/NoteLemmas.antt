@@ -7,7 +7,7 @@ use Rattle.sled_codec.specs.Places.{part}
 use Rattle.sled_store.specs.declared.device.foreign.LogNote.TheVariants.{Wrote, Settled}
 use Rattle.sled_store.specs.declared.device.foreign.LogNote.{LogNote}
 use Rattle.sled_store.specs.Device.{Placement}
-use Rattle.sled_store.specs.Foreign.{Covers, IsReached, IsWhole, HeaderWasPlaced, RecordWasPlaced, first_record}
+use Rattle.sled_store.specs.Foreign.{Covers, IsWhole, HeaderWasPlaced, RecordWasPlaced}
 use Rattle.sled_store.specs.OwnParts.{KnownPast, Lays, LaysRecord, noted, all_noted, nothing_known, log_of}
 use Rattle.sled_store.proofs.Crashes.StoodLemmas.{StandsIn, header_settled, header_before, header_stands, record_settled, record_before, record_stands}
 use Rattle.sled_store.proofs.Segments.FitLemmas.{take_one}

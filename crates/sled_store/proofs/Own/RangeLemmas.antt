@@ -1,6 +1,5 @@
 -- Ranges of a segment that are own, one behind another, are one that is; and a range stays own where its bytes stay, and what was own in it.
-use Rattle.std.proofs.Common.{◌≡◌, ◌≤◌, ◌<◌, ◌+◌, ℕ, max, List, length, take, refl, sym, subst, arith, inl, inr}
-use Rattle.std.proofs.lemmas.Bool.{cases_lt}
+use Rattle.std.proofs.Common.{◌≡◌, ◌≤◌, ◌<◌, ◌+◌, ℕ, max, List, length, take, sym, subst, arith, inl, inr}
 use Rattle.sled_codec.specs.Places.{part}
 use Rattle.sled_store.specs.Readers.{ReadsTo, Reads, IsOwnRange}
 use Rattle.sled_store.proofs.Own.ReaderLemmas.{SameFrom, reads_apart, reads_on, reads_same, read_same, no_lower}

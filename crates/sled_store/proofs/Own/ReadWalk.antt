@@ -9,7 +9,7 @@ use Rattle.sled_store.specs.Readers.{ReadsTo, Reads, at_start, reads_past}
 use Rattle.sled_store.specs.OwnParts.{BeginsAt, FindsRead, FindsRecord, IsCap, IsOwnRecord, AreOwnFrom}
 use Rattle.sled_store.proofs.Own.NoRecord.{kind_is}
 use Rattle.sled_store.proofs.Own.ReachedLemmas.{same_len, same_record}
-use Rattle.sled_store.proofs.Own.ReaderLemmas.{no_lower, read_begins, reads_between, reads_on, starts}
+use Rattle.sled_store.proofs.Own.ReaderLemmas.{no_lower, read_begins, reads_between, starts}
 
 -- A record that begins where one has room is read there.
 pub found_read : {E : Type 0} (sum : List ℕ → ℕ) (size number : ℕ) (text : List ℕ) (at : ℕ) → at + 32 ≤ size → (r : Result (Option ℕ) E) → IfOk r (FindsRecord sum number text at) → IfOk r (FindsRead sum size number text at)

@@ -1,14 +1,8 @@
 -- A walk along the records of one number comes to just the offsets that a reader comes to, and tries each record once.
-use Rattle.std.proofs.Common.{◌≡◌, ◌<◌, ◌+◌, ℕ, suc, List, length, drop, sym, subst, arith, inl, inr, length-take, length-drop}
-use Rattle.std.proofs.lemmas.Bool.{cases_lt}
-use Rattle.sled_codec.specs.declared.serialization.message.MessageKind.{MessageKind}
-use Rattle.sled_codec.specs.Places.{part}
-use Rattle.sled_codec.specs.Record.{IsRecord}
-use Rattle.sled_store.specs.Device.{LogState, Placement}
+use Rattle.std.proofs.Common.{◌≡◌, ◌<◌, ◌+◌, ℕ, suc, List, arith}
 use Rattle.sled_store.specs.Foreign.{IsReached, at_first, behind}
-use Rattle.sled_store.specs.OwnParts.{BeginsAt, IsOwnRecord, AreOwnFrom}
-use Rattle.sled_store.proofs.Crashes.ForeignLemmas.{take_again}
-use Rattle.sled_store.proofs.Own.ReachedLemmas.{record_some, begins, same_record, same_len, no_less, first_step, goes_on}
+use Rattle.sled_store.specs.OwnParts.{BeginsAt}
+use Rattle.sled_store.proofs.Own.ReachedLemmas.{same_len, first_step, goes_on}
 
 module _ (sum : List ℕ → ℕ) (size number : ℕ) (text : List ℕ) where
   -- a reader that came to a record comes behind it
