@@ -5,6 +5,5 @@ pub mod FirmContent
 pub mod ItemsStay
 pub mod Leaves
 pub mod Over
-pub mod Removes
 pub mod StaysOwn
 pub mod Unnamed

@@ -79,12 +79,6 @@ module _ (sum : List ℕ → ℕ) (size : ℕ) (site : SegmentPosition) (device 
   abbrev after_sync : State
   after_sync = step Synced (step (Wrote (s.site.slot + at) asked asked) device)
 
-  abbrev around_old : List BegunSegment
-  around_old = map begun_segment pre ++ begun_segment s ∷ map begun_segment post
-
-  abbrev around_new : List BegunSegment
-  around_new = map begun_segment pre ++ begun_segment grown ∷ map begun_segment post
-
   abbrev rest : List Sealed
   rest = drop (suc k) s.sealed
 

@@ -9,22 +9,17 @@ use Rattle.sled_store.specs.Script.{Along, Performs}
 use Rattle.sled_store.specs.SegmentStates.{Machine}
 use Rattle.sled_store.proofs.Traces.ScriptLemmas.{performs_throughout}
 use Rattle.sled_core.specs.Begun.{SegmentView}
-use Rattle.sled_core.specs.Fits.{HoldsWith}
 use Rattle.sled_core.specs.Recoverable.{LeavesRecoverable}
 use Rattle.sled_core.specs.Running.{FitsWith}
 use Rattle.sled_core.proofs.Blobs.Events.{KeepsBeside, ReadsNames, making_keeps, removing_keeps}
 use Rattle.sled_core.proofs.Blobs.Leaves.{leaves_beside}
-use Rattle.sled_core.proofs.Blobs.Over.{holds_over_names, fits_over_names}
+use Rattle.sled_core.proofs.Blobs.Over.{fits_over_names}
 use Rattle.sled_core.proofs.Blobs.Unnamed.{IsUnnamed}
 
 module _ (sum : List ℕ → ℕ) (size : ℕ) (p : ℤ) (H : History) where
   -- what can be recovered
   pub leaves_keeps : IsUnnamed H p → (A f : ℕ) → KeepsBeside sum p (LeavesRecoverable sum size H A f)
   leaves_keeps unnamed A f s blobs snapshots changes leaves = leaves_beside sum p s blobs snapshots changes H unnamed size A f leaves
-
-  -- what a log holds
-  pub holds_keeps : (noted : List Batch) (fault : Option IoError) (line : List SegmentView) (m : Machine) → KeepsBeside sum p (λ s. HoldsWith sum noted size s fault line m H)
-  holds_keeps noted fault line m s blobs snapshots changes holds = holds_over_names sum size s blobs snapshots fault changes.same_files noted line m H holds
 
   -- what it fits
   pub fits_keeps : IsUnnamed H p → (noted : List Batch) (fault : Option IoError) (line : List SegmentView) (m : Machine) (pins A f : ℕ) (U : List Message) → KeepsBeside sum p (λ s. FitsWith sum noted size s fault line m pins H A f U)
@@ -35,9 +30,6 @@ module _ (sum : List ℕ → ℕ) (size : ℕ) (p : ℤ) (H : History) where
     pub leaves_making : IsUnnamed H p → (A f : ℕ) → LeavesRecoverable sum size H A f device → Along (LeavesRecoverable sum size H A f) (making p bytes) device
     leaves_making unnamed A f = making_keeps sum p bytes device (LeavesRecoverable sum size H A f) (leaves_keeps unnamed A f) reads
 
-    pub holds_making : (noted : List Batch) (fault : Option IoError) (line : List SegmentView) (m : Machine) → HoldsWith sum noted size device fault line m H → Along (λ s. HoldsWith sum noted size s fault line m H) (making p bytes) device
-    holds_making noted fault line m = making_keeps sum p bytes device (λ s. HoldsWith sum noted size s fault line m H) (holds_keeps noted fault line m) reads
-
     pub fits_making : IsUnnamed H p → (noted : List Batch) (fault : Option IoError) (line : List SegmentView) (m : Machine) (pins A f : ℕ) (U : List Message) → FitsWith sum noted size device fault line m pins H A f U
         → Along (λ s. FitsWith sum noted size s fault line m pins H A f U) (making p bytes) device
     fits_making unnamed noted fault line m pins A f U = making_keeps sum p bytes device (λ s. FitsWith sum noted size s fault line m pins H A f U) (fits_keeps unnamed noted fault line m pins A f U) reads
@@ -46,9 +38,6 @@ module _ (sum : List ℕ → ℕ) (size : ℕ) (p : ℤ) (H : History) where
   module _ (device : State) where
     pub leaves_removing : IsUnnamed H p → (A f : ℕ) → LeavesRecoverable sum size H A f device → Along (LeavesRecoverable sum size H A f) (removing_blobs (p ∷ [])) device
     leaves_removing unnamed A f = removing_keeps sum p device (LeavesRecoverable sum size H A f) (leaves_keeps unnamed A f)
-
-    pub holds_removing : (noted : List Batch) (fault : Option IoError) (line : List SegmentView) (m : Machine) → HoldsWith sum noted size device fault line m H → Along (λ s. HoldsWith sum noted size s fault line m H) (removing_blobs (p ∷ [])) device
-    holds_removing noted fault line m = removing_keeps sum p device (λ s. HoldsWith sum noted size s fault line m H) (holds_keeps noted fault line m)
 
     pub fits_removing : IsUnnamed H p → (noted : List Batch) (fault : Option IoError) (line : List SegmentView) (m : Machine) (pins A f : ℕ) (U : List Message) → FitsWith sum noted size device fault line m pins H A f U
         → Along (λ s. FitsWith sum noted size s fault line m pins H A f U) (removing_blobs (p ∷ [])) device

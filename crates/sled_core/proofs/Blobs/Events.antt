@@ -3,11 +3,10 @@ use Rattle.std.proofs.Common.{ℕ, ℤ, Bool, true, List, [], ◌∷◌, Some, r
 use Rattle.std.specs.Ordering.{int_eq}
 use Rattle.sled_store.specs.Answers.{Tears}
 use Rattle.sled_store.specs.Blobs.{making, removing_blobs}
-use Rattle.sled_store.specs.Device.{BlobMade, BlobSynced, BlobRemoved, NamesSynced, Event, NamesState, State, content_of, file_synced, names_synced, renamed, step, unnamed}
+use Rattle.sled_store.specs.Device.{BlobMade, BlobSynced, BlobRemoved, NamesSynced, Event, NamesState, State, file_synced, names_synced, renamed, step, unnamed}
 use Rattle.sled_store.specs.Script.{Along}
 use Rattle.sled_core.specs.OwnNames.{IsAnyBlob, IsAnySnapshot, ReadsStayOwn, StayOwn}
-use Rattle.sled_core.specs.Recoverable.{NoForeign}
-use Rattle.sled_core.proofs.Blobs.ChangesBack.{ReadsOwn, GoesBack, reads_own, renamed_back, removed_back, file_synced_back, names_synced_back, renamed_own, removed_own, file_synced_own}
+use Rattle.sled_core.proofs.Blobs.ChangesBack.{ReadsOwn, GoesBack, renamed_back, removed_back, file_synced_back, names_synced_back, renamed_own, file_synced_own}
 use Rattle.sled_core.proofs.Blobs.Leaves.{no_name, blob_not_empty, snapshot_not_empty, ChangesAt, with_names}
 use Rattle.sled_core.proofs.Blobs.StaysOwn.{IsAskedAt, asked_made, own_bytes_synced, own_made, own_removed, own_settled}
 
@@ -15,13 +14,6 @@ use Rattle.sled_core.proofs.Blobs.StaysOwn.{IsAskedAt, asked_made, own_bytes_syn
 pub record ReadsNames (sum : List ℕ → ℕ) (p : ℤ) (s : State) : Type 0 where
   pub of_blobs : ReadsOwn (IsAnyBlob sum) (int_eq p) s.blobs
   pub of_snapshots : ReadsOwn (IsAnySnapshot sum) no_name s.snapshots
-
--- where nothing that is read is foreign
-pub reads_names : (sum : List ℕ → ℕ) (size : ℕ) (p : ℤ) (s : State) → NoForeign sum size s (content_of s) → ReadsNames sum p s
-reads_names sum size p s own = record {
-  of_blobs = reads_own (IsAnyBlob sum) (int_eq p) s.blobs own.blobs;
-  of_snapshots = reads_own (IsAnySnapshot sum) no_name s.snapshots own.snapshots;
-}
 
 -- where it is so with all of them
 pub own_reads : (sum : List ℕ → ℕ) (p : ℤ) (s : State) → ReadsStayOwn sum s → ReadsNames sum p s
@@ -69,9 +61,6 @@ module _ (sum : List ℕ → ℕ) (p : ℤ) (s : State) where
 
   pub blob_synced_reads : ReadsNames sum p s → ReadsNames sum p (step (BlobSynced p) s)
   blob_synced_reads reads = record { of_blobs = file_synced_own (IsAnyBlob sum) s.blobs p reads.of_blobs; of_snapshots = reads.of_snapshots }
-
-  pub removed_reads : (done : Bool) → ReadsNames sum p s → ReadsNames sum p (step (BlobRemoved p done) s)
-  removed_reads done reads = record { of_blobs = removed_own (IsAnyBlob sum) s.blobs p done reads.of_blobs; of_snapshots = reads.of_snapshots }
 
   module _ (P : State → Type 0) (keeps : KeepsBeside sum p P) (here : P s) where
     -- Such a property holds behind each of the calls,

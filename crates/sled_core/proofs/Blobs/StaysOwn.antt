@@ -3,7 +3,7 @@ use Rattle.std.proofs.Common.{◌≡◌, ◌⊎◌, ◌&&◌, not, is_some, if�
 use Rattle.std.specs.List.{Contains}
 use Rattle.std.specs.Ordering.{int_eq}
 use Rattle.std.proofs.lemmas.List.Elements.{Contains-append_left, Contains-append_right}
-use Rattle.sled_store.specs.Device.{BlobRemoved, Crashed, Left, NamesState, NameState, NamesSynced, State, SnapshotRemoved, step, content_of, blobs_left, snapshots_left, file_synced, names_at_rest, names_synced, renamed, settled_file, unnamed}
+use Rattle.sled_store.specs.Device.{BlobRemoved, NamesState, NameState, NamesSynced, State, SnapshotRemoved, step, content_of, file_synced, names_at_rest, names_synced, renamed, settled_file, unnamed}
 use Rattle.sled_store.specs.Foreign.{NoForeignNames}
 use Rattle.sled_store.proofs.Segments.Elements.{in_first}
 use Rattle.sled_core.specs.OwnNames.{IsAnyBlob, IsAnySnapshot, ReadsStayOwn, StayOwn}
@@ -76,10 +76,6 @@ module _ (sum : List ℕ → ℕ) where
   -- where nothing that is read is foreign
   pub own_now : (size : ℕ) (s : State) → NoForeign sum size s (content_of s) → ReadsStayOwn sum s
   own_now size s own = record { of_blobs = own_files (IsAnyBlob sum) s.blobs own.blobs; of_snapshots = own_files (IsAnySnapshot sum) s.snapshots own.snapshots }
-
-  -- a crash leaves it so
-  pub own_crashed : (left : Left) (s : State) → ReadsStayOwn sum (step (Crashed left) s)
-  own_crashed left s = record { of_blobs = own_at_rest (IsAnyBlob sum) (blobs_left left s.blobs); of_snapshots = own_at_rest (IsAnySnapshot sum) (snapshots_left left s.snapshots) }
 
   -- where the names are the same
   pub own_same : (s t : State) → t.blobs ≡ s.blobs → t.snapshots ≡ s.snapshots → ReadsStayOwn sum s → ReadsStayOwn sum t

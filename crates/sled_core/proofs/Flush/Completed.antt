@@ -8,7 +8,6 @@ use Rattle.std.proofs.lemmas.List.Elements.{All-append, All-contains, All-tail, 
 use Rattle.sled_codec.specs.History.{Message, Batch, History}
 use Rattle.sled_codec.specs.WellFormed.{LieApart}
 use Rattle.sled_store.specs.Device.{State}
-use Rattle.sled_store.proofs.Histories.Ascending.{Ascends, apart_ascends}
 use Rattle.sled_core.specs.declared.iobuf.ReservationState.TheVariants.{Open, Completed, Canceled, Manifest, Padding}
 use Rattle.sled_core.specs.declared.iobuf.Reserved.{Reserved}
 use Rattle.sled_core.specs.declared.iobuf.Sealed.{Sealed}
@@ -73,9 +72,6 @@ module _ (sum : List ℕ → ℕ) (size : ℕ) (site : SegmentPosition) (device 
   pub all_apart : LieApart H.messages
   all_apart = subst LieApart (sym holds.messages)
       (apart_both (site.place + from) holds.earlier done holds.apart (completed_apart site bytes (max 20 from) (length bytes) rs holds.chain long) (λ k d lt. (holds.below k d lt).1) (λ k d lt. let b = between k d lt in omega (arith, b.0)))
-
-  pub all_ascend : Ascends H.messages
-  all_ascend = apart_ascends H.messages all_apart
 
   -- Of the history they, and the batches of the manifests that have ended, are all that begins in the buffer.
   pub has_only : length bytes ≤ size → HasOnly H done (batches_in site bytes rs) (site.place + max 20 from) (site.place + length bytes)

@@ -1,16 +1,11 @@
 -- What is written of a log: the records that were completed, behind those that stand on the device. A log that keeps a failure holds what it held.
-use Rattle.std.proofs.Common.{◌≡◌, ◌≢◌, ◌⊎◌, ◌≤◌, ◌<◌, ◌+◌, ◌/◌, ◌^◌, ◌∙◌, ℕ, ℤ, max, Bool, true, false, List, [], ◌∷◌, ◌++◌, length, sym, ap, arith, refl, subst, inl, inr, Option, None, Some}
+use Rattle.std.proofs.Common.{◌≡◌, ◌≢◌, ◌⊎◌, ◌≤◌, ◌<◌, ◌+◌, ◌/◌, ◌^◌, ◌∙◌, ℕ, ℤ, max, List, [], ◌∷◌, ◌++◌, length, sym, ap, arith, refl, subst, inl, inr, Option, None, Some}
 use Rattle.std.specs.List.{All}
-use Rattle.std.specs.Bool.{MatchBool}
-use Rattle.std.specs.IoError.{error_kind}
 use Rattle.std.specs.declared.io.Error.{Error as IoError}
-use Rattle.std.specs.declared.io.ErrorKind.{ErrorKind}
-use Rattle.std.specs.declared.io.ErrorKind.TheVariants.{OutOfMemory}
 use Rattle.std.proofs.lemmas.List.{append-nil}
 use Rattle.sled_codec.specs.History.{Message, Batch, History}
 use Rattle.sled_codec.specs.Snapshots.{stable_place}
 use Rattle.sled_codec.specs.WellFormed.{LieApart}
-use Rattle.sled_store.specs.Answers.{is_fault, is_fault_kind}
 use Rattle.sled_store.specs.Device.{LogState, State}
 use Rattle.sled_store.specs.SnapshotFiles.{BeginsFrom}
 use Rattle.sled_core.specs.declared.iobuf.Reserved.{Reserved}
@@ -120,19 +115,6 @@ module _ (sum : List ℕ → ℕ) (size : ℕ) (site : SegmentPosition) (device 
       (segment-faulty sum size site device fault bytes from bs rs (record { messages = holds.head; batches = H.batches }) holds.own new e now is)
       (behind_faulty sum size device fault (site.place + size) behind (StaysBelow H (stable_place holds.begun.first.stable) site.place) H.batches holds.later holds.others new e now is)
 
-  -- The same device and the same failure hold the same.
-  pub holds-moved : (after : State) (now : Option IoError) → after ≡ device → now ≡ fault → HoldsIn sum (log_parts size site after now bytes from bs rs) behind H
-  holds-moved after now d f = subst (λ (s : State). HoldsIn sum (log_parts size site s now bytes from bs rs) behind H) (sym d) (subst (λ (o : Option IoError). HoldsIn sum (log_parts size site device o bytes from bs rs) behind H) (sym f) holds)
-
-  -- A call that changed nothing of the device holds the same, whether or not the device failed in it.
-  pub holds-answered : (size' : ℕ) (after : State) (now : Option IoError) → size' ≡ size → after ≡ device → fault ≡ None → HoldsIn sum (log_parts size' site after now bytes from bs rs) behind H
-  holds-answered size' after now sizes same none =
-      let here : HoldsIn sum (log_parts size site after now bytes from bs rs) behind H = elim (fault_or_none now) [
-        | inl is ↦ holds-moved after now same (is ∙ sym none)
-        | inr is ↦ holds-faulty after is.0 now is.1 (ap (λ (s : State). s.snapshots.file) same)
-      ] in
-      subst (λ n. HoldsIn sum (log_parts n site after now bytes from bs rs) behind H) (sym sizes) here
-
 -- Where no message was completed since the last write, and the segments behind the first one have none, all is on the device.
 module _ (sum : List ℕ → ℕ) (size : ℕ) (site : SegmentPosition) (device : State) (fault : Option IoError) (bytes : List ℕ) (from : ℕ) (bs : List Sealed) (rs : List Reserved) (H : History)
     {behind : List SegmentParts} (holds : HoldsIn sum (log_parts size site device fault bytes from bs rs) behind H) where
@@ -159,14 +141,3 @@ module _ (sum : List ℕ → ℕ) (size : ℕ) (site : SegmentPosition) (device 
 pub on_file : (sum : List ℕ → ℕ) (size : ℕ) (device : LogState) (site : SegmentPosition) (from : ℕ) (messages : List Message) (stays : Message → Type 0) → IsOnDevice sum size device site from messages stays
     → IsLogFile sum size device.bytes site from messages stays
 on_file sum size device site from messages stays is = subst (λ (l : List ℕ). IsLogFile sum size l site from messages stays) (sym (ap (λ (s : LogState). s.bytes) is.settled)) is.file
-
-kind_apart : (kind : ErrorKind) → is_fault_kind kind ≡ true → kind ≡ OutOfMemory → ⊥
-kind_apart kind fault is = let not_one : false ≡ true = sym (ap is_fault_kind is) ∙ fault in cc
-
-memory_by : (e : IoError) (b : Bool) → is_fault e ≡ b → MatchBool b (Unit {0}) (error_kind e ≡ OutOfMemory) → (error_kind e ≡ OutOfMemory) ⊎ (error_kind e ≢ OutOfMemory)
-memory_by e true is cause = inr (kind_apart (error_kind e) is)
-memory_by e false is cause = inl cause
-
--- An error of a call that may want memory is want of memory, or another one.
-pub memory_or_fault : (e : IoError) → MatchBool (is_fault e) (Unit {0}) (error_kind e ≡ OutOfMemory) → (error_kind e ≡ OutOfMemory) ⊎ (error_kind e ≢ OutOfMemory)
-memory_or_fault e cause = memory_by e (is_fault e) refl cause

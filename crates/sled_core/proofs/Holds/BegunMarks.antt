@@ -10,7 +10,7 @@ use Rattle.sled_core.specs.Fits.{IsBegunFrom}
 use Rattle.sled_core.specs.LogFile.{StaysBelow, StaysFrom}
 use Rattle.sled_core.specs.Recoverable.{AreRecoverableBlobs, AreRecoverableSnapshots, IsTableFile}
 use Rattle.sled_core.specs.Running.{BlobsFit, KeepsEntries, NamesFit}
-use Rattle.sled_core.proofs.Reached.AddedBatch.{entry_was, message_stays, message_was, same_table, was_or_batch}
+use Rattle.sled_core.proofs.Reached.AddedBatch.{entry_was, message_was, same_table, was_or_batch}
 use Rattle.sled_core.proofs.Holds.BegunLemmas.{not_above_newest}
 
 module _ (H H' : History) (b : Batch) (adds : AddsBatch H b H') where
@@ -64,15 +64,8 @@ module _ (H H' : History) (b : Batch) (adds : AddsBatch H b H') where
   stays-marks place x (inl entry) = inl (entry_was H H' b adds place x.page x entry)
   stays-marks place x (inr (above, there)) = inr (above, message_was H H' b adds x there)
 
-  pub stayed-marks : (place : ℕ) (x : Message) → StaysFrom H place x → StaysFrom H' place x
-  stayed-marks place x (inl entry) = inl (subst (λ (l : List Message). Contains l x) (sym (same_table H H' b adds place x.page)) entry)
-  stayed-marks place x (inr (above, there)) = inr (above, message_stays H H' b adds x there)
-
   pub stays_below-marks : (from place : ℕ) (x : Message) → StaysBelow H' from place x → StaysBelow H from place x
   stays_below-marks from place x stays = (stays-marks from x stays.0, stays.1)
-
-  pub stayed_below-marks : (from place : ℕ) (x : Message) → StaysBelow H from place x → StaysBelow H' from place x
-  stayed_below-marks from place x stays = (stayed-marks from x stays.0, stays.1)
 
   -- Recovery begins from the same snapshot as before, whatever a crash leaves of the names.
   pub names-marks : (sum : List ℕ → ℕ) (size : ℕ) (names : NamesState) (f : ℕ) (first : SnapshotModel) → stable_place first.stable ≤ b.low → NamesFit sum size names H f first → NamesFit sum size names H' f first

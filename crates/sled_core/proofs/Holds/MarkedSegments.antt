@@ -135,10 +135,6 @@ module _ (sum : List ℕ → ℕ) (size : ℕ) (site : SegmentPosition) (device 
   pub marks_within : b.low < site.place + length bytes
   marks_within = let high = lies.1 in let h = its.text.headed in let l = its.text.long in omega (arith, high, h, l)
 
-  -- And it begins where a record can.
-  pub marks_room : r.from + 32 ≤ size
-  marks_room = its.room
-
   -- The bytes are as many.
   pub marks_long : length new ≡ length bytes
   marks_long = marked_long sum number bytes r lies.1 its.text is_open manifest peg

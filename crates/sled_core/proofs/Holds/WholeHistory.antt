@@ -2,7 +2,6 @@
 use Rattle.std.proofs.Common.{◌<◌, ◌≡◌, ◌⊎◌, ◌∙◌, ◌≤◌, ◌+◌, ℕ, List, [], ◌∷◌, ◌++◌, length, Option, sym, ap, subst, arith, inl, inr}
 use Rattle.std.specs.List.{All, Contains}
 use Rattle.std.specs.declared.io.Error.{Error as IoError}
-use Rattle.std.proofs.lemmas.List.{append-nil}
 use Rattle.std.proofs.lemmas.List.Elements.{All-append, All-contains, Contains-append_cases, Contains-append_left}
 use Rattle.sled_codec.specs.History.{Message, Batch, History}
 use Rattle.sled_codec.specs.WellFormed.{LieApart}
@@ -78,8 +77,3 @@ module _ (sum : List ℕ → ℕ) (size : ℕ) (site : SegmentPosition) (device 
     noted = only.noted;
     begun = only.begun;
   }
-
--- Where no segment was begun behind the first one, that holds all of it.
-pub of_one : (sum : List ℕ → ℕ) (size : ℕ) (site : SegmentPosition) (device : State) (fault : Option IoError) (bytes : List ℕ) (from : ℕ) (bs : List Sealed) (rs : List Reserved) (H : History)
-    (holds : HoldsIn sum (log_parts size site device fault bytes from bs rs) [] H) → H.messages ≡ holds.head
-of_one sum size site device fault bytes from bs rs H holds = holds.messages ∙ ap (λ (ms : List Message). holds.head ++ ms) holds.others ∙ append-nil holds.head

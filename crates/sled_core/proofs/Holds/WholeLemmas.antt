@@ -1,20 +1,18 @@
 -- What a log holds it goes on holding, where its first segment does, over the same device.
-use Rattle.std.proofs.Common.{◌≡◌, ◌≢◌, ◌≤◌, ◌<◌, ◌+◌, ◌/◌, ◌∙◌, ℕ, List, [], ◌∷◌, ◌++◌, length, set, drop, Option, Some, refl, sym, ap, subst, arith, append_assoc, inl, inr, false}
+use Rattle.std.proofs.Common.{◌≡◌, ◌≢◌, ◌≤◌, ◌<◌, ◌+◌, ◌/◌, ◌∙◌, ℕ, List, [], ◌∷◌, ◌++◌, length, set, Option, Some, refl, sym, ap, subst, arith, append_assoc, inl, inr, false}
 use Rattle.std.specs.List.{All, slice_get}
 use Rattle.std.specs.declared.io.Error.{Error as IoError}
-use Rattle.std.proofs.lemmas.List.Elements.{All-append, All-contains, All-drop, All-set, Contains-append_cases}
+use Rattle.std.proofs.lemmas.List.Elements.{All-contains, Contains-append_cases}
 use Rattle.sled_codec.specs.Snapshots.{stable_place}
 use Rattle.sled_codec.specs.Written.{written}
 use Rattle.sled_codec.specs.History.{Message, Batch, History, AddsMessage}
 use Rattle.sled_store.specs.Device.{State}
 use Rattle.sled_core.specs.Manifests.{is_manifest}
-use Rattle.sled_core.specs.declared.iobuf.ReservationState.{ReservationState}
-use Rattle.sled_core.specs.declared.iobuf.ReservationState.TheVariants.{Open, Completed, Canceled, Padding}
+use Rattle.sled_core.specs.declared.iobuf.ReservationState.TheVariants.{Open, Completed, Canceled}
 use Rattle.sled_core.specs.declared.iobuf.Reserved.{Reserved}
 use Rattle.sled_core.specs.declared.iobuf.Sealed.{Sealed}
 use Rattle.sled_core.specs.declared.iobuf.SegmentPosition.{SegmentPosition}
-use Rattle.sled_core.specs.Buffers.{canceling, completing, ended, message_in, HasText, NoPadding}
-use Rattle.sled_core.proofs.Reserve.Entries.{open_plain}
+use Rattle.sled_core.specs.Buffers.{canceling, completing, ended, message_in, HasText}
 use Rattle.sled_core.specs.Begun.{SegmentParts}
 use Rattle.sled_core.specs.Fits.{log_parts, HoldBehind, HoldsIn, HoldsSegment}
 use Rattle.sled_core.specs.LogFile.{StaysBelow, StaysFrom}
@@ -24,34 +22,10 @@ use Rattle.sled_core.proofs.Holds.BegunLemmas.{begun-adds, stays_adds}
 use Rattle.sled_core.proofs.Holds.BehindKept.{behind_fewer}
 use Rattle.sled_core.proofs.Holds.CanceledLemmas.{segment-aborted}
 use Rattle.sled_core.proofs.Holds.CompletedLemmas.{behind_written, ends_within, segment-complete}
-use Rattle.sled_core.proofs.Holds.HoldsLemmas.{one, segment-append, segment-same}
+use Rattle.sled_core.proofs.Holds.HoldsLemmas.{segment-append}
 use Rattle.sled_core.proofs.Holds.SealedCalls.{segment-sealed}
 use Rattle.sled_core.proofs.Holds.WholeHistory.{behind_above}
 use Rattle.sled_core.proofs.Sealed.LaidLemmas.{EndsRise}
-
--- The same bytes, from the same offset, and the same reservations hold the same.
-pub holds-same : (sum : List ℕ → ℕ) (size : ℕ) (site : SegmentPosition) (device : State) (fault : Option IoError) (bytes bytes' : List ℕ) (from from' : ℕ) (bs bs' : List Sealed) (rs rs' : List Reserved) (H : History) {behind : List SegmentParts}
-    → bytes' ≡ bytes → from' ≡ from → bs' ≡ bs → rs' ≡ rs → HoldsIn sum (log_parts size site device fault bytes from bs rs) behind H → HoldsIn sum (log_parts size site device fault bytes' from' bs' rs') behind H
-holds-same sum size site device fault bytes bytes' from from' bs bs' rs rs' H {behind} b f e r holds =
-    holds_over sum size site device fault bytes from bs rs behind H holds device fault bytes' from' bs' rs' refl (omega (arith, f))
-    (segment-same sum size site device fault bytes bytes' from from' bs bs' rs rs' (record { messages = holds.head; batches = H.batches }) b f e r holds.own) holds.others
-
--- Nothing fills a segment where nothing is reserved.
-pub plain_none : (rs : List Reserved) → rs ≡ [] → All NoPadding rs
-plain_none rs none = subst (All NoPadding) (sym none) (λ k d lt. absurd (omega (arith, lt)))
-
--- Where nothing fills a segment, so it is with the same reservations, and with those at the front gone; once one more is reserved, and once one of them is completed or given up.
-pub plain_same : (rs rs' : List Reserved) → rs' ≡ rs → All NoPadding rs → All NoPadding rs'
-plain_same rs rs' same plain = subst (All NoPadding) (sym same) plain
-
-pub plain_behind : (rs : List Reserved) (n : ℕ) → All NoPadding rs → All NoPadding (drop n rs)
-plain_behind rs n plain = All-drop NoPadding n rs plain
-
-pub plain_more : (rs : List Reserved) (r : Reserved) → r.state ≡ Open → All NoPadding rs → All NoPadding (rs ++ r ∷ [])
-plain_more rs r is_open plain = All-append NoPadding rs (r ∷ []) plain (one NoPadding r (open_plain r.state is_open))
-
-pub plain_ended : (rs : List Reserved) (i : ℕ) (r : Reserved) (state : ReservationState) → state ≢ Padding → All NoPadding rs → All NoPadding (set rs i (ended state r))
-plain_ended rs i r state other plain = All-set NoPadding rs i (ended state r) other plain
 
 module _ (sum : List ℕ → ℕ) (size : ℕ) (site : SegmentPosition) (device : State) (fault : Option IoError) (bytes : List ℕ) (from : ℕ) (bs : List Sealed) (rs : List Reserved) (H : History)
     {behind : List SegmentParts} (holds : HoldsIn sum (log_parts size site device fault bytes from bs rs) behind H) where

@@ -3,7 +3,7 @@ use Rattle.std.proofs.Common.{None, ◌≡◌, ◌∙◌, ◌<◌, ◌≤◌, �
 use Rattle.std.specs.List.{Contains, slice_get}
 use Rattle.std.specs.declared.io.Error.{Error as IoError}
 use Rattle.std.proofs.Math.Nat.{add-mul-mod_self_right, div-le_self, mul-mod_left, suc-mul}
-use Rattle.std.proofs.lemmas.List.{append-nil, length-append, map-append, length-map, take_all}
+use Rattle.std.proofs.lemmas.List.{length-append, map-append, length-map, take_all}
 use Rattle.std.proofs.lemmas.Bool.Decides.{nat_tests}
 use Rattle.std.proofs.lemmas.List.Elements.{All-head, All-tail}
 use Rattle.sled_codec.proofs.Segments.{length-short_header}
@@ -22,7 +22,7 @@ use Rattle.sled_core.specs.Buffers.{IsHeaded}
 use Rattle.sled_core.specs.Logged.{logged, in_log}
 use Rattle.sled_core.specs.Tickets.{IsFor, index_of}
 use Rattle.sled_core.specs.declared.iobuf.Reserved.{Reserved}
-use Rattle.sled_core.specs.Fits.{written_to, AwaitsIn, CloseBelow, FitsBatches, HasMark, Holds, HoldsIn, HoldsLine, HoldsWith, KeepsAll, KeepsTickets, current_of, device_of, fault_of, line_end, line_of, noted_in, log_parts, machine_at, parts_in, pins_of, position_of, segment_size_of, stable_end, synced_end, waiting_of}
+use Rattle.sled_core.specs.Fits.{written_to, AwaitsIn, CloseBelow, FitsBatches, HasMark, Holds, HoldsIn, HoldsLine, HoldsWith, KeepsAll, KeepsTickets, current_of, device_of, fault_of, line_end, line_of, noted_in, log_parts, machine_at, parts_in, pins_of, position_of, segment_size_of, stable_end, synced_end}
 use Rattle.sled_core.specs.FreeSlots.{HasSlot, HasSlots, HaveOwn}
 use Rattle.sled_core.specs.Keeps.{Preserves}
 use Rattle.sled_core.specs.OpenPlaces.{open_places_along}
@@ -32,7 +32,7 @@ use Rattle.sled_core.specs.OpenBatches.{stable_below}
 use Rattle.sled_core.specs.Running.{Fits, FitsIn, FitsLine, FitsWith}
 use Rattle.sled_core.specs.Slots.{AreBegun, HaveEntries}
 use Rattle.sled_core.specs.Turned.{ChangesSlots, begun_view, next_line}
-use Rattle.sled_core.specs.Waiting.{at_last, closed_now, filled_now, last_of, unwritten}
+use Rattle.sled_core.specs.Waiting.{at_last, closed_now, filled_now, last_of}
 use Rattle.sled_core.proofs.Behind.Around.{behind_place, behind_place_is}
 use Rattle.sled_core.proofs.Behind.Begins.{behind-begins}
 use Rattle.sled_core.proofs.Behind.FitsBegun.{behind-fits-begun}
@@ -41,7 +41,7 @@ use Rattle.sled_core.proofs.Line.KeptCalls.{goes_on_quietly}
 use Rattle.sled_core.proofs.Line.Closes.{IsClosable, filled_gone, filled_length, filled_message, filled_site, filled_there, filled_written, line_closed, line_fits_closed}
 use Rattle.sled_core.proofs.Line.Ends.{line_holds}
 use Rattle.sled_core.proofs.Holds.Facts.{IsSegment, current_facts, nth_facts}
-use Rattle.sled_core.proofs.Line.Last.{All-at_last, last_behind_all, last_get_of, unwritten-append}
+use Rattle.sled_core.proofs.Line.Last.{All-at_last, last_behind_all, last_get_of}
 use Rattle.sled_core.proofs.Line.LineEnds.{end_at_last, kept_same, noted_later, noted_same}
 use Rattle.sled_core.proofs.Line.Moves.{fits_as, holds_as}
 use Rattle.sled_core.proofs.Line.OpenPlaces.{places_begun, places_closed}
@@ -355,12 +355,6 @@ module _ {D C : Type 0} (trace : D → Trace) (sum : List ℕ → ℕ) (old new 
     where
       machine_now : Machine
       machine_now = handed_out ((current_of old).parts.site.place + segment_size_of old) (machine_at old)
-
-  -- What the segment that was being filled had is among the sealed buffers.
-  pub begins_waiting : waiting_of new ≡ unwritten (closed sum its_size (line_of old))
-  begins_waiting =
-      let b : SegmentView = begun_view sum its_size (machine_at old) (stable_end old) (current_of old) in
-      ap unwritten line ∙ unwritten-append (closed sum its_size (line_of old)) (b ∷ []) ∙ append-nil (unwritten (closed sum its_size (line_of old)))
 
   -- As much is written,
   pub begins_synced : synced_end new ≡ synced_end old

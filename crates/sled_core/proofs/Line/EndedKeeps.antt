@@ -1,5 +1,5 @@
 -- A call that ends a reservation of a log changes nothing else that a caller sees: the position, the stable end, and that no buffer is sealed; and what the changed segments hold and fit the log does.
-use Rattle.std.proofs.Common.{◌≤◌, ◌≡◌, ◌∙◌, ◌+◌, ◌-◌, ap, sym, refl, arith, subst, ℕ, zero, suc, Bool, true, false, nat_lt, if◌then◌else◌, List, [], ◌∷◌, ◌++◌, length, take, drop, set, map, Option, Some}
+use Rattle.std.proofs.Common.{◌≤◌, ◌≡◌, ◌∙◌, ◌+◌, ◌-◌, ap, sym, refl, arith, subst, ℕ, suc, Bool, true, false, nat_lt, if◌then◌else◌, List, [], ◌∷◌, ◌++◌, length, take, drop, set, map, Option, Some}
 use Rattle.std.specs.declared.io.Error.{Error as IoError}
 use Rattle.std.specs.List.{slice_get}
 use Rattle.std.proofs.lemmas.List.{length-set}
@@ -24,7 +24,7 @@ use Rattle.sled_core.specs.OpenBatches.{not_whole}
 use Rattle.sled_core.specs.Running.{Fits, FitsWith}
 use Rattle.sled_core.specs.SealedBuffers.{one_ended, one_fewer}
 use Rattle.sled_core.specs.Turned.{ChangesLine, ended_now}
-use Rattle.sled_core.specs.Waiting.{buffer_at, unwritten, unwritten_in, unwritten_of}
+use Rattle.sled_core.specs.Waiting.{buffer_at, unwritten_in}
 use Rattle.sled_core.proofs.Line.KeptCalls.{goes_on_quietly}
 use Rattle.sled_core.proofs.Line.LineEnds.{kept_same, noted_later, noted_same}
 use Rattle.sled_core.proofs.Line.EndedLine.{over_bytes}
@@ -33,10 +33,6 @@ use Rattle.sled_core.proofs.Holds.Facts.{nth_facts}
 use Rattle.sled_core.proofs.Holds.Nth.{last_get}
 
 -- No buffer is sealed that isn't written where none was.
-
-nil_both : {T : Type 0} (xs ys : List T) → xs ++ ys ≡ [] → (xs ≡ []) × (ys ≡ [])
-nil_both [] ys same = (refl, same)
-nil_both (x ∷ xs) ys same = cc
 
 is_rest : {T : Type 0} (o : Bool) (xs ys : List T) (x : T) → (if o then xs else x ∷ ys) ≡ [] → (o ≡ true) × (xs ≡ [])
 is_rest true xs ys x same = (refl, same)
@@ -65,18 +61,6 @@ none_ended site bytes bytes' from i (b ∷ bs) rs rs' none =
     by_test further false =
         (λ j. if is.0 j then unwritten_in site bytes' b.end (one_ended (i - b.count) bs) (drop b.count rs') else (buffer_at site bytes' from b.end (take b.count rs') ∷ unwritten_in site bytes' b.end (one_ended (i - b.count) bs) (drop b.count rs')))
         ∙ further is.1
-
-unwritten_set : (line : List SegmentView) (n : ℕ) (v e : SegmentView) → slice_get line n ≡ Some v → (unwritten_of v.parts ≡ [] → unwritten_of e.parts ≡ []) → unwritten line ≡ [] → unwritten (set line n e) ≡ []
-unwritten_set [] n v e there still none = none
-unwritten_set (x ∷ xs) zero v e there still none =
-    let same : x ≡ v = cc in
-    let parts = nil_both (unwritten_of x.parts) (unwritten xs) none in
-    let here : unwritten_of e.parts ≡ [] = still (ap (λ (w : SegmentView). unwritten_of w.parts) (sym same) ∙ parts.0) in
-    (λ j. here j ++ parts.1 j)
-unwritten_set (x ∷ xs) (suc n) v e there still none =
-    let parts = nil_both (unwritten_of x.parts) (unwritten xs) none in
-    let rest : unwritten (set xs n e) ≡ [] = unwritten_set xs n v e there still parts.1 in
-    (λ j. parts.0 j ++ rest j)
 
 module _ {D C : Type 0} (old new : Log D C) (n : ℕ) (v : SegmentView) (there : slice_get (line_of old) n ≡ Some v) (i : ℕ) (r : Reserved) (at : slice_get v.parts.reserved i ≡ Some r) (is_open : r.state ≡ Open) (text : List ℕ) (short : length text ≤ r.len) (state : ReservationState)
     (line : line_of new ≡ set (line_of old) n (ended_now i r text state v)) (rest : ChangesLine old new) where

@@ -66,18 +66,6 @@ module _ {D C : Type 0} (sum : List ℕ → ℕ) (old new : Log D C) (page n : �
         same.1 ∙ sym (ap (λ (o : Bool). if o then next else start_of old) stays),
       )
 
-  -- and where it needs a further one
-  pub seals_further : (mid : Log D C) (stable : ℕ) → is_moved old page n ≡ true → line_of mid ≡ next_line sum (segment_size_of old) (machine_at old) stable (line_of old) → line_of new ≡ at_last (reserved_now more r) (line_of mid)
-      → (waiting_of new ≡ waiting_behind sum old page n) × (start_of new ≡ start_behind old page n)
-  seals_further mid stable moves begun is =
-      let first = next_buffers sum old mid stable begun in
-      let same = reserved_buffers mid new more r is in
-      let closed : List BufferAt = unwritten (at_last (closed_now sum (segment_size_of old)) (line_of old)) in
-      let next : BufferStart = record { place = (current_of old).parts.site.place + segment_size_of old; lid = next_slot (machine_at old) * segment_size_of old } in (
-        same.0 ∙ first.0 ∙ sym (ap (λ (o : Bool). if o then closed else waiting_of old) moves),
-        same.1 ∙ first.1 ∙ sym (ap (λ (o : Bool). if o then next else start_of old) moves),
-      )
-
 -- The current buffer is sealed: the next one begins behind it,
 pub seal_starts : {D C : Type 0} (old new : Log D C) → is_short (segment_size_of old) (length (current_of old).parts.bytes) ≡ false → line_of new ≡ at_last sealed_now (line_of old) → start_of new ≡ start_sealed old
 seal_starts old new room is =
@@ -170,7 +158,3 @@ module _ {D C : Type 0} (sum : List ℕ → ℕ) (to : ℕ) where
     pub some_first : LeavesSome sum to mid new → LeavesSome sum to old new
     some_first (inl same) = inr (0, same.0 ∙ waiting ∙ sym (ap (λ (o : Bool). if o then buffers_of sum old else waiting_of old) current), same.1 ∙ start ∙ sym (ap (λ (o : Bool). if o then start_sealed old else start_of old) current))
     some_first (inr left) = inr (left.0, left.1 ∙ ap (drop left.0) same_for, left.2 ∙ same_start)
-
-  -- where nothing is another
-  pub some_still : (old new : Log D C) → line_of new ≡ line_of old → LeavesSome sum to old new
-  some_still old new is = inl (same_buffers old new is)

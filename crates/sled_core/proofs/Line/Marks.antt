@@ -45,9 +45,6 @@ has_ready line n k site b there ready =
       ready = λ x at. (let both : Some ready.buffer ≡ Some x = sym its ∙ at in let equal : ready.buffer ≡ x = cc in subst (λ (y : Sealed). is_ready y ≡ true) equal ready.ready);
     }
 
-pub first_ready_at : (site : SegmentPosition) (b : IoBuf) (ss : List SegmentBuffer) (k : ℕ) → IsReadyIn (line_at site b ss) 0 k → HasReady b k
-first_ready_at site b ss k ready = has_ready (line_at site b ss) 0 k site b refl ready
-
 pub behind_ready_at : (site : SegmentPosition) (b : IoBuf) (ss : List SegmentBuffer) (n k : ℕ) (s : SegmentBuffer) → 0 < n → slice_get ss (n - 1) ≡ Some s → IsReadyIn (line_at site b ss) n k → HasReady s.buffer k
 behind_ready_at site b ss n k s some there ready = has_ready (line_at site b ss) n k s.site s.buffer (line_get site b ss n s some there) ready
 

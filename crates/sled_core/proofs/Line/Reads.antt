@@ -13,7 +13,6 @@ use Rattle.sled_codec.specs.declared.result.Error.{Error}
 use Rattle.sled_codec.specs.declared.result.Error.TheVariants.{Corruption, Held, Io, NotReserved, OutOfMemory, PlacesUsedUp}
 use Rattle.sled_codec.specs.declared.result.DiskPtr.{DiskPtr}
 use Rattle.sled_codec.specs.declared.result.DiskPtr.TheVariants.{Inline, Blob}
-use Rattle.sled_codec.specs.Errors.{IsCorruption}
 use Rattle.sled_codec.specs.History.{Message, History, table}
 use Rattle.sled_codec.specs.Places.{MayBegin}
 use Rattle.sled_codec.specs.Pointers.{lid_of}
@@ -32,7 +31,7 @@ use Rattle.sled_core.specs.LogFile.{StaysFrom}
 use Rattle.sled_core.specs.Logged.{in_log, logged}
 use Rattle.sled_core.specs.Marked.{KeepsSegment}
 use Rattle.sled_core.specs.ReadBuffer.{IsSettled, IsWrittenPlace, LeavesWritten, ReadAnswers, RefusesPlace, SealsAround, SettleAnswers, Settles, WritesAround, held_at, settling}
-use Rattle.sled_core.specs.ReadPointer.{GivesBlob, IsDamageAt, place_read}
+use Rattle.sled_core.specs.ReadPointer.{GivesBlob, place_read}
 use Rattle.sled_core.specs.Reading.{IsNoPlace}
 use Rattle.sled_core.specs.Running.{Fits}
 use Rattle.sled_core.specs.SealedBuffers.{writing}
@@ -192,16 +191,6 @@ module _ {D C : Type 0} (lsn : ℤ) (p : DiskPtr) (sum : List ℕ → ℕ) (old 
       by OutOfMemory answers same = refuses_none (Err OutOfMemory) free (λ is. is) is_place answers.0
       by PlacesUsedUp answers same = refuses_none (Err PlacesUsedUp) free (λ is. is) is_place answers.0
       by _ answers same = absurd answers.1
-
--- What it says is no damage.
-pub err_damage : (S : Type 0) (e : Error) (lsn : ℤ) (stable end : ℕ) (held : Option ℕ) (used : Type 0) (now : Option IoError) (before after : ℕ) → SettleAnswers {T = S} (Err e) lsn stable end held used now before after
-    → (sum : List ℕ → ℕ) (size : ℕ) (s : State) (at : ℤ) (p : DiskPtr) → IsDamageAt sum size s at p e
-err_damage S (Corruption at) lsn stable end held used now before after answers sum size s place p = absurd answers.1
-err_damage S _ lsn stable end held used now before after answers sum size s place p = tt
-
-pub err_damaged : (S T : Type 0) (e : Error) (lsn : ℤ) (stable end : ℕ) (held : Option ℕ) (used : Type 0) (now : Option IoError) (before after : ℕ) → SettleAnswers {T = S} (Err e) lsn stable end held used now before after → IsCorruption {T = T} (Err e) → ⊥
-err_damaged S T (Corruption at) lsn stable end held used now before after answers is = answers.1
-err_damaged S T _ lsn stable end held used now before after answers is = is
 
 -- Nor does it come of a place that is stable, but for a failure of the device or want of memory.
 pub err_gives : (S : Type 0) (e : Error) (m : Message) (kept : Option IoError) (lsn : ℤ) (stable end : ℕ) (held : Option ℕ) (used : Type 0) (now : Option IoError) (before after : ℕ) → lsn <ℤ pos stable → held ≡ None → (used → pos stable ≤ℤ lsn)

@@ -20,7 +20,7 @@ use Rattle.sled_core.specs.Running.{FitsIn, FitsLine}
 use Rattle.sled_core.specs.SealedBuffers.{AreSealed}
 use Rattle.sled_core.specs.Tickets.{IsFor, index_of}
 use Rattle.sled_core.specs.Turned.{reserved_now}
-use Rattle.sled_core.specs.Waiting.{BufferAt, at_last, buffer_at, last_of, unwritten, unwritten_in, unwritten_of}
+use Rattle.sled_core.specs.Waiting.{at_last, buffer_at, last_of, unwritten_in}
 use Rattle.sled_core.proofs.Behind.Calls.{behind-append}
 use Rattle.sled_core.proofs.Behind.FitsCalls.{behind-fits-reserved}
 use Rattle.sled_core.proofs.Holds.HoldsLemmas.{body-append}
@@ -150,10 +150,6 @@ module _ (sum : List ℕ → ℕ) (size : ℕ) (more : List ℕ) (r : Reserved) 
       ap (λ (l : List Reserved). buffer_at site (bytes ++ more) from b.end l) (take-append-le b.count rs (r ∷ []) within)
       ∙ ap (λ (l : List ℕ). record (buffer_at site bytes from b.end (take b.count rs)) { bytes = drop from l }) (take-append-le b.end bytes more end) in
       λ i. if b.is_written then rest i else here i ∷ rest i
-
-  pub unwritten_reserved : (v : SegmentView) (vs : List SegmentView) → HasPlaceFor sum size more r (last_of v vs) → unwritten (at_last now (v ∷ vs)) ≡ unwritten (v ∷ vs)
-  unwritten_reserved v [] its = ap (λ (l : List BufferAt). l ++ []) (unwritten_more v.parts.site v.parts.bytes v.parts.written_len v.parts.sealed v.parts.reserved its.are (its_rise v its))
-  unwritten_reserved v (w ∷ ws) its = ap (λ (l : List BufferAt). unwritten_of v.parts ++ l) (unwritten_reserved w ws its)
 
   -- All begins below the end of the new record.
   pub filled_reserved : (to to' place : ℕ) (v : SegmentView) (vs : List SegmentView) → AreSegments size place (v ∷ vs) → r.state ≡ Open → r.from ≡ length (last_of v vs).parts.bytes → 0 < length more

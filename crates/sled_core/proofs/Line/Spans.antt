@@ -116,9 +116,6 @@ sealed_adds v =
 pub sealed_begin : (v : SegmentView) → begin_of (sealed_now v) ≡ length v.parts.bytes
 sealed_begin v = end_one v.parts.written_len v.parts.sealed (seal_at (length v.parts.bytes) (drop (sealed_count v.parts.sealed) v.parts.reserved))
 
-pub line_sealed_adds : (v : SegmentView) (vs : List SegmentView) → AddsSpan (unwritten (v ∷ vs)) (unwritten (at_last sealed_now (v ∷ vs))) (current_span (last_of v vs) (length (last_of v vs).parts.bytes))
-line_sealed_adds v vs = let one = sealed_adds (last_of v vs) in record { more = one.more; is = at_last_more sealed_now v vs one.more one.is; seen = one.seen }
-
 pub sealed_start : (d v : SegmentView) (vs : List SegmentView) → start_in (last_of d (at_last sealed_now (v ∷ vs)))
     ≡ record { place = (last_of v vs).parts.site.place + length (last_of v vs).parts.bytes; lid = (last_of v vs).parts.site.slot + length (last_of v vs).parts.bytes }
 sealed_start d v vs =

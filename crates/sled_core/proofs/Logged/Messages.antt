@@ -264,11 +264,3 @@ put_real P H m R' adds is = let real = adds_real H m R' adds in (real.0, real.1,
 -- A batch is noted of what the log has of a history where it is of the history.
 pub batch_logged : (H : History) (b : Batch) (H' : History) → AddsBatch H b H' → AddsBatch (logged H) b (logged H')
 batch_logged H b H' adds = record { pegged = adds.pegged; messages = ap (map in_log) adds.messages; batches = adds.batches }
-
--- And where it is noted of that it can be of the history.
-pub batch_real : (H : History) (b : Batch) (R' : History) → AddsBatch (logged H) b R' → (H' : History) × AddsBatch H b H' × (logged H' ≡ R')
-batch_real H b R' adds =
-    let H' : History = record { messages = H.messages; batches = H.batches ++ b ∷ [] } in
-    let messages : map in_log H.messages ≡ R'.messages = sym adds.messages in
-    let batches : H.batches ++ b ∷ [] ≡ R'.batches = sym adds.batches in
-    (H', record { pegged = adds.pegged; messages = refl; batches = refl }, λ i. record { messages = messages i; batches = batches i })

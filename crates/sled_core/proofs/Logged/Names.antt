@@ -1,19 +1,18 @@
 -- Snapshots, slots and batches that fit a history fit each one that is alike, and what is ready for the one is ready for the other.
 use Rattle.std.proofs.Common.{◌≡◌, ◌∙◌, ◌+◌, ◌*◌, ◌/◌, ◌%◌, ◌≤◌, ◌<◌, ℕ, ℤ, List, Option, Some, None, sym, ap, subst}
-use Rattle.sled_codec.specs.History.{Message, Batch, History}
+use Rattle.sled_codec.specs.History.{Message, History}
 use Rattle.sled_codec.specs.Pointers.{lid_of}
 use Rattle.sled_codec.specs.Snapshots.{SnapshotModel, stable_place}
 use Rattle.sled_store.specs.Device.{NamesState, State}
 use Rattle.sled_store.specs.SegmentStates.{Machine}
-use Rattle.sled_core.specs.Fits.{CloseBelow, FitsBatches}
+use Rattle.sled_core.specs.Fits.{CloseBelow}
 use Rattle.sled_core.specs.LogFile.{StandsHere}
 use Rattle.sled_core.specs.Logged.{logged}
-use Rattle.sled_core.specs.OpenBatches.{AreApart}
 use Rattle.sled_core.specs.Ready.{HasActive, HasFile, HasNoActive, HaveRecords, IsReady, StandsUsed, active_site}
 use Rattle.sled_core.specs.Recoverable.{AreRecoverableSnapshots, IsTableFile}
 use Rattle.sled_core.specs.Running.{NamesFit}
 use Rattle.sled_core.specs.Slots.{HaveEntries}
-use Rattle.sled_core.proofs.Logged.Alike.{alike_apart, alike_batch, alike_batches, alike_below, alike_there, cut_alike, entry_alike, table_alike}
+use Rattle.sled_core.proofs.Logged.Alike.{alike_apart, alike_batches, alike_below, alike_there, cut_alike, entry_alike, table_alike}
 use Rattle.sled_core.proofs.Logged.Messages.{inline_alike}
 
 module _ (H R : History) (same : logged H ≡ logged R) where
@@ -22,20 +21,6 @@ module _ (H R : History) (same : logged H ≡ logged R) where
   -- those of the one begin and end below a place where those of the other do
   pub close_alike : (place : ℕ) → CloseBelow place H.batches → CloseBelow place R.batches
   close_alike place close = subst (CloseBelow place) (alike_batches H R same) close
-
-  -- what a log has noted fits them
-  pub batches_alike : (end last : ℕ) (noted : List Batch) → FitsBatches end last noted H → FitsBatches end last noted R
-  batches_alike end last noted fits = record {
-    known = λ b there. alike_batch H R same b (fits.known b there);
-    all = λ b there behind. fits.all b (alike_batch R H (sym same) b there) behind;
-    within = close_alike last fits.within;
-    apart = subst (AreApart end) (alike_batches H R same) fits.apart;
-    before = λ m there b found behind low.
-        let other = alike_there R H (sym same) m there in
-        let ends = fits.before other.0 other.1 b (alike_batch R H (sym same) b found) behind (subst (λ (x : Message). x.place < b.low) (sym other.2) low) in
-        subst (λ (x : Message). x.place + x.size ≤ b.low) other.2 ends;
-    rising = λ b there. fits.rising b (alike_batch R H (sym same) b there);
-  }
 
   module _ (sum : List ℕ → ℕ) where
     -- Snapshots.

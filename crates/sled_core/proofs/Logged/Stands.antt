@@ -11,7 +11,6 @@ use Rattle.sled_core.specs.declared.iterator.Segment.{Segment}
 use Rattle.sled_core.specs.declared.iterator.scan.ScannedRecord.{ScannedRecord}
 use Rattle.sled_core.specs.declared.iterator.scan.RecordContent.TheVariants.{Gives}
 use Rattle.sled_core.specs.declared.iterator.scan.ScanEnd.{ScanEnd}
-use Rattle.sled_core.specs.Full.{StandsFull}
 use Rattle.sled_core.specs.LogFile.{MessageStands}
 use Rattle.sled_core.specs.Logged.{in_log, logged}
 use Rattle.sled_core.specs.OpenBatches.{stable_below}
@@ -199,14 +198,3 @@ module _ (H R : History) (same : logged H ≡ logged R) where
     -- so where a log goes on from a snapshot
     pub active_alike : (s : SnapshotModel) → StandsActive sum size log s H → StandsActive sum size log s R
     active_alike s active = record { stands = stands_alike (stable_place s.stable) s (stable_place s.stable) active.stands; only = active.only; going = active.going }
-
-    -- so where the first segments are wholly on the device
-    pub full_alike : (place : ℕ) (others : List BegunSegment) (reach : ℕ) (first : SnapshotModel) → StandsFull sum size log place others reach H first → StandsFull sum size log place others reach R first
-    full_alike place others reach first full = record {
-      stands = stands_alike_at (stable_below reach H.batches) (stable_below reach R.batches) first reach (stable_same reach) full.stands;
-      leads = full.leads;
-      near = begins_next_alike size reach place full.near;
-      behind = full.behind;
-      last = full.last;
-      below = full.below;
-    }

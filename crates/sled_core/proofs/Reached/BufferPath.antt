@@ -220,14 +220,6 @@ buffer_mark H slot place ended = record {
   apart = λ b there. elim (cases_lt b.low place) [ inl lower ↦ inr (mark_higher place b.peg (ended b there lower)) | inr higher ↦ inl (mark_lower place b.low (omega (arith, higher))) ];
 }
 
--- Where no batch is open at what was reached, none is at the segment.
-pub ended_there : (size : ℕ) (H : History) (reach place : ℕ) → (reach ≡ place) ⊎ BeginsNext size H reach place → ((b : Batch) → Contains H.batches b → b.low < reach → b.peg < reach)
-    → (b : Batch) → Contains H.batches b → b.low < place → b.peg < place
-ended_there size H reach place (inl at) ended b there lower = let peg = ended b there (omega (arith, at, lower)) in omega (arith, at, peg)
-ended_there size H reach place (inr g) ended b there lower =
-    let above = g.above in
-    elim (g.no_batch b there) [ inl low ↦ (let peg = ended b there low in omega (arith, peg, above)) | inr high ↦ absurd (omega (arith, high, lower)) ]
-
 -- And a mark that lies below the segment lies below what was reached, or in front of the segment.
 pub buffer_mark_below : (size : ℕ) (H : History) (reach place : ℕ) (mark : ℤ) → (reach ≡ place) ⊎ BeginsNext size H reach place → mark <ℤ pos place → IsMarkBelow size H reach mark
 buffer_mark_below size H reach place mark (inl at) below = inl (omega (arith, ints, at, below))

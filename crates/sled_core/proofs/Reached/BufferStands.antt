@@ -21,7 +21,7 @@ use Rattle.sled_codec.specs.History.{Message}
 use Rattle.sled_codec.proofs.Records.{short_is_record}
 use Rattle.sled_store.specs.Device.{overwritten}
 use Rattle.sled_store.proofs.LogFile.LooseLemmas.{end_of-some}
-use Rattle.sled_store.proofs.LogFile.OverwrittenLemmas.{length-overwritten, overwritten-part}
+use Rattle.sled_store.proofs.LogFile.OverwrittenLemmas.{length-overwritten}
 use Rattle.sled_core.specs.declared.iobuf.ReservationState.{ReservationState}
 use Rattle.sled_core.specs.declared.iobuf.ReservationState.TheVariants.{Open, Completed, Canceled, Manifest, Padding}
 use Rattle.sled_core.specs.declared.iobuf.Reserved.{Reserved}
@@ -284,16 +284,3 @@ module _ (old bytes : List ℕ) (slot from : ℕ) (behind : from < length bytes)
 
   pub written_within : slot + length bytes ≤ length new
   written_within = omega (arith, length-overwritten old (slot + from) asked, end_of-some (slot + from) (length asked) (omega (arith, length-drop from bytes, behind)), length-drop from bytes, behind)
-
-  pub written_agrees : Agrees new slot bytes from (length bytes)
-  written_agrees = record {
-    same = λ i le below.
-        let k : ℕ = i - from in
-        let at : slot + i ≡ slot + from + k = omega (arith, le) in
-        let there : from + k ≡ i = omega (arith, le) in
-        ap (λ j. get_or new j 0) at ∙ sym (get_or-drop (slot + from) new k 0)
-        ∙ sym (get_or-take (length asked) (drop (slot + from) new) k 0 (omega (arith, length-drop from bytes, below, le)))
-        ∙ ap (λ (l : List ℕ). get_or l k 0) (overwritten-part old (slot + from) asked) ∙ get_or-drop from bytes k 0 ∙ ap (λ j. get_or bytes j 0) there;
-    in_file = written_within;
-    in_bytes = omega arith;
-  }

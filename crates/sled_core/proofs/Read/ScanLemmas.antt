@@ -5,9 +5,7 @@ use Rattle.std.proofs.Math.Nat.{mod-add-div'}
 use Rattle.std.proofs.lemmas.Nat.{mod-mul-add, div-mul-add}
 use Rattle.sled_core.specs.declared.iterator.scan.ScanEnd.{ScanEnd}
 use Rattle.sled_core.specs.declared.iterator.scan.ScanEnd.TheVariants.{Full, Capped, Broken}
-use Rattle.sled_core.specs.declared.iterator.scan.Step.{Step}
-use Rattle.sled_core.specs.declared.iterator.scan.Step.TheVariants.{Meets, Ends}
-use Rattle.sled_core.specs.Scan.{IsMet, IsStep, IsPath, HasPlace, EndsThere, IsEnd}
+use Rattle.sled_core.specs.Scan.{IsMet, IsPath, EndsThere, IsEnd}
 use Rattle.sled_core.proofs.Read.ReadingLemmas.{header_some, laid_of}
 
 -- a record that is met is not shorter than a header, and lies in its slot
@@ -18,14 +16,6 @@ met_fits sum size log lid number m met =
     let some = header_some stands.header met.0 stands.spelled in
     let long = (laid_of sum size log lid number met.0 met.1 m.len stands).1 in
     (omega (arith, some, long), stands.in_slot)
-
--- what is met at an offset of a slot lies in the segment
-pub step_fits : (sum : List ℕ → ℕ) (size : ℕ) (log : List ℕ) (slot at place number : ℕ) (step : Step) → (slot + at) % size ≡ at → IsStep sum size log (slot + at) place number step → HasPlace size at step
-step_fits sum size log slot at place number (Meets m) offset is =
-    let fits = met_fits sum size log (slot + at) number m is.1 in
-    let end = fits.1 in
-    (fits.0, omega (arith, offset, end))
-step_fits sum size log slot at place number (Ends why) offset is = tt
 
 module _ (sum : List ℕ → ℕ) (size : ℕ) (log : List ℕ) (slot place : ℕ) where
   -- one more record at the end of a path

@@ -50,9 +50,6 @@ module _ (sum : List ℕ → ℕ) (size number : ℕ) where
     pub padding_in : r.state ≡ Padding → Stands sum size number bytes r → IsPadding sum size number bytes r
     padding_in is stands = subst (λ (s : ReservationState). StandsBy s sum size number bytes r) is stands
 
-    pub in_padding : r.state ≡ Padding → IsPadding sum size number bytes r → Stands sum size number bytes r
-    in_padding is stands = subst (λ (s : ReservationState). StandsBy s sum size number bytes r) (sym is) stands
-
     -- either has a byte
     by_some : (s : ReservationState) → StandsBy s sum size number bytes r → 0 < r.len
     by_some Open stands = let a = stands.text.headed in let b = stands.text.long in omega (arith, a, b)

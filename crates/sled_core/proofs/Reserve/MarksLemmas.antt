@@ -186,9 +186,6 @@ module _ (sum : List ℕ → ℕ) (number : ℕ) (bytes : List ℕ) (r : Reserve
     pub marked_long : length marked ≡ length bytes
     marked_long = let le = marks_short in length-written bytes (marking sum bytes r peg) r.from (omega (arith, le, within))
 
-    pub text_marked : text_in marked r ≡ short_record sum r.kind r.page number (low_bytes 8 peg)
-    text_marked = text_ends (low_bytes 8 peg) low_long
-
     pub body_marked : body_in marked r ≡ low_bytes 8 peg
     body_marked = body_ends (low_bytes 8 peg) low_long
 

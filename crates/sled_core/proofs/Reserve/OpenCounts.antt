@@ -1,5 +1,5 @@
 -- How many reservations are open: none where all ended, one more behind a new one, and one fewer once one has ended; and which is the first.
-use Rattle.std.proofs.Common.{◌≡◌, ◌≤◌, ◌<◌, ◌+◌, ℕ, zero, suc, Bool, true, false, if◌then◌else◌, List, [], ◌∷◌, ◌++◌, length, drop, set, refl, ap, sym, ◌∙◌, arith, nat_eq, Some}
+use Rattle.std.proofs.Common.{◌≡◌, ◌≤◌, ◌<◌, ◌+◌, ℕ, zero, suc, Bool, true, false, if◌then◌else◌, List, [], ◌∷◌, ◌++◌, drop, set, refl, ap, sym, ◌∙◌, arith, nat_eq, Some}
 use Rattle.std.proofs.lemmas.Bool.Decides.{nat_tests}
 use Rattle.std.specs.List.{All, slice_get}
 use Rattle.std.proofs.lemmas.List.Elements.{All-tail}
@@ -40,15 +40,6 @@ open_fewer (x ∷ rs) zero r new there is ends =
     ap (λ (s : ReservationState). if open_state s then suc (open_in rs) else open_in rs) (ap (λ (y : Reserved). y.state) same ∙ is)
     ∙ omega arith ∙ sym (ap (λ (b : Bool). (if b then suc (open_in rs) else open_in rs) + 1) ends)
 open_fewer (x ∷ rs) (suc i) r new there is ends = more_step (open_state x.state) (open_in (set rs i new)) (open_in rs) (open_fewer rs i r new there is ends)
-
-within_step : (b : Bool) (n m : ℕ) → n ≤ m → (if b then suc n else n) ≤ suc m
-within_step true n m le = omega (arith, le)
-within_step false n m le = omega (arith, le)
-
--- no more than there are
-pub open_within : (rs : List Reserved) → open_in rs ≤ length rs
-open_within [] = omega arith
-open_within (r ∷ rs) = within_step (open_state r.state) (open_in rs) (length rs) (open_within rs)
 
 -- none is open where all have ended
 pub none_open_count : (rs : List Reserved) → none_open rs ≡ true → open_in rs ≡ 0

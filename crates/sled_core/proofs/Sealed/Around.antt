@@ -109,10 +109,6 @@ pub record IsAround (at k : ℕ) (bs : List Sealed) (b : Sealed) : Type 0 where
   pub below : (j : ℕ) (d : Sealed) → j < k → (get_or bs j d).end ≤ at
   pub above : at < b.end
 
--- those behind the first one
-around_rest : (at k : ℕ) (x : Sealed) (bs : List Sealed) (b : Sealed) → IsAround at (suc k) (x ∷ bs) b → IsAround at k bs b
-around_rest at k x bs b is = record { there = is.there; below = λ j d lt. is.below (suc j) d (omega (arith, lt)); above = is.above }
-
 -- What a sealed buffer at an index has.
 pub sealed_at : (from : ℕ) (rs : List Reserved) (bs : List Sealed) (k : ℕ) (b : Sealed) → AreSealed from rs bs → slice_get bs k ≡ Some b → IsSealed (sealed_end from (take k bs)) (take b.count (drop (sealed_count (take k bs)) rs)) b
 sealed_at from rs [] k b are there = absurd (let within = slice_get_within [] k b there in omega (arith, within))

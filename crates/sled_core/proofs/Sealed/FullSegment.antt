@@ -1,17 +1,16 @@
 -- Where no header has room behind what was written of a segment, that is full, without a byte behind its records: the next one begins, in a slot of zeros, or goes on as far as it was written before.
-use Rattle.std.proofs.Common.{◌≡◌, ◌≤◌, ◌<◌, ◌+◌, ◌-◌, ◌%◌, ◌∙◌, ℕ, List, get_or, refl, sym, arith, inl, inr}
+use Rattle.std.proofs.Common.{◌≡◌, ◌≤◌, ◌<◌, ◌+◌, ◌-◌, ◌%◌, ◌∙◌, ℕ, List, refl, sym, arith, inl, inr}
 use Rattle.sled_codec.specs.Coords.{raised}
 use Rattle.sled_codec.specs.History.{History}
 use Rattle.sled_codec.specs.Snapshots.{SnapshotModel}
 use Rattle.sled_core.specs.declared.iobuf.SegmentPosition.{SegmentPosition}
 use Rattle.sled_core.specs.declared.iterator.scan.ScanEnd.{ScanEnd}
 use Rattle.sled_core.specs.declared.iterator.scan.ScanEnd.TheVariants.{Full, Capped, Broken}
-use Rattle.sled_core.specs.Reached.{BegunSegment, LeadsTo, StandsAlone, StandsAmong}
-use Rattle.sled_core.specs.Recoverable.{NoHeaderOfZeros, NoMessageBegins, NoBatchBegins, NoBatchEnds}
+use Rattle.sled_core.specs.Reached.{BegunSegment, LeadsTo, StandsAmong}
+use Rattle.sled_core.specs.Recoverable.{NoMessageBegins, NoBatchBegins, NoBatchEnds}
 use Rattle.sled_core.specs.Scan.{IsEnd, IsScan}
 use Rattle.sled_core.specs.Tail.{Scanned, least_place}
 use Rattle.sled_core.specs.Full.{StandsFull}
-use Rattle.sled_core.proofs.Reached.NextSegment.{begins_alone}
 use Rattle.sled_core.proofs.Reached.Marks.{less_than}
 use Rattle.sled_core.proofs.Tail.Multiples.{next_multiple, one_multiple}
 use Rattle.sled_core.proofs.Tail.OneTail.{segment_there}
@@ -59,12 +58,3 @@ module _ (sum : List ℕ → ℕ) (size : ℕ) (some : 256 ≤ size) (log : List
     last = λ s found. elim (among.last s found) [ inl under ↦ inl (omega (arith, under, some)) | inr one ↦ inr one ];
     below = λ s found. less_than s.mark (site.place + from) (site.place + size) (omega (arith, within)) (among.below s found);
   }
-
--- Where none was begun, the next one is to begin in a slot of zeros.
-pub full_alone : (sum : List ℕ → ℕ) (none : NoHeaderOfZeros sum) (size : ℕ) (some : 256 ≤ size) (log : List ℕ) (site : SegmentPosition) (place_begins : site.place % size ≡ 0)
-    (from : ℕ) (begun : 0 < from) (within : from ≤ size) (full : size < from + 32) (H : History) (first : SnapshotModel) (low : least_place size first ≤ site.place) (alone : StandsAlone sum size log site from (site.place + from) H first)
-    → NoMessageBegins H (site.place + from) (site.place + size) → NoBatchBegins H (site.place + from) (site.place + size) → NoBatchEnds H (site.place + from) (site.place + size)
-    → (slot' : ℕ) → ((i : ℕ) → slot' ≤ i → i < slot' + 20 → get_or log i 0 ≡ 0) → StandsAlone sum size log (record { place = site.place + size; slot = slot' }) 0 (site.place + from) H first
-full_alone sum none size some log site place_begins from begun within full H first low alone no_message no_batch no_end slot' zeros =
-    begins_alone sum none size log (site.place + size) (site.place + from) H first slot' zeros
-    (full_among sum size some log site place_begins from begun within full H first low alone no_message no_batch no_end)

@@ -2,12 +2,12 @@
 use Rattle.std.proofs.Common.{◌≡◌, ◌∙◌, ◌≤◌, ◌<◌, ◌+◌, ◌-◌, ◌==◌, nat_lt, ℕ, zero, suc, Bool, true, false, if◌then◌else◌, max, List, [], ◌∷◌, ◌++◌, length, take, drop, None, Some, refl, sym, ap, arith}
 use Rattle.std.specs.List.{slice_get}
 use Rattle.std.proofs.lemmas.Bool.Decides.{nat_tests}
-use Rattle.std.proofs.lemmas.List.{append-nil, drop-drop, take_all, take-append-drop}
+use Rattle.std.proofs.lemmas.List.{append-nil, drop-drop, take_all}
 use Rattle.sled_store.specs.Device.{Event}
 use Rattle.sled_core.specs.declared.iobuf.Reserved.{Reserved}
 use Rattle.sled_core.specs.declared.iobuf.Sealed.{Sealed}
 use Rattle.sled_core.specs.Buffers.{first_open_in, none_open, open_in, open_state}
-use Rattle.sled_core.specs.SealedBuffers.{AreSealed, FirstUnwritten, behind_run, bytes_between, current_buffer, first_ready, is_ready, now_written, ready_count, ready_marked, ready_write, ready_writes, reserved_below, run_count, run_end, seal_at, sealed_count, sealed_end, writing, written_at}
+use Rattle.sled_core.specs.SealedBuffers.{AreSealed, behind_run, bytes_between, current_buffer, first_ready, is_ready, now_written, ready_count, ready_marked, ready_write, ready_writes, reserved_below, run_count, run_end, seal_at, sealed_count, sealed_end, writing, written_at}
 use Rattle.sled_core.proofs.Reserve.OpenCounts.{none_open_count}
 use Rattle.sled_core.proofs.Reserve.Ranges.{chain_grows}
 use Rattle.sled_core.proofs.Sealed.EndedParts.{ended_behind, ended_front}
@@ -174,31 +174,6 @@ pub record IsHeldUp (to from : ℕ) (bs : List Sealed) (rs : List Reserved) : Ty
   pub some : 0 < open_in rs
   pub first : first_open_in (reserved_below to from bs rs) ≡ first_open_in rs
 
-pub stuck_held : (to from : ℕ) (b : Sealed) (bs : List Sealed) (rs : List Reserved) → AreSealed from rs (b ∷ bs) → b.is_written ≡ false → is_ready b ≡ false → nat_lt from to ≡ true → IsHeldUp to from (b ∷ bs) rs
-stuck_held to from b bs rs are fresh stuck below =
-    let own : List Reserved = take b.count rs in
-    let later : List Reserved = drop b.count rs in
-    let has : 0 < b.open_count = grind (arith, nat_tests, sym (ap (λ (w : Bool). if w then false else (b.open_count == 0)) fresh) ∙ stuck) in
-    let same = are.0.still_open in
-    let some : 0 < open_in own = omega (arith, has, same) in
-    let whole : own ++ later ≡ rs = take-append-drop b.count rs in
-    record {
-      some = (let le = open_front own later in omega (arith, some, le, ap open_in whole));
-      first = ap (λ (o : Bool). first_open_in (if o then own ++ reserved_below to b.end bs later else [])) below
-          ∙ first_front own (reserved_below to b.end bs later) some ∙ sym (first_front own later some) ∙ ap first_open_in whole;
-    }
-
-pub alone_held : (to from : ℕ) (rs : List Reserved) → 0 < open_in rs → nat_lt from to ≡ true → IsHeldUp to from [] rs
-alone_held to from rs some below = record { some = some; first = ap (λ (o : Bool). first_open_in (if o then rs else [])) below }
-
--- Where the first buffer begins no lower than the offset nothing is written, and nothing holds that up.
-pub past_writes : (slot : ℕ) (bytes : List ℕ) (to from : ℕ) (bs : List Sealed) (rs : List Reserved) → FirstUnwritten bs → nat_lt from to ≡ false
-    → ready_writes slot bytes to from (bs ++ current_buffer (length bytes) (drop (sealed_count bs) rs)) ≡ []
-past_writes slot bytes to from [] [] fresh past = refl
-past_writes slot bytes to from [] (r ∷ rs) fresh past = writes_none slot bytes to from (seal_at (length bytes) (r ∷ rs)) [] refl (ap (λ (o : Bool). if o then is_ready (seal_at (length bytes) (r ∷ rs)) else false) past)
-past_writes slot bytes to from (b ∷ bs) rs fresh past =
-    writes_none slot bytes to from b (bs ++ current_buffer (length bytes) (drop (sealed_count (b ∷ bs)) rs)) fresh (ap (λ (o : Bool). if o then is_ready b else false) past)
-
 -- The current buffer alone is written whole.
 pub current_writes : (slot : ℕ) (bytes : List ℕ) (to from : ℕ) (rs : List Reserved) → 0 < length rs → none_open rs ≡ true → nat_lt from to ≡ true
     → ready_writes slot bytes to from ([] ++ current_buffer (length bytes) (drop 0 rs)) ≡ writing (slot + from) (drop from bytes) []
@@ -261,29 +236,6 @@ ready_behind (b ∷ bs) = by_test b.is_written refl (ready_behind bs) where
   by_test : (o : Bool) → b.is_written ≡ o → ready_count (behind_run bs) ≡ ready_count bs → ready_count (if o then behind_run bs else b ∷ bs) ≡ ready_count (b ∷ bs)
   by_test true is rest = rest ∙ sym (ap (λ (w : Bool). if (if w then false else (b.open_count == 0)) then suc (ready_count bs) else ready_count bs) is)
   by_test false is rest = refl
-
-count_marked : (bs : List Sealed) (k : ℕ) → ((b : Sealed) → slice_get bs k ≡ Some b → is_ready b ≡ true) → k < length bs → ready_count bs ≡ ready_count (written_at k bs) + 1
-count_marked [] k ready within = absurd (omega (arith, within))
-count_marked (b ∷ bs) zero ready within = ap (λ (o : Bool). if o then suc (ready_count bs) else ready_count bs) (ready b refl) ∙ omega arith
-count_marked (b ∷ bs) (suc k) ready within = by_test (is_ready b) (count_marked bs k ready (omega (arith, within))) where
-  by_test : (o : Bool) → ready_count bs ≡ ready_count (written_at k bs) + 1
-      → (if o then suc (ready_count bs) else ready_count bs) ≡ (if o then suc (ready_count (written_at k bs)) else ready_count (written_at k bs)) + 1
-  by_test true rest = omega (arith, rest)
-  by_test false rest = rest
-
-pub fewer_ready : (bs : List Sealed) (k : ℕ) → ((b : Sealed) → slice_get bs k ≡ Some b → is_ready b ≡ true) → k < length bs → ready_count bs ≡ ready_count (behind_run (written_at k bs)) + 1
-fewer_ready bs k ready within = count_marked bs k ready within ∙ ap (λ n. n + 1) (sym (ready_behind (written_at k bs)))
-
--- nor is the current buffer, with an open one
-pub open_current : (slot : ℕ) (bytes : List ℕ) (to from : ℕ) (rs : List Reserved) → 0 < open_in rs → ready_writes slot bytes to from ([] ++ current_buffer (length bytes) (drop 0 rs)) ≡ []
-open_current slot bytes to from [] some = refl
-open_current slot bytes to from (r ∷ rs) some = writes_none slot bytes to from (seal_at (length bytes) (r ∷ rs)) [] refl (stuck (nat_lt from to)) where
-  not_none : (open_in (r ∷ rs) == 0) ≡ false
-  not_none = grind (arith, nat_tests, some)
-
-  stuck : (o : Bool) → (if o then (open_in (r ∷ rs) == 0) else false) ≡ false
-  stuck true = not_none
-  stuck false = refl
 
 -- The i-th of those that can be written, by its index, once it is.
 pub pending_marked : (bs : List Sealed) (k i : ℕ) → ((b : Sealed) → slice_get bs k ≡ Some b → is_ready b ≡ true) → k < length bs → ready_count (take k bs) ≡ i → ready_marked i bs ≡ written_at k bs

@@ -1,7 +1,7 @@
 -- How many reservations of sealed buffers are open, and how many of the buffers can be written.
-use Rattle.std.proofs.Common.{◌≡◌, ◌≤◌, ◌<◌, ◌+◌, ℕ, zero, suc, Bool, true, false, if◌then◌else◌, List, [], ◌∷◌, length, nat_eq, take, drop, get_or, sym, ◌∙◌, ap, arith, refl}
+use Rattle.std.proofs.Common.{◌≡◌, ◌≤◌, ◌<◌, ◌+◌, ℕ, zero, suc, Bool, true, false, if◌then◌else◌, List, [], ◌∷◌, nat_eq, take, drop, sym, ◌∙◌, ap, arith, refl}
 use Rattle.std.specs.List.{All}
-use Rattle.std.proofs.lemmas.List.{at_drop_more, drop-drop}
+use Rattle.std.proofs.lemmas.List.{drop-drop}
 use Rattle.std.proofs.lemmas.List.Elements.{All-cons, All-head, All-nil, All-tail}
 use Rattle.sled_core.specs.declared.iobuf.Reserved.{Reserved}
 use Rattle.sled_core.specs.declared.iobuf.Sealed.{Sealed}
@@ -41,18 +41,6 @@ pub ready_parts : (n : ℕ) (bs : List Sealed) → ready_count bs ≡ ready_coun
 ready_parts zero bs = omega arith
 ready_parts (suc n) [] = refl
 ready_parts (suc n) (b ∷ bs) = part_step (is_ready b) (ready_count bs) (ready_count (take n bs)) (ready_count (drop n bs)) (ready_parts n bs)
-
--- those from an index on
-pub ready_from : (bs : List Sealed) (k : ℕ) (b : Sealed) → k < length bs → b ≡ get_or bs k b → ready_count (drop k bs) ≡ (if is_ready b then suc (ready_count (drop (k + 1) bs)) else ready_count (drop (k + 1) bs))
-ready_from bs k b below is = at_drop_more ready_count bs k b below ∙ ap (λ (c : Sealed). ready_count (c ∷ drop (k + 1) bs)) (sym is)
-
--- no more than there are
-pub ready_within : (bs : List Sealed) → ready_count bs ≤ length bs
-ready_within [] = omega arith
-ready_within (b ∷ bs) = by_test (is_ready b) (ready_within bs) where
-  by_test : (o : Bool) → ready_count bs ≤ length bs → (if o then suc (ready_count bs) else ready_count bs) ≤ suc (length bs)
-  by_test true le = omega (arith, le)
-  by_test false le = omega (arith, le)
 
 -- Whether none is open, where all behind the buffers have ended.
 

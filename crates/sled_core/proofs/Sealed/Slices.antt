@@ -1,16 +1,10 @@
 -- Slices of a segment's bytes, and the calls that write them.
-use Rattle.std.proofs.Common.{◌≡◌, ◌∙◌, ◌+◌, ◌-◌, ◌≤◌, ℕ, zero, suc, List, [], ◌∷◌, length, take, drop, Some, ap, sym, subst, arith, length-drop}
+use Rattle.std.proofs.Common.{◌≡◌, ◌∙◌, ◌+◌, ◌-◌, ◌≤◌, ℕ, zero, suc, List, [], ◌∷◌, take, drop, Some, ap, sym, subst, arith}
 use Rattle.std.specs.List.{slice_get}
-use Rattle.std.proofs.lemmas.List.{drop-take, take_all}
-use Rattle.sled_store.specs.Device.{Trace, Wrote, Synced}
-use Rattle.sled_store.specs.Script.{Performs}
+use Rattle.std.proofs.lemmas.List.{drop-take}
 use Rattle.sled_core.specs.declared.iobuf.Sealed.{Sealed}
 use Rattle.sled_core.specs.SealedBuffers.{bytes_between, sealed_end}
 use Rattle.sled_core.proofs.Sealed.LaidLemmas.{EndsRise, ends_below}
-
--- the bytes behind an offset, as a slice has them
-pub slice_behind : (whole items : List ℕ) (from : ℕ) → whole ≡ items → take (length whole - from) (drop from whole) ≡ drop from items
-slice_behind whole items from same = take_all (length whole - from) (drop from whole) (omega (arith, length-drop from whole)) ∙ ap (drop from) same
 
 -- those between two offsets, as a slice has them
 pub slice_between : (whole items : List ℕ) (from to : ℕ) → from ≤ to → whole ≡ items → take (to - from) (drop from whole) ≡ bytes_between items from to
@@ -37,7 +31,3 @@ span_within from bs k to rise = subst (λ n. (sealed_end from (take k bs) ≤ se
     within from [] (suc k) to rise = (omega arith, rise)
     within from (b ∷ bs) zero to rise = let low = rise.0 in let rest = ends_below b.end bs to rise.1 in (omega (arith, low), omega (arith, rest.0, rest.1))
     within from (b ∷ bs) (suc k) to rise = within b.end bs k to rise.1
-
--- the calls on these bytes
-pub on_bytes : (at : ℕ) (xs ys : List ℕ) (old new : Trace) → xs ≡ ys → Performs (Wrote at xs xs ∷ Synced ∷ []) old new → Performs (Wrote at ys ys ∷ Synced ∷ []) old new
-on_bytes at xs ys old new same came = subst (λ (x : List ℕ). Performs (Wrote at x x ∷ Synced ∷ []) old new) same came

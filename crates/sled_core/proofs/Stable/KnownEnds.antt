@@ -25,17 +25,6 @@ known_end v s is bs r at k =
 abbrev Beyond : ℤ → List (ℤ × ℤ) → Type 0
 Beyond e is = All (λ i. (e +ℤ pos 1) <ℤ i.0) is
 
--- what holds the same knows the same
-pub same_known : (old new : StabilityIntervals) → contiguous_of new ≡ contiguous_of old → ahead_of new ≡ ahead_of old → batches_of new ≡ batches_of old
-    → (s : ℤ) (is bs : List (ℤ × ℤ)) → Knows old s is bs → Knows new s is bs
-same_known old new end ahead batches s is bs k = record {
-  contiguous = rw end k.contiguous;
-  reached = rw (end, ahead) k.reached;
-  beyond = subst (λ e. Beyond e (ahead_of new)) (sym end) (subst (Beyond (contiguous_of old)) (sym ahead) k.beyond);
-  awaited = rw (end, batches) k.awaited;
-  open_yet = subst (λ l. All (λ b. contiguous_of new <ℤ b.1) l) (sym batches) (subst (λ e. All (λ b. e <ℤ b.1) (batches_of old)) (sym end) k.open_yet);
-}
-
 -- an interval beyond the next place is kept
 pub ahead_known : (old new : StabilityIntervals) (i : ℤ × ℤ) → contiguous_of new ≡ contiguous_of old → IsPermutation (i ∷ ahead_of old) (ahead_of new) → batches_of new ≡ batches_of old
     → (contiguous_of old +ℤ pos 1) <ℤ i.0 → (s : ℤ) (is bs : List (ℤ × ℤ)) → Knows old s is bs → Knows new s (i ∷ is) bs

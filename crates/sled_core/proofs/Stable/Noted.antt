@@ -147,13 +147,3 @@ held_is bs e place left at x a below lt is up b c h = of (All-contains (λ y. (y
     of : (b.1 ≤ℤ e) ⊎ Contains left b → b ≡ x
     of (inl le) = let open_yet = h.open_yet in absurd (omega (arith, ints))
     of (inr (k, high, same)) = by k high same (compare k at)
-
--- where all have ended by the place, none holds it
-pub none_held : (bs : List (ℤ × ℤ)) (e place : ℤ) (left : List (ℤ × ℤ)) → AreWaiting bs e left → AllWithin (λ b. b.1 ≤ℤ place) left 0 (length left) → (b : ℤ × ℤ) → Contains bs b → IsOpenAround e place b → ⊥
-none_held bs e place left a below b c h = of (All-contains (λ y. (y.1 ≤ℤ e) ⊎ Contains left y) bs b a.kept c)
-  where
-    of : (b.1 ≤ℤ e) ⊎ Contains left b → ⊥
-    of (inl le) = let open_yet = h.open_yet in absurd (omega (arith, ints))
-    of (inr at) =
-        let done : b.1 ≤ℤ place = All-contains (λ y. y.1 ≤ℤ place) left b (All-from_all_within (λ y. y.1 ≤ℤ place) left below) at in
-        let over = h.peg in absurd (omega (arith, ints))

@@ -1,5 +1,5 @@
 -- The stable end by its definition.
-use Rattle.std.proofs.Common.{◌≡◌, ◌⊎◌, ◌<◌, ◌≤ℤ◌, ◌<ℤ◌, ◌+ℤ◌, ◌-ℤ◌, ℤ, pos, negsuc, List, [], ◌∷◌, ◌++◌, Option, None, Some, refl, sym, ap, subst, inl, inr, arith, w64, SFits}
+use Rattle.std.proofs.Common.{◌≡◌, ◌⊎◌, ◌<◌, ◌≤ℤ◌, ◌<ℤ◌, ◌+ℤ◌, ◌-ℤ◌, ℤ, pos, negsuc, List, [], ◌∷◌, ◌++◌, Option, None, Some, sym, ap, subst, inl, inr, arith, w64, SFits}
 use Rattle.std.specs.Int.{int_gap, saturate_signed}
 use Rattle.std.specs.List.{Any}
 use Rattle.std.proofs.lemmas.Int.{ints}
@@ -66,9 +66,6 @@ now_lowest e bs b x half lt l = (
 
 pub low_end : (s : ℤ) (is bs : List (ℤ × ℤ)) (e : ℤ) (b : ℤ × ℤ) (r : ℤ) → IsContiguousEnd s is e → IsLowestHalf e bs (Some b) → r ≡ b.0 -ℤ pos 1 → IsStableEnd s is bs r
 low_end s is bs e b r c l at = record { end = e; contiguous = c; stable = inr (record { batch = b; among = l.0; half = l.1; lowest = l.2; before = at }) }
-
-pub plain_end : (s : ℤ) (is bs : List (ℤ × ℤ)) (e : ℤ) → IsContiguousEnd s is e → IsLowestHalf e bs None → IsStableEnd s is bs e
-plain_end s is bs e c l = record { end = e; contiguous = c; stable = inl (l, refl) }
 
 -- a number of the type is the nearest to itself
 pub nearest : (z : ℤ) → SFits w64 z → saturate_signed w64 z ≡ z

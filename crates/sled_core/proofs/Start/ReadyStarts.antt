@@ -1,12 +1,10 @@
 -- A log can begin on what a recovery left.
 use Rattle.std.proofs.Common.{◌≡◌, ◌↔◌, ◌≤◌, ◌<◌, ◌+◌, ◌-◌, ◌*◌, ◌/◌, ◌%◌, ◌^◌, ◌∙◌, ℕ, ℤ, pos, negsuc, true, List, length, Option, Some, None, IfSome, refl, sym, ap, subst, arith, inl, inr}
 use Rattle.std.specs.List.{All, Contains}
-use Rattle.std.proofs.Math.Nat.{div-mul-le_self}
-use Rattle.std.proofs.lemmas.Bool.{cases_lt}
 use Rattle.sled_codec.specs.History.{History}
 use Rattle.sled_codec.specs.PageTables.{IsTable}
 use Rattle.sled_codec.specs.Snapshots.{Entry, Page, SnapshotModel, is_sound, sound_parts, stable_place}
-use Rattle.sled_store.specs.Begin.{slots_of, slot_of, segment_number_of, entries_of, IsPlacedIn, MayBeActive, IsStartable, IsInReach, place_at}
+use Rattle.sled_store.specs.Begin.{slots_of, slot_of, segment_number_of, entries_of, IsPlacedIn, MayBeActive, IsStartable}
 use Rattle.sled_store.specs.Device.{State}
 use Rattle.sled_store.specs.SnapshotFiles.{BeginsFrom}
 use Rattle.sled_store.proofs.Segments.Elements.{all_from_in}
@@ -18,7 +16,6 @@ use Rattle.sled_core.specs.Recoverable.{ActiveFits}
 use Rattle.sled_core.specs.Scan.{IsFoundSegment}
 use Rattle.sled_core.specs.Tail.{Scanned, least_place}
 use Rattle.sled_core.proofs.Start.PlacedEntries.{Known, known, slot_is, number_is, placed, of_slot, of_number, same_number}
-use Rattle.sled_core.proofs.Start.ReadyLemmas.{raised_same}
 use Rattle.sled_core.proofs.Start.SegmentSizes.{slot_counted}
 use Rattle.sled_core.proofs.Reached.StartedStands.{found_inside}
 use Rattle.sled_core.proofs.Tail.Moved.{one_in_slot}
@@ -131,23 +128,3 @@ module _ (sum : List ℕ → ℕ) (size : ℕ) (device : State) (s : SnapshotMod
     by_entries None none = tt
     by_entries (Some a) active =
         all_from_in (λ e. (slot_of size e ≡ a / size) ↔ (segment_number_of size e ≡ stable / size)) es (λ e there. (active_slot a active e (seen e there), active_number a active e (seen e there)))
-
-  -- And a further segment is in reach, where the file is short enough and, where none is active, the next one is.
-  pub ready_in_reach : length log + 2 * size ≤ 2 ^ 63 → (s.active ≡ None → stable + size < 2 ^ 63) → IsInReach size (length log) s
-  ready_in_reach short next = record {
-    slots = omega (arith, div-mul-le_self (length log + (size - 1)) size, short, long);
-    places = by s.active refl;
-  } where
-    by : (o : Option ℕ) → s.active ≡ o → place_at size stable o + size < 2 ^ 63
-    by None none =
-        let fits : ActiveFits size stable None = subst (ActiveFits size stable) none ready.active in
-        let same = raised_same size stable some fits in
-        let near = next none in
-        omega (arith, same, near)
-    by (Some a) active =
-        let there = (segment_there sum size log alone.stands.ordering alone.stands.scanned alone.stands.reads (scan a active) (alone.going a active).there).0 in
-        let at = (alone.going a active).at_place in
-        elim (cases_lt (stable / size * size + size) (2 ^ 63)) [
-          | inl less ↦ less
-          | inr far ↦ absurd (alone.stands.numbers.placed (scan a active).segment there (inr (omega (arith, far, at))))
-        ]

@@ -1,12 +1,9 @@
 -- A header of zeros is that of the greatest place.
-use Rattle.std.proofs.Common.{◌≡◌, ◌≤◌, ◌<◌, ◌+◌, ◌-◌, ◌^◌, ◌∙◌, ℕ, ℤ, pos, List, length, take, drop, replicate, get_or, sym, ap, arith, lit<, bit_xor}
+use Rattle.std.proofs.Common.{◌≡◌, ◌≤◌, ◌<◌, ◌+◌, ◌-◌, ◌^◌, ◌∙◌, ℕ, ℤ, pos, List, take, drop, replicate, sym, ap, arith, lit<, bit_xor}
 use Rattle.std.specs.Int.{w64, cast_unsigned}
 use Rattle.std.specs.Int.Bits.{xor_assoc, xor_self, xor_zero_l, xor_zero_r}
-use Rattle.std.proofs.lemmas.Grind.{same_number_lists}
 use Rattle.std.proofs.lemmas.Int.{ints}
-use Rattle.std.proofs.lemmas.List.{length-replicate, get_or-replicate, get_or-take, get_or-drop}
 use Rattle.std.proofs.lemmas.Nat.{xor_lt}
-use Rattle.sled_codec.specs.Places.{part}
 use Rattle.sled_codec.specs.Record.{IsHeader, header_places, masked, short_header}
 use Rattle.sled_codec.specs.Spelling.{low_bytes, low_first}
 use Rattle.sled_codec.specs.SpellingLaws.{low_first-low_bytes, unsigned_small}
@@ -25,9 +22,3 @@ zero_header sum place mark bytes zeros h =
     let fits = h.place_fits in
     let is : u ≡ place = omega (arith, ints, fits) in
     sym is ∙ back
-
--- bytes that are all there, and each of which is 0
-pub zero_part : (log : List ℕ) (at n : ℕ) → length (part log at n) ≡ n → ((i : ℕ) → at ≤ i → i < at + n → get_or log i 0 ≡ 0) → part log at n ≡ replicate n 0
-zero_part log at n long zeros = same_number_lists (part log at n) (replicate n 0) (long ∙ sym (length-replicate {A = ℕ} n 0)) (λ k low.
-    let short : k < n = omega (arith, long, low) in
-    get_or-take n (drop at log) k 0 short ∙ get_or-drop at log k 0 ∙ zeros (at + k) (omega arith) (omega (arith, short)) ∙ sym (get_or-replicate {A = ℕ} n k 0 0 short))

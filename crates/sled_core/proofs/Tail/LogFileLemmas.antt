@@ -1,5 +1,5 @@
 -- What stands in a log file stays where it is when the rest of the current segment is written.
-use Rattle.std.proofs.Common.{◌≡◌, ◌⊎◌, ◌≤◌, ◌<◌, ◌+◌, ◌-◌, ℕ, pos, List, length, take, drop, sym, ◌∙◌, ap, arith, subst, length-take, length-drop, inl, get_or}
+use Rattle.std.proofs.Common.{◌≡◌, ◌⊎◌, ◌≤◌, ◌<◌, ◌+◌, ◌-◌, ℕ, pos, List, length, take, drop, sym, ◌∙◌, ap, arith, subst, length-take, length-drop, inl}
 use Rattle.std.proofs.lemmas.List.{drop-drop, drop-take, take-take}
 use Rattle.sled_codec.specs.declared.serialization.message.MessageHeader.{MessageHeader}
 use Rattle.sled_codec.specs.Places.{part}
@@ -7,7 +7,7 @@ use Rattle.sled_codec.specs.Record.{IsHeader}
 use Rattle.sled_codec.specs.History.{Message}
 use Rattle.sled_codec.proofs.Segments.{length-short_header}
 use Rattle.sled_store.specs.Device.{overwritten}
-use Rattle.sled_store.proofs.LogFile.OverwrittenLemmas.{length-overwritten, overwritten-part, overwritten-above}
+use Rattle.sled_store.proofs.LogFile.OverwrittenLemmas.{length-overwritten, overwritten-part}
 use Rattle.sled_store.proofs.LogFile.LogLemmas.{part_written}
 use Rattle.sled_store.proofs.LogFile.LooseLemmas.{end_of-some}
 use Rattle.sled_core.specs.declared.iobuf.SegmentPosition.{SegmentPosition}
@@ -91,7 +91,3 @@ module _ (sum : List ℕ → ℕ) (size : ℕ) (old : List ℕ) (at : ℕ) (xs :
 
   pub laid_within : 0 < length xs → at + length xs ≤ length new
   laid_within some = omega (arith, length-overwritten old at xs, end_of-some at (length xs) some)
-
-  -- and what comes behind it is as it was
-  pub behind_write : (i : ℕ) → 0 < length xs → at + length xs ≤ i → get_or new i 0 ≡ get_or old i 0
-  behind_write i some behind = overwritten-above old at xs i (omega (arith, behind, end_of-some at (length xs) some))

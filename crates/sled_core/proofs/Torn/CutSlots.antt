@@ -39,13 +39,6 @@ module _ (sum : List ℕ → ℕ) (size : ℕ) (old : List ℕ) (slots now : ℕ
   stood_whole lid text (inr (w, there, covers)) = absurd (in_nothing w there)
 
   module _ (left : List ℕ) (leaves : LeavesLog (after_cut size old slots now) left) where
-    -- The file is no shorter than it was cut to, and no longer than it was.
-    pub cut_no_shorter : slots * size ≤ length old → slots * size ≤ length left
-    cut_no_shorter there = let n = leaves.no_shorter in omega (arith, n, there, no_less)
-
-    pub cut_no_longer : length left ≤ length old
-    cut_no_longer = leaves.no_longer
-
     -- A slot below the cut has the bytes that it had.
     module _ (j : ℕ) (below : j < slots) where
       pub below_same : SameIn size old left j

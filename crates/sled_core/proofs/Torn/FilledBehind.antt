@@ -1,12 +1,11 @@
 -- Behind zeros in some slots of a settled log file, and the sync: the file is the old one with zeros in these slots, no segment is found in them, and the other slots are as before.
-use Rattle.std.proofs.Common.{◌≡◌, ◌≢◌, ◌≤◌, ◌<◌, ◌*◌, ◌∙◌, ℕ, ℤ, max, List, [], ◌∷◌, length, replicate, refl, sym, ap, arith, subst}
+use Rattle.std.proofs.Common.{◌≡◌, ◌≢◌, ◌≤◌, ◌<◌, ◌*◌, ◌∙◌, ℕ, ℤ, List, [], ◌∷◌, length, refl, sym, ap, arith, subst}
 use Rattle.std.specs.List.{All, Contains}
 use Rattle.sled_codec.specs.Places.{part}
 use Rattle.sled_codec.specs.Record.{IsHeader}
 use Rattle.sled_store.specs.Begin.{fill}
-use Rattle.sled_store.specs.Device.{LogState, log_step, at_rest, end_of, Synced, LeavesLog}
+use Rattle.sled_store.specs.Device.{LogState, log_step, at_rest, Synced, LeavesLog}
 use Rattle.sled_store.proofs.LogFile.LogLemmas.{at_rest_left}
-use Rattle.sled_store.proofs.LogFile.OverwrittenLemmas.{length-overwritten}
 use Rattle.sled_store.proofs.Segments.FilledLemmas.{filled, filled_part, filled_zero}
 use Rattle.sled_core.specs.declared.iterator.Segment.{Segment}
 use Rattle.sled_core.specs.declared.iterator.scan.ScannedRecord.{ScannedRecord}
@@ -21,18 +20,6 @@ use Rattle.sled_core.proofs.Torn.WrittenBegun.{none_in_zeros}
 pub zeros_bytes : (size : ℕ) (ks : List ℕ) (s : LogState) → (after_zeros size s ks).bytes ≡ filled size s.bytes ks
 zeros_bytes size [] s = refl
 zeros_bytes size (k ∷ ks) s = zeros_bytes size ks (log_step (fill size k) s)
-
--- A crash leaves no longer file than that.
-pub zeros_most : (size : ℕ) (ks : List ℕ) (s : LogState) → s.most ≡ length s.bytes → (after_zeros size s ks).most ≡ length (filled size s.bytes ks)
-zeros_most size [] s most = most
-zeros_most size (k ∷ ks) s most =
-    let zeros : List ℕ = replicate size 0 in
-    let one : max (length zeros) (length zeros) ≡ length zeros = omega arith in
-    zeros_most size ks (log_step (fill size k) s)
-    (ap (λ n. max n (end_of (k * size) (max (length zeros) (length zeros)))) most ∙ ap (λ n. max (length s.bytes) (end_of (k * size) n)) one ∙ sym (length-overwritten s.bytes (k * size) zeros))
-
-pub zeros_no_longer : (size : ℕ) (old ks left : List ℕ) → LeavesLog (after_zeros size (at_rest old) ks) left → length left ≤ length (filled size old ks)
-zeros_no_longer size old ks left leaves = let n = leaves.no_longer in omega (arith, n, zeros_most size ks (at_rest old) refl)
 
 -- Behind the sync that is settled, so a crash leaves just that.
 pub zeros_synced : (size : ℕ) (old ks : List ℕ) → log_step Synced (after_zeros size (at_rest old) ks) ≡ at_rest (filled size old ks)

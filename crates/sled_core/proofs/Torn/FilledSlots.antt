@@ -1,5 +1,5 @@
 -- What a crash leaves of a settled log file behind zeros that were written into some of its slots, none synced: the other slots are as before, and each segment that is found was found before.
-use Rattle.std.proofs.Common.{◌≡◌, ◌≢◌, ◌⊎◌, ◌≤◌, ◌+◌, ◌-◌, ◌*◌, ◌/◌, ◌∙◌, ℕ, ℤ, pos, max, false, List, [], ◌∷◌, length, take, drop, replicate, map, get_or, refl, sym, ap, arith, subst, inl, inr}
+use Rattle.std.proofs.Common.{◌≡◌, ◌≢◌, ◌⊎◌, ◌≤◌, ◌+◌, ◌-◌, ◌*◌, ◌/◌, ◌∙◌, ℕ, ℤ, pos, max, false, List, [], ◌∷◌, length, take, drop, replicate, get_or, refl, sym, ap, arith, subst, inl, inr}
 use Rattle.std.specs.List.{All, Contains}
 use Rattle.std.proofs.lemmas.Bool.{cases_lt}
 use Rattle.std.proofs.lemmas.List.{length-replicate}
@@ -7,10 +7,9 @@ use Rattle.std.proofs.lemmas.List.Elements.{All-contains, All-tail}
 use Rattle.sled_codec.specs.Places.{part}
 use Rattle.sled_codec.specs.Record.{IsHeader}
 use Rattle.sled_store.specs.Begin.{fill}
-use Rattle.sled_store.specs.Device.{Trace, LogState, state_of, log_step, at_rest, Wrote, LeavesLog, Placement}
+use Rattle.sled_store.specs.Device.{LogState, log_step, at_rest, Wrote, LeavesLog, Placement}
 use Rattle.sled_store.specs.Durable.{IsDurable}
 use Rattle.sled_store.specs.Foreign.{Covers, IsWhole, NoForeignLog}
-use Rattle.sled_store.specs.Script.{after_all}
 use Rattle.sled_store.proofs.LogFile.LogLemmas.{same_part, durable_at_rest, durable_written, durable_there, durable_byte}
 use Rattle.sled_store.proofs.LogFile.LooseLemmas.{end_of-le, firm_written}
 use Rattle.sled_store.proofs.Segments.Elements.{in_cases, in_nothing}
@@ -33,11 +32,6 @@ after_zeros size s (k ∷ ks) = after_zeros size (log_step (fill size k) s) ks
 -- the state behind zeros that were written into one slot, of which this much was done
 abbrev pub zeros_torn : ℕ → LogState → ℕ → List ℕ → LogState
 zeros_torn size s k now = log_step (Wrote (k * size) (replicate size 0) now) s
-
--- this is what a device shows then
-pub zeros_state : (size : ℕ) (ks : List ℕ) (t : Trace) → (state_of (after_all (map (fill size) ks) t)).log ≡ after_zeros size (state_of t).log ks
-zeros_state size [] t = refl
-zeros_state size (k ∷ ks) t = zeros_state size ks (fill size k ∷ t)
 
 -- A log file was settled, and since then nothing was asked but zeros in slots of a list. What was not written, all but what lies in these slots, is firm.
 pub record IsFilling (size : ℕ) (old ks : List ℕ) (s : LogState) : Type 0 where
@@ -89,10 +83,6 @@ module _ (size : ℕ) (old ks : List ℕ) where
   filling_along (k ∷ done) has s is =
       filling_along done (All-tail (Contains ks) k done has) (log_step (fill size k) s)
       (filling_goes s is k (has 0 k (omega arith)) (replicate size 0) (omega (arith, length-replicate {A = ℕ} size 0)))
-
-  -- all of them, each wholly written, and the last of them as much as was done
-  pub filling_torn : (done : List ℕ) → All (Contains ks) done → (k : ℕ) → Contains ks k → (now : List ℕ) → length now ≤ size → IsFilling size old ks (zeros_torn size (after_zeros size (at_rest old) done) k now)
-  filling_torn done has k this now no_more = filling_goes (after_zeros size (at_rest old) done) (filling_along done has (at_rest old) filling_begins) k this now no_more
 
 module _ (sum : List ℕ → ℕ) (size : ℕ) (old ks : List ℕ) (s : LogState) (is : IsFilling size old ks s) where
   -- The file is no shorter than it was, and no longer than the writes make it.

@@ -4,7 +4,7 @@ use Rattle.std.proofs.lemmas.Grind.{same_number_lists}
 use Rattle.std.proofs.lemmas.List.{length-replicate, get_or-replicate, get_or-take, get_or-drop}
 use Rattle.sled_codec.specs.Places.{part}
 use Rattle.sled_codec.specs.Record.{IsHeader}
-use Rattle.sled_codec.proofs.Segments.{length-short_header, one_header}
+use Rattle.sled_codec.proofs.Segments.{length-short_header}
 use Rattle.sled_store.specs.Device.{overwritten, LeavesLog, Placement}
 use Rattle.sled_store.specs.Foreign.{NoForeignLog}
 use Rattle.sled_store.specs.Readers.{at_start}
@@ -63,9 +63,6 @@ module _ (sum : List ℕ → ℕ) (size : ℕ) (old : List ℕ) (slot from : ℕ
           sym (ap (λ n. part asked n 20) (sym begins) ∙ ap (part asked (slot * size - (slot * size + from))) (sym whole) ∙ write.same))
     ]
 
-    pub only_this : (lsn mark' : ℤ) → IsHeader sum (part left (slot * size) 20) lsn mark' → (lsn ≡ pos place) × (mark' ≡ mark)
-    only_this lsn mark' is = one_header sum (take 20 asked) lsn mark' (pos place) mark (subst (λ (l : List ℕ). IsHeader sum l lsn mark') (header_written lsn mark' is) is) begun
-
     -- That one passes, or none does.
     pub begun_or_none : IsHeader sum (part left (slot * size) 20) (pos place) mark ⊎ ((lsn mark' : ℤ) → IsHeader sum (part left (slot * size) 20) lsn mark' → ⊥)
     begun_or_none = elim (same_or_not (part left (slot * size) 20) (take 20 asked)) [
@@ -78,8 +75,3 @@ module _ (sum : List ℕ → ℕ) (size : ℕ) (old : List ℕ) (slot from : ℕ
       pub meets_begun : AreClear size until 20 more → IsScan sum size new (slot * size) place more stop why → MeetsFirst sum size new left (slot * size) place 20 more stop why
       unfolding IsScan
       meets_begun clear (path, end) = meets_first sum size old slot from asked now left no_more leaves only_own until covers clean place mark header 20 more stop why (omega (arith, first)) clear at_start path end
-
-      -- So much for all that is met in the slot.
-      pub scan_begun : (w : MeetsFirst sum size new left (slot * size) place 20 more stop why) → IsScan sum size left (slot * size) place (take w.count more) w.end w.ending
-      unfolding IsScan
-      scan_begun w = (w.path, w.ends)

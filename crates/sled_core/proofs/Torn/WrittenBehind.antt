@@ -3,17 +3,15 @@ use Rattle.std.proofs.Common.{◌≡◌, ◌≤◌, ◌<◌, ◌+◌, ◌*◌, �
 use Rattle.std.proofs.Math.Nat.{mul-mod_left}
 use Rattle.sled_codec.specs.Places.{part}
 use Rattle.sled_codec.specs.Record.{IsHeader}
-use Rattle.sled_codec.proofs.Segments.{one_header}
 use Rattle.sled_store.specs.Device.{overwritten, LeavesLog, Placement}
 use Rattle.sled_store.specs.Foreign.{NoForeignLog}
 use Rattle.sled_store.specs.Readers.{at_start}
 use Rattle.sled_core.specs.declared.iterator.scan.ScannedRecord.{ScannedRecord}
 use Rattle.sled_core.specs.declared.iterator.scan.ScanEnd.{ScanEnd}
-use Rattle.sled_core.specs.Scan.{IsMet, IsPath, IsEnd, IsScan}
-use Rattle.sled_core.proofs.Tail.LogFileLemmas.{part_kept}
-use Rattle.sled_core.proofs.Torn.TornLemmas.{after_write, left_grows, part_left}
-use Rattle.sled_core.proofs.Torn.WrittenParts.{twenty, in_this_file, comes_along, path_rises, paths_joined, path_stays, path_whole, header_where}
-use Rattle.sled_core.proofs.Torn.WrittenRecords.{AlikeAlong, AreClear, MeetsFirst, alike_joined, meets_first}
+use Rattle.sled_core.specs.Scan.{IsPath, IsEnd, IsScan}
+use Rattle.sled_core.proofs.Torn.TornLemmas.{after_write, part_left}
+use Rattle.sled_core.proofs.Torn.WrittenParts.{twenty, in_this_file, comes_along, paths_joined, path_stays, header_where}
+use Rattle.sled_core.proofs.Torn.WrittenRecords.{AreClear, MeetsFirst, meets_first}
 
 module _ (sum : List ℕ → ℕ) (size : ℕ) (old : List ℕ) (slot from : ℕ) (asked now left : List ℕ) (no_more : length now ≤ length asked) (leaves : LeavesLog (after_write old (slot * size + from) asked now) left) (behind : 20 ≤ from) where
   abbrev new : List ℕ
@@ -31,24 +29,6 @@ module _ (sum : List ℕ → ℕ) (size : ℕ) (old : List ℕ) (slot from : ℕ
   pub header_left : (lsn mark : ℤ) → IsHeader sum (part old (slot * size) 20) lsn mark → IsHeader sum (part left (slot * size) 20) lsn mark
   header_left lsn mark is = subst (λ (l : List ℕ). IsHeader sum l lsn mark) (sym (header_same lsn mark is)) is
 
-  -- and no other one passes there
-  pub no_other : (lsn mark lsn' mark' : ℤ) → IsHeader sum (part old (slot * size) 20) lsn mark → IsHeader sum (part left (slot * size) 20) lsn' mark' → (lsn' ≡ lsn) × (mark' ≡ mark)
-  no_other lsn mark lsn' mark' stood passes = one_header sum (part left (slot * size) 20) lsn' mark' lsn mark passes (header_left lsn mark stood)
-
-  -- what was met before the write has the bytes that it had
-  alike_before : (place : ℕ) (here : ℕ) (ms : List ScannedRecord) (next : ℕ) → next ≤ from → IsPath sum size old (slot * size) place here ms next → AlikeAlong new left (slot * size) here ms
-  unfolding IsMet
-  alike_before place here [] next before path = tt
-  alike_before place here (m ∷ ms) next before (room, at_place, (h, body, stands, says), path) =
-      let there = stands.in_file in
-      let ends = path_rises sum size old (slot * size) place (here + m.len) ms next path in
-      let grown = left_grows old (slot * size + from) asked now left no_more leaves in
-      let apart : slot * size + here + m.len ≤ slot * size + from = omega (arith, ends, before) in (
-        part_left old (slot * size + from) asked now left no_more leaves (slot * size + here) m.len there (inl apart) ∙ sym (part_kept sum size old (slot * size + from) asked (slot * size + here) m.len there (inl apart)),
-        omega (arith, there, grown),
-        alike_before place (here + m.len) ms next before path,
-      )
-
   module _ {placed : List Placement} (only_own : NoForeignLog sum size (after_write old (slot * size + from) asked now) placed left) where
     -- A header that passes in the slot did so before.
     pub header_stood : (lsn mark : ℤ) → IsHeader sum (part left (slot * size) 20) lsn mark → part old (slot * size) 20 ≡ part left (slot * size) 20
@@ -63,10 +43,6 @@ module _ (sum : List ℕ → ℕ) (size : ℕ) (old : List ℕ) (slot from : ℕ
       pub before_left : IsPath sum size left (slot * size) place 20 met from
       before_left = path_stays sum size old (slot * size + from) asked now left no_more leaves (slot * size) place aligned 20 met from (inl (omega arith)) stood
 
-      -- and where all of it is written
-      pub before_new : IsPath sum size new (slot * size) place 20 met from
-      before_new = path_whole sum size old (slot * size + from) asked (slot * size) place aligned 20 met from (inl (omega arith)) stood
-
       module _ (more : List ScannedRecord) (stop : ℕ) (why : ScanEnd) where
         -- Behind it the first of the records are met that are met behind it where all is written.
         pub meets_on : AreClear size until from more → IsPath sum size new (slot * size) place from more stop → IsEnd sum size new (slot * size) place stop why → MeetsFirst sum size new left (slot * size) place from more stop why
@@ -79,6 +55,3 @@ module _ (sum : List ℕ → ℕ) (size : ℕ) (old : List ℕ) (slot from : ℕ
           pub scan_left : IsScan sum size left (slot * size) place (met ++ take first.count more) first.end first.ending
           unfolding IsScan
           scan_left = (paths_joined sum size left (slot * size) place 20 met from (take first.count more) first.end before_left first.path, first.ends)
-
-          pub alike_left : AlikeAlong new left (slot * size) 20 (met ++ take first.count more)
-          alike_left = alike_joined new left (slot * size) sum size left place 20 met from (take first.count more) before_left (alike_before place 20 met from (omega arith) stood) first.alike

@@ -1,6 +1,5 @@
 -- Where a write to a slot was torn, of the records that were to be met behind a place in it the first ones are met, with the bytes that were written, and none behind them.
 use Rattle.std.proofs.Common.{◌≡◌, ◌⊎◌, ◌≤◌, ◌<◌, ◌+◌, ◌*◌, ◌/◌, ◌%◌, ◌∙◌, ℕ, suc, pos, ℤ, List, [], ◌∷◌, ◌++◌, length, take, drop, get_or, sym, ap, arith, refl, subst, inl, inr}
-use Rattle.std.specs.List.{Contains}
 use Rattle.std.proofs.Math.Nat.{mul-mod_left}
 use Rattle.std.proofs.lemmas.List.{get_or-take, get_or-drop}
 use Rattle.sled_codec.specs.declared.serialization.message.MessageHeader.{MessageHeader}
@@ -8,7 +7,6 @@ use Rattle.sled_codec.specs.Places.{part}
 use Rattle.sled_codec.specs.Record.{IsHeader}
 use Rattle.sled_store.specs.Device.{overwritten, LeavesLog, Placement}
 use Rattle.sled_store.specs.Foreign.{NoForeignLog}
-use Rattle.sled_store.proofs.Segments.Elements.{in_cases, in_nothing}
 use Rattle.sled_core.specs.declared.iterator.scan.ScannedRecord.{ScannedRecord}
 use Rattle.sled_core.specs.declared.iterator.scan.ScanEnd.{ScanEnd}
 use Rattle.sled_core.specs.declared.iterator.scan.ScanEnd.TheVariants.{Full, Capped, Broken}
@@ -50,21 +48,6 @@ module _ (new left : List ℕ) (slot : ℕ) where
       → AlikeAlong new left slot from ms → AlikeAlong new left slot mid more → AlikeAlong new left slot from (ms ++ more)
   alike_joined sum size log place from [] mid more path first rest = subst (λ n. AlikeAlong new left slot n more) path rest
   alike_joined sum size log place from (m ∷ ms) mid more path (same, there, first) rest = (same, there, alike_joined sum size log place (from + m.len) ms mid more path.3 first rest)
-
-  -- each of them, where it lies
-  pub alike_at : (sum : List ℕ → ℕ) (size : ℕ) (log : List ℕ) (place from : ℕ) (ms : List ScannedRecord) (next : ℕ) → IsPath sum size log slot place from ms next → AlikeAlong new left slot from ms → (x : ScannedRecord) → Contains ms x
-      → (at : ℕ) × (x.place ≡ place + at) × (from ≤ at) × (at + x.len ≤ next) × (part left (slot + at) x.len ≡ part new (slot + at) x.len) × (slot + at + x.len ≤ length left)
-  alike_at sum size log place from [] next path alike x there = absurd (in_nothing x there)
-  alike_at sum size log place from (m ∷ ms) next path (same, inside, alike) x there = elim (in_cases m x ms there) [
-    | inl is ↦ (
-        let rises = path_rises sum size log slot place (from + m.len) ms next path.3 in
-        let len : m.len ≡ x.len = ap (λ (y : ScannedRecord). y.len) is in
-        (from, sym (ap (λ (y : ScannedRecord). y.place) is) ∙ path.1, omega arith, omega (arith, rises, len), subst (λ n. part left (slot + from) n ≡ part new (slot + from) n) len same, omega (arith, inside, len)))
-    | inr later ↦ (
-        let one = alike_at sum size log place (from + m.len) ms next path.3 alike x later in
-        let above = one.2 in
-        (one.0, one.1, omega (arith, above), one.3, one.4, one.5))
-  ]
 
 -- The reading ends between where it began and where it ends in the one file.
 pub meets_within : (sum : List ℕ → ℕ) (size : ℕ) (new left : List ℕ) (slot place from : ℕ) (more : List ScannedRecord) (stop : ℕ) (why : ScanEnd) (w : MeetsFirst sum size new left slot place from more stop why) → (from ≤ w.end) × (w.end ≤ stop)

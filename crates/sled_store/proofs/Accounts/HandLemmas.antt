@@ -142,10 +142,6 @@ module _ (tip : ℕ) (xs : List SlotState) (slots : AreSlots tip xs) where
     waiting_is = are.waiting_is ∙ sym (slots_by_push waited_place free_slot refl 0 xs);
   }
 
-  -- the same slot is next
-  pub pushed_next : (n : ℕ) → first_or n (free_among (take tip (xs ++ free_slot ∷ []))) ≡ first_or n (free_among (take tip xs))
-  pushed_next n = ap (λ l. first_or n (free_among l)) front
-
 set_behind : {A : Type 0} (xs : List A) (x y : A) → set (xs ++ x ∷ []) (length xs) y ≡ xs ++ y ∷ []
 set_behind [] x y = refl
 set_behind (z ∷ xs) x y = ap (λ l. z ∷ l) (set_behind xs x y)

@@ -86,10 +86,6 @@ beside_commutes (Some p) None i j differ l = refl
 beside_commutes (Some p) (Some q) i j differ l = insert_commutes by_place_total (q, j) (p, i) (apart (q, j) (p, i) (λ same. differ (sym same))) l
 
 module _ (f : SlotState → Option ℕ) where
-  -- the slots but for one
-  pub without_slot : SlotState → ℕ → List SlotState → List (ℕ × ℕ)
-  without_slot z k xs = slots_by f 0 (set xs k z)
-
   pub slots_by_set : (z s : SlotState) → f z ≡ None → (i k n : ℕ) (xs : List SlotState) → n ≡ i + k → k < length xs → slots_by f i (set xs k s) ≡ beside (f s) n (slots_by f i (set xs k z))
   slots_by_set z s lacks i k n [] at lt = absurd (omega arith)
   slots_by_set z s lacks i zero n (x ∷ xs) at lt =

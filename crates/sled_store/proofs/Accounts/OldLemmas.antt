@@ -8,15 +8,10 @@ use Rattle.sled_codec.specs.declared.result.DiskPtr.TheVariants.{Inline, Blob}
 use Rattle.sled_codec.specs.Pointers.{lid_of}
 use Rattle.sled_store.specs.declared.segment.slot.CacheInfo.{CacheInfo}
 use Rattle.sled_store.specs.SegmentStates.{SlotState, Machine, free_slot, slot_at, with_slot, is_free, is_sparse, drained, drained_slot, replaced_slot, replaced_one, replaced_all, outdated, all_outdated, LiesIn, linked, linked_slot, outdating}
-use Rattle.sled_store.specs.declared.segment.accountant.SegmentAccountant.{SegmentAccountant}
-use Rattle.sled_store.specs.Accounts.{IsAccountant, IsUsed, size_of, slot_state}
+use Rattle.sled_store.specs.Accounts.{IsUsed, slot_state}
 use Rattle.sled_store.specs.declared.segment.slot.Slot.{Slot}
 use Rattle.sled_store.proofs.Accounts.SortedLemmas.{length_inserted}
 use Rattle.sled_store.proofs.Accounts.HandLemmas.{cases_eq}
-
--- it is an accountant for the size that it was made for
-pub own_account : (size : ℕ) (a : SegmentAccountant) → IsAccountant size a → IsAccountant (size_of a) a
-own_account size a is = subst (λ n. IsAccountant n a) (sym is.size_is) is
 
 -- a segment still lies in a slot
 pub used_set : (m : Machine) (j k : ℕ) (t : SlotState) → is_free t.state ≡ false → IsUsed m k → (is_free (get_or (set m.slots j t) k free_slot).state ≡ false) × (k < length (set m.slots j t))

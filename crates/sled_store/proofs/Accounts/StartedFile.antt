@@ -1,7 +1,7 @@
 -- The log file that an accountant leaves where it has started: slots that the snapshot doesn't use are zeros, and those at the end that are free are cut off but for one.
 use Rattle.std.proofs.Common.{◌≡◌, ◌∙◌, ◌+◌, ◌-◌, ◌*◌, ◌≤◌, ◌<◌, ◌≢◌, ℕ, zero, suc, min, Bool, true, false, if◌then◌else◌, List, [], ◌∷◌, length, take, drop, refl, sym, ap, arith, inl, inr, length-take, get_or}
 use Rattle.std.specs.List.{All, Contains}
-use Rattle.std.proofs.Math.Nat.{mul-le-mul_right, div-mul-le_self, div-eq_of_lt-le}
+use Rattle.std.proofs.Math.Nat.{mul-le-mul_right}
 use Rattle.std.proofs.lemmas.Bool.{cases_lt}
 use Rattle.std.proofs.lemmas.List.{take_all, take-take, get_or-take, get_or_past}
 use Rattle.sled_codec.specs.Places.{part}
@@ -13,7 +13,7 @@ use Rattle.sled_store.specs.SegmentStates.{SlotState, may_be_cut, left_after, cu
 use Rattle.sled_store.specs.Started.{found, left_slots, started}
 use Rattle.sled_store.proofs.Accounts.StartNext.{left_below, used_left}
 use Rattle.sled_store.proofs.LogFile.LogLemmas.{part_cut}
-use Rattle.sled_store.proofs.Segments.FilledLemmas.{filled, filling-log, filling-settles, filling-snapshots, filling-blobs, filled_grows, filled_covered, filled_part, filled_byte, filled_zero, free_below, slot_before, begins_in}
+use Rattle.sled_store.proofs.Segments.FilledLemmas.{filled, filling-log, filling-snapshots, filling-blobs, filled_grows, filled_covered, filled_part, filled_byte, filled_zero, free_below, slot_before, begins_in}
 use Rattle.sled_store.proofs.Traces.ScriptLemmas.{after_joined}
 
 -- Slots at the end are cut off.
@@ -38,25 +38,6 @@ module _ (size : ℕ) (xs : List SlotState) where
   pub cutting-log : (n : ℕ) (t : Trace) (old : List ℕ) → (state_of t).log ≡ at_rest old → length old ≤ n * size → (state_of (after_all (cutting size n xs) t)).log ≡ at_rest (take (left_after n xs * size) old)
   cutting-log n t old is short = cutting_from n t old (is ∙ ap at_rest (sym (take_all (n * size) old short)))
 
-  -- and of one that isn't settled
-  cutting_bytes_from : (n : ℕ) (t : Trace) (old : List ℕ) → (state_of t).log.bytes ≡ take (n * size) old → (state_of (after_all (cutting size n xs) t)).log.bytes ≡ take (left_after n xs * size) old
-  cutting_bytes_from zero t old is = is
-  cutting_bytes_from (suc k) t old is = by (may_be_cut k xs) (cutting_bytes_from k (Synced ∷ Cut (k * size) (k * size) ∷ t) old shorter)
-    where
-      le : k ≤ suc k
-      le = omega arith
-
-      shorter : take (k * size) (state_of t).log.bytes ≡ take (k * size) old
-      shorter = ap (take (k * size)) is ∙ take-take (k * size) (suc k * size) old (mul-le-mul_right size le)
-
-      by : (b : Bool) → (state_of (after_all (cutting size k xs) (Synced ∷ Cut (k * size) (k * size) ∷ t))).log.bytes ≡ take (left_after k xs * size) old
-          → (state_of (after_all (if b then Cut (k * size) (k * size) ∷ Synced ∷ cutting size k xs else []) t)).log.bytes ≡ take ((if b then left_after k xs else suc k) * size) old
-      by true on = on
-      by false on = is
-
-  pub cutting_bytes : (n : ℕ) (t : Trace) (old : List ℕ) → (state_of t).log.bytes ≡ old → length old ≤ n * size → (state_of (after_all (cutting size n xs) t)).log.bytes ≡ take (left_after n xs * size) old
-  cutting_bytes n t old is short = cutting_bytes_from n t old (is ∙ sym (take_all (n * size) old short))
-
   -- snapshots and blobs stay
   pub cutting-snapshots : (n : ℕ) (t : Trace) → (state_of (after_all (cutting size n xs) t)).snapshots ≡ (state_of t).snapshots
   cutting-snapshots zero t = refl
@@ -75,11 +56,6 @@ module _ (size : ℕ) (xs : List SlotState) where
           → (state_of (after_all (if b then Cut (k * size) (k * size) ∷ Synced ∷ cutting size k xs else []) t)).blobs ≡ (state_of t).blobs
       by true on = on
       by false on = refl
-
--- the bytes of a file behind a filling
-filling_bytes : (size : ℕ) (ks : List ℕ) (t : Trace) → (state_of (after_all (filling size ks) t)).log.bytes ≡ filled size (state_of t).log.bytes ks
-filling_bytes size [] t = refl
-filling_bytes size (k ∷ ks) t = ap (λ (l : LogState). l.bytes) (filling-settles size k ks t)
 
 -- The whole of a start.
 
@@ -128,11 +104,6 @@ module _ (size : ℕ) (some : 0 < size) (log : List ℕ) (s : SnapshotModel) whe
         ap (λ (h : Trace). (state_of h).log) parts
         ∙ cutting-log size (found size slots s).slots slots (after_all (filling size free) t) whole (filling-log size free t log is) started_covered
 
-    pub started_bytes : (state_of t).log.bytes ≡ log → (state_of (after_all (started size (length log) s).calls t)).log.bytes ≡ new
-    started_bytes is =
-        ap (λ (h : Trace). (state_of h).log.bytes) parts
-        ∙ cutting_bytes size (found size slots s).slots slots (after_all (filling size free) t) whole (filling_bytes size free t ∙ ap (λ (l : List ℕ). filled size l free) is) started_covered
-
     pub started-snapshots : (state_of (after_all (started size (length log) s).calls t)).snapshots ≡ (state_of t).snapshots
     started-snapshots = ap (λ (h : Trace). (state_of h).snapshots) parts ∙ cutting-snapshots size (found size slots s).slots slots (after_all (filling size free) t) ∙ filling-snapshots size free t
 
@@ -146,13 +117,6 @@ module _ (size : ℕ) (some : 0 < size) (log : List ℕ) (s : SnapshotModel) whe
   -- what lies in the file, and in what is left of it
   pub started_inside : (to : ℕ) → to ≤ left * size → to ≤ length log → to ≤ length new
   started_inside to low there = omega (arith, new_long, low, there, grows)
-
-  -- it ends in the last slot that is left
-  pub started_slots : slots_of size (length new) ≡ left
-  started_slots =
-      let low : left * size ≤ slots * size = mul-le-mul_right size left_within in
-      let before = div-mul-le_self (length log + (size - 1)) size in
-      div-eq_of_lt-le {k = left} size (omega (arith, new_long, low, before, grows)) (omega (arith, new_long, some))
 
   pub started_short : length new ≤ left * size
   started_short = omega (arith, new_long)

@@ -8,26 +8,14 @@ use Rattle.std.specs.Set.{remove_key}
 use Rattle.std.proofs.Math.Nat.{pow-succ'}
 use Rattle.std.proofs.Math.Pow.{pow_mono}
 use Rattle.std.proofs.lemmas.Nat.{pow_pos}
-use Rattle.std.proofs.lemmas.List.{get_or-drop, get_or-set_same, get_or-set_other, drop-set-add, set-get_or, get_or_past}
-use Rattle.sled_store.specs.SlotSets.{mark, marked_from, marked_slots, IsTied, AreTied, IsSlotTree}
+use Rattle.std.proofs.lemmas.List.{get_or-drop, drop-set-add, set-get_or, get_or_past}
+use Rattle.sled_store.specs.SlotSets.{mark, marked_from, marked_slots, AreTied, IsSlotTree}
 use Rattle.sled_store.proofs.Accounts.MarkLemmas.{marked_none, marked_same, marked_first, marked_last, marked_insert, marked_remove, length_marked, length_within}
 
 pub pow_double : (n : ℕ) → 2 ^ suc n ≡ 2 * 2 ^ n
 pow_double n = pow-succ' 2 n
 
 -- One node is marked by its children.
-
-pub tied_set : (marks : List Bool) (n : ℕ) (b : Bool) → b ≡ (mark marks (2 * n) || mark marks (2 * n + 1)) → 0 < n → n < length marks → IsTied (set marks n b) n
-tied_set marks n b is some lt =
-    get_or-set_same marks n b false lt ∙ is
-    ∙ ap (λ c. c || mark marks (2 * n + 1)) (sym (get_or-set_other marks n (2 * n) b false (omega arith)))
-    ∙ ap (λ c. mark (set marks n b) (2 * n) || c) (sym (get_or-set_other marks n (2 * n + 1) b false (omega arith)))
-
-pub tied_other : (marks : List Bool) (n i : ℕ) (b : Bool) → i ≢ n → 2 * i ≢ n → 2 * i + 1 ≢ n → IsTied marks i → IsTied (set marks n b) i
-tied_other marks n i b here left right tied =
-    get_or-set_other marks n i b false here ∙ tied
-    ∙ ap (λ c. c || mark marks (2 * i + 1)) (sym (get_or-set_other marks n (2 * i) b false left))
-    ∙ ap (λ c. mark (set marks n b) (2 * i) || c) (sym (get_or-set_other marks n (2 * i + 1) b false right))
 
 -- What a tie says of the children.
 
@@ -76,12 +64,6 @@ pub record IsHighestOn (begin node : ℕ) (marks : List Bool) : Type 0 where
   pub within : node < 2 * begin
   pub marked : mark marks node ≡ true
   pub after : (i : ℕ) → node < i → i < 2 * begin → mark marks i ≡ false
-
-pub lowest_root : (marks : List Bool) → mark marks 1 ≡ true → IsLowestOn 1 1 marks
-lowest_root marks is = record { from = omega arith; within = omega arith; marked = is; before = λ i low high. absurd (omega arith) }
-
-pub highest_root : (marks : List Bool) → mark marks 1 ≡ true → IsHighestOn 1 1 marks
-highest_root marks is = record { from = omega arith; within = omega arith; marked = is; after = λ i low high. absurd (omega arith) }
 
 module _ (width begin node : ℕ) (marks : List Bool) (tied : AreTied width marks) (some : 0 < begin) (fits : 2 * begin ≤ width) where
   pub lowest_left : IsLowestOn begin node marks → mark marks (2 * node) ≡ true → IsLowestOn (2 * begin) (2 * node) marks

@@ -55,13 +55,6 @@ pub sound : (h : Trace) → IsSound (state_of h).log
 sound [] = sound_at_rest []
 sound (e ∷ h) = sound_step e (state_of h).log (sound h)
 
--- the length is within its bounds
-pub least-le : (h : Trace) → (state_of h).log.least ≤ length (state_of h).log.bytes
-least-le h = (sound h).least
-
-pub le-most : (h : Trace) → length (state_of h).log.bytes ≤ (state_of h).log.most
-le-most h = (sound h).most
-
 -- The log file alone.
 
 pub log_read_left : (s : LogState) → IsSound s → LeavesLog s s.bytes

@@ -1,10 +1,9 @@
 -- A range of the log file that nothing touched since the last sync reads the same after each crash, and stays so behind writes and cuts elsewhere.
 use Rattle.std.proofs.Common.{◌≡◌, ◌⊎◌, ◌≤◌, ◌<◌, ◌+◌, ◌-◌, ◌||◌, ◌&&◌, ℕ, min, max, Bool, false, nat_lt, nat_le, List, length, take, drop, get_or, refl, sym, ◌∙◌, ap, arith, inl, inr, length-take, length-drop}
-use Rattle.std.proofs.lemmas.Bool.{cases_lt}
 use Rattle.std.proofs.lemmas.Bool.Decides.{nat_tests}
 use Rattle.std.proofs.lemmas.List.{get_or-take, get_or-drop}
 use Rattle.std.proofs.lemmas.Grind.{same_number_lists}
-use Rattle.sled_store.specs.Device.{LogState, log_step, at_rest, overwritten, end_of, LeavesLog, Wrote, Cut, Synced}
+use Rattle.sled_store.specs.Device.{LogState, log_step, at_rest, overwritten, end_of, LeavesLog, Wrote, Cut}
 use Rattle.sled_store.specs.Durable.{IsDurable}
 use Rattle.sled_store.proofs.LogFile.OverwrittenLemmas.{length-overwritten, overwritten-below, overwritten-above}
 use Rattle.sled_store.proofs.LogFile.LooseLemmas.{end_of-le, firm_written, firm_cut}
@@ -43,29 +42,9 @@ at_rest_left bytes left leaves =
 
 -- What is durable.
 
--- a part of it
-pub durable_part : (s : LogState) (from to low high : ℕ) → from ≤ low → high ≤ to → IsDurable s from to → IsDurable s low high
-durable_part s from to low high above below durable = record {
-  within = omega (arith, durable.within);
-  there = omega (arith, durable.there);
-  firm = λ i le lt. durable.firm i (omega arith) (omega arith);
-}
-
--- two that meet
-pub durable_joined : (s : LogState) (from mid to : ℕ) → IsDurable s from mid → IsDurable s mid to → IsDurable s from to
-durable_joined s from mid to first second = record {
-  within = second.within;
-  there = second.there;
-  firm = λ i low high. elim (cases_lt i mid) [ inl before ↦ first.firm i low before | inr behind ↦ second.firm i behind high ];
-}
-
 -- all of a file at rest
 pub durable_at_rest : (bytes : List ℕ) (from to : ℕ) → to ≤ length bytes → IsDurable (at_rest bytes) from to
 durable_at_rest bytes from to le = record { within = le; there = le; firm = λ i low high. refl }
-
--- a sync makes all durable
-pub durable_synced : (s : LogState) (from to : ℕ) → to ≤ length s.bytes → IsDurable (log_step Synced s) from to
-durable_synced s from to le = durable_at_rest s.bytes from to le
 
 -- what was firm stays so outside the range of a write
 firm_apart : (s : LogState) (at : ℕ) (asked now : List ℕ) (i : ℕ) → s.is_unsynced i ≡ false → (i < min at (length s.bytes)) ⊎ (at + max (length asked) (length now) ≤ i) → (log_step (Wrote at asked now) s).is_unsynced i ≡ false

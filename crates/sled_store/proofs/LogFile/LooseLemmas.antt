@@ -23,10 +23,6 @@ pub either_false : (a b : Bool) → a || b ≡ false → (a ≡ false) × (b ≡
 either_false false b none = (refl, none)
 either_false true b none = absurd (cc)
 
-pub or-false : (a : Bool) → a || false ≡ a
-or-false true = refl
-or-false false = refl
-
 pub or-true : (a : Bool) → a || true ≡ true
 or-true true = refl
 or-true false = refl

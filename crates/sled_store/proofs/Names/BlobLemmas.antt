@@ -1,30 +1,21 @@
 -- A blob that was made, synced and named is kept by every crash; and blobs of a list of places are removed one behind another, from one place on.
-use Rattle.std.proofs.Common.{◌≡◌, ◌∙◌, ◌⊎◌, ◌&&◌, T, not, FitsSigned, int_lt, ◌↔◌, ◌+◌, ◌<◌, ◌≤ℤ◌, ℕ, ℤ, zero, suc, Bool, true, false, int_le, if◌then◌else◌, List, [], ◌∷◌, ◌++◌, length, get_or, take, drop, filter, Option, Some, IsSome, Contains, refl, sym, ap, subst, inl, inr, arith, take-append-drop}
+use Rattle.std.proofs.Common.{◌≡◌, ◌∙◌, ◌⊎◌, ◌&&◌, T, not, FitsSigned, int_lt, ◌↔◌, ◌+◌, ◌<◌, ◌≤ℤ◌, ℕ, ℤ, zero, suc, Bool, true, false, int_le, if◌then◌else◌, List, [], ◌∷◌, ◌++◌, length, get_or, take, drop, filter, Option, IsSome, Contains, refl, sym, ap, subst, inl, inr, arith, take-append-drop}
 use lib.Signed.{clash_ℤ, lt_z_yes, lt_z_no}
 use Rattle.std.specs.Int.{w64, cast_signed, cast_unsigned}
 use Rattle.std.proofs.lemmas.Int.{to_z-of_z}
 use Rattle.std.proofs.lemmas.Float.{T_from_true}
-use Rattle.std.specs.Ordering.{int_eq, int_cmp}
+use Rattle.std.specs.Ordering.{int_cmp}
 use Rattle.std.specs.List.Sorted.{IsStrictlySortedBy}
-use Rattle.std.proofs.lemmas.Bool.Decides.{Decides-int_eq}
 use Rattle.std.proofs.lemmas.List.Elements.{filter-append, filter_more, filter_passes}
 use Rattle.std.proofs.lemmas.List.Kept.{IsStrictlySortedBy-filter}
-use Rattle.sled_store.specs.Blobs.{making, removing_blobs, from_place, AreFrom, KeepsBlob}
-use Rattle.sled_store.specs.Device.{Event, Trace, NamesState, state_of, BlobMade, BlobRemoved, file_synced}
+use Rattle.sled_store.specs.Blobs.{removing_blobs, from_place, AreFrom}
+use Rattle.sled_store.specs.Device.{Event, Trace, BlobRemoved}
 use Rattle.sled_store.specs.Script.{Performs, after_all}
-use Rattle.sled_store.proofs.Names.NamesLemmas.{settled_name_left, settled_name_synced, firm_file_synced}
 use Rattle.sled_store.proofs.Traces.ScriptLemmas.{after_joined, performs_behind, performs_more}
 
 -- the file under a name that was just made
 own_file : (b : Bool) (new old : Option (List ℕ)) → b ≡ true → (if true && b then new else old) ≡ new
 own_file b new old is = ap (λ (x : Bool). if x then new else old) is
-
-pub made_is_kept : (place : ℤ) (bytes : List ℕ) (old : Trace) → KeepsBlob (state_of (after_all (making place bytes) old)) place bytes
-made_is_kept place bytes old left leaves =
-    let same : int_eq place place ≡ true = (Decides-int_eq place place).1 refl in
-    let made : NamesState = (state_of (BlobMade place bytes bytes true ∷ old)).blobs in
-    settled_name_left _ place (left.blobs place) (settled_name_synced (file_synced made place) place (firm_file_synced made place same)) (leaves.blobs place)
-    ∙ own_file (int_eq place place) (Some bytes) ((state_of old).blobs.file place) same
 
 -- Elements of a filtered list.
 

@@ -26,19 +26,6 @@ settled_name_synced s n firm = record { firm = firm; alone = refl; whole = refl 
 pub firm_file_synced : (s : NamesState) (n : ℤ) → int_eq n n ≡ true → (file_synced s n).is_unsynced n ≡ false
 firm_file_synced s n same = ap (λ (b : Bool). not b && s.is_unsynced n) same
 
--- a change of another name
-pub settled_name_renamed : (s : NamesState) (name : ℤ) (done : Bool) (top : NameState) (asked : List (List ℕ)) (n : ℤ) → int_eq name n ≡ false → IsSettledName s n → IsSettledName (renamed s name done top asked) n
-settled_name_renamed s name true top asked n other settled = record {
-  firm = ap (λ (b : Bool). if b then top.is_unsynced else s.is_unsynced n) other ∙ settled.firm;
-  alone = ap (λ (b : Bool). if b then record { file = s.file n; is_unsynced = s.is_unsynced n } ∷ s.earlier n else s.earlier n) other ∙ settled.alone;
-  whole = settled.whole;
-}
-settled_name_renamed s name false top asked n other settled = record {
-  firm = settled.firm;
-  alone = settled.alone;
-  whole = ap (λ (b : Bool). if b then top ∷ s.half_done n else s.half_done n) other ∙ settled.whole;
-}
-
 -- it leaves the file, too
 pub file_renamed : (s : NamesState) (name : ℤ) (done : Bool) (top : NameState) (asked : List (List ℕ)) (n : ℤ) → int_eq name n ≡ false → (renamed s name done top asked).file n ≡ s.file n
 file_renamed s name true top asked n other = ap (λ (b : Bool). if b then top.file else s.file n) other

@@ -39,10 +39,6 @@ fills_blobs size (k ∷ ks) t = fills_blobs size ks (fill size k ∷ t)
 pub filling-settles : (size k : ℕ) (ks : List ℕ) (t : Trace) → (state_of (after_all (filling size (k ∷ ks)) t)).log ≡ at_rest (filled size (state_of t).log.bytes (k ∷ ks))
 filling-settles size k ks t = fills size (k ∷ ks) t
 
--- and where nothing is, nothing happens
-pub filling-none : (size : ℕ) (t : Trace) → after_all (filling size []) t ≡ t
-filling-none size t = refl
-
 -- a settled file stays settled
 pub filling-log : (size : ℕ) (ks : List ℕ) (t : Trace) (log : List ℕ) → (state_of t).log ≡ at_rest log → (state_of (after_all (filling size ks) t)).log ≡ at_rest (filled size log ks)
 filling-log size [] t log is = is
@@ -195,10 +191,6 @@ module _ (size : ℕ) (some : 0 < size) where
   -- Slots are filled that are slots of the file.
 
   module _ (log ks : List ℕ) (slots : All (λ k. k < slots_of size (length log)) ks) where
-    -- each begins in the file
-    pub all_begin : All (λ k. k * size < length log) ks
-    all_begin = λ k d lt. begins_in size (length log) (get_or ks k d) some (slots k d lt)
-
     -- the file is not longer than its slots
     pub filled_covered : length (filled size log ks) ≤ slots_of size (length log) * size
     filled_covered = filled_ends (slots_of size (length log) * size) ks log (slots_cover size (length log) some) (λ k d lt. slot_before size (get_or ks k d) (slots_of size (length log)) (slots k d lt))

@@ -9,8 +9,7 @@ use Rattle.sled_codec.specs.History.{Message, History, begins_page, is_replace, 
 use Rattle.sled_codec.specs.PageTables.{entry_of, page_with, IsTable}
 use Rattle.sled_codec.specs.Snapshots.{Entry, Page, Present, Free, Uninitialized}
 use Rattle.sled_store.specs.Begin.{entries_in, entries_of}
-use Rattle.sled_store.proofs.Segments.Elements.{in_first, in_rest, in_cases, in_nothing}
-use Rattle.sled_store.proofs.Segments.TableEntries.{from_table}
+use Rattle.sled_store.proofs.Segments.Elements.{in_cases, in_nothing}
 
 -- an entry is that of a message, or counts as one of 32 bytes
 pub record IsEntryOf (m : Message) (e : Entry) : Type 0 where
@@ -22,24 +21,6 @@ pub record IsEntryOf (m : Message) (e : Entry) : Type 0 where
 
 own_entry : (m : Message) (e : Entry) → entry_of m ≡ e → IsEntryOf m e
 own_entry m e same = record { place = ap (λ (d : Entry). d.0) (sym same); pointer = ap (λ (d : Entry). d.1) (sym same); size = inl (ap (λ (d : Entry). d.2) (sym same)) }
-
-free_entry : (m : Message) (e : Entry) → (pos m.place, m.pointer, 32) ≡ e → IsEntryOf m e
-free_entry m e same = record { place = ap (λ (d : Entry). d.0) (sym same); pointer = ap (λ (d : Entry). d.1) (sym same); size = inr (ap (λ (d : Entry). d.2) (sym same)) }
-
-map_entries : (ms : List Message) (e : Entry) → Contains (map entry_of ms) e → (m : Message) × Contains ms m × IsEntryOf m e
-map_entries [] e there = absurd (in_nothing e there)
-map_entries (x ∷ ms) e there = elim (in_cases (entry_of x) e (map entry_of ms) there) [
-  | inl same ↦ (x, in_first x ms, own_entry x e same)
-  | inr rest ↦ (let found = map_entries ms e rest in (found.0, in_rest x found.0 ms found.1, found.2))
-]
-
-page_entries : (ms : List Message) (e : Entry) → Contains (entries_in (page_with ms)) e → (m : Message) × Contains ms m × IsEntryOf m e
-page_entries [] e there = absurd (in_nothing e there)
-page_entries (b ∷ ms) e there = by (is_replace b.kind) there
-  where
-    by : (t : Bool) → Contains (entries_in (if t then Present (entry_of b) (map entry_of ms) else Free (pos b.place) b.pointer)) e → (m : Message) × Contains (b ∷ ms) m × IsEntryOf m e
-    by true there = map_entries (b ∷ ms) e there
-    by false there = elim (in_cases (pos b.place, b.pointer, 32) e [] there) [ inl same ↦ (b, in_first b ms, free_entry b e same) | inr none ↦ absurd (in_nothing e none) ]
 
 -- A page with a message that replaces it was seen.
 
@@ -82,13 +63,6 @@ in_page (p ∷ ps) e there = elim (Contains-append_cases (entries_in p) (entries
 ]
 
 module _ (pages : List Page) (H : History) (cut : ℕ) (is : IsTable pages H cut) where
-  -- Each entry is of a message.
-  pub entry_from : (e : Entry) → Contains (entries_of pages) e → (m : Message) × Contains H.messages m × IsEntryOf m e
-  entry_from e there =
-      let at = in_page pages e there in
-      let found = page_entries (table H cut at.0) e (subst (λ (p : Page). Contains (entries_in p) e) (is.states at.0) at.2) in
-      (found.0, (from_table H cut at.0 found.0 found.1).0, found.2)
-
   -- Each page was seen.
   pub all_seen : All (λ p. p ≢ Uninitialized) pages
   unfolding table

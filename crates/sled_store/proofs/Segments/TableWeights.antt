@@ -9,17 +9,13 @@ use Rattle.sled_codec.specs.declared.serialization.message.LogKind.TheVariants.{
 use Rattle.sled_codec.specs.History.{Message, History, is_replace, is_link, last_beginning, entries_from, page_state, of_page, table}
 use Rattle.sled_codec.specs.PageTables.{entry_of, page_with, IsTable}
 use Rattle.sled_codec.specs.Snapshots.{Entry, Page, Present, Free as FreePage, Uninitialized}
-use Rattle.sled_store.specs.Begin.{entries_in, entries_of, slot_of, sizes_in}
+use Rattle.sled_store.specs.Begin.{entries_in, entries_of}
 use Rattle.sled_store.proofs.Segments.Elements.{in_cases, in_nothing}
 use Rattle.sled_store.proofs.Segments.TableEntries.{beginning_there}
 
 -- what an entry of a message may count as
 abbrev pub weight : Message → ℕ
 weight m = m.size + 32
-
--- the sum of the sizes of entries
-abbrev pub sizes_of : List Entry → ℕ
-sizes_of es = sum_by (λ e. e.2) es
 
 -- Messages that are kept weigh no more than all.
 
@@ -123,17 +119,3 @@ module _ (v : Entry → ℕ) (w : Message → ℕ) (own : (m : Message) → v (e
   -- What the entries of a table count as.
   pub table_counts : (pages : List Page) (H : History) (cut : ℕ) → IsTable pages H cut → sum_by v (entries_of pages) ≤ sum_by w H.messages
   table_counts pages H cut is = omega (arith, pages_sizes H cut pages 0 (λ k lt. is.states k ∙ ap (λ n. page_with (table H cut n)) (omega arith)), kept_less w (from_page 0) H.messages)
-
--- What they sum up to.
-pub table_sizes : (pages : List Page) (H : History) (cut : ℕ) → IsTable pages H cut → sizes_of (entries_of pages) ≤ sum_by weight H.messages
-table_sizes = table_counts (λ e. e.2) weight (λ m. omega arith) (λ m. omega arith)
-
--- and those in one slot to no more
-pub slot_sizes : (size k : ℕ) (es : List Entry) → sizes_in size k es ≤ sizes_of es
-slot_sizes size k [] = omega arith
-slot_sizes size k (e ∷ es) =
-    omega (arith, slot_sizes size k es, sum_by-cons (λ (d : Entry). if slot_of size d == k then d.2 else 0) e es, sum_by-cons (λ (d : Entry). d.2) e es, one (slot_of size e == k))
-  where
-    one : (b : Bool) → (if b then e.2 else 0) ≤ e.2
-    one true = omega arith
-    one false = omega arith

@@ -1,9 +1,7 @@
 -- What holds at every moment of one run of calls, and of the run that follows it, holds at every moment of both.
-use Rattle.std.proofs.Common.{◌≡◌, ◌⊎◌, IsTrue, List, [], ◌∷◌, ◌++◌, Result, Ok, Err, refl, sym, ◌∙◌, ap, subst, append_assoc, inl, inr}
-use Rattle.std.specs.declared.io.Error.{Error}
+use Rattle.std.proofs.Common.{◌≡◌, ◌⊎◌, List, [], ◌∷◌, ◌++◌, refl, sym, ◌∙◌, ap, subst, append_assoc}
 use Rattle.sled_store.specs.Device.{Event, Trace, State, state_of, step}
 use Rattle.sled_store.specs.Moments.{AtEach, Throughout}
-use Rattle.sled_store.specs.Answers.{is_fault, Does, Tears}
 
 module _ (P : State → Type 0) where
   -- before the first call
@@ -45,17 +43,6 @@ module _ (P : State → Type 0) where
   -- it holds in the end
   pub at_last : (old new : Trace) → Throughout P old new → P (state_of new)
   at_last old new run = subst (λ (h : Trace). P (state_of h)) (sym run.follows) (last_each run.events old run.each)
-
-  through_failure : (event : Event) (fault : Type 0) (old new : Trace) → (new ≡ old) ⊎ (fault × ((torn : Event) × Tears event torn × (new ≡ torn ∷ old)))
-      → P (state_of old) → ((torn : Event) → Tears event torn → P (step torn (state_of old))) → Throughout P old new
-  through_failure event fault old new (inl same) here torn = stays old old new (started old here) same
-  through_failure event fault old new (inr left) here torn = added left.1.0 old new left.1.2 here (torn left.1.0 left.1.1)
-
-  -- a call, whatever it answers: before it, after it, and after what a failure leaves of it
-  pub through_call : {T : Type 0} (event : Event) (result : Result T Error) (old new : Trace) → Does event result old new
-      → P (state_of old) → P (step event (state_of old)) → ((torn : Event) → Tears event torn → P (step torn (state_of old))) → Throughout P old new
-  through_call event (Ok v) old new came here done torn = added event old new came here done
-  through_call event (Err e) old new came here done torn = through_failure event (IsTrue (is_fault e)) old new came here torn
 
 module _ (P Q : State → Type 0) (implies : (s : State) → P s → Q s) where
   weaker_each : (es : List Event) (old : Trace) → AtEach P es old → AtEach Q es old
