@@ -41,7 +41,7 @@ use Rattle.sled_core.specs.Waiting.{write_pending, writes_below}
 
 -- the failure of the device that it keeps
 abbrev pub fault_of : {D C : Type 0} → Log D C → Option IoError
-fault_of log = log.fault
+fault_of log = log.fault.kept
 
 -- its segments, by place: the first one that isn't wholly on the device, and those begun behind it
 abbrev pub line_of : {D C : Type 0} → Log D C → List SegmentView
@@ -85,11 +85,11 @@ synced_end log = log.site.place + log.buffer.written_len
 
 -- the batches that were noted and aren't wholly on the device, by place
 abbrev pub noted_in : {D C : Type 0} → Log D C → List Batch
-noted_in log = not_whole (synced_end log) (map batch_of log.noted.items)
+noted_in log = not_whole (synced_end log) (map batch_of log.batches.noted.items)
 
 -- how many batches a log keeps in memory: those, and those that are wholly on the device and weren't left out yet
 abbrev pub kept_batches : {D C : Type 0} → Log D C → ℕ
-kept_batches log = length log.noted.items
+kept_batches log = length log.batches.noted.items
 
 -- the place behind the stable end: behind all that is on the device without a gap, or where the lowest batch begins that goes on behind that
 abbrev pub stable_end : {D C : Type 0} → Log D C → ℕ
@@ -396,7 +396,7 @@ pub record HoldsWith (sum : List ℕ → ℕ) (noted : List Batch) (size : ℕ) 
 -- The log holds this history: its records are those of the history as a log has it, without the items that blobs have.
 unfoldable pub Holds : {D C : Type 0} → (D → Trace) → (List ℕ → ℕ) → Log D C → History → Type 0
 Holds trace sum log H =
-    HoldsWith sum (noted_in log) log.config.config.segment_size (state_of (trace log.config.device)) log.fault (line_of log) (machine_of log.accountant)
+    HoldsWith sum (noted_in log) log.config.config.segment_size (state_of (trace log.config.device)) log.fault.kept (line_of log) (machine_of log.accountant)
     (logged H)
 
 -- A log has the record of a message: it is of a segment that isn't wholly on the device, or an entry of the table of all that was written, or of that and more.
@@ -472,7 +472,7 @@ pub record KeepsTickets {D C : Type 0} (old new : Log D C) : Type 0 where
 pub record IsUnchanged {D C : Type 0} (old new : Log D C) : Type 0 where
   pub line : line_of new ≡ line_of old
   pub reserved : new.reserved_to ≡ old.reserved_to
-  pub fault : new.fault ≡ old.fault
+  pub fault : new.fault.kept ≡ old.fault.kept
   pub pins : new.pins ≡ old.pins
   pub machine : machine_at new ≡ machine_at old
   pub noted : noted_in new ≡ noted_in old

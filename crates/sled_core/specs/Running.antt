@@ -129,7 +129,7 @@ pub record FitsWith (sum : List ℕ → ℕ) (noted : List Batch) (size : ℕ) (
 -- The log fits this history, the end of what was acknowledged, the floor and the messages that were not marked yet.
 unfoldable pub Fits : {D C : Type 0} → (D → Trace) → (List ℕ → ℕ) → Log D C → History → ℕ → ℕ → List Message → Type 0
 Fits trace sum log H A f U =
-    FitsWith sum (noted_in log) log.config.config.segment_size (state_of (trace log.config.device)) log.fault (line_of log)
+    FitsWith sum (noted_in log) log.config.config.segment_size (state_of (trace log.config.device)) log.fault.kept (line_of log)
     (machine_of log.accountant) log.pins H A f U
 
 -- Snapshot and device are ready for a log that fits this history, the end of what was acknowledged and the floor. Log file and snapshots have records and

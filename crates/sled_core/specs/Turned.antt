@@ -49,6 +49,16 @@ reserved_now more r v = with_parts v (v.parts.bytes ++ more) v.parts.sealed (v.p
 abbrev pub ended_now : ℕ → Reserved → List ℕ → ReservationState → SegmentView → SegmentView
 ended_now i r ending state v = with_parts v (written v.parts.bytes r.from ending) (one_ended i v.parts.sealed) (set v.parts.reserved i (ended state r))
 
+-- A reservation of a buffer has ended: these bytes stand over the beginning of its record, and it has this state. All else is as it was.
+pub record EndsAs (index : ℕ) (how : List ℕ → Reserved → List ℕ) (state : ReservationState) (old new : IoBuf) : Type 0 where
+  pub bytes : (r : Reserved) → slice_get old.reserved.items index ≡ Some r → new.bytes.items ≡ written old.bytes.items r.from (how old.bytes.items r)
+  pub reserved : (r : Reserved) → slice_get old.reserved.items index ≡ Some r → new.reserved.items ≡ set old.reserved.items index (ended state r)
+  pub sealed : new.sealed.items ≡ one_ended index old.sealed.items
+  pub from : new.written_len ≡ old.written_len
+  pub gone : new.gone ≡ old.gone
+  pub filled : new.filled ≡ old.filled
+  pub long : length new.bytes.items ≡ length old.bytes.items
+
 -- one of its sealed buffers is written: those at the front that are have gone, with their reservations
 abbrev pub written_now : ℕ → SegmentView → SegmentView
 written_now k v =
@@ -76,17 +86,17 @@ promoted size (v ∷ w ∷ ws) = if v.parts.written_len == size then promoted si
 pub record ChangesLine {D C : Type 0} (old new : Log D C) : Type 0 where
   pub config : new.config ≡ old.config
   pub reserved : new.reserved_to ≡ old.reserved_to
-  pub fault : new.fault ≡ old.fault
+  pub fault : new.fault.kept ≡ old.fault.kept
   pub pins : new.pins ≡ old.pins
   pub accountant : new.accountant ≡ old.accountant
-  pub noted : new.noted.items ≡ old.noted.items
+  pub noted : new.batches.noted.items ≡ old.batches.noted.items
 
 -- It changes the segments and the slots alone.
 pub record ChangesSlots {D C : Type 0} (old new : Log D C) : Type 0 where
   pub config : new.config ≡ old.config
-  pub fault : new.fault ≡ old.fault
+  pub fault : new.fault.kept ≡ old.fault.kept
   pub pins : new.pins ≡ old.pins
-  pub noted : new.noted.items ≡ old.noted.items
+  pub noted : new.batches.noted.items ≡ old.batches.noted.items
 
 -- A buffer takes a record of this length, and one more reservation, without memory.
 pub record HasRoomIn (b : IoBuf) (len : ℕ) : Type 0 where
@@ -96,7 +106,7 @@ pub record HasRoomIn (b : IoBuf) (len : ℕ) : Type 0 where
 
 -- The batch of one more manifest can be noted without memory.
 pub record HasRoomForBatch {D C : Type 0} (log : Log D C) : Type 0 where
-  pub place : length log.noted.items + log.manifests < vec_capacity log.noted
+  pub place : length log.batches.noted.items + log.batches.manifests < vec_capacity log.batches.noted
 
 -- A batch is noted: that changes the noted batches alone.
 pub record NotesBatch {D C : Type 0} (old new : Log D C) : Type 0 where
@@ -106,9 +116,9 @@ pub record NotesBatch {D C : Type 0} (old new : Log D C) : Type 0 where
   pub behind : new.behind ≡ old.behind
   pub accountant : new.accountant ≡ old.accountant
   pub reserved : new.reserved_to ≡ old.reserved_to
-  pub fault : new.fault ≡ old.fault
+  pub fault : new.fault.kept ≡ old.fault.kept
   pub pins : new.pins ≡ old.pins
-  pub manifests : new.manifests ≡ old.manifests
+  pub manifests : new.batches.manifests ≡ old.batches.manifests
 
 -- It can be filled to the end of a segment of this size, and sealed, without memory.
 pub record CanClose (b : IoBuf) (size : ℕ) : Type 0 where
@@ -194,5 +204,4 @@ pub record ChangesDevice {D C : Type 0} (old new : Log D C) : Type 0 where
   pub reserved : new.reserved_to ≡ old.reserved_to
   pub pins : new.pins ≡ old.pins
   pub accountant : new.accountant ≡ old.accountant
-  pub noted : new.noted ≡ old.noted
-  pub manifests : new.manifests ≡ old.manifests
+  pub batches : new.batches ≡ old.batches

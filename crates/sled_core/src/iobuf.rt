@@ -144,6 +144,8 @@ pub(crate) struct IoBuf {
 }
 
 impl IoBuf {
+    ghost use Rattle.sled_core.specs.Turned.{EndsAs};
+
     ghost use Rattle.sled_core.specs.Buffers.{none_open};
 
     /// The bytes of a segment that has its header alone, with room for so many, and for a reservation.
@@ -291,15 +293,7 @@ impl IoBuf {
     pub(crate) fn complete(&mut self, index: usize)
         requires within { index < deque_len self.old.reserved }
         requires awaited { (r : Reserved) → slice_get self.old.reserved.items index ≡ Some r → r.state ≡ ReservationState.Open }
-        ensures bytes { (r : Reserved) → slice_get self.old.reserved.items index ≡ Some r
-            → self.new.bytes.items ≡ written self.old.bytes.items r.from (completing r) }
-        ensures reserved { (r : Reserved) → slice_get self.old.reserved.items index ≡ Some r
-            → self.new.reserved.items ≡ set self.old.reserved.items index (ended ReservationState.Completed r) }
-        ensures sealed { self.new.sealed.items ≡ one_ended index self.old.sealed.items }
-        ensures from { self.new.written_len ≡ self.old.written_len }
-        ensures gone { self.new.gone ≡ self.old.gone }
-        ensures filled { self.new.filled ≡ self.old.filled }
-        ensures len { length self.new.bytes.items ≡ length self.old.bytes.items }
+        ensures { EndsAs index (λ bytes r. completing r) ReservationState.Completed self.old self.new }
     {
         let r = self.reserved[index];
         self.end(index, r.sum, r.kind, ReservationState::Completed);
@@ -309,15 +303,7 @@ impl IoBuf {
     pub(crate) fn abort<C: Checksum>(&mut self, checksum: &C, index: usize)
         requires within { index < deque_len self.old.reserved }
         requires awaited { (r : Reserved) → slice_get self.old.reserved.items index ≡ Some r → r.state ≡ ReservationState.Open }
-        ensures bytes { (r : Reserved) → slice_get self.old.reserved.items index ≡ Some r
-            → self.new.bytes.items ≡ written self.old.bytes.items r.from (canceling C.sum_of self.old.bytes.items r) }
-        ensures reserved { (r : Reserved) → slice_get self.old.reserved.items index ≡ Some r
-            → self.new.reserved.items ≡ set self.old.reserved.items index (ended ReservationState.Canceled r) }
-        ensures sealed { self.new.sealed.items ≡ one_ended index self.old.sealed.items }
-        ensures from { self.new.written_len ≡ self.old.written_len }
-        ensures gone { self.new.gone ≡ self.old.gone }
-        ensures filled { self.new.filled ≡ self.old.filled }
-        ensures len { length self.new.bytes.items ≡ length self.old.bytes.items }
+        ensures { EndsAs index (canceling C.sum_of) ReservationState.Canceled self.old self.new }
     {
         self.end_as(
             checksum,
@@ -332,15 +318,7 @@ impl IoBuf {
         requires within { index < deque_len self.old.reserved }
         requires awaited { (r : Reserved) → slice_get self.old.reserved.items index ≡ Some r → r.state ≡ ReservationState.Open }
         requires body { (r : Reserved) → slice_get self.old.reserved.items index ≡ Some r → r.len ≡ r.header_len + 8 }
-        ensures bytes { (r : Reserved) → slice_get self.old.reserved.items index ≡ Some r
-            → self.new.bytes.items ≡ written self.old.bytes.items r.from (marking C.sum_of self.old.bytes.items r peg) }
-        ensures reserved { (r : Reserved) → slice_get self.old.reserved.items index ≡ Some r
-            → self.new.reserved.items ≡ set self.old.reserved.items index (ended ReservationState.Manifest r) }
-        ensures sealed { self.new.sealed.items ≡ one_ended index self.old.sealed.items }
-        ensures from { self.new.written_len ≡ self.old.written_len }
-        ensures gone { self.new.gone ≡ self.old.gone }
-        ensures filled { self.new.filled ≡ self.old.filled }
-        ensures len { length self.new.bytes.items ≡ length self.old.bytes.items }
+        ensures { EndsAs index (λ bytes r. marking C.sum_of bytes r peg) ReservationState.Manifest self.old self.new }
     {
         let r = self.reserved[index];
         put(&mut self.bytes, r.from + r.header_len, &peg.to_le_bytes());
@@ -358,15 +336,7 @@ impl IoBuf {
         requires within { index < deque_len self.old.reserved }
         requires awaited { (r : Reserved) → slice_get self.old.reserved.items index ≡ Some r → r.state ≡ ReservationState.Open }
         requires ends { open_state state ≡ false }
-        ensures bytes { (r : Reserved) → slice_get self.old.reserved.items index ≡ Some r
-            → self.new.bytes.items ≡ written self.old.bytes.items r.from (ending_as C.sum_of self.old.bytes.items r kind) }
-        ensures reserved { (r : Reserved) → slice_get self.old.reserved.items index ≡ Some r
-            → self.new.reserved.items ≡ set self.old.reserved.items index (ended state r) }
-        ensures sealed { self.new.sealed.items ≡ one_ended index self.old.sealed.items }
-        ensures from { self.new.written_len ≡ self.old.written_len }
-        ensures gone { self.new.gone ≡ self.old.gone }
-        ensures filled { self.new.filled ≡ self.old.filled }
-        ensures len { length self.new.bytes.items ≡ length self.old.bytes.items }
+        ensures { EndsAs index (λ bytes r. ending_as C.sum_of bytes r kind) state self.old self.new }
     {
         let r = self.reserved[index];
         put(&mut self.bytes, r.from + 4, &[u8::from(kind)]);
@@ -380,15 +350,7 @@ impl IoBuf {
         requires within { index < deque_len self.old.reserved }
         requires awaited { (r : Reserved) → slice_get self.old.reserved.items index ≡ Some r → r.state ≡ ReservationState.Open }
         requires ends { open_state state ≡ false }
-        ensures bytes { (r : Reserved) → slice_get self.old.reserved.items index ≡ Some r
-            → self.new.bytes.items ≡ written self.old.bytes.items r.from (ending sum kind) }
-        ensures reserved { (r : Reserved) → slice_get self.old.reserved.items index ≡ Some r
-            → self.new.reserved.items ≡ set self.old.reserved.items index (ended state r) }
-        ensures sealed { self.new.sealed.items ≡ one_ended index self.old.sealed.items }
-        ensures from { self.new.written_len ≡ self.old.written_len }
-        ensures gone { self.new.gone ≡ self.old.gone }
-        ensures filled { self.new.filled ≡ self.old.filled }
-        ensures len { length self.new.bytes.items ≡ length self.old.bytes.items }
+        ensures { EndsAs index (λ bytes r. ending sum kind) state self.old self.new }
     {
         let r = self.reserved[index];
         put_ending(&mut self.bytes, r.from, sum, kind);

@@ -7,6 +7,7 @@ ghost use Rattle.sled_codec.specs.Places.{part};
 ghost use Rattle.sled_codec.specs.Record.{IsHeader};
 ghost use Rattle.sled_store.specs.Device.{state_of};
 ghost use Rattle.sled_store.specs.Causes.{DeviceAnswers};
+ghost use Rattle.sled_core.specs.Keeps.{OnlyReads};
 ghost use Rattle.sled_core.specs.LogSegments.{begins_from};
 
 pub mod blobs;
@@ -57,9 +58,7 @@ pub fn read_slot<D: Device, C: Checksum>(
     ensures bytes { IfOk result (λ b. b.buf.items ≡ part (state_of (D.trace config.old.device)).log.bytes slot config.old.config.segment_size) }
     ensures answers { DeviceAnswers result (D.faults config.old.device) (D.faults config.new.device) }
     ensures readable { IsCorruption result → ⊥ }
-    ensures trace { D.trace config.new.device ≡ D.trace config.old.device }
-    ensures config { config.new.config ≡ config.old.config }
-    ensures checksum { config.new.checksum ≡ config.old.checksum }
+    ensures reads { OnlyReads D.trace config.old config.new }
 {
     let mut buf = BasedBuf::new(config.alloc());
     match read_slot_into(config, slot, &mut buf) {
@@ -84,9 +83,7 @@ pub fn read_slot_into<D: Device, C: Checksum>(
     ensures bytes { OnOk result (buf.new.buf.items ≡ part (state_of (D.trace config.old.device)).log.bytes slot config.old.config.segment_size) }
     ensures answers { DeviceAnswers result (D.faults config.old.device) (D.faults config.new.device) }
     ensures readable { IsCorruption result → ⊥ }
-    ensures trace { D.trace config.new.device ≡ D.trace config.old.device }
-    ensures config { config.new.config ≡ config.old.config }
-    ensures checksum { config.new.checksum ≡ config.old.checksum }
+    ensures reads { OnlyReads D.trace config.old config.new }
 {
     let size = config.config.segment_size as usize;
     buf.offset = slot;

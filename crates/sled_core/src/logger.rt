@@ -21,7 +21,6 @@ ghost use Rattle.sled_store.specs.Begin.{IsStartable, IsInReach};
 ghost use Rattle.sled_core.specs.Recoverable.{LeavesRecoverable, NoHeaderOfZeros, RecoverableIfOwn};
 ghost use Rattle.sled_core.specs.AccountProps.{IsAccountant-prop};
 ghost use Rattle.sled_core.specs.Begun.{FollowOn, FollowOn-prop, IsFilledLine, IsFilledLine-prop, line_at};
-ghost use Rattle.sled_core.specs.OpenBatches.{AreByPlace, AreByPlace-prop, batch_of};
 ghost use Rattle.sled_core.specs.OpenPlaces.{open_manifests};
 ghost use Rattle.sled_core.specs.ReadyBuffers.{AreReady, AreReady-prop};
 ghost use Rattle.sled_core.specs.Causes.{FaultAnswers, RecordAnswers};
@@ -31,6 +30,7 @@ pub(crate) mod batches;
 mod blobs;
 mod crash;
 mod ending;
+mod fault;
 mod iterating;
 mod mark_writebatch;
 pub mod read_at;
@@ -47,9 +47,10 @@ mod writing;
 
 use crate::iobuf::start::begin;
 use crate::iobuf::{IoBuf, SegmentPosition};
-use crate::logger::batches::NotedBatch;
+use crate::logger::batches::PendingBatches;
+use crate::logger::fault::Fault;
 use crate::logger::read_message::LogRead;
-use crate::logger::read_pointer::{fault_in, place_read, read_pointer};
+use crate::logger::read_pointer::{place_read, read_pointer};
 use crate::logger::ready::ReadyBuffers;
 use crate::logger::segments::{SegmentBuffer, no_segments};
 use crate::reservation::{Guard, Reservation};
@@ -76,12 +77,10 @@ pub struct Log<D, C> {
     /// The place behind the greatest record that was reserved.
     reserved_to: u64,
     /// The first failure of the device in this log.
-    fault: Option<io::Error>,
+    fault: Fault,
     pins: u32,
-    /// The batches that were noted, by place, but for those that are wholly on the device and were left out. There is room for that of each open manifest.
-    noted: Vec<NotedBatch>,
-    /// How many reservations of manifests are open or abandoned.
-    manifests: usize,
+    /// The batches that were noted, and the manifests that are open.
+    batches: PendingBatches,
     ghost in_segment: { length buffer.bytes.items ≤ config.config.segment_size },
     ghost place_in_reach: { site.place + config.config.segment_size < 2 ^ 63 },
     ghost slot_in_reach: { site.slot + config.config.segment_size < 2 ^ 63 },
@@ -89,10 +88,8 @@ pub struct Log<D, C> {
     ghost follow: { FollowOn config.config.segment_size (site.place + config.config.segment_size) behind.items } by { FollowOn-prop _ _ _ },
     ghost filled: { IsFilledLine config.config.segment_size reserved_to site buffer behind.items } by { IsFilledLine-prop _ _ site buffer behind.items },
     ghost account: { IsAccountant config.config.segment_size accountant } by { IsAccountant-prop config.config.segment_size accountant },
-    ghost pegs: { All (λ b. b.peg < reserved_to) noted.items },
-    ghost by_place: { AreByPlace 0 (map batch_of noted.items) } by { AreByPlace-prop 0 (map batch_of noted.items) },
-    ghost room: { length noted.items + manifests ≤ vec_capacity noted },
-    ghost counted: { open_manifests (line_at site buffer behind.items) ≡ manifests },
+    ghost pegs: { All (λ b. b.peg < reserved_to) batches.noted.items },
+    ghost counted: { open_manifests (line_at site buffer behind.items) ≡ batches.manifests },
     ghost indexed: { AreReady (line_at site buffer behind.items) ready } by { AreReady-prop (line_at site buffer behind.items) ready },
 }
 
@@ -157,10 +154,9 @@ impl<D: Device, C: Checksum> Log<D, C> {
                 buffer,
                 accountant,
                 reserved_to: beginning.place + beginning.offset,
-                fault: None,
+                fault: Fault { kept: None },
                 pins: 0,
-                noted: Vec::new(alloc),
-                manifests: 0,
+                batches: PendingBatches::new(alloc),
             }),
             Err(e) => Err((e, config)),
         }
@@ -216,7 +212,7 @@ impl<D: Device, C: Checksum> Log<D, C> {
     pub fn failure(&self) -> Option<io::Error>
         ensures { result ≡ fault_of self.now }
     {
-        self.fault
+        self.fault.kept
     }
 
     /// Completes a message: from now on it is in the log's history. Returns its place and its pointer. It takes no
@@ -248,7 +244,7 @@ impl<D: Device, C: Checksum> Log<D, C> {
         let pointer = ticket.pointer();
         let index = ticket.index();
         ticket.abandon();
-        if let Some(e) = self.fault {
+        if let Some(e) = self.fault.kept {
             return Err(Error::Io(e));
         }
         let n = self.segment_of(place.unsigned_abs());
@@ -301,7 +297,7 @@ impl<D: Device, C: Checksum> Log<D, C> {
             ReadAnswers C.sum_of blobs ptr result at (synced_end self.old) (reserved_end self.old) (held_at C.sum_of self.old at) (IsUsedUpAt self.old at)
             (fault_of self.old) (fault_of self.new) (D.faults (device_of self.old)) (D.faults (device_of self.new)) }
     {
-        if let Some(e) = self.fault {
+        if let Some(e) = self.fault.kept {
             return Err(Error::Io(e));
         }
         let size = self.config.config.segment_size;
@@ -328,7 +324,7 @@ impl<D: Device, C: Checksum> Log<D, C> {
             RecordAnswers C.sum_of blobs ptr result None (fault_of self.new) (D.faults (device_of self.old)) (D.faults (device_of self.new)) }
     {
         let answer = read_pointer(&mut self.config, page, number, ptr);
-        self.fault = fault_in(&answer);
+        self.fault.note(&answer);
         answer
     }
 
@@ -357,8 +353,7 @@ impl<D: Device, C: Checksum> Log<D, C> {
             reserved_to: _,
             fault: _,
             pins: _,
-            noted: _,
-            manifests: _,
+            batches: _,
         } = self;
         config
     }

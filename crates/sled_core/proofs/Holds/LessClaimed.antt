@@ -81,7 +81,7 @@ module _ (sum : List ℕ → ℕ) (H : History) (A less f lower : ℕ) (U : List
   unfolding Fits
   fits_claimed trace log fits = record {
     reach = fits.reach;
-    parts = fits_line_claimed log.config.config.segment_size (state_of (trace log.config.device)) log.fault (line_of log) fits.reach log.pins fits.parts;
+    parts = fits_line_claimed log.config.config.segment_size (state_of (trace log.config.device)) log.fault.kept (line_of log) fits.reach log.pins fits.parts;
     batches = fits.batches;
     slots = fits.slots;
     begun = fits.begun;

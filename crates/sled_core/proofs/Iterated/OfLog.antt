@@ -89,7 +89,7 @@ module _ {D C : Type 0} (trace : D → Trace) (sum : List ℕ → ℕ) (log : Lo
   abbrev some : 256 ≤ size
   some = log.config.config.least
 
-  module _ (fits : FitsWith sum (noted_in log) size state log.fault line m log.pins H A f U) (none : log.fault ≡ None) (zeros : NoHeaderOfZeros sum) where
+  module _ (fits : FitsWith sum (noted_in log) size state log.fault.kept line m log.pins H A f U) (none : log.fault.kept ≡ None) (zeros : NoHeaderOfZeros sum) where
     abbrev first : SnapshotModel
     first = fits.parts.holds.begun.first
 
@@ -116,7 +116,7 @@ module _ {D C : Type 0} (trace : D → Trace) (sum : List ℕ → ℕ) (log : Lo
     first_header k taken at some_written =
         let h = All-head (HasSlot size m) _ _ fits.slots.taken in
         let same : h.number ≡ k = fits.slots.own.one h.number k h.taken taken (h.is ∙ sym at) in
-        let has : HasHeader sum state.log.bytes log.site = headers_line sum size state log.fault none line 0 _ (logged H) fits.parts.holds refl some_written in
+        let has : HasHeader sum state.log.bytes log.site = headers_line sum size state log.fault.kept none line 0 _ (logged H) fits.parts.holds refl some_written in
         let slot : log.site.slot ≡ k * size = h.lies ∙ ap (λ n. n * size) same in (
           has.mark,
           subst (λ n. IsHeader sum (part state.log.bytes n 20) (pos (slot_at m k).lsn) has.mark) slot (subst (λ n. IsHeader sum (part state.log.bytes log.site.slot 20) (pos n) has.mark) (sym at) has.header),
@@ -162,7 +162,7 @@ module _ {D C : Type 0} (trace : D → Trace) (sum : List ℕ → ℕ) (log : Lo
     good = (blobs_read sum state.blobs H (stable_below fits.reach H.batches) (fits.parts.blobs (firm_files sum state.blobs) (firm_leaves sum state.blobs) (firm_own sum state.blobs (fits.parts.own_names none).of_blobs))).named
 
     apart_messages : LieApart H.messages
-    apart_messages = logged_apart H (whole_apart sum size log.site state log.fault log.buffer.bytes.items log.buffer.written_len log.buffer.sealed.items log.buffer.reserved.items (logged H) fits.parts.holds log.in_segment)
+    apart_messages = logged_apart H (whole_apart sum size log.site state log.fault.kept log.buffer.bytes.items log.buffer.written_len log.buffer.sealed.items log.buffer.reserved.items (logged H) fits.parts.holds log.in_segment)
 
     -- So an iterator that goes over the segments of the log gives its messages.
     pub gives_messages : (lsn : ℤ) (it : LogIter D C) → GoesOver trace sum log lsn it → GivesMessages trace sum log H lsn it

@@ -87,7 +87,7 @@ module _ {D C : Type 0} (trace : D → Trace) (sum : List ℕ → ℕ) (log : Lo
   abbrev some : 256 ≤ size
   some = log.config.config.least
 
-  module _ (fits : FitsWith sum (noted_in log) size state log.fault line machine log.pins H A f U) where
+  module _ (fits : FitsWith sum (noted_in log) size state log.fault.kept line machine log.pins H A f U) where
     -- The segments of the line have slots,
     its_slot : (z : ℕ) (b : BeginsAt line z) → HasSlot size machine b.segment
     its_slot z b = at_there (HasSlot size machine) line b.number b.segment b.among fits.slots.taken
@@ -104,7 +104,7 @@ module _ {D C : Type 0} (trace : D → Trace) (sum : List ℕ → ℕ) (log : Lo
         let parts = put_down size m.place in
         let up = lower_multiple size some log.site.place m.place above in
         let end : ℕ = (current_of log).parts.site.place + length (current_of log).parts.bytes in
-        let low : m.place < end = All-contains (λ (n : Message). n.place < end) (logged H).messages (in_log m) (line_below sum size state log.fault (view_at log.site log.buffer) (map segment_view log.behind.items) (logged H) log.in_segment fits.parts.holds) (logged_there H m there) in
+        let low : m.place < end = All-contains (λ (n : Message). n.place < end) (logged H).messages (in_log m) (line_below sum size state log.fault.kept (view_at log.site log.buffer) (map segment_view log.behind.items) (logged H) log.in_segment fits.parts.holds) (logged_there H m there) in
         let current = current_facts log in
         let at = current.at in
         let short = current.short in
@@ -114,7 +114,7 @@ module _ {D C : Type 0} (trace : D → Trace) (sum : List ℕ → ℕ) (log : Lo
         (h.number, h.taken, h.is ∙ b.at)
 
     -- An entry of an earlier one.
-    module _ (none : log.fault ≡ None) (zeros : NoHeaderOfZeros sum) (m : Message) (there : Contains H.messages m) (below : m.place < log.site.place) (cut : ℕ) (far : synced_end log ≤ cut) (entry : Contains (table H cut m.page) m) where
+    module _ (none : log.fault.kept ≡ None) (zeros : NoHeaderOfZeros sum) (m : Message) (there : Contains H.messages m) (below : m.place < log.site.place) (cut : ℕ) (far : synced_end log ≤ cut) (entry : Contains (table H cut m.page) m) where
       -- what a reader finds of the file
       among : StandsAmong sum size state.log.bytes log.site log.buffer.written_len (map begun_segment (map parts_in (map segment_view log.behind.items))) fits.reach H fits.parts.holds.begun.first
       among = among_alike (logged H) H (logged_twice H) sum size state.log.bytes log.site log.buffer.written_len (map begun_segment (map parts_in (map segment_view log.behind.items))) fits.reach fits.parts.holds.begun.first (fits.parts.among none zeros)
@@ -124,7 +124,7 @@ module _ {D C : Type 0} (trace : D → Trace) (sum : List ℕ → ℕ) (log : Lo
       reached =
           let near = fits.parts.near in
           let low = (fits.parts.ends (in_log m) (logged_there H m there) (omega (arith, below))).0 in
-          let lie = whole_apart sum size log.site state log.fault log.buffer.bytes.items log.buffer.written_len log.buffer.sealed.items log.buffer.reserved.items (logged H) fits.parts.holds log.in_segment in
+          let lie = whole_apart sum size log.site state log.fault.kept log.buffer.bytes.items log.buffer.written_len log.buffer.sealed.items log.buffer.reserved.items (logged H) fits.parts.holds log.in_segment in
           entry_earlier H (apart_ascends H.messages (logged_apart H lie)) fits.reach cut m.page (omega (arith, near, far)) m low entry
 
       -- so its segment is found,
@@ -153,7 +153,7 @@ module _ {D C : Type 0} (trace : D → Trace) (sum : List ℕ → ℕ) (log : Lo
           let h = its_slot (slot_at machine k).lsn b in
           let same : h.number ≡ k = fits.slots.own.one h.number k h.taken taken (h.is ∙ b.at) in
           let here : k * size ≡ b.segment.parts.site.slot = ap (λ n. n * size) (sym same) ∙ sym h.lies in
-          let is = own_header sum zeros size some state log.fault none log.site.place line (line_segments log) (logged H) fits.parts.holds b.number b.segment b.among of.segment.place of.segment.mark
+          let is = own_header sum zeros size some state log.fault.kept none log.site.place line (line_segments log) (logged H) fits.parts.holds b.number b.segment b.among of.segment.place of.segment.mark
           (subst (λ n. IsHeader sum (part state.log.bytes n 20) (pos of.segment.place) of.segment.mark) here header) in
           let at = b.at in
           let place = of.place in

@@ -18,7 +18,7 @@ use Rattle.sled_core.specs.Fits.{Awaits, AwaitsIn, Holds, KeepsAll, KeepsBuffers
 use Rattle.sled_core.specs.Keeps.{GoesOn, KeepsOthers, SamePosition}
 use Rattle.sled_core.specs.Logged.{logged, in_log}
 use Rattle.sled_core.specs.Manifests.{is_manifest}
-use Rattle.sled_core.specs.OpenBatches.{batch_of, not_whole, stable_below, with_batch}
+use Rattle.sled_core.specs.OpenBatches.{stable_below, with_batch}
 use Rattle.sled_core.specs.OpenPlaces.{TakesOut, open_places_along}
 use Rattle.sled_core.specs.Positions.{position_in}
 use Rattle.sled_core.specs.Running.{Fits}
@@ -35,7 +35,7 @@ use Rattle.sled_core.proofs.Holds.Facts.{IsSegment, nth_facts}
 use Rattle.sled_core.proofs.Line.Fillings.{log_off}
 use Rattle.sled_core.proofs.Line.LogSpans.{ended_buffers}
 use Rattle.sled_core.proofs.Line.Moves.{fits_as, holds_as}
-use Rattle.sled_core.proofs.Reached.ByPlace.{left_with, stable_with_batch}
+use Rattle.sled_core.proofs.Reached.ByPlace.{stable_with_batch}
 use Rattle.sled_core.proofs.Reserve.Ranges.{at_there}
 use Rattle.sled_core.proofs.Line.Places.{reserved_ends, reserved_in_reach}
 
@@ -63,10 +63,6 @@ module _ {D C : Type 0} (mid new : Log D C) (rest : NotesBatch mid new) where
   -- its buffers are the same,
   pub noted_buffers : KeepsBuffers mid new
   noted_buffers = record { waiting = ap (λ (l : List SegmentView). spans (unwritten l)) noted_line; start = ap start_in noted_current }
-
-  -- and the batch is among those that it has noted, where it begins behind what is written.
-  pub noted_more : (b : Batch) → map batch_of new.noted.items ≡ with_batch b (map batch_of mid.noted.items) → synced_end mid ≤ b.low → b.low ≤ b.peg → noted_in new ≡ with_batch b (noted_in mid)
-  noted_more b items past own = (λ i. not_whole (noted_synced i) (items i)) ∙ left_with (synced_end mid) b past own 0 (map batch_of mid.noted.items) mid.by_place
 
 -- The reservation of a ticket, by numbers.
 pub record IsReservedAt {D C : Type 0} (log : Log D C) (ticket : Reservation) (n index : ℕ) : Type 0 where
@@ -142,7 +138,7 @@ module _ {D C : Type 0} (trace : D → Trace) (sum : List ℕ → ℕ) (old mid 
   ended_same = keeps_ended old mid n v f.among i r f.there f.own.open_yet (marking sum v.parts.bytes r peg) short Manifest line ended
 
   low_unwritten : synced_end old ≤ v.parts.site.place + r.from
-  low_unwritten = line_unwritten sum old.config.config.segment_size (state_of (trace old.config.device)) old.fault v i r f.there f.own.open_yet facts (line_of old) n old.site.place f.among (nth_facts old)
+  low_unwritten = line_unwritten sum old.config.config.segment_size (state_of (trace old.config.device)) old.fault.kept v i r f.there f.own.open_yet facts (line_of old) n old.site.place f.among (nth_facts old)
 
   -- The batch begins behind what is written, ends no further in front than there, and has no place in common with those that were noted.
   module _ (low : ℕ) (low_is : low ≡ unsigned_abs (place_of ticket)) where
@@ -217,7 +213,7 @@ module _ {D C : Type 0} (trace : D → Trace) (sum : List ℕ → ℕ) (old mid 
     unfolding Holds
     batch_others H other m holds awaits elsewhere =
         subst (λ (l : List SegmentView). AwaitsIn l other (in_log m)) (sym (noted_line mid new rest ∙ line))
-        (others_await old.config.config.segment_size (line_of old) old.site.place n v f.among (nth_facts old) i r f.there f.own.open_yet (marking sum v.parts.bytes r peg) short Manifest sum (state_of (trace old.config.device)) old.fault
+        (others_await old.config.config.segment_size (line_of old) old.site.place n v f.among (nth_facts old) i r f.there f.own.open_yet (marking sum v.parts.bytes r peg) short Manifest sum (state_of (trace old.config.device)) old.fault.kept
         (logged H) holds.holds ticket other (in_log m) f.own.place awaits elsewhere)
 
     -- so much is seen,
@@ -233,7 +229,7 @@ module _ {D C : Type 0} (trace : D → Trace) (sum : List ℕ → ℕ) (old mid 
         let at = f.own.place in
         let reach = reserved_in_reach old in
         let ends = reserved_ends old in
-        let now = holds_noted sum old.config.config.segment_size (state_of (trace old.config.device)) old.fault (line_of old) n v f.among old.site.place (nth_facts old) i r f.there f.own.open_yet (of_manifest old ticket n index f manifest) peg (omega (arith, within, reach)) later (omega (arith, within, ends)) (machine_of old.accountant) (noted_in old)
+        let now = holds_noted sum old.config.config.segment_size (state_of (trace old.config.device)) old.fault.kept (line_of old) n v f.among old.site.place (nth_facts old) i r f.there f.own.open_yet (of_manifest old ticket n index f manifest) peg (omega (arith, within, reach)) later (omega (arith, within, ends)) (machine_of old.accountant) (noted_in old)
         (λ c known. elim (apart c known) [ inl front ↦ inl (omega (arith, ints, front, at)) | inr behind ↦ inr behind ]) (logged H) (log_off old peg within lies) holds in (
           noted_history H b,
           subst (λ (x : Batch). AddsBatch H x (noted_history H b)) (λ j. record { low = (sym begins ∙ low_is) j; peg = peg }) (noted_adds H b later),
@@ -251,7 +247,7 @@ module _ {D C : Type 0} (trace : D → Trace) (sum : List ℕ → ℕ) (old mid 
         let at = f.own.place in
         let reach = reserved_in_reach old in
         let ends = reserved_ends old in
-        let now = fits_noted sum size (state_of (trace old.config.device)) old.fault (line_of old) n v f.among old.site.place (nth_facts old) i r f.there f.own.open_yet (of_manifest old ticket n index f manifest) peg (omega (arith, within, reach)) later (omega (arith, within, ends)) (machine_of old.accountant) (noted_in old)
+        let now = fits_noted sum size (state_of (trace old.config.device)) old.fault.kept (line_of old) n v f.among old.site.place (nth_facts old) i r f.there f.own.open_yet (of_manifest old ticket n index f manifest) peg (omega (arith, within, reach)) later (omega (arith, within, ends)) (machine_of old.accountant) (noted_in old)
         (λ c known. elim (apart c known) [ inl front ↦ inl (omega (arith, ints, front, at)) | inr behind ↦ inr behind ]) old.pins H A f' U old.config.config.least none (log_off old peg within lies) fits in (
           noted_history H b,
           subst (λ (x : Batch). AddsBatch H x (noted_history H b)) (λ j. record { low = (sym begins ∙ low_is) j; peg = peg }) (noted_adds H b later),

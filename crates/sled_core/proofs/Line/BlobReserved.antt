@@ -82,7 +82,7 @@ module _ {D C : Type 0} (trace : D → Trace) (sum : List ℕ → ℕ) (old mid 
     }
 
     still_seen : KeepsSeen old made
-    still_seen = seen_further old mid made ready.seen (record { synced = ap written_to line_same; noted = noted_same mid made (λ i. (rest.noted i).items) (ap written_to line_same); pins = rest.pins })
+    still_seen = seen_further old mid made ready.seen (record { synced = ap written_to line_same; noted = noted_same mid made (λ i. (rest.batches i).noted.items) (ap written_to line_same); pins = rest.pins })
 
     still_room : HasPlace made (head.len + n)
     still_room =
@@ -95,9 +95,9 @@ module _ {D C : Type 0} (trace : D → Trace) (sum : List ℕ → ℕ) (old mid 
     still_batch : is_manifest kept.log_kind kept.page ≡ true → HasRoomForBatch made
     still_batch is =
         let room = (ready.batch is).place in
-        let items : length made.noted.items ≡ length mid.noted.items = λ i. length (rest.noted i).items in
-        let space : vec_capacity made.noted ≡ vec_capacity mid.noted = λ i. vec_capacity (rest.noted i) in
-        let counted = rest.manifests in
+        let items : length made.batches.noted.items ≡ length mid.batches.noted.items = λ i. length (rest.batches i).noted.items in
+        let space : vec_capacity made.batches.noted ≡ vec_capacity mid.batches.noted = λ i. vec_capacity (rest.batches i).noted in
+        let counted : made.batches.manifests ≡ mid.batches.manifests = λ i. (rest.batches i).manifests in
         record { place = omega (arith, room, items, space, counted) }
 
     pub ready_made : IsPrepared trace sum old made (record { log_kind = kept.log_kind; kind = kept.kind; page = kept.page; blob = blob }) head n

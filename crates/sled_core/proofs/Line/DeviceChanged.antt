@@ -26,17 +26,17 @@ module _ {D C : Type 0} (old new : Log D C) (rest : ChangesDevice old new) where
   slots_same = ap machine_of rest.accountant
 
   batches_same : noted_in new ≡ noted_in old
-  batches_same = noted_same old new (λ i. (rest.noted i).items) (ap written_to line_same)
+  batches_same = noted_same old new (λ i. (rest.batches i).noted.items) (ap written_to line_same)
 
   -- as much of it is on the device as was, and the same batches are noted
   pub device_stable : synced_end old ≤ synced_end new
   device_stable = let same = ap written_to line_same in omega (arith, same)
 
   pub device_noted : noted_in new ≡ not_whole (synced_end new) (noted_in old)
-  device_noted = noted_later old new (λ i. (rest.noted i).items) device_stable
+  device_noted = noted_later old new (λ i. (rest.batches i).noted.items) device_stable
 
   pub device_kept : kept_batches new ≤ kept_batches old
-  device_kept = kept_same old new (λ i. (rest.noted i).items)
+  device_kept = kept_same old new (λ i. (rest.batches i).noted.items)
 
   module _ (trace : D → Trace) (sum : List ℕ → ℕ) (kept : (fault_of new ≡ fault_of old) ⊎ ((e : IoError) × (fault_of new ≡ Some e))) where
     abbrev after : State

@@ -3,7 +3,6 @@ use Rattle.std.proofs.Common.{◌≡◌, ◌≢◌, ◌∙◌, ◌≤◌, ◌<�
 use Rattle.std.specs.List.{slice_get}
 use Rattle.std.specs.VecDeque.{deque_len}
 use Rattle.std.proofs.lemmas.Option.{slice_get_within}
-use Rattle.sled_codec.specs.Written.{written}
 use Rattle.sled_core.specs.declared.iobuf.IoBuf.{IoBuf}
 use Rattle.sled_core.specs.declared.iobuf.ReservationState.{ReservationState}
 use Rattle.sled_core.specs.declared.iobuf.ReservationState.TheVariants.{Canceled, Completed, Manifest, Open, Padding}
@@ -11,12 +10,11 @@ use Rattle.sled_core.specs.declared.iobuf.Reserved.{Reserved}
 use Rattle.sled_core.specs.declared.logger.Log.{Log}
 use Rattle.sled_core.specs.declared.logger.segments.SegmentBuffer.{SegmentBuffer}
 use Rattle.sled_core.specs.Begun.{AreFilled, FollowOn, SegmentView, line_at, segment_view, view_at}
-use Rattle.sled_core.specs.Buffers.{canceling, completing, ended, marking, open_state}
+use Rattle.sled_core.specs.Buffers.{canceling, completing, marking, open_state}
 use Rattle.sled_core.specs.Fits.{line_of, segment_size_of}
 use Rattle.sled_core.specs.Manifests.{is_manifest}
 use Rattle.sled_core.specs.OpenPlaces.{open_manifests}
-use Rattle.sled_core.specs.SealedBuffers.{one_ended}
-use Rattle.sled_core.specs.Turned.{HasOpenIn, ended_now}
+use Rattle.sled_core.specs.Turned.{EndsAs, HasOpenIn, ended_now}
 use Rattle.sled_core.proofs.Line.EndedLine.{behind_within, canceling_short, completing_short, ended_view, filled_over, first_is, first_reserved, line_behind, marking_short, mut_reserved, read_is, read_there}
 use Rattle.sled_core.proofs.Holds.Facts.{nth_facts}
 use Rattle.sled_core.proofs.Line.Filling.{follow_in, follow_with}
@@ -45,7 +43,7 @@ pub record HasEnded {D C : Type 0} (log : Log D C) (n index : ℕ) (its : HasOpe
   -- all of them are filled as those of a log
   pub filled : AreFilled (segment_size_of log) log.reserved_to (line_at log.site b ss)
   -- as many manifests are open as were, and one fewer where it was of one
-  pub counted : (manifest : Bool) (count : ℕ) → is_manifest its.reserved.log_kind its.reserved.page ≡ manifest → log.manifests ≡ (if manifest then suc count else count) → open_manifests (line_at log.site b ss) ≡ count
+  pub counted : (manifest : Bool) (count : ℕ) → is_manifest its.reserved.log_kind its.reserved.page ≡ manifest → log.batches.manifests ≡ (if manifest then suc count else count) → open_manifests (line_at log.site b ss) ≡ count
 
 module _ {D C : Type 0} (log : Log D C) (n index : ℕ) (its : HasOpenIn (line_of log) n index) where
   -- It is completed, or aborted, or it is the manifest of a batch that has ended.
@@ -132,28 +130,25 @@ module _ {D C : Type 0} (log : Log D C) (n index : ℕ) (its : HasOpenIn (line_o
         (filled_over size log.reserved_to (line_of log) n its.segment (index - its.segment.gone) its.reserved (how its.segment.parts.bytes its.reserved) state its.among (nth_facts log n its.segment its.among) its.there its.open_yet way.plain way.short log.filled)
 
     -- and as many manifests are open, or one fewer.
-    ended_counted : (line : List SegmentView) → line ≡ now → (manifest : Bool) (count : ℕ) → is_manifest its.reserved.log_kind its.reserved.page ≡ manifest → log.manifests ≡ (if manifest then suc count else count) → open_manifests line ≡ count
+    ended_counted : (line : List SegmentView) → line ≡ now → (manifest : Bool) (count : ℕ) → is_manifest its.reserved.log_kind its.reserved.page ≡ manifest → log.batches.manifests ≡ (if manifest then suc count else count) → open_manifests line ≡ count
     ended_counted line is manifest count kind less =
         let all = manifests_ended (line_of log) n its.segment (index - its.segment.gone) its.reserved (how its.segment.parts.bytes its.reserved) state manifest its.among its.there its.open_yet kind way.closed in
-        fewer_counted manifest (open_manifests (line_of log)) (open_manifests line) log.manifests count (all ∙ (λ j. if manifest then suc (open_manifests (sym is j)) else open_manifests (sym is j))) less log.counted
+        fewer_counted manifest (open_manifests (line_of log)) (open_manifests line) log.batches.manifests count (all ∙ (λ j. if manifest then suc (open_manifests (sym is j)) else open_manifests (sym is j))) less log.counted
 
     -- The first segment had it.
-    pub first_ended : n ≡ 0 → (new : IoBuf) → ((r : Reserved) → slice_get log.buffer.reserved.items (index - log.buffer.gone) ≡ Some r → new.bytes.items ≡ written log.buffer.bytes.items r.from (how log.buffer.bytes.items r))
-        → ((r : Reserved) → slice_get log.buffer.reserved.items (index - log.buffer.gone) ≡ Some r → new.reserved.items ≡ set log.buffer.reserved.items (index - log.buffer.gone) (ended state r))
-        → new.sealed.items ≡ one_ended (index - log.buffer.gone) log.buffer.sealed.items → new.written_len ≡ log.buffer.written_len → new.gone ≡ log.buffer.gone → new.filled ≡ log.buffer.filled → length new.bytes.items ≡ length log.buffer.bytes.items
-        → HasEnded log n index its how state new log.behind.items
-    first_ended first new bytes reserved sealed from gone filling long =
+    pub first_ended : n ≡ 0 → (new : IoBuf) → EndsAs (index - log.buffer.gone) how state log.buffer new → HasEnded log n index its how state new log.behind.items
+    first_ended first new did =
         let there = first_reserved log n index its first in
         let mine : view_at log.site log.buffer ≡ its.segment = first_is log n index its first in
-        let view = ended_view log.site log.buffer new (index - log.buffer.gone) its.reserved (how log.buffer.bytes.items its.reserved) state (bytes its.reserved there) (reserved its.reserved there) sealed from gone filling in
+        let view = ended_view log.site log.buffer new (index - log.buffer.gone) its.reserved (how log.buffer.bytes.items its.reserved) state (did.bytes its.reserved there) (did.reserved its.reserved there) did.sealed did.from did.gone did.filled in
         let here : line_at log.site new log.behind.items ≡ set (line_of log) 0 (ended_now (index - log.buffer.gone) its.reserved (how log.buffer.bytes.items its.reserved) state (view_at log.site log.buffer)) =
         ap (λ (w : SegmentView). w ∷ map segment_view log.behind.items) view in
         let line : line_at log.site new log.behind.items ≡ now =
         here ∙ (λ j. set (line_of log) (sym first j) (ended_now (index - (mine j).gone) its.reserved (how (mine j).parts.bytes its.reserved) state (mine j))) in
         record {
           line = ended_any (line_at log.site new log.behind.items) line;
-          in_segment = (let short = log.in_segment in omega (arith, long, short));
-          waits = λ some. (let less = log.waits some in omega (arith, from, less));
+          in_segment = (let short = log.in_segment in let long = did.long in omega (arith, long, short));
+          waits = λ some. (let less = log.waits some in let from = did.from in omega (arith, from, less));
           follow = log.follow;
           filled = ended_filled (line_at log.site new log.behind.items) line;
           counted = ended_counted (line_at log.site new log.behind.items) line;
@@ -161,24 +156,22 @@ module _ {D C : Type 0} (log : Log D C) (n index : ℕ) (its : HasOpenIn (line_o
 
     -- One behind it had it.
     pub behind_ended : (some : n ≡ 0 → ⊥) (s t : SegmentBuffer) → s ≡ get_or log.behind.items (n - 1) s → t ≡ get_or log.behind.items (n - 1) t
-        → (new : IoBuf) → ((r : Reserved) → slice_get t.buffer.reserved.items (index - s.buffer.gone) ≡ Some r → new.bytes.items ≡ written t.buffer.bytes.items r.from (how t.buffer.bytes.items r))
-        → ((r : Reserved) → slice_get t.buffer.reserved.items (index - s.buffer.gone) ≡ Some r → new.reserved.items ≡ set t.buffer.reserved.items (index - s.buffer.gone) (ended state r))
-        → new.sealed.items ≡ one_ended (index - s.buffer.gone) t.buffer.sealed.items → new.written_len ≡ t.buffer.written_len → new.gone ≡ t.buffer.gone → new.filled ≡ t.buffer.filled → length new.bytes.items ≡ length t.buffer.bytes.items
+        → (new : IoBuf) → EndsAs (index - s.buffer.gone) how state t.buffer new
         → HasEnded log n index its how state log.buffer (set log.behind.items (n - 1) (record { site = t.site; buffer = new }))
-    behind_ended some s t read again new bytes reserved sealed from gone filling long =
+    behind_ended some s t read again new did =
         let after : SegmentBuffer = record { site = t.site; buffer = new } in
         let there = mut_reserved log n index its some s t read again in
         let at = read_there log n index its some t again in
         let mine : segment_view t ≡ its.segment = read_is log n index its some t again in
         let numbered : s.buffer.gone ≡ its.segment.gone = ap (λ (w : SegmentView). w.gone) (read_is log n index its some s read) in
-        let here = line_behind log n index its some s t read again new (how t.buffer.bytes.items its.reserved) state (bytes its.reserved there) (reserved its.reserved there) sealed from gone filling in
+        let here = line_behind log n index its some s t read again new (how t.buffer.bytes.items its.reserved) state (did.bytes its.reserved there) (did.reserved its.reserved there) did.sealed did.from did.gone did.filled in
         let line : line_at log.site log.buffer (set log.behind.items (n - 1) after) ≡ now =
         here ∙ (λ j. set (line_of log) n (ended_now (index - numbered j) its.reserved (how (mine j).parts.bytes its.reserved) state (mine j))) in
         record {
           line = ended_any (line_at log.site log.buffer (set log.behind.items (n - 1) after)) line;
           in_segment = log.in_segment;
           waits = λ more. log.waits (let within = slice_get_within log.behind.items (n - 1) t at in omega (arith, within));
-          follow = follow_with size (log.site.place + size) log.behind.items (n - 1) t after at refl (let short = follow_in size (log.site.place + size) log.behind.items (n - 1) t at log.follow in omega (arith, long, short)) log.follow;
+          follow = follow_with size (log.site.place + size) log.behind.items (n - 1) t after at refl (let short = follow_in size (log.site.place + size) log.behind.items (n - 1) t at log.follow in let long = did.long in omega (arith, long, short)) log.follow;
           filled = ended_filled (line_at log.site log.buffer (set log.behind.items (n - 1) after)) line;
           counted = ended_counted (line_at log.site log.buffer (set log.behind.items (n - 1) after)) line;
         }

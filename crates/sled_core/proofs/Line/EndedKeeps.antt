@@ -1,5 +1,5 @@
 -- A call that ends a reservation of a log changes nothing else that a caller sees: the position, the stable end, and that no buffer is sealed; and what the changed segments hold and fit the log does.
-use Rattle.std.proofs.Common.{◌≤◌, ◌≡◌, ◌∙◌, ◌+◌, ◌-◌, ap, sym, refl, arith, subst, ℕ, suc, Bool, true, false, nat_lt, if◌then◌else◌, List, [], ◌∷◌, ◌++◌, length, take, drop, set, map, Option, Some}
+use Rattle.std.proofs.Common.{◌≤◌, ◌≡◌, ◌∙◌, ◌+◌, ◌-◌, ap, sym, refl, arith, subst, ℕ, suc, Bool, true, false, nat_lt, if◌then◌else◌, List, [], ◌∷◌, length, take, drop, set, map, Option, Some}
 use Rattle.std.specs.declared.io.Error.{Error as IoError}
 use Rattle.std.specs.List.{slice_get}
 use Rattle.std.proofs.lemmas.List.{length-set}
@@ -113,22 +113,22 @@ module _ {D C : Type 0} (old new : Log D C) (n : ℕ) (v : SegmentView) (there :
 
   -- The log holds and fits what the changed segments do.
 
-  pub holds_ended : (trace : D → Trace) (sum : List ℕ → ℕ) (H : History) → HoldsWith sum (noted_in old) old.config.config.segment_size (state_of (trace old.config.device)) old.fault (set (line_of old) n e) (machine_of old.accountant) (logged H) → Holds trace sum new H
+  pub holds_ended : (trace : D → Trace) (sum : List ℕ → ℕ) (H : History) → HoldsWith sum (noted_in old) old.config.config.segment_size (state_of (trace old.config.device)) old.fault.kept (set (line_of old) n e) (machine_of old.accountant) (logged H) → Holds trace sum new H
   unfolding Holds
   holds_ended trace sum H holds =
-      subst (λ (c : RunningConfig D C). HoldsWith sum (noted_in new) c.config.segment_size (state_of (trace c.device)) new.fault (line_of new) (machine_of new.accountant) (logged H)) (sym rest.config)
+      subst (λ (c : RunningConfig D C). HoldsWith sum (noted_in new) c.config.segment_size (state_of (trace c.device)) new.fault.kept (line_of new) (machine_of new.accountant) (logged H)) (sym rest.config)
       (subst (λ (f : Option IoError). HoldsWith sum (noted_in new) old.config.config.segment_size (state_of (trace old.config.device)) f (line_of new) (machine_of new.accountant) (logged H)) (sym rest.fault)
-      (subst (λ (l : List SegmentView). HoldsWith sum (noted_in new) old.config.config.segment_size (state_of (trace old.config.device)) old.fault l (machine_of new.accountant) (logged H)) (sym line)
-      (subst (λ (a : SegmentAccountant). HoldsWith sum (noted_in new) old.config.config.segment_size (state_of (trace old.config.device)) old.fault (set (line_of old) n e) (machine_of a) (logged H)) (sym rest.accountant)
-      (subst (λ (bs : List Batch). HoldsWith sum bs old.config.config.segment_size (state_of (trace old.config.device)) old.fault (set (line_of old) n e) (machine_of old.accountant) (logged H)) (sym noted_ended) holds))))
+      (subst (λ (l : List SegmentView). HoldsWith sum (noted_in new) old.config.config.segment_size (state_of (trace old.config.device)) old.fault.kept l (machine_of new.accountant) (logged H)) (sym line)
+      (subst (λ (a : SegmentAccountant). HoldsWith sum (noted_in new) old.config.config.segment_size (state_of (trace old.config.device)) old.fault.kept (set (line_of old) n e) (machine_of a) (logged H)) (sym rest.accountant)
+      (subst (λ (bs : List Batch). HoldsWith sum bs old.config.config.segment_size (state_of (trace old.config.device)) old.fault.kept (set (line_of old) n e) (machine_of old.accountant) (logged H)) (sym noted_ended) holds))))
 
   pub fits_ended : (trace : D → Trace) (sum : List ℕ → ℕ) (H : History) (A f : ℕ) (U : List Message)
-      → FitsWith sum (noted_in old) old.config.config.segment_size (state_of (trace old.config.device)) old.fault (set (line_of old) n e) (machine_of old.accountant) old.pins H A f U → Fits trace sum new H A f U
+      → FitsWith sum (noted_in old) old.config.config.segment_size (state_of (trace old.config.device)) old.fault.kept (set (line_of old) n e) (machine_of old.accountant) old.pins H A f U → Fits trace sum new H A f U
   unfolding Fits
   fits_ended trace sum H A f U fits =
-      subst (λ (c : RunningConfig D C). FitsWith sum (noted_in new) c.config.segment_size (state_of (trace c.device)) new.fault (line_of new) (machine_of new.accountant) new.pins H A f U) (sym rest.config)
+      subst (λ (c : RunningConfig D C). FitsWith sum (noted_in new) c.config.segment_size (state_of (trace c.device)) new.fault.kept (line_of new) (machine_of new.accountant) new.pins H A f U) (sym rest.config)
       (subst (λ (x : Option IoError). FitsWith sum (noted_in new) old.config.config.segment_size (state_of (trace old.config.device)) x (line_of new) (machine_of new.accountant) new.pins H A f U) (sym rest.fault)
-      (subst (λ (l : List SegmentView). FitsWith sum (noted_in new) old.config.config.segment_size (state_of (trace old.config.device)) old.fault l (machine_of new.accountant) new.pins H A f U) (sym line)
-      (subst (λ (a : SegmentAccountant). FitsWith sum (noted_in new) old.config.config.segment_size (state_of (trace old.config.device)) old.fault (set (line_of old) n e) (machine_of a) new.pins H A f U) (sym rest.accountant)
-      (subst (λ (p : ℕ). FitsWith sum (noted_in new) old.config.config.segment_size (state_of (trace old.config.device)) old.fault (set (line_of old) n e) (machine_of old.accountant) p H A f U) (sym rest.pins)
-      (subst (λ (bs : List Batch). FitsWith sum bs old.config.config.segment_size (state_of (trace old.config.device)) old.fault (set (line_of old) n e) (machine_of old.accountant) old.pins H A f U) (sym noted_ended) fits)))))
+      (subst (λ (l : List SegmentView). FitsWith sum (noted_in new) old.config.config.segment_size (state_of (trace old.config.device)) old.fault.kept l (machine_of new.accountant) new.pins H A f U) (sym line)
+      (subst (λ (a : SegmentAccountant). FitsWith sum (noted_in new) old.config.config.segment_size (state_of (trace old.config.device)) old.fault.kept (set (line_of old) n e) (machine_of a) new.pins H A f U) (sym rest.accountant)
+      (subst (λ (p : ℕ). FitsWith sum (noted_in new) old.config.config.segment_size (state_of (trace old.config.device)) old.fault.kept (set (line_of old) n e) (machine_of old.accountant) p H A f U) (sym rest.pins)
+      (subst (λ (bs : List Batch). FitsWith sum bs old.config.config.segment_size (state_of (trace old.config.device)) old.fault.kept (set (line_of old) n e) (machine_of old.accountant) old.pins H A f U) (sym noted_ended) fits)))))

@@ -64,7 +64,7 @@ module _ {D C : Type 0} (trace : D → Trace) (sum : List ℕ → ℕ) (log : Lo
   abbrev state : State
   state = state_of (trace log.config.device)
 
-  module _ (fits : FitsWith sum (noted_in log) size state log.fault (line_of log) (machine_at log) log.pins H A f U) (m : Message) (entry : Contains (table H (next_place log) m.page) m) where
+  module _ (fits : FitsWith sum (noted_in log) size state log.fault.kept (line_of log) (machine_at log) log.pins H A f U) (m : Message) (entry : Contains (table H (next_place log) m.page) m) where
     there : Contains H.messages m
     there = (from_table H (next_place log) m.page m entry).0
 
@@ -74,7 +74,7 @@ module _ {D C : Type 0} (trace : D → Trace) (sum : List ℕ → ℕ) (log : Lo
     has_blob : HasItem sum state.blobs.file m m.pointer
     has_blob = item_read sum state.blobs m m.pointer (kept trace sum log H A f U fits m.page m entry)
 
-    module _ (none : log.fault ≡ None) (zeros : NoHeaderOfZeros sum) where
+    module _ (none : log.fault.kept ≡ None) (zeros : NoHeaderOfZeros sum) where
       found : StandsAmong sum size state.log.bytes log.site log.buffer.written_len (map begun_segment (map parts_in (map segment_view log.behind.items))) fits.reach H fits.parts.holds.begun.first
       found = among trace sum log H A f U fits none zeros
 
@@ -101,8 +101,8 @@ module _ {D C : Type 0} (trace : D → Trace) (sum : List ℕ → ℕ) (log : Lo
             | inr behind ↦ behind
           ] in
           elim (Contains-append_cases holds.head holds.later (in_log m) (subst (λ (l : List Message). Contains l (in_log m)) holds.messages (logged_there H m there))) [
-            | inl mine ↦ (completed_behind sum size log.site state log.fault log.buffer.bytes.items log.buffer.written_len log.buffer.sealed.items log.buffer.reserved.items (record { messages = holds.head; batches = H.batches }) holds.own log.in_segment (in_log m) mine past).begins
-            | inr others ↦ behind_begins sum size log.config.config.least state log.fault H (stable_below fits.reach H.batches) holds.begun.first fits.reach stands ascends m there (log.site.place + size) (map parts_in (map segment_view log.behind.items)) _ H.batches holds.later holds.others
+            | inl mine ↦ (completed_behind sum size log.site state log.fault.kept log.buffer.bytes.items log.buffer.written_len log.buffer.sealed.items log.buffer.reserved.items (record { messages = holds.head; batches = H.batches }) holds.own log.in_segment (in_log m) mine past).begins
+            | inr others ↦ behind_begins sum size log.config.config.least state log.fault.kept H (stable_below fits.reach H.batches) holds.begun.first fits.reach stands ascends m there (log.site.place + size) (map parts_in (map segment_view log.behind.items)) _ H.batches holds.later holds.others
                 (λ s behind. found.behind (begun_segment s) (in_map begun_segment (map parts_in (map segment_view log.behind.items)) s behind)) others
           ]
 

@@ -61,22 +61,22 @@ end_left size place vs are =
     vs ((place, are), refl)).1
 
 -- The same batches are noted, where as much is written as was,
-pub noted_same : {D C : Type 0} (old new : Log D C) → new.noted.items ≡ old.noted.items → synced_end new ≡ synced_end old → noted_in new ≡ noted_in old
+pub noted_same : {D C : Type 0} (old new : Log D C) → new.batches.noted.items ≡ old.batches.noted.items → synced_end new ≡ synced_end old → noted_in new ≡ noted_in old
 noted_same old new items synced = λ i. not_whole (synced i) (map batch_of (items i))
 
 -- and where more is written those that aren't wholly.
-pub noted_later : {D C : Type 0} (old new : Log D C) → new.noted.items ≡ old.noted.items → synced_end old ≤ synced_end new → noted_in new ≡ not_whole (synced_end new) (noted_in old)
-noted_later old new items up = ap (λ (l : List NotedBatch). not_whole (synced_end new) (map batch_of l)) items ∙ sym (not_whole_further (synced_end old) (synced_end new) up (map batch_of old.noted.items))
+pub noted_later : {D C : Type 0} (old new : Log D C) → new.batches.noted.items ≡ old.batches.noted.items → synced_end old ≤ synced_end new → noted_in new ≡ not_whole (synced_end new) (noted_in old)
+noted_later old new items up = ap (λ (l : List NotedBatch). not_whole (synced_end new) (map batch_of l)) items ∙ sym (not_whole_further (synced_end old) (synced_end new) up (map batch_of old.batches.noted.items))
 
 pub noted_quiet : {D C : Type 0} (old new : Log D C) → noted_in new ≡ noted_in old → synced_end new ≡ synced_end old → noted_in new ≡ not_whole (synced_end new) (noted_in old)
 noted_quiet old new noted synced =
-    noted ∙ sym (not_whole_further (synced_end old) (synced_end old) (omega arith) (map batch_of old.noted.items)) ∙ ap (λ n. not_whole n (noted_in old)) (sym synced)
+    noted ∙ sym (not_whole_further (synced_end old) (synced_end old) (omega arith) (map batch_of old.batches.noted.items)) ∙ ap (λ n. not_whole n (noted_in old)) (sym synced)
 
 pub noted_still : {D C : Type 0} (log : Log D C) → noted_in log ≡ not_whole (synced_end log) (noted_in log)
 noted_still log = noted_quiet log log refl refl
 
 -- As many are kept in memory then.
-pub kept_same : {D C : Type 0} (old new : Log D C) → new.noted.items ≡ old.noted.items → kept_batches new ≤ kept_batches old
+pub kept_same : {D C : Type 0} (old new : Log D C) → new.batches.noted.items ≡ old.batches.noted.items → kept_batches new ≤ kept_batches old
 kept_same old new items = let same = ap (λ (l : List NotedBatch). length l) items in omega (arith, same)
 
 -- Two calls, one behind the other.
@@ -109,7 +109,7 @@ pub behind_still : {D C : Type 0} (log : Log D C) (behind : ℕ) → behind ≤ 
 behind_still log behind low = behind_all behind (noted_in log) (λ b there. elim (cases_lt b.low behind) [
   | inl before ↦ absurd (
       let under = stable_low (synced_end log) (noted_in log) in
-      let peg = (whole_not (synced_end log) (map batch_of log.noted.items) b there).1 in
+      let peg = (whole_not (synced_end log) (map batch_of log.batches.noted.items) b there).1 in
       let at_most = stable_open (synced_end log) (noted_in log) b there (omega (arith, before, low, under), peg) in
       omega (arith, at_most, before, low))
   | inr past ↦ past

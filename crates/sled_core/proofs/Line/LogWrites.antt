@@ -139,50 +139,50 @@ module _ {D C : Type 0} (log : Log D C) (n k : ℕ) (r : IsReadyIn (line_of log)
     slots = machine_of log.accountant
 
     -- the calls
-    calls : write_in line n k ≡ buffer_calls sum size log.config.config.least device log.fault whole v k r.buffer r.there r.ready
-    calls = calls_are sum size log.config.config.least device log.fault whole v k r.buffer r.there r.ready line n r.among
+    calls : write_in line n k ≡ buffer_calls sum size log.config.config.least device log.fault.kept whole v k r.buffer r.there r.ready
+    calls = calls_are sum size log.config.config.least device log.fault.kept whole v k r.buffer r.there r.ready line n r.among
 
-    left : (new : Trace) → Performs (write_in line n k) before new → (reach : ℕ) (H : History) (A f : ℕ) (U : List Message) → FitsLine sum size device log.fault line reach log.pins H A f U → Throughout (LeavesRecoverable sum size H (stable_below reach H.batches) f) before new
+    left : (new : Trace) → Performs (write_in line n k) before new → (reach : ℕ) (H : History) (A f : ℕ) (U : List Message) → FitsLine sum size device log.fault.kept line reach log.pins H A f U → Throughout (LeavesRecoverable sum size H (stable_below reach H.batches) f) before new
     left new came reach H A f U fits =
         performs_throughout (LeavesRecoverable sum size H (stable_below reach H.batches) f) (write_in line n k) before new came
         (subst (λ (es : List Event). Along (LeavesRecoverable sum size H (stable_below reach H.batches) f) es device) (sym calls)
-        (along_write sum size log.config.config.least device log.fault whole v k r.buffer r.there r.ready log.pins H A f U (log_recorded log n v r.among) log.site.place reach line (line_segments log) n r.among fits))
+        (along_write sum size log.config.config.least device log.fault.kept whole v k r.buffer r.there r.ready log.pins H A f U (log_recorded log n v r.among) log.site.place reach line (line_segments log) n r.among fits))
 
     -- At each moment of the calls a crash leaves what can be recovered.
     pub crash_write : (new : Trace) → Performs (write_in line n k) before new → (H : History) (A f : ℕ) (U : List Message) → Fits trace sum log H A f U → Throughout (LeavesRecoverable sum size H A f) before new
     unfolding Fits
     crash_write new came H A f U fits =
-        weaker (LeavesRecoverable sum size H (stable_below fits.reach H.batches) f) (LeavesRecoverable sum size H A f) (λ s. leaves_less sum size H A (stable_below fits.reach H.batches) f s (passes_line sum size device log.fault line fits.reach log.pins H A f U fits.parts)) before new
+        weaker (LeavesRecoverable sum size H (stable_below fits.reach H.batches) f) (LeavesRecoverable sum size H A f) (λ s. leaves_less sum size H A (stable_below fits.reach H.batches) f s (passes_line sum size device log.fault.kept line fits.reach log.pins H A f U fits.parts)) before new
         (left new came fits.reach H A f U fits.parts)
 
     -- Made or not, they leave blobs and snapshots as they were.
     pub names : (new : Trace) → Performs (write_in line n k) before new → ((state_of new).blobs ≡ device.blobs) × ((state_of new).snapshots ≡ device.snapshots)
     names new came =
-        names_written (v.parts.site.slot + buffer_begin sum size log.config.config.least device log.fault whole v k r.buffer r.there r.ready) (buffer_bytes sum size log.config.config.least device log.fault whole v k r.buffer r.there r.ready) before new
+        names_written (v.parts.site.slot + buffer_begin sum size log.config.config.least device log.fault.kept whole v k r.buffer r.there r.ready) (buffer_bytes sum size log.config.config.least device log.fault.kept whole v k r.buffer r.there r.ready) before new
         (subst (λ (es : List Event). Performs es before new) calls came)
 
     -- Once they were made up to one that failed it holds and fits the same.
     pub holds_failed : (new : Trace) → Performs (write_in line n k) before new → (now : Option IoError) → (now ≡ None → new ≡ before) → (H : History) → Holds trace sum log H → HoldsWith sum (noted_in log) size (state_of new) now line slots (logged H)
     unfolding Holds
     holds_failed new came now same H holds = elim (fault_or_none now) [
-      | inl none ↦ holds_with_device sum (noted_in log) size device (state_of new) log.fault now line slots (logged H) (ap state_of (same none)) (none ∙ sym whole) holds
+      | inl none ↦ holds_with_device sum (noted_in log) size device (state_of new) log.fault.kept now line slots (logged H) (ap state_of (same none)) (none ∙ sym whole) holds
       | inr some ↦ record {
-        holds = holds_line_faulty sum size device log.fault line (logged H) holds.holds (state_of new) some.0 now some.1 (names new came).1;
+        holds = holds_line_faulty sum size device log.fault.kept line (logged H) holds.holds (state_of new) some.0 now some.1 (names new came).1;
         batches = holds.batches;
-        slots = slots_line_faulty size line device.log.bytes (state_of new).log.bytes log.fault slots holds.slots some.0 now some.1;
+        slots = slots_line_faulty size line device.log.bytes (state_of new).log.bytes log.fault.kept slots holds.slots some.0 now some.1;
       }
     ]
 
     pub fits_failed : (new : Trace) → Performs (write_in line n k) before new → (now : Option IoError) → (now ≡ None → new ≡ before) → (H : History) (A f : ℕ) (U : List Message) → Fits trace sum log H A f U → FitsWith sum (noted_in log) size (state_of new) now line slots log.pins H A f U
     unfolding Fits
     fits_failed new came now same H A f U fits = elim (fault_or_none now) [
-      | inl none ↦ fits_with_device sum (noted_in log) size device (state_of new) log.fault now line slots log.pins H A f U (ap state_of (same none)) (none ∙ sym whole) fits
+      | inl none ↦ fits_with_device sum (noted_in log) size device (state_of new) log.fault.kept now line slots log.pins H A f U (ap state_of (same none)) (none ∙ sym whole) fits
       | inr some ↦ record {
         reach = fits.reach;
-        parts = fits_line_faulty sum size device log.fault line fits.reach log.pins H A f U fits.parts (state_of new) some.0 now some.1 (names new came).0 (names new came).1
+        parts = fits_line_faulty sum size device log.fault.kept line fits.reach log.pins H A f U fits.parts (state_of new) some.0 now some.1 (names new came).0 (names new came).1
             (at_last (LeavesRecoverable sum size H (stable_below fits.reach H.batches) f) before new (left new came fits.reach H A f U fits.parts));
         batches = fits.batches;
-        slots = slots_line_faulty size line device.log.bytes (state_of new).log.bytes log.fault slots fits.slots some.0 now some.1;
+        slots = slots_line_faulty size line device.log.bytes (state_of new).log.bytes log.fault.kept slots fits.slots some.0 now some.1;
         begun = λ none. let never = some.1 in cc;
         own = λ none zeros. let never = some.1 in cc;
         entries = subst (λ (s : NamesState). HaveEntries sum size s.file (logged H) slots) (sym (names new came).1) fits.entries;
@@ -190,34 +190,34 @@ module _ {D C : Type 0} (log : Log D C) (n k : ℕ) (r : IsReadyIn (line_of log)
     ]
 
     -- Once they were all made it does so with the segments that are left.
-    made : (new : Trace) → new ≡ after_all (write_in line n k) before → new ≡ after_all (buffer_calls sum size log.config.config.least device log.fault whole v k r.buffer r.there r.ready) before
+    made : (new : Trace) → new ≡ after_all (write_in line n k) before → new ≡ after_all (buffer_calls sum size log.config.config.least device log.fault.kept whole v k r.buffer r.there r.ready) before
     made new came = came ∙ ap (λ (es : List Event). after_all es before) calls
 
     pub holds_done : (new : Trace) → new ≡ after_all (write_in line n k) before → (now : Option IoError) → now ≡ None → (H : History) → Holds trace sum log H → HoldsWith sum noted_left size (state_of new) now line_left slots (logged H)
     unfolding Holds
     holds_done new came now none H holds =
         subst (λ (o : Option IoError). HoldsWith sum noted_left size (state_of new) o line_left slots (logged H)) (whole ∙ sym none)
-        (subst (λ (t : Trace). HoldsWith sum noted_left size (state_of t) log.fault line_left slots (logged H)) (sym (made new came)) (record {
-          holds = holds_promoted sum size (buffer_synced sum size log.config.config.least device log.fault whole v k r.buffer r.there r.ready) log.fault (logged H) log.config.config.least log.site.place line_written segments_written
-              (holds_write sum size log.config.config.least device log.fault whole v k r.buffer r.there r.ready log.site.place line (line_segments log) n r.among (logged H) holds.holds);
+        (subst (λ (t : Trace). HoldsWith sum noted_left size (state_of t) log.fault.kept line_left slots (logged H)) (sym (made new came)) (record {
+          holds = holds_promoted sum size (buffer_synced sum size log.config.config.least device log.fault.kept whole v k r.buffer r.there r.ready) log.fault.kept (logged H) log.config.config.least log.site.place line_written segments_written
+              (holds_write sum size log.config.config.least device log.fault.kept whole v k r.buffer r.there r.ready log.site.place line (line_segments log) n r.among (logged H) holds.holds);
           batches = batches_after (logged H) holds.batches;
-          slots = slots_write sum size log.config.config.least device log.fault whole v k r.buffer r.there r.ready log.site.place line (line_segments log) n r.among slots log.fault holds.slots;
+          slots = slots_write sum size log.config.config.least device log.fault.kept whole v k r.buffer r.there r.ready log.site.place line (line_segments log) n r.among slots log.fault.kept holds.slots;
         }))
 
     pub fits_done : (new : Trace) → new ≡ after_all (write_in line n k) before → (now : Option IoError) → now ≡ None → (H : History) (A f : ℕ) (U : List Message) → Fits trace sum log H A f U → FitsWith sum noted_left size (state_of new) now line_left slots log.pins H A f U
     unfolding Fits
     fits_done new came now none H A f U fits =
-        let after = fits_write sum size log.config.config.least device log.fault whole v k r.buffer r.there r.ready log.pins H A f U (log_recorded log n v r.among) log.reserved_to log.site.place fits.reach line (line_segments log) n r.among filled_now first_waits fits.parts in
+        let after = fits_write sum size log.config.config.least device log.fault.kept whole v k r.buffer r.there r.ready log.pins H A f U (log_recorded log n v r.among) log.reserved_to log.site.place fits.reach line (line_segments log) n r.among filled_now first_waits fits.parts in
         subst (λ (o : Option IoError). FitsWith sum noted_left size (state_of new) o line_left slots log.pins H A f U) (sym none)
         (subst (λ (t : Trace). FitsWith sum noted_left size (state_of t) None line_left slots log.pins H A f U) (sym (made new came)) (record {
           reach = after.0;
           parts = after.1;
           batches = batches_after (logged H) fits.batches;
-          slots = slots_write sum size log.config.config.least device log.fault whole v k r.buffer r.there r.ready log.site.place line (line_segments log) n r.among slots None fits.slots;
-          begun = λ none. begun_write sum size log.config.config.least device log.fault whole v k r.buffer r.there r.ready log.site.place line (line_segments log) n r.among slots fits.slots (logged H)
-              (line_holds sum size device log.fault line fits.reach log.pins H A f U fits.parts) (fits.begun whole);
-          own = λ none zeros. placed_left sum size log.config.config.least device log.fault whole v k r.buffer r.there r.ready log.site.place line (line_segments log) n r.among slots fits.slots (logged H)
-              (line_holds sum size device log.fault line fits.reach log.pins H A f U fits.parts) zeros (fits.own whole zeros);
+          slots = slots_write sum size log.config.config.least device log.fault.kept whole v k r.buffer r.there r.ready log.site.place line (line_segments log) n r.among slots None fits.slots;
+          begun = λ none. begun_write sum size log.config.config.least device log.fault.kept whole v k r.buffer r.there r.ready log.site.place line (line_segments log) n r.among slots fits.slots (logged H)
+              (line_holds sum size device log.fault.kept line fits.reach log.pins H A f U fits.parts) (fits.begun whole);
+          own = λ none zeros. placed_left sum size log.config.config.least device log.fault.kept whole v k r.buffer r.there r.ready log.site.place line (line_segments log) n r.among slots fits.slots (logged H)
+              (line_holds sum size device log.fault.kept line fits.reach log.pins H A f U fits.parts) zeros (fits.own whole zeros);
           entries = fits.entries;
         }))
 

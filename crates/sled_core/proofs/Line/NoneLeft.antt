@@ -68,7 +68,7 @@ module _ (sum : List ℕ → ℕ) (size to : ℕ) (device : State) (fault : Opti
 
 -- Each batch that is noted ends below what is reserved.
 pub noted_pegs : {D C : Type 0} (log : Log D C) (b : Batch) → Contains (noted_in log) b → b.peg < reserved_end log
-noted_pegs log b there = among log.noted.items log.pegs (whole_not (synced_end log) (map batch_of log.noted.items) b there).0 where
+noted_pegs log b there = among log.batches.noted.items log.pegs (whole_not (synced_end log) (map batch_of log.batches.noted.items) b there).0 where
   among : (xs : List NotedBatch) → All (λ (x : NotedBatch). x.peg < reserved_end log) xs → Contains (map batch_of xs) b → b.peg < reserved_end log
   among [] all known = absurd (in_nothing b known)
   among (x ∷ xs) all known = elim (in_cases (batch_of x) b (map batch_of xs) known) [

@@ -47,18 +47,18 @@ module _ {D C : Type 0} (trace : D → Trace) (sum : List ℕ → ℕ) (log : Lo
   abbrev Own : ℕ → ℕ → List ℕ → Type 0
   Own = RecordWasPlaced sum size state.placed
 
-  module _ (fits : FitsWith sum (noted_in log) size state log.fault line (machine_at log) log.pins H A f U) (none : log.fault ≡ None) (zeros : NoHeaderOfZeros sum) where
-    holds : HoldsLine sum size state log.fault line (logged H)
-    holds = line_holds sum size state log.fault line fits.reach log.pins H A f U fits.parts
+  module _ (fits : FitsWith sum (noted_in log) size state log.fault.kept line (machine_at log) log.pins H A f U) (none : log.fault.kept ≡ None) (zeros : NoHeaderOfZeros sum) where
+    holds : HoldsLine sum size state log.fault.kept line (logged H)
+    holds = line_holds sum size state log.fault.kept line fits.reach log.pins H A f U fits.parts
 
     -- A slot in which one of its segments lies.
     slot_at_nth : (n : ℕ) (v : SegmentView) → slice_get line n ≡ Some v → (slot : ℕ) → v.parts.site.slot ≡ slot * size → HasOwnSlot sum size Header Own state.log.bytes slot
     slot_at_nth n v there slot lies =
         let is : IsSegment size v.parts.site.place v = nth_segment size log.site.place line (line_segments log) n v there in
         let least = log.config.config.least in
-        with_part sum size state log.fault line n v (logged H) holds there (λ stays its segment.
+        with_part sum size state log.fault.kept line n v (logged H) holds there (λ stays its segment.
         slot_of_segment sum size Header Own zeros (omega (arith, least)) state.log.bytes v.parts.site slot v.parts.written_len v.parts.reserved v.parts.sealed v.parts.bytes lies is.fresh is.are
-        (all_long sum size (v.parts.site.place / size) v.parts.bytes v.parts.reserved segment.stand) (segment.laid none) (λ some. headers_line sum size state log.fault none line n v (logged H) holds there some)
+        (all_long sum size (v.parts.site.place / size) v.parts.bytes v.parts.reserved segment.stand) (segment.laid none) (λ some. headers_line sum size state log.fault.kept none line n v (logged H) holds there some)
         (at_there (λ (u : SegmentView). IsOwnSegment sum size Header Own state.log.bytes u.parts.site u.parts.written_len u.parts.sealed) line n v there (fits.own none zeros).segments))
 
     -- Each slot.
@@ -73,7 +73,7 @@ module _ {D C : Type 0} (trace : D → Trace) (sum : List ℕ → ℕ) (log : Lo
 
     -- The log file is settled.
     settled : state.log ≡ at_rest state.log.bytes
-    settled = with_part sum size state log.fault line 0 (view_at log.site log.buffer) (logged H) holds refl (λ stays its segment. let on = segment.written none in rests state.log on.log on.settled)
+    settled = with_part sum size state log.fault.kept line 0 (view_at log.site log.buffer) (logged H) holds refl (λ stays its segment. let on = segment.written none in rests state.log on.log on.settled)
 
     none_in_log : NoForeignLog sum size state.log state.placed state.log.bytes
     none_in_log = subst (λ (l : LogState). NoForeignLog sum size l state.placed state.log.bytes) (sym settled) (none_foreign sum size state.placed state.log.bytes reads_placed)

@@ -167,12 +167,3 @@ fewer_counted false old new count now fewer is low = omega (arith, fewer, is, lo
 pub some_counted : (manifest : Bool) (old new count : ℕ) → old ≡ (if manifest then suc new else new) → old ≡ count → manifest ≡ true → 0 < count
 some_counted true old new count fewer low is = omega (arith, fewer, low)
 some_counted false old new count fewer low is = cc
-
-pub without_fewer : (manifest : Bool) (count now : ℕ) → count ≡ (if manifest then suc now else now) → now ≤ count
-without_fewer true count now is = omega (arith, is)
-without_fewer false count now is = omega (arith, is)
-
--- There is room for one more where it was asked for.
-pub room_more : (manifest : Bool) (many count now most : ℕ) → now ≡ (if manifest then suc count else count) → many + count ≤ most → (manifest ≡ true → many + count < most) → many + now ≤ most
-room_more true many count now most is low asked = let less = asked refl in omega (arith, is, less)
-room_more false many count now most is low asked = omega (arith, is, low)

@@ -1,5 +1,5 @@
 -- Each buffer of a log that nothing holds up is whole records, each with its sum, and so is the current one as it would be sealed.
-use Rattle.std.proofs.Common.{◌≡◌, ◌≢◌, ◌∙◌, ◌⊎◌, ◌+◌, ◌-◌, ◌*◌, ◌/◌, ◌%◌, ◌≤◌, ◌<◌, ap, sym, refl, arith, subst, inl, inr, ℕ, ℤ, pos, suc, max, Bool, true, false, if◌then◌else◌, List, [], ◌∷◌, ◌++◌, length, length-append, length-take, length-drop, take, drop, None, Some}
+use Rattle.std.proofs.Common.{◌≡◌, ◌∙◌, ◌⊎◌, ◌+◌, ◌-◌, ◌/◌, ◌%◌, ◌≤◌, ◌<◌, ap, sym, refl, arith, subst, inl, inr, ℕ, ℤ, pos, suc, max, Bool, true, false, if◌then◌else◌, List, [], ◌∷◌, ◌++◌, length, length-append, length-take, length-drop, take, drop, None, Some}
 use Rattle.std.specs.Prelude.{◌<ℤ◌}
 use Rattle.std.specs.List.{All, slice_get}
 use Rattle.std.proofs.lemmas.Bool.{cases_lt}
@@ -286,10 +286,10 @@ module _ {D C : Type 0} (trace : D → Trace) (sum : List ℕ → ℕ) (log : Lo
   abbrev device : State
   device = state_of (trace log.config.device)
 
-  segment_told : HoldsLine sum size device log.fault (line_of log) (logged H) → log.fault ≡ None → (n : ℕ) (v : SegmentView) → slice_get (line_of log) n ≡ Some v → IsTold sum size v
+  segment_told : HoldsLine sum size device log.fault.kept (line_of log) (logged H) → log.fault.kept ≡ None → (n : ℕ) (v : SegmentView) → slice_get (line_of log) n ≡ Some v → IsTold sum size v
   segment_told holds none n v there =
       let is : IsSegment size v.parts.site.place v = nth_segment size log.site.place (line_of log) (line_segments log) n v there in
-      with_part sum size device log.fault (line_of log) n v (logged H) holds there (λ stays own segment.
+      with_part sum size device log.fault.kept (line_of log) n v (logged H) holds there (λ stays own segment.
       let on = segment.written none in
       record {
         aligned = segment.place_begins;

@@ -1,9 +1,7 @@
 -- A log where a reservation of one of its segments has ended, which code tells the buffers that can be written.
 use Rattle.std.proofs.Common.{◌≡◌, ◌∙◌, ◌<◌, ◌+◌, ◌-◌, ◌^◌, ap, sym, arith, subst, ℕ, List, length, set, Some}
 use Rattle.std.specs.List.{slice_get}
-use Rattle.sled_codec.specs.Written.{written}
 use Rattle.sled_core.specs.Begun.{SegmentView, view_at}
-use Rattle.sled_core.specs.Buffers.{ended}
 use Rattle.sled_core.specs.declared.iobuf.IoBuf.{IoBuf}
 use Rattle.sled_core.specs.declared.iobuf.ReservationState.{ReservationState}
 use Rattle.sled_core.specs.declared.iobuf.Reserved.{Reserved}
@@ -13,8 +11,7 @@ use Rattle.sled_core.specs.declared.logger.Log.{Log}
 use Rattle.sled_core.specs.declared.logger.ready.ReadyBuffers.{ReadyBuffers}
 use Rattle.sled_core.specs.Fits.{line_of}
 use Rattle.sled_core.specs.ReadyBuffers.{AreReady, EndedOne, HasOwn}
-use Rattle.sled_core.specs.SealedBuffers.{one_ended}
-use Rattle.sled_core.specs.Turned.{HasOpenIn, ended_now}
+use Rattle.sled_core.specs.Turned.{EndsAs, HasOpenIn, ended_now}
 use Rattle.sled_core.proofs.Line.EndedLine.{ended_view}
 use Rattle.sled_core.proofs.Holds.Facts.{nth_facts}
 use Rattle.sled_core.proofs.Pending.Logs.{ended_asks, ended_ready}
@@ -23,27 +20,22 @@ module _ {D C : Type 0} (log : Log D C) (n index : ℕ) (its : HasOpenIn (line_o
   -- What code makes of the buffer of its segment.
   pub record Ended : Type 0 where
     pub mine : view_at site old ≡ its.segment
-    pub bytes : (r : Reserved) → slice_get old.reserved.items (index - old.gone) ≡ Some r → new.bytes.items ≡ written old.bytes.items r.from (how old.bytes.items r)
-    pub reserved : (r : Reserved) → slice_get old.reserved.items (index - old.gone) ≡ Some r → new.reserved.items ≡ set old.reserved.items (index - old.gone) (ended state r)
-    pub sealed : new.sealed.items ≡ one_ended (index - old.gone) old.sealed.items
-    pub from : new.written_len ≡ old.written_len
-    pub gone : new.gone ≡ old.gone
-    pub filled : new.filled ≡ old.filled
-    pub long : length new.bytes.items ≡ length old.bytes.items
+    pub did : EndsAs (index - old.gone) how state old new
 
-  module _ (did : Ended) where
+  module _ (here : Ended) where
     abbrev text : List ℕ
     text = how its.segment.parts.bytes its.reserved
 
     view : view_at site new ≡ ended_now (index - its.segment.gone) its.reserved text state its.segment
     view =
-        let mine = did.mine in
+        let mine = here.mine in
+        let did = here.did in
         let there : slice_get old.reserved.items (index - old.gone) ≡ Some its.reserved = subst (λ (w : SegmentView). slice_get w.parts.reserved (index - w.gone) ≡ Some its.reserved) (sym mine) its.there in
         ended_view site old new (index - old.gone) its.reserved (how old.bytes.items its.reserved) state (did.bytes its.reserved there) (did.reserved its.reserved there) did.sealed did.from did.gone did.filled
         ∙ (λ j. ended_now (index - (mine j).gone) its.reserved (how (mine j).parts.bytes its.reserved) state (mine j))
 
     same : index - old.gone ≡ index - its.segment.gone
-    same = ap (λ (w : SegmentView). index - w.gone) did.mine
+    same = ap (λ (w : SegmentView). index - w.gone) here.mine
 
     -- It lies in reach,
     pub in_reach : site.place + length new.bytes.items < 2 ^ 64
@@ -51,9 +43,9 @@ module _ {D C : Type 0} (log : Log D C) (n index : ℕ) (its : HasOpenIn (line_o
         let is = nth_facts log n its.segment its.among in
         let short = is.short in
         let small = is.place_small in
-        let lies = ap (λ (w : SegmentView). w.parts.site.place) did.mine in
-        let bytes = ap (λ (w : SegmentView). length w.parts.bytes) did.mine in
-        let long = did.long in
+        let lies = ap (λ (w : SegmentView). w.parts.site.place) here.mine in
+        let bytes = ap (λ (w : SegmentView). length w.parts.bytes) here.mine in
+        let long = here.did.long in
         omega (arith, short, small, lies, bytes, long)
 
     -- its buffers are known,

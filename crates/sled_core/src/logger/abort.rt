@@ -14,7 +14,6 @@ ghost use Rattle.sled_core.specs.Tickets.{IsPlaceOf, own_blob};
 ghost use Rattle.sled_core.specs.Turned.{ChangesDevice};
 
 use crate::logger::Log;
-use crate::logger::read_pointer::fault_in;
 use crate::reservation::Reservation;
 use sled_codec::result::{BlobPointer, DiskPtr, Error, Lsn, Result};
 use sled_codec::serialization::Checksum;
@@ -51,7 +50,7 @@ impl<D: Device, C: Checksum> Log<D, C> {
         ensures err { OnErr result (KeepsTickets self.old self.new × (IsSome (fault_of self.old) → self.new ≡ self.old)) }
     {
         let own = ticket.own_blob;
-        if let Some(fault) = self.fault {
+        if let Some(fault) = self.fault.kept {
             ticket.abandon();
             return Err(Error::Io(fault));
         }
@@ -77,7 +76,7 @@ impl<D: Device, C: Checksum> Log<D, C> {
             return Ok(());
         };
         let answer = remove_blob(&mut self.config, place);
-        self.fault = fault_in(&answer);
+        self.fault.note(&answer);
         answer
     }
 
@@ -108,7 +107,7 @@ impl<D: Device, C: Checksum> Log<D, C> {
         let index = ticket.index();
         let manifest = ticket.is_manifest();
         ticket.abandon();
-        if let Some(e) = self.fault {
+        if let Some(e) = self.fault.kept {
             return Err(Error::Io(e));
         }
         let n = self.segment_of(place.unsigned_abs());

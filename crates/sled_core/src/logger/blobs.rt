@@ -18,7 +18,6 @@ ghost use Rattle.sled_core.specs.Turned.{ChangesDevice};
 use crate::iobuf::Purpose;
 use crate::iobuf::record::Head;
 use crate::logger::Log;
-use crate::logger::read_pointer::fault_in;
 use crate::logger::reserving::kind_for;
 use crate::reservation::{Guard, Reservation};
 use sled_codec::result::{BlobPointer, Error, PageId, Result};
@@ -56,7 +55,7 @@ impl<D: Device, C: Checksum> Log<D, C> {
         ensures same { KeepsAll self.old self.new }
         ensures err { OnErr result (IsUnchanged self.old self.new) }
     {
-        if let Some(e) = self.fault {
+        if let Some(e) = self.fault.kept {
             return Err(Error::Io(e));
         }
         let purpose = Purpose {
@@ -144,7 +143,7 @@ impl<D: Device, C: Checksum> Log<D, C> {
             MadeAnswers result file (fault_of self.new) (D.faults (device_of self.old)) (D.faults (device_of self.new)) }
     {
         let answer = write_blob(&mut self.config, kind, place, item);
-        self.fault = fault_in(&answer);
+        self.fault.note(&answer);
         answer
     }
 }

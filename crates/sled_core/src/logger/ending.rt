@@ -10,7 +10,6 @@ ghost use Rattle.sled_core.specs.Turned.{ChangesLine, HasOpenIn, HasRoomForBatch
 
 use crate::iobuf::{IoBuf, ReservationState, Reserved, SegmentPosition};
 use crate::logger::Log;
-use crate::logger::batches::without_manifest;
 use crate::logger::reserving::is_manifest;
 use crate::logger::segments::SegmentBuffer;
 use crate::reservation::Reservation;
@@ -52,18 +51,16 @@ impl<D: Device, C: Checksum> Log<D, C> {
         ensures rest { ChangesLine self.old self.new }
     {
         let checksum = &self.config.checksum;
-        let manifests = without_manifest(self.manifests, manifest);
+        self.batches.end_manifest(manifest);
         if n == 0 {
             let i = index - self.buffer.gone;
             self.buffer.abort(checksum, i);
             self.ready.note_ended(&self.site, &self.buffer, i);
-            self.manifests = manifests;
         } else {
             let s = &mut self.behind[n - 1];
             let i = index - s.buffer.gone;
             s.buffer.abort(checksum, i);
             self.ready.note_ended(&s.site, &s.buffer, i);
-            self.manifests = manifests;
         }
     }
 
@@ -80,18 +77,16 @@ impl<D: Device, C: Checksum> Log<D, C> {
         ensures room { HasRoomForBatch self.new }
     {
         let checksum = &self.config.checksum;
-        let manifests = without_manifest(self.manifests, true);
+        self.batches.end_manifest(true);
         if n == 0 {
             let i = index - self.buffer.gone;
             self.buffer.mark_batch(checksum, i, peg);
             self.ready.note_ended(&self.site, &self.buffer, i);
-            self.manifests = manifests;
         } else {
             let s = &mut self.behind[n - 1];
             let i = index - s.buffer.gone;
             s.buffer.mark_batch(checksum, i, peg);
             self.ready.note_ended(&s.site, &s.buffer, i);
-            self.manifests = manifests;
         }
     }
 

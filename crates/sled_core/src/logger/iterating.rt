@@ -8,7 +8,6 @@ ghost use Rattle.sled_core.specs.Recoverable.{NoHeaderOfZeros};
 ghost use Rattle.sled_core.specs.Running.{Fits};
 ghost use Rattle.sled_core.specs.Ahead.{CanGoOn, HasEnds, IsLeft, IsSpent, most_left};
 ghost use Rattle.sled_core.specs.Iterates.{Item, Damage, NextGives, NextAnswers, BehindLast};
-ghost use Rattle.sled_core.specs.Iterators.{first_failure};
 ghost use Rattle.sled_core.specs.Keeps.{OnlyReads};
 ghost use Rattle.sled_core.specs.LogSegments.{list_of, segment_within, segments_among};
 ghost use Rattle.sled_store.specs.SegmentStates.{slot_at};
@@ -22,7 +21,6 @@ use sled_codec::serialization::{Checksum, LogKind};
 use sled_store::segment::accountant::SegmentAccountant;
 use sled_store::{Device, RunningConfig};
 use std::alloc::Global;
-use std::io;
 
 impl<D: Device, C: Checksum> Log<D, C> {
     ghost use Rattle.sled_core.specs.Fits.{config_of, device_of, fault_of, machine_at, segment_size_of, stable_end};
@@ -66,7 +64,7 @@ impl<D: Device, C: Checksum> Log<D, C> {
         ensures ends { IfOk result (λ v. All (HasEnds (segment_size_of self.now)) v.items) }
         ensures answers { FaultOrMemory result ⊥ (fault_of self.now) }
     {
-        if let Some(e) = self.fault {
+        if let Some(e) = self.fault.kept {
             return Err(Error::Io(e));
         }
         let size = self.config.config.segment_size;
@@ -95,22 +93,8 @@ impl<D: Device, C: Checksum> Log<D, C> {
         ensures log { IsReadFor D.trace C.sum_of result self.old self.new }
     {
         let item = rest.next(&mut self.config);
-        self.fault = first_failure(self.fault, &item);
+        self.fault.note_item(&item);
         item
-    }
-}
-
-/// The first failure of a device: the one that was kept, or that of an item.
-fn first_failure(
-    kept: Option<io::Error>,
-    item: &Option<Result<(LogKind, PageId, Lsn, DiskPtr, u64)>>,
-) -> Option<io::Error>
-    ensures { result ≡ first_failure kept item.now }
-{
-    match (kept, item) {
-        (Some(e), _) => Some(e),
-        (None, Some(Err(Error::Io(e)))) => Some(*e),
-        (None, _) => None,
     }
 }
 

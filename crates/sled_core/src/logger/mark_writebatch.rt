@@ -110,7 +110,7 @@ impl<D: Device, C: Checksum> Log<D, C> {
         let pointer = ticket.pointer();
         let index = ticket.index();
         ticket.abandon();
-        if let Some(e) = self.fault {
+        if let Some(e) = self.fault.kept {
             return Err(Error::Io(e));
         }
         let low = place.unsigned_abs();

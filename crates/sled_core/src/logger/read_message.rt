@@ -11,6 +11,7 @@ ghost use Rattle.sled_store.specs.Device.{state_of};
 ghost use Rattle.sled_store.specs.Answers.{Counts, Fails};
 ghost use Rattle.sled_store.specs.Causes.{DeviceAnswers};
 ghost use Rattle.sled_store.specs.Blobs.{IsDamagedFor, NamesBlobAt, OnDamage};
+ghost use Rattle.sled_core.specs.Keeps.{OnlyReads};
 ghost use Rattle.sled_core.specs.Causes.{ItemAnswersOver, ReaderAnswers};
 ghost use Rattle.sled_core.specs.Reading.{HoldsAs, IsRecordRead, IsReading, IsWithItem, IsMalformed, IsUnreadable, IsUnreadableAs, IsFound, IsBare, IsAnnounced, file_read, data_of, is_blob};
 
@@ -95,9 +96,7 @@ pub fn read_message<D: Device, C: Checksum>(
     ensures memory { let log = (state_of (D.trace config.old.device)).log.bytes in IfErr result (λ e. e ≡ Error.OutOfMemory
         → IsAnnounced config.old.config.segment_size (file_read buf.entry log) lid number.0) }
     ensures answers { ItemAnswersOver D.trace D.faults C.sum_of result config.old config.new }
-    ensures trace { D.trace config.new.device ≡ D.trace config.old.device }
-    ensures config { config.new.config ≡ config.old.config }
-    ensures checksum { config.new.checksum ≡ config.old.checksum }
+    ensures reads { OnlyReads D.trace config.old config.new }
 {
     match read_record(config, buf, lid, number) {
         Ok(LogRead::DanglingBlob(header, place, len)) => with_item(config, header, place, len),
@@ -117,9 +116,7 @@ fn with_item<D: Device, C: Checksum>(
     ensures damaged { IsCorruption result → IsDamagedFor C.sum_of header.kind ((state_of (D.trace config.old.device)).blobs.file place) }
     ensures named { OnDamage result (NamesBlobAt C.sum_of (state_of (D.trace config.old.device)).blobs.file place) }
     ensures answers { ItemAnswersOver D.trace D.faults C.sum_of result config.old config.new }
-    ensures trace { D.trace config.new.device ≡ D.trace config.old.device }
-    ensures config { config.new.config ≡ config.old.config }
-    ensures checksum { config.new.checksum ≡ config.old.checksum }
+    ensures reads { OnlyReads D.trace config.old config.new }
 {
     match read_item(config, header.kind, place) {
         Ok(Some(item)) => Ok(LogRead::Blob(header, item, place, len)),
@@ -150,9 +147,7 @@ pub fn read_record<D: Device, C: Checksum>(
     ensures memory { let log = (state_of (D.trace config.old.device)).log.bytes in IfErr result (λ e. e ≡ Error.OutOfMemory
         → IsAnnounced config.old.config.segment_size (file_read buf.entry log) lid number.0) }
     ensures answers { DeviceAnswers result (D.faults config.old.device) (D.faults config.new.device) }
-    ensures trace { D.trace config.new.device ≡ D.trace config.old.device }
-    ensures config { config.new.config ≡ config.old.config }
-    ensures checksum { config.new.checksum ≡ config.old.checksum }
+    ensures reads { OnlyReads D.trace config.old config.new }
 {
     match find_in(config, buf, lid, number)? {
         Some(found) => read_found(&config.checksum, found),
@@ -177,9 +172,7 @@ fn find_in<D: Device, C: Checksum>(
         → IsAnnounced config.old.config.segment_size (file_read buf.entry log) lid number.0) }
     ensures answers { DeviceAnswers result (D.faults config.old.device) (D.faults config.new.device) }
     ensures readable { IsCorruption result → ⊥ }
-    ensures trace { D.trace config.new.device ≡ D.trace config.old.device }
-    ensures config { config.new.config ≡ config.old.config }
-    ensures checksum { config.new.checksum ≡ config.old.checksum }
+    ensures reads { OnlyReads D.trace config.old config.new }
 {
     let alloc = config.alloc();
     let size = config.config.segment_size;

@@ -6,16 +6,14 @@ ghost use Rattle.sled_codec.specs.Places.{MayBegin};
 ghost use Rattle.sled_codec.specs.Pointers.{lid_of};
 ghost use Rattle.sled_store.specs.Blobs.{BlobAnswers};
 ghost use Rattle.sled_store.specs.Device.{state_of};
-ghost use Rattle.sled_core.specs.Causes.{fault_in};
+ghost use Rattle.sled_core.specs.Keeps.{OnlyReads};
 ghost use Rattle.sled_core.specs.ReadPointer.{IsBlobRead, IsDamageOf, IsReadOf, PointerAnswers, place_read};
 
 use crate::logger::read_message::{LogRead, read_message};
-use sled_codec::result::{BlobPointer, DiskPtr, Error, Lsn, PageId, Result};
+use sled_codec::result::{BlobPointer, DiskPtr, Lsn, PageId, Result};
 use sled_codec::serialization::{Checksum, MessageHeader, SegmentNumber};
 use sled_store::blob_io::read_blob;
 use sled_store::{Device, RunningConfig};
-use std::io;
-use std::io::ErrorKind;
 
 /// The place whose buffer a read brings to the device: that of the message, or for one whose item is a blob that of the blob.
 pub(crate) fn place_read(lsn: Lsn, ptr: &DiskPtr) -> Lsn
@@ -39,9 +37,7 @@ pub(crate) fn read_pointer<D: Device, C: Checksum>(
     ensures damage { IfErr result (IsDamageOf C.sum_of config.old.config.segment_size (state_of (D.trace config.old.device)) number.0 ptr) }
     ensures answers { let blobs = (state_of (D.trace config.old.device)).blobs.file in
         PointerAnswers C.sum_of blobs ptr result (D.faults config.old.device) (D.faults config.new.device) }
-    ensures trace { D.trace config.new.device ≡ D.trace config.old.device }
-    ensures config { config.new.config ≡ config.old.config }
-    ensures checksum { config.new.checksum ≡ config.old.checksum }
+    ensures reads { OnlyReads D.trace config.old config.new }
 {
     match ptr {
         DiskPtr::Inline(lid) => read_message(config, None, lid, number),
@@ -59,9 +55,7 @@ fn read_blob_at<D: Device, C: Checksum>(
     ensures reading { let blobs = (state_of (D.trace config.old.device)).blobs.file in IfOk result (IsBlobRead C.sum_of blobs page number.0 place) }
     ensures answers { let file = (state_of (D.trace config.old.device)).blobs.file place in
         BlobAnswers C.sum_of place result file (D.faults config.old.device) (D.faults config.new.device) }
-    ensures trace { D.trace config.new.device ≡ D.trace config.old.device }
-    ensures config { config.new.config ≡ config.old.config }
-    ensures checksum { config.new.checksum ≡ config.old.checksum }
+    ensures reads { OnlyReads D.trace config.old config.new }
 {
     let (kind, item) = read_blob(config, place)?;
     let header = MessageHeader {
@@ -72,17 +66,4 @@ fn read_blob_at<D: Device, C: Checksum>(
         len: 0,
     };
     Ok(LogRead::Blob(header, item, place, 0))
-}
-
-/// The failure of the device that an answer tells of. A missing blob is none.
-pub(crate) fn fault_in<T>(answer: &Result<T>) -> Option<io::Error>
-    ensures { result ≡ fault_in answer.now }
-{
-    match answer {
-        Err(Error::Io(e)) => match e.kind() {
-            ErrorKind::OutOfMemory | ErrorKind::NotFound | ErrorKind::AlreadyExists => None,
-            _ => Some(*e),
-        },
-        _ => None,
-    }
 }

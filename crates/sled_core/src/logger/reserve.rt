@@ -67,7 +67,7 @@ impl<D: Device, C: Checksum> Log<D, C> {
         ensures left { let n = length (T.short (T.meaning item.now)) in
             RefusalLeaves C.sum_of result (in_blob_of self.old n) self.old self.new pid (body_length self.old n) }
     {
-        if let Some(e) = self.fault {
+        if let Some(e) = self.fault.kept {
             return Err(Error::Io(e));
         }
         if !self.fits_inline(item) {

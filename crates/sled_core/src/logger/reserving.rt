@@ -14,7 +14,6 @@ ghost use Rattle.sled_core.specs.Waiting.{at_last};
 use crate::iobuf::Purpose;
 use crate::iobuf::record::Head;
 use crate::logger::Log;
-use crate::logger::batches::{room_for_batch, with_manifest};
 use crate::logger::segments::segments_in;
 use crate::reservation::Reservation;
 use sled_codec::result::{DiskPtr, Error, PageId, Result};
@@ -89,7 +88,7 @@ impl<D: Device, C: Checksum> Log<D, C> {
         if buffer.is_full_of_open() {
             return Err(Error::Held(buffer.least_open(buffer.first, &site)));
         }
-        room_for_batch(&mut self.noted, self.manifests, manifest)?;
+        self.batches.make_room_for(manifest)?;
         let n = self.behind.len();
         if n == 0 {
             return self.buffer.make_room(len);
@@ -163,18 +162,16 @@ impl<D: Device, C: Checksum> Log<D, C> {
     {
         let checksum = &self.config.checksum;
         let manifest = is_manifest(purpose.log_kind, purpose.page);
-        let manifests = with_manifest(self.manifests, manifest);
+        self.batches.begin_manifest(manifest);
         let n = self.behind.len();
         if n == 0 {
             self.buffer.append(checksum, head, purpose, item, item_len);
             self.reserved_to = to;
-            self.manifests = manifests;
         } else {
             self.behind[n - 1]
                 .buffer
                 .append(checksum, head, purpose, item, item_len);
             self.reserved_to = to;
-            self.manifests = manifests;
         }
     }
 }

@@ -15,7 +15,6 @@ ghost use Rattle.sled_core.specs.Waiting.{at_last, holds_any, sealed_now, with_p
 
 use crate::iobuf::{IoBuf, SegmentPosition};
 use crate::logger::Log;
-use crate::logger::batches::room_for_batch;
 use sled_codec::result::{Error, Lsn, Result};
 use sled_codec::serialization::{Checksum, SegmentHeader};
 use sled_store::segment::MAX_MSG_HEADER_LEN;
@@ -205,7 +204,7 @@ impl<D: Device, C: Checksum> Log<D, C> {
         ensures memory { IsOkUnless result Error.OutOfMemory }
     {
         let size = self.config.config.segment_size as usize;
-        room_for_batch(&mut self.noted, self.manifests, manifest)?;
+        self.batches.make_room_for(manifest)?;
         self.ready.make_room()?;
         self.behind.reserve(1)?;
         let n = self.behind.len();

@@ -48,7 +48,7 @@ impl<D: Device, C: Checksum> Log<D, C> {
         ensures buffers { WritesBelow C.sum_of result (target_for self.old lsn) self.old self.new
             × OnErr result (CameTo D.trace C.sum_of (target_for self.old lsn) self.old self.new) }
     {
-        if let Some(e) = self.fault {
+        if let Some(e) = self.fault.kept {
             return Err(Error::Io(e));
         }
         if lsn <= self.stable_offset() {

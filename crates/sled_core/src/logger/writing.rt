@@ -6,7 +6,6 @@ ghost use Rattle.std.specs.Prelude.{List, ℕ, ◌≡◌, ◌≢◌, ◌+◌, �
 ghost use Rattle.std.specs.declared.io.Error.{Error as IoError};
 ghost use Rattle.std.specs.IoError.{error_kind};
 ghost use Rattle.std.specs.declared.io.ErrorKind.TheVariants.{OutOfMemory};
-ghost use Rattle.sled_codec.specs.Errors.{IsErrorOf};
 ghost use Rattle.sled_codec.specs.History.{History, Message};
 ghost use Rattle.sled_store.specs.Answers.{Counts, FailsOr};
 ghost use Rattle.sled_store.specs.Blobs.{UnlessFault};
@@ -62,7 +61,7 @@ impl<D: Device, C: Checksum> Log<D, C> {
             × (syncs (D.trace (device_of self.new)) ≡ syncs (D.trace (device_of self.old)))) }
         ensures refused { UnlessFault result (D.trace (device_of self.old)) (D.trace (device_of self.new)) }
     {
-        if let Some(e) = self.fault {
+        if let Some(e) = self.fault.kept {
             return Err(Error::Io(e));
         }
         let (n, k) = self.ready_at(i);
@@ -104,7 +103,7 @@ impl<D: Device, C: Checksum> Log<D, C> {
         ensures answers { FaultOrMemory result ((0 < held_len self.old) × IsUsedUp self.old) (fault_of self.old) }
         ensures err { OnErr result (IsUnchanged self.old self.new) }
     {
-        if let Some(e) = self.fault {
+        if let Some(e) = self.fault.kept {
             return Err(Error::Io(e));
         }
         let (_, buffer) = self.current();
@@ -145,7 +144,7 @@ impl<D: Device, C: Checksum> Log<D, C> {
         ensures buffers { WritesBelow C.sum_of result (reserved_end self.old) self.old self.new
             × OnErr result (CameTo D.trace C.sum_of (reserved_end self.old) self.old self.new) }
     {
-        if let Some(kept) = self.fault {
+        if let Some(kept) = self.fault.kept {
             return Err(Error::Io(kept));
         }
         let before = self.stable_end();
@@ -275,7 +274,7 @@ impl<D: Device, C: Checksum> Log<D, C> {
         let at = site.slot + from as u64;
         let written = write_out(&mut self.config.device, at, &buffer.bytes[from..to]);
         if let Err(e) = written {
-            return Err(keep_fault(&mut self.fault, e));
+            return Err(self.fault.keep(e));
         }
         Ok(())
     }
@@ -325,17 +324,4 @@ fn write_out<D: Device>(device: &mut D, at: LogOffset, bytes: &[u8]) -> io::Resu
 {
     device.write_at(at, bytes)?;
     device.sync()
-}
-
-/// Keeps a failure of the device, and says which error it is. Running out of memory is none.
-fn keep_fault(fault: &mut Option<io::Error>, e: io::Error) -> Error
-    requires { fault.old ≡ None }
-    ensures error { IsErrorOf e result }
-    ensures memory { error_kind e ≡ OutOfMemory → fault.new ≡ None }
-    ensures kept { error_kind e ≢ OutOfMemory → fault.new ≡ Some e }
-{
-    if e.kind() != io::ErrorKind::OutOfMemory {
-        *fault = Some(e);
-    }
-    Error::from(e)
 }

@@ -155,24 +155,36 @@ invariant_of-self-else-index-self c =
 text_at : (buf new : List ℕ) (its r : Reserved) (rs : List Reserved) (i : ℕ) (whole : List ℕ) → its ≡ get_or rs i its → slice_get rs i ≡ Some r → new ≡ written buf its.from whole → new ≡ written buf r.from whole
 text_at buf new its r rs i whole is there put = put ∙ ap (λ (x : Reserved). written buf x.from whole) (is ∙ get_there rs i r its there)
 
-pub returns-then-index-self-clause-bytes : goal.returns-then-index-self-clause-bytes
-returns-then-index-self-clause-bytes c r there =
-    text_at c.args.self.now.bytes.items c.put_ending.new.buf.items c.index-r.result.now r c.args.self.now.reserved.items c.args.index (ending c.args.sum c.args.kind) c.index-r.ensures there c.put_ending.ensures.bytes
-
-pub returns-then-index-self-clause-sealed : goal.returns-then-index-self-clause-sealed
-returns-then-index-self-clause-sealed c =
+pub returns-then-index-self : goal.returns-then-index-self
+returns-then-index-self c =
     let rs : List Reserved = c.args.self.now.reserved.items in
     let bs : List Sealed = c.args.self.now.sealed.items in
     let from : ℕ = c.args.self.now.written_len in
-    let r : Reserved = c.index-r.result.now in
-    let there : slice_get rs c.args.index ≡ Some r = there_is rs c.args.index r (search rules) c.index-r.ensures in
+    let its : Reserved = c.index-r.result.now in
+    let there : slice_get rs c.args.index ≡ Some its = there_is rs c.args.index its (search rules) c.index-r.ensures in
     let theirs = c.if-index-self.true in
     let before = c.args.self.now.before in
-    c.end_sealed.ensures from c.args.index rs (has_open from rs bs c.args.index r there (c.requires.awaited r there) c.args.self.now.are (omega (arith, theirs, before)) c.args.self.now.headed)
+    record {
+      bytes = λ r at. text_at c.args.self.now.bytes.items c.put_ending.new.buf.items its r rs c.args.index (ending c.args.sum c.args.kind) c.index-r.ensures at c.put_ending.ensures.bytes;
+      reserved = c.close.ensures;
+      sealed = c.end_sealed.ensures from c.args.index rs (has_open from rs bs c.args.index its there (c.requires.awaited its there) c.args.self.now.are (omega (arith, theirs, before)) c.args.self.now.headed);
+      from = refl;
+      gone = refl;
+      filled = refl;
+      long = c.put_ending.ensures.len;
+    }
 
-pub returns-else-index-self-clause-bytes : goal.returns-else-index-self-clause-bytes
-returns-else-index-self-clause-bytes c r there =
-    text_at c.args.self.now.bytes.items c.put_ending.new.buf.items c.index-r.result.now r c.args.self.now.reserved.items c.args.index (ending c.args.sum c.args.kind) c.index-r.ensures there c.put_ending.ensures.bytes
-
-pub returns-else-index-self-clause-sealed : goal.returns-else-index-self-clause-sealed
-returns-else-index-self-clause-sealed c = let behind = c.if-index-self.false in let before = c.args.self.now.before in sym (none_ended c.args.index c.args.self.now.sealed.items (omega (arith, behind, before)))
+pub returns-else-index-self : goal.returns-else-index-self
+returns-else-index-self c =
+    let its : Reserved = c.index-r.result.now in
+    let behind = c.if-index-self.false in
+    let before = c.args.self.now.before in
+    record {
+      bytes = λ r at. text_at c.args.self.now.bytes.items c.put_ending.new.buf.items its r c.args.self.now.reserved.items c.args.index (ending c.args.sum c.args.kind) c.index-r.ensures at c.put_ending.ensures.bytes;
+      reserved = c.close.ensures;
+      sealed = sym (none_ended c.args.index c.args.self.now.sealed.items (omega (arith, behind, before)));
+      from = refl;
+      gone = refl;
+      filled = refl;
+      long = c.put_ending.ensures.len;
+    }

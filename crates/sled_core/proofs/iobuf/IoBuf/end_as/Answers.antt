@@ -35,24 +35,34 @@ invariant_of-self g c =
       few = old.few;
     }
 
-pub returns-clause-bytes : goal.returns-clause-bytes
-returns-clause-bytes g c = λ r there.
-    let old : List ℕ = c.args.self.now.bytes.items in
-    let rs : List Reserved = c.args.self.now.reserved.items in
-    let its : Reserved = c.index-r.result.now in
-    let code : ℕ = code_of c.args.kind in
-    let same : its ≡ r = c.index-r.ensures ∙ get_there rs c.args.index r its there in
-    let headed = (at_there IsHeaded rs c.args.index r there c.args.self.now.headed).1 (c.requires.awaited r there) in
-    let within = at_there (λ x. x.from + x.len ≤ length old) rs c.args.index r there c.args.self.now.within in
-    let marked : List ℕ = written old (r.from + 4) (code ∷ []) in
-    let text : c.put.new.buf.items ≡ marked =
-    c.put.ensures.bytes ∙ ap (λ b. written old (its.from + 4) (b ∷ [])) c.from.ensures ∙ ap (λ (x : Reserved). written old (x.from + 4) (code ∷ [])) same in
-    let word : c.sum_around-sum.result ≡ g.C.Checksum.sum_of (body_in old r ++ code ∷ part old (r.from + 5) (r.header_len - 5)) =
-    c.sum_around-sum.ensures.sum
-    ∙ ap (λ (x : Reserved). g.C.Checksum.sum_of (part c.put.new.buf.items (x.from + x.header_len) (x.len - x.header_len) ++ part c.put.new.buf.items (x.from + 4) (x.header_len - 4))) same
-    ∙ ap (λ (l : List ℕ). g.C.Checksum.sum_of (part l (r.from + r.header_len) (r.len - r.header_len) ++ part l (r.from + 4) (r.header_len - 4))) text
-    ∙ ap g.C.Checksum.sum_of (summed_around old r code headed.0 headed.1 within) in
-    c.end.ensures.bytes r there
-    ∙ ap (λ (l : List ℕ). written l r.from (ending c.sum_around-sum.result c.args.kind)) (c.sum_around-sum.ensures.bytes ∙ text)
-    ∙ ap (λ w. written marked r.from (ending w c.args.kind)) word
-    ∙ written-over old (code ∷ []) (ending_as g.C.Checksum.sum_of old r c.args.kind) (r.from + 4) r.from (omega arith) (omega arith) (omega (arith, headed.0, headed.1, within))
+pub returns : goal.returns
+returns g c =
+    let done = c.end.ensures in
+    record {
+      bytes = λ r there.
+          let old : List ℕ = c.args.self.now.bytes.items in
+          let rs : List Reserved = c.args.self.now.reserved.items in
+          let its : Reserved = c.index-r.result.now in
+          let code : ℕ = code_of c.args.kind in
+          let same : its ≡ r = c.index-r.ensures ∙ get_there rs c.args.index r its there in
+          let headed = (at_there IsHeaded rs c.args.index r there c.args.self.now.headed).1 (c.requires.awaited r there) in
+          let within = at_there (λ x. x.from + x.len ≤ length old) rs c.args.index r there c.args.self.now.within in
+          let marked : List ℕ = written old (r.from + 4) (code ∷ []) in
+          let text : c.put.new.buf.items ≡ marked =
+          c.put.ensures.bytes ∙ ap (λ b. written old (its.from + 4) (b ∷ [])) c.from.ensures ∙ ap (λ (x : Reserved). written old (x.from + 4) (code ∷ [])) same in
+          let word : c.sum_around-sum.result ≡ g.C.Checksum.sum_of (body_in old r ++ code ∷ part old (r.from + 5) (r.header_len - 5)) =
+          c.sum_around-sum.ensures.sum
+          ∙ ap (λ (x : Reserved). g.C.Checksum.sum_of (part c.put.new.buf.items (x.from + x.header_len) (x.len - x.header_len) ++ part c.put.new.buf.items (x.from + 4) (x.header_len - 4))) same
+          ∙ ap (λ (l : List ℕ). g.C.Checksum.sum_of (part l (r.from + r.header_len) (r.len - r.header_len) ++ part l (r.from + 4) (r.header_len - 4))) text
+          ∙ ap g.C.Checksum.sum_of (summed_around old r code headed.0 headed.1 within) in
+          done.bytes r there
+          ∙ ap (λ (l : List ℕ). written l r.from (ending c.sum_around-sum.result c.args.kind)) (c.sum_around-sum.ensures.bytes ∙ text)
+          ∙ ap (λ w. written marked r.from (ending w c.args.kind)) word
+          ∙ written-over old (code ∷ []) (ending_as g.C.Checksum.sum_of old r c.args.kind) (r.from + 4) r.from (omega arith) (omega arith) (omega (arith, headed.0, headed.1, within));
+      reserved = done.reserved;
+      sealed = done.sealed;
+      from = done.from;
+      gone = done.gone;
+      filled = done.filled;
+      long = done.long ∙ ap length c.sum_around-sum.ensures.bytes ∙ c.put.ensures.len;
+    }

@@ -34,18 +34,28 @@ invariant_of-self g c =
       few = old.few;
     }
 
-pub returns-clause-bytes : goal.returns-clause-bytes
-returns-clause-bytes g c = λ r there.
-    let old : List ℕ = c.args.self.now.bytes.items in
-    let rs : List Reserved = c.args.self.now.reserved.items in
-    let its : Reserved = c.index-r.result.now in
-    let low : List ℕ = low_bytes 8 c.args.peg in
-    let same : its ≡ r = c.index-r.ensures ∙ get_there rs c.args.index r its there in
-    let headed = (at_there IsHeaded rs c.args.index r there c.args.self.now.headed).1 (c.requires.awaited r there) in
-    let within = at_there (λ x. x.from + x.len ≤ length old) rs c.args.index r there c.args.self.now.within in
-    let peg : c.to_le_bytes.result ≡ low = c.to_le_bytes.ensures in
-    let text : c.put.new.buf.items ≡ written old (r.from + r.header_len) low =
-    c.put.ensures.bytes ∙ (λ i. written old ((same i).from + (same i).header_len) (peg i)) in
-    c.end_as.ensures.bytes r there
-    ∙ (λ i. written (text i) r.from (ending_as g.C.Checksum.sum_of (text i) r (same i).kind))
-    ∙ marks g.C.Checksum.sum_of old r c.args.peg headed.0 (c.requires.body r there) within
+pub returns : goal.returns
+returns g c =
+    let done = c.end_as.ensures in
+    record {
+      bytes = λ r there.
+          let old : List ℕ = c.args.self.now.bytes.items in
+          let rs : List Reserved = c.args.self.now.reserved.items in
+          let its : Reserved = c.index-r.result.now in
+          let low : List ℕ = low_bytes 8 c.args.peg in
+          let same : its ≡ r = c.index-r.ensures ∙ get_there rs c.args.index r its there in
+          let headed = (at_there IsHeaded rs c.args.index r there c.args.self.now.headed).1 (c.requires.awaited r there) in
+          let within = at_there (λ x. x.from + x.len ≤ length old) rs c.args.index r there c.args.self.now.within in
+          let peg : c.to_le_bytes.result ≡ low = c.to_le_bytes.ensures in
+          let text : c.put.new.buf.items ≡ written old (r.from + r.header_len) low =
+          c.put.ensures.bytes ∙ (λ i. written old ((same i).from + (same i).header_len) (peg i)) in
+          done.bytes r there
+          ∙ (λ i. written (text i) r.from (ending_as g.C.Checksum.sum_of (text i) r (same i).kind))
+          ∙ marks g.C.Checksum.sum_of old r c.args.peg headed.0 (c.requires.body r there) within;
+      reserved = done.reserved;
+      sealed = done.sealed;
+      from = done.from;
+      gone = done.gone;
+      filled = done.filled;
+      long = done.long ∙ c.put.ensures.len;
+    }

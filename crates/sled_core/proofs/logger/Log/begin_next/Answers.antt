@@ -201,7 +201,7 @@ module _ {D C : Type 0} (sum : List ℕ → ℕ) (old mid : Log D C) (line : lin
       ∙ ap (λ (v : SegmentView). at_last (closed_now sum its_size) (line_of old) ++ v ∷ []) view
 
   -- as many manifests are open
-  begun_counted : open_manifests (line_at mid.site b (ss ++ s ∷ [])) ≡ mid.manifests
+  begun_counted : open_manifests (line_at mid.site b (ss ++ s ∷ [])) ≡ mid.batches.manifests
   begun_counted =
       let all = ap open_manifests next_is ∙ manifests_next sum its_size (machine_at old) (stable_end old) (line_of old) in
       let same = ap open_manifests line in
@@ -314,8 +314,6 @@ invariant_of-self g c =
       filled = subst (λ n. AreFilled n mid.reserved_to (line_of mid)) (sym sizes) mid.filled;
       account = subst (λ n. IsAccountant n c.next.new.self) (sym sizes) c.next.ensures.account;
       pegs = mid.pegs;
-      by_place = mid.by_place;
-      room = mid.room;
       counted = mid.counted;
       indexed = mid.indexed;
     }
@@ -458,9 +456,7 @@ invariant_of-self-2 g c =
       filled = are.filled;
       account = subst (λ n. IsAccountant n c.next.new.self) (sym new_sizes) c.next.ensures.account;
       pegs = mid.pegs;
-      by_place = mid.by_place;
-      room = mid.room;
-      counted = subst (λ (l : List SegmentBuffer). open_manifests (line_at mid.site b l) ≡ mid.manifests) (sym c.push_back_reserved.ensures.items) (begun_counted sum old mid line rest b ss (closed g c) (next g c) (next_at g c) slot begun);
+      counted = subst (λ (l : List SegmentBuffer). open_manifests (line_at mid.site b l) ≡ mid.batches.manifests) (sym c.push_back_reserved.ensures.items) (begun_counted sum old mid line rest b ss (closed g c) (next g c) (next_at g c) slot begun);
       indexed = subst (λ (l : List SegmentBuffer). AreReady (line_at mid.site b l) (ready_then g c)) (sym c.push_back_reserved.ensures.items)
           (still_ready (line_more mid.site b ss (next g c)) (ready_then g c) (ready_then g c) refl refl
           (further_ready (line_at mid.site b ss) (segment_view (next g c)) (ready_then g c) (ap (λ (v : SegmentView). v.parts.sealed) begun.view)

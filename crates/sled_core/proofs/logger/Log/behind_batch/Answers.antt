@@ -9,15 +9,15 @@ use Rattle.sled_core.proofs.Reached.NotedSteps.{behind_within}
 use Rattle.sled_core.proofs.Line.Places.{reserved_in_reach}
 use Rattle.sled_core.proofs.logger.Log.behind_batch.Goals as goal
 
-pub behind_last-requires-clause-pegs : goal.behind_last-requires-clause-pegs
-behind_last-requires-clause-pegs g c =
+pub behind_last-requires : goal.behind_last-requires
+behind_last-requires g c =
     let log = c.args.self.now in
     let reach = reserved_in_reach log in
-    All-weaker (λ (b : NotedBatch). b.peg < reserved_end log) (λ (b : NotedBatch). b.peg < 2 ^ 63) (λ b less. omega (arith, less, reach)) log.noted.items log.pegs
+    record { pegs = All-weaker (λ (b : NotedBatch). b.peg < reserved_end log) (λ (b : NotedBatch). b.peg < 2 ^ 63) (λ b less. omega (arith, less, reach)) log.batches.noted.items log.pegs }
 
 pub returns-clause-reserved : goal.returns-clause-reserved
 returns-clause-reserved g c =
     let log = c.args.self.now in
-    let is : c.behind_last.result ≡ behind_batch c.args.behind (noted_in log) = c.behind_last.ensures ∙ (λ j. behind_batch c.args.behind (not_whole (c.synced_end.ensures.is j) (map batch_of log.noted.items))) in
+    let is : c.behind_last.result ≡ behind_batch c.args.behind (noted_in log) = c.behind_last.ensures ∙ (λ j. behind_batch c.args.behind (not_whole (c.synced_end.ensures.is j) (map batch_of log.batches.noted.items))) in
     let most = behind_within c.args.behind (reserved_end log) (noted_in log) c.requires.reserved (λ b known low. noted_pegs log b known) in
     omega (arith, is, most)

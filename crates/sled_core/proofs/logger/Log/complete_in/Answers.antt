@@ -24,7 +24,7 @@ note_ended-requires g c =
     let its : HasOpenIn (line_of log) c.args.n c.args.index = c.requires.awaited in
     let done = c.complete.ensures in
     let did : Ended log c.args.n c.args.index its (λ bytes r. completing r) Completed log.site log.buffer c.complete.new.self =
-    record { mine = first_is log c.args.n c.args.index its c.if-n-eq0.true; bytes = done.bytes; reserved = done.reserved; sealed = done.sealed; from = done.from; gone = done.gone; filled = done.filled; long = done.len } in
+    record { mine = first_is log c.args.n c.args.index its c.if-n-eq0.true; did = done } in
     record {
       place = in_reach log c.args.n c.args.index its (λ bytes r. completing r) Completed log.site log.buffer c.complete.new.self did;
       own = own log c.args.n c.args.index its (λ bytes r. completing r) Completed log.site log.buffer c.complete.new.self did;
@@ -35,10 +35,9 @@ invariant_of-self g c =
     let log = c.args.self.now in
     let its : HasOpenIn (line_of log) c.args.n c.args.index = c.requires.awaited in
     let done = c.complete.ensures in
-    let now = first_ended log c.args.n c.args.index its (λ bytes r. completing r) Completed (completes log c.args.n c.args.index its) c.if-n-eq0.true c.complete.new.self
-    done.bytes done.reserved done.sealed done.from done.gone done.filled done.len in
+    let now = first_ended log c.args.n c.args.index its (λ bytes r. completing r) Completed (completes log c.args.n c.args.index its) c.if-n-eq0.true c.complete.new.self done in
     let did : Ended log c.args.n c.args.index its (λ bytes r. completing r) Completed log.site log.buffer c.complete.new.self =
-    record { mine = first_is log c.args.n c.args.index its c.if-n-eq0.true; bytes = done.bytes; reserved = done.reserved; sealed = done.sealed; from = done.from; gone = done.gone; filled = done.filled; long = done.len } in
+    record { mine = first_is log c.args.n c.args.index its c.if-n-eq0.true; did = done } in
     record {
       in_segment = now.in_segment;
       place_in_reach = log.place_in_reach;
@@ -48,9 +47,7 @@ invariant_of-self g c =
       filled = now.filled;
       account = log.account;
       pegs = log.pegs;
-      by_place = log.by_place;
-      room = log.room;
-      counted = now.counted false log.manifests (c.requires.message its.segment its.reserved its.among its.there) refl;
+      counted = now.counted false log.batches.manifests (c.requires.message its.segment its.reserved its.among its.there) refl;
       indexed = indexed log c.args.n c.args.index its (λ bytes r. completing r) Completed log.site log.buffer c.complete.new.self did _ (now.line its.segment its.reserved its.among its.there) c.note_ended.new.self c.note_ended.ensures;
     }
 
@@ -75,7 +72,7 @@ note_ended-requires-else-n-eq0 g c =
     let t : SegmentBuffer = c.index_mut-s.result.now in
     let done = c.complete-else-n-eq0.ensures in
     let did : Ended log c.args.n c.args.index its (λ bytes r. completing r) Completed t.site t.buffer c.complete-else-n-eq0.new.self =
-    record { mine = read_is log c.args.n c.args.index its c.if-n-eq0.false t c.index_mut-s.ensures.value; bytes = done.bytes; reserved = done.reserved; sealed = done.sealed; from = done.from; gone = done.gone; filled = done.filled; long = done.len } in
+    record { mine = read_is log c.args.n c.args.index its c.if-n-eq0.false t c.index_mut-s.ensures.value; did = done } in
     record {
       place = in_reach log c.args.n c.args.index its (λ bytes r. completing r) Completed t.site t.buffer c.complete-else-n-eq0.new.self did;
       own = own log c.args.n c.args.index its (λ bytes r. completing r) Completed t.site t.buffer c.complete-else-n-eq0.new.self did;
@@ -87,10 +84,9 @@ invariant_of-self-else-n-eq0 g c =
     let its : HasOpenIn (line_of log) c.args.n c.args.index = c.requires.awaited in
     let t : SegmentBuffer = c.index_mut-s.result.now in
     let done = c.complete-else-n-eq0.ensures in
-    let now = behind_ended log c.args.n c.args.index its (λ bytes r. completing r) Completed (completes log c.args.n c.args.index its) c.if-n-eq0.false c.index_mut-s.result.now c.index_mut-s.result.now c.index_mut-s.ensures.value c.index_mut-s.ensures.value c.complete-else-n-eq0.new.self
-    done.bytes done.reserved done.sealed done.from done.gone done.filled done.len in
+    let now = behind_ended log c.args.n c.args.index its (λ bytes r. completing r) Completed (completes log c.args.n c.args.index its) c.if-n-eq0.false c.index_mut-s.result.now c.index_mut-s.result.now c.index_mut-s.ensures.value c.index_mut-s.ensures.value c.complete-else-n-eq0.new.self done in
     let did : Ended log c.args.n c.args.index its (λ bytes r. completing r) Completed t.site t.buffer c.complete-else-n-eq0.new.self =
-    record { mine = read_is log c.args.n c.args.index its c.if-n-eq0.false t c.index_mut-s.ensures.value; bytes = done.bytes; reserved = done.reserved; sealed = done.sealed; from = done.from; gone = done.gone; filled = done.filled; long = done.len } in
+    record { mine = read_is log c.args.n c.args.index its c.if-n-eq0.false t c.index_mut-s.ensures.value; did = done } in
     record {
       in_segment = now.in_segment;
       place_in_reach = log.place_in_reach;
@@ -100,9 +96,7 @@ invariant_of-self-else-n-eq0 g c =
       filled = now.filled;
       account = log.account;
       pegs = log.pegs;
-      by_place = log.by_place;
-      room = log.room;
-      counted = now.counted false log.manifests (c.requires.message its.segment its.reserved its.among its.there) refl;
+      counted = now.counted false log.batches.manifests (c.requires.message its.segment its.reserved its.among its.there) refl;
       indexed = indexed log c.args.n c.args.index its (λ bytes r. completing r) Completed t.site t.buffer c.complete-else-n-eq0.new.self did _ (now.line its.segment its.reserved its.among its.there) c.note_ended-else-n-eq0.new.self c.note_ended-else-n-eq0.ensures;
     }
 
@@ -111,6 +105,5 @@ returns-else-n-eq0-clause-line g c =
     let log = c.args.self.now in
     let its : HasOpenIn (line_of log) c.args.n c.args.index = c.requires.awaited in
     let done = c.complete-else-n-eq0.ensures in
-    let now = behind_ended log c.args.n c.args.index its (λ bytes r. completing r) Completed (completes log c.args.n c.args.index its) c.if-n-eq0.false c.index_mut-s.result.now c.index_mut-s.result.now c.index_mut-s.ensures.value c.index_mut-s.ensures.value c.complete-else-n-eq0.new.self
-    done.bytes done.reserved done.sealed done.from done.gone done.filled done.len in
+    let now = behind_ended log c.args.n c.args.index its (λ bytes r. completing r) Completed (completes log c.args.n c.args.index its) c.if-n-eq0.false c.index_mut-s.result.now c.index_mut-s.result.now c.index_mut-s.ensures.value c.index_mut-s.ensures.value c.complete-else-n-eq0.new.self done in
     now.line

@@ -93,9 +93,9 @@ returns-clause-keeps g c =
     record {
       goes_on = goes_on_ended old c.abort_in.new.self c.segment_of-n.result v at i r its own.own.open_yet (canceling g.C.Checksum.sum_of v.parts.bytes r) (canceling_short g.C.Checksum.sum_of v i r (nth_facts old c.segment_of-n.result v at) its own.own.open_yet) Canceled (c.abort_in.ensures.line v r at its) c.abort_in.ensures.rest g.D.Device.trace g.C.Checksum.sum_of;
       history = λ H holds. holds_ended old c.abort_in.new.self c.segment_of-n.result v at i r its own.own.open_yet (canceling g.C.Checksum.sum_of v.parts.bytes r) (canceling_short g.C.Checksum.sum_of v i r (nth_facts old c.segment_of-n.result v at) its own.own.open_yet) Canceled (c.abort_in.ensures.line v r at its) c.abort_in.ensures.rest g.D.Device.trace g.C.Checksum.sum_of H
-          (holds_aborted g.C.Checksum.sum_of old.config.config.segment_size (state_of (g.D.Device.trace old.config.device)) old.fault (line_of old) c.segment_of-n.result v at old.site.place (nth_facts old) i r its own.own.open_yet (machine_of old.accountant) (noted_in old) (logged H) holds);
+          (holds_aborted g.C.Checksum.sum_of old.config.config.segment_size (state_of (g.D.Device.trace old.config.device)) old.fault.kept (line_of old) c.segment_of-n.result v at old.site.place (nth_facts old) i r its own.own.open_yet (machine_of old.accountant) (noted_in old) (logged H) holds);
       fits = λ H A f U fits. fits_ended old c.abort_in.new.self c.segment_of-n.result v at i r its own.own.open_yet (canceling g.C.Checksum.sum_of v.parts.bytes r) (canceling_short g.C.Checksum.sum_of v i r (nth_facts old c.segment_of-n.result v at) its own.own.open_yet) Canceled (c.abort_in.ensures.line v r at its) c.abort_in.ensures.rest g.D.Device.trace g.C.Checksum.sum_of H A f U
-          (fits_aborted g.C.Checksum.sum_of old.config.config.segment_size (state_of (g.D.Device.trace old.config.device)) old.fault (line_of old) c.segment_of-n.result v at old.site.place (nth_facts old) i r its own.own.open_yet (machine_of old.accountant) (noted_in old) old.pins H A f U fits);
+          (fits_aborted g.C.Checksum.sum_of old.config.config.segment_size (state_of (g.D.Device.trace old.config.device)) old.fault.kept (line_of old) c.segment_of-n.result v at old.site.place (nth_facts old) i r its own.own.open_yet (machine_of old.accountant) (noted_in old) old.pins H A f U fits);
       noted = left_ended old c.abort_in.new.self c.segment_of-n.result v at i r its own.own.open_yet (canceling g.C.Checksum.sum_of v.parts.bytes r) (canceling_short g.C.Checksum.sum_of v i r (nth_facts old c.segment_of-n.result v at) its own.own.open_yet) Canceled (c.abort_in.ensures.line v r at its) c.abort_in.ensures.rest;
       kept = kept_same old c.abort_in.new.self c.abort_in.ensures.rest.noted;
     }
@@ -123,7 +123,7 @@ returns-clause-canceled g c = λ H m holds awaits.
     let now_size : c.abort_in.new.self.config.config.segment_size ≡ size = ap (λ (x : RunningConfig g.row.D.Denot g.row.C.Denot). x.config.segment_size) c.abort_in.ensures.rest.config in
     let place_is : m.place ≡ v.parts.site.place + r.from = ap (λ (x : Message). x.place) awaits.message in
     let size_is : m.size ≡ r.len = ap (λ (x : Message). x.size) awaits.message in
-    with_segment sum size (state_of (g.D.Device.trace old.config.device)) old.fault (line_of old) c.segment_of-n.result v (logged H) holds.holds at (λ stays own segment.
+    with_segment sum size (state_of (g.D.Device.trace old.config.device)) old.fault.kept (line_of old) c.segment_of-n.result v (logged H) holds.holds at (λ stays own segment.
     let stands = reserved_in sum size (v.parts.site.place / size) v.parts.bytes r (open_plain r.state awaits.own.open_yet) (at_there (Stands sum size (v.parts.site.place / size) v.parts.bytes) v.parts.reserved i r its segment.stand) in
     let its_text = canceled_there sum size v.parts.site.place v.parts.bytes r segment.place_begins stands.room inside stands.text awaits.own.open_yet in
     let body : List ℕ = body_in v.parts.bytes r in
@@ -158,7 +158,7 @@ returns-clause-others g c = λ H other m holds awaits apart.
     let its = there g c c.requires.0 own in
     subst (λ (l : List SegmentView). AwaitsIn l other (in_log m)) (sym (c.abort_in.ensures.line own.segment own.reserved at its))
     (others_await old.config.config.segment_size (line_of old) old.site.place c.segment_of-n.result own.segment at (nth_facts old) (c.index-index.result - own.segment.gone) own.reserved its own.own.open_yet (canceling g.C.Checksum.sum_of own.segment.parts.bytes own.reserved)
-    (canceling_short g.C.Checksum.sum_of own.segment (c.index-index.result - own.segment.gone) own.reserved (nth_facts c.args.self.now c.segment_of-n.result own.segment at) its own.own.open_yet) Canceled g.C.Checksum.sum_of (state_of (g.D.Device.trace old.config.device)) old.fault
+    (canceling_short g.C.Checksum.sum_of own.segment (c.index-index.result - own.segment.gone) own.reserved (nth_facts c.args.self.now c.segment_of-n.result own.segment at) its own.own.open_yet) Canceled g.C.Checksum.sum_of (state_of (g.D.Device.trace old.config.device)) old.fault.kept
     (logged H) holds.holds c.args.ticket other (in_log m) own.own.place awaits apart)
 
 pub returns-clause-opens : goal.returns-clause-opens

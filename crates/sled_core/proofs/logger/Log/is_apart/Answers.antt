@@ -12,7 +12,7 @@ as_read F low peg low_fits peg_fits = λ i. F (to_z-of_z w64 low low_fits i) (to
 
 pub returns : goal.returns
 returns g c =
-    let xs = c.args.self.now.noted.items in
+    let xs = c.args.self.now.batches.noted.items in
     let end = c.synced_end.result in
     let F : ℕ → ℤ → ℤ → Type 0 = λ n low peg. (b : Batch) → Contains (not_whole n (map batch_of xs)) b → (pos b.peg <ℤ low) ⊎ (peg <ℤ pos b.low) in
     let same : F end (to_z w64 (of_z w64 c.args.low)) (to_z w64 (of_z w64 c.args.peg)) ≡ F end c.args.low c.args.peg = as_read (F end) c.args.low c.args.peg c.ranges.low c.ranges.peg in

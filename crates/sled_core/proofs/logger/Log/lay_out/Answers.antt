@@ -21,7 +21,7 @@ use Rattle.sled_core.proofs.Line.Entered.{filled_last}
 use Rattle.sled_core.proofs.Line.Segments.{line_segments}
 use Rattle.sled_core.proofs.Line.Filling.{follow_with, last_none, line_first, line_last, read_last}
 use Rattle.sled_core.proofs.Holds.Nth.{last_behind, last_buffer_behind}
-use Rattle.sled_core.proofs.Line.OpenManifests.{manifests_reserved, more_counted, room_more}
+use Rattle.sled_core.proofs.Line.OpenManifests.{manifests_reserved, more_counted}
 use Rattle.sled_core.proofs.Line.Reserves.{filled_reserved}
 use Rattle.sled_core.proofs.Pending.Segments.{at_last_same}
 use Rattle.sled_core.proofs.logger.Log.lay_out.Given.{Over}
@@ -49,21 +49,25 @@ laid_filled log more r to line is is_open begins some end =
     (filled_reserved (λ _. 0) log.config.config.segment_size more r log.reserved_to to log.site.place (view_at log.site log.buffer) (map segment_view log.behind.items) (line_segments log) is_open begins some end log.filled).1
 
 -- What was noted lies below what is reserved then, and as many manifests are open as are counted.
-laid_pegs : {D C : Type 0} (log : Log D C) (to n : ℕ) → to ≡ (current_of log).parts.site.place + length (current_of log).parts.bytes + n → All (λ (b : NotedBatch). b.peg < to) log.noted.items
+laid_pegs : {D C : Type 0} (log : Log D C) (to n : ℕ) → to ≡ (current_of log).parts.site.place + length (current_of log).parts.bytes + n → All (λ (b : NotedBatch). b.peg < to) log.batches.noted.items
 laid_pegs log to n end =
     let low = (filled_last log.config.config.segment_size log.reserved_to (view_at log.site log.buffer) (map segment_view log.behind.items) log.filled).1 in
-    All-weaker (λ (b : NotedBatch). b.peg < log.reserved_to) (λ (b : NotedBatch). b.peg < to) (λ b less. omega (arith, less, low, end)) log.noted.items log.pegs
+    All-weaker (λ (b : NotedBatch). b.peg < log.reserved_to) (λ (b : NotedBatch). b.peg < to) (λ b less. omega (arith, less, low, end)) log.batches.noted.items log.pegs
 
 laid_counted : {D C : Type 0} (log : Log D C) (more : List ℕ) (r : Reserved) (manifest : Bool) (now : ℕ) (line : List SegmentView) → line ≡ at_last (reserved_now more r) (line_of log) → r.state ≡ Open → manifest ≡ is_manifest r.log_kind r.page
-    → now ≡ (if manifest then suc log.manifests else log.manifests) → open_manifests line ≡ now
+    → now ≡ (if manifest then suc log.batches.manifests else log.batches.manifests) → open_manifests line ≡ now
 laid_counted log more r manifest now line is opened kind more_is =
-    more_counted manifest (open_manifests (line_of log)) (open_manifests line) log.manifests now
+    more_counted manifest (open_manifests (line_of log)) (open_manifests line) log.batches.manifests now
     (ap open_manifests is ∙ manifests_reserved more r manifest (view_at log.site log.buffer) (map segment_view log.behind.items) opened (sym kind))
     more_is log.counted
 
 -- The same buffers can be written.
 laid_indexed : {D C : Type 0} (log : Log D C) (more : List ℕ) (r : Reserved) (line : List SegmentView) → line ≡ at_last (reserved_now more r) (line_of log) → AreReady line log.ready
 laid_indexed log more r line is = subst (λ (l : List SegmentView). AreReady l log.ready) (sym is) (at_last_same (reserved_now more r) (λ w. refl) (λ w. refl) (line_of log) log.ready log.indexed)
+
+-- There is room for the batch of a manifest.
+pub begin_manifest-requires : goal.begin_manifest-requires
+begin_manifest-requires g c = λ is. (c.requires.batch (sym c.is_manifest-manifest.ensures ∙ is)).place
 
 pub invariant_of-self : goal.invariant_of-self
 invariant_of-self g c =
@@ -86,23 +90,21 @@ invariant_of-self g c =
           (reserved_view log.site log.buffer c.append.new.self head item _ c.append.ensures.bytes c.append.ensures.reserved c.append.ensures.from c.append.ensures.gone c.append.ensures.filled c.append.ensures.sealed))
           refl (sym bytes) (placeholder_some (take c.args.head.now.len c.args.head.now.bytes) item) (omega (arith, c.requires.end, long));
       account = log.account;
-      pegs = laid_pegs log c.args.to (c.args.head.now.len + c.args.item_len) c.requires.end;
-      by_place = log.by_place;
-      room = room_more c.is_manifest-manifest.result (length log.noted.items) log.manifests c.with_manifest-manifests.result _ c.with_manifest-manifests.ensures log.room (λ is. (c.requires.batch (sym c.is_manifest-manifest.ensures ∙ is)).place);
-      counted = laid_counted log (head ++ item) _ c.is_manifest-manifest.result c.with_manifest-manifests.result (line_at log.site c.append.new.self log.behind.items)
+      pegs = subst (All (λ (b : NotedBatch). b.peg < c.args.to)) (sym c.begin_manifest.ensures.items) (laid_pegs log c.args.to (c.args.head.now.len + c.args.item_len) c.requires.end);
+      counted = laid_counted log (head ++ item) _ c.is_manifest-manifest.result c.begin_manifest.new.self.manifests (line_at log.site c.append.new.self log.behind.items)
           (line_first (reserved_now (head ++ item) _) log.site log.buffer c.append.new.self log.behind.items none
           (reserved_view log.site log.buffer c.append.new.self head item _ c.append.ensures.bytes c.append.ensures.reserved c.append.ensures.from c.append.ensures.gone c.append.ensures.filled c.append.ensures.sealed))
-          refl c.is_manifest-manifest.ensures c.with_manifest-manifests.ensures;
+          refl c.is_manifest-manifest.ensures c.begin_manifest.ensures.manifests;
       indexed = laid_indexed log (head ++ item) _ (line_at log.site c.append.new.self log.behind.items)
           (line_first (reserved_now (head ++ item) _) log.site log.buffer c.append.new.self log.behind.items none
           (reserved_view log.site log.buffer c.append.new.self head item _ c.append.ensures.bytes c.append.ensures.reserved c.append.ensures.from c.append.ensures.gone c.append.ensures.filled c.append.ensures.sealed));
     }
 
 pub returns-then-n-eq0-clause-rest : goal.returns-then-n-eq0-clause-rest
-returns-then-n-eq0-clause-rest g c = record { config = refl; fault = refl; pins = refl; noted = refl }
+returns-then-n-eq0-clause-rest g c = record { config = refl; fault = refl; pins = refl; noted = c.begin_manifest.ensures.items }
 
 pub returns-else-n-eq0-clause-rest : goal.returns-else-n-eq0-clause-rest
-returns-else-n-eq0-clause-rest g c = record { config = refl; fault = refl; pins = refl; noted = refl }
+returns-else-n-eq0-clause-rest g c = record { config = refl; fault = refl; pins = refl; noted = c.begin_manifest.ensures.items }
 
 -- The last one behind the first is the one that is being filled.
 
@@ -166,12 +168,10 @@ invariant_of-self-else-n-eq0 g c =
           (laid_line log n s is.0 is.1 new head item _ made.bytes made.reserved made.from made.gone made.filled made.sealed)
           refl (sym bytes) (placeholder_some (take c.args.head.now.len c.args.head.now.bytes) item) (omega (arith, c.requires.end, long));
       account = log.account;
-      pegs = laid_pegs log c.args.to (c.args.head.now.len + c.args.item_len) c.requires.end;
-      by_place = log.by_place;
-      room = room_more c.is_manifest-manifest.result (length log.noted.items) log.manifests c.with_manifest-manifests.result _ c.with_manifest-manifests.ensures log.room (λ is. (c.requires.batch (sym c.is_manifest-manifest.ensures ∙ is)).place);
-      counted = laid_counted log (head ++ item) _ c.is_manifest-manifest.result c.with_manifest-manifests.result (line_at log.site log.buffer (set log.behind.items n (record { site = s.site; buffer = new })))
+      pegs = subst (All (λ (b : NotedBatch). b.peg < c.args.to)) (sym c.begin_manifest.ensures.items) (laid_pegs log c.args.to (c.args.head.now.len + c.args.item_len) c.requires.end);
+      counted = laid_counted log (head ++ item) _ c.is_manifest-manifest.result c.begin_manifest.new.self.manifests (line_at log.site log.buffer (set log.behind.items n (record { site = s.site; buffer = new })))
           (laid_line log n s is.0 is.1 new head item _ made.bytes made.reserved made.from made.gone made.filled made.sealed)
-          refl c.is_manifest-manifest.ensures c.with_manifest-manifests.ensures;
+          refl c.is_manifest-manifest.ensures c.begin_manifest.ensures.manifests;
       indexed = laid_indexed log (head ++ item) _ (line_at log.site log.buffer (set log.behind.items n (record { site = s.site; buffer = new })))
           (laid_line log n s is.0 is.1 new head item _ made.bytes made.reserved made.from made.gone made.filled made.sealed);
     }

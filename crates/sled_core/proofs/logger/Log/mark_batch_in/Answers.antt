@@ -1,7 +1,9 @@
 -- The manifest of a batch has ended, in the first segment or in one behind it.
-use Rattle.std.proofs.Common.{◌≡◌, ◌+◌, ◌-◌, arith, refl, set, subst, true}
+use Rattle.std.proofs.Common.{◌≡◌, ◌+◌, ◌-◌, ◌<◌, refl, set, subst, sym, true}
+use Rattle.std.specs.List.{All}
 use Rattle.sled_core.specs.declared.iobuf.ReservationState.TheVariants.{Manifest}
 use Rattle.sled_core.specs.declared.iobuf.Reserved.{Reserved}
+use Rattle.sled_core.specs.declared.logger.batches.NotedBatch.{NotedBatch}
 use Rattle.sled_core.specs.declared.logger.segments.SegmentBuffer.{SegmentBuffer}
 use Rattle.sled_core.specs.Buffers.{marking}
 use Rattle.sled_core.specs.Fits.{line_of}
@@ -9,19 +11,19 @@ use Rattle.sled_core.specs.OpenPlaces.{open_manifests}
 use Rattle.sled_core.specs.Turned.{HasOpenIn, ended_now}
 use Rattle.sled_core.proofs.Line.EndedIn.{behind_ended, behind_in, first_ended, marks, mut_is, mut_open, mut_within}
 use Rattle.sled_core.proofs.Line.EndedLine.{first_is, read_is, read_numbered}
-use Rattle.sled_core.proofs.Line.OpenManifests.{manifests_ended, some_counted, without_fewer}
+use Rattle.sled_core.proofs.Line.OpenManifests.{manifests_ended, some_counted}
 use Rattle.sled_core.proofs.Pending.EndsIn.{Ended, in_reach, indexed, own}
 use Rattle.sled_core.proofs.logger.Log.mark_batch_in.Goals as goal
 
 -- It was counted.
-pub without_manifest-manifests-requires : goal.without_manifest-manifests-requires
-without_manifest-manifests-requires g c =
+pub end_manifest-requires : goal.end_manifest-requires
+end_manifest-requires g c =
     let log = c.args.self.now in
     let its : HasOpenIn (line_of log) c.args.n c.args.index = c.requires.awaited in
     let i = c.args.index - its.segment.gone in
     let text = marking g.C.Checksum.sum_of its.segment.parts.bytes its.reserved c.args.peg in
     let ended = manifests_ended (line_of log) c.args.n its.segment i its.reserved text Manifest true its.among its.there its.open_yet (c.requires.kind its.segment its.reserved its.among its.there) refl in
-    some_counted true (open_manifests (line_of log)) (open_manifests (set (line_of log) c.args.n (ended_now i its.reserved text Manifest its.segment))) log.manifests ended log.counted
+    some_counted true (open_manifests (line_of log)) (open_manifests (set (line_of log) c.args.n (ended_now i its.reserved text Manifest its.segment))) log.batches.manifests ended log.counted
 
 -- The first segment has it.
 
@@ -31,7 +33,7 @@ note_ended-requires g c =
     let its : HasOpenIn (line_of log) c.args.n c.args.index = c.requires.awaited in
     let done = c.mark_batch.ensures in
     let did : Ended log c.args.n c.args.index its (λ bytes r. marking g.C.Checksum.sum_of bytes r c.args.peg) Manifest log.site log.buffer c.mark_batch.new.self =
-    record { mine = first_is log c.args.n c.args.index its c.if-n-eq0.true; bytes = done.bytes; reserved = done.reserved; sealed = done.sealed; from = done.from; gone = done.gone; filled = done.filled; long = done.len } in
+    record { mine = first_is log c.args.n c.args.index its c.if-n-eq0.true; did = done } in
     record {
       place = in_reach log c.args.n c.args.index its (λ bytes r. marking g.C.Checksum.sum_of bytes r c.args.peg) Manifest log.site log.buffer c.mark_batch.new.self did;
       own = own log c.args.n c.args.index its (λ bytes r. marking g.C.Checksum.sum_of bytes r c.args.peg) Manifest log.site log.buffer c.mark_batch.new.self did;
@@ -42,10 +44,9 @@ invariant_of-self g c =
     let log = c.args.self.now in
     let its : HasOpenIn (line_of log) c.args.n c.args.index = c.requires.awaited in
     let done = c.mark_batch.ensures in
-    let now = first_ended log c.args.n c.args.index its (λ bytes r. marking g.C.Checksum.sum_of bytes r c.args.peg) Manifest (marks log c.args.n c.args.index its g.C.Checksum.sum_of c.args.peg (c.requires.body its.segment its.reserved its.among its.there)) c.if-n-eq0.true c.mark_batch.new.self
-    done.bytes done.reserved done.sealed done.from done.gone done.filled done.len in
+    let now = first_ended log c.args.n c.args.index its (λ bytes r. marking g.C.Checksum.sum_of bytes r c.args.peg) Manifest (marks log c.args.n c.args.index its g.C.Checksum.sum_of c.args.peg (c.requires.body its.segment its.reserved its.among its.there)) c.if-n-eq0.true c.mark_batch.new.self done in
     let did : Ended log c.args.n c.args.index its (λ bytes r. marking g.C.Checksum.sum_of bytes r c.args.peg) Manifest log.site log.buffer c.mark_batch.new.self =
-    record { mine = first_is log c.args.n c.args.index its c.if-n-eq0.true; bytes = done.bytes; reserved = done.reserved; sealed = done.sealed; from = done.from; gone = done.gone; filled = done.filled; long = done.len } in
+    record { mine = first_is log c.args.n c.args.index its c.if-n-eq0.true; did = done } in
     record {
       in_segment = now.in_segment;
       place_in_reach = log.place_in_reach;
@@ -54,10 +55,8 @@ invariant_of-self g c =
       follow = now.follow;
       filled = now.filled;
       account = log.account;
-      pegs = log.pegs;
-      by_place = log.by_place;
-      room = (let old = log.room in let fewer = without_fewer true log.manifests c.without_manifest-manifests.result c.without_manifest-manifests.ensures in omega (arith, old, fewer));
-      counted = now.counted true c.without_manifest-manifests.result (c.requires.kind its.segment its.reserved its.among its.there) c.without_manifest-manifests.ensures;
+      pegs = subst (All (λ (b : NotedBatch). b.peg < log.reserved_to)) (sym c.end_manifest.ensures.items) log.pegs;
+      counted = now.counted true c.end_manifest.new.self.manifests (c.requires.kind its.segment its.reserved its.among its.there) c.end_manifest.ensures.manifests;
       indexed = indexed log c.args.n c.args.index its (λ bytes r. marking g.C.Checksum.sum_of bytes r c.args.peg) Manifest log.site log.buffer c.mark_batch.new.self did _ (now.line its.segment its.reserved its.among its.there) c.note_ended.new.self c.note_ended.ensures;
     }
 
@@ -88,7 +87,7 @@ note_ended-requires-else-n-eq0 g c =
     let t : SegmentBuffer = c.index_mut-s.result.now in
     let done = c.mark_batch-else-n-eq0.ensures in
     let did : Ended log c.args.n c.args.index its (λ bytes r. marking g.C.Checksum.sum_of bytes r c.args.peg) Manifest t.site t.buffer c.mark_batch-else-n-eq0.new.self =
-    record { mine = read_is log c.args.n c.args.index its c.if-n-eq0.false t c.index_mut-s.ensures.value; bytes = done.bytes; reserved = done.reserved; sealed = done.sealed; from = done.from; gone = done.gone; filled = done.filled; long = done.len } in
+    record { mine = read_is log c.args.n c.args.index its c.if-n-eq0.false t c.index_mut-s.ensures.value; did = done } in
     record {
       place = in_reach log c.args.n c.args.index its (λ bytes r. marking g.C.Checksum.sum_of bytes r c.args.peg) Manifest t.site t.buffer c.mark_batch-else-n-eq0.new.self did;
       own = own log c.args.n c.args.index its (λ bytes r. marking g.C.Checksum.sum_of bytes r c.args.peg) Manifest t.site t.buffer c.mark_batch-else-n-eq0.new.self did;
@@ -100,10 +99,9 @@ invariant_of-self-else-n-eq0 g c =
     let its : HasOpenIn (line_of log) c.args.n c.args.index = c.requires.awaited in
     let t : SegmentBuffer = c.index_mut-s.result.now in
     let done = c.mark_batch-else-n-eq0.ensures in
-    let now = behind_ended log c.args.n c.args.index its (λ bytes r. marking g.C.Checksum.sum_of bytes r c.args.peg) Manifest (marks log c.args.n c.args.index its g.C.Checksum.sum_of c.args.peg (c.requires.body its.segment its.reserved its.among its.there)) c.if-n-eq0.false c.index_mut-s.result.now c.index_mut-s.result.now c.index_mut-s.ensures.value c.index_mut-s.ensures.value c.mark_batch-else-n-eq0.new.self
-    done.bytes done.reserved done.sealed done.from done.gone done.filled done.len in
+    let now = behind_ended log c.args.n c.args.index its (λ bytes r. marking g.C.Checksum.sum_of bytes r c.args.peg) Manifest (marks log c.args.n c.args.index its g.C.Checksum.sum_of c.args.peg (c.requires.body its.segment its.reserved its.among its.there)) c.if-n-eq0.false c.index_mut-s.result.now c.index_mut-s.result.now c.index_mut-s.ensures.value c.index_mut-s.ensures.value c.mark_batch-else-n-eq0.new.self done in
     let did : Ended log c.args.n c.args.index its (λ bytes r. marking g.C.Checksum.sum_of bytes r c.args.peg) Manifest t.site t.buffer c.mark_batch-else-n-eq0.new.self =
-    record { mine = read_is log c.args.n c.args.index its c.if-n-eq0.false t c.index_mut-s.ensures.value; bytes = done.bytes; reserved = done.reserved; sealed = done.sealed; from = done.from; gone = done.gone; filled = done.filled; long = done.len } in
+    record { mine = read_is log c.args.n c.args.index its c.if-n-eq0.false t c.index_mut-s.ensures.value; did = done } in
     record {
       in_segment = now.in_segment;
       place_in_reach = log.place_in_reach;
@@ -112,10 +110,8 @@ invariant_of-self-else-n-eq0 g c =
       follow = now.follow;
       filled = now.filled;
       account = log.account;
-      pegs = log.pegs;
-      by_place = log.by_place;
-      room = (let old = log.room in let fewer = without_fewer true log.manifests c.without_manifest-manifests.result c.without_manifest-manifests.ensures in omega (arith, old, fewer));
-      counted = now.counted true c.without_manifest-manifests.result (c.requires.kind its.segment its.reserved its.among its.there) c.without_manifest-manifests.ensures;
+      pegs = subst (All (λ (b : NotedBatch). b.peg < log.reserved_to)) (sym c.end_manifest.ensures.items) log.pegs;
+      counted = now.counted true c.end_manifest.new.self.manifests (c.requires.kind its.segment its.reserved its.among its.there) c.end_manifest.ensures.manifests;
       indexed = indexed log c.args.n c.args.index its (λ bytes r. marking g.C.Checksum.sum_of bytes r c.args.peg) Manifest t.site t.buffer c.mark_batch-else-n-eq0.new.self did _ (now.line its.segment its.reserved its.among its.there) c.note_ended-else-n-eq0.new.self c.note_ended-else-n-eq0.ensures;
     }
 
@@ -124,6 +120,5 @@ returns-else-n-eq0-clause-line g c =
     let log = c.args.self.now in
     let its : HasOpenIn (line_of log) c.args.n c.args.index = c.requires.awaited in
     let done = c.mark_batch-else-n-eq0.ensures in
-    let now = behind_ended log c.args.n c.args.index its (λ bytes r. marking g.C.Checksum.sum_of bytes r c.args.peg) Manifest (marks log c.args.n c.args.index its g.C.Checksum.sum_of c.args.peg (c.requires.body its.segment its.reserved its.among its.there)) c.if-n-eq0.false c.index_mut-s.result.now c.index_mut-s.result.now c.index_mut-s.ensures.value c.index_mut-s.ensures.value c.mark_batch-else-n-eq0.new.self
-    done.bytes done.reserved done.sealed done.from done.gone done.filled done.len in
+    let now = behind_ended log c.args.n c.args.index its (λ bytes r. marking g.C.Checksum.sum_of bytes r c.args.peg) Manifest (marks log c.args.n c.args.index its g.C.Checksum.sum_of c.args.peg (c.requires.body its.segment its.reserved its.among its.there)) c.if-n-eq0.false c.index_mut-s.result.now c.index_mut-s.result.now c.index_mut-s.ensures.value c.index_mut-s.ensures.value c.mark_batch-else-n-eq0.new.self done in
     now.line

@@ -18,11 +18,11 @@ returns-clause-log g c =
     let old = c.args.self.now in
     let reads = c.next-item.ensures.reads in
     let size = ap (λ (x : Config). x.segment_size) reads.config in
-    let kept = first_kept old.fault c.next-item.result _ c.first_failure-self.ensures in
+    let kept = first_kept old.fault.kept c.next-item.result _ c.note_item.ensures in
     record {
       read = record {
         keeps = record {
-          goes_on = goes_on_quietly g.D.Device.trace g.C.Checksum.sum_of old _ (record { config = reads.config; checksum = reads.checksum }) reads.unwritten (omega arith) (first_none old.fault c.next-item.result _ c.first_failure-self.ensures);
+          goes_on = goes_on_quietly g.D.Device.trace g.C.Checksum.sum_of old _ (record { config = reads.config; checksum = reads.checksum }) reads.unwritten (omega arith) (first_none old.fault.kept c.next-item.result _ c.note_item.ensures);
           history = λ H holds. holds_with_kept g.C.Checksum.sum_of _ _ _ _ _ _ _ _ _ _ _ (logged H) size refl refl (ap state_of reads.unwritten) kept holds;
           fits = λ H A f U fits. fits_with_kept g.C.Checksum.sum_of _ _ _ _ _ _ _ _ _ _ _ _ _ H A f U size refl refl refl (ap state_of reads.unwritten) kept fits;
           noted = noted_still old;
@@ -33,5 +33,5 @@ returns-clause-log g c =
         buffers = record { waiting = refl; start = refl };
         machine = refl;
       };
-      fault = c.first_failure-self.ensures;
+      fault = c.note_item.ensures;
     }

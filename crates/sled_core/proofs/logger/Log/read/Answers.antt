@@ -52,11 +52,11 @@ nothing_sealed trace sum log at e never = (seals_none log at e never, around_non
 
 pub returns-in-Some-clause-blob : goal.returns-in-Some-clause-blob
 returns-in-Some-clause-blob g c = λ H A f U m fits zeros.
-    let some : c.args.self.now.fault ≡ None → ⊥ = λ none. let both : None ≡ c.args.self.now.fault = sym none in let is = c.in-Some.is in cc in
+    let some : c.args.self.now.fault.kept ≡ None → ⊥ = λ none. let both : None ≡ c.args.self.now.fault.kept = sym none in let is = c.in-Some.is in cc in
     record { stable = λ _ none. absurd (some none); kept = λ _ none. absurd (some none) }
 
 pub returns-in-Some-clause-calls : goal.returns-in-Some-clause-calls
-returns-in-Some-clause-calls g c = record { made = tt; damaged = λ is. absurd is; missed = λ none _. absurd (let both : None ≡ c.args.self.now.fault = sym none in let is = c.in-Some.is in cc); at_most = performs_nothing _ _ _ refl; settled = tt; unwritten = λ _. refl }
+returns-in-Some-clause-calls g c = record { made = tt; damaged = λ is. absurd is; missed = λ none _. absurd (let both : None ≡ c.args.self.now.fault.kept = sym none in let is = c.in-Some.is in cc); at_most = performs_nothing _ _ _ refl; settled = tt; unwritten = λ _. refl }
 
 pub returns-in-Some-clause-keeps : goal.returns-in-Some-clause-keeps
 returns-in-Some-clause-keeps g c = kept_still g.D.Device.trace g.C.Checksum.sum_of c.args.self.now
@@ -130,8 +130,8 @@ at_err g c = at_is c.args.lsn c.place_read.result c.args.ptr c.ranges.lsn (recor
 
 -- the answer that it gets
 err_at : (g : given.Over) (c : goal.After-from_residual g) → SettleAnswers {T = Unit {0}} (Err c.in_err-settle_at.field-0.0) (place_read c.args.lsn c.args.ptr) (synced_end c.args.self.now) (reserved_end c.args.self.now) (held_at g.C.Checksum.sum_of c.args.self.now (place_read c.args.lsn c.args.ptr))
-    (IsUsedUpAt c.args.self.now (place_read c.args.lsn c.args.ptr)) c.settle_at.new.self.fault (g.D.Device.faults c.args.self.now.config.device) (g.D.Device.faults c.settle_at.new.self.config.device)
-err_at g c = subst (λ z. SettleAnswers {T = Unit {0}} (Err c.in_err-settle_at.field-0.0) z (synced_end c.args.self.now) (reserved_end c.args.self.now) (held_at g.C.Checksum.sum_of c.args.self.now z) (IsUsedUpAt c.args.self.now z) c.settle_at.new.self.fault
+    (IsUsedUpAt c.args.self.now (place_read c.args.lsn c.args.ptr)) c.settle_at.new.self.fault.kept (g.D.Device.faults c.args.self.now.config.device) (g.D.Device.faults c.settle_at.new.self.config.device)
+err_at g c = subst (λ z. SettleAnswers {T = Unit {0}} (Err c.in_err-settle_at.field-0.0) z (synced_end c.args.self.now) (reserved_end c.args.self.now) (held_at g.C.Checksum.sum_of c.args.self.now z) (IsUsedUpAt c.args.self.now z) c.settle_at.new.self.fault.kept
     (g.D.Device.faults c.args.self.now.config.device) (g.D.Device.faults c.settle_at.new.self.config.device)) (at_err g c) c.in_err-settle_at.ensures.answers
 
 -- which is no damage
@@ -195,7 +195,7 @@ returns-in_err-settle_at-clause-answers g c =
     let new = c.settle_at.new.self in
     let at : ℤ = place_read c.args.lsn c.args.ptr in
     let e = err_from_is_err_and c.from_residual.result c.from_residual.ensures.1 in
-    rw (e.1, e.2) (subst (λ (o : Option IoError). ReadAnswers {T = LogRead} sum (state_of (g.D.Device.trace new.config.device)).blobs.file c.args.ptr (Err c.in_err-settle_at.field-0.0) at (synced_end old) (reserved_end old) (held_at sum old at) (IsUsedUpAt old at) o new.fault
+    rw (e.1, e.2) (subst (λ (o : Option IoError). ReadAnswers {T = LogRead} sum (state_of (g.D.Device.trace new.config.device)).blobs.file c.args.ptr (Err c.in_err-settle_at.field-0.0) at (synced_end old) (reserved_end old) (held_at sum old at) (IsUsedUpAt old at) o new.fault.kept
     (g.D.Device.faults old.config.device) (g.D.Device.faults new.config.device)) (sym c.in_default.is)
     (err_answers (Unit {0}) LogRead sum _ c.args.ptr c.in_err-settle_at.field-0.0 at (synced_end old) (reserved_end old) (held_at sum old at) (IsUsedUpAt old at) _ _ _ (λ below. held_stable old sum at below) (λ used. stable_up old at used.0) (err_at g c)))
 
@@ -284,8 +284,8 @@ returns-clause-tickets g c = tickets_further c.args.self.now c.settle_at.new.sel
 
 -- the answer of the settling
 ok_at : (g : given.Over) (c : goal.After-read_settled g) → SettleAnswers {T = Unit {0}} (Ok tt) (place_read c.args.lsn c.args.ptr) (synced_end c.args.self.now) (reserved_end c.args.self.now) (held_at g.C.Checksum.sum_of c.args.self.now (place_read c.args.lsn c.args.ptr))
-    (IsUsedUpAt c.args.self.now (place_read c.args.lsn c.args.ptr)) c.settle_at.new.self.fault (g.D.Device.faults c.args.self.now.config.device) (g.D.Device.faults c.settle_at.new.self.config.device)
-ok_at g c = subst (λ z. SettleAnswers {T = Unit {0}} (Ok tt) z (synced_end c.args.self.now) (reserved_end c.args.self.now) (held_at g.C.Checksum.sum_of c.args.self.now z) (IsUsedUpAt c.args.self.now z) c.settle_at.new.self.fault
+    (IsUsedUpAt c.args.self.now (place_read c.args.lsn c.args.ptr)) c.settle_at.new.self.fault.kept (g.D.Device.faults c.args.self.now.config.device) (g.D.Device.faults c.settle_at.new.self.config.device)
+ok_at g c = subst (λ z. SettleAnswers {T = Unit {0}} (Ok tt) z (synced_end c.args.self.now) (reserved_end c.args.self.now) (held_at g.C.Checksum.sum_of c.args.self.now z) (IsUsedUpAt c.args.self.now z) c.settle_at.new.self.fault.kept
     (g.D.Device.faults c.args.self.now.config.device) (g.D.Device.faults c.settle_at.new.self.config.device)) (at_ok g c) c.in_ok-settle_at.ensures.answers
 
 pub returns-clause-calls : goal.returns-clause-calls
@@ -336,9 +336,9 @@ returns-clause-answers g c =
     let new = c.read_settled.new.self in
     let at : ℤ = place_read c.args.lsn c.args.ptr in
     let blobs : Trace → ℤ → Option (List ℕ) = λ t. (state_of t).blobs.file in
-    let is : (Option IoError → Trace → ℕ → Type 0) = λ o t n. ReadAnswers sum (blobs t) c.args.ptr c.read_settled.result at (synced_end old) (reserved_end old) (held_at sum old at) (IsUsedUpAt old at) o new.fault n (g.D.Device.faults new.config.device) in
+    let is : (Option IoError → Trace → ℕ → Type 0) = λ o t n. ReadAnswers sum (blobs t) c.args.ptr c.read_settled.result at (synced_end old) (reserved_end old) (held_at sum old at) (IsUsedUpAt old at) o new.fault.kept n (g.D.Device.faults new.config.device) in
     let settled = ok_at g c in
-    let answers = read_answers sum (blobs (g.D.Device.trace mid.config.device)) c.args.ptr c.read_settled.result at (synced_end old) (reserved_end old) (held_at sum old at) (IsUsedUpAt old at) new.fault _ _ settled.0 settled.1.0 settled.1.1 c.read_settled.ensures.answers in
-    subst (λ (t : Trace). is old.fault t (g.D.Device.faults old.config.device)) (sym c.read_settled.ensures.trace)
-    (subst (λ n. is old.fault (g.D.Device.trace mid.config.device) n) settled.1.4
+    let answers = read_answers sum (blobs (g.D.Device.trace mid.config.device)) c.args.ptr c.read_settled.result at (synced_end old) (reserved_end old) (held_at sum old at) (IsUsedUpAt old at) new.fault.kept _ _ settled.0 settled.1.0 settled.1.1 c.read_settled.ensures.answers in
+    subst (λ (t : Trace). is old.fault.kept t (g.D.Device.faults old.config.device)) (sym c.read_settled.ensures.trace)
+    (subst (λ n. is old.fault.kept (g.D.Device.trace mid.config.device) n) settled.1.4
     (subst (λ (o : Option IoError). is o (g.D.Device.trace mid.config.device) (g.D.Device.faults mid.config.device)) (sym c.in_default.is) answers))

@@ -14,11 +14,11 @@ unfolding Holds Fits
 returns-clause-keeps g c =
     let old = c.args.self.now in
     let answer = c.read_pointer-answer.ensures in
-    let size = ap (λ (x : Config). x.segment_size) answer.config in
+    let size = ap (λ (x : Config). x.segment_size) answer.reads.config in
     record {
-      goes_on = goes_on_quietly g.D.Device.trace g.C.Checksum.sum_of old _ (record { config = answer.config; checksum = answer.checksum }) answer.trace (omega arith) (λ none. c.requires.fault);
-      history = λ H holds. holds_with_kept g.C.Checksum.sum_of _ _ _ _ _ _ _ _ _ _ _ (logged H) size refl refl (ap state_of answer.trace) (none_or_kept _ _ c.requires.fault) holds;
-      fits = λ H A f U fits. fits_with_kept g.C.Checksum.sum_of _ _ _ _ _ _ _ _ _ _ _ _ _ H A f U size refl refl refl (ap state_of answer.trace) (none_or_kept _ _ c.requires.fault) fits;
+      goes_on = goes_on_quietly g.D.Device.trace g.C.Checksum.sum_of old _ (record { config = answer.reads.config; checksum = answer.reads.checksum }) answer.reads.unwritten (omega arith) (λ none. c.requires.fault);
+      history = λ H holds. holds_with_kept g.C.Checksum.sum_of _ _ _ _ _ _ _ _ _ _ _ (logged H) size refl refl (ap state_of answer.reads.unwritten) (none_or_kept _ _ c.requires.fault) holds;
+      fits = λ H A f U fits. fits_with_kept g.C.Checksum.sum_of _ _ _ _ _ _ _ _ _ _ _ _ _ H A f U size refl refl refl (ap state_of answer.reads.unwritten) (none_or_kept _ _ c.requires.fault) fits;
       noted = noted_still old;
       kept = omega arith;
     }

@@ -10,7 +10,6 @@ use Rattle.sled_core.specs.declared.logger.Log.{Log}
 use Rattle.sled_core.specs.declared.logger.batches.NotedBatch.{NotedBatch}
 use Rattle.sled_core.specs.declared.logger.segments.SegmentBuffer.{SegmentBuffer}
 use Rattle.sled_core.specs.Fits.{current_of, current_reserved_in, line_of}
-use Rattle.sled_core.specs.OpenBatches.{AreByPlace, batch_of}
 use Rattle.sled_core.specs.OpenPlaces.{open_manifests}
 use Rattle.sled_core.specs.SealedBuffers.{sealed_count}
 use Rattle.sled_core.specs.Turned.{HasRoomIn}
@@ -51,10 +50,8 @@ invariant_of-self g c =
       follow = log.follow;
       filled = log.filled;
       account = log.account;
-      pegs = subst (All (λ (b : NotedBatch). b.peg < log.reserved_to)) (sym c.room_for_batch.ensures.items) log.pegs;
-      by_place = subst (λ (l : List NotedBatch). AreByPlace 0 (map batch_of l)) (sym c.room_for_batch.ensures.items) log.by_place;
-      room = (let many = ap length c.room_for_batch.ensures.items in let grows = c.room_for_batch.ensures.grows in let old = log.room in omega (arith, many, grows, old));
-      counted = log.counted;
+      pegs = subst (All (λ (b : NotedBatch). b.peg < log.reserved_to)) (sym c.make_room_for.ensures.items) log.pegs;
+      counted = log.counted ∙ sym c.make_room_for.ensures.manifests;
       indexed = log.indexed;
     }
 
@@ -69,23 +66,23 @@ returns-then-is_full_of_open-clause-line g c = refl
 pub returns-then-is_full_of_open-clause-rest : goal.returns-then-is_full_of_open-clause-rest
 returns-then-is_full_of_open-clause-rest g c = record { config = refl; reserved = refl; fault = refl; pins = refl; accountant = refl; noted = refl }
 
-pub returns-in_err-room_for_batch-clause-line : goal.returns-in_err-room_for_batch-clause-line
-returns-in_err-room_for_batch-clause-line g c = refl
+pub returns-in_err-make_room_for-clause-line : goal.returns-in_err-make_room_for-clause-line
+returns-in_err-make_room_for-clause-line g c = refl
 
-pub returns-in_err-room_for_batch-clause-room : goal.returns-in_err-room_for_batch-clause-room
-returns-in_err-room_for_batch-clause-room g c = refused _ c.from_residual.result _ c.from_residual.ensures.1
+pub returns-in_err-make_room_for-clause-room : goal.returns-in_err-make_room_for-clause-room
+returns-in_err-make_room_for-clause-room g c = refused _ c.from_residual.result _ c.from_residual.ensures.1
 
-pub returns-in_err-room_for_batch-clause-batch : goal.returns-in_err-room_for_batch-clause-batch
-returns-in_err-room_for_batch-clause-batch g c = refused _ c.from_residual.result _ c.from_residual.ensures.1
+pub returns-in_err-make_room_for-clause-batch : goal.returns-in_err-make_room_for-clause-batch
+returns-in_err-make_room_for-clause-batch g c = refused _ c.from_residual.result _ c.from_residual.ensures.1
 
-pub returns-in_err-room_for_batch-clause-rest : goal.returns-in_err-room_for_batch-clause-rest
-returns-in_err-room_for_batch-clause-rest g c = record { config = refl; reserved = refl; fault = refl; pins = refl; accountant = refl; noted = c.room_for_batch.ensures.items }
+pub returns-in_err-make_room_for-clause-rest : goal.returns-in_err-make_room_for-clause-rest
+returns-in_err-make_room_for-clause-rest g c = record { config = refl; reserved = refl; fault = refl; pins = refl; accountant = refl; noted = c.make_room_for.ensures.items }
 
 pub returns-then-n-eq0-clause-rest : goal.returns-then-n-eq0-clause-rest
-returns-then-n-eq0-clause-rest g c = record { config = refl; reserved = refl; fault = refl; pins = refl; accountant = refl; noted = c.room_for_batch.ensures.items }
+returns-then-n-eq0-clause-rest g c = record { config = refl; reserved = refl; fault = refl; pins = refl; accountant = refl; noted = c.make_room_for.ensures.items }
 
 pub returns-clause-rest : goal.returns-clause-rest
-returns-clause-rest g c = record { config = refl; reserved = refl; fault = refl; pins = refl; accountant = refl; noted = c.room_for_batch.ensures.items }
+returns-clause-rest g c = record { config = refl; reserved = refl; fault = refl; pins = refl; accountant = refl; noted = c.make_room_for.ensures.items }
 
 -- The first segment is as it was, but for its room.
 roomier : {D C : Type 0} (log : Log D C) (new : IoBuf) → new.bytes.items ≡ log.buffer.bytes.items → new.written_len ≡ log.buffer.written_len → new.filled ≡ log.buffer.filled → new.sealed.items ≡ log.buffer.sealed.items → new.reserved.items ≡ log.buffer.reserved.items
@@ -109,10 +106,8 @@ invariant_of-self-then-n-eq0 g c =
       follow = log.follow;
       filled = subst (AreFilled log.config.config.segment_size log.reserved_to) (sym line) log.filled;
       account = log.account;
-      pegs = subst (All (λ (b : NotedBatch). b.peg < log.reserved_to)) (sym c.room_for_batch.ensures.items) log.pegs;
-      by_place = subst (λ (l : List NotedBatch). AreByPlace 0 (map batch_of l)) (sym c.room_for_batch.ensures.items) log.by_place;
-      room = (let many = ap length c.room_for_batch.ensures.items in let grows = c.room_for_batch.ensures.grows in let old = log.room in omega (arith, many, grows, old));
-      counted = (let same = ap open_manifests line in let old = log.counted in omega (arith, same, old));
+      pegs = subst (All (λ (b : NotedBatch). b.peg < log.reserved_to)) (sym c.make_room_for.ensures.items) log.pegs;
+      counted = (let same = ap open_manifests line in let old = log.counted in let many = c.make_room_for.ensures.manifests in omega (arith, same, old, many));
       indexed = still_ready line log.ready log.ready refl refl log.indexed;
     }
 
@@ -153,10 +148,8 @@ invariant_of-self-2 g c =
       follow = follow_with size (log.site.place + size) log.behind.items n s (record { site = s.site; buffer = new }) is.1 refl (omega (arith, ap length made.bytes, old)) log.follow;
       filled = same_filled log n s is.0 is.1 new made.bytes made.from made.reserved made.gone made.filled made.sealed;
       account = log.account;
-      pegs = subst (All (λ (b : NotedBatch). b.peg < log.reserved_to)) (sym c.room_for_batch.ensures.items) log.pegs;
-      by_place = subst (λ (l : List NotedBatch). AreByPlace 0 (map batch_of l)) (sym c.room_for_batch.ensures.items) log.by_place;
-      room = (let many = ap length c.room_for_batch.ensures.items in let grows = c.room_for_batch.ensures.grows in let old = log.room in omega (arith, many, grows, old));
-      counted = (let same = ap open_manifests (same_line log n s is.0 is.1 new made.bytes made.from made.reserved made.gone made.filled made.sealed) in let old = log.counted in omega (arith, same, old));
+      pegs = subst (All (λ (b : NotedBatch). b.peg < log.reserved_to)) (sym c.make_room_for.ensures.items) log.pegs;
+      counted = (let same = ap open_manifests (same_line log n s is.0 is.1 new made.bytes made.from made.reserved made.gone made.filled made.sealed) in let old = log.counted in let many = c.make_room_for.ensures.manifests in omega (arith, same, old, many));
       indexed = still_ready (same_line log n s is.0 is.1 new made.bytes made.from made.reserved made.gone made.filled made.sealed) log.ready log.ready refl refl log.indexed;
     }
 

@@ -8,7 +8,6 @@ use Rattle.sled_core.specs.declared.logger.Log.{Log}
 use Rattle.sled_core.specs.declared.logger.batches.NotedBatch.{NotedBatch}
 use Rattle.sled_core.specs.declared.logger.segments.SegmentBuffer.{SegmentBuffer}
 use Rattle.sled_core.specs.Fits.{line_of}
-use Rattle.sled_core.specs.OpenBatches.{AreByPlace, batch_of}
 use Rattle.sled_core.specs.OpenPlaces.{open_manifests}
 use Rattle.sled_core.specs.Turned.{CanClose}
 use Rattle.sled_core.proofs.Line.Filling.{follow_in, follow_with, line_kept, read_last}
@@ -43,10 +42,8 @@ invariant_of-self-then-n-eq0 g c =
       follow = first_follow log c.reserve.new.self.items same c.room_to_close.new.self c.room_to_close.ensures.same;
       filled = first_filled log c.reserve.new.self.items same c.room_to_close.new.self c.room_to_close.ensures.same;
       account = log.account;
-      pegs = subst (All (λ (b : NotedBatch). b.peg < log.reserved_to)) (sym c.room_for_batch.ensures.items) log.pegs;
-      by_place = subst (λ (l : List NotedBatch). AreByPlace 0 (map batch_of l)) (sym c.room_for_batch.ensures.items) log.by_place;
-      room = (let many = ap length c.room_for_batch.ensures.items in let grows = c.room_for_batch.ensures.grows in let old = log.room in omega (arith, many, grows, old));
-      counted = (let all = ap open_manifests (first_line log c.reserve.new.self.items same c.room_to_close.new.self c.room_to_close.ensures.same) in let old = log.counted in omega (arith, all, old));
+      pegs = subst (All (λ (b : NotedBatch). b.peg < log.reserved_to)) (sym c.make_room_for.ensures.items) log.pegs;
+      counted = (let all = ap open_manifests (first_line log c.reserve.new.self.items same c.room_to_close.new.self c.room_to_close.ensures.same) in let old = log.counted in let many = c.make_room_for.ensures.manifests in omega (arith, all, old, many));
       indexed = still_ready (first_line log c.reserve.new.self.items same c.room_to_close.new.self c.room_to_close.ensures.same) log.ready c.make_room.new.self c.in_ok-make_room.ensures.places c.in_ok-make_room.ensures.held log.indexed;
     }
 
@@ -106,10 +103,8 @@ invariant_of-self-2 g c =
       follow = same_follow log ss same n s is.0 is.1 c.room_to_close-2.new.self c.room_to_close-2.ensures.same;
       filled = same_filled log ss same n s is.0 is.1 c.room_to_close-2.new.self c.room_to_close-2.ensures.same;
       account = log.account;
-      pegs = subst (All (λ (b : NotedBatch). b.peg < log.reserved_to)) (sym c.room_for_batch.ensures.items) log.pegs;
-      by_place = subst (λ (l : List NotedBatch). AreByPlace 0 (map batch_of l)) (sym c.room_for_batch.ensures.items) log.by_place;
-      room = (let many = ap length c.room_for_batch.ensures.items in let grows = c.room_for_batch.ensures.grows in let old = log.room in omega (arith, many, grows, old));
-      counted = (let all = ap open_manifests (same_line log ss same n s is.0 is.1 c.room_to_close-2.new.self c.room_to_close-2.ensures.same) in let old = log.counted in omega (arith, all, old));
+      pegs = subst (All (λ (b : NotedBatch). b.peg < log.reserved_to)) (sym c.make_room_for.ensures.items) log.pegs;
+      counted = (let all = ap open_manifests (same_line log ss same n s is.0 is.1 c.room_to_close-2.new.self c.room_to_close-2.ensures.same) in let old = log.counted in let many = c.make_room_for.ensures.manifests in omega (arith, all, old, many));
       indexed = still_ready (same_line log ss same n s is.0 is.1 c.room_to_close-2.new.self c.room_to_close-2.ensures.same) log.ready c.make_room.new.self c.in_ok-make_room.ensures.places c.in_ok-make_room.ensures.held log.indexed;
     }
 

@@ -45,10 +45,10 @@ module _ {D C : Type 0} (log : Log D C) (room : is_short (segment_size_of log) (
 
 -- They have as many open manifests.
 module _ {D C : Type 0} (log : Log D C) where
-  sealed_counted : (line : List SegmentView) → line ≡ at_last sealed_now (line_of log) → open_manifests line ≡ log.manifests
+  sealed_counted : (line : List SegmentView) → line ≡ at_last sealed_now (line_of log) → open_manifests line ≡ log.batches.manifests
   sealed_counted line is = let same = ap open_manifests is ∙ manifests_sealed (line_of log) in let old = log.counted in omega (arith, same, old)
 
-  still_counted : (line : List SegmentView) → line ≡ line_of log → open_manifests line ≡ log.manifests
+  still_counted : (line : List SegmentView) → line ≡ line_of log → open_manifests line ≡ log.batches.manifests
   still_counted line is = let same = ap open_manifests is in let old = log.counted in omega (arith, same, old)
 
 -- There was no memory for its place.
@@ -64,8 +64,6 @@ invariant_of-self g c =
       filled = log.filled;
       account = log.account;
       pegs = log.pegs;
-      by_place = log.by_place;
-      room = log.room;
       counted = log.counted;
       indexed = still_ready refl log.ready c.make_room.new.self c.make_room.ensures.places c.make_room.ensures.held log.indexed;
     }
@@ -89,8 +87,6 @@ invariant_of-self-then-n-eq0 g c =
       filled = sealed_filled log c.requires.room line is;
       account = log.account;
       pegs = log.pegs;
-      by_place = log.by_place;
-      room = log.room;
       counted = sealed_counted log line is;
       indexed = subst (λ (l : List SegmentView). AreReady l c.note_sealed.new.self) (sym is)
           (seals_ready log sealed_now (seals_now (current_of log)) log.site new (view ∙ ap sealed_now (sym (last_none (view_at log.site log.buffer) log.behind.items none))) c.make_room.new.self c.note_sealed.new.self
@@ -159,8 +155,6 @@ invariant_of-self-2 g c =
       filled = sealed_filled log c.requires.room line same;
       account = log.account;
       pegs = log.pegs;
-      by_place = log.by_place;
-      room = log.room;
       counted = sealed_counted log line same;
       indexed = subst (λ (l : List SegmentView). AreReady l c.note_sealed-2.new.self) (sym same)
           (seals_ready log sealed_now (seals_now (current_of log)) s.site new (sealed_view s.site s.buffer new made.sealed made.bytes made.from made.reserved made.gone made.filled ∙ ap sealed_now (sym (is_current log n s is.0 is.1))) c.make_room.new.self c.note_sealed-2.new.self
@@ -190,8 +184,6 @@ invariant_of-self-in-Break-branch-3 g c =
       filled = still_filled log c.requires.room line same;
       account = log.account;
       pegs = log.pegs;
-      by_place = log.by_place;
-      room = log.room;
       counted = still_counted log line same;
       indexed = still_ready same log.ready c.make_room.new.self c.make_room.ensures.places c.make_room.ensures.held log.indexed;
     }

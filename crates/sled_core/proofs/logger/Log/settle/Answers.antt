@@ -192,7 +192,7 @@ returns-clause-answers g c =
     let mid = c.if-place-current_begin.self in
     let old = c.args.self.now in
     let at : ℕ = c.args.place in
-    answers_used c.write_around.result _ _ (IsUsedUpAt old (pos at)) new.fault _ _ _ (held_at_same g.D.Device.trace g.C.Checksum.sum_of at old mid first) (ap g.D.Device.faults first.device) first.unused c.write_around.ensures.answers
+    answers_used c.write_around.result _ _ (IsUsedUpAt old (pos at)) new.fault.kept _ _ _ (held_at_same g.D.Device.trace g.C.Checksum.sum_of at old mid first) (ap g.D.Device.faults first.device) first.unused c.write_around.ensures.answers
 
 pub returns-clause-seals : goal.returns-clause-seals
 returns-clause-seals g c =

@@ -28,7 +28,7 @@ use Rattle.sled_core.specs.Fits.{CloseBelow, FitsBatches, Holds, HoldsIn, HoldsL
 use Rattle.sled_core.specs.FirstBuffer.{IsFirstBuffer}
 use Rattle.sled_core.specs.FreeSlots.{HasSlots, begun_machine}
 use Rattle.sled_core.specs.Logged.{logged}
-use Rattle.sled_core.specs.OpenBatches.{AreByPlace, batch_of, not_whole, stable_below}
+use Rattle.sled_core.specs.OpenBatches.{batch_of, not_whole, stable_below}
 use Rattle.sled_core.specs.ReadyBuffers.{held_buffers, held_in, ready_in, ready_places}
 use Rattle.sled_core.specs.OpenPlaces.{open_manifests, open_manifests_in}
 use Rattle.sled_core.specs.OwnLog.{HasPlacedFile, ReadsPlaced}
@@ -122,13 +122,12 @@ invariant_of-result g c =
             first_used g.C.Checksum.sum_of c.in-Ok.beginning.place c.in-Ok.beginning.offset c.in-Ok.buffer first,
           ));
       account = subst (λ n. IsAccountant n c.in-Ok.accountant) (sym same) c.in-Ok.ensures.account;
-      pegs = subst (All (λ (b : NotedBatch). b.peg < c.in-Ok.beginning.place + c.in-Ok.beginning.offset)) (sym c.new-in-Ok.ensures.items) (All-nil (λ (b : NotedBatch). b.peg < c.in-Ok.beginning.place + c.in-Ok.beginning.offset));
-      by_place = subst (λ (l : List NotedBatch). AreByPlace 0 (map batch_of l)) (sym c.new-in-Ok.ensures.items) _;
-      room = (let none = ap length c.new-in-Ok.ensures.items in omega (arith, none));
+      pegs = subst (All (λ (b : NotedBatch). b.peg < c.in-Ok.beginning.place + c.in-Ok.beginning.offset)) (sym c.new-in-Ok.ensures.noted) (All-nil (λ (b : NotedBatch). b.peg < c.in-Ok.beginning.place + c.in-Ok.beginning.offset));
       counted = (
           let here : SegmentPosition = record { place = c.in-Ok.beginning.place; slot = c.in-Ok.beginning.slot } in
           let none : open_manifests (line_at here c.in-Ok.buffer c.no_segments.result.items) ≡ 0 = ap (λ (ss : List SegmentBuffer). open_manifests (line_at here c.in-Ok.buffer ss)) c.no_segments.ensures ∙ ap (λ (rs : List Reserved). open_manifests_in rs + 0) c.in-Ok.ensures.buffer.reserved in
-          omega (arith, none));
+          let zero = c.new-in-Ok.ensures.manifests in
+          omega (arith, none, zero));
       indexed = (
           let here : SegmentPosition = record { place = c.in-Ok.beginning.place; slot = c.in-Ok.beginning.slot } in
           let nothing : ready_places (line_at here c.in-Ok.buffer c.no_segments.result.items) ≡ [] =
@@ -165,7 +164,7 @@ returns-in-Ok-clause-history g c = λ H ready.
           (subst (λ (n : ℕ). HoldsIn g.C.Checksum.sum_of (log_parts size (record { place = c.in-Ok.beginning.place; slot = c.in-Ok.beginning.slot }) now None c.in-Ok.buffer.bytes.items n c.in-Ok.buffer.sealed.items c.in-Ok.buffer.reserved.items) [] R) (sym first.from)
           (subst (λ (l : List Sealed). HoldsIn g.C.Checksum.sum_of (log_parts size (record { place = c.in-Ok.beginning.place; slot = c.in-Ok.beginning.slot }) now None c.in-Ok.buffer.bytes.items c.in-Ok.beginning.offset l c.in-Ok.buffer.reserved.items) [] R) (sym first.sealed)
           (subst (λ (r : List Reserved). HoldsIn g.C.Checksum.sum_of (log_parts size (record { place = c.in-Ok.beginning.place; slot = c.in-Ok.beginning.slot }) now None c.in-Ok.buffer.bytes.items c.in-Ok.beginning.offset [] r) [] R) (sym first.reserved) holds))));
-      batches = started_batches c.begin.new.config.config.segment_size (view_at (record { place = c.in-Ok.beginning.place; slot = c.in-Ok.beginning.slot }) c.in-Ok.buffer) (map segment_view c.no_segments.result.items) R c.new-in-Ok.ensures.items
+      batches = started_batches c.begin.new.config.config.segment_size (view_at (record { place = c.in-Ok.beginning.place; slot = c.in-Ok.beginning.slot }) c.in-Ok.buffer) (map segment_view c.no_segments.result.items) R c.new-in-Ok.ensures.noted
           (let low = offset_low c.args.config.config.segment_size (length (state_of (g.D.Device.trace c.args.config.device)).log.bytes) s c.in-Ok.beginning c.in-Ok.ensures.beginning some in let from = first.from in let same = ap (λ (x : Config). x.segment_size) c.begin.ensures.config in omega (arith, low, from, same))
           (subst (λ n. CloseBelow (c.in-Ok.beginning.place + n) R.batches) (sym first.from)
           (begins_closed g.C.Checksum.sum_of size old now s R c.in-Ok.buffer.bytes.items c.args.config.config.least of_log c.in-Ok.ensures.answers.0 log_now names_now c.in-Ok.beginning c.in-Ok.ensures.beginning first.header first.resumed));
@@ -200,7 +199,7 @@ returns-in-Ok-clause-fits g c = λ H A f ready.
           (start_fits g.C.Checksum.sum_of size (state_of old) now s H A f c.args.config.config.least ready c.in-Ok.ensures.answers.0
           log_now (ap (λ (t : Trace). (state_of t).blobs) c.in-Ok.ensures.made ∙ started-blobs size some (state_of old).log.bytes s old) (ap (λ (t : Trace). (state_of t).snapshots) c.in-Ok.ensures.made ∙ started-snapshots size some (state_of old).log.bytes s old)
           c.in-Ok.beginning c.in-Ok.ensures.beginning c.in-Ok.buffer.bytes.items c.in-Ok.buffer.written_len c.in-Ok.buffer.sealed.items c.in-Ok.buffer.reserved.items first.header first.resumed first.from first.sealed first.reserved));
-      batches = started_batches c.begin.new.config.config.segment_size (view_at (record { place = c.in-Ok.beginning.place; slot = c.in-Ok.beginning.slot }) c.in-Ok.buffer) (map segment_view c.no_segments.result.items) (logged H) c.new-in-Ok.ensures.items
+      batches = started_batches c.begin.new.config.config.segment_size (view_at (record { place = c.in-Ok.beginning.place; slot = c.in-Ok.beginning.slot }) c.in-Ok.buffer) (map segment_view c.no_segments.result.items) (logged H) c.new-in-Ok.ensures.noted
           (let low = offset_low c.args.config.config.segment_size (length (state_of (g.D.Device.trace c.args.config.device)).log.bytes) s c.in-Ok.beginning c.in-Ok.ensures.beginning some in let from = first.from in let same = ap (λ (x : Config). x.segment_size) c.begin.ensures.config in omega (arith, low, from, same))
           (subst (λ n. CloseBelow (c.in-Ok.beginning.place + n) (logged H).batches) (sym first.from)
           (begins_closed g.C.Checksum.sum_of size (state_of old) now s (logged H) c.in-Ok.buffer.bytes.items c.args.config.config.least ready.ready c.in-Ok.ensures.answers.0 log_now
@@ -256,8 +255,8 @@ returns-in-Ok-clause-begins g c =
       ended = subst (λ (ss : List SegmentBuffer). NoneOpenIn (line_at here c.in-Ok.buffer ss)) (sym c.no_segments.ensures) (none_open_one (view_at here c.in-Ok.buffer) (ap none_open first.reserved));
       unsealed = subst (λ (ss : List SegmentBuffer). unwritten (line_at here c.in-Ok.buffer ss) ≡ []) (sym c.no_segments.ensures)
           (ap (λ (bs : List Sealed). unwritten_in here c.in-Ok.buffer.bytes.items c.in-Ok.buffer.written_len bs c.in-Ok.buffer.reserved.items ++ []) first.sealed);
-      noted = ap (λ (bs : List NotedBatch). not_whole (c.in-Ok.beginning.place + c.in-Ok.buffer.written_len) (map batch_of bs)) c.new-in-Ok.ensures.items;
-      kept = ap (λ (bs : List NotedBatch). length bs) c.new-in-Ok.ensures.items;
+      noted = ap (λ (bs : List NotedBatch). not_whole (c.in-Ok.beginning.place + c.in-Ok.buffer.written_len) (map batch_of bs)) c.new-in-Ok.ensures.noted;
+      kept = ap (λ (bs : List NotedBatch). length bs) c.new-in-Ok.ensures.noted;
       pins = refl;
       fault = refl;
       sized = ap (λ (x : Config). x.segment_size) c.begin.ensures.config;
@@ -275,7 +274,7 @@ marked_at sum place offset slot b [] [] first none empty at =
 
 pub returns-in-Ok-clause-marked : goal.returns-in-Ok-clause-marked
 returns-in-Ok-clause-marked g c = record {
-  header = marked_at g.C.Checksum.sum_of c.in-Ok.beginning.place c.in-Ok.beginning.offset c.in-Ok.beginning.slot c.in-Ok.buffer c.no_segments.result.items c.new-in-Ok.result.items c.in-Ok.ensures.buffer c.no_segments.ensures c.new-in-Ok.ensures.items;
+  header = marked_at g.C.Checksum.sum_of c.in-Ok.beginning.place c.in-Ok.beginning.offset c.in-Ok.beginning.slot c.in-Ok.buffer c.no_segments.result.items c.new-in-Ok.result.noted.items c.in-Ok.ensures.buffer c.no_segments.ensures c.new-in-Ok.ensures.noted;
 }
 
 pub returns-in-Ok-clause-config : goal.returns-in-Ok-clause-config

@@ -46,15 +46,15 @@ use Rattle.sled_core.proofs.Pending.Logs.{written_ready}
 use Rattle.sled_core.proofs.logger.Log.write_buffer.Goals as goal
 
 -- The same batches are noted,
-noted_items : {D C : Type 0} (old mid : Log D C) → ChangesDevice old mid → mid.noted.items ≡ old.noted.items
-noted_items old mid rest = λ i. (rest.noted i).items
+noted_items : {D C : Type 0} (old mid : Log D C) → ChangesDevice old mid → mid.batches.noted.items ≡ old.batches.noted.items
+noted_items old mid rest = λ i. (rest.batches i).noted.items
 
 -- of which those are left that aren't wholly written.
-noted_left_is : {D C : Type 0} (old : Log D C) (n k : ℕ) (r : IsReadyIn (line_of old) n k) {items : List NotedBatch} {line : List SegmentView} → items ≡ old.noted.items → line ≡ line_left old n k r
+noted_left_is : {D C : Type 0} (old : Log D C) (n k : ℕ) (r : IsReadyIn (line_of old) n k) {items : List NotedBatch} {line : List SegmentView} → items ≡ old.batches.noted.items → line ≡ line_left old n k r
     → not_whole (written_to line) (map batch_of items) ≡ noted_left old n k r
 noted_left_is old n k r same line =
     let up = end_grows old n k r in
-    (λ i. not_whole (written_to (line i)) (map batch_of (same i))) ∙ sym (not_whole_further (written_to (line_of old)) (written_to (line_left old n k r)) up (map batch_of old.noted.items))
+    (λ i. not_whole (written_to (line i)) (map batch_of (same i))) ∙ sym (not_whole_further (written_to (line_of old)) (written_to (line_left old n k r)) up (map batch_of old.batches.noted.items))
 
 -- A write that was refused changed nothing on the device, unless that failed.
 unless_fault : (T : Type 0) (e : Error) (fault : Option IoError) (before after : ℕ) (old new : Trace) → Answers {T = T} (Err e) None fault before after → (fault ≡ None → new ≡ old) → UnlessFault {T = T} (Err e) old new
@@ -69,7 +69,7 @@ returns-in_err-write_bytes-clause-refused g c =
     let mid = c.write_bytes.new.self in
     let did = c.in_err-write_bytes.ensures in
     let e = err_from_is_err_and c.from_residual.result c.from_residual.ensures.1 in
-    rw (e.1, e.2) (unless_fault (Unit {0}) c.in_err-write_bytes.field-0.0 mid.fault (g.D.Device.faults old.config.device) (g.D.Device.faults mid.config.device) (g.D.Device.trace old.config.device) (g.D.Device.trace mid.config.device) did.answers did.refused)
+    rw (e.1, e.2) (unless_fault (Unit {0}) c.in_err-write_bytes.field-0.0 mid.fault.kept (g.D.Device.faults old.config.device) (g.D.Device.faults mid.config.device) (g.D.Device.trace old.config.device) (g.D.Device.trace mid.config.device) did.answers did.refused)
 
 pub returns-in_err-write_bytes-clause-unwritten : goal.returns-in_err-write_bytes-clause-unwritten
 returns-in_err-write_bytes-clause-unwritten g c =
@@ -99,9 +99,9 @@ returns-in_err-write_bytes-clause-keeps g c =
         items = λ none. items_same g.D.Device.trace g.C.Checksum.sum_of old _ (names old c.args.n c.args.k r g.D.Device.trace g.C.Checksum.sum_of c.requires.fault (g.D.Device.trace mid.config.device) did.at_most).0;
       };
       history = λ H holds. holds_with_same g.C.Checksum.sum_of _ _ _ _ _ _ _ _ _ _ (logged H) kept_noted sizes (same_line old mid rest) slots
-          (holds_failed old c.args.n c.args.k r g.D.Device.trace g.C.Checksum.sum_of c.requires.fault (g.D.Device.trace mid.config.device) did.at_most mid.fault did.refused H holds);
+          (holds_failed old c.args.n c.args.k r g.D.Device.trace g.C.Checksum.sum_of c.requires.fault (g.D.Device.trace mid.config.device) did.at_most mid.fault.kept did.refused H holds);
       fits = λ H A f U fits. fits_with_same g.C.Checksum.sum_of _ _ _ _ _ _ _ _ _ _ _ _ H A f U kept_noted sizes (same_line old mid rest) slots rest.pins
-          (fits_failed old c.args.n c.args.k r g.D.Device.trace g.C.Checksum.sum_of c.requires.fault (g.D.Device.trace mid.config.device) did.at_most mid.fault did.refused H A f U fits);
+          (fits_failed old c.args.n c.args.k r g.D.Device.trace g.C.Checksum.sum_of c.requires.fault (g.D.Device.trace mid.config.device) did.at_most mid.fault.kept did.refused H A f U fits);
       noted = noted_later old mid items (let same = ap written_to (same_line old mid rest) in omega (arith, same));
       kept = kept_same old mid items;
     }
@@ -113,10 +113,10 @@ kept : {D C : Type 0} (old mid : Log D C) (n k : ℕ) (r : IsReadyIn (line_of ol
     → (site : SegmentPosition) (its : IoBuf) → slice_get (line_of mid) n ≡ Some (view_at site its) → (ready : ReadyBuffers)
     → ((x : Sealed) (before behind : List ℕ) (others : ℕ) → slice_get its.sealed.items k ≡ Some x → is_ready x ≡ true → HasOwn mid.ready site.place its.written_len its.sealed.items before behind others
     → HasOwn ready site.place its.written_len (written_at k its.sealed.items) before behind others)
-    → (now : IsReadyIn (line_of mid) n k) × KeepsInvariants mid n k now site' b' ss' × (open_manifests (line_at site' b' ss') ≡ mid.manifests) × AreReady (line_at site' b' ss') ready
+    → (now : IsReadyIn (line_of mid) n k) × KeepsInvariants mid n k now site' b' ss' × (open_manifests (line_at site' b' ss') ≡ mid.batches.manifests) × AreReady (line_at site' b' ss') ready
 kept old mid n k r rest b ss marked site' b' ss' is site its there ready noted =
     let now : IsReadyIn (line_of mid) n k = subst (λ (l : List SegmentView). IsReadyIn l n k) (sym (same_line old mid rest)) r in
-    let still : ChangesDevice mid mid = record { config = refl; checksum = refl; site = refl; buffer = refl; behind = refl; reserved = refl; pins = refl; accountant = refl; noted = refl; manifests = refl } in
+    let still : ChangesDevice mid mid = record { config = refl; checksum = refl; site = refl; buffer = refl; behind = refl; reserved = refl; pins = refl; accountant = refl; batches = refl } in
     let line = line_after mid mid n k now.segment still now.among b ss marked (line_at site' b' ss') is in
     let same = ap open_manifests line in
     let left = manifests_promoted mid.config.config.segment_size mid.site.place (set (line_of mid) n (written_now k now.segment)) mid.config.config.least (segments_written mid n k now) in
@@ -152,7 +152,7 @@ invariant_of-self g c =
     let found = kept c.args.self.now mid c.args.n c.args.k c.requires.ready c.in_ok-write_bytes.ensures.rest c.mark_nth.new.buffer c.mark_nth.new.behind.items c.mark_nth.ensures c.promote.new.site c.promote.new.buffer c.promote.new.behind.items c.promote.ensures
     c.nth.result.0 c.nth.result.1.now c.nth.ensures c.note_written.new.self c.note_written.ensures in
     let is = found.1 in
-    record { in_segment = is.short; place_in_reach = is.place_small; slot_in_reach = is.slot_small; waits = is.waits; follow = is.follow; filled = is.filled; account = mid.account; pegs = mid.pegs; by_place = mid.by_place; room = mid.room; counted = found.2; indexed = found.3 }
+    record { in_segment = is.short; place_in_reach = is.place_small; slot_in_reach = is.slot_small; waits = is.waits; follow = is.follow; filled = is.filled; account = mid.account; pegs = mid.pegs; counted = found.2; indexed = found.3 }
 
 pub returns-clause-line : goal.returns-clause-line
 returns-clause-line g c = λ v among.
@@ -180,9 +180,9 @@ returns-clause-keeps g c =
         items = λ none. items_same g.D.Device.trace g.C.Checksum.sum_of old _ (names old c.args.n c.args.k r g.D.Device.trace g.C.Checksum.sum_of c.requires.fault (g.D.Device.trace mid.config.device) did.at_most).0;
       };
       history = λ H holds. holds_with_same g.C.Checksum.sum_of _ _ _ _ _ _ _ _ _ _ (logged H) (noted_left_is old c.args.n c.args.k r (noted_items old mid rest) line) sizes line slots
-          (holds_done old c.args.n c.args.k r g.D.Device.trace g.C.Checksum.sum_of c.requires.fault (g.D.Device.trace mid.config.device) did.calls mid.fault did.answers.1 H holds);
+          (holds_done old c.args.n c.args.k r g.D.Device.trace g.C.Checksum.sum_of c.requires.fault (g.D.Device.trace mid.config.device) did.calls mid.fault.kept did.answers.1 H holds);
       fits = λ H A f U fits. fits_with_same g.C.Checksum.sum_of _ _ _ _ _ _ _ _ _ _ _ _ H A f U (noted_left_is old c.args.n c.args.k r (noted_items old mid rest) line) sizes line slots rest.pins
-          (fits_done old c.args.n c.args.k r g.D.Device.trace g.C.Checksum.sum_of c.requires.fault (g.D.Device.trace mid.config.device) did.calls mid.fault did.answers.1 H A f U fits);
+          (fits_done old c.args.n c.args.k r g.D.Device.trace g.C.Checksum.sum_of c.requires.fault (g.D.Device.trace mid.config.device) did.calls mid.fault.kept did.answers.1 H A f U fits);
       noted = noted_left_is old c.args.n c.args.k r (noted_items old mid rest) line ∙ ap (λ e. not_whole e (noted_in old)) (sym (ap written_to line));
       kept = kept_same old mid (noted_items old mid rest);
     }

@@ -40,8 +40,6 @@ invariant_of-self g c =
       filled = log.filled;
       account = log.account;
       pegs = log.pegs;
-      by_place = log.by_place;
-      room = log.room;
       counted = log.counted;
       indexed = log.indexed;
     }
@@ -58,8 +56,6 @@ invariant_of-self-in_default g c =
       filled = log.filled;
       account = log.account;
       pegs = log.pegs;
-      by_place = log.by_place;
-      room = log.room;
       counted = log.counted;
       indexed = log.indexed;
     }

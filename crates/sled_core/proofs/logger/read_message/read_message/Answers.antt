@@ -25,7 +25,7 @@ returns-in-Ok-DanglingBlob-clause-unreadable g c = λ corrupt.
       kind = reading.2;
       place = place;
       names = reading.3;
-      damaged = subst (λ (t : Trace). IsDamagedFor g.C.Checksum.sum_of header.kind ((state_of t).blobs.file place)) c.read_record.ensures.trace
+      damaged = subst (λ (t : Trace). IsDamagedFor g.C.Checksum.sum_of header.kind ((state_of t).blobs.file place)) c.read_record.ensures.reads.unwritten
           (subst (λ p. IsDamagedFor g.C.Checksum.sum_of header.kind ((state_of (g.D.Device.trace c.read_record.new.config.device)).blobs.file p)) same (c.with_item.ensures.damaged corrupt));
     })
 
@@ -63,9 +63,9 @@ returns-in-Ok-DanglingBlob-clause-named g c =
     let with = subst (λ p. IsCorruption c.with_item.result → IsDamagedFor sum header.kind ((state_of (g.D.Device.trace c.read_record.new.config.device)).blobs.file p)) same c.with_item.ensures.damaged in
     let named = subst (λ p. OnDamage c.with_item.result (NamesBlobAt sum (state_of (g.D.Device.trace c.read_record.new.config.device)).blobs.file p)) same c.with_item.ensures.named in
     let damaged : IsCorruption c.with_item.result → IsDamagedFor sum header.kind (blobs place) =
-    subst (λ (t : Trace). IsCorruption c.with_item.result → IsDamagedFor sum header.kind ((state_of t).blobs.file place)) c.read_record.ensures.trace with in
+    subst (λ (t : Trace). IsCorruption c.with_item.result → IsDamagedFor sum header.kind ((state_of t).blobs.file place)) c.read_record.ensures.reads.unwritten with in
     let here : OnDamage c.with_item.result (NamesBlobAt sum blobs place) =
-    subst (λ (t : Trace). OnDamage c.with_item.result (NamesBlobAt sum (state_of t).blobs.file place)) c.read_record.ensures.trace named in
+    subst (λ (t : Trace). OnDamage c.with_item.result (NamesBlobAt sum (state_of t).blobs.file place)) c.read_record.ensures.reads.unwritten named in
     damaged_as c.with_item.result damaged (λ bad at is. inr (
       record {
         header = header;

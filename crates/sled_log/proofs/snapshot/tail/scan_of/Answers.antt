@@ -11,7 +11,7 @@ returns-in-Ok-clause-scan g c =
     let cfg : Config = c.args.config.now.config in
     let log : List ℕ = (state_of (g.D.Device.trace c.args.config.now.device)).log.bytes in
     let s : Segment = c.args.segment.now in
-    let same = ap (λ (x : Config). x.segment_size) c.in-Ok.ensures.config in
+    let same = ap (λ (x : Config). x.segment_size) c.in-Ok.ensures.reads.config in
     if_ok c.scan.result _ _
     (λ x scan. scan_whole g.C.Checksum.sum_of cfg.segment_size s.slot log c.read_slot_into.new.buf _ same c.in-Ok.ensures.offset c.in-Ok.ensures.bytes c.requires.aligned c.requires.inside s.place x.met.items x.stop x.ending scan)
     c.scan.ensures.scan
@@ -21,5 +21,5 @@ returns-in-Ok-clause-damaged g c = λ corrupt.
     let cfg : Config = c.args.config.now.config in
     let log : List ℕ = (state_of (g.D.Device.trace c.args.config.now.device)).log.bytes in
     let s : Segment = c.args.segment.now in
-    let same = ap (λ (x : Config). x.segment_size) c.in-Ok.ensures.config in
+    let same = ap (λ (x : Config). x.segment_size) c.in-Ok.ensures.reads.config in
     damaged_whole g.C.Checksum.sum_of cfg.segment_size s.slot log c.read_slot_into.new.buf _ same c.in-Ok.ensures.offset c.in-Ok.ensures.bytes c.requires.aligned c.requires.inside s.place (c.scan.ensures.damaged corrupt)

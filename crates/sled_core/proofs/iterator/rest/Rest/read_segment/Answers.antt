@@ -50,7 +50,7 @@ returns-in-Ok-scan_into-clause-fits g c =
     let cfg : Config = c.args.config.now.config in
     let s : Segment = c.index.result.now in
     let ends : HasEnds cfg.segment_size s = subst (HasEnds cfg.segment_size) (sym c.index.ensures) (c.requires.fits.1 r.read s c.requires.more) in
-    let places = subst (λ (x : Config). All (λ (m : ScannedRecord). m.place < s.place + x.segment_size) c.scan_into.new.scan.met.items) c.in-Ok.ensures.config c.scan_into.ensures.places in
+    let places = subst (λ (x : Config). All (λ (m : ScannedRecord). m.place < s.place + x.segment_size) c.scan_into.new.scan.met.items) c.in-Ok.ensures.reads.config c.scan_into.ensures.places in
     let kinds = path_kinds g.C.Checksum.sum_of c.read_slot.new.config.config.segment_size (file_of c.in-Ok.buf) s.slot s.place 20 c.scan_into.new.scan.met.items c.scan_into.new.scan.stop c.in-Ok-scan_into.ensures.passed.0 in
     let q : Rest = record r { read = read_behind (record r { read = r.read + 1 }) c.scan_into.new.scan.ending; met = c.scan_into.new.scan.met; given = 0 } in
     subst (CanGoOn cfg.segment_size) (sym c.keep.ensures.kept) (c.requires.fits.0, c.requires.fits.1, met_given cfg.segment_size s c.scan_into.new.scan.met.items ends.2 places kinds)
@@ -69,7 +69,7 @@ returns-in-Ok-scan_into-clause-ahead g c = λ items damage left.
     let inside = begins_inside g.C.Checksum.sum_of cfg.segment_size (omega (arith, least)) log s bytes c.in-Ok.ensures.bytes r.strict found
     (next_inside g.D.Device.trace g.C.Checksum.sum_of c.args.config.now r s c.requires.more c.index.ensures c.requires.done items damage left) in
     let there = none_missing g.C.Checksum.sum_of cfg.segment_size (omega (arith, least)) log s bytes c.in-Ok.ensures.bytes r.strict found in
-    let same = ap (λ (x : Config). x.segment_size) c.in-Ok.ensures.config in
+    let same = ap (λ (x : Config). x.segment_size) c.in-Ok.ensures.reads.config in
     let whole = replayed_whole g.C.Checksum.sum_of cfg.segment_size s log c.in-Ok.buf _ same c.in-Ok.ensures.offset c.in-Ok.ensures.bytes (read_there cfg.segment_size log s ends inside) r.end
     c.scan_into.new.scan.met.items c.scan_into.new.scan.stop c.scan_into.new.scan.ending c.in-Ok-scan_into.ensures.passed in
     subst (λ (x : Rest). IsLeft g.D.Device.trace g.C.Checksum.sum_of c.args.config.now x items damage) (sym c.keep.ensures.kept)
@@ -90,7 +90,7 @@ returns-in-Err-Corruption-clause-ahead g c = λ items damage left.
     let inside = begins_inside g.C.Checksum.sum_of cfg.segment_size (omega (arith, least)) log s bytes c.in-Ok.ensures.bytes r.strict found
     (next_inside g.D.Device.trace g.C.Checksum.sum_of c.args.config.now r s c.requires.more c.index.ensures c.requires.done items damage left) in
     let there = none_missing g.C.Checksum.sum_of cfg.segment_size (omega (arith, least)) log s bytes c.in-Ok.ensures.bytes r.strict found in
-    let same = ap (λ (x : Config). x.segment_size) c.in-Ok.ensures.config in
+    let same = ap (λ (x : Config). x.segment_size) c.in-Ok.ensures.reads.config in
     let bad = damaged_behind_whole g.C.Checksum.sum_of cfg.segment_size s log c.in-Ok.buf _ same c.in-Ok.ensures.offset c.in-Ok.ensures.bytes (read_there cfg.segment_size log s ends inside) r.end scan (c.in-Err-Corruption.ensures.damaged (rw c.in-Err-Corruption.field-0-is tt)) in
     subst (λ (x : Rest). IsLeft g.D.Device.trace g.C.Checksum.sum_of c.args.config.now x items damage) (sym c.keep_damaged.ensures.kept)
     (segment_damaged g.D.Device.trace g.C.Checksum.sum_of c.args.config.now r s c.requires.more c.index.ensures c.requires.done items damage left there bad.0 q refl refl refl (sym bad.1) refl refl (ap (λ n. nat_lt (s.place + n) r.end) (sym bad.2)))
@@ -102,7 +102,7 @@ returns-in-Err-Corruption-clause-fits g c =
     let s : Segment = c.index.result.now in
     let scan = c.scan_into.new.scan in
     let ends : HasEnds cfg.segment_size s = subst (HasEnds cfg.segment_size) (sym c.index.ensures) (c.requires.fits.1 r.read s c.requires.more) in
-    let places = subst (λ (x : Config). All (λ (m : ScannedRecord). m.place < s.place + x.segment_size) scan.met.items) c.in-Ok.ensures.config c.scan_into.ensures.places in
+    let places = subst (λ (x : Config). All (λ (m : ScannedRecord). m.place < s.place + x.segment_size) scan.met.items) c.in-Ok.ensures.reads.config c.scan_into.ensures.places in
     let bad = c.in-Err-Corruption.ensures.damaged (rw c.in-Err-Corruption.field-0-is tt) in
     let kinds = subst (λ (ms : List ScannedRecord). All (λ (m : ScannedRecord). NamesKind m.what) ms) bad.1
     (path_kinds g.C.Checksum.sum_of c.read_slot.new.config.config.segment_size (file_of c.in-Ok.buf) s.slot s.place 20 bad.0.met bad.0.next bad.0.path) in
@@ -113,7 +113,7 @@ overflow_add-place g c =
     let cfg : Config = c.args.config.now.config in
     let s : Segment = c.index.result.now in
     let ends : HasEnds cfg.segment_size s = subst (HasEnds cfg.segment_size) (sym c.index.ensures) (c.requires.fits.1 c.args.self.now.read s c.requires.more) in
-    let stop : c.scan_into.new.scan.stop ≤ cfg.segment_size = subst (λ (x : Config). c.scan_into.new.scan.stop ≤ x.segment_size) c.in-Ok.ensures.config c.scan_into.ensures.stop in
+    let stop : c.scan_into.new.scan.stop ≤ cfg.segment_size = subst (λ (x : Config). c.scan_into.new.scan.stop ≤ x.segment_size) c.in-Ok.ensures.reads.config c.scan_into.ensures.stop in
     let below = ends.2 in
     omega (arith, below, stop)
 

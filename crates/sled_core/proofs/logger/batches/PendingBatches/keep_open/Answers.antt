@@ -9,7 +9,7 @@ use Rattle.sled_codec.specs.History.{Batch}
 use Rattle.sled_core.specs.declared.logger.batches.NotedBatch.{NotedBatch}
 use Rattle.sled_core.specs.OpenBatches.{AreByPlace, batch_of, not_whole}
 use Rattle.sled_core.proofs.Reached.ByPlace.{left_by_place}
-use Rattle.sled_core.proofs.logger.batches.keep_open.Goals as goal
+use Rattle.sled_core.proofs.logger.batches.PendingBatches.keep_open.Goals as goal
 
 -- A batch is kept whose peg isn't below the end of what is on the device.
 abbrev stays : ℕ → NotedBatch → Bool
@@ -25,15 +25,19 @@ left_open end (b ∷ xs) = by (left_open end xs) (nat_lt b.peg end) refl where
 
 pub returns-clause-items : goal.returns-clause-items
 returns-clause-items c =
-    let kept : c.retain.new.self.items ≡ filter (stays c.args.end) c.args.noted.now.items = filter_same _ _ _ (λ x b f' k. search rules) _ _ c.retain.ensures.filtered in
-    ap (map batch_of) kept ∙ left_open c.args.end c.args.noted.now.items
+    let kept : c.retain.new.self.items ≡ filter (stays c.args.end) c.args.self.now.noted.items = filter_same _ _ _ (λ x b f' k. search rules) _ _ c.retain.ensures.filtered in
+    ap (map batch_of) kept ∙ left_open c.args.end c.args.self.now.noted.items
 
-pub returns-clause-by_place : goal.returns-clause-by_place
-returns-clause-by_place c are =
-    let kept : c.retain.new.self.items ≡ filter (stays c.args.end) c.args.noted.now.items = filter_same _ _ _ (λ x b f' k. search rules) _ _ c.retain.ensures.filtered in
-    subst (AreByPlace 0) (sym (ap (map batch_of) kept ∙ left_open c.args.end c.args.noted.now.items)) (left_by_place c.args.end 0 (map batch_of c.args.noted.now.items) are)
+pub invariant_of-self : goal.invariant_of-self
+invariant_of-self c =
+    let old = c.args.self.now in
+    let kept : c.retain.new.self.items ≡ filter (stays c.args.end) old.noted.items = filter_same _ _ _ (λ x b f' k. search rules) _ _ c.retain.ensures.filtered in
+    record {
+      by_place = subst (AreByPlace 0) (sym (ap (map batch_of) kept ∙ left_open c.args.end old.noted.items)) (left_by_place c.args.end 0 (map batch_of old.noted.items) old.by_place);
+      room = (let fewer = c.retain.ensures.bound in let same = c.retain.ensures.capacity in let room = old.room in search (rules, fewer, same, room));
+    }
 
 pub returns-clause-pegs : goal.returns-clause-pegs
 returns-clause-pegs c to all =
-    let kept : c.retain.new.self.items ≡ filter (stays c.args.end) c.args.noted.now.items = filter_same _ _ _ (λ x b f' k. search rules) _ _ c.retain.ensures.filtered in
-    All-same (λ (b : NotedBatch). b.peg < to) c.retain.new.self.items (filter (stays c.args.end) c.args.noted.now.items) kept (All-filter (stays c.args.end) (λ (b : NotedBatch). b.peg < to) c.args.noted.now.items all)
+    let kept : c.retain.new.self.items ≡ filter (stays c.args.end) c.args.self.now.noted.items = filter_same _ _ _ (λ x b f' k. search rules) _ _ c.retain.ensures.filtered in
+    All-same (λ (b : NotedBatch). b.peg < to) c.retain.new.self.items (filter (stays c.args.end) c.args.self.now.noted.items) kept (All-filter (stays c.args.end) (λ (b : NotedBatch). b.peg < to) c.args.self.now.noted.items all)
