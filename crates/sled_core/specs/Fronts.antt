@@ -1,10 +1,13 @@
 -- How far a call came that seals and writes buffers, and fails: as many buffers are gone as it synced.
-use Rattle.std.specs.Prelude.{◌≡◌, ◌⊎◌, ◌+◌, ◌*◌, ◌<◌, ℕ, suc, pos, List, [], ◌∷◌, take, drop, None}
+use Rattle.std.specs.Prelude.{◌≡◌, ◌⊎◌, ◌+◌, ◌*◌, ◌<◌, ℕ, suc, pos, List, [], ◌∷◌, take, drop, None, Result, Err}
+use Rattle.sled_codec.specs.declared.result.Error.{Error}
+use Rattle.sled_codec.specs.declared.result.Error.TheVariants.{Io}
 use Rattle.sled_store.specs.Device.{Event, Trace, Synced}
 use Rattle.sled_store.specs.Script.{after_all}
 use Rattle.sled_core.specs.declared.logger.Log.{Log}
-use Rattle.sled_core.specs.Fits.{device_of, fault_of, start_of, synced_end, waiting_of, writing_below}
+use Rattle.sled_core.specs.Fits.{current_begin, device_of, fault_of, flushing, reserved_end, start_of, synced_end, waiting_of, writing_below}
 use Rattle.sled_core.specs.Keeps.{sealed_for, start_for}
+use Rattle.sled_core.specs.Stable.{first_begin}
 use Rattle.sled_core.specs.ReadBuffer.{LeavesSealed, LeavesUnsealed, LeavesWritten, held_at, settling}
 
 -- how many times the log file was synced
@@ -32,15 +35,16 @@ pub record WroteFront {D C : Type 0} (trace : D → Trace) (sum : List ℕ → �
   -- not all is written that begins below the place
   pub short : synced_end new < to
 
--- Nothing was done.
-pub record SealedNone {D C : Type 0} (trace : D → Trace) (old new : Log D C) : Type 0 where
+-- Nothing was done, though the current buffer was to be sealed, or the log keeps a failure.
+pub record SealedNone {D C : Type 0} (trace : D → Trace) (to : ℕ) (old new : Log D C) : Type 0 where
   pub waiting : waiting_of new ≡ waiting_of old
   pub start : start_of new ≡ start_of old
   pub still : trace (device_of new) ≡ trace (device_of old)
+  pub due : fault_of old ≡ None → current_begin old < to
 
 -- How far a call came that writes up to a place.
 abbrev pub CameTo : {D C : Type 0} → (D → Trace) → (List ℕ → ℕ) → ℕ → Log D C → Log D C → Type 0
-CameTo trace sum to old new = SealedNone trace old new ⊎ WroteFront trace sum to old new
+CameTo trace sum to old new = SealedNone trace to old new ⊎ WroteFront trace sum to old new
 
 -- How far a read of a place came: the buffer that has it was not sealed; or sealed, and not written; or written too, whole, as nothing held it up.
 abbrev pub CameAround : {D C : Type 0} → (D → Trace) → (List ℕ → ℕ) → ℕ → Log D C → Log D C → Type 0
@@ -49,3 +53,21 @@ CameAround trace sum at old new =
     ⊎ (LeavesSealed sum at old new × WroteNone trace old new)
     ⊎ (LeavesWritten sum at old new × (trace (device_of new) ≡ after_all (settling sum old (pos at)) (trace (device_of old)))
     × (held_at sum old (pos at) ≡ None))
+
+-- the device did not fail
+abbrev pub UnlessIo : {T : Type 0} → Result T Error → Type 0 → Type 0
+UnlessIo (Err (Io e)) P = Unit {0}
+UnlessIo _ P = P
+
+-- A log was given up with this answer, and so many buffers at the front were written: what was reserved isn't all among them.
+pub record ClosedFront {T D C : Type 0} (trace : D → Trace) (sum : List ℕ → ℕ) (result : Result T Error) (log : Log D C) (after : Trace) : Type 0 where
+  pub count : ℕ
+  pub synced : syncs after ≡ count + syncs (trace (device_of log))
+  pub whole : UnlessIo result (WritesWhole count (flushing sum log) (trace (device_of log)) after)
+  pub short : first_begin (drop count (sealed_for sum (reserved_end log) log)) (start_for (reserved_end log) log) < reserved_end log
+
+-- How far the last flush of a log came that failed: nothing was asked of the device, though the current buffer was to be sealed, or the log keeps a failure; or
+-- not all was written.
+abbrev pub ClosedAt : {T D C : Type 0} → (D → Trace) → (List ℕ → ℕ) → Result T Error → Log D C → Trace → Type 0
+ClosedAt trace sum result log after =
+    ((after ≡ trace (device_of log)) × (fault_of log ≡ None → current_begin log < reserved_end log)) ⊎ ClosedFront trace sum result log after

@@ -145,7 +145,6 @@ pub(crate) struct IoBuf {
 
 impl IoBuf {
     ghost use Rattle.sled_core.specs.Turned.{EndsAs};
-
     ghost use Rattle.sled_core.specs.Buffers.{none_open};
 
     /// The bytes of a segment that has its header alone, with room for so many, and for a reservation.

@@ -3,7 +3,7 @@
 -- Each recovery that succeeds gives the table of the completed messages below one cut, with every batch whole or not at all. The cut passes all that was
 -- acknowledged, and isn't below that of the recovery before. A flush that succeeds acknowledges all that was completed, and a write up to a place what lies
 -- there or below it. What is completed is what was reserved, under the ticket that was answered; and nothing but a recovery forgets a completed message.
-use Rattle.std.specs.Prelude.{◌≡◌, ◌⊎◌, ◌+◌, ◌≤◌, ◌≤ℤ◌, ◌∷◌, ◌++◌, ℕ, ℤ, pos, set, List, [], length, slice_get, None, Some, IsTrue, Contains}
+use Rattle.std.specs.Prelude.{◌≡◌, ◌⊎◌, ◌+◌, ◌≤◌, ◌≤ℤ◌, ◌∷◌, ◌++◌, ℕ, pos, set, List, [], length, slice_get, None, Some, IsTrue, Contains}
 use Rattle.sled_codec.specs.declared.serialization.message.LogKind.{LogKind}
 use Rattle.sled_codec.specs.declared.serialization.message.LogKind.TheVariants as does
 use Rattle.sled_codec.specs.Spelling.{short_bytes}

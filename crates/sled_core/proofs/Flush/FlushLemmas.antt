@@ -1,5 +1,5 @@
 -- What is written of a log: the records that were completed, behind those that stand on the device. A log that keeps a failure holds what it held.
-use Rattle.std.proofs.Common.{◌≡◌, ◌≢◌, ◌⊎◌, ◌≤◌, ◌<◌, ◌+◌, ◌/◌, ◌^◌, ◌∙◌, ℕ, ℤ, max, List, [], ◌∷◌, ◌++◌, length, sym, ap, arith, refl, subst, inl, inr, Option, None, Some}
+use Rattle.std.proofs.Common.{◌≡◌, ◌⊎◌, ◌≤◌, ◌<◌, ◌+◌, ◌/◌, ◌^◌, ◌∙◌, ℕ, ℤ, max, List, [], ◌∷◌, ◌++◌, length, sym, ap, arith, refl, subst, inl, inr, Option, None, Some}
 use Rattle.std.specs.List.{All}
 use Rattle.std.specs.declared.io.Error.{Error as IoError}
 use Rattle.std.proofs.lemmas.List.{append-nil}

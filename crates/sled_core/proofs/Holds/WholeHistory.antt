@@ -1,5 +1,5 @@
 -- Where the messages lie of a history that a log holds over several segments: those of the first one and before it, below those of each one behind it.
-use Rattle.std.proofs.Common.{◌<◌, ◌≡◌, ◌⊎◌, ◌∙◌, ◌≤◌, ◌+◌, ℕ, List, [], ◌∷◌, ◌++◌, length, Option, sym, ap, subst, arith, inl, inr}
+use Rattle.std.proofs.Common.{◌<◌, ◌⊎◌, ◌≤◌, ◌+◌, ℕ, List, [], ◌∷◌, length, Option, sym, ap, subst, arith, inl, inr}
 use Rattle.std.specs.List.{All, Contains}
 use Rattle.std.specs.declared.io.Error.{Error as IoError}
 use Rattle.std.proofs.lemmas.List.Elements.{All-append, All-contains, Contains-append_cases, Contains-append_left}

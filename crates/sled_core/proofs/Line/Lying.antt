@@ -1,16 +1,18 @@
 -- The buffers of a line that aren't on the device lie one behind another, from the stable end on up to where the current buffer begins; and what a write makes of them.
-use Rattle.std.proofs.Common.{◌≡◌, ◌∙◌, ◌≤◌, ◌<◌, ◌+◌, ap, sym, refl, arith, subst, ℕ, zero, suc, Bool, true, false, if◌then◌else◌, List, [], ◌∷◌, ◌++◌, drop, take, set, Some}
+use Rattle.std.proofs.Common.{◌≡◌, ◌∙◌, ◌≤◌, ◌<◌, ◌+◌, ap, sym, refl, arith, subst, ℕ, zero, suc, Bool, true, false, if◌then◌else◌, List, [], ◌∷◌, ◌++◌, drop, map, take, set, Some}
 use Rattle.std.specs.List.{slice_get}
 use Rattle.std.proofs.lemmas.List.{drop-drop}
-use Rattle.sled_core.specs.Begun.{SegmentView, begin_of}
+use Rattle.sled_core.specs.Begun.{SegmentView, begin_of, segment_view, view_at}
 use Rattle.sled_core.specs.declared.iobuf.Reserved.{Reserved}
 use Rattle.sled_core.specs.declared.iobuf.Sealed.{Sealed}
 use Rattle.sled_core.specs.declared.iobuf.SegmentPosition.{SegmentPosition}
+use Rattle.sled_core.specs.declared.logger.Log.{Log}
+use Rattle.sled_core.specs.Fits.{current_begin, segment_size_of, synced_end, waiting_of}
 use Rattle.sled_core.specs.SealedBuffers.{AreSealed, behind_run, is_ready, run_count, run_end, sealed_end, written_at}
 use Rattle.sled_core.specs.Turned.{promoted, written_now}
 use Rattle.sled_core.specs.Waiting.{BufferAt, buffer_at, last_of, unwritten, unwritten_in, unwritten_of}
 use Rattle.sled_core.proofs.Line.Promotes.{last_set}
-use Rattle.sled_core.proofs.Line.Segments.{AreSegments, by_front, written_begin}
+use Rattle.sled_core.proofs.Line.Segments.{AreSegments, by_front, line_segments, written_begin}
 use Rattle.sled_core.proofs.Sealed.Marked.{ready_closed, written_are}
 use Rattle.sled_core.proofs.Sealed.Runs.{run_of}
 
@@ -122,3 +124,7 @@ set_within size (x ∷ xs) zero v k b there has ready within =
       within.2,
     )
 set_within size (x ∷ xs) (suc n) v k b there has ready within = (within.0, within.1, set_within size xs n v k b there has ready within.2)
+
+-- What is on the device ends before the current buffer.
+pub synced_up : {D C : Type 0} (log : Log D C) → synced_end log ≤ current_begin log
+synced_up log = lie_up (synced_end log) (waiting_of log) (current_begin log) (line_lie (segment_size_of log) log.site.place (view_at log.site log.buffer) (map segment_view log.behind.items) (line_segments log))

@@ -1,5 +1,5 @@
 -- The message that a page's Replace makes once more, with its item in the blob where it is, is stored: no crash takes the item of an entry of the table of a log's history, and its record lies behind all that there are.
-use Rattle.std.proofs.Common.{◌≡◌, ◌≤◌, ◌≤ℤ◌, ◌+◌, ℕ, ℤ, pos, true, List, length, map, Some, arith, subst}
+use Rattle.std.proofs.Common.{◌≡◌, ◌≤◌, ◌≤ℤ◌, ◌+◌, ℕ, ℤ, pos, true, List, length, Some, arith, subst}
 use Rattle.std.specs.List.{Contains}
 use Rattle.std.proofs.lemmas.Int.{ints}
 use Rattle.sled_codec.specs.declared.result.DiskPtr.TheVariants.{Blob}
@@ -11,8 +11,7 @@ use Rattle.sled_store.specs.Device.{State, Trace, state_of}
 use Rattle.sled_store.proofs.Histories.Ascending.{Ascends}
 use Rattle.sled_store.proofs.Segments.TableEntries.{from_table}
 use Rattle.sled_core.specs.declared.logger.Log.{Log}
-use Rattle.sled_core.specs.Begun.{segment_view, view_at}
-use Rattle.sled_core.specs.Fits.{current_begin, current_of, line_of, machine_at, message_rewriting, next_place, noted_in, segment_size_of, synced_end, target_of, waiting_of}
+use Rattle.sled_core.specs.Fits.{current_of, line_of, machine_at, message_rewriting, next_place, noted_in, segment_size_of, synced_end, target_of}
 use Rattle.sled_core.specs.Logged.{logged}
 use Rattle.sled_core.specs.OpenBatches.{stable_below}
 use Rattle.sled_core.specs.Recoverable.{BlobIsBelow}
@@ -21,8 +20,7 @@ use Rattle.sled_core.proofs.Flush.Settled.{entries_higher}
 use Rattle.sled_core.proofs.Holds.ReachLemmas.{position_past}
 use Rattle.sled_core.proofs.Holds.WholeHistory.{whole_ascends}
 use Rattle.sled_core.proofs.Holds.Facts.{current_facts}
-use Rattle.sled_core.proofs.Line.Lying.{lie_up, line_lie}
-use Rattle.sled_core.proofs.Line.Segments.{line_segments}
+use Rattle.sled_core.proofs.Line.Lying.{synced_up}
 use Rattle.sled_core.proofs.Reached.StableBelow.{stable_low}
 
 module _ {D C : Type 0} (trace : D → Trace) (sum : List ℕ → ℕ) (log : Log D C) (H : History) (A f : ℕ) (U : List Message) where
@@ -39,7 +37,7 @@ module _ {D C : Type 0} (trace : D → Trace) (sum : List ℕ → ℕ) (log : Lo
     -- what is on the device ends before the next record
     pub synced_before : synced_end log ≤ next_place log
     synced_before =
-        let up : synced_end log ≤ current_begin log = lie_up (synced_end log) (waiting_of log) (current_begin log) (line_lie size log.site.place (view_at log.site log.buffer) (map segment_view log.behind.items) (line_segments log)) in
+        let up = synced_up log in
         let facts = current_facts log in
         let past : (current_of log).parts.site.place + length (current_of log).parts.bytes ≤ next_place log = position_past size (current_of log) (machine_at log) facts.short in
         let begins = facts.begins in

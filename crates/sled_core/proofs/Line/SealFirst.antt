@@ -1,5 +1,6 @@
 -- A call that writes the buffers that begin below a place, and seals the current one first, where that does: what it makes of the log is what the write of those makes of the sealed one.
-use Rattle.std.proofs.Common.{◌≡◌, ◌∙◌, ◌≤◌, ◌<◌, ◌+◌, ◌*◌, ap, sym, refl, arith, subst, inl, ℕ, Bool, true, false, nat_lt, if◌then◌else◌, List, [], ◌∷◌, ◌++◌, length, take, drop, map, None, Result, Ok, Err, OnOk, OnErr}
+use Rattle.std.proofs.Common.{◌≡◌, ◌∙◌, ◌≤◌, ◌<◌, ◌+◌, ◌*◌, ap, sym, refl, arith, subst, inl, ℕ, Bool, true, false, nat_lt, if◌then◌else◌, List, [], ◌∷◌, ◌++◌, length, take, drop, map, None, Some, Result, Ok, Err, OnOk, OnErr}
+use Rattle.std.specs.declared.io.Error.{Error as IoError}
 use Rattle.std.specs.List.{Contains}
 use Rattle.std.proofs.lemmas.Bool.Decides.{nat_tests}
 use Rattle.sled_codec.specs.declared.result.Error.{Error}
@@ -24,7 +25,7 @@ use Rattle.sled_core.proofs.Line.Entered.{filled_last}
 use Rattle.sled_core.proofs.Holds.Facts.{current_facts}
 use Rattle.sled_core.proofs.Line.HeaderMarks.{none_begun}
 use Rattle.sled_core.proofs.Line.LogSpans.{above_first, leaves_above, left_all, same_buffers, some_first}
-use Rattle.sled_core.proofs.Line.Lying.{lie_up, line_lie}
+use Rattle.sled_core.proofs.Line.Lying.{synced_up}
 use Rattle.sled_core.proofs.Line.Outcomes.{answers_used, held_alike, on_done, on_err, on_ok}
 use Rattle.sled_core.proofs.Line.Segments.{line_segments}
 
@@ -130,7 +131,7 @@ writes_already sum to log x past =
     let size : ℕ = segment_size_of log in
     let first : SegmentView = view_at log.site log.buffer in
     let behind : List SegmentView = map segment_view log.behind.items in
-    let up = lie_up (log.site.place + log.buffer.written_len) (waiting_of log) (current_begin log) (line_lie size log.site.place first behind (line_segments log)) in
+    let up = synced_up log in
     record {
       seals = record { held = λ held. absurd held; none = λ unsealed. unsealed; err = λ unsealed. tt };
       above = leaves_above sum to log log (omega (arith, past, up)) refl (left_all to (waiting_of log)) (line_past size log.site.place to first behind (line_segments log) past);
@@ -141,7 +142,7 @@ writes_already sum to log x past =
 -- the current buffer isn't sealed for that
 pub unused_already : {D C : Type 0} (to : ℕ) (log : Log D C) → to ≤ synced_end log → IsUsedUpBelow log to → ⊥
 unused_already to log past used =
-    let up = lie_up (log.site.place + log.buffer.written_len) (waiting_of log) (current_begin log) (line_lie (segment_size_of log) log.site.place (view_at log.site log.buffer) (map segment_view log.behind.items) (line_segments log)) in
+    let up = synced_up log in
     let below = used.0 in
     omega (arith, past, up, below)
 
@@ -166,14 +167,14 @@ writes_none sum to log e never = record {
   marked = none_begun sum log log refl;
 }
 
-pub still_came : {D C : Type 0} (trace : D → Trace) (sum : List ℕ → ℕ) (to : ℕ) (log : Log D C) → CameTo trace sum to log log
-still_came trace sum to log = inl (record { waiting = refl; start = refl; still = refl })
+pub still_came : {D C : Type 0} (trace : D → Trace) (sum : List ℕ → ℕ) (to : ℕ) (log : Log D C) (e : IoError) → fault_of log ≡ Some e → CameTo trace sum to log log
+still_came trace sum to log e kept = inl (record { waiting = refl; start = refl; still = refl; due = λ none. absurd (let bad : None ≡ Some e = sym none ∙ kept in cc) })
 
 -- so none was written
-pub unchanged_came : {D C : Type 0} (trace : D → Trace) (sum : List ℕ → ℕ) (to : ℕ) (old new : Log D C) → IsUnchanged old new → CameTo trace sum to old new
-unchanged_came {D} {C} trace sum to old new same =
+pub unchanged_came : {D C : Type 0} (trace : D → Trace) (sum : List ℕ → ℕ) (to : ℕ) (old new : Log D C) → current_begin old < to → IsUnchanged old new → CameTo trace sum to old new
+unchanged_came {D} {C} trace sum to old new below same =
     let buffers = same_buffers old new same.line in
-    inl (record { waiting = buffers.0; start = buffers.1; still = ap (λ (x : RunningConfig D C). trace x.device) same.config })
+    inl (record { waiting = buffers.0; start = buffers.1; still = ap (λ (x : RunningConfig D C). trace x.device) same.config; due = λ _. below })
 
 -- What a call has before it writes, where the buffers that begin below a place are sealed: the log that it was, or the one with its current buffer sealed.
 module _ {D C : Type 0} (trace : D → Trace) (sum : List ℕ → ℕ) (to : ℕ) where

@@ -23,7 +23,7 @@ use Rattle.sled_core.proofs.Line.Around.{IsAround, all_found, begin_above, fewer
 use Rattle.sled_core.proofs.Line.Below.{lie_begin, none_first}
 use Rattle.sled_core.proofs.Line.Entered.{filled_last}
 use Rattle.sled_core.proofs.Holds.Facts.{IsSegment, current_facts, nth_facts}
-use Rattle.sled_core.proofs.Line.Lying.{end_of, lie_up, line_lie, promoted_end, promoted_unwritten, segments_within, set_end, set_within, unwritten_lie, unwritten_run}
+use Rattle.sled_core.proofs.Line.Lying.{end_of, line_lie, promoted_end, promoted_unwritten, segments_within, set_end, set_within, synced_up, unwritten_lie, unwritten_run}
 use Rattle.sled_core.proofs.Line.Segments.{line_segments}
 use Rattle.sled_core.proofs.Line.Shows.{buffers_add, buffers_still}
 use Rattle.sled_core.proofs.Reserve.OpenCounts.{first_there}
@@ -262,7 +262,7 @@ module _ {D C : Type 0} (log : Log D C) (place : ℕ) (looked : LooksAt log plac
 pub stable_written : {D C : Type 0} (log : Log D C) (place : ℕ) → place < synced_end log → IsWrittenPlace log place
 stable_written log place below =
     let lie = line_lie (segment_size_of log) log.site.place (view_at log.site log.buffer) (map segment_view log.behind.items) (line_segments log) in
-    let up : synced_end log ≤ current_begin log = lie_up (synced_end log) (waiting_of log) (current_begin log) lie in
+    let up = synced_up log in
     (omega (arith, below, up), none_found place (waiting_of log) ∙ ap is_none (found_above place (waiting_of log) (lie_begin (synced_end log) (suc place) (waiting_of log) (current_begin log) below lie)))
 
 pub held_stable : {D C : Type 0} (log : Log D C) (sum : List ℕ → ℕ) (lsn : ℤ) → lsn <ℤ pos (synced_end log) → held_at sum log lsn ≡ None
@@ -271,7 +271,7 @@ held_stable log sum lsn below = ap (λ (t : Bool). if t then None else held_arou
 -- what is stable ends before the current buffer
 pub stable_up : {D C : Type 0} (log : Log D C) (lsn : ℤ) → pos (current_begin log) ≤ℤ lsn → pos (synced_end log) ≤ℤ lsn
 stable_up log lsn up =
-    let low : synced_end log ≤ current_begin log = lie_up (synced_end log) (waiting_of log) (current_begin log) (line_lie (segment_size_of log) log.site.place (view_at log.site log.buffer) (map segment_view log.behind.items) (line_segments log)) in
+    let low = synced_up log in
     omega (arith, ints, up, low)
 
 -- a place stays on the device where the segments stay

@@ -1,5 +1,5 @@
 -- Along the records that are met in a segment a reader reads from the first one to the end of the last one.
-use Rattle.std.proofs.Common.{◌≡◌, ◌≤◌, ◌+◌, ◌/◌, ◌%◌, ℕ, List, [], ◌∷◌, length, drop, sym, subst, arith, length-take, length-drop}
+use Rattle.std.proofs.Common.{◌≡◌, ◌≤◌, ◌+◌, ◌/◌, ◌%◌, ℕ, List, [], ◌∷◌, drop, sym, subst, arith, length-take, length-drop}
 use Rattle.sled_codec.specs.Places.{part}
 use Rattle.sled_codec.specs.Record.{IsRecord}
 use Rattle.sled_store.specs.Readers.{ReadsTo, at_start, reads_past}

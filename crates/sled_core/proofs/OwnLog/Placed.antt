@@ -1,5 +1,5 @@
 -- What was placed is so behind a write that is synced, where it stands then; and so is what the write itself laid down.
-use Rattle.std.proofs.Common.{◌≡◌, ◌⊎◌, ◌∙◌, ◌≤◌, ◌<◌, ◌+◌, ◌-◌, ◌%◌, ℕ, max, List, [], ◌∷◌, length, take, drop, sym, ap, refl, arith}
+use Rattle.std.proofs.Common.{◌≡◌, ◌⊎◌, ◌∙◌, ◌≤◌, ◌<◌, ◌+◌, ◌%◌, ℕ, max, List, [], ◌∷◌, length, take, drop, sym, ap, refl, arith}
 use Rattle.std.proofs.lemmas.List.Elements.{All-nil}
 use Rattle.sled_codec.specs.Places.{part}
 use Rattle.sled_store.specs.Device.{Placement, State, Synced, Wrote, overwritten, step}

@@ -1,5 +1,5 @@
 -- A header of zeros is that of the greatest place.
-use Rattle.std.proofs.Common.{◌≡◌, ◌≤◌, ◌<◌, ◌+◌, ◌-◌, ◌^◌, ◌∙◌, ℕ, ℤ, pos, List, take, drop, replicate, sym, ap, arith, lit<, bit_xor}
+use Rattle.std.proofs.Common.{◌≡◌, ◌<◌, ◌-◌, ◌^◌, ◌∙◌, ℕ, ℤ, pos, List, take, drop, replicate, sym, ap, arith, lit<, bit_xor}
 use Rattle.std.specs.Int.{w64, cast_unsigned}
 use Rattle.std.specs.Int.Bits.{xor_assoc, xor_self, xor_zero_l, xor_zero_r}
 use Rattle.std.proofs.lemmas.Int.{ints}

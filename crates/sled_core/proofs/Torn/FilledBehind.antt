@@ -1,5 +1,5 @@
 -- Behind zeros in some slots of a settled log file, and the sync: the file is the old one with zeros in these slots, no segment is found in them, and the other slots are as before.
-use Rattle.std.proofs.Common.{◌≡◌, ◌≢◌, ◌≤◌, ◌<◌, ◌*◌, ◌∙◌, ℕ, ℤ, List, [], ◌∷◌, length, refl, sym, ap, arith, subst}
+use Rattle.std.proofs.Common.{◌≡◌, ◌≢◌, ◌≤◌, ◌<◌, ◌*◌, ℕ, ℤ, List, [], ◌∷◌, length, refl, sym, ap, arith, subst}
 use Rattle.std.specs.List.{All, Contains}
 use Rattle.sled_codec.specs.Places.{part}
 use Rattle.sled_codec.specs.Record.{IsHeader}

@@ -1,14 +1,14 @@
 //! Making what was reserved durable up to a place, and closing a log.
 //!
 //! Both write buffers as `Log::flush` does (`specs/Stable.antt`).
-ghost use Rattle.std.specs.Prelude.{List, ℕ, [], ◌≡◌, ◌+◌, ◌≤◌, ◌<ℤ◌, pos, IfOk, OnOk, OnErr, max};
+ghost use Rattle.std.specs.Prelude.{List, ℕ, [], ◌≡◌, ◌+◌, ◌≤◌, ◌<ℤ◌, pos, IfOk, OnOk, OnErr, max, ◌⊎◌};
 ghost use Rattle.sled_codec.specs.History.{History, Message};
 ghost use Rattle.sled_store.specs.Device.{state_of};
 ghost use Rattle.sled_store.specs.Moments.{LeavesOnly};
 ghost use Rattle.sled_store.specs.Script.{after_all, Performs};
 ghost use Rattle.sled_core.specs.Causes.{OnDone};
 ghost use Rattle.sled_core.specs.Fits.{IsUsedUpBelow, KeepsTickets, config_of, device_of, fault_of, flushing, holding_below, reserved_end, segment_size_of, stable_end};
-ghost use Rattle.sled_core.specs.Fronts.{CameTo};
+ghost use Rattle.sled_core.specs.Fronts.{CameTo, ClosedAt};
 ghost use Rattle.sled_core.specs.Keeps.{ConfigKept, Preserves, SamePosition, WritesBelow};
 ghost use Rattle.sled_core.specs.Recoverable.{LeavesRecoverable, RecoverableIfOwn};
 ghost use Rattle.sled_core.specs.Running.{Fits, end_below};
@@ -46,7 +46,7 @@ impl<D: Device, C: Checksum> Log<D, C> {
         ensures spares { SparesDevice D.faults (stabilizing C.sum_of self.old lsn) self.old self.new }
         ensures refused { IsNotReserved result → self.new ≡ self.old }
         ensures buffers { WritesBelow C.sum_of result (target_for self.old lsn) self.old self.new
-            × OnErr result (CameTo D.trace C.sum_of (target_for self.old lsn) self.old self.new) }
+            × OnErr result (IsNotReserved result ⊎ CameTo D.trace C.sum_of (target_for self.old lsn) self.old self.new) }
     {
         if let Some(e) = self.fault.kept {
             return Err(Error::Io(e));
@@ -81,6 +81,7 @@ impl<D: Device, C: Checksum> Log<D, C> {
             → LeavesOnly (RecoverableIfOwn C.sum_of (segment_size_of self) H A f) (D.trace (device_of self)) (D.trace result.0.device) }
         ensures answers { CloseAnswers result.1 (holding_below C.sum_of self (reserved_end self)) (IsUsedUpBelow self (reserved_end self)) (fault_of self)
             (D.faults (device_of self)) (D.faults result.0.device) }
+        ensures came { OnErr result.1 (ClosedAt D.trace C.sum_of result.1 self (D.trace result.0.device)) }
         ensures idle { flushing C.sum_of self ≡ [] → D.faults result.0.device ≡ D.faults (device_of self) }
         ensures config { ConfigKept (config_of self) result.0 }
     {

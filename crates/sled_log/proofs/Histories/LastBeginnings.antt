@@ -1,5 +1,5 @@
 -- The table below a cut has the last message there that begins a page, and of a page that it replaces also the Links behind it; and so it has a message that was just completed.
-use Rattle.std.proofs.Common.{⊎_elim, ◌≡◌, ◌∙◌, ◌⊎◌, ◌<◌, ◌≤◌, ℕ, Bool, true, false, ◌&&◌, if◌then◌else◌, nat_lt, List, [], ◌∷◌, Option, Some, refl, sym, ap, subst, arith, lt-ltb}
+use Rattle.std.proofs.Common.{⊎_elim, ◌≡◌, ◌∙◌, ◌⊎◌, ◌<◌, ◌≤◌, ℕ, Bool, true, ◌&&◌, if◌then◌else◌, nat_lt, List, [], ◌∷◌, Option, Some, refl, sym, ap, subst, arith, lt-ltb}
 use Rattle.std.specs.List.{Contains, filter}
 use Rattle.std.proofs.lemmas.Bool.{and_from, cases_lt, false≢true}
 use Rattle.sled_codec.specs.declared.serialization.message.LogKind.{LogKind}

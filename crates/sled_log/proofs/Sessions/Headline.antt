@@ -1,5 +1,5 @@
 -- The headline of a run follows from what each of its commands comes to.
-use Rattle.std.proofs.Common.{◌≡◌, ◌∙◌, ◌⊎◌, ◌+◌, ◌-◌, ◌≤◌, ◌<◌, ◌==◌, nat_lt, if◌then◌else◌, arith, ℕ, ℤ, pos, max, Bool, true, false, List, [], ◌∷◌, length, Option, None, Some, refl, sym, ap, subst, inl, inr}
+use Rattle.std.proofs.Common.{◌≡◌, ◌∙◌, ◌⊎◌, ◌+◌, ◌≤◌, ◌<◌, ◌==◌, nat_lt, if◌then◌else◌, arith, ℕ, ℤ, pos, max, Bool, true, false, List, [], ◌∷◌, length, Option, None, Some, refl, sym, ap, subst, inl, inr}
 use Rattle.std.specs.List.{Contains}
 use Rattle.std.specs.Prelude.{◌≤ℤ◌, ◌<ℤ◌, IsTrue, set, slice_get}
 use Rattle.std.specs.declared.io.Error.{Error as IoError}
@@ -223,7 +223,7 @@ module _ (sum : List ℕ → ℕ) (size : ℕ) (device : DeviceView) (H : Histor
         (subst (Acknowledges a Meant) (sym has.leads) here, inr (ap (λ (x : RunState). x.device) has.leads))
 
     fails_to : (to : ℕ) (e : Error) (new : DeviceView) (b : RunState) → FailsTo sum size a l to e new b → Stays a b × Led a new b
-    fails_to to e new b step = elim step.came.2 [ inl sealed ↦ keeps (Some l) _ new b sealed.0 (inl refl) | inr none ↦ keeps (Some l) _ new b none.1 (inl refl) ]
+    fails_to to e new b step = elim step.came.2 [ inl sealed ↦ keeps (Some l) _ new b sealed.0 (inl refl) | inr none ↦ keeps (Some l) _ new b none.3 (inl refl) ]
 
     flush : EndsIn H l → (r : Reply) (new : DeviceView) (b : RunState) → FlushStep sum size a l r new b → Moves sum size a command.Flush r b × Led a new b
     flush ends (reply.Flushed n) new b has =
@@ -262,7 +262,7 @@ module _ (sum : List ℕ → ℕ) (size : ℕ) (device : DeviceView) (H : Histor
 
     fails_at : (o : LogView) → o.tickets ≡ l.tickets → (at : ℕ) (e : Error) (old new : DeviceView) (b : RunState) → FailsAt sum size a o at e old new b → Stays a b × Led a new b
     fails_at o is at e old new b step = elim step.came [
-      | inl some ↦ elim some.1 [ inl none ↦ keeps (Some l) _ new b none (inl is) | inr sealed ↦ keeps (Some l) _ new b sealed (inl is) ]
+      | inl some ↦ elim some.1 [ inl none ↦ keeps (Some l) _ new b none.1 (inl is) | inr sealed ↦ keeps (Some l) _ new b sealed (inl is) ]
       | inr written ↦ keeps (Some l) _ new b written.2 (inl is)
     ]
 

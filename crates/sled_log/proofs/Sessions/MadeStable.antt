@@ -1,6 +1,6 @@
 -- What making a place stable comes to in a session, and why it fails.
-use Rattle.std.proofs.Common.{◌≡◌, ◌∙◌, ◌≤◌, ◌≤ℤ◌, ◌<◌, ◌<ℤ◌, ◌+◌, ◌-◌, inl, inr, nat_lt, if◌then◌else◌, ℕ, ℤ, pos, int_lt, Bool, true, false, List, [], ◌∷◌, ◌++◌, append-nil, Option, None, Some, ap, sym, subst, refl, arith}
-use Rattle.std.specs.Prelude.{Err}
+use Rattle.std.proofs.Common.{◌≡◌, ◌∙◌, ◌≤◌, ◌≤ℤ◌, ◌<◌, ◌<ℤ◌, inl, inr, nat_lt, if◌then◌else◌, ℕ, ℤ, pos, int_lt, Bool, true, false, List, [], ◌∷◌, ◌++◌, append-nil, Option, None, Some, ap, sym, subst, refl, arith}
+use Rattle.std.specs.Prelude.{◌⊎◌, Err}
 use Rattle.std.specs.declared.io.Error.{Error as IoError}
 use Rattle.std.proofs.lemmas.Bool.Decides.{nat_tests}
 use Rattle.std.proofs.lemmas.Bool.{cases_lt}
@@ -10,7 +10,7 @@ use Rattle.sled_codec.specs.declared.result.Error.TheVariants as error
 use Rattle.sled_codec.specs.History.{History, Message}
 use Rattle.sled_store.specs.Device.{Event}
 use Rattle.sled_store.specs.Script.{Performs, after_all}
-use Rattle.sled_core.specs.Causes.{HeldAnswers, OnDone}
+use Rattle.sled_core.specs.Causes.{HeldAnswers, IsHeld, OnDone}
 use Rattle.sled_core.specs.declared.logger.Log.{Log}
 use Rattle.sled_core.specs.Fits.{FirstWaits, IsUsedUpBelow, buffers_of, current_begin, device_of, fault_of, held_len, holding_below, reserved_end, segment_size_of, stable_end, synced_end, waiting_of, writing_below}
 use Rattle.sled_core.specs.Fronts.{CameTo}
@@ -118,10 +118,10 @@ module _ {D C : Type 0} (view : D → DeviceView) (sum : List ℕ → ℕ) (log 
   StableFails e = StableAnswers {T = ℕ} (Err e) place (stable_end log) (reserved_end log) (held_for sum log place) (IsUsedUpBelow log (target_for log place)) (fault_of log) (fault_of new) old_device.failures new_device.failures
 
   -- it was reserved
-  known_fails : (e : Error) → pos (stable_end log) ≤ℤ place → place <ℤ pos (reserved_end log) → OnDone {T = ℕ} (Err e) (new_device.trace ≡ after_all (stabilizing sum log place) old_device.trace) → Performs (stabilizing sum log place) old_device.trace new_device.trace → CameTo (traces view) sum (target_for log place) log new → fault_of log ≡ None
+  known_fails : (e : Error) → pos (stable_end log) ≤ℤ place → place <ℤ pos (reserved_end log) → OnDone {T = ℕ} (Err e) (new_device.trace ≡ after_all (stabilizing sum log place) old_device.trace) → Performs (stabilizing sum log place) old_device.trace new_device.trace → (IsHeld {T = ℕ} (Err e) → target_for log place ≤ current_begin new) → (IsNotReserved {T = ℕ} (Err e) → ⊥) → IsNotReserved {T = ℕ} (Err e) ⊎ CameTo (traces view) sum (target_for log place) log new → fault_of log ≡ None
       → HeldAnswers {T = ℕ} (Err e) (held_for sum log place) (IsUsedUpBelow log (target_for log place)) (fault_of log) (fault_of new) old_device.failures new_device.failures
       → (pos (stable_end log) ≤ℤ place) × (place <ℤ pos (reserved_end log)) × FailsTo sum (segment_size_of log) from (seen_log log begun tickets) (target_for log place) e new_device leads_to
-  known_fails e above reserved done made came none answers =
+  known_fails e above reserved done made sealed known_place came none answers =
       let known : IsKnownPlace (seen_log log begun tickets) place = inr reserved in (
         above,
         reserved,
@@ -129,12 +129,12 @@ module _ {D C : Type 0} (view : D → DeviceView) (sum : List ℕ → ℕ) (log 
             (why_of ℕ e (held_for sum log place) _ (IsUsedUpBelow log (target_for log place)) _ (fault_of log) (fault_of new) old_device.failures new_device.failures none (held_seen log sum begun tickets place known)
             (λ used. (used.0, flush_out log sum begun tickets used.1)) (λ free needs. needs.1 (flush_in log sum begun tickets (λ used. free (needs.0, used)))) answers)
             (subst (λ (es : List Event). Performs es old_device.trace new_device.trace) (stabilizing_seen log sum begun tickets place) made)
-            (if_held ℕ e _ _ (λ all. all ∙ ap (λ (es : List Event). after_all es old_device.trace) (stabilizing_seen log sum begun tickets place)) done) came,
+            (if_held ℕ e _ _ (λ all. all ∙ ap (λ (es : List Event). after_all es old_device.trace) (stabilizing_seen log sum begun tickets place)) done) sealed (elim came [ inl other ↦ absurd (known_place other) | inr far ↦ far ]),
       )
 
   pub stable_failed : (e : Error) → StableFails e → OnDone {T = ℕ} (Err e) (new_device.trace ≡ after_all (stabilizing sum log place) old_device.trace) → Performs (stabilizing sum log place) old_device.trace new_device.trace
-      → ((x : IoError) → fault_of log ≡ Some x → new ≡ log) → (IsNotReserved {T = ℕ} (Err e) → new ≡ log) → CameTo (traces view) sum (target_for log place) log new → Fails e
-  stable_failed (error.NotReserved at) answers done made faulty refused came = (
+      → ((x : IoError) → fault_of log ≡ Some x → new ≡ log) → (IsNotReserved {T = ℕ} (Err e) → new ≡ log) → (IsHeld {T = ℕ} (Err e) → target_for log place ≤ current_begin new) → IsNotReserved {T = ℕ} (Err e) ⊎ CameTo (traces view) sum (target_for log place) log new → Fails e
+  stable_failed (error.NotReserved at) answers done made faulty refused sealed came = (
     answers.0,
     answers.1,
     answers.2,
@@ -142,11 +142,11 @@ module _ {D C : Type 0} (view : D → DeviceView) (sum : List ℕ → ℕ) (log 
     same_device (refused tt),
     ap (λ (x : Log D C). record { device = view (device_of x); history = H; acknowledged = A; floor = f; log = Some (seen_log x begun tickets) }) (refused tt),
   )
-  stable_failed (error.Io x) answers done made faulty refused came = elim answers.1 [
+  stable_failed (error.Io x) answers done made faulty refused sealed came = elim answers.1 [
     | inl kept ↦ (let same : new ≡ log = faulty x kept.0 in inl (keeps_failing log new begun tickets old_device new_device H A f (error.Io x) x refl kept.0 same (same_device same)))
-    | inr failed ↦ inr (known_fails (error.Io x) (answers.0 failed.0).0 (answers.0 failed.0).1 done made came failed.0 answers.1)
+    | inr failed ↦ inr (known_fails (error.Io x) (answers.0 failed.0).0 (answers.0 failed.0).1 done made sealed (λ no. no) came failed.0 answers.1)
   ]
-  stable_failed error.OutOfMemory answers done made faulty refused came = inr (known_fails error.OutOfMemory answers.0 answers.1 done made came answers.3 (answers.2, answers.3, answers.4, answers.5))
-  stable_failed error.PlacesUsedUp answers done made faulty refused came = inr (known_fails error.PlacesUsedUp answers.0 answers.1 done made came answers.2.1 answers.2)
-  stable_failed (error.Held at) answers done made faulty refused came = inr (known_fails (error.Held at) answers.0 answers.1 done made came answers.2.2 answers.2)
-  stable_failed _ answers done made faulty refused came = absurd answers
+  stable_failed error.OutOfMemory answers done made faulty refused sealed came = inr (known_fails error.OutOfMemory answers.0 answers.1 done made sealed (λ no. no) came answers.3 (answers.2, answers.3, answers.4, answers.5))
+  stable_failed error.PlacesUsedUp answers done made faulty refused sealed came = inr (known_fails error.PlacesUsedUp answers.0 answers.1 done made sealed (λ no. no) came answers.2.1 answers.2)
+  stable_failed (error.Held at) answers done made faulty refused sealed came = inr (known_fails (error.Held at) answers.0 answers.1 done made sealed (λ no. no) came answers.2.2 answers.2)
+  stable_failed _ answers done made faulty refused sealed came = absurd answers

@@ -1,5 +1,5 @@
 -- What a read leaves of a log, as it is seen.
-use Rattle.std.proofs.Common.{◌≡◌, ◌∙◌, ◌≤◌, ◌<◌, ◌+◌, ◌&&◌, inl, inr, ℕ, ℤ, pos, Bool, true, false, nat_lt, nat_le, if◌then◌else◌, List, [], ◌∷◌, ◌++◌, length, map, Option, Some, None, Result, Ok, Err, OnErr, refl, sym, ap, subst, arith, append_assoc, get_or, to_z, of_z}
+use Rattle.std.proofs.Common.{◌≡◌, ◌∙◌, ◌≤◌, ◌<◌, ◌+◌, ◌&&◌, ◌⊎◌, inl, inr, ℕ, ℤ, pos, Bool, true, false, nat_lt, nat_le, if◌then◌else◌, List, [], ◌∷◌, ◌++◌, length, map, Option, Some, None, Result, Ok, Err, OnErr, refl, sym, ap, subst, arith, append_assoc, get_or, to_z, of_z}
 use Rattle.std.specs.Prelude.{Vec, unsigned_abs}
 use Rattle.std.specs.Int.{w64}
 use Rattle.std.specs.List.{All, Contains}
@@ -23,7 +23,7 @@ use Rattle.sled_codec.specs.Snapshots.{Entry, Page, Present, Uninitialized, page
 use Rattle.sled_store.specs.Device.{Event, Trace}
 use Rattle.sled_store.specs.Script.{Performs, after_all}
 use Rattle.sled_store.proofs.Segments.TableEntries.{from_table}
-use Rattle.sled_core.specs.Causes.{IsFault, IsFaultAt, OnDone}
+use Rattle.sled_core.specs.Causes.{IsFault, IsFaultAt, IsHeld, OnDone}
 use Rattle.sled_core.specs.Reading.{GivesMessage, IsInline}
 use Rattle.sled_core.specs.ReadPointer.{GivesBlobOrWaits, IsKeptBlob, place_read}
 use Rattle.sled_core.specs.declared.logger.read_message.LogRead.{LogRead}
@@ -35,7 +35,7 @@ use Rattle.sled_core.specs.Fits.{HasRecordOf, buffers_of, current_begin, current
 use Rattle.sled_core.specs.Keeps.{SamePosition, start_sealed}
 use Rattle.sled_core.specs.OpenPlaces.{first_between}
 use Rattle.sled_core.specs.Fronts.{CameAround, syncs}
-use Rattle.sled_core.specs.ReadBuffer.{IsUsedUpAt, ReadAnswers, Settles, WritesAround, held_at, sealed_at, settling, start_at}
+use Rattle.sled_core.specs.ReadBuffer.{IsUsedUpAt, LeavesSealed, ReadAnswers, Settles, WritesAround, held_at, sealed_at, settling, start_at}
 use Rattle.sled_core.specs.SealedBuffers.{writing}
 use Rattle.sled_core.specs.Waiting.{BufferAt, BufferStart, HasLength, Span, has_place, held_around, span_of, spans, unless_held, without_around, write_around}
 use Rattle.sled_core.proofs.Holds.BufferEnds.{written_behind}
@@ -55,7 +55,7 @@ use Rattle.sled_log.specs.Readings.{IsOfPage, IsRead, KeepsOpen, ReadsEntries, R
 use Rattle.sled_log.specs.RunPhases.{IsOpenAt, Unstored, seen, seen_log, stands, traces}
 use Rattle.sled_log.specs.RunStates.{DeviceView, EndsInReach, LogView, RunState, current_span, first_waiting, held, is_present, next_start, opens, page_now, sealed_around, spans_without, start_around, top, with_log}
 use Rattle.sled_log.specs.ReadSteps.{FailsAt, ReadStep, ReadsAll, ReadsAt, held_around_place, holding_read, read_around, read_at, reading_around}
-use Rattle.sled_log.specs.WriteSteps.{IsWhy, ShowsBuffers, WritesSome, flushed}
+use Rattle.sled_log.specs.WriteSteps.{IfHeld, IsWhy, ShowsBuffers, WritesSome, flushed}
 
 -- Buffers that have a place.
 
@@ -268,11 +268,16 @@ module _ {D C : Type 0} (view : D → DeviceView) (sum : List ℕ → ℕ) (old 
   why_at blobs (error.Corruption place) answers whole none = absurd (not_damaged m.pointer m (fault_of old) place whole)
   why_at blobs _ answers whole none = absurd answers
 
-  failed_at : (blobs : ℤ → Option (List ℕ)) (e : Error) → Performs (settling sum old (place_read (pos m.place) m.pointer)) old_view.trace new_view.trace → CameAround (traces view) sum at old new
+  -- one that was held up sealed the buffer
+  was_sealed : (e : Error) → (IsHeld {T = LogRead} (Err e) → LeavesSealed sum at old new) → IfHeld e ⊥ ⊎ LeavesSealed sum at old new
+  was_sealed (error.Held place) sealed = inr (sealed tt)
+  was_sealed _ sealed = inl tt
+
+  failed_at : (blobs : ℤ → Option (List ℕ)) (e : Error) → (IsHeld {T = LogRead} (Err e) → LeavesSealed sum at old new) → Performs (settling sum old (place_read (pos m.place) m.pointer)) old_view.trace new_view.trace → CameAround (traces view) sum at old new
       → ReadAnswers {T = LogRead} sum blobs m.pointer (Err e) (pos at) (synced_end old) (reserved_end old) (held_at sum old (pos at)) (IsUsedUpAt old (pos at)) (fault_of old) (fault_of new) old_view.failures new_view.failures
       → IsWhole m.pointer m (fault_of old) e → fault_of old ≡ None → OnDone {T = LogRead} (Err e) (new_view.trace ≡ after_all (settling sum old (place_read (pos m.place) m.pointer)) old_view.trace)
       → (a : RunState) → FailsAt sum (segment_size_of old) a before at e old_view new_view (with_log a new_view (Some after))
-  failed_at blobs e made came answers whole none done a =
+  failed_at blobs e held made came answers whole none done a =
       let seen_so = shows old sum at begun k of.read_below (records none) in
       let some : syncs new_view.trace ≡ syncs old_view.trace → (fault_of new ≡ None → new_view.trace ≡ old_view.trace) → WritesSome sum (segment_size_of old) before (sealed_around at before) (reading_around before at) 0 e (fault_of new) old_view new_view =
       λ synced still. record {
@@ -284,6 +289,8 @@ module _ {D C : Type 0} (view : D → DeviceView) (sum : List ℕ → ℕ) (old 
         held = if_held LogRead e _ _ (λ all. all ∙ ap (λ (es : List Event). after_all es old_view.trace) settling_seen) done;
       } in
       let over_it : LogView → RunState = λ x. with_log a new_view (Some x) in
+      let leaves_sealed : LeavesSealed sum at old new → with_log a new_view (Some after) ≡ with_log a new_view (Some (flushed before (sealed_around at before) (start_around at before) (fault_of new))) =
+      λ sealed. ap over_it (leaves (sealed_around at before) (start_around at before) (fault_of new) (ap spans sealed.0 ∙ seen_so.are) (sealed.1 ∙ start_seen old sum at begun k of.read_below) refl) in
       record {
         sound = none;
         fault = fault_of new;
@@ -291,11 +298,14 @@ module _ {D C : Type 0} (view : D → DeviceView) (sum : List ℕ → ℕ) (old 
         came = elim came [
           | inl same ↦ inl (
             some (ap syncs same.1) (λ sound. same.1),
-            inl (ap over_it (leaves (spans (waiting_of old)) (start_of old) (fault_of new) (ap spans same.0.0) same.0.1 refl)),
+            elim (was_sealed e held) [
+              | inl free ↦ inl (free, ap over_it (leaves (spans (waiting_of old)) (start_of old) (fault_of new) (ap spans same.0.0) same.0.1 refl))
+              | inr sealed ↦ inr (leaves_sealed sealed)
+            ],
           )
           | inr (inl sealed) ↦ inl (
             some sealed.1.synced sealed.1.still,
-            inr (ap over_it (leaves (sealed_around at before) (start_around at before) (fault_of new) (ap spans sealed.0.0 ∙ seen_so.are) (sealed.0.1 ∙ start_seen old sum at begun k of.read_below) refl)),
+            inr (leaves_sealed sealed.0),
           )
           | inr (inr written) ↦ inr (
             sym (holding_seen old sum at begun k of.read_below) ∙ written.2,
@@ -325,7 +335,7 @@ module _ {D C : Type 0} (view : D → DeviceView) (sum : List ℕ → ℕ) (old 
       → (a : RunState) → FailsAt sum (segment_size_of old) a before at e old_view new_view (with_log a new_view (Some after))
   read_failed blobs e z p here points told whole none a =
       let own = told_own blobs (Err e) z p here points told in
-      failed_at blobs e own.0.at_most own.1.2 own.1.1 (subst (λ (x : DiskPtr). IsWhole x m (fault_of old) e) (sym points) whole) none own.0.made a
+      failed_at blobs e own.1.0.held own.0.at_most own.1.2 own.1.1 (subst (λ (x : DiskPtr). IsWhole x m (fault_of old) e) (sym points) whole) none own.0.made a
 
   -- It was read.
 

@@ -15,7 +15,7 @@ use Rattle.sled_store.specs.Blobs.{UnlessFault}
 use Rattle.sled_store.specs.Device.{Event, Trace}
 use Rattle.sled_store.specs.Script.{Performs, after_all}
 use Rattle.sled_core.specs.Begun.{begin_of, segment_view, view_at}
-use Rattle.sled_core.specs.Causes.{Answers, HeldAnswers, OnDone}
+use Rattle.sled_core.specs.Causes.{Answers, HeldAnswers, IsHeld, OnDone}
 use Rattle.sled_core.specs.declared.logger.Log.{Log}
 use Rattle.sled_core.specs.Fits.{FirstWaits, IsUsedUp, IsUsedUpBelow, KeepsTickets, buffers_of, current_begin, current_of, device_of, fault_of, held_len, holding_below, noted_in, open_places, pending_of, position_of, reserved_end, sealing_end, segment_size_of, stable_end, start_of, synced_end, waiting_of, writing_below}
 use Rattle.sled_core.specs.Fronts.{CameTo, syncs}
@@ -157,6 +157,11 @@ module _ (places : List ℕ) where
         by fewer same true true = refl
         by fewer same true false = ap (λ (l : List Span). record { place = b.place; end = b.end; lid = b.lid } ∷ l) fewer
         by fewer same false o = ap (λ (l : List Span). record { place = b.place; end = b.end; lid = b.lid } ∷ l) same
+
+-- A call that was held up sealed the current buffer, where that begins below its place.
+not_held : (e : Error) (old new to : ℕ) → old < to → new ≡ old → (IsHeld {T = ℕ} (Err e) → to ≤ new) → IfHeld e ⊥
+not_held (error.Held at) old new to below same sealed = let past = sealed tt in omega (arith, below, same, past)
+not_held _ old new to below same sealed = tt
 
 -- A log as it is seen.
 
@@ -375,9 +380,9 @@ module _ {D C : Type 0} (log : Log D C) (sum : List ℕ → ℕ) (begun : ℕ) (
           -- It failed.
           pub fails_to : AreWhole sum log → (trace : D → Trace) (e : Error) → device.trace ≡ trace (device_of log) → now.trace ≡ trace (device_of new) → fault_of log ≡ None
               → IsWhy e (holding to l) ((current_begin log < to) × (EndsInReach size l.position → ⊥)) (fault_of new) device.failures now.failures → Performs (writes_free its_buffers) device.trace now.trace
-              → IfHeld e (now.trace ≡ after_all (writes_free its_buffers) device.trace) → CameTo trace sum to log new
+              → IfHeld e (now.trace ≡ after_all (writes_free its_buffers) device.trace) → (IsHeld {T = ℕ} (Err e) → to ≤ current_begin new) → CameTo trace sum to log new
               → FailsTo sum size (before new device now H A f position) l to e now (after new device now H A f position A)
-          fails_to records trace e was is none why made held came = record {
+          fails_to records trace e was is none why made held sealed came = record {
             sound = none;
             fault = fault_of new;
             why = why;
@@ -393,7 +398,7 @@ module _ {D C : Type 0} (log : Log D C) (sum : List ℕ → ℕ) (begun : ℕ) (
                       whole = λ sound. still;
                       held = held;
                     },
-                    inr (refl, leaves new device now H A f position (spans (waiting_of log)) (start_of log) (fault_of new) (ap spans same.waiting) same.start refl),
+                    (let below : current_begin log < to = same.due none in inr (refl, below, not_held e (current_begin log) (current_begin new) to below (ap (λ (x : BufferStart). x.place) same.start) sealed, leaves new device now H A f position (spans (waiting_of log)) (start_of log) (fault_of new) (ap spans same.waiting) same.start refl)),
                   ))
               | inr front ↦ (
                 front.count,

@@ -60,7 +60,8 @@ pub(crate) fn replay_below<D: Device, C: Checksum>(
     requires ready { CanAllBeRead config.old.config.segment_size (state_of (D.trace config.old.device)).log.bytes segments.now }
     requires end { end < 2 ^ 63 }
     ensures made { let s = state_of (D.trace config.old.device) in
-        IfOk result (λ r. IsReplay C.sum_of config.old.config.segment_size s.log.bytes s.blobs.file end (model_of first) (begun_below end segments.now) None r) }
+        IfOk result (λ r. IsReplay C.sum_of config.old.config.segment_size s.log.bytes s.blobs.file end (model_of first)
+        (begun_below end segments.now) None r) }
     ensures stop { IfOk result (λ r. FitsStop config.old.config.segment_size r.stop) }
     ensures corrupt { let s = state_of (D.trace config.old.device) in
         IsCorruption result → IsBadPass C.sum_of config.old.config.segment_size s.log.bytes s.blobs.file end (begun_below end segments.now) }
@@ -95,7 +96,8 @@ fn replay_each<D: Device, C: Checksum>(
     requires count { replay.old.count ≡ 0 }
     ensures made { let s = state_of (D.trace config.old.device) in
         (first : SnapshotModel) → HasMade end first [] replay.old
-        → IfOk result (λ bad. IsReplay C.sum_of config.old.config.segment_size s.log.bytes s.blobs.file end first (begun_below end segments.now) bad replay.new) }
+        → IfOk result (λ bad. IsReplay C.sum_of config.old.config.segment_size s.log.bytes s.blobs.file end first
+        (begun_below end segments.now) bad replay.new) }
     ensures stop { FitsStop config.old.config.segment_size replay.old.stop → IfOk result (λ bad. FitsStop config.old.config.segment_size replay.new.stop) }
     ensures damaged { IsCorruption result → IsDamagedPass C.sum_of config.old.config.segment_size
         (state_of (D.trace config.old.device)).log.bytes end (begun_below end segments.now) }

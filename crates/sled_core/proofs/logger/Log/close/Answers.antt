@@ -1,12 +1,13 @@
-use Rattle.std.proofs.Common.{◌≡◌, ◌∙◌, ◌≤◌, ◌+◌, IfOk, OnOk, List, [], ◌∷◌, ℕ, max, ap, subst, sym, arith, inl, inr, Option, Result, Ok, Err}
+use Rattle.std.proofs.Common.{◌≡◌, ◌∙◌, ◌<◌, ◌≤◌, ◌+◌, IfOk, OnErr, OnOk, List, [], ◌∷◌, ℕ, max, ap, subst, sym, arith, inl, inr, Option, None, Result, Ok, Err}
 use Rattle.std.specs.declared.io.Error.{Error as IoError}
 use Rattle.sled_codec.specs.declared.result.Error.{Error}
 use Rattle.sled_codec.specs.declared.result.Error.TheVariants.{Held, Io, OutOfMemory, PlacesUsedUp}
 use Rattle.sled_store.specs.declared.config.RunningConfig.{RunningConfig}
-use Rattle.sled_store.specs.Device.{state_of}
+use Rattle.sled_store.specs.Device.{Trace, state_of}
 use Rattle.sled_store.specs.Moments.{LeavesOnly}
 use Rattle.sled_core.specs.Causes.{HeldAnswers}
 use Rattle.sled_core.specs.Fits.{FirstWaits, IsUsedUpBelow, current_begin, device_of, fault_of, holding_below, reserved_end, segment_size_of, stable_end, start_of, synced_end, waiting_of}
+use Rattle.sled_core.specs.Fronts.{CameTo, ClosedAt, UnlessIo}
 use Rattle.sled_core.specs.Keeps.{LeavesAbove}
 use Rattle.sled_core.specs.Recoverable.{LeavesRecoverable, RecoverableIfOwn}
 use Rattle.sled_core.specs.Running.{end_below}
@@ -16,7 +17,7 @@ use Rattle.sled_core.specs.declared.logger.Log.{Log}
 use Rattle.sled_core.proofs.Flush.Settled.{leaves_less}
 use Rattle.sled_core.proofs.Holds.LastEnds.{acknowledged_up}
 use Rattle.sled_core.proofs.Line.Buffers.{first_waits}
-use Rattle.sled_core.proofs.Line.Outcomes.{on_both}
+use Rattle.sled_core.proofs.Line.Outcomes.{on_both, on_err}
 use Rattle.sled_core.proofs.logger.Log.close.Goals as goal
 
 -- What the flush answers.
@@ -29,13 +30,17 @@ close_answers (Err PlacesUsedUp) held used fault now before after (is, old, new,
 close_answers (Err (Held at)) held used fault now before after (place, unused, old, new, same) = (place, unused, old, same)
 close_answers (Err _) held used fault now before after answers = absurd answers
 
+-- What is on the device ends where the first buffer begins that is left, or the current one.
+first_left : {D C : Type 0} (log : Log D C) → first_begin (waiting_of log) (start_of log) ≡ synced_end log
+first_left log = by_first (waiting_of log) (first_waits log) where
+  by_first : (bs : List BufferAt) → FirstWaits (synced_end log) (current_begin log) bs → first_begin bs (start_of log) ≡ synced_end log
+  by_first [] is = sym is
+  by_first (b ∷ bs) is = sym is
+
 -- By how much the stable end grew: what is left begins there.
 
 stable_left : {D C : Type 0} (sum : List ℕ → ℕ) (to : ℕ) (old new : Log D C) → LeavesAbove sum to old new → stable_behind sum to old ≡ synced_end new
-stable_left sum to old new above = (λ i. first_begin (sym above.left i) (sym above.start i)) ∙ by_first (waiting_of new) (first_waits new) where
-  by_first : (bs : List BufferAt) → FirstWaits (synced_end new) (current_begin new) bs → first_begin bs (start_of new) ≡ synced_end new
-  by_first [] is = sym is
-  by_first (b ∷ bs) is = sym is
+stable_left sum to old new above = (λ i. first_begin (sym above.left i) (sym above.start i)) ∙ first_left new
 
 grown : {D C : Type 0} (r : Result ℕ Error) (P : Type 0) (old new : Log D C) (behind before : ℕ) → (P → behind ≡ synced_end new) → IfOk r (λ n. stable_end new ≡ before + n) → OnOk r P → OnOk r (SyncsAll old new) → IfOk r (λ n. behind ≡ before + n)
 grown (Ok n) P old new behind before left grows is all = left is ∙ sym all.stable ∙ grows
@@ -63,6 +68,35 @@ returns-clause-answers g c =
     let new = c.flush-flushed.new.self in
     subst (λ (x : RunningConfig _ _). CloseAnswers c.flush-flushed.result (holding_below g.C.Checksum.sum_of old (reserved_end old)) (IsUsedUpBelow old (reserved_end old)) (fault_of old) (g.D.Device.faults (device_of old)) (g.D.Device.faults x.device)) (sym c.halt.ensures.config)
     (close_answers c.flush-flushed.result _ _ (fault_of old) (fault_of new) _ _ c.flush-flushed.ensures.answers)
+
+-- How far it came, where it failed.
+
+no_fault : {T : Type 0} (r : Result T Error) (held : Option ℕ) (used : Type 0) (fault now : Option IoError) (before after : ℕ) → HeldAnswers r held used fault now before after → (P : Type 0) → (now ≡ None → P) → UnlessIo r P
+no_fault (Ok x) held used fault now before after says P did = did says.3
+no_fault (Err (Io e)) held used fault now before after says P did = tt
+no_fault (Err OutOfMemory) held used fault now before after says P did = did says.2
+no_fault (Err PlacesUsedUp) held used fault now before after says P did = did says.2
+no_fault (Err (Held at)) held used fault now before after says P did = did says.3
+no_fault (Err _) held used fault now before after says P did = absurd says
+
+closes_part : {T D C : Type 0} (trace : D → Trace) (sum : List ℕ → ℕ) (r : Result T Error) (old new : Log D C) → ((P : Type 0) → (fault_of new ≡ None → P) → UnlessIo r P)
+    → CameTo trace sum (reserved_end old) old new → ClosedAt trace sum r old (trace (device_of new))
+closes_part trace sum r old new sound (inl none) = inl (none.still, none.due)
+closes_part trace sum r old new sound (inr front) = inr (record {
+  count = front.count;
+  synced = front.synced;
+  whole = sound _ front.whole;
+  short = subst (λ n. n < reserved_end old) (sym ((λ i. first_begin (sym front.left i) (sym front.start i)) ∙ first_left new)) front.short;
+})
+
+pub returns-clause-came : goal.returns-clause-came
+returns-clause-came g c =
+    let sum = g.C.Checksum.sum_of in
+    let old = c.args.self in
+    let new = c.flush-flushed.new.self in
+    let r = c.flush-flushed.result in
+    subst (λ (x : RunningConfig _ _). OnErr r (ClosedAt g.D.Device.trace sum r old (g.D.Device.trace x.device))) (sym c.halt.ensures.config)
+    (on_err r _ _ (closes_part g.D.Device.trace sum r old new (no_fault r _ _ _ _ _ _ c.flush-flushed.ensures.answers)) c.flush-flushed.ensures.buffers.1)
 
 pub returns-clause-idle : goal.returns-clause-idle
 returns-clause-idle g c = λ none. ap (λ (x : RunningConfig g.row.D.Denot g.row.C.Denot). g.D.Device.faults x.device) c.halt.ensures.config ∙ c.flush-flushed.ensures.spares.idle none

@@ -56,7 +56,7 @@ returns-clause-acknowledges g c = λ H A f U fits.
 pub returns-in-Some-clause-buffers : goal.returns-in-Some-clause-buffers
 returns-in-Some-clause-buffers g c =
     let old = c.args.self.now in
-    (writes_none g.C.Checksum.sum_of (reserved_end old) old (Io c.in-Some.kept) (λ held. held), still_came g.D.Device.trace g.C.Checksum.sum_of (reserved_end old) old)
+    (writes_none g.C.Checksum.sum_of (reserved_end old) old (Io c.in-Some.kept) (λ held. held), still_came g.D.Device.trace g.C.Checksum.sum_of (reserved_end old) old c.in-Some.kept c.in-Some.is)
 
 pub returns-in_err-write_below-clause-buffers : goal.returns-in_err-write_below-clause-buffers
 returns-in_err-write_below-clause-buffers g c =

@@ -34,7 +34,7 @@ pub returns-in-Some-clause-buffers : goal.returns-in-Some-clause-buffers
 returns-in-Some-clause-buffers g c =
     let old = c.args.self.now in
     let to = target_for old c.args.lsn in
-    (writes_none g.C.Checksum.sum_of to old (Io c.in-Some.e) (λ held. held), still_came g.D.Device.trace g.C.Checksum.sum_of to old)
+    (writes_none g.C.Checksum.sum_of to old (Io c.in-Some.e) (λ held. held), inr (still_came g.D.Device.trace g.C.Checksum.sum_of to old c.in-Some.e c.in-Some.is))
 
 -- The place is durable already.
 
@@ -67,7 +67,7 @@ pub returns-then-lsn-self-clause-buffers : goal.returns-then-lsn-self-clause-buf
 returns-then-lsn-self-clause-buffers g c =
     let old = c.args.self.now in
     let to = target_for old c.args.lsn in
-    (writes_none g.C.Checksum.sum_of to old (NotReserved (to_z w64 (of_z w64 c.args.lsn))) (λ held. held), still_came g.D.Device.trace g.C.Checksum.sum_of to old)
+    (writes_none g.C.Checksum.sum_of to old (NotReserved (to_z w64 (of_z w64 c.args.lsn))) (λ held. held), inl tt)
 
 pub returns-then-lsn-self-clause-keeps : goal.returns-then-lsn-self-clause-keeps
 returns-then-lsn-self-clause-keeps g c = kept_still g.D.Device.trace g.C.Checksum.sum_of c.args.self.now
@@ -131,7 +131,7 @@ returns-in_err-write_below-clause-buffers g c =
     let to = to_is c.args.self.now c.args.lsn _ _ c.behind_batch-to.ensures.is (behind_read c.args.lsn _ _ (to_z-of_z w64 c.args.lsn c.ranges.lsn) (above g c)) in
     rw (e.1, e.2) (
       writes_err (Unit {0}) ℕ g.C.Checksum.sum_of (target_for c.args.self.now c.args.lsn) old new x (subst (λ n. WritesBelow {T = Unit {0}} g.C.Checksum.sum_of (Err x) n old new) to c.in_err-write_below.ensures.buffers),
-      subst (λ n. CameTo g.D.Device.trace g.C.Checksum.sum_of n old new) to c.in_err-write_below.ensures.came,
+      inr (subst (λ n. CameTo g.D.Device.trace g.C.Checksum.sum_of n old new) to c.in_err-write_below.ensures.came),
     )
 
 -- It is written.

@@ -20,7 +20,7 @@ pub returns-in_err-seal-clause-at_most : goal.returns-in_err-seal-clause-at_most
 returns-in_err-seal-clause-at_most g c = unchanged_performs c.args.self.now c.seal.new.self c.in_err-seal.ensures.err g.D.Device.trace _
 
 pub returns-in_err-seal-clause-came : goal.returns-in_err-seal-clause-came
-returns-in_err-seal-clause-came g c = all_err c.from_residual.result _ (unchanged_came g.D.Device.trace g.C.Checksum.sum_of c.args.to c.args.self.now c.seal.new.self c.in_err-seal.ensures.err)
+returns-in_err-seal-clause-came g c = all_err c.from_residual.result _ (unchanged_came g.D.Device.trace g.C.Checksum.sum_of c.args.to c.args.self.now c.seal.new.self (omega (arith, c.current_begin.ensures.is, c.if-current_begin-to.true)) c.in_err-seal.ensures.err)
 
 pub write_sealed_below-requires-clause-sealed : goal.write_sealed_below-requires-clause-sealed
 write_sealed_below-requires-clause-sealed g c =

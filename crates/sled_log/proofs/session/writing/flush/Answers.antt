@@ -83,7 +83,7 @@ returns-in-Err-clause-step g c = λ k at free.
         | inr none ↦ inr (fails_to old sum begun k.tickets to some new device now H k.acknowledged k.floor (stays_put trace sum old new c.flush.ensures.tickets position c.flush.ensures.keeps) (whole_of trace sum old H k.acknowledged k.floor at.unmarked at.fits none) trace c.in-Err.e refl refl none
             (why_of ℕ c.in-Err.e held _ used _ (fault_of old) (fault_of new) device.failures now.failures none (holding_seen old sum begun k.tickets to some) (λ used. (used.0, flush_out old sum begun k.tickets used.1)) (λ free needs. needs.1 (flush_in old sum begun k.tickets (λ used. free (needs.0, used)))) c.in-Err.ensures.answers)
             (subst (λ (es : List Event). Performs es (trace (device_of old)) (trace (device_of new))) (writes_seen old sum begun k.tickets to some) c.flush.ensures.at_most)
-            (if_held ℕ c.in-Err.e _ _ (λ done. done ∙ ap (λ (es : List Event). after_all es (trace (device_of old))) (writes_seen old sum begun k.tickets to some)) c.in-Err.ensures.calls) c.in-Err.ensures.buffers.1)
+            (if_held ℕ c.in-Err.e _ _ (λ done. done ∙ ap (λ (es : List Event). after_all es (trace (device_of old))) (writes_seen old sum begun k.tickets to some)) c.in-Err.ensures.calls) c.in-Err.ensures.buffers.0.seals.held c.in-Err.ensures.buffers.1)
       ];
       at = λ own. still_open trace sum opened new k k.acknowledged at c.flush.ensures.tickets position (was_free old new c.flush.ensures.spares.faulty) c.flush.ensures.keeps (c.flush.ensures.keeps.fits H k.acknowledged k.floor at.unmarked at.fits);
       crash = λ own. going_on trace sum opened k at new c.flush.ensures.keeps.goes_on;

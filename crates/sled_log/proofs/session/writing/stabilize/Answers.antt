@@ -67,7 +67,7 @@ returns-in-Err-clause-step g c = λ k at free.
     let position = c.make_stable.ensures.position in
     let place : ℤ = to_z w64 (of_z w64 c.args.place) in
     let fails = stable_failed view sum old new (length opened.pages.items) k.tickets place k.history k.acknowledged k.floor (stays_put trace sum old new c.make_stable.ensures.tickets position c.make_stable.ensures.keeps) (whole_of trace sum old k.history k.acknowledged k.floor at.unmarked at.fits) c.in-Err.e c.in-Err.ensures.answers c.in-Err.ensures.made c.make_stable.ensures.at_most
-    c.make_stable.ensures.spares.faulty c.in-Err.ensures.refused c.in-Err.ensures.buffers.1 in
+    c.make_stable.ensures.spares.faulty c.in-Err.ensures.refused c.in-Err.ensures.buffers.0.seals.held c.in-Err.ensures.buffers.1 in
     let done : Does view sum (phase.Open opened) (told.Stable place) (phase.Open (over opened new), reply.Failed c.in-Err.e) k =
     record {
       not_refused = refl;
