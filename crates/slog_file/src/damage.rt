@@ -1,7 +1,7 @@
 //! Where the bytes of a folder are damaged, and how: what an error `Corruption` of a recovery doesn't say.
 //!
 //! It goes over the files in the order of a recovery: the newest snapshot, the headers of segments, the records and blobs of
-//! the tail, those of the segments before it, and the table of pages that comes of them (`docs/FORMATS.md`, "Recovery").
+//! the tail, those of the segments before it, and the table of pages that comes of them (`docs/ARCHITECTURE.md`).
 
 pub(crate) mod reading;
 mod table;
