@@ -1,5 +1,5 @@
 -- Trees of marks: one node marked by its children, the way down to the first leaf and to the last, and what a change of a leaf does to the slots.
-use Rattle.std.proofs.Common.{◌≡◌, ◌≢◌, ◌∙◌, ℕ, zero, suc, ◌+◌, ◌-◌, ◌*◌, ◌/◌, ◌^◌, ◌<◌, ◌≤◌, Bool, true, false, ◌||◌, List, [], ◌∷◌, length, drop, get_or, set, slice_get, Some, refl, sym, ap, subst, arith, length-drop}
+use Rattle.std.proofs.Common.{◌≡◌, ◌∙◌, ℕ, zero, suc, ◌+◌, ◌-◌, ◌*◌, ◌/◌, ◌^◌, ◌<◌, ◌≤◌, Bool, true, false, ◌||◌, List, [], ◌∷◌, length, drop, get_or, set, slice_get, Some, refl, sym, ap, subst, arith, length-drop}
 use Rattle.std.specs.Ordering.{nat_cmp}
 use Rattle.std.specs.List.{CopiedTo, SameFrom}
 use Rattle.std.specs.BTreeMap.{is_at}

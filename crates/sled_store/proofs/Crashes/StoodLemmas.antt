@@ -1,5 +1,5 @@
 -- What a write laid down counts as placed behind a sync or a crash just where it counted before and stands in what was settled.
-use Rattle.std.proofs.Common.{◌≡◌, ◌-◌, ◌⊎◌, ℕ, zero, suc, List, [], ◌∷◌, length, take, refl, sym, ap, subst, arith}
+use Rattle.std.proofs.Common.{◌≡◌, ◌-◌, ℕ, zero, suc, List, [], ◌∷◌, length, take, refl, sym, ap, subst, arith}
 use Rattle.std.specs.List.{Contains}
 use Rattle.std.proofs.lemmas.List.Elements.{All-cons, All-head, All-tail}
 use Rattle.sled_codec.specs.Places.{part}

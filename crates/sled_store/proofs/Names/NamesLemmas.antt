@@ -1,5 +1,5 @@
 -- A settled name has the same file after each crash, and what a crash leaves of a name before a change, or of a torn one, it may leave after the whole.
-use Rattle.std.proofs.Common.{◌≡◌, ◌⊎◌, ◌&&◌, ℤ, ℕ, Bool, true, false, not, is_some, if◌then◌else◌, List, [], ◌∷◌, Option, Some, None, refl, ◌∙◌, ap, subst, inl, inr}
+use Rattle.std.proofs.Common.{◌≡◌, ◌⊎◌, ◌&&◌, ℤ, ℕ, Bool, true, false, not, is_some, if◌then◌else◌, List, [], ◌∷◌, Option, Some, None, refl, ap, subst, inl, inr}
 use Rattle.std.specs.Ordering.{int_eq}
 use Rattle.sled_store.specs.Device.{NameState, NamesState, LeavesFile, LeavesOneOf, LeavesName, renamed, unnamed, names_synced, names_at_rest, file_synced}
 use Rattle.sled_store.specs.Durable.{IsSettledName}

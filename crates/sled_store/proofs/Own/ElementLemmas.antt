@@ -1,5 +1,5 @@
 -- A fact holds of no element of a list, tried one by one.
-use Rattle.std.proofs.Common.{◌≡◌, ◌≤◌, ◌<◌, ◌+◌, ◌∙◌, ℕ, List, length, get_or, sym, subst, below_more}
+use Rattle.std.proofs.Common.{◌≡◌, ◌<◌, ◌+◌, ◌∙◌, ℕ, List, length, get_or, sym, subst, below_more}
 use Rattle.std.proofs.lemmas.List.{get_or_default}
 
 module _ {X : Type 0} (xs : List X) (P : X → Type 0) where

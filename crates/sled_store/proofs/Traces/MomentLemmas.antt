@@ -1,5 +1,5 @@
 -- What holds at every moment of one run of calls, and of the run that follows it, holds at every moment of both.
-use Rattle.std.proofs.Common.{◌≡◌, ◌⊎◌, List, [], ◌∷◌, ◌++◌, refl, sym, ◌∙◌, ap, subst, append_assoc}
+use Rattle.std.proofs.Common.{◌≡◌, List, [], ◌∷◌, ◌++◌, refl, sym, ◌∙◌, ap, subst, append_assoc}
 use Rattle.sled_store.specs.Device.{Event, Trace, State, state_of, step}
 use Rattle.sled_store.specs.Moments.{AtEach, Throughout}
 

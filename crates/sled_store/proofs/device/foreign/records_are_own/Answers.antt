@@ -1,5 +1,5 @@
 -- Each record that a reader reads is tried once.
-use Rattle.std.proofs.Common.{◌≡◌, ◌+◌, ◌-◌, ◌<◌, ℕ, List, length, take, drop, sym, ap, subst, arith, rules}
+use Rattle.std.proofs.Common.{◌≡◌, ◌+◌, ◌-◌, ℕ, List, length, take, drop, sym, ap, subst, arith, rules}
 use Rattle.sled_codec.specs.Places.{part}
 use Rattle.sled_store.specs.Readers.{at_start}
 use Rattle.sled_store.specs.OwnParts.{IsCap, IsOwnRecord, past_of, placed_of}
