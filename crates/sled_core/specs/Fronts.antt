@@ -1,5 +1,5 @@
 -- How far a call came that seals and writes buffers, and fails: as many buffers are gone as it synced.
-use Rattle.std.specs.Prelude.{◌≡◌, ◌⊎◌, ◌+◌, ◌*◌, ◌<◌, ℕ, suc, pos, List, [], ◌∷◌, take, drop, None, Result, Err}
+use Rattle.std.specs.Prelude.{◌≡◌, ◌⊎◌, ◌+◌, ◌*◌, ◌<◌, ◌≤ℤ◌, ℕ, ℤ, suc, pos, unsigned_abs, List, [], ◌∷◌, take, drop, None, Result, Err}
 use Rattle.sled_codec.specs.declared.result.Error.{Error}
 use Rattle.sled_codec.specs.declared.result.Error.TheVariants.{Io}
 use Rattle.sled_store.specs.Device.{Event, Trace, Synced}
@@ -35,8 +35,9 @@ pub record WroteFront {D C : Type 0} (trace : D → Trace) (sum : List ℕ → �
   -- not all is written that begins below the place
   pub short : synced_end new < to
 
--- Nothing was done, though the current buffer was to be sealed, or the log keeps a failure.
+-- Nothing was done, and no failure is new, though the current buffer was to be sealed, or the log keeps a failure.
 pub record SealedNone {D C : Type 0} (trace : D → Trace) (to : ℕ) (old new : Log D C) : Type 0 where
+  pub fault : fault_of new ≡ fault_of old
   pub waiting : waiting_of new ≡ waiting_of old
   pub start : start_of new ≡ start_of old
   pub still : trace (device_of new) ≡ trace (device_of old)
@@ -46,10 +47,12 @@ pub record SealedNone {D C : Type 0} (trace : D → Trace) (to : ℕ) (old new :
 abbrev pub CameTo : {D C : Type 0} → (D → Trace) → (List ℕ → ℕ) → ℕ → Log D C → Log D C → Type 0
 CameTo trace sum to old new = SealedNone trace to old new ⊎ WroteFront trace sum to old new
 
--- How far a read of a place came: the buffer that has it was not sealed; or sealed, and not written; or written too, whole, as nothing held it up.
-abbrev pub CameAround : {D C : Type 0} → (D → Trace) → (List ℕ → ℕ) → ℕ → Log D C → Log D C → Type 0
-CameAround trace sum at old new =
-    (LeavesUnsealed sum at old new × (trace (device_of new) ≡ trace (device_of old)))
+-- How far a read of a place came: the buffer that has it was not sealed, and if it was to be, no failure is new; or sealed, and not written; or written too,
+-- whole, as nothing held it up.
+abbrev pub CameAround : {D C : Type 0} → (D → Trace) → (List ℕ → ℕ) → ℤ → Log D C → Log D C → Type 0
+CameAround trace sum lsn old new =
+    let at : ℕ = unsigned_abs lsn in
+    (LeavesUnsealed sum at old new × (trace (device_of new) ≡ trace (device_of old)) × (pos (current_begin old) ≤ℤ lsn → fault_of new ≡ fault_of old))
     ⊎ (LeavesSealed sum at old new × WroteNone trace old new)
     ⊎ (LeavesWritten sum at old new × (trace (device_of new) ≡ after_all (settling sum old (pos at)) (trace (device_of old)))
     × (held_at sum old (pos at) ≡ None))
@@ -66,8 +69,14 @@ pub record ClosedFront {T D C : Type 0} (trace : D → Trace) (sum : List ℕ �
   pub whole : UnlessIo result (WritesWhole count (flushing sum log) (trace (device_of log)) after)
   pub short : first_begin (drop count (sealed_for sum (reserved_end log) log)) (start_for (reserved_end log) log) < reserved_end log
 
--- How far the last flush of a log came that failed: nothing was asked of the device, though the current buffer was to be sealed, or the log keeps a failure; or
--- not all was written.
+-- the device failed
+abbrev pub IsIo : {T : Type 0} → Result T Error → Type 0
+IsIo (Err (Io e)) = Unit {0}
+IsIo _ = ⊥
+
+-- How far the last flush of a log came that failed: nothing was asked of the device, so it didn't fail, though the current buffer was to be sealed, or the log
+-- keeps a failure; or not all was written.
 abbrev pub ClosedAt : {T D C : Type 0} → (D → Trace) → (List ℕ → ℕ) → Result T Error → Log D C → Trace → Type 0
 ClosedAt trace sum result log after =
-    ((after ≡ trace (device_of log)) × (fault_of log ≡ None → current_begin log < reserved_end log)) ⊎ ClosedFront trace sum result log after
+    ((after ≡ trace (device_of log)) × (fault_of log ≡ None → (current_begin log < reserved_end log) × (IsIo result → ⊥)))
+    ⊎ ClosedFront trace sum result log after

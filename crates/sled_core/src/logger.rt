@@ -289,7 +289,7 @@ impl<D: Device, C: Checksum> Log<D, C> {
         ensures calls { Settles D.trace C.sum_of result lsn ptr self.old self.new }
         ensures refused { RefusesPlace result lsn ptr self.old self.new }
         ensures buffers { let at = place_read lsn ptr in SealsAround result at self.old self.new × WritesAround C.sum_of result at self.old self.new
-            × OnErr result (CameAround D.trace C.sum_of (unsigned_abs at) self.old self.new) }
+            × OnErr result (CameAround D.trace C.sum_of at self.old self.new) }
         ensures keeps { Preserves D.trace C.sum_of self.old self.new }
         ensures tickets { KeepsTickets self.old self.new }
         ensures position { SamePosition self.old self.new }

@@ -44,13 +44,13 @@ ReadsAll sum size l [] old new end = (new.trace ≡ old.trace) × (new.failures 
 ReadsAll sum size l (m ∷ ms) old new end =
     (mid : DeviceView) × ReadsAt sum size l (read_at m) old mid × ReadsAll sum size (read_around l (read_at m)) ms mid new end
 
--- A read of a place failed: the buffer that has it is sealed, or isn't and the read wasn't held up, and it isn't written; or nothing held it up and it is
--- written, and what it has wasn't read.
+-- A read of a place failed: the buffer that has it is sealed, or isn't and the read wasn't held up, and it isn't written: where it is the current one that
+-- isn't sealed, the device didn't fail. Or nothing held it up and it is written, and what it has wasn't read.
 abbrev pub FailsAt : (List ℕ → ℕ) → ℕ → RunState → LogView → ℕ → Error → DeviceView → DeviceView → RunState → Type 0
 FailsAt sum size a l at e old new b =
     Fails l e (holding_read l at) ((l.start.place ≤ at) × (EndsInReach size l.position → ⊥)) old new (λ fault.
     (WritesSome sum size l (sealed_around at l) (reading_around l at) 0 e fault old new
-    × ((IfHeld e ⊥ × LeavesLog a l new b l.waiting l.start fault) ⊎ LeavesLog a l new b (sealed_around at l) (start_around at l) fault))
+    × ((IfHeld e ⊥ × LeavesLog a l new b l.waiting l.start fault × (l.start.place ≤ at → fault ≡ None)) ⊎ LeavesLog a l new b (sealed_around at l) (start_around at l) fault))
     ⊎ ((holding_read l at ≡ None) × Writes sum size l (sealed_around at l) (reading_around l at) old new
     × LeavesLog a l new b (spans_without at (sealed_around at l)) (start_around at l) fault))
 

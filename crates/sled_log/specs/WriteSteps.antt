@@ -126,14 +126,14 @@ pub record HasWrittenTo (sum : List ℕ → ℕ) (size : ℕ) (a : RunState) (l 
   }
 
 -- That failed: those that begin below the place are sealed, and so many at the front are written, but not all; or it wasn't held up, and none was sealed, nor
--- written, though the current one begins below the place.
+-- written, though the current one begins below the place: the device was asked for nothing then, and didn't fail.
 abbrev pub FailsTo : (List ℕ → ℕ) → ℕ → RunState → LogView → ℕ → Error → DeviceView → RunState → Type 0
 FailsTo sum size a l to e new b =
     Fails l e (holding to l) ((l.start.place < to) × (EndsInReach size l.position → ⊥)) a.device new (λ fault.
     (count : ℕ) × WritesSome sum size l (written_below to l) writes_free count e fault a.device new
     × ((LeavesLog a l new b (drop count (sealed_below to l)) (start_below to l) fault
     × (first_waiting (drop count (sealed_below to l)) (start_below to l) < to))
-    ⊎ ((count ≡ 0) × (l.start.place < to) × IfHeld e ⊥ × LeavesLog a l new b l.waiting l.start fault)))
+    ⊎ ((count ≡ 0) × (l.start.place < to) × IfHeld e ⊥ × LeavesLog a l new b l.waiting l.start fault × (fault ≡ None))))
 
 -- All that was reserved is written, so all completed messages are on the device: their records are, as the log has them, without the items that blobs have.
 pub record HasFlushed (sum : List ℕ → ℕ) (size : ℕ) (a : RunState) (l : LogView) (n : ℕ) (new : DeviceView) (b : RunState) : Type 0 where

@@ -296,7 +296,8 @@ const DUMP_AS_JSON: &str =
     {\"kind\":\"inline-link\",\"page\":0,\"place\":58,\"offset\":58,\"blob\":null,\"length\":10,\"peg\":null},\
     {\"kind\":\"free\",\"page\":1,\"place\":68,\"offset\":68,\"blob\":null,\"length\":8,\"peg\":null}],\"end\":76,\"ended_by\":\"zeros\"}],\
     \"blobs\":[{\"place\":42,\"bytes\":36,\"kind\":\"blob-node\"},{\"place\":99,\"bytes\":1,\"damaged_at\":0,\"damage\":\"too-short\"}],\
-    \"snapshots\":[{\"number\":7,\"bytes\":12,\"damaged_at\":0,\"damage\":\"wrong-length\"},{\"number\":76,\"bytes\":75,\"stable\":76,\"active\":0,\"pages\":3}]}\n";
+    \"snapshots\":[{\"number\":7,\"bytes\":12,\"damaged_at\":0,\"damage\":\"wrong-length\"},\
+    {\"number\":76,\"bytes\":75,\"stable\":76,\"active\":0,\"pages\":3}]}\n";
 
 const PAGES_AS_JSON: &str =
     "{\"folder\":\"a\\\"b\",\"stable\":76,\"active\":0,\"pages\":[[{\"place\":20,\"offset\":20,\"blob\":null,\"length\":12},\

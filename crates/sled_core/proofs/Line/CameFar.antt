@@ -19,6 +19,7 @@ use Rattle.sled_core.specs.Waiting.{writes_below}
 use Rattle.sled_core.proofs.Line.Advanced.{Advanced, first_view, views_behind}
 use Rattle.sled_core.proofs.Line.Current.{current_writes}
 use Rattle.sled_core.proofs.Line.HeaderMarks.{none_begun}
+use Rattle.sled_core.proofs.Line.Lying.{synced_up}
 use Rattle.sled_core.proofs.Line.Segments.{line_segments}
 use Rattle.sled_core.proofs.Stable.EndLemmas.{or_beyond}
 
@@ -78,14 +79,14 @@ on_err_both (Err e) A B P f a b = f a b
 module _ {D C : Type 0} (trace : D → Trace) (sum : List ℕ → ℕ) (old mid new : Log D C) where
   -- Its place was on the device, or is, and then its record wasn't read.
   pub came_behind : {T T' : Type 0} (lsn : ℤ) (x : T) (r : Result T' Error) → WritesAround {T = T} sum (Ok x) lsn old mid → trace (device_of mid) ≡ after_all (settling sum old lsn) (trace (device_of old))
-      → held_at sum old lsn ≡ None → (lsn <ℤ pos (synced_end old) → trace (device_of mid) ≡ trace (device_of old)) → waiting_of new ≡ waiting_of mid → start_of new ≡ start_of mid → trace (device_of new) ≡ trace (device_of mid) → OnErr r (CameAround trace sum (unsigned_abs lsn) old new)
+      → held_at sum old lsn ≡ None → (lsn <ℤ pos (synced_end old) → trace (device_of mid) ≡ trace (device_of old)) → waiting_of new ≡ waiting_of mid → start_of new ≡ start_of mid → trace (device_of new) ≡ trace (device_of mid) → OnErr r (CameAround trace sum lsn old new)
   came_behind lsn x (Ok y) writes made free still waiting start same = tt
   came_behind lsn x (Err e) writes made free still waiting start same = elim (or_beyond (pos (synced_end old)) lsn) [
     | inl behind ↦ (
         let above : pos 0 ≤ℤ lsn = omega (arith, ints, behind) in
         let at : pos (unsigned_abs lsn) ≡ lsn = omega (arith, ints, above) in
         inr (inr ((waiting ∙ (writes.written behind).0, start ∙ (writes.written behind).1), same ∙ made ∙ ap (λ z. after_all (settling sum old z) (trace (device_of old))) (sym at), ap (held_at sum old) at ∙ free)))
-    | inr below ↦ inl ((waiting ∙ (writes.still below).0, start ∙ (writes.still below).1), same ∙ still below)
+    | inr below ↦ inl ((waiting ∙ (writes.still below).0, start ∙ (writes.still below).1), same ∙ still below, λ above. (let up = synced_up old in absurd (omega (arith, ints, below, above, up))))
   ]
 
 -- A read did nothing.
@@ -96,5 +97,5 @@ module _ {T D C : Type 0} (log : Log D C) (lsn : ℤ) (e : Error) (never : IsHel
   pub around_none : (sum : List ℕ → ℕ) → WritesAround {T = T} sum (Err e) lsn log log
   around_none sum = record { still = λ _. (refl, refl); written = λ _. tt; held = λ held. absurd (never held); some = inl (refl, refl); marked = none_begun sum log log refl }
 
-pub still_around : {D C : Type 0} (trace : D → Trace) (sum : List ℕ → ℕ) (at : ℕ) (log : Log D C) → CameAround trace sum at log log
-still_around trace sum at log = inl ((refl, refl), refl)
+pub still_around : {D C : Type 0} (trace : D → Trace) (sum : List ℕ → ℕ) (lsn : ℤ) (log : Log D C) → CameAround trace sum lsn log log
+still_around trace sum lsn log = inl ((refl, refl), refl, λ _. refl)

@@ -168,13 +168,13 @@ writes_none sum to log e never = record {
 }
 
 pub still_came : {D C : Type 0} (trace : D → Trace) (sum : List ℕ → ℕ) (to : ℕ) (log : Log D C) (e : IoError) → fault_of log ≡ Some e → CameTo trace sum to log log
-still_came trace sum to log e kept = inl (record { waiting = refl; start = refl; still = refl; due = λ none. absurd (let bad : None ≡ Some e = sym none ∙ kept in cc) })
+still_came trace sum to log e kept = inl (record { fault = refl; waiting = refl; start = refl; still = refl; due = λ none. absurd (let bad : None ≡ Some e = sym none ∙ kept in cc) })
 
 -- so none was written
 pub unchanged_came : {D C : Type 0} (trace : D → Trace) (sum : List ℕ → ℕ) (to : ℕ) (old new : Log D C) → current_begin old < to → IsUnchanged old new → CameTo trace sum to old new
 unchanged_came {D} {C} trace sum to old new below same =
     let buffers = same_buffers old new same.line in
-    inl (record { waiting = buffers.0; start = buffers.1; still = ap (λ (x : RunningConfig D C). trace x.device) same.config; due = λ _. below })
+    inl (record { fault = same.fault; waiting = buffers.0; start = buffers.1; still = ap (λ (x : RunningConfig D C). trace x.device) same.config; due = λ _. below })
 
 -- What a call has before it writes, where the buffers that begin below a place are sealed: the log that it was, or the one with its current buffer sealed.
 module _ {D C : Type 0} (trace : D → Trace) (sum : List ℕ → ℕ) (to : ℕ) where

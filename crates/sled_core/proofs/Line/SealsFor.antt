@@ -124,7 +124,7 @@ module _ {D C : Type 0} (trace : D → Trace) (sum : List ℕ → ℕ) (place : 
     leaves_written is = (is ∙ ap (without_around place) seals.sealed.0, start ∙ seals.sealed.1)
 
     -- or it could not be
-    pub came_sealed : (waiting_of new ≡ waiting_of mid) × WroteNone trace mid new → CameAround trace sum place old new
+    pub came_sealed : (waiting_of new ≡ waiting_of mid) × WroteNone trace mid new → CameAround trace sum (pos place) old new
     came_sealed failed = inr (inl (
       leaves_sealed failed.0,
       record {

@@ -100,6 +100,7 @@ impl PendingBatches {
         ensures items { map batch_of self.new.noted.items ≡ with_batch (batch_of b) (map batch_of self.old.noted.items) }
         ensures pegs { (to : ℕ) → b.peg < to → All (λ c. c.peg < to) self.old.noted.items → All (λ c. c.peg < to) self.new.noted.items }
         ensures longer { length self.new.noted.items ≡ length self.old.noted.items + 1 }
+        ensures capacity { vec_capacity self.old.noted ≤ vec_capacity self.new.noted }
         ensures manifests { self.new.manifests ≡ self.old.manifests }
     {
         let at = self.begun_before(b.low + 1);
@@ -152,6 +153,7 @@ impl PendingBatches {
     pub(crate) fn make_room_for(&mut self, manifest: bool) -> Result<()>
         ensures items { self.new.noted.items ≡ self.old.noted.items }
         ensures manifests { self.new.manifests ≡ self.old.manifests }
+        ensures grows { vec_capacity self.old.noted ≤ vec_capacity self.new.noted }
         ensures room { OnOk result (manifest ≡ true → length self.new.noted.items + self.new.manifests < vec_capacity self.new.noted) }
         ensures memory { IsOkUnless result Error.OutOfMemory }
     {

@@ -31,8 +31,9 @@ impl Fault {
         Error::from(e)
     }
 
-    /// Keeps the failure that an answer tells of, where none was kept. A missing blob is none.
+    /// Keeps the failure that an answer tells of; none was kept before. A missing blob is none.
     pub(crate) fn note<T>(&mut self, answer: &Result<T>)
+        requires { self.old.kept ≡ None }
         ensures { self.new.kept ≡ fault_in answer.now }
     {
         self.kept = fault_in(answer);

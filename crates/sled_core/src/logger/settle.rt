@@ -33,7 +33,7 @@ impl<D: Device, C: Checksum> Log<D, C> {
             (fault_of self.new) (D.faults (device_of self.old)) (D.faults (device_of self.new)) }
         ensures seals { SealsAround result place self.old self.new }
         ensures buffers { WritesAround C.sum_of result place self.old self.new
-            × OnErr result (CameAround D.trace C.sum_of (unsigned_abs place) self.old self.new) }
+            × OnErr result (CameAround D.trace C.sum_of place self.old self.new) }
     {
         if place < 0 {
             return Ok(());
@@ -59,7 +59,7 @@ impl<D: Device, C: Checksum> Log<D, C> {
         ensures answers { HeldAnswers result (held_at C.sum_of self.old (pos place)) (IsUsedUpAt self.old (pos place)) None (fault_of self.new)
             (D.faults (device_of self.old)) (D.faults (device_of self.new)) }
         ensures seals { SealsAround result (pos place) self.old self.new }
-        ensures buffers { WritesAround C.sum_of result (pos place) self.old self.new × OnErr result (CameAround D.trace C.sum_of place self.old self.new) }
+        ensures buffers { WritesAround C.sum_of result (pos place) self.old self.new × OnErr result (CameAround D.trace C.sum_of (pos place) self.old self.new) }
     {
         if place < self.synced_end() {
             return Ok(());

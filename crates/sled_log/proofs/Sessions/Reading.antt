@@ -273,7 +273,7 @@ module _ {D C : Type 0} (view : D → DeviceView) (sum : List ℕ → ℕ) (old 
   was_sealed (error.Held place) sealed = inr (sealed tt)
   was_sealed _ sealed = inl tt
 
-  failed_at : (blobs : ℤ → Option (List ℕ)) (e : Error) → (IsHeld {T = LogRead} (Err e) → LeavesSealed sum at old new) → Performs (settling sum old (place_read (pos m.place) m.pointer)) old_view.trace new_view.trace → CameAround (traces view) sum at old new
+  failed_at : (blobs : ℤ → Option (List ℕ)) (e : Error) → (IsHeld {T = LogRead} (Err e) → LeavesSealed sum at old new) → Performs (settling sum old (place_read (pos m.place) m.pointer)) old_view.trace new_view.trace → CameAround (traces view) sum (pos at) old new
       → ReadAnswers {T = LogRead} sum blobs m.pointer (Err e) (pos at) (synced_end old) (reserved_end old) (held_at sum old (pos at)) (IsUsedUpAt old (pos at)) (fault_of old) (fault_of new) old_view.failures new_view.failures
       → IsWhole m.pointer m (fault_of old) e → fault_of old ≡ None → OnDone {T = LogRead} (Err e) (new_view.trace ≡ after_all (settling sum old (place_read (pos m.place) m.pointer)) old_view.trace)
       → (a : RunState) → FailsAt sum (segment_size_of old) a before at e old_view new_view (with_log a new_view (Some after))
@@ -299,7 +299,7 @@ module _ {D C : Type 0} (view : D → DeviceView) (sum : List ℕ → ℕ) (old 
           | inl same ↦ inl (
             some (ap syncs same.1) (λ sound. same.1),
             elim (was_sealed e held) [
-              | inl free ↦ inl (free, ap over_it (leaves (spans (waiting_of old)) (start_of old) (fault_of new) (ap spans same.0.0) same.0.1 refl))
+              | inl free ↦ inl (free, ap over_it (leaves (spans (waiting_of old)) (start_of old) (fault_of new) (ap spans same.0.0) same.0.1 refl), λ above. same.2 (omega (arith, ints, above)) ∙ none)
               | inr sealed ↦ inr (leaves_sealed sealed)
             ],
           )
@@ -320,7 +320,7 @@ module _ {D C : Type 0} (view : D → DeviceView) (sum : List ℕ → ℕ) (old 
   abbrev AnswersAt : (ℤ → Option (List ℕ)) → Result LogRead Error → DiskPtr → ℤ → Type 0
   AnswersAt blobs r p z = WritesAround sum r z old new
       × ReadAnswers sum blobs p r z (synced_end old) (reserved_end old) (held_at sum old z) (IsUsedUpAt old z) (fault_of old) (fault_of new) old_view.failures new_view.failures
-      × OnErr r (CameAround (traces view) sum (unsigned_abs z) old new)
+      × OnErr r (CameAround (traces view) sum z old new)
 
   abbrev pub Told : (ℤ → Option (List ℕ)) → Result LogRead Error → ℤ → DiskPtr → Type 0
   Told blobs r z p = Settles (traces view) sum r z p old new × AnswersAt blobs r p (place_read z p)

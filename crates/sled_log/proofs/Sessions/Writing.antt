@@ -398,7 +398,7 @@ module _ {D C : Type 0} (log : Log D C) (sum : List ℕ → ℕ) (begun : ℕ) (
                       whole = λ sound. still;
                       held = held;
                     },
-                    (let below : current_begin log < to = same.due none in inr (refl, below, not_held e (current_begin log) (current_begin new) to below (ap (λ (x : BufferStart). x.place) same.start) sealed, leaves new device now H A f position (spans (waiting_of log)) (start_of log) (fault_of new) (ap spans same.waiting) same.start refl)),
+                    (let below : current_begin log < to = same.due none in inr (refl, below, not_held e (current_begin log) (current_begin new) to below (ap (λ (x : BufferStart). x.place) same.start) sealed, leaves new device now H A f position (spans (waiting_of log)) (start_of log) (fault_of new) (ap spans same.waiting) same.start refl, same.fault ∙ none)),
                   ))
               | inr front ↦ (
                 front.count,

@@ -1,4 +1,4 @@
-use Rattle.std.proofs.Common.{◌≡◌, ◌∙◌, ◌<◌, ◌≤◌, ◌+◌, IfOk, OnErr, OnOk, List, [], ◌∷◌, ℕ, max, ap, subst, sym, arith, inl, inr, Option, None, Result, Ok, Err}
+use Rattle.std.proofs.Common.{◌≡◌, ◌∙◌, ◌<◌, ◌≤◌, ◌+◌, IfOk, OnErr, OnOk, List, [], ◌∷◌, ℕ, max, ap, subst, sym, arith, inl, inr, Option, None, Some, Result, Ok, Err}
 use Rattle.std.specs.declared.io.Error.{Error as IoError}
 use Rattle.sled_codec.specs.declared.result.Error.{Error}
 use Rattle.sled_codec.specs.declared.result.Error.TheVariants.{Held, Io, OutOfMemory, PlacesUsedUp}
@@ -7,7 +7,7 @@ use Rattle.sled_store.specs.Device.{Trace, state_of}
 use Rattle.sled_store.specs.Moments.{LeavesOnly}
 use Rattle.sled_core.specs.Causes.{HeldAnswers}
 use Rattle.sled_core.specs.Fits.{FirstWaits, IsUsedUpBelow, current_begin, device_of, fault_of, holding_below, reserved_end, segment_size_of, stable_end, start_of, synced_end, waiting_of}
-use Rattle.sled_core.specs.Fronts.{CameTo, ClosedAt, UnlessIo}
+use Rattle.sled_core.specs.Fronts.{CameTo, ClosedAt, IsIo, UnlessIo}
 use Rattle.sled_core.specs.Keeps.{LeavesAbove}
 use Rattle.sled_core.specs.Recoverable.{LeavesRecoverable, RecoverableIfOwn}
 use Rattle.sled_core.specs.Running.{end_below}
@@ -79,10 +79,16 @@ no_fault (Err PlacesUsedUp) held used fault now before after says P did = did sa
 no_fault (Err (Held at)) held used fault now before after says P did = did says.3
 no_fault (Err _) held used fault now before after says P did = absurd says
 
-closes_part : {T D C : Type 0} (trace : D → Trace) (sum : List ℕ → ℕ) (r : Result T Error) (old new : Log D C) → ((P : Type 0) → (fault_of new ≡ None → P) → UnlessIo r P)
+-- the device failed in it, so the log keeps that
+io_kept : {T : Type 0} (r : Result T Error) (held : Option ℕ) (used : Type 0) (fault now : Option IoError) (before after : ℕ) → HeldAnswers r held used fault now before after → fault ≡ None → now ≡ fault → IsIo r → ⊥
+io_kept (Err (Io e)) held used fault now before after (inl kept) none same io = let bad : None ≡ Some e = sym none ∙ kept.0 in cc
+io_kept (Err (Io e)) held used fault now before after (inr failed) none same io = let bad : None ≡ Some e = sym none ∙ sym same ∙ failed.1 in cc
+io_kept _ held used fault now before after says none same io = absurd io
+
+closes_part : {T D C : Type 0} (trace : D → Trace) (sum : List ℕ → ℕ) (r : Result T Error) (old new : Log D C) → ((P : Type 0) → (fault_of new ≡ None → P) → UnlessIo r P) → (fault_of old ≡ None → fault_of new ≡ fault_of old → IsIo r → ⊥)
     → CameTo trace sum (reserved_end old) old new → ClosedAt trace sum r old (trace (device_of new))
-closes_part trace sum r old new sound (inl none) = inl (none.still, none.due)
-closes_part trace sum r old new sound (inr front) = inr (record {
+closes_part trace sum r old new sound never (inl none) = inl (none.still, λ kept. (none.due kept, never kept none.fault))
+closes_part trace sum r old new sound never (inr front) = inr (record {
   count = front.count;
   synced = front.synced;
   whole = sound _ front.whole;
@@ -96,7 +102,7 @@ returns-clause-came g c =
     let new = c.flush-flushed.new.self in
     let r = c.flush-flushed.result in
     subst (λ (x : RunningConfig _ _). OnErr r (ClosedAt g.D.Device.trace sum r old (g.D.Device.trace x.device))) (sym c.halt.ensures.config)
-    (on_err r _ _ (closes_part g.D.Device.trace sum r old new (no_fault r _ _ _ _ _ _ c.flush-flushed.ensures.answers)) c.flush-flushed.ensures.buffers.1)
+    (on_err r _ _ (closes_part g.D.Device.trace sum r old new (no_fault r _ _ _ _ _ _ c.flush-flushed.ensures.answers) (io_kept r _ _ _ _ _ _ c.flush-flushed.ensures.answers)) c.flush-flushed.ensures.buffers.1)
 
 pub returns-clause-idle : goal.returns-clause-idle
 returns-clause-idle g c = λ none. ap (λ (x : RunningConfig g.row.D.Denot g.row.C.Denot). g.D.Device.faults x.device) c.halt.ensures.config ∙ c.flush-flushed.ensures.spares.idle none

@@ -45,8 +45,8 @@ use Rattle.sled_core.proofs.logger.Log.read.Goals as goal
 
 -- Nothing was sealed.
 nothing_sealed : {D C : Type 0} (trace : D → Trace) (sum : List ℕ → ℕ) (log : Log D C) (at : ℤ) (e : Error) → (IsHeld {T = LogRead} (Err e) → ⊥)
-    → SealsAround {T = LogRead} (Err e) at log log × WritesAround {T = LogRead} sum (Err e) at log log × CameAround trace sum (unsigned_abs at) log log
-nothing_sealed trace sum log at e never = (seals_none log at e never, around_none log at e never sum, still_around trace sum (unsigned_abs at) log)
+    → SealsAround {T = LogRead} (Err e) at log log × WritesAround {T = LogRead} sum (Err e) at log log × CameAround trace sum at log log
+nothing_sealed trace sum log at e never = (seals_none log at e never, around_none log at e never sum, still_around trace sum at log)
 
 -- Where the log keeps a failure nothing is done.
 
@@ -185,7 +185,7 @@ returns-in_err-settle_at-clause-buffers g c =
     rw (e.1, e.2) (
       seals_err (place_read c.args.lsn c.args.ptr) old mid c.in_err-settle_at.field-0.0 (subst (λ z. SealsAround {T = Unit {0}} (Err c.in_err-settle_at.field-0.0) z old mid) at c.in_err-settle_at.ensures.seals),
       around_err (place_read c.args.lsn c.args.ptr) old mid sum c.in_err-settle_at.field-0.0 (subst (λ z. WritesAround {T = Unit {0}} sum (Err c.in_err-settle_at.field-0.0) z old mid) at c.in_err-settle_at.ensures.buffers.0),
-      subst (λ z. CameAround g.D.Device.trace sum (unsigned_abs z) old mid) at c.in_err-settle_at.ensures.buffers.1,
+      subst (λ z. CameAround g.D.Device.trace sum z old mid) at c.in_err-settle_at.ensures.buffers.1,
     )
 
 pub returns-in_err-settle_at-clause-answers : goal.returns-in_err-settle_at-clause-answers

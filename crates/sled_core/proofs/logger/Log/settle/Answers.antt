@@ -108,7 +108,7 @@ returns-in_err-seal-clause-buffers g c =
         some = inl same;
         marked = none_begun g.C.Checksum.sum_of c.args.self.now c.seal.new.self (segment_same c.args.self.now c.seal.new.self c.in_err-seal.ensures.err.line).place;
       },
-      inl (same, ap (λ (x : RunningConfig g.row.D.Denot g.row.C.Denot). g.D.Device.trace x.device) c.in_err-seal.ensures.err.config),
+      inl (same, ap (λ (x : RunningConfig g.row.D.Denot g.row.C.Denot). g.D.Device.trace x.device) c.in_err-seal.ensures.err.config, λ _. c.in_err-seal.ensures.err.fault),
     )
 
 -- The buffer that has the place is sealed now.

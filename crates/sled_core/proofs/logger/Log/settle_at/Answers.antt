@@ -55,14 +55,14 @@ returns-clause-seals g c = subst (λ z. SealsAround c.settle.result z c.args.sel
 
 pub returns-clause-buffers : goal.returns-clause-buffers
 returns-clause-buffers g c =
-    subst (λ z. WritesAround g.C.Checksum.sum_of c.settle.result z c.args.self.now c.settle.new.self × OnErr c.settle.result (CameAround g.D.Device.trace g.C.Checksum.sum_of (unsigned_abs z) c.args.self.now c.settle.new.self))
+    subst (λ z. WritesAround g.C.Checksum.sum_of c.settle.result z c.args.self.now c.settle.new.self × OnErr c.settle.result (CameAround g.D.Device.trace g.C.Checksum.sum_of z c.args.self.now c.settle.new.self))
     (is_at g c) c.settle.ensures.buffers
 
 pub returns-then-at-self-clause-buffers : goal.returns-then-at-self-clause-buffers
 returns-then-at-self-clause-buffers g c =
     let old = c.args.self.now in
     let place : ℤ = to_z w64 (of_z w64 c.args.place) in
-    (around_none {T = Unit {0}} old c.args.place (NotReserved place) (λ held. held) g.C.Checksum.sum_of, still_around g.D.Device.trace g.C.Checksum.sum_of (unsigned_abs c.args.place) old)
+    (around_none {T = Unit {0}} old c.args.place (NotReserved place) (λ held. held) g.C.Checksum.sum_of, still_around g.D.Device.trace g.C.Checksum.sum_of c.args.place old)
 
 -- Where nothing was written its tickets and its position are as they were, and else as the writing leaves them.
 
