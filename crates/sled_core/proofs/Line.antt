@@ -39,6 +39,7 @@ pub mod Moves
 pub mod Nexts
 pub mod NoneLeft
 pub mod Noted
+pub mod NthOpen
 pub mod OfLog
 pub mod OlderSlots
 pub mod OpenBetween

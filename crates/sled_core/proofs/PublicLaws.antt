@@ -86,7 +86,7 @@ place_back z n is small = let fits : FitsSigned w64 (pos n) = search rules in sy
 
 -- What was written ends at the stable end at most.
 pub written_past : {D C : Type 0} (trace : D → Trace) (sum : List ℕ → ℕ) (log : Log D C) (H : History) → IsWritten trace sum log H → All (λ m. m.place + m.size ≤ synced_end log) H.messages
-written_past trace sum log H written = all_in_log (λ (m : Message). m.place + m.size ≤ synced_end log) H.messages (kept_past sum (segment_size_of log) log.site log.buffer.written_len _ (logged H) written)
+written_past trace sum log H written = all_in_log (λ (m : Message). m.place + m.size ≤ synced_end log) H.messages (kept_past sum (segment_size_of log) log.segments.first.site log.segments.first.buffer.written_len _ (logged H) written)
 
 -- What is seen of the buffers of a log: the current one, as it would be sealed, lies behind the sealed ones,
 pub shows_current : {D C : Type 0} (sum : List ℕ → ℕ) (log : Log D C) → 0 < held_len log

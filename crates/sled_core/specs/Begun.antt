@@ -1,5 +1,6 @@
 -- The segments that a log has begun, and what it has of each: the first one that isn't wholly on the device, and those behind it.
-use Rattle.std.specs.Prelude.{◌≡◌, ◌≤◌, ◌<◌, ◌+◌, ◌*◌, ◌^◌, ℕ, List, [], ◌∷◌, length, map, Option, None, Some, refl}
+use Rattle.std.specs.Prelude.{◌≡◌, ◌≤◌, ◌<◌, ◌+◌, ◌*◌, ◌^◌, ℕ, zero, suc, List, [], ◌∷◌, length, map, Option, None, Some, refl}
+use Rattle.std.specs.VecDeque.{deque_with_item}
 use native.Mathlib.Nat.{ℕ_set}
 use native.Mathlib.Bridge.{le_prop}
 use Rattle.sled_core.specs.Buffers.{NoPadding, records_end}
@@ -7,7 +8,8 @@ use Rattle.sled_core.specs.declared.iobuf.IoBuf.{IoBuf}
 use Rattle.sled_core.specs.declared.iobuf.Reserved.{Reserved}
 use Rattle.sled_core.specs.declared.iobuf.Sealed.{Sealed}
 use Rattle.sled_core.specs.declared.iobuf.SegmentPosition.{SegmentPosition}
-use Rattle.sled_core.specs.declared.logger.segments.SegmentBuffer.{SegmentBuffer}
+use Rattle.sled_core.specs.declared.logger.io_bufs.IoBufs.{IoBufs}
+use Rattle.sled_core.specs.declared.logger.io_bufs.SegmentBuffer.{SegmentBuffer}
 use Rattle.sled_core.specs.SealedBuffers.{sealed_end}
 
 -- They lie one behind another from a place on, each within its size and in reach.
@@ -62,6 +64,39 @@ last_buffer b (s ∷ ss) = last_buffer s.buffer ss
 abbrev pub line_at : SegmentPosition → IoBuf → List SegmentBuffer → List SegmentView
 line_at site b behind = view_at site b ∷ map segment_view behind
 
+abbrev pub line_in : IoBufs → List SegmentView
+line_in segments = line_at segments.first.site segments.first.buffer segments.behind.items
+
+-- the same, as code has them
+abbrev pub open_segments : IoBufs → List SegmentBuffer
+open_segments segments = segments.first ∷ segments.behind.items
+
+-- They lie within their size and in reach, one behind another, and the first one isn't wholly on the device where one is behind it.
+pub record LieWithin (size : ℕ) (segments : IoBufs) : Type 0 where
+  pub in_segment : length segments.first.buffer.bytes.items ≤ size
+  pub place_in_reach : segments.first.site.place + size < 2 ^ 63
+  pub slot_in_reach : segments.first.site.slot + size < 2 ^ 63
+  pub waits : 0 < length segments.behind.items → segments.first.buffer.written_len < size
+  pub follow : FollowOn size (segments.first.site.place + size) segments.behind.items
+
+pub LieWithin-prop : (size : ℕ) (segments : IoBufs) → IsProp (LieWithin size segments)
+LieWithin-prop size segments = λ p q i. record {
+  in_segment = le_prop p.in_segment q.in_segment i;
+  place_in_reach = le_prop p.place_in_reach q.place_in_reach i;
+  slot_in_reach = le_prop p.slot_in_reach q.slot_in_reach i;
+  waits = λ some. le_prop (p.waits some) (q.waits some) i;
+  follow = FollowOn-prop size (segments.first.site.place + size) segments.behind.items p.follow q.follow i;
+}
+
+-- the segments with another one in the place of the n-th
+abbrev pub with_nth : IoBufs → ℕ → SegmentBuffer → IoBufs
+with_nth segments zero s = record segments { first = s }
+with_nth segments (suc n) s = record segments { behind = deque_with_item segments.behind n s }
+
+-- the buffer of the one that is being filled
+abbrev pub last_buffer_in : IoBufs → IoBuf
+last_buffer_in segments = last_buffer segments.first.buffer segments.behind.items
+
 -- where the first of segments begins
 abbrev pub first_place : List SegmentView → ℕ
 first_place [] = 0
@@ -114,9 +149,9 @@ AreFilled size to (v ∷ w ∷ vs) =
     × (records_to v.parts.filled size ≤ records_end v.parts.reserved size)
     × (to ≤ v.parts.site.place + size → to ≤ v.parts.site.place + records_to v.parts.filled size) × IsUsed to v.parts.site.place (length v.parts.bytes)
 
--- The segments that a log has are filled so: the first one, and those behind it.
-abbrev pub IsFilledLine : ℕ → ℕ → SegmentPosition → IoBuf → List SegmentBuffer → Type 0
-IsFilledLine size to site b behind = AreFilled size to (line_at site b behind)
+-- The segments that a log has are filled so.
+abbrev pub IsFilledLine : ℕ → ℕ → IoBufs → Type 0
+IsFilledLine size to segments = AreFilled size to (line_in segments)
 
 AreEntered-prop : (to place : ℕ) (rs : List Reserved) → IsProp (AreEntered to place rs)
 AreEntered-prop to place [] = λ p q. refl
@@ -143,5 +178,5 @@ AreFilled-prop size to (v ∷ w ∷ vs) =
       λ some. le_prop (p.5 some) (q.5 some) i,
     )
 
-pub IsFilledLine-prop : (size to : ℕ) (site : SegmentPosition) (b : IoBuf) (behind : List SegmentBuffer) → IsProp (IsFilledLine size to site b behind)
-IsFilledLine-prop size to site b behind = AreFilled-prop size to (line_at site b behind)
+pub IsFilledLine-prop : (size to : ℕ) (segments : IoBufs) → IsProp (IsFilledLine size to segments)
+IsFilledLine-prop size to segments = AreFilled-prop size to (line_in segments)

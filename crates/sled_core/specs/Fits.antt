@@ -21,7 +21,7 @@ use Rattle.sled_core.specs.declared.iobuf.SegmentPosition.{SegmentPosition}
 use Rattle.sled_core.specs.declared.reservation.Reservation.{Reservation}
 use Rattle.sled_core.specs.declared.logger.Log.{Log}
 use Rattle.sled_store.specs.declared.config.RunningConfig.{RunningConfig}
-use Rattle.sled_core.specs.Begun.{SegmentParts, SegmentView, begin_of, line_at, segment_view, view_at}
+use Rattle.sled_core.specs.Begun.{SegmentParts, SegmentView, begin_of, line_in, segment_view}
 pub use Rattle.sled_core.specs.Begun.{line_end}
 use Rattle.sled_core.specs.Buffers.{Stands, IsChain, pointer_as, batches_in, completed_in, message_in, none_open, open_in, first_open_in, records_end}
 use Rattle.sled_core.specs.FreeSlots.{HasSlots}
@@ -45,11 +45,11 @@ fault_of log = log.fault.kept
 
 -- its segments, by place: the first one that isn't wholly on the device, and those begun behind it
 abbrev pub line_of : {D C : Type 0} → Log D C → List SegmentView
-line_of log = line_at log.site log.buffer log.behind.items
+line_of log = line_in log.segments
 
 -- the one that is being filled
 abbrev pub current_of : {D C : Type 0} → Log D C → SegmentView
-current_of log = last_of (view_at log.site log.buffer) (map segment_view log.behind.items)
+current_of log = last_of (segment_view log.segments.first) (map segment_view log.segments.behind.items)
 
 -- what runs on behind them: the slots of the log file
 abbrev pub machine_at : {D C : Type 0} → Log D C → Machine
@@ -81,7 +81,7 @@ next_place log = (position_of log).place
 
 -- the place behind all that is on the device without a gap
 abbrev pub synced_end : {D C : Type 0} → Log D C → ℕ
-synced_end log = log.site.place + log.buffer.written_len
+synced_end log = log.segments.first.site.place + log.segments.first.buffer.written_len
 
 -- the batches that were noted and aren't wholly on the device, by place
 abbrev pub noted_in : {D C : Type 0} → Log D C → List Batch
@@ -401,7 +401,7 @@ Holds trace sum log H =
 
 -- A log has the record of a message: it is of a segment that isn't wholly on the device, or an entry of the table of all that was written, or of that and more.
 abbrev pub HasRecordOf : {D C : Type 0} → Log D C → History → Message → Type 0
-HasRecordOf log H m = (log.site.place ≤ m.place) ⊎ ((cut : ℕ) × (synced_end log ≤ cut) × Contains (table H cut m.page) m)
+HasRecordOf log H m = (log.segments.first.site.place ≤ m.place) ⊎ ((cut : ℕ) × (synced_end log ≤ cut) × Contains (table H cut m.page) m)
 
 -- All of a history is on the device and settled: the log file has the messages of the current segment and those that stay: the entries of the newest
 -- snapshot's table, which is that of the history below the place where the log began, and all messages from there on.
@@ -420,7 +420,7 @@ pub record IsKept (sum : List ℕ → ℕ) (size : ℕ) (site : SegmentPosition)
 
 -- all that a log holds is on its device, and settled: the history as the log has it
 abbrev pub IsWritten : {D C : Type 0} → (D → Trace) → (List ℕ → ℕ) → Log D C → History → Type 0
-IsWritten trace sum log H = IsKept sum log.config.config.segment_size log.site log.buffer.written_len (state_of (trace log.config.device)) (logged H)
+IsWritten trace sum log H = IsKept sum log.config.config.segment_size log.segments.first.site log.segments.first.buffer.written_len (state_of (trace log.config.device)) (logged H)
 
 -- all buffers that aren't on the device, by place, with the current one as it would be sealed
 abbrev pub buffers_of : {D C : Type 0} → (List ℕ → ℕ) → Log D C → List BufferAt

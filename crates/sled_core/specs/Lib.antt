@@ -15,6 +15,7 @@ pub mod Good
 pub mod Iterates
 pub mod Iterators
 pub mod Keeps
+pub mod Lending
 pub mod LogFile
 pub mod LogSegments
 pub mod Logged

@@ -7,7 +7,7 @@ use Rattle.sled_store.specs.Device.{Trace}
 use Rattle.sled_core.specs.declared.iobuf.Purpose.{Purpose}
 use Rattle.sled_core.specs.declared.iobuf.record.Head.{Head}
 use Rattle.sled_core.specs.declared.logger.Log.{Log}
-use Rattle.sled_core.specs.Begun.{last_buffer}
+use Rattle.sled_core.specs.Begun.{last_buffer_in}
 use Rattle.sled_core.specs.Buffers.{most_open}
 use Rattle.sled_core.specs.Fits.{KeepsTickets, current_of, machine_at, position_of, reserved_end, segment_size_of, start_behind, start_of, target_of}
 use Rattle.sled_core.specs.Fits.{waiting_behind, waiting_of}
@@ -56,7 +56,7 @@ pub record IsPrepared {D C : Type 0} (trace : D → Trace) (sum : List ℕ → �
   pub tail : drop 4 (text_of head) ≡ short_header_tail kept.kind n (number_of new) kept.page
   pub long : head.len ≡ length (text_of head)
   pub fits : HasPlace new (head.len + n)
-  pub room : HasRoomIn (last_buffer new.buffer new.behind.items) (head.len + n)
+  pub room : HasRoomIn (last_buffer_in new.segments) (head.len + n)
   -- a manifest has room for its batch
   pub batch : is_manifest kept.log_kind kept.page ≡ true → HasRoomForBatch new
   pub seals : (waiting_of new ≡ waiting_behind sum old kept.page n) × (start_of new ≡ start_behind old kept.page n)

@@ -111,9 +111,7 @@ pub record HasRoomForBatch {D C : Type 0} (log : Log D C) : Type 0 where
 -- A batch is noted: that changes the noted batches alone.
 pub record NotesBatch {D C : Type 0} (old new : Log D C) : Type 0 where
   pub config : new.config ≡ old.config
-  pub site : new.site ≡ old.site
-  pub buffer : new.buffer ≡ old.buffer
-  pub behind : new.behind ≡ old.behind
+  pub segments : new.segments ≡ old.segments
   pub accountant : new.accountant ≡ old.accountant
   pub reserved : new.reserved_to ≡ old.reserved_to
   pub fault : new.fault.kept ≡ old.fault.kept
@@ -198,9 +196,7 @@ ready_below (v ∷ vs) to = if nat_lt (v.parts.site.place + v.parts.written_len)
 pub record ChangesDevice {D C : Type 0} (old new : Log D C) : Type 0 where
   pub config : new.config.config ≡ old.config.config
   pub checksum : new.config.checksum ≡ old.config.checksum
-  pub site : new.site ≡ old.site
-  pub buffer : new.buffer ≡ old.buffer
-  pub behind : new.behind ≡ old.behind
+  pub segments : new.segments ≡ old.segments
   pub reserved : new.reserved_to ≡ old.reserved_to
   pub pins : new.pins ≡ old.pins
   pub accountant : new.accountant ≡ old.accountant

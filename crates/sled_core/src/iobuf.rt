@@ -1,13 +1,13 @@
 //! The bytes of the segment that is being filled. The current buffer is the part of them that was not
 //! written yet, and the reservations in it lie one behind another.
-ghost use Rattle.std.specs.Prelude.{◌≡◌, ◌+◌, ◌-◌, ◌<◌, ◌≤◌, ◌^◌, ◌++◌, ◌∷◌, [], ℕ, List, true, false, length, max, take, drop, set, replicate, vec_capacity, slice_get, OnOk, OnErr, IfOk, IsOkUnless, IsTrue, ◌↔◌, pos, All, None, Some};
+ghost use Rattle.std.specs.Prelude.{◌≡◌, ◌+◌, ◌-◌, ◌<◌, ◌≤◌, ◌^◌, ◌++◌, ◌∷◌, [], ℕ, true, false, length, max, take, drop, set, vec_capacity, slice_get, OnOk, IfOk, IsOkUnless, IsTrue, ◌↔◌, pos, All, None, Some};
 ghost use Rattle.std.specs.VecDeque.{deque_len, deque_capacity};
 ghost use Rattle.sled_codec.specs.Written.{written};
 ghost use Rattle.sled_store.specs.Words.{writers_of};
 ghost use Rattle.sled_core.specs.declared.iobuf.Reserved.{Reserved};
 ghost use Rattle.sled_core.specs.Buffers.{IsChain, IsHeaded, canceling, completing, ended, ending, ending_as, first_open_in, marking, most_open, open_in, open_state, placeholder_head, reserved_for};
 ghost use Rattle.sled_core.specs.Manifests.{is_manifest};
-ghost use Rattle.sled_core.specs.SealedBuffers.{AreSealed, FirstUnwritten, one_ended, sealed_count, sealed_end};
+ghost use Rattle.sled_core.specs.SealedBuffers.{AreSealed, FirstUnwritten, sealed_count, sealed_end};
 ghost use Rattle.sled_core.specs.SealedProps.{IsChain-prop, AreSealed-prop, FirstUnwritten-prop};
 
 pub(crate) mod closing;

@@ -1,7 +1,7 @@
 //! Laws of logs, each the contract of a function that does nothing. They are the interface for a client: what it may rely on besides the
 //! contracts of the calls. A proof cites a law by the lemma of `proofs/PublicLaws.antt` that says the same; what that file has besides, under
 //! "Helpers", promises nothing more.
-ghost use Rattle.std.specs.Prelude.{◌≡◌, ◌↔◌, ◌⊎◌, ◌≤◌, ◌<◌, ◌≤ℤ◌, ◌<ℤ◌, ◌+ℤ◌, ◌-ℤ◌, ◌+◌, ◌*◌, ◌/◌, ◌%◌, ◌^◌, ◌∷◌, ◌++◌, ℕ, ℤ, pos, true, List, [], replicate, Option, None, Some, Result, IfErr, IfOk, OnOk, length, map, ◌-◌, Contains};
+ghost use Rattle.std.specs.Prelude.{◌≡◌, ◌↔◌, ◌⊎◌, ◌≤◌, ◌<◌, ◌≤ℤ◌, ◌<ℤ◌, ◌+ℤ◌, ◌-ℤ◌, ◌+◌, ◌*◌, ◌/◌, ◌^◌, ◌∷◌, ◌++◌, ℕ, ℤ, pos, true, List, [], replicate, Option, None, Some, Result, IfErr, IfOk, OnOk, length, map, ◌-◌, Contains};
 ghost use Rattle.std.specs.Borrow.{MutBor};
 ghost use Rattle.std.specs.declared.io.Error.{Error as IoError};
 ghost use Rattle.sled_codec.specs.declared.result.Error.{Error};
@@ -13,7 +13,6 @@ ghost use Rattle.sled_codec.specs.declared.result.DiskPtr.TheVariants.{Blob};
 ghost use Rattle.sled_codec.specs.declared.serialization.message.LogKind.{LogKind};
 ghost use Rattle.sled_codec.specs.declared.serialization.message.LogKind.TheVariants.{Replace};
 ghost use Rattle.sled_codec.specs.History.{Message, Batch, History, no_history, table};
-ghost use Rattle.sled_codec.specs.Record.{IsHeader};
 ghost use Rattle.sled_codec.specs.WellFormed.{LieApart};
 ghost use Rattle.sled_store.specs.Device.{Trace, State, Left, Leaves, Crashed, state_of, content_of, content_left, at_rest, fresh, Content, Settled, Wrote, Synced, step};
 ghost use Rattle.sled_store.specs.Moments.{IsLater, LeavesOnly};

@@ -2,14 +2,10 @@
 //!
 //! A log keeps the bytes of its segments that aren't wholly on the device, the reservations in them, the accountant of all
 //! segments, the count of pins, and the first failure of its device, which it answers from then on. `specs/Fits.antt` says which history it holds.
-ghost use Rattle.std.specs.Prelude.{All, vec_capacity, List, ◌++◌, ◌≡◌, ◌≢◌, ◌↔◌, ◌+◌, ◌-◌, ◌<◌, ◌≤◌, ◌^◌, ◌∷◌, ◌-ℤ◌, ◌<ℤ◌, ◌≤ℤ◌, pos, [], ℕ, length, drop, false, IsTrue, IfOk, IfErr, OnOk, OnErr, Contains, None, Some, ◌⊎◌, ◌/◌, unsigned_abs, ℤ, max, map};
-ghost use Rattle.std.specs.declared.io.Error.{Error as IoError};
+ghost use Rattle.std.specs.Prelude.{All, List, ◌≡◌, ◌≢◌, ◌↔◌, ◌+◌, ◌-◌, ◌<◌, ◌≤◌, ◌^◌, ◌∷◌, ◌-ℤ◌, pos, [], ℕ, length, false, IsTrue, IfOk, IfErr, OnOk, OnErr, Contains, None, Some, ◌/◌, unsigned_abs, ℤ, max};
 ghost use Rattle.sled_codec.specs.History.{History, Message, Completed, Step};
-ghost use Rattle.std.specs.IoError.{error_kind};
-ghost use Rattle.std.specs.declared.io.ErrorKind.TheVariants.{OutOfMemory};
-ghost use Rattle.sled_codec.specs.Errors.{IsErrorOf, IsCorrupt, IsCorruption};
-ghost use Rattle.sled_store.specs.Device.{state_of, Wrote, Synced};
-ghost use Rattle.sled_store.specs.Answers.{Counts, FailsOr};
+ghost use Rattle.sled_codec.specs.Errors.{IsCorrupt, IsCorruption};
+ghost use Rattle.sled_store.specs.Device.{state_of};
 ghost use Rattle.sled_core.specs.Tickets.{IsPlaceOf, is_manifest_of};
 ghost use Rattle.sled_core.specs.Reading.{GivesMessage, IsInline};
 ghost use Rattle.sled_codec.specs.Places.{MayBegin};
@@ -20,7 +16,7 @@ ghost use Rattle.sled_store.specs.Accounts.{IsAccountant};
 ghost use Rattle.sled_store.specs.Begin.{IsStartable, IsInReach};
 ghost use Rattle.sled_core.specs.Recoverable.{LeavesRecoverable, NoHeaderOfZeros, RecoverableIfOwn};
 ghost use Rattle.sled_core.specs.AccountProps.{IsAccountant-prop};
-ghost use Rattle.sled_core.specs.Begun.{FollowOn, FollowOn-prop, IsFilledLine, IsFilledLine-prop, line_at};
+ghost use Rattle.sled_core.specs.Begun.{LieWithin, LieWithin-prop, IsFilledLine, IsFilledLine-prop, line_in};
 ghost use Rattle.sled_core.specs.OpenPlaces.{open_manifests};
 ghost use Rattle.sled_core.specs.ReadyBuffers.{AreReady, AreReady-prop};
 ghost use Rattle.sled_core.specs.Causes.{FaultAnswers, RecordAnswers};
@@ -31,6 +27,7 @@ mod blobs;
 mod crash;
 mod ending;
 mod fault;
+pub(crate) mod io_bufs;
 mod iterating;
 mod mark_writebatch;
 pub mod read_at;
@@ -45,14 +42,14 @@ mod stable;
 pub(crate) mod unverified_record;
 mod writing;
 
+use crate::iobuf::SegmentPosition;
 use crate::iobuf::start::begin;
-use crate::iobuf::{IoBuf, SegmentPosition};
 use crate::logger::batches::PendingBatches;
 use crate::logger::fault::Fault;
+use crate::logger::io_bufs::{IoBufs, SegmentBuffer, no_segments};
 use crate::logger::read_message::LogRead;
 use crate::logger::read_pointer::{place_read, read_pointer};
 use crate::logger::ready::ReadyBuffers;
-use crate::logger::segments::{SegmentBuffer, no_segments};
 use crate::reservation::{Guard, Reservation};
 use sled_codec::result::{DiskPtr, Error, LogOffset, Lsn, PageId, Result};
 use sled_codec::serialization::{Checksum, LogKind, SegmentNumber, Serialize, Snapshot};
@@ -65,11 +62,8 @@ use std::io;
 /// A log over a device. It is given up by `halt`, which hands its configuration back.
 pub struct Log<D, C> {
     config: RunningConfig<D, C>,
-    /// Where the first segment lies that isn't wholly on the device.
-    site: SegmentPosition,
-    buffer: IoBuf,
-    /// The segments that were begun behind it, by place. The last one is being filled.
-    behind: VecDeque<SegmentBuffer>,
+    /// The segments that it has begun and that aren't wholly on the device, and the one that is being filled.
+    segments: IoBufs,
     /// Which of their sealed buffers can be written.
     ready: ReadyBuffers,
     /// Which slot each segment has. The free slots have zeros in the log file (`specs/FreeSlots.antt`).
@@ -81,16 +75,12 @@ pub struct Log<D, C> {
     pins: u32,
     /// The batches that were noted, and the manifests that are open.
     batches: PendingBatches,
-    ghost in_segment: { length buffer.bytes.items ≤ config.config.segment_size },
-    ghost place_in_reach: { site.place + config.config.segment_size < 2 ^ 63 },
-    ghost slot_in_reach: { site.slot + config.config.segment_size < 2 ^ 63 },
-    ghost waits: { 0 < length behind.items → buffer.written_len < config.config.segment_size },
-    ghost follow: { FollowOn config.config.segment_size (site.place + config.config.segment_size) behind.items } by { FollowOn-prop _ _ _ },
-    ghost filled: { IsFilledLine config.config.segment_size reserved_to site buffer behind.items } by { IsFilledLine-prop _ _ site buffer behind.items },
+    ghost lies: { LieWithin config.config.segment_size segments } by { LieWithin-prop _ _ },
+    ghost filled: { IsFilledLine config.config.segment_size reserved_to segments } by { IsFilledLine-prop _ _ segments },
     ghost account: { IsAccountant config.config.segment_size accountant } by { IsAccountant-prop config.config.segment_size accountant },
     ghost pegs: { All (λ b. b.peg < reserved_to) batches.noted.items },
-    ghost counted: { open_manifests (line_at site buffer behind.items) ≡ batches.manifests },
-    ghost indexed: { AreReady (line_at site buffer behind.items) ready } by { AreReady-prop (line_at site buffer behind.items) ready },
+    ghost counted: { open_manifests (line_in segments) ≡ batches.manifests },
+    ghost indexed: { AreReady (line_in segments) ready } by { AreReady-prop (line_in segments) ready },
 }
 
 impl<D: Device, C: Checksum> Log<D, C> {
@@ -144,14 +134,18 @@ impl<D: Device, C: Checksum> Log<D, C> {
         let alloc = config.alloc();
         match begin(&mut config, snapshot) {
             Ok((beginning, buffer, accountant)) => Ok(Log {
-                behind: no_segments(alloc),
+                segments: IoBufs {
+                    first: SegmentBuffer {
+                        site: SegmentPosition {
+                            place: beginning.place,
+                            slot: beginning.slot,
+                        },
+                        buffer,
+                    },
+                    behind: no_segments(alloc),
+                },
                 ready: ReadyBuffers::new(alloc),
                 config,
-                site: SegmentPosition {
-                    place: beginning.place,
-                    slot: beginning.slot,
-                },
-                buffer,
                 accountant,
                 reserved_to: beginning.place + beginning.offset,
                 fault: Fault { kept: None },
@@ -345,9 +339,7 @@ impl<D: Device, C: Checksum> Log<D, C> {
     {
         let Log {
             config,
-            site: _,
-            buffer: _,
-            behind: _,
+            segments: _,
             ready: _,
             accountant: _,
             reserved_to: _,

@@ -7,7 +7,7 @@ use Rattle.sled_core.specs.Buffers.{IsChain, IsHeaded, most_open, open_in}
 use Rattle.sled_core.specs.declared.iobuf.IoBuf.{IoBuf}
 use Rattle.sled_core.specs.declared.iobuf.SegmentPosition.{SegmentPosition}
 use Rattle.sled_core.specs.declared.logger.Log.{Log}
-use Rattle.sled_core.specs.declared.logger.segments.SegmentBuffer.{SegmentBuffer}
+use Rattle.sled_core.specs.declared.logger.io_bufs.SegmentBuffer.{SegmentBuffer}
 use Rattle.sled_core.specs.Fits.{current_of, line_of}
 use Rattle.sled_core.specs.SealedBuffers.{AreSealed, FirstUnwritten, sealed_count}
 use Rattle.sled_core.proofs.Holds.Nth.{last_get}
@@ -57,18 +57,18 @@ behind_facts size place (s ∷ ss) follow (suc n) v there =
     subst (λ p. IsSegment size p v) (omega arith) (behind_facts size (place + size) ss follow.4 n v there)
 
 -- So it is with the n-th segment of a log, and with the one that is being filled.
-pub nth_facts : {D C : Type 0} (log : Log D C) (n : ℕ) (v : SegmentView) → slice_get (line_of log) n ≡ Some v → IsSegment log.config.config.segment_size (log.site.place + n * log.config.config.segment_size) v
+pub nth_facts : {D C : Type 0} (log : Log D C) (n : ℕ) (v : SegmentView) → slice_get (line_of log) n ≡ Some v → IsSegment log.config.config.segment_size (log.segments.first.site.place + n * log.config.config.segment_size) v
 nth_facts log zero v there =
     let size : ℕ = log.config.config.segment_size in
-    let same : view_at log.site log.buffer ≡ v = cc in
-    subst (λ (w : SegmentView). IsSegment size (log.site.place + 0 * size) w) same
-    (subst (λ p. IsSegment size p (view_at log.site log.buffer)) (omega arith) (segment_facts size log.site log.buffer log.in_segment log.place_in_reach log.slot_in_reach))
+    let same : segment_view log.segments.first ≡ v = cc in
+    subst (λ (w : SegmentView). IsSegment size (log.segments.first.site.place + 0 * size) w) same
+    (subst (λ p. IsSegment size p (segment_view log.segments.first)) (omega arith) (segment_facts size log.segments.first.site log.segments.first.buffer log.lies.in_segment log.lies.place_in_reach log.lies.slot_in_reach))
 nth_facts log (suc n) v there =
     let size : ℕ = log.config.config.segment_size in
-    subst (λ p. IsSegment size p v) (omega arith) (behind_facts size (log.site.place + size) log.behind.items log.follow n v there)
+    subst (λ p. IsSegment size p v) (omega arith) (behind_facts size (log.segments.first.site.place + size) log.segments.behind.items log.lies.follow n v there)
 
-pub current_facts : {D C : Type 0} (log : Log D C) → IsSegment log.config.config.segment_size (log.site.place + length log.behind.items * log.config.config.segment_size) (current_of log)
+pub current_facts : {D C : Type 0} (log : Log D C) → IsSegment log.config.config.segment_size (log.segments.first.site.place + length log.segments.behind.items * log.config.config.segment_size) (current_of log)
 current_facts log =
     let size : ℕ = log.config.config.segment_size in
-    let here = nth_facts log (length (map segment_view log.behind.items)) (current_of log) (last_get (view_at log.site log.buffer) (map segment_view log.behind.items)) in
-    subst (λ n. IsSegment size (log.site.place + n * size) (current_of log)) (length-map log.behind.items segment_view) here
+    let here = nth_facts log (length (map segment_view log.segments.behind.items)) (current_of log) (last_get (segment_view log.segments.first) (map segment_view log.segments.behind.items)) in
+    subst (λ n. IsSegment size (log.segments.first.site.place + n * size) (current_of log)) (length-map log.segments.behind.items segment_view) here

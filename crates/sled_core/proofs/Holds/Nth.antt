@@ -1,11 +1,11 @@
 -- Segments one behind another: the n-th one, the last one, and those around them.
-use Rattle.std.proofs.Common.{◌≡◌, ◌∙◌, ap, sym, refl, arith, ℕ, zero, suc, List, [], ◌∷◌, ◌++◌, length, take, drop, set, map, Some}
+use Rattle.std.proofs.Common.{◌≡◌, ◌∙◌, ◌-◌, ap, sym, refl, arith, ℕ, zero, suc, List, [], ◌∷◌, ◌++◌, length, take, drop, set, map, Some}
 use Rattle.std.specs.List.{slice_get}
 use Rattle.std.proofs.lemmas.List.{length-set, map-append, set_split}
 use Rattle.std.proofs.lemmas.Option.{slice_get_within}
 use Rattle.sled_core.specs.Begun.{SegmentView, last_buffer, segment_view}
 use Rattle.sled_core.specs.declared.iobuf.IoBuf.{IoBuf}
-use Rattle.sled_core.specs.declared.logger.segments.SegmentBuffer.{SegmentBuffer}
+use Rattle.sled_core.specs.declared.logger.io_bufs.SegmentBuffer.{SegmentBuffer}
 use Rattle.sled_core.specs.Fits.{parts_in}
 use Rattle.sled_core.specs.Waiting.{at_last, last_of}
 use Rattle.sled_core.proofs.Reserve.Ranges.{there_split}
@@ -44,6 +44,11 @@ pub get_map : {A B : Type 0} (f : A → B) (xs : List A) (n : ℕ) (y : B) → s
 get_map f [] n y there = cc
 get_map f (x ∷ xs) zero y there = (x, refl, cc)
 get_map f (x ∷ xs) (suc n) y there = get_map f xs n y there
+
+-- one behind the first
+pub get_behind : {T : Type 0} (x : T) (xs : List T) (n : ℕ) (y : T) → (n ≡ 0 → ⊥) → slice_get xs (n - 1) ≡ Some y → slice_get (x ∷ xs) n ≡ Some y
+get_behind x xs zero y some there = absurd (some refl)
+get_behind x xs (suc k) y some there = let at : k ≡ suc k - 1 = omega arith in ap (slice_get xs) at ∙ there
 
 -- The last one is the one at the length of those behind the first.
 pub last_get : (v : SegmentView) (vs : List SegmentView) → slice_get (v ∷ vs) (length vs) ≡ Some (last_of v vs)

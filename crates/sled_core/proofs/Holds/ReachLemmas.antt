@@ -22,7 +22,7 @@ use Rattle.sled_core.specs.declared.reservation.Reservation.{Reservation}
 use Rattle.sled_core.specs.Logged.{logged}
 use Rattle.sled_core.specs.Tickets.{index_of, len_of, place_of, pointer_of, is_manifest_of}
 use Rattle.sled_core.specs.Manifests.{is_manifest}
-use Rattle.sled_core.specs.Begun.{AreFilled, SegmentView, segment_view, view_at}
+use Rattle.sled_core.specs.Begun.{AreFilled, SegmentView, segment_view}
 use Rattle.sled_core.specs.Buffers.{IsChain, IsHeaded, Stands, completed_in, message_in, pointer_as}
 use Rattle.sled_core.specs.Fits.{Awaits, HoldBehind, HoldsLine, HoldsNext, current_of, line_end, line_of, log_parts, next_place, noted_in, parts_in, reserved_end, stable_end, synced_end, HoldsSegment, Holds, IsKept}
 use Rattle.sled_core.specs.LogFile.{StaysBelow}
@@ -149,7 +149,7 @@ unfolding Fits
 fits_reach trace sum log H A f U fits =
     let size : ℕ = log.config.config.segment_size in
     let past = position_past size (current_of log) (machine_of log.accountant) (current_facts log).short in
-    let low = line_below sum size _ log.fault.kept (view_at log.site log.buffer) (map segment_view log.behind.items) (logged H) log.in_segment fits.parts.holds in
+    let low = line_below sum size _ log.fault.kept (segment_view log.segments.first) (map segment_view log.segments.behind.items) (logged H) log.lies.in_segment fits.parts.holds in
     let all = all_in_log (λ (m : Message). m.place < (current_of log).parts.site.place + length (current_of log).parts.bytes) H.messages low in
     λ k d lt. let below = all k d lt in omega (arith, below, past)
 
@@ -157,7 +157,7 @@ fits_reach trace sum log H A f U fits =
 pub fits_apart : {D C : Type 0} (trace : D → Trace) (sum : List ℕ → ℕ) (log : Log D C) (H : History) (A f : ℕ) (U : List Message) → Fits trace sum log H A f U → LieApart H.messages
 unfolding Fits
 fits_apart trace sum log H A f U fits =
-    logged_apart H (whole_apart sum log.config.config.segment_size log.site _ log.fault.kept log.buffer.bytes.items log.buffer.written_len log.buffer.sealed.items log.buffer.reserved.items (logged H) fits.parts.holds log.in_segment)
+    logged_apart H (whole_apart sum log.config.config.segment_size log.segments.first.site _ log.fault.kept log.segments.first.buffer.bytes.items log.segments.first.buffer.written_len log.segments.first.buffer.sealed.items log.segments.first.buffer.reserved.items (logged H) fits.parts.holds log.lies.in_segment)
 
 -- it holds the history
 pub fits_holds : {D C : Type 0} (trace : D → Trace) (sum : List ℕ → ℕ) (log : Log D C) (H : History) (A f : ℕ) (U : List Message) → Fits trace sum log H A f U → Holds trace sum log H
@@ -221,7 +221,7 @@ filled_end size to v (w ∷ []) filled = filled_end size to w [] filled.2
 filled_end size to v (w ∷ x ∷ xs) filled = filled_end size to w (x ∷ xs) filled.2
 
 pub reserved_inside : {D C : Type 0} (log : Log D C) → reserved_end log ≤ (current_of log).parts.site.place + length (current_of log).parts.bytes
-reserved_inside log = filled_end log.config.config.segment_size log.reserved_to (view_at log.site log.buffer) (map segment_view log.behind.items) log.filled
+reserved_inside log = filled_end log.config.config.segment_size log.reserved_to (segment_view log.segments.first) (map segment_view log.segments.behind.items) log.filled
 
 pub reserved_small : {D C : Type 0} (log : Log D C) → reserved_end log < 2 ^ 63
 reserved_small log = let low = reserved_inside log in let facts = current_facts log in let inside = facts.short in let reach = facts.place_small in omega (arith, low, inside, reach)

@@ -215,4 +215,4 @@ module _ (sum : List ℕ → ℕ) (size : ℕ) (site : SegmentPosition) (device 
 -- What a crash leaves of the device of a log can be recovered.
 pub fits_leaves : {D C : Type 0} (trace : D → Trace) (sum : List ℕ → ℕ) (log : Log D C) (H : History) (A f : ℕ) (U : List Message) → Fits trace sum log H A f U → LeavesRecoverable sum (segment_size_of log) H A f (state_of (trace (device_of log)))
 unfolding Fits
-fits_leaves trace sum log H A f U fits = fits-leaves sum log.config.config.segment_size log.site _ log.fault.kept log.buffer.bytes.items log.buffer.written_len log.buffer.sealed.items log.buffer.reserved.items log.pins H A f U fits.parts
+fits_leaves trace sum log H A f U fits = fits-leaves sum log.config.config.segment_size log.segments.first.site _ log.fault.kept log.segments.first.buffer.bytes.items log.segments.first.buffer.written_len log.segments.first.buffer.sealed.items log.segments.first.buffer.reserved.items log.pins H A f U fits.parts

@@ -17,7 +17,7 @@ use Rattle.sled_store.proofs.Names.OneBegin.{one_begin}
 use Rattle.sled_core.specs.declared.iterator.log_iter.LogIter.{LogIter}
 use Rattle.sled_core.specs.declared.logger.Log.{Log}
 use Rattle.sled_core.specs.Begun.{FollowOn, SegmentView, line_end, segment_view}
-use Rattle.sled_core.specs.declared.logger.segments.SegmentBuffer.{SegmentBuffer}
+use Rattle.sled_core.specs.declared.logger.io_bufs.SegmentBuffer.{SegmentBuffer}
 use Rattle.sled_core.specs.Fits.{begun_segment, line_of, machine_at, noted_in, parts_in, stable_end, synced_end}
 use Rattle.sled_core.specs.FreeSlots.{HasSlot}
 use Rattle.sled_core.specs.Iterators.{GivesMessages, GoesOver}
@@ -93,8 +93,8 @@ module _ {D C : Type 0} (trace : D → Trace) (sum : List ℕ → ℕ) (log : Lo
     abbrev first : SnapshotModel
     first = fits.parts.holds.begun.first
 
-    among : StandsAmong sum size state.log.bytes log.site log.buffer.written_len (map begun_segment (map parts_in (map segment_view log.behind.items))) fits.reach H first
-    among = among_alike (logged H) H (logged_twice H) sum size state.log.bytes log.site log.buffer.written_len (map begun_segment (map parts_in (map segment_view log.behind.items))) fits.reach first (fits.parts.among none zeros)
+    among : StandsAmong sum size state.log.bytes log.segments.first.site log.segments.first.buffer.written_len (map begun_segment (map parts_in (map segment_view log.segments.behind.items))) fits.reach H first
+    among = among_alike (logged H) H (logged_twice H) sum size state.log.bytes log.segments.first.site log.segments.first.buffer.written_len (map begun_segment (map parts_in (map segment_view log.segments.behind.items))) fits.reach first (fits.parts.among none zeros)
 
     -- the stable end is that of the history
     same_end : stable_below (synced_end log) H.batches ≡ stable_end log
@@ -112,26 +112,26 @@ module _ {D C : Type 0} (trace : D → Trace) (sum : List ℕ → ℕ) (log : Lo
     }
 
     -- the header stands in the slot of the first segment, where any of it is written
-    first_header : (k : ℕ) → is_free (slot_at m k).state ≡ false → (slot_at m k).lsn ≡ log.site.place → 0 < log.buffer.written_len → (mark : ℤ) × IsHeader sum (part state.log.bytes (k * size) 20) (pos (slot_at m k).lsn) mark
+    first_header : (k : ℕ) → is_free (slot_at m k).state ≡ false → (slot_at m k).lsn ≡ log.segments.first.site.place → 0 < log.segments.first.buffer.written_len → (mark : ℤ) × IsHeader sum (part state.log.bytes (k * size) 20) (pos (slot_at m k).lsn) mark
     first_header k taken at some_written =
         let h = All-head (HasSlot size m) _ _ fits.slots.taken in
         let same : h.number ≡ k = fits.slots.own.one h.number k h.taken taken (h.is ∙ sym at) in
-        let has : HasHeader sum state.log.bytes log.site = headers_line sum size state log.fault.kept none line 0 _ (logged H) fits.parts.holds refl some_written in
-        let slot : log.site.slot ≡ k * size = h.lies ∙ ap (λ n. n * size) same in (
+        let has : HasHeader sum state.log.bytes log.segments.first.site = headers_line sum size state log.fault.kept none line 0 _ (logged H) fits.parts.holds refl some_written in
+        let slot : log.segments.first.site.slot ≡ k * size = h.lies ∙ ap (λ n. n * size) same in (
           has.mark,
-          subst (λ n. IsHeader sum (part state.log.bytes n 20) (pos (slot_at m k).lsn) has.mark) slot (subst (λ n. IsHeader sum (part state.log.bytes log.site.slot 20) (pos n) has.mark) (sym at) has.header),
+          subst (λ n. IsHeader sum (part state.log.bytes n 20) (pos (slot_at m k).lsn) has.mark) slot (subst (λ n. IsHeader sum (part state.log.bytes log.segments.first.site.slot 20) (pos n) has.mark) (sym at) has.header),
         )
 
     begun : (k : ℕ) → is_free (slot_at m k).state ≡ false → (slot_at m k).lsn < stable_end log → (mark : ℤ) × IsHeader sum (part state.log.bytes (k * size) 20) (pos (slot_at m k).lsn) mark
-    begun k taken low = elim (cases_lt (slot_at m k).lsn log.site.place) [
+    begun k taken low = elim (cases_lt (slot_at m k).lsn log.segments.first.site.place) [
       | inl lower ↦ fits.begun none k taken lower
       | inr above ↦ (
           let aligned = fits.slots.own.aligned k taken in
           let begins = fits.parts.holds.own.place_begins in
-          let inside = log.in_segment in
-          let held = written_behind log.buffer in
-          let at : (slot_at m k).lsn ≡ log.site.place = elim (cases_lt log.site.place (slot_at m k).lsn) [
-            | inl over ↦ (let far = apart size (omega (arith, some)) log.site.place (slot_at m k).lsn begins aligned over in absurd (omega (arith, far, low, end_low, inside, held)))
+          let inside = log.lies.in_segment in
+          let held = written_behind log.segments.first.buffer in
+          let at : (slot_at m k).lsn ≡ log.segments.first.site.place = elim (cases_lt log.segments.first.site.place (slot_at m k).lsn) [
+            | inl over ↦ (let far = apart size (omega (arith, some)) log.segments.first.site.place (slot_at m k).lsn begins aligned over in absurd (omega (arith, far, low, end_low, inside, held)))
             | inr le ↦ omega (arith, le, above)
           ] in
           first_header k taken at (omega (arith, at, low, end_low)))
@@ -147,14 +147,14 @@ module _ {D C : Type 0} (trace : D → Trace) (sum : List ℕ → ℕ) (log : Lo
     slots = record {
       aligned = fits.slots.own.aligned;
       one = fits.slots.own.one;
-      reached = λ k taken low. below_reach sum size some H log.site.place log.buffer.written_len fits.reach (slot_at m k).lsn among.reached (fits.slots.own.aligned k taken) (omega (arith, low, end_low));
+      reached = λ k taken low. below_reach sum size some H log.segments.first.site.place log.segments.first.buffer.written_len fits.reach (slot_at m k).lsn among.reached (fits.slots.own.aligned k taken) (omega (arith, low, end_low));
       begun = begun;
       entry = entry;
       fits = λ k taken.
           let below = fits.slots.own.below k taken in
-          let ends = follow_end size (log.site.place + size) log.behind.items log.place_in_reach log.follow in
-          let all : length line * size ≡ suc (length log.behind.items) * size = ap (λ n. suc n * size) (length-map log.behind.items segment_view) in
-          omega (arith, below, ends, all, suc-mul (length log.behind.items) size);
+          let ends = follow_end size (log.segments.first.site.place + size) log.segments.behind.items log.lies.place_in_reach log.lies.follow in
+          let all : length line * size ≡ suc (length log.segments.behind.items) * size = ap (λ n. suc n * size) (length-map log.segments.behind.items segment_view) in
+          omega (arith, below, ends, all, suc-mul (length log.segments.behind.items) size);
     }
 
     -- each blob that is there passes for its message
@@ -162,7 +162,7 @@ module _ {D C : Type 0} (trace : D → Trace) (sum : List ℕ → ℕ) (log : Lo
     good = (blobs_read sum state.blobs H (stable_below fits.reach H.batches) (fits.parts.blobs (firm_files sum state.blobs) (firm_leaves sum state.blobs) (firm_own sum state.blobs (fits.parts.own_names none).of_blobs))).named
 
     apart_messages : LieApart H.messages
-    apart_messages = logged_apart H (whole_apart sum size log.site state log.fault.kept log.buffer.bytes.items log.buffer.written_len log.buffer.sealed.items log.buffer.reserved.items (logged H) fits.parts.holds log.in_segment)
+    apart_messages = logged_apart H (whole_apart sum size log.segments.first.site state log.fault.kept log.segments.first.buffer.bytes.items log.segments.first.buffer.written_len log.segments.first.buffer.sealed.items log.segments.first.buffer.reserved.items (logged H) fits.parts.holds log.lies.in_segment)
 
     -- So an iterator that goes over the segments of the log gives its messages.
     pub gives_messages : (lsn : ℤ) (it : LogIter D C) → GoesOver trace sum log lsn it → GivesMessages trace sum log H lsn it

@@ -15,7 +15,7 @@ use Rattle.sled_store.specs.Device.{State, Trace, state_of}
 use Rattle.sled_store.specs.SegmentStates.{Machine, is_free, slot_at}
 use Rattle.sled_store.proofs.Histories.Ascending.{apart_ascends}
 use Rattle.sled_store.proofs.Histories.EarlierEntries.{entry_earlier}
-use Rattle.sled_core.specs.Begun.{SegmentView, segment_view, view_at}
+use Rattle.sled_core.specs.Begun.{SegmentView, segment_view}
 use Rattle.sled_core.specs.declared.logger.Log.{Log}
 use Rattle.sled_core.specs.Fits.{HasRecordOf, HoldsLine, begun_segment, current_of, fault_of, line_of, machine_at, noted_in, parts_in, segment_size_of, synced_end}
 use Rattle.sled_core.specs.FreeSlots.{HasSlot}
@@ -93,38 +93,38 @@ module _ {D C : Type 0} (trace : D → Trace) (sum : List ℕ → ℕ) (log : Lo
     its_slot z b = at_there (HasSlot size machine) line b.number b.segment b.among fits.slots.taken
 
     -- and lie one behind another:
-    begins_at : (z : ℕ) → z % size ≡ 0 → log.site.place ≤ z → z < log.site.place + length line * size → BeginsAt line z
-    begins_at z aligned low high = segment_at size (omega (arith, some)) log.site.place line (line_segments log) fits.parts.holds.own.place_begins z aligned low high
+    begins_at : (z : ℕ) → z % size ≡ 0 → log.segments.first.site.place ≤ z → z < log.segments.first.site.place + length line * size → BeginsAt line z
+    begins_at z aligned low high = segment_at size (omega (arith, some)) log.segments.first.site.place line (line_segments log) fits.parts.holds.own.place_begins z aligned low high
 
     -- so the log has the segment of a message that isn't of an earlier one.
-    of_line : (m : Message) → Contains H.messages m → log.site.place ≤ m.place → HasSegment machine (m.place / size * size)
+    of_line : (m : Message) → Contains H.messages m → log.segments.first.site.place ≤ m.place → HasSegment machine (m.place / size * size)
     of_line m there above =
         let begins = fits.parts.holds.own.place_begins in
-        let whole = put_down size log.site.place in
+        let whole = put_down size log.segments.first.site.place in
         let parts = put_down size m.place in
-        let up = lower_multiple size some log.site.place m.place above in
+        let up = lower_multiple size some log.segments.first.site.place m.place above in
         let end : ℕ = (current_of log).parts.site.place + length (current_of log).parts.bytes in
-        let low : m.place < end = All-contains (λ (n : Message). n.place < end) (logged H).messages (in_log m) (line_below sum size state log.fault.kept (view_at log.site log.buffer) (map segment_view log.behind.items) (logged H) log.in_segment fits.parts.holds) (logged_there H m there) in
+        let low : m.place < end = All-contains (λ (n : Message). n.place < end) (logged H).messages (in_log m) (line_below sum size state log.fault.kept (segment_view log.segments.first) (map segment_view log.segments.behind.items) (logged H) log.lies.in_segment fits.parts.holds) (logged_there H m there) in
         let current = current_facts log in
         let at = current.at in
         let short = current.short in
         let b = begins_at (m.place / size * size) parts.1 (omega (arith, up, whole.0, begins))
-        (omega (arith, low, parts.0, at, short, ap (λ n. suc n * size) (length-map log.behind.items segment_view), suc-mul (length log.behind.items) size)) in
+        (omega (arith, low, parts.0, at, short, ap (λ n. suc n * size) (length-map log.segments.behind.items segment_view), suc-mul (length log.segments.behind.items) size)) in
         let h = its_slot (m.place / size * size) b in
         (h.number, h.taken, h.is ∙ b.at)
 
     -- An entry of an earlier one.
-    module _ (none : log.fault.kept ≡ None) (zeros : NoHeaderOfZeros sum) (m : Message) (there : Contains H.messages m) (below : m.place < log.site.place) (cut : ℕ) (far : synced_end log ≤ cut) (entry : Contains (table H cut m.page) m) where
+    module _ (none : log.fault.kept ≡ None) (zeros : NoHeaderOfZeros sum) (m : Message) (there : Contains H.messages m) (below : m.place < log.segments.first.site.place) (cut : ℕ) (far : synced_end log ≤ cut) (entry : Contains (table H cut m.page) m) where
       -- what a reader finds of the file
-      among : StandsAmong sum size state.log.bytes log.site log.buffer.written_len (map begun_segment (map parts_in (map segment_view log.behind.items))) fits.reach H fits.parts.holds.begun.first
-      among = among_alike (logged H) H (logged_twice H) sum size state.log.bytes log.site log.buffer.written_len (map begun_segment (map parts_in (map segment_view log.behind.items))) fits.reach fits.parts.holds.begun.first (fits.parts.among none zeros)
+      among : StandsAmong sum size state.log.bytes log.segments.first.site log.segments.first.buffer.written_len (map begun_segment (map parts_in (map segment_view log.segments.behind.items))) fits.reach H fits.parts.holds.begun.first
+      among = among_alike (logged H) H (logged_twice H) sum size state.log.bytes log.segments.first.site log.segments.first.buffer.written_len (map begun_segment (map parts_in (map segment_view log.segments.behind.items))) fits.reach fits.parts.holds.begun.first (fits.parts.among none zeros)
 
       -- it is an entry of the table of what a reader comes to, too,
       reached : Contains (table H fits.reach m.page) m
       reached =
           let near = fits.parts.near in
           let low = (fits.parts.ends (in_log m) (logged_there H m there) (omega (arith, below))).0 in
-          let lie = whole_apart sum size log.site state log.fault.kept log.buffer.bytes.items log.buffer.written_len log.buffer.sealed.items log.buffer.reserved.items (logged H) fits.parts.holds log.in_segment in
+          let lie = whole_apart sum size log.segments.first.site state log.fault.kept log.segments.first.buffer.bytes.items log.segments.first.buffer.written_len log.segments.first.buffer.sealed.items log.segments.first.buffer.reserved.items (logged H) fits.parts.holds log.lies.in_segment in
           entry_earlier H (apart_ascends H.messages (logged_apart H lie)) fits.reach cut m.page (omega (arith, near, far)) m low entry
 
       -- so its segment is found,
@@ -146,14 +146,14 @@ module _ {D C : Type 0} (trace : D → Trace) (sum : List ℕ → ℕ) (log : Lo
       header = subst (λ n. IsHeader sum (part state.log.bytes n 20) (pos of.segment.place) of.segment.mark) slot of.found.header
 
       -- That isn't the slot of a segment of the line,
-      other : is_free (slot_at machine k).state ≡ false → log.site.place ≤ (slot_at machine k).lsn → ⊥
+      other : is_free (slot_at machine k).state ≡ false → log.segments.first.site.place ≤ (slot_at machine k).lsn → ⊥
       other taken above =
           let ends = fits.slots.own.below k taken in
           let b = begins_at (slot_at machine k).lsn (fits.slots.own.aligned k taken) above (omega (arith, ends, some)) in
           let h = its_slot (slot_at machine k).lsn b in
           let same : h.number ≡ k = fits.slots.own.one h.number k h.taken taken (h.is ∙ b.at) in
           let here : k * size ≡ b.segment.parts.site.slot = ap (λ n. n * size) (sym same) ∙ sym h.lies in
-          let is = own_header sum zeros size some state log.fault.kept none log.site.place line (line_segments log) (logged H) fits.parts.holds b.number b.segment b.among of.segment.place of.segment.mark
+          let is = own_header sum zeros size some state log.fault.kept none log.segments.first.site.place line (line_segments log) (logged H) fits.parts.holds b.number b.segment b.among of.segment.place of.segment.mark
           (subst (λ n. IsHeader sum (part state.log.bytes n 20) (pos of.segment.place) of.segment.mark) here header) in
           let at = b.at in
           let place = of.place in
@@ -172,7 +172,7 @@ module _ {D C : Type 0} (trace : D → Trace) (sum : List ℕ → ℕ) (log : Lo
         by false taken = (
           k,
           taken,
-          elim (cases_lt (slot_at machine k).lsn log.site.place) [
+          elim (cases_lt (slot_at machine k).lsn log.segments.first.site.place) [
             | inl lower ↦ (
                 let had = fits.begun none k taken lower in
                 let same = (one_header sum (part state.log.bytes (k * size) 20) (pos (slot_at machine k).lsn) had.0 (pos of.segment.place) of.segment.mark had.1 header).0 in
@@ -188,7 +188,7 @@ pub still_there : {D C : Type 0} (trace : D → Trace) (sum : List ℕ → ℕ) 
 unfolding Fits
 still_there trace sum log H A f U m fits none zeros there has = elim has [
   | inl above ↦ of_line trace sum log H A f U fits m there above
-  | inr (cut, far, entry) ↦ elim (cases_lt m.place log.site.place) [
+  | inr (cut, far, entry) ↦ elim (cases_lt m.place log.segments.first.site.place) [
     | inl below ↦ of_entry trace sum log H A f U fits none zeros m there below cut far entry
     | inr above ↦ of_line trace sum log H A f U fits m there above
   ]

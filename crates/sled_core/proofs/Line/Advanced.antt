@@ -10,7 +10,7 @@ use Rattle.sled_store.specs.Device.{Event, Trace}
 use Rattle.sled_store.specs.Script.{Performs, after_all}
 use Rattle.sled_store.proofs.Segments.Elements.{in_rest}
 use Rattle.sled_store.proofs.Traces.ScriptLemmas.{after_joined, performs_behind, performs_more}
-use Rattle.sled_core.specs.Begun.{SegmentView, segment_view, view_at}
+use Rattle.sled_core.specs.Begun.{SegmentView, segment_view}
 use Rattle.sled_core.specs.declared.logger.Log.{Log}
 use Rattle.sled_core.specs.Causes.{Answers, HeldAnswers}
 use Rattle.sled_core.specs.Fits.{KeepsTickets, current_begin, device_of, fault_of, holding_below, line_of, start_of, synced_end, waiting_of, writing_below}
@@ -31,14 +31,14 @@ use Rattle.std.proofs.lemmas.List.{length-map}
 
 -- the first segment of a log, and those behind it
 abbrev pub first_view : {D C : Type 0} → Log D C → SegmentView
-first_view log = view_at log.site log.buffer
+first_view log = segment_view log.segments.first
 
 abbrev pub views_behind : {D C : Type 0} → Log D C → List SegmentView
-views_behind log = map segment_view log.behind.items
+views_behind log = map segment_view log.segments.behind.items
 
 -- what a log keeps of whether its first segment is wholly on the device
-pub waits_behind : {D C : Type 0} (log : Log D C) → 0 < length (views_behind log) → log.buffer.written_len < log.config.config.segment_size
-waits_behind log some = log.waits (omega (arith, some, length-map log.behind.items segment_view))
+pub waits_behind : {D C : Type 0} (log : Log D C) → 0 < length (views_behind log) → log.segments.first.buffer.written_len < log.config.config.segment_size
+waits_behind log some = log.lies.waits (omega (arith, some, length-map log.segments.behind.items segment_view))
 
 -- The first sealed buffer can be written.
 pub ready_in : {D C : Type 0} (log : Log D C) (to : ℕ) → ready_below (line_of log) to ≡ true → IsReadyIn (line_of log) 0 0
@@ -54,7 +54,7 @@ FirstWritten mid new = line_of new ≡ promoted mid.config.config.segment_size (
 pub first_step : {D C : Type 0} (to : ℕ) (mid new : Log D C) → ready_below (line_of mid) to ≡ true → FirstWritten mid new → IsFirst to (waiting_of mid) (waiting_of new) (write_in (line_of mid) 0 0)
 first_step to mid new ready is =
     subst (λ (l : List BufferAt). IsFirst to (waiting_of mid) l (write_in (line_of mid) 0 0)) (sym (ap unwritten is))
-    (line_first mid.config.config.segment_size mid.site.place to (first_view mid) (views_behind mid) (line_segments mid) ready)
+    (line_first mid.config.config.segment_size mid.segments.first.site.place to (first_view mid) (views_behind mid) (line_segments mid) ready)
 
 -- the first segment's stable end
 abbrev end_synced : List SegmentView → ℕ
@@ -180,12 +180,12 @@ module _ {D C : Type 0} (trace : D → Trace) (sum : List ℕ → ℕ) (faults :
       → Performs (writing_below sum old to) (trace (device_of old)) (trace (device_of new))
   failed_further old mid new sealed so_far ready most =
       let size : ℕ = mid.config.config.segment_size in
-      let step = line_first size mid.site.place to (first_view mid) (views_behind mid) (line_segments mid) ready in
+      let step = line_first size mid.segments.first.site.place to (first_view mid) (views_behind mid) (line_segments mid) ready in
       let calls : List Event = write_in (line_of mid) 0 0 in
       let after : List BufferAt = unwritten (promoted size (set (line_of mid) 0 (written_now 0 (first_view mid)))) in
       let left : writes_below to (waiting_of mid) ≡ calls ++ writes_below to after = first_writes to (waiting_of mid) after calls step in
       let all : writing_below sum old to ≡ so_far.done ++ (calls ++ writes_below to after) =
-      current_writes sum old.config.config.segment_size old.site.place to (first_view old) (views_behind old) (line_segments old) sealed ∙ so_far.whole ∙ ap (λ (es : List Event). so_far.done ++ es) left in
+      current_writes sum old.config.config.segment_size old.segments.first.site.place to (first_view old) (views_behind old) (line_segments old) sealed ∙ so_far.whole ∙ ap (λ (es : List Event). so_far.done ++ es) left in
       subst (λ (es : List Event). Performs es (trace (device_of old)) (trace (device_of new))) (sym all)
       (performs_behind so_far.done (calls ++ writes_below to after) _ _ _ so_far.came (performs_more calls (writes_below to after) _ _ most))
 
@@ -193,12 +193,12 @@ module _ {D C : Type 0} (trace : D → Trace) (sum : List ℕ → ℕ) (faults :
   pub failed_any : (old mid : Log D C) → to ≤ current_begin old → Advanced old mid → ready_below (line_of mid) to ≡ true → writing_below sum old to ≡ [] → ⊥
   failed_any old mid sealed so_far ready none =
       let size : ℕ = mid.config.config.segment_size in
-      let step = line_first size mid.site.place to (first_view mid) (views_behind mid) (line_segments mid) ready in
+      let step = line_first size mid.segments.first.site.place to (first_view mid) (views_behind mid) (line_segments mid) ready in
       let calls : List Event = write_in (line_of mid) 0 0 in
       let after : List BufferAt = unwritten (promoted size (set (line_of mid) 0 (written_now 0 (first_view mid)))) in
       let left : writes_below to (waiting_of mid) ≡ calls ++ writes_below to after = first_writes to (waiting_of mid) after calls step in
       let all : writing_below sum old to ≡ so_far.done ++ (calls ++ writes_below to after) =
-      current_writes sum old.config.config.segment_size old.site.place to (first_view old) (views_behind old) (line_segments old) sealed ∙ so_far.whole ∙ ap (λ (es : List Event). so_far.done ++ es) left in
+      current_writes sum old.config.config.segment_size old.segments.first.site.place to (first_view old) (views_behind old) (line_segments old) sealed ∙ so_far.whole ∙ ap (λ (es : List Event). so_far.done ++ es) left in
       absurd (omega (arith, ap length none, ap length all, ap length step.calls, length-append so_far.done (calls ++ writes_below to after), length-append calls (writes_below to after)))
 
   -- Where there was one at most, and it can be written, none was.
@@ -208,7 +208,7 @@ module _ {D C : Type 0} (trace : D → Trace) (sum : List ℕ → ℕ) (faults :
     by_left (inl is) = same_synced old new (same ∙ is)
     by_left (inr none) =
         let size : ℕ = mid.config.config.segment_size in
-        let step = line_first size mid.site.place to (first_view mid) (views_behind mid) (line_segments mid) ready in
+        let step = line_first size mid.segments.first.site.place to (first_view mid) (views_behind mid) (line_segments mid) ready in
         absurd (omega (arith, ap length step.is, ap length none))
 
   pub failed_tickets : (old mid new : Log D C) → Advanced old mid → KeepsTickets mid new → KeepsTickets old new
@@ -221,28 +221,28 @@ module _ {D C : Type 0} (trace : D → Trace) (sum : List ℕ → ℕ) (faults :
   pub all_made : (old now : Log D C) → to ≤ current_begin old → Advanced old now → writes_below to (waiting_of now) ≡ [] → trace (device_of now) ≡ after_all (writing_below sum old to) (trace (device_of old))
   all_made old now sealed so_far none =
       let all : writing_below sum old to ≡ so_far.done =
-      current_writes sum old.config.config.segment_size old.site.place to (first_view old) (views_behind old) (line_segments old) sealed ∙ so_far.whole ∙ ap (λ (es : List Event). so_far.done ++ es) none ∙ append-nil so_far.done in
+      current_writes sum old.config.config.segment_size old.segments.first.site.place to (first_view old) (views_behind old) (line_segments old) sealed ∙ so_far.whole ∙ ap (λ (es : List Event). so_far.done ++ es) none ∙ append-nil so_far.done in
       so_far.came ∙ ap (λ (es : List Event). after_all es (trace (device_of old))) (sym all)
 
   pub holds_up : (old now : Log D C) → to ≤ current_begin old → Advanced old now → holding_below sum old to ≡ held_below to (waiting_of now)
-  holds_up old now sealed so_far = current_holds sum old.config.config.segment_size old.site.place to (first_view old) (views_behind old) (line_segments old) sealed ∙ so_far.held
+  holds_up old now sealed so_far = current_holds sum old.config.config.segment_size old.segments.first.site.place to (first_view old) (views_behind old) (line_segments old) sealed ∙ so_far.held
 
   -- Where all before the place is written, nothing is left.
   pub past_left : (now : Log D C) → to ≤ synced_end now → BeginFrom to (waiting_of now)
-  past_left now past = line_past now.config.config.segment_size now.site.place to (first_view now) (views_behind now) (line_segments now) past
+  past_left now past = line_past now.config.config.segment_size now.segments.first.site.place to (first_view now) (views_behind now) (line_segments now) past
 
   -- Where it isn't, and the first sealed buffer can't be written, that has an open reservation.
-  pub stuck_left : (old now : Log D C) → to ≤ current_begin old → Advanced old now → synced_end now < to → ready_below (line_of now) to ≡ false → IsStuck to now.site.place (waiting_of now) now.buffer.reserved.items
+  pub stuck_left : (old now : Log D C) → to ≤ current_begin old → Advanced old now → synced_end now < to → ready_below (line_of now) to ≡ false → IsStuck to now.segments.first.site.place (waiting_of now) now.segments.first.buffer.reserved.items
   stuck_left old now sealed so_far below stuck =
       let current = so_far.current in
-      line_stuck now.config.config.segment_size now.site.place to now.reserved_to (first_view now) (views_behind now) (line_segments now) now.filled (waits_behind now) below (omega (arith, current, sealed)) stuck
+      line_stuck now.config.config.segment_size now.segments.first.site.place to now.reserved_to (first_view now) (views_behind now) (line_segments now) now.filled (waits_behind now) below (omega (arith, current, sealed)) stuck
 
   -- one that was there at most isn't written then
-  pub stuck_one : (old now : Log D C) → Advanced old now → IsStuck to now.site.place (waiting_of now) now.buffer.reserved.items → length (waiting_of old) ≤ 1 → synced_end now ≡ synced_end old
+  pub stuck_one : (old now : Log D C) → Advanced old now → IsStuck to now.segments.first.site.place (waiting_of now) now.segments.first.buffer.reserved.items → length (waiting_of old) ≤ 1 → synced_end now ≡ synced_end old
   stuck_one old now so_far stuck few = by_left (so_far.one few) where
     by_left : (line_of now ≡ line_of old) ⊎ (waiting_of now ≡ []) → synced_end now ≡ synced_end old
     by_left (inl same) = same_synced old now same
-    by_left (inr none) = let some : Some (now.site.place + stuck.from) ≡ None = sym stuck.holds ∙ ap (held_below to) none in cc
+    by_left (inr none) = let some : Some (now.segments.first.site.place + stuck.from) ≡ None = sym stuck.holds ∙ ap (held_below to) none in cc
 
 -- What a call answers that writes a buffer, in a call that nothing holds up so far.
 pub write_failed : (T S : Type 0) (e : Error) (held : Option ℕ) (used : Type 0) (now : Option IoError) (before mid after : ℕ) → (used → ⊥) → mid ≡ before → Answers {T = T} (Err e) None now mid after → HeldAnswers {T = S} (Err e) held used None now before after

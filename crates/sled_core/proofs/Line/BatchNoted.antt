@@ -8,7 +8,7 @@ use Rattle.sled_store.specs.Accounts.{machine_of}
 use Rattle.sled_store.specs.Device.{Trace, state_of}
 use Rattle.sled_store.specs.declared.config.RunningConfig.{RunningConfig}
 use Rattle.sled_core.specs.Batches.{LiesInNoFilling, NotesBatchOf, batch_for}
-use Rattle.sled_core.specs.Begun.{SegmentView, line_at, segment_view, view_at}
+use Rattle.sled_core.specs.Begun.{SegmentView, line_in, segment_view}
 use Rattle.sled_core.specs.Buffers.{IsHeaded, marking}
 use Rattle.sled_core.specs.declared.iobuf.ReservationState.TheVariants.{Manifest}
 use Rattle.sled_core.specs.declared.iobuf.Reserved.{Reserved}
@@ -43,13 +43,13 @@ use Rattle.sled_core.proofs.Line.Places.{reserved_ends, reserved_in_reach}
 module _ {D C : Type 0} (mid new : Log D C) (rest : NotesBatch mid new) where
   -- Its segments lie where they lay, with what they had,
   pub noted_line : line_of new ≡ line_of mid
-  noted_line = λ i. line_at (rest.site i) (rest.buffer i) (rest.behind i).items
+  noted_line = λ i. line_in (rest.segments i)
 
   noted_current : current_of new ≡ current_of mid
-  noted_current = λ i. last_of (view_at (rest.site i) (rest.buffer i)) (map segment_view (rest.behind i).items)
+  noted_current = λ i. last_of (segment_view (rest.segments i).first) (map segment_view (rest.segments i).behind.items)
 
   pub noted_synced : synced_end new ≡ synced_end mid
-  noted_synced = λ i. (rest.site i).place + (rest.buffer i).written_len
+  noted_synced = λ i. (rest.segments i).first.site.place + (rest.segments i).first.buffer.written_len
 
   -- the next record begins where it would have begun,
   pub noted_position : SamePosition mid new
@@ -72,7 +72,7 @@ pub record IsReservedAt {D C : Type 0} (log : Log D C) (ticket : Reservation) (n
   pub there : slice_get segment.parts.reserved (index - segment.gone) ≡ Some reserved
   pub own : IsFor segment.parts.site reserved ticket
 
-pub reserved_at : {D C : Type 0} (log : Log D C) (ticket : Reservation) (m : Message) → Awaits log ticket m → (place n index : ℕ) → place ≡ unsigned_abs (place_of ticket) → n ≡ (place - log.site.place) / log.config.config.segment_size → index ≡ index_of ticket
+pub reserved_at : {D C : Type 0} (log : Log D C) (ticket : Reservation) (m : Message) → Awaits log ticket m → (place n index : ℕ) → place ≡ unsigned_abs (place_of ticket) → n ≡ (place - log.segments.first.site.place) / log.config.config.segment_size → index ≡ index_of ticket
     → IsReservedAt log ticket n index
 reserved_at log ticket m awaits place n index place_is n_is index_is = record {
   segment = awaits.segment;
@@ -128,7 +128,7 @@ module _ {D C : Type 0} (trace : D → Trace) (sum : List ℕ → ℕ) (old mid 
   abbrev i : ℕ
   i = index - f.segment.gone
 
-  facts : IsSegment old.config.config.segment_size (old.site.place + n * old.config.config.segment_size) f.segment
+  facts : IsSegment old.config.config.segment_size (old.segments.first.site.place + n * old.config.config.segment_size) f.segment
   facts = nth_facts old n f.segment f.among
 
   short : length (marking sum f.segment.parts.bytes f.reserved peg) ≤ f.reserved.len
@@ -138,7 +138,7 @@ module _ {D C : Type 0} (trace : D → Trace) (sum : List ℕ → ℕ) (old mid 
   ended_same = keeps_ended old mid n v f.among i r f.there f.own.open_yet (marking sum v.parts.bytes r peg) short Manifest line ended
 
   low_unwritten : synced_end old ≤ v.parts.site.place + r.from
-  low_unwritten = line_unwritten sum old.config.config.segment_size (state_of (trace old.config.device)) old.fault.kept v i r f.there f.own.open_yet facts (line_of old) n old.site.place f.among (nth_facts old)
+  low_unwritten = line_unwritten sum old.config.config.segment_size (state_of (trace old.config.device)) old.fault.kept v i r f.there f.own.open_yet facts (line_of old) n old.segments.first.site.place f.among (nth_facts old)
 
   -- The batch begins behind what is written, ends no further in front than there, and has no place in common with those that were noted.
   module _ (low : ℕ) (low_is : low ≡ unsigned_abs (place_of ticket)) where
@@ -207,13 +207,13 @@ module _ {D C : Type 0} (trace : D → Trace) (sum : List ℕ → ℕ) (old mid 
         let here : v.parts.site.place + r.from ≡ place = sym (ap unsigned_abs (is ∙ f.own.place)) in
         subst (λ (p : ℕ). TakesOut p (open_places old) (open_places new)) here
         (subst (λ (l : List SegmentView). TakesOut (v.parts.site.place + r.from) (open_places old) (open_places_along l)) (sym (noted_line mid new rest ∙ line))
-        (ended_takes old.config.config.segment_size (line_of old) old.site.place n v f.among (nth_facts old) i r f.there f.own.open_yet (marking sum v.parts.bytes r peg) short Manifest refl))
+        (ended_takes old.config.config.segment_size (line_of old) old.segments.first.site.place n v f.among (nth_facts old) i r f.there f.own.open_yet (marking sum v.parts.bytes r peg) short Manifest refl))
 
     batch_others : KeepsOthers trace sum ticket old new
     unfolding Holds
     batch_others H other m holds awaits elsewhere =
         subst (λ (l : List SegmentView). AwaitsIn l other (in_log m)) (sym (noted_line mid new rest ∙ line))
-        (others_await old.config.config.segment_size (line_of old) old.site.place n v f.among (nth_facts old) i r f.there f.own.open_yet (marking sum v.parts.bytes r peg) short Manifest sum (state_of (trace old.config.device)) old.fault.kept
+        (others_await old.config.config.segment_size (line_of old) old.segments.first.site.place n v f.among (nth_facts old) i r f.there f.own.open_yet (marking sum v.parts.bytes r peg) short Manifest sum (state_of (trace old.config.device)) old.fault.kept
         (logged H) holds.holds ticket other (in_log m) f.own.place awaits elsewhere)
 
     -- so much is seen,
@@ -229,7 +229,7 @@ module _ {D C : Type 0} (trace : D → Trace) (sum : List ℕ → ℕ) (old mid 
         let at = f.own.place in
         let reach = reserved_in_reach old in
         let ends = reserved_ends old in
-        let now = holds_noted sum old.config.config.segment_size (state_of (trace old.config.device)) old.fault.kept (line_of old) n v f.among old.site.place (nth_facts old) i r f.there f.own.open_yet (of_manifest old ticket n index f manifest) peg (omega (arith, within, reach)) later (omega (arith, within, ends)) (machine_of old.accountant) (noted_in old)
+        let now = holds_noted sum old.config.config.segment_size (state_of (trace old.config.device)) old.fault.kept (line_of old) n v f.among old.segments.first.site.place (nth_facts old) i r f.there f.own.open_yet (of_manifest old ticket n index f manifest) peg (omega (arith, within, reach)) later (omega (arith, within, ends)) (machine_of old.accountant) (noted_in old)
         (λ c known. elim (apart c known) [ inl front ↦ inl (omega (arith, ints, front, at)) | inr behind ↦ inr behind ]) (logged H) (log_off old peg within lies) holds in (
           noted_history H b,
           subst (λ (x : Batch). AddsBatch H x (noted_history H b)) (λ j. record { low = (sym begins ∙ low_is) j; peg = peg }) (noted_adds H b later),
@@ -247,7 +247,7 @@ module _ {D C : Type 0} (trace : D → Trace) (sum : List ℕ → ℕ) (old mid 
         let at = f.own.place in
         let reach = reserved_in_reach old in
         let ends = reserved_ends old in
-        let now = fits_noted sum size (state_of (trace old.config.device)) old.fault.kept (line_of old) n v f.among old.site.place (nth_facts old) i r f.there f.own.open_yet (of_manifest old ticket n index f manifest) peg (omega (arith, within, reach)) later (omega (arith, within, ends)) (machine_of old.accountant) (noted_in old)
+        let now = fits_noted sum size (state_of (trace old.config.device)) old.fault.kept (line_of old) n v f.among old.segments.first.site.place (nth_facts old) i r f.there f.own.open_yet (of_manifest old ticket n index f manifest) peg (omega (arith, within, reach)) later (omega (arith, within, ends)) (machine_of old.accountant) (noted_in old)
         (λ c known. elim (apart c known) [ inl front ↦ inl (omega (arith, ints, front, at)) | inr behind ↦ inr behind ]) old.pins H A f' U old.config.config.least none (log_off old peg within lies) fits in (
           noted_history H b,
           subst (λ (x : Batch). AddsBatch H x (noted_history H b)) (λ j. record { low = (sym begins ∙ low_is) j; peg = peg }) (noted_adds H b later),

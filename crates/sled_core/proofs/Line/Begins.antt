@@ -17,7 +17,7 @@ use Rattle.sled_store.specs.SegmentStates.{Machine, handed_out, next_slot}
 use Rattle.sled_core.specs.declared.iobuf.SegmentPosition.{SegmentPosition}
 use Rattle.sled_core.specs.declared.logger.Log.{Log}
 use Rattle.sled_core.specs.declared.reservation.Reservation.{Reservation}
-use Rattle.sled_core.specs.Begun.{SegmentParts, SegmentView, begin_of, first_place, segment_view, view_at}
+use Rattle.sled_core.specs.Begun.{SegmentParts, SegmentView, begin_of, first_place, segment_view}
 use Rattle.sled_core.specs.Buffers.{IsHeaded}
 use Rattle.sled_core.specs.Logged.{logged, in_log}
 use Rattle.sled_core.specs.Tickets.{IsFor, index_of}
@@ -328,10 +328,10 @@ module _ {D C : Type 0} (trace : D → Trace) (sum : List ℕ → ℕ) (old new 
   its_size = segment_size_of old
 
   abbrev first : SegmentView
-  first = view_at old.site old.buffer
+  first = segment_view old.segments.first
 
   abbrev behind : List SegmentView
-  behind = map segment_view old.behind.items
+  behind = map segment_view old.segments.behind.items
 
   big : 256 ≤ its_size
   big = old.config.config.least
@@ -369,7 +369,7 @@ module _ {D C : Type 0} (trace : D → Trace) (sum : List ℕ → ℕ) (old new 
   pub begins_same : KeepsAll old new
   begins_same = record { config = rest.config; synced = begins_synced; noted = begins_noted; kept = kept_same old new rest.noted; fault = rest.fault; pins = rest.pins }
 
-  facts : IsSegment its_size (old.site.place + length old.behind.items * its_size) (current_of old)
+  facts : IsSegment its_size (old.segments.first.site.place + length old.segments.behind.items * its_size) (current_of old)
   facts = current_facts old
 
   -- tickets are for what they were for,
@@ -377,7 +377,7 @@ module _ {D C : Type 0} (trace : D → Trace) (sum : List ℕ → ℕ) (old new 
   begins_tickets = record {
     awaits = λ ticket m awaits. subst (λ (l : List SegmentView). AwaitsIn l ticket (in_log m)) (sym line)
         (awaits_more sum its_size (closed sum its_size (line_of old)) (begun_view sum its_size (machine_at old) (stable_end old) (current_of old) ∷ []) ticket (in_log m)
-        (awaits_closed sum its_size first behind (old.site.place + length old.behind.items * its_size) facts ticket (in_log m) awaits));
+        (awaits_closed sum its_size first behind (old.segments.first.site.place + length old.segments.behind.items * its_size) facts ticket (in_log m) awaits));
     opens = ap open_places_along line
         ∙ places_begun (closed sum its_size (line_of old)) (begun_view sum its_size (machine_at old) (stable_end old) (current_of old)) refl
         ∙ places_closed sum its_size first behind;
@@ -386,11 +386,11 @@ module _ {D C : Type 0} (trace : D → Trace) (sum : List ℕ → ℕ) (old new 
   closes : IsClosable its_size (current_of old)
   closes = closable its_size _ (current_of old) facts (filled_last its_size old.reserved_to first behind old.filled).0
 
-  first_facts : IsSegment its_size (old.site.place + 0 * its_size) first
+  first_facts : IsSegment its_size (old.segments.first.site.place + 0 * its_size) first
   first_facts = nth_facts old 0 first refl
 
   lies : (current_of old).parts.site.place ≡ first.parts.site.place + length behind * its_size
-  lies = let at = facts.at in omega (arith, at, ap (λ n. n * its_size) (length-map old.behind.items segment_view))
+  lies = let at = facts.at in omega (arith, at, ap (λ n. n * its_size) (length-map old.segments.behind.items segment_view))
 
   -- and the log holds and fits what it did.
   pub begins_keeps : Preserves trace sum old new
@@ -399,7 +399,7 @@ module _ {D C : Type 0} (trace : D → Trace) (sum : List ℕ → ℕ) (old new 
       let device : State = state_of (trace (device_of old)) in
       let f = facts in
       let g = first_facts in
-      let small : old.site.place / its_size < 2 ^ 64 = (let small = g.place_small in omega (arith, small, div-le_self old.site.place its_size)) in
+      let small : old.segments.first.site.place / its_size < 2 ^ 64 = (let small = g.place_small in omega (arith, small, div-le_self old.segments.first.site.place its_size)) in
       record {
         goes_on = goes_on_quietly trace sum old new (record { config = ap (λ (x : RunningConfig D C). x.config) rest.config; checksum = ap (λ (x : RunningConfig D C). x.checksum) rest.config })
             (ap (λ (x : RunningConfig D C). trace x.device) rest.config) (let same = begins_synced in omega (arith, same)) (λ none. sym rest.fault ∙ none);

@@ -23,7 +23,7 @@ use Rattle.sled_core.specs.declared.iobuf.record.Head.{Head}
 use Rattle.sled_core.specs.declared.logger.Log.{Log}
 use Rattle.sled_core.specs.declared.reservation.Reservation.{Reservation}
 use Rattle.sled_core.specs.Buffers.{item_as, pointer_as}
-use Rattle.sled_core.specs.Begun.{SegmentView, last_buffer, segment_view, view_at}
+use Rattle.sled_core.specs.Begun.{SegmentView, last_buffer_in, segment_view}
 use Rattle.sled_core.specs.Causes.{HasRecordPlace, ReserveAnswers}
 use Rattle.sled_core.specs.Fits.{AwaitsIn, IsLeastOpen, IsUsedUpFor, KeepsAll, KeepsTickets, current_of, device_of, fault_of, line_of, machine_at, message_as, next_place, position_of, segment_size_of, size_for, target_of, written_to}
 use Rattle.sled_core.specs.Keeps.{KeepsSeen, Preserves}
@@ -64,7 +64,7 @@ module _ {D C : Type 0} (trace : D → Trace) (sum : List ℕ → ℕ) (old mid 
     line_same = same_line mid made rest
 
     current_same : current_of made ≡ current_of mid
-    current_same = λ i. last_of (view_at (rest.site i) (rest.buffer i)) (map segment_view (rest.behind i).items)
+    current_same = λ i. last_of (segment_view (rest.segments i).first) (map segment_view (rest.segments i).behind.items)
 
     size_same : segment_size_of made ≡ segment_size_of mid
     size_same = ap (λ (x : Config). x.segment_size) rest.config
@@ -72,8 +72,8 @@ module _ {D C : Type 0} (trace : D → Trace) (sum : List ℕ → ℕ) (old mid 
     machine_same : machine_at made ≡ machine_at mid
     machine_same = ap machine_of rest.accountant
 
-    abbrev buffer_same : last_buffer made.buffer made.behind.items ≡ last_buffer mid.buffer mid.behind.items
-    buffer_same = λ i. last_buffer (rest.buffer i) (rest.behind i).items
+    abbrev buffer_same : last_buffer_in made.segments ≡ last_buffer_in mid.segments
+    buffer_same = λ i. last_buffer_in (rest.segments i)
 
     still_tickets : KeepsTickets old made
     still_tickets = record {

@@ -3,7 +3,7 @@ use Rattle.std.proofs.Common.{◌≡◌, ◌∙◌, ◌<◌, ◌≤◌, ◌+◌,
 use Rattle.std.specs.List.{slice_get}
 use Rattle.std.proofs.lemmas.Bool.Decides.{nat_tests}
 use Rattle.std.proofs.lemmas.List.{drop-drop, length-map}
-use Rattle.sled_core.specs.Begun.{AreFilled, SegmentView, begin_of, segment_view, view_at}
+use Rattle.sled_core.specs.Begun.{AreFilled, SegmentView, begin_of, segment_view}
 use Rattle.sled_core.specs.Buffers.{first_open_in, open_in, open_state}
 use Rattle.sled_core.specs.declared.iobuf.Reserved.{Reserved}
 use Rattle.sled_core.specs.declared.iobuf.Sealed.{Sealed}
@@ -203,21 +203,21 @@ unwritten_promoted size place vs are =
 
 -- All before the stable end is on the device, and what begins there isn't: the first of these buffers, or the current one.
 pub first_waits : {D C : Type 0} (log : Log D C) → FirstWaits (synced_end log) (current_begin log) (waiting_of log)
-first_waits log = by log.buffer.sealed.items log.buffer.head (map segment_view log.behind.items) log.filled
-    (λ some. log.waits (omega (arith, some, length-map log.behind.items segment_view))) refl
+first_waits log = by log.segments.first.buffer.sealed.items log.segments.first.buffer.head (map segment_view log.segments.behind.items) log.filled
+    (λ some. log.lies.waits (omega (arith, some, length-map log.segments.behind.items segment_view))) refl
   where
-    by : (bs : List Sealed) → FirstUnwritten bs → (ws : List SegmentView) → AreFilled log.config.config.segment_size log.reserved_to (view_at log.site log.buffer ∷ ws) → (0 < length ws → log.buffer.written_len < log.config.config.segment_size) → log.buffer.sealed.items ≡ bs
-        → FirstWaits (synced_end log) ((last_of (view_at log.site log.buffer) ws).parts.site.place + begin_of (last_of (view_at log.site log.buffer) ws)) (unwritten (view_at log.site log.buffer ∷ ws))
+    by : (bs : List Sealed) → FirstUnwritten bs → (ws : List SegmentView) → AreFilled log.config.config.segment_size log.reserved_to (segment_view log.segments.first ∷ ws) → (0 < length ws → log.segments.first.buffer.written_len < log.config.config.segment_size) → log.segments.first.buffer.sealed.items ≡ bs
+        → FirstWaits (synced_end log) ((last_of (segment_view log.segments.first) ws).parts.site.place + begin_of (last_of (segment_view log.segments.first) ws)) (unwritten (segment_view log.segments.first ∷ ws))
     by [] fresh ws filled waits is =
-        subst (λ (l : List BufferAt). FirstWaits (synced_end log) ((last_of (view_at log.site log.buffer) ws).parts.site.place + begin_of (last_of (view_at log.site log.buffer) ws)) (l ++ unwritten ws))
-        (sym (ap (λ (l : List Sealed). unwritten_in log.site log.buffer.bytes.items log.buffer.written_len l log.buffer.reserved.items) is))
-        (alone ws filled waits (ap (sealed_end log.buffer.written_len) is))
+        subst (λ (l : List BufferAt). FirstWaits (synced_end log) ((last_of (segment_view log.segments.first) ws).parts.site.place + begin_of (last_of (segment_view log.segments.first) ws)) (l ++ unwritten ws))
+        (sym (ap (λ (l : List Sealed). unwritten_in log.segments.first.site log.segments.first.buffer.bytes.items log.segments.first.buffer.written_len l log.segments.first.buffer.reserved.items) is))
+        (alone ws filled waits (ap (sealed_end log.segments.first.buffer.written_len) is))
       where
-        alone : (us : List SegmentView) → AreFilled log.config.config.segment_size log.reserved_to (view_at log.site log.buffer ∷ us) → (0 < length us → log.buffer.written_len < log.config.config.segment_size) → begin_of (view_at log.site log.buffer) ≡ log.buffer.written_len
-            → FirstWaits (synced_end log) ((last_of (view_at log.site log.buffer) us).parts.site.place + begin_of (last_of (view_at log.site log.buffer) us)) (unwritten us)
+        alone : (us : List SegmentView) → AreFilled log.config.config.segment_size log.reserved_to (segment_view log.segments.first ∷ us) → (0 < length us → log.segments.first.buffer.written_len < log.config.config.segment_size) → begin_of (segment_view log.segments.first) ≡ log.segments.first.buffer.written_len
+            → FirstWaits (synced_end log) ((last_of (segment_view log.segments.first) us).parts.site.place + begin_of (last_of (segment_view log.segments.first) us)) (unwritten us)
         alone [] filled waits at = omega (arith, at)
         alone (w ∷ us) filled waits at = absurd (let low = waits (omega arith) in let full = filled.0 in omega (arith, low, full, at))
     by (b ∷ bs) fresh ws filled waits is =
-        subst (λ (l : List BufferAt). FirstWaits (synced_end log) ((last_of (view_at log.site log.buffer) ws).parts.site.place + begin_of (last_of (view_at log.site log.buffer) ws)) (l ++ unwritten ws))
-        (sym (ap (λ (l : List Sealed). unwritten_in log.site log.buffer.bytes.items log.buffer.written_len l log.buffer.reserved.items) is ∙ fresh_one log.site log.buffer.bytes.items log.buffer.written_len b bs log.buffer.reserved.items fresh))
+        subst (λ (l : List BufferAt). FirstWaits (synced_end log) ((last_of (segment_view log.segments.first) ws).parts.site.place + begin_of (last_of (segment_view log.segments.first) ws)) (l ++ unwritten ws))
+        (sym (ap (λ (l : List Sealed). unwritten_in log.segments.first.site log.segments.first.buffer.bytes.items log.segments.first.buffer.written_len l log.segments.first.buffer.reserved.items) is ∙ fresh_one log.segments.first.site log.segments.first.buffer.bytes.items log.segments.first.buffer.written_len b bs log.segments.first.buffer.reserved.items fresh))
         refl

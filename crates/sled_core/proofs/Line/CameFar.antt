@@ -53,7 +53,7 @@ module _ {D C : Type 0} (trace : D → Trace) (sum : List ℕ → ℕ) (faults :
     done_is =
         let rest : List Event = writes_below to (waiting_of mid) in
         let all : writing_below sum old to ≡ so_far.done ++ rest =
-        current_writes sum old.config.config.segment_size old.site.place to (first_view old) (views_behind old) (line_segments old) sealed ∙ so_far.whole in
+        current_writes sum old.config.config.segment_size old.segments.first.site.place to (first_view old) (views_behind old) (line_segments old) sealed ∙ so_far.whole in
         sym ((λ i. take (sym so_far.pairs i) (all i)) ∙ take-append_seam so_far.done rest)
 
     pub wrote_front : WroteNone trace mid new → synced_end new < to → WroteFront trace sum to old new

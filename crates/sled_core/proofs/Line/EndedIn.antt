@@ -1,5 +1,5 @@
 -- A log where a reservation of one of its segments has ended: what code asks of it before, and what the type of the log asks of its segments then.
-use Rattle.std.proofs.Common.{◌≡◌, ◌≢◌, ◌∙◌, ◌≤◌, ◌<◌, ◌+◌, ◌-◌, ap, sym, refl, arith, rules, subst, ℕ, suc, Bool, false, if◌then◌else◌, List, ◌∷◌, length, map, set, get_or, Some}
+use Rattle.std.proofs.Common.{◌≡◌, ◌≢◌, ◌∙◌, ◌≤◌, ◌<◌, ◌+◌, ◌-◌, ap, sym, refl, arith, rules, subst, ℕ, suc, Bool, false, if◌then◌else◌, List, length, set, Some}
 use Rattle.std.specs.List.{slice_get}
 use Rattle.std.specs.VecDeque.{deque_len}
 use Rattle.std.proofs.lemmas.Option.{slice_get_within}
@@ -8,16 +8,17 @@ use Rattle.sled_core.specs.declared.iobuf.ReservationState.{ReservationState}
 use Rattle.sled_core.specs.declared.iobuf.ReservationState.TheVariants.{Canceled, Completed, Manifest, Open, Padding}
 use Rattle.sled_core.specs.declared.iobuf.Reserved.{Reserved}
 use Rattle.sled_core.specs.declared.logger.Log.{Log}
-use Rattle.sled_core.specs.declared.logger.segments.SegmentBuffer.{SegmentBuffer}
-use Rattle.sled_core.specs.Begun.{AreFilled, FollowOn, SegmentView, line_at, segment_view, view_at}
+use Rattle.sled_core.specs.declared.logger.io_bufs.IoBufs.{IoBufs}
+use Rattle.sled_core.specs.declared.logger.io_bufs.SegmentBuffer.{SegmentBuffer}
+use Rattle.sled_core.specs.Begun.{AreFilled, LieWithin, SegmentView, line_in, open_segments, segment_view, with_nth}
 use Rattle.sled_core.specs.Buffers.{canceling, completing, marking, open_state}
 use Rattle.sled_core.specs.Fits.{line_of, segment_size_of}
 use Rattle.sled_core.specs.Manifests.{is_manifest}
 use Rattle.sled_core.specs.OpenPlaces.{open_manifests}
 use Rattle.sled_core.specs.Turned.{EndsAs, HasOpenIn, ended_now}
-use Rattle.sled_core.proofs.Line.EndedLine.{behind_within, canceling_short, completing_short, ended_view, filled_over, first_is, first_reserved, line_behind, marking_short, mut_reserved, read_is, read_there}
+use Rattle.sled_core.proofs.Line.EndedLine.{canceling_short, completing_short, ended_view, filled_over, marking_short}
 use Rattle.sled_core.proofs.Holds.Facts.{nth_facts}
-use Rattle.sled_core.proofs.Line.Filling.{follow_in, follow_with}
+use Rattle.sled_core.proofs.Line.NthOpen.{line_with, nth_is, nth_same, nth_within, within_with}
 use Rattle.sled_core.proofs.Line.OpenManifests.{fewer_counted, manifests_ended}
 
 -- A way to end a reservation, which is open: the bytes that go over the beginning of its record, and the state that it has then.
@@ -29,21 +30,16 @@ pub record IsEnding {D C : Type 0} (log : Log D C) (n index : ℕ) (its : HasOpe
   -- and it isn't one that fills a segment
   pub plain : state ≢ Padding
 
--- What the type of a log asks of its segments, the first one and those behind it, where a reservation of one of them has ended.
-pub record HasEnded {D C : Type 0} (log : Log D C) (n index : ℕ) (its : HasOpenIn (line_of log) n index) (how : List ℕ → Reserved → List ℕ) (state : ReservationState) (b : IoBuf) (ss : List SegmentBuffer) : Type 0 where
+-- What the type of a log asks of its segments where a reservation of one of them has ended.
+pub record HasEnded {D C : Type 0} (log : Log D C) (n index : ℕ) (its : HasOpenIn (line_of log) n index) (how : List ℕ → Reserved → List ℕ) (state : ReservationState) (now : IoBufs) : Type 0 where
   -- they are the ones that were, with that reservation ended
   pub line : (v : SegmentView) (r : Reserved) → slice_get (line_of log) n ≡ Some v → slice_get v.parts.reserved (index - v.gone) ≡ Some r
-      → line_at log.site b ss ≡ set (line_of log) n (ended_now (index - v.gone) r (how v.parts.bytes r) state v)
-  -- the first one is within its size,
-  pub in_segment : length b.bytes.items ≤ segment_size_of log
-  -- and isn't wholly on the device where one is behind it
-  pub waits : 0 < length ss → b.written_len < segment_size_of log
-  -- those behind it lie one behind another
-  pub follow : FollowOn (segment_size_of log) (log.site.place + segment_size_of log) ss
+      → line_in now ≡ set (line_of log) n (ended_now (index - v.gone) r (how v.parts.bytes r) state v)
+  pub lie : LieWithin (segment_size_of log) now
   -- all of them are filled as those of a log
-  pub filled : AreFilled (segment_size_of log) log.reserved_to (line_at log.site b ss)
+  pub filled : AreFilled (segment_size_of log) log.reserved_to (line_in now)
   -- as many manifests are open as were, and one fewer where it was of one
-  pub counted : (manifest : Bool) (count : ℕ) → is_manifest its.reserved.log_kind its.reserved.page ≡ manifest → log.batches.manifests ≡ (if manifest then suc count else count) → open_manifests (line_at log.site b ss) ≡ count
+  pub counted : (manifest : Bool) (count : ℕ) → is_manifest its.reserved.log_kind its.reserved.page ≡ manifest → log.batches.manifests ≡ (if manifest then suc count else count) → open_manifests (line_in now) ≡ count
 
 module _ {D C : Type 0} (log : Log D C) (n index : ℕ) (its : HasOpenIn (line_of log) n index) where
   -- It is completed, or aborted, or it is the manifest of a batch that has ended.
@@ -75,35 +71,31 @@ module _ {D C : Type 0} (log : Log D C) (n index : ℕ) (its : HasOpenIn (line_o
   is_open : (r : Reserved) → its.reserved ≡ r → r.state ≡ Open
   is_open r same = sym (ap (λ (x : Reserved). x.state) same) ∙ its.open_yet
 
-  -- Where the first segment has it, it is one of that's reservations, and it is open.
-  module _ (first : n ≡ 0) where
-    pub first_within : index - log.buffer.gone < deque_len log.buffer.reserved
-    first_within =
-        let long : deque_len log.buffer.reserved ≡ length log.buffer.reserved.items = search rules in
-        omega (arith, long, slice_get_within log.buffer.reserved.items (index - log.buffer.gone) its.reserved (first_reserved log n index its first))
+  -- Its segment is one of those that code has,
+  pub number_within : n ≤ length log.segments.behind.items
+  number_within = nth_within log n its.segment its.among
 
-    pub first_open : (r : Reserved) → slice_get log.buffer.reserved.items (index - log.buffer.gone) ≡ Some r → r.state ≡ Open
-    first_open r there = is_open r (is_its log.buffer.reserved.items (index - log.buffer.gone) (first_reserved log n index its first) r there)
+  -- and it is one of that's reservations, which is open.
+  module _ (s : SegmentBuffer) (there : slice_get (open_segments log.segments) n ≡ Some s) where
+    pub its_view : segment_view s ≡ its.segment
+    its_view = nth_same log n s there its.segment its.among
 
-  -- Where one behind it has it, that is one of those behind,
-  module _ (some : n ≡ 0 → ⊥) where
-    pub behind_in : n - 1 < deque_len log.behind
-    behind_in =
-        let long : deque_len log.behind ≡ length log.behind.items = search rules in
-        omega (arith, long, behind_within log n its.segment some its.among)
+    pub numbered : s.buffer.gone ≤ index
+    numbered = let same = ap (λ (w : SegmentView). w.gone) its_view in let low = its.numbered in omega (arith, same, low)
 
-    -- and so is it of that's reservations, as it was read twice.
-    module _ (s t : SegmentBuffer) (read : s ≡ get_or log.behind.items (n - 1) s) (again : t ≡ get_or log.behind.items (n - 1) t) where
-      pub mut_within : index - s.buffer.gone < deque_len t.buffer.reserved
-      mut_within =
-          let long : deque_len t.buffer.reserved ≡ length t.buffer.reserved.items = search rules in
-          omega (arith, long, slice_get_within t.buffer.reserved.items (index - s.buffer.gone) its.reserved (mut_reserved log n index its some s t read again))
+    its_reserved : slice_get s.buffer.reserved.items (index - s.buffer.gone) ≡ Some its.reserved
+    its_reserved = subst (λ (w : SegmentView). slice_get w.parts.reserved (index - w.gone) ≡ Some its.reserved) (sym its_view) its.there
 
-      pub mut_is : (r : Reserved) → slice_get t.buffer.reserved.items (index - s.buffer.gone) ≡ Some r → its.reserved ≡ r
-      mut_is r there = is_its t.buffer.reserved.items (index - s.buffer.gone) (mut_reserved log n index its some s t read again) r there
+    pub index_within : index - s.buffer.gone < deque_len s.buffer.reserved
+    index_within =
+        let long : deque_len s.buffer.reserved ≡ length s.buffer.reserved.items = search rules in
+        omega (arith, long, slice_get_within s.buffer.reserved.items (index - s.buffer.gone) its.reserved its_reserved)
 
-      pub mut_open : (r : Reserved) → slice_get t.buffer.reserved.items (index - s.buffer.gone) ≡ Some r → r.state ≡ Open
-      mut_open r there = is_open r (mut_is r there)
+    pub one_is : (r : Reserved) → slice_get s.buffer.reserved.items (index - s.buffer.gone) ≡ Some r → its.reserved ≡ r
+    one_is r here = is_its s.buffer.reserved.items (index - s.buffer.gone) its_reserved r here
+
+    pub one_open : (r : Reserved) → slice_get s.buffer.reserved.items (index - s.buffer.gone) ≡ Some r → r.state ≡ Open
+    one_open r here = is_open r (one_is r here)
 
   -- It has ended in such a way.
   module _ (how : List ℕ → Reserved → List ℕ) (state : ReservationState) (way : IsEnding log n index its how state) where
@@ -135,43 +127,19 @@ module _ {D C : Type 0} (log : Log D C) (n index : ℕ) (its : HasOpenIn (line_o
         let all = manifests_ended (line_of log) n its.segment (index - its.segment.gone) its.reserved (how its.segment.parts.bytes its.reserved) state manifest its.among its.there its.open_yet kind way.closed in
         fewer_counted manifest (open_manifests (line_of log)) (open_manifests line) log.batches.manifests count (all ∙ (λ j. if manifest then suc (open_manifests (sym is j)) else open_manifests (sym is j))) less log.counted
 
-    -- The first segment had it.
-    pub first_ended : n ≡ 0 → (new : IoBuf) → EndsAs (index - log.buffer.gone) how state log.buffer new → HasEnded log n index its how state new log.behind.items
-    first_ended first new did =
-        let there = first_reserved log n index its first in
-        let mine : view_at log.site log.buffer ≡ its.segment = first_is log n index its first in
-        let view = ended_view log.site log.buffer new (index - log.buffer.gone) its.reserved (how log.buffer.bytes.items its.reserved) state (did.bytes its.reserved there) (did.reserved its.reserved there) did.sealed did.from did.gone did.filled in
-        let here : line_at log.site new log.behind.items ≡ set (line_of log) 0 (ended_now (index - log.buffer.gone) its.reserved (how log.buffer.bytes.items its.reserved) state (view_at log.site log.buffer)) =
-        ap (λ (w : SegmentView). w ∷ map segment_view log.behind.items) view in
-        let line : line_at log.site new log.behind.items ≡ now =
-        here ∙ (λ j. set (line_of log) (sym first j) (ended_now (index - (mine j).gone) its.reserved (how (mine j).parts.bytes its.reserved) state (mine j))) in
+    -- So it is where code ended it in its buffer.
+    pub has_ended : (s : SegmentBuffer) → slice_get (open_segments log.segments) n ≡ Some s → (new : IoBuf) → EndsAs (index - s.buffer.gone) how state s.buffer new
+        → HasEnded log n index its how state (with_nth log.segments n (record { site = s.site; buffer = new }))
+    has_ended s here new did =
+        let after : SegmentBuffer = record { site = s.site; buffer = new } in
+        let there = its_reserved s here in
+        let mine : segment_view s ≡ its.segment = its_view s here in
+        let view = ended_view s.site s.buffer new (index - s.buffer.gone) its.reserved (how s.buffer.bytes.items its.reserved) state (did.bytes its.reserved there) (did.reserved its.reserved there) did.sealed did.from did.gone did.filled in
+        let line : line_in (with_nth log.segments n after) ≡ now =
+        line_with log.segments n after ∙ ap (set (line_of log) n) (view ∙ (λ j. ended_now (index - (mine j).gone) its.reserved (how (mine j).parts.bytes its.reserved) state (mine j))) in
         record {
-          line = ended_any (line_at log.site new log.behind.items) line;
-          in_segment = (let short = log.in_segment in let long = did.long in omega (arith, long, short));
-          waits = λ some. (let less = log.waits some in let from = did.from in omega (arith, from, less));
-          follow = log.follow;
-          filled = ended_filled (line_at log.site new log.behind.items) line;
-          counted = ended_counted (line_at log.site new log.behind.items) line;
-        }
-
-    -- One behind it had it.
-    pub behind_ended : (some : n ≡ 0 → ⊥) (s t : SegmentBuffer) → s ≡ get_or log.behind.items (n - 1) s → t ≡ get_or log.behind.items (n - 1) t
-        → (new : IoBuf) → EndsAs (index - s.buffer.gone) how state t.buffer new
-        → HasEnded log n index its how state log.buffer (set log.behind.items (n - 1) (record { site = t.site; buffer = new }))
-    behind_ended some s t read again new did =
-        let after : SegmentBuffer = record { site = t.site; buffer = new } in
-        let there = mut_reserved log n index its some s t read again in
-        let at = read_there log n index its some t again in
-        let mine : segment_view t ≡ its.segment = read_is log n index its some t again in
-        let numbered : s.buffer.gone ≡ its.segment.gone = ap (λ (w : SegmentView). w.gone) (read_is log n index its some s read) in
-        let here = line_behind log n index its some s t read again new (how t.buffer.bytes.items its.reserved) state (did.bytes its.reserved there) (did.reserved its.reserved there) did.sealed did.from did.gone did.filled in
-        let line : line_at log.site log.buffer (set log.behind.items (n - 1) after) ≡ now =
-        here ∙ (λ j. set (line_of log) n (ended_now (index - numbered j) its.reserved (how (mine j).parts.bytes its.reserved) state (mine j))) in
-        record {
-          line = ended_any (line_at log.site log.buffer (set log.behind.items (n - 1) after)) line;
-          in_segment = log.in_segment;
-          waits = λ more. log.waits (let within = slice_get_within log.behind.items (n - 1) t at in omega (arith, within));
-          follow = follow_with size (log.site.place + size) log.behind.items (n - 1) t after at refl (let short = follow_in size (log.site.place + size) log.behind.items (n - 1) t at log.follow in let long = did.long in omega (arith, long, short)) log.follow;
-          filled = ended_filled (line_at log.site log.buffer (set log.behind.items (n - 1) after)) line;
-          counted = ended_counted (line_at log.site log.buffer (set log.behind.items (n - 1) after)) line;
+          line = ended_any (line_in (with_nth log.segments n after)) line;
+          lie = within_with size log.segments n s after here refl (let short = (nth_is log n s here).short in let long = did.long in omega (arith, long, short)) (let from = did.from in omega (arith, from)) log.lies;
+          filled = ended_filled (line_in (with_nth log.segments n after)) line;
+          counted = ended_counted (line_in (with_nth log.segments n after)) line;
         }

@@ -15,7 +15,7 @@ use Rattle.sled_core.specs.declared.iobuf.Reserved.{Reserved}
 use Rattle.sled_core.specs.declared.iobuf.Sealed.{Sealed}
 use Rattle.sled_core.specs.declared.iobuf.SegmentPosition.{SegmentPosition}
 use Rattle.sled_core.specs.declared.logger.Log.{Log}
-use Rattle.sled_core.specs.Begun.{SegmentView, segment_view, view_at}
+use Rattle.sled_core.specs.Begun.{SegmentView, segment_view}
 use Rattle.sled_core.specs.Fits.{Holds, HoldsWith, KeepsAll, current_of, line_of, noted_in, synced_end}
 use Rattle.sled_core.specs.Keeps.{GoesOn, SamePosition}
 use Rattle.sled_core.specs.Logged.{logged}
@@ -68,17 +68,17 @@ module _ {D C : Type 0} (old new : Log D C) (n : ℕ) (v : SegmentView) (there :
   e = ended_now i r text state v
 
   abbrev behind : List SegmentView
-  behind = map segment_view old.behind.items
+  behind = map segment_view old.segments.behind.items
 
   abbrev behind' : List SegmentView
-  behind' = map segment_view new.behind.items
+  behind' = map segment_view new.segments.behind.items
 
   -- the segment that is being filled, in the changed segments
   current_there : slice_get (set (line_of old) n e) (length behind) ≡ Some (current_of new)
   current_there =
       let long : suc (length behind') ≡ suc (length behind) = ap length line ∙ length-set (line_of old) n e in
       let count : length behind ≡ length behind' = omega (arith, long) in
-      ap (λ (l : List SegmentView). slice_get l (length behind)) (sym line) ∙ ap (slice_get (line_of new)) count ∙ last_get (view_at new.site new.buffer) behind'
+      ap (λ (l : List SegmentView). slice_get l (length behind)) (sym line) ∙ ap (slice_get (line_of new)) count ∙ last_get (segment_view new.segments.first) behind'
 
   pub position_ended : SamePosition old new
   position_ended =
@@ -88,14 +88,14 @@ module _ {D C : Type 0} (old new : Log D C) (n : ℕ) (v : SegmentView) (there :
       let same : position_in size e m ≡ position_in size v m = ap (λ (k : ℕ). if is_short size k then next_segment_at size v.parts.site.place m else record { place = v.parts.site.place + k; begins = v.parts.site.place; slot = v.parts.site.slot; machine = m }) long in
       record {
         position = (λ j. position_in (rest.config j).config.segment_size (current_of new) (machine_of (rest.accountant j)))
-            ∙ set_keeps (λ (w : SegmentView). position_in size w m) (line_of old) n v e there same (length behind) (current_of old) (current_of new) (last_get (view_at old.site old.buffer) behind) current_there;
+            ∙ set_keeps (λ (w : SegmentView). position_in size w m) (line_of old) n v e there same (length behind) (current_of old) (current_of new) (last_get (segment_view old.segments.first) behind) current_there;
         reserved = rest.reserved;
         pins = rest.pins;
         size = ap (λ (c : RunningConfig D C). c.config.segment_size) rest.config;
       }
 
   synced_ended : synced_end new ≡ synced_end old
-  synced_ended = set_keeps (λ (w : SegmentView). w.parts.site.place + w.parts.written_len) (line_of old) n v e there refl 0 (view_at old.site old.buffer) (view_at new.site new.buffer) refl (ap (λ (l : List SegmentView). slice_get l 0) (sym line))
+  synced_ended = set_keeps (λ (w : SegmentView). w.parts.site.place + w.parts.written_len) (line_of old) n v e there refl 0 (segment_view old.segments.first) (segment_view new.segments.first) refl (ap (λ (l : List SegmentView). slice_get l 0) (sym line))
 
   pub noted_ended : noted_in new ≡ noted_in old
   noted_ended = noted_same old new rest.noted synced_ended

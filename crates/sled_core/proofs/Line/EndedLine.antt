@@ -1,7 +1,6 @@
 -- The segments of a log where a reservation of one of them has ended: they are filled as they were; and what code has of one behind the first.
-use Rattle.std.proofs.Common.{◌≡◌, ◌≢◌, ◌∙◌, ◌≤◌, ◌<◌, ◌+◌, ◌-◌, ap, sym, refl, arith, subst, ℕ, zero, suc, List, ◌∷◌, ◌++◌, length, set, get_or, Some}
+use Rattle.std.proofs.Common.{◌≡◌, ◌≢◌, ◌≤◌, ◌+◌, ◌-◌, refl, arith, ℕ, List, ◌∷◌, ◌++◌, length, set, Some}
 use Rattle.std.specs.List.{slice_get}
-use Rattle.std.proofs.lemmas.Option.{slice_get_within}
 use Rattle.sled_codec.specs.Written.{written}
 use Rattle.sled_codec.specs.Kinds.{code_of}
 use Rattle.sled_codec.specs.Places.{part}
@@ -12,20 +11,14 @@ use Rattle.sled_core.specs.declared.iobuf.ReservationState.{ReservationState}
 use Rattle.sled_core.specs.declared.iobuf.ReservationState.TheVariants.{Open, Padding}
 use Rattle.sled_core.specs.declared.iobuf.Reserved.{Reserved}
 use Rattle.sled_core.specs.declared.iobuf.SegmentPosition.{SegmentPosition}
-use Rattle.sled_core.specs.declared.logger.Log.{Log}
-use Rattle.sled_core.specs.declared.logger.segments.SegmentBuffer.{SegmentBuffer}
-use Rattle.sled_core.specs.Begun.{AreFilled, SegmentView, line_at, segment_view, view_at}
+use Rattle.sled_core.specs.Begun.{AreFilled, SegmentView, view_at}
 use Rattle.sled_core.proofs.Reserve.BeginBelow.{entered_ended}
 use Rattle.sled_core.specs.Buffers.{IsHeaded, body_in, canceling, completing, ended, ending, marking}
-use Rattle.sled_core.specs.Fits.{line_of}
 use Rattle.sled_core.specs.SealedBuffers.{one_ended}
-use Rattle.sled_core.specs.Turned.{HasOpenIn, ended_now}
+use Rattle.sled_core.specs.Turned.{ended_now}
 use Rattle.sled_core.proofs.Holds.Facts.{IsSegment}
-use Rattle.sled_core.proofs.Line.Marks.{line_set}
-use Rattle.sled_core.proofs.Holds.Nth.{get_map}
 use Rattle.sled_core.proofs.Line.Segments.{filled_set}
 use Rattle.sled_core.proofs.Reserve.MarksLemmas.{marking_long}
-use Rattle.sled_core.proofs.Reserve.Parts.{there_is}
 use Rattle.sled_core.proofs.Reserve.Ranges.{at_there, length-written}
 use Rattle.sled_core.proofs.Reserve.RecordEnds.{records_set}
 use Rattle.sled_core.proofs.Sealed.InBuffer.{end_ended}
@@ -74,59 +67,3 @@ filled_over size to line n v i r text state among facts there is_open plain shor
 pub ended_view : (site : SegmentPosition) (old new : IoBuf) (i : ℕ) (r : Reserved) (how : List ℕ) (state : ReservationState) → new.bytes.items ≡ written old.bytes.items r.from how → new.reserved.items ≡ set old.reserved.items i (ended state r)
     → new.sealed.items ≡ one_ended i old.sealed.items → new.written_len ≡ old.written_len → new.gone ≡ old.gone → new.filled ≡ old.filled → view_at site new ≡ ended_now i r how state (view_at site old)
 ended_view site old new i r how state bytes reserved sealed from gone filling = λ j. record { parts = record { site = site; bytes = bytes j; written_len = from j; filled = filling j; sealed = sealed j; reserved = reserved j }; gone = gone j }
-
--- A segment behind the first one.
-
-pub behind_at : {D C : Type 0} (log : Log D C) (n : ℕ) (v : SegmentView) → (n ≡ 0 → ⊥) → slice_get (line_of log) n ≡ Some v → (s : SegmentBuffer) × (slice_get log.behind.items (n - 1) ≡ Some s) × (segment_view s ≡ v)
-behind_at log zero v some there = absurd (some refl)
-behind_at log (suc k) v some there = let at : suc k - 1 ≡ k = omega arith in let its = get_map segment_view log.behind.items k v there in (its.0, ap (slice_get log.behind.items) at ∙ its.1, its.2)
-
--- its number is one of them
-pub behind_within : {D C : Type 0} (log : Log D C) (n : ℕ) (v : SegmentView) → (n ≡ 0 → ⊥) → slice_get (line_of log) n ≡ Some v → n - 1 < length log.behind.items
-behind_within log n v some there = let its = behind_at log n v some there in slice_get_within log.behind.items (n - 1) its.0 its.1
-
--- The first one has the reservation that is open.
-module _ {D C : Type 0} (log : Log D C) (n index : ℕ) (its : HasOpenIn (line_of log) n index) (first : n ≡ 0) where
-  pub first_is : view_at log.site log.buffer ≡ its.segment
-  first_is = let is : slice_get (line_of log) 0 ≡ Some its.segment = subst (λ k. slice_get (line_of log) k ≡ Some its.segment) first its.among in cc
-
-  pub first_reserved : slice_get log.buffer.reserved.items (index - log.buffer.gone) ≡ Some its.reserved
-  first_reserved = subst (λ (w : SegmentView). slice_get w.parts.reserved (index - w.gone) ≡ Some its.reserved) (sym first_is) its.there
-
--- It was read, where a reservation of it is open.
-module _ {D C : Type 0} (log : Log D C) (n index : ℕ) (its : HasOpenIn (line_of log) n index) (some : n ≡ 0 → ⊥) where
-  module _ (s : SegmentBuffer) (read : s ≡ get_or log.behind.items (n - 1) s) where
-    pub read_there : slice_get log.behind.items (n - 1) ≡ Some s
-    read_there = there_is log.behind.items (n - 1) s (behind_within log n its.segment some its.among) read
-
-    pub read_is : segment_view s ≡ its.segment
-    read_is =
-        let at = behind_at log n its.segment some its.among in
-        let both : Some s ≡ Some at.0 = sym read_there ∙ at.1 in
-        let same : s ≡ at.0 = cc in
-        ap segment_view same ∙ at.2
-
-    pub read_numbered : s.buffer.gone ≤ index
-    read_numbered = let same : s.buffer.gone ≡ its.segment.gone = ap (λ (w : SegmentView). w.gone) read_is in let numbered = its.numbered in omega (arith, same, numbered)
-
-    pub read_reserved : slice_get s.buffer.reserved.items (index - s.buffer.gone) ≡ Some its.reserved
-    read_reserved = subst (λ (w : SegmentView). slice_get w.parts.reserved (index - w.gone) ≡ Some its.reserved) (sym read_is) its.there
-
-  -- And then it was changed.
-  module _ (s t : SegmentBuffer) (read : s ≡ get_or log.behind.items (n - 1) s) (again : t ≡ get_or log.behind.items (n - 1) t) where
-    read_same : s ≡ t
-    read_same = let both : Some s ≡ Some t = sym (read_there s read) ∙ read_there t again in cc
-
-    pub mut_reserved : slice_get t.buffer.reserved.items (index - s.buffer.gone) ≡ Some its.reserved
-    mut_reserved = ap (λ (x : SegmentBuffer). slice_get t.buffer.reserved.items (index - x.buffer.gone)) read_same ∙ read_reserved t again
-
-    -- One of its reservations ended.
-    module _ (new : IoBuf) (how : List ℕ) (state : ReservationState) (bytes : new.bytes.items ≡ written t.buffer.bytes.items its.reserved.from how)
-        (reserved : new.reserved.items ≡ set t.buffer.reserved.items (index - s.buffer.gone) (ended state its.reserved)) (sealed : new.sealed.items ≡ one_ended (index - s.buffer.gone) t.buffer.sealed.items)
-        (from : new.written_len ≡ t.buffer.written_len) (gone : new.gone ≡ t.buffer.gone) (filling : new.filled ≡ t.buffer.filled) where
-      abbrev now : SegmentBuffer
-      now = record { site = t.site; buffer = new }
-
-      pub line_behind : line_at log.site log.buffer (set log.behind.items (n - 1) now) ≡ set (line_of log) n (ended_now (index - s.buffer.gone) its.reserved how state (segment_view t))
-      line_behind = line_set log.site log.buffer log.behind.items n now some
-          ∙ ap (λ (w : SegmentView). set (line_of log) n w) (ended_view t.site t.buffer new (index - s.buffer.gone) its.reserved how state bytes reserved sealed from gone filling)

@@ -53,20 +53,20 @@ number_is {size} base n v i r facts there =
 pub says_place : (z at : ℤ) → mag z < 2 ^ 63 → z ≡ at → unsigned_abs (to_z w64 (of_z w64 z)) ≡ unsigned_abs at
 says_place z at small same = ap unsigned_abs (to_z-of_z w64 z (record { sfits = small }) ∙ same)
 
-pub ticket_above : {D C : Type 0} (log : Log D C) (ticket : Reservation) (m : Message) → Awaits log ticket m → log.site.place ≤ unsigned_abs (place_of ticket)
+pub ticket_above : {D C : Type 0} (log : Log D C) (ticket : Reservation) (m : Message) → Awaits log ticket m → log.segments.first.site.place ≤ unsigned_abs (place_of ticket)
 ticket_above log ticket m awaits =
     let facts = nth_facts log awaits.number awaits.segment awaits.among in
     let at = facts.at in
     let is : unsigned_abs (place_of ticket) ≡ awaits.segment.parts.site.place + awaits.reserved.from = ap unsigned_abs awaits.own.place in
     omega (arith, at, is)
 
-pub ticket_number : {D C : Type 0} (log : Log D C) (ticket : Reservation) (m : Message) (awaits : Awaits log ticket m) (place : ℕ) → place ≡ unsigned_abs (place_of ticket) → (place - log.site.place) / log.config.config.segment_size ≡ awaits.number
+pub ticket_number : {D C : Type 0} (log : Log D C) (ticket : Reservation) (m : Message) (awaits : Awaits log ticket m) (place : ℕ) → place ≡ unsigned_abs (place_of ticket) → (place - log.segments.first.site.place) / log.config.config.segment_size ≡ awaits.number
 ticket_number log ticket m awaits place same =
     let is : place ≡ awaits.segment.parts.site.place + awaits.reserved.from = same ∙ ap unsigned_abs awaits.own.place in
-    ap (λ (k : ℕ). (k - log.site.place) / log.config.config.segment_size) is
-    ∙ number_is log.site.place awaits.number awaits.segment (index_of ticket - awaits.segment.gone) awaits.reserved (nth_facts log awaits.number awaits.segment awaits.among) awaits.there
+    ap (λ (k : ℕ). (k - log.segments.first.site.place) / log.config.config.segment_size) is
+    ∙ number_is log.segments.first.site.place awaits.number awaits.segment (index_of ticket - awaits.segment.gone) awaits.reserved (nth_facts log awaits.number awaits.segment awaits.among) awaits.there
 
-module _ {D C : Type 0} (log : Log D C) (ticket : Reservation) (m : Message) (awaits : Awaits log ticket m) (place n index : ℕ) (place_is : place ≡ unsigned_abs (place_of ticket)) (n_is : n ≡ (place - log.site.place) / log.config.config.segment_size) (index_is : index ≡ index_of ticket) where
+module _ {D C : Type 0} (log : Log D C) (ticket : Reservation) (m : Message) (awaits : Awaits log ticket m) (place n index : ℕ) (place_is : place ≡ unsigned_abs (place_of ticket)) (n_is : n ≡ (place - log.segments.first.site.place) / log.config.config.segment_size) (index_is : index ≡ index_of ticket) where
   pub ticket_among : slice_get (line_of log) n ≡ Some awaits.segment
   ticket_among = ap (slice_get (line_of log)) (n_is ∙ ticket_number log ticket m awaits place place_is) ∙ awaits.among
 

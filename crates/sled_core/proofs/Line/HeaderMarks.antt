@@ -4,7 +4,7 @@ use Rattle.std.specs.List.{slice_get}
 use Rattle.std.proofs.lemmas.List.{append-nil}
 use Rattle.sled_codec.specs.Record.{short_header}
 use Rattle.sled_store.specs.SegmentStates.{Machine}
-use Rattle.sled_core.specs.Begun.{SegmentView, view_at}
+use Rattle.sled_core.specs.Begun.{SegmentView, segment_view}
 use Rattle.sled_core.specs.declared.logger.Log.{Log}
 use Rattle.sled_core.specs.Fits.{current_of, line_of, stable_end}
 use Rattle.sled_core.specs.Marked.{BeginsMarked, KeepsSegment}
@@ -47,7 +47,7 @@ module _ {D C : Type 0} (sum : List ℕ → ℕ) (old : Log D C) where
 -- The segment that is being filled stays as it is where no segment is another,
 pub segment_same : {D C : Type 0} (old new : Log D C) → line_of new ≡ line_of old → KeepsSegment old new
 segment_same old new same =
-    let first : SegmentView = view_at old.site old.buffer in
+    let first : SegmentView = segment_view old.segments.first in
     record { place = ap (λ (vs : List SegmentView). (last_of first vs).parts.site.place) same; bytes = ap (λ (vs : List SegmentView). (last_of first vs).parts.bytes) same }
 
 -- where a buffer is written,

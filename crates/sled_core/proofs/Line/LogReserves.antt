@@ -11,7 +11,7 @@ use Rattle.sled_store.specs.Accounts.{machine_of}
 use Rattle.sled_store.specs.Device.{Trace, state_of}
 use Rattle.sled_store.specs.SegmentStates.{Machine}
 use Rattle.sled_store.specs.declared.config.RunningConfig.{RunningConfig}
-use Rattle.sled_core.specs.Begun.{SegmentView, segment_view, view_at}
+use Rattle.sled_core.specs.Begun.{SegmentView, segment_view}
 use Rattle.sled_core.specs.Buffers.{SpellsBlob, placeholder_head, record_size, reserved_for}
 use Rattle.sled_core.specs.declared.iobuf.Purpose.{Purpose}
 use Rattle.sled_core.specs.declared.iobuf.Reserved.{Reserved}
@@ -136,10 +136,10 @@ module _ {D C : Type 0} (trace : D → Trace) (sum : List ℕ → ℕ) (old new 
   its_size = segment_size_of old
 
   abbrev v : SegmentView
-  v = view_at old.site old.buffer
+  v = segment_view old.segments.first
 
   abbrev vs : List SegmentView
-  vs = map segment_view old.behind.items
+  vs = map segment_view old.segments.behind.items
 
   machine : machine_at new ≡ machine_at old
   machine = ap machine_of accountant

@@ -4,7 +4,7 @@ use Rattle.std.specs.List.{slice_get}
 use Rattle.std.proofs.lemmas.Bool.Decides.{nat_tests}
 use Rattle.sled_store.specs.Device.{Event}
 use Rattle.sled_store.specs.SegmentStates.{next_slot}
-use Rattle.sled_core.specs.Begun.{SegmentView, segment_view, view_at}
+use Rattle.sled_core.specs.Begun.{SegmentView, segment_view}
 use Rattle.sled_core.specs.declared.iobuf.Reserved.{Reserved}
 use Rattle.sled_core.specs.declared.iobuf.ReservationState.{ReservationState}
 use Rattle.sled_core.specs.declared.logger.Log.{Log}
@@ -21,14 +21,14 @@ use Rattle.sled_core.proofs.Line.Spans.{ended_spans, ended_start, next_start, ne
 
 -- where the current buffer begins, of these segments, of which there is one
 abbrev pub start_at : {D C : Type 0} → Log D C → List SegmentView → BufferStart
-start_at log line = start_in (last_of (view_at log.site log.buffer) line)
+start_at log line = start_in (last_of (segment_view log.segments.first) line)
 
 -- One of the reservations has ended: nothing is seen of it.
 pub ended_buffers : {D C : Type 0} (old new : Log D C) (n : ℕ) (v : SegmentView) (i : ℕ) (r : Reserved) (ending : List ℕ) (state : ReservationState) → slice_get (line_of old) n ≡ Some v
     → line_of new ≡ set (line_of old) n (ended_now i r ending state v) → KeepsBuffers old new
 ended_buffers old new n v i r ending state there is = record {
   waiting = ap (λ (l : List SegmentView). spans (unwritten l)) is ∙ ended_spans i r ending state (line_of old) n v there;
-  start = ap (start_at old) is ∙ ended_start i r ending state (view_at old.site old.buffer) (line_of old) n v there;
+  start = ap (start_at old) is ∙ ended_start i r ending state (segment_view old.segments.first) (line_of old) n v there;
 }
 
 -- nor where nothing is another
@@ -38,9 +38,9 @@ same_buffers old new is = (ap unwritten is, ap (start_at old) is)
 -- A reservation is made in the current segment: the sealed buffers are those that they were, and the current one begins where it did.
 pub reserved_buffers : {D C : Type 0} (old new : Log D C) (more : List ℕ) (r : Reserved) → line_of new ≡ at_last (reserved_now more r) (line_of old) → (waiting_of new ≡ waiting_of old) × (start_of new ≡ start_of old)
 reserved_buffers old new more r is =
-    let first : SegmentView = view_at old.site old.buffer in
-    let behind : List SegmentView = map segment_view old.behind.items in (
-      ap unwritten is ∙ reserved_unwritten more r (segment_size_of old) (old.site.place + length old.behind.items * segment_size_of old) first behind (current_facts old),
+    let first : SegmentView = segment_view old.segments.first in
+    let behind : List SegmentView = map segment_view old.segments.behind.items in (
+      ap unwritten is ∙ reserved_unwritten more r (segment_size_of old) (old.segments.first.site.place + length old.segments.behind.items * segment_size_of old) first behind (current_facts old),
       ap (start_at old) is ∙ reserved_start more r first first behind,
     )
 
@@ -50,8 +50,8 @@ pub next_buffers : {D C : Type 0} (sum : List ℕ → ℕ) (old new : Log D C) (
     × (start_of new ≡ record { place = (current_of old).parts.site.place + segment_size_of old; lid = next_slot (machine_at old) * segment_size_of old })
 next_buffers sum old new stable is =
     let size : ℕ = segment_size_of old in
-    let first : SegmentView = view_at old.site old.buffer in
-    let behind : List SegmentView = map segment_view old.behind.items in
+    let first : SegmentView = segment_view old.segments.first in
+    let behind : List SegmentView = map segment_view old.segments.behind.items in
     (ap unwritten is ∙ next_unwritten sum size (machine_at old) stable first behind, ap (start_at old) is ∙ next_start sum size (machine_at old) stable first first behind)
 
 -- So it is with a reservation for an item of n bytes of a page.
@@ -70,8 +70,8 @@ module _ {D C : Type 0} (sum : List ℕ → ℕ) (old new : Log D C) (page n : �
 pub seal_starts : {D C : Type 0} (old new : Log D C) → is_short (segment_size_of old) (length (current_of old).parts.bytes) ≡ false → line_of new ≡ at_last sealed_now (line_of old) → start_of new ≡ start_sealed old
 seal_starts old new room is =
     let size : ℕ = segment_size_of old in
-    let first : SegmentView = view_at old.site old.buffer in
-    let behind : List SegmentView = map segment_view old.behind.items in
+    let first : SegmentView = segment_view old.segments.first in
+    let behind : List SegmentView = map segment_view old.segments.behind.items in
     let v : SegmentView = current_of old in
     let next : BufferStart = record { place = v.parts.site.place + size; lid = next_slot (machine_at old) * size } in
     let here : BufferStart = record { place = v.parts.site.place + length v.parts.bytes; lid = v.parts.site.slot + length v.parts.bytes } in
@@ -89,7 +89,7 @@ turn_starts sum old new stable short is =
 
 -- A sealed buffer is written: the current one begins where it did.
 pub written_starts : {D C : Type 0} (old new : Log D C) (size n : ℕ) (v : SegmentView) (k : ℕ) → slice_get (line_of old) n ≡ Some v → line_of new ≡ promoted size (set (line_of old) n (written_now k v)) → start_of new ≡ start_of old
-written_starts old new size n v k there is = ap (start_at old) is ∙ written_start size (view_at old.site old.buffer) (line_of old) n v k there
+written_starts old new size n v k there is = ap (start_at old) is ∙ written_start size (segment_view old.segments.first) (line_of old) n v k there
 
 -- The buffers that begin below a place are written one behind another.
 

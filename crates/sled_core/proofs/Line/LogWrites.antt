@@ -1,5 +1,5 @@
 -- A log at each moment of the write of one of its sealed buffers, once that failed, and once it is done: what it held and fitted it holds and fits.
-use Rattle.std.proofs.Common.{◌≡◌, ◌∙◌, ◌<◌, ◌≤◌, ◌+◌, ◌^◌, ap, sym, arith, subst, ℕ, zero, suc, List, [], ◌∷◌, length, map, set, Option, None, Some, inl, inr}
+use Rattle.std.proofs.Common.{◌≡◌, ◌∙◌, ◌<◌, ◌≤◌, ◌+◌, ap, sym, arith, subst, ℕ, zero, suc, List, [], ◌∷◌, length, map, set, Option, None, Some, inl, inr}
 use Rattle.std.specs.List.{slice_get}
 use Rattle.std.specs.declared.io.Error.{Error as IoError}
 use Rattle.std.proofs.lemmas.List.{length-map}
@@ -13,11 +13,12 @@ use Rattle.sled_store.proofs.Traces.MomentLemmas.{at_last, weaker}
 use Rattle.sled_store.proofs.Traces.ScriptLemmas.{performs_throughout}
 use Rattle.sled_core.specs.Logged.{logged}
 use Rattle.sled_core.specs.OpenBatches.{not_whole, stable_below}
-use Rattle.sled_core.specs.Begun.{AreFilled, FollowOn, SegmentView, line_at, segment_view, view_at}
+use Rattle.sled_core.specs.Begun.{AreFilled, LieWithin, SegmentView, line_at, line_in, open_segments, segment_view, view_at, with_nth}
 use Rattle.sled_core.specs.declared.iobuf.IoBuf.{IoBuf}
 use Rattle.sled_core.specs.declared.iobuf.SegmentPosition.{SegmentPosition}
 use Rattle.sled_core.specs.declared.logger.Log.{Log}
-use Rattle.sled_core.specs.declared.logger.segments.SegmentBuffer.{SegmentBuffer}
+use Rattle.sled_core.specs.declared.logger.io_bufs.IoBufs.{IoBufs}
+use Rattle.sled_core.specs.declared.logger.io_bufs.SegmentBuffer.{SegmentBuffer}
 use Rattle.sled_core.specs.Fits.{FitsBatches, written_to, Holds, HoldsWith, device_of, fault_of, line_end, line_of, noted_in, segment_size_of}
 use Rattle.sled_core.specs.Recoverable.{LeavesRecoverable}
 use Rattle.sled_core.specs.Running.{Fits, FitsLine, FitsWith}
@@ -30,6 +31,7 @@ use Rattle.sled_core.proofs.Holds.BufferEnds.{written_behind}
 use Rattle.sled_core.proofs.Line.Ends.{line_holds}
 use Rattle.sled_core.proofs.Line.Faulty.{fits_line_faulty, fits_with_device, holds_line_faulty, holds_with_device, names_written, slots_line_faulty}
 use Rattle.sled_core.proofs.Line.LineEnds.{end_left, end_set}
+use Rattle.sled_core.proofs.Line.NthOpen.{line_with, nth_same}
 use Rattle.sled_core.proofs.Line.Promotes.{end_promoted, holds_promoted}
 use Rattle.sled_core.proofs.Holds.Facts.{nth_facts}
 use Rattle.sled_core.proofs.Line.Fillings.{log_recorded}
@@ -55,8 +57,8 @@ module _ {D C : Type 0} (log : Log D C) (n k : ℕ) (r : IsReadyIn (line_of log)
   abbrev pub line_left : List SegmentView
   line_left = promoted size line_written
 
-  pub segments_written : AreSegments size log.site.place line_written
-  segments_written = set_segment size log.site.place line (line_segments log) n v (written_now k v) r.among (λ p is. written_segment k v r.buffer r.there r.ready size p is)
+  pub segments_written : AreSegments size log.segments.first.site.place line_written
+  segments_written = set_segment size log.segments.first.site.place line (line_segments log) n v (written_now k v) r.among (λ p is. written_segment k v r.buffer r.there r.ready size p is)
 
   pub filled_now : AreFilled size log.reserved_to line_written
   filled_now = filled_written size log.reserved_to line n k v r.among (nth_facts log n v r.among) log.filled
@@ -64,8 +66,8 @@ module _ {D C : Type 0} (log : Log D C) (n k : ℕ) (r : IsReadyIn (line_of log)
   -- The stable end doesn't fall.
   pub end_grows : written_to line ≤ written_to line_left
   end_grows =
-      let further = end_promoted size log.site.place line_written segments_written in
-      let here = at_write line n r.among log.site.place (line_segments log) in
+      let further = end_promoted size log.segments.first.site.place line_written segments_written in
+      let here = at_write line n r.among log.segments.first.site.place (line_segments log) in
       omega (arith, here, further)
     where
       at_write : (l : List SegmentView) (j : ℕ) → slice_get l j ≡ Some v → (p : ℕ) → AreSegments size p l → written_to l ≤ written_to (set l j (written_now k v))
@@ -79,7 +81,7 @@ module _ {D C : Type 0} (log : Log D C) (n k : ℕ) (r : IsReadyIn (line_of log)
 
   -- They end where they did,
   end_stays : line_end size line_left ≡ line_end size line
-  end_stays = end_left size log.site.place line_written segments_written ∙ end_set size line n v (written_now k v) r.among (λ i. v.parts.site)
+  end_stays = end_left size log.segments.first.site.place line_written segments_written ∙ end_set size line n v (written_now k v) r.among (λ i. v.parts.site)
 
   -- and of the batches that were noted those are left that aren't wholly written.
   abbrev pub noted_left : List Batch
@@ -91,31 +93,29 @@ module _ {D C : Type 0} (log : Log D C) (n k : ℕ) (r : IsReadyIn (line_of log)
       (batches_up (written_to line) (written_to line_left) (line_end size line) (line_end size line_left) (noted_in log) H end_grows (let same = end_stays in omega (arith, same)) fits)
 
   -- What the type of a log asks of these segments holds of those that are left.
-  pub record KeepsInvariants (site : SegmentPosition) (b : IoBuf) (ss : List SegmentBuffer) : Type 0 where
-    pub short : length b.bytes.items ≤ size
-    pub place_small : site.place + size < 2 ^ 63
-    pub slot_small : site.slot + size < 2 ^ 63
-    pub waits : 0 < length ss → b.written_len < size
-    pub follow : FollowOn size (site.place + size) ss
-    pub filled : AreFilled size log.reserved_to (line_at site b ss)
+  pub record KeepsInvariants (now : IoBufs) : Type 0 where
+    pub lie : LieWithin size now
+    pub filled : AreFilled size log.reserved_to (line_in now)
 
-  pub keeps_invariants : (site : SegmentPosition) (b : IoBuf) (ss : List SegmentBuffer) → line_at site b ss ≡ line_left → KeepsInvariants site b ss
-  keeps_invariants site b ss is =
-      let found = segments_promoted size log.site.place line_written segments_written in
-      let are : AreSegments size found.0 (line_at site b ss) = subst (λ (l : List SegmentView). AreSegments size found.0 l) (sym is) found.1 in
+  pub keeps_invariants : (now : IoBufs) → line_in now ≡ line_left → KeepsInvariants now
+  keeps_invariants now is =
+      let found = segments_promoted size log.segments.first.site.place line_written segments_written in
+      let are : AreSegments size found.0 (line_in now) = subst (λ (l : List SegmentView). AreSegments size found.0 l) (sym is) found.1 in
       let first = are.0 in
       record {
-        short = first.short;
-        place_small = first.place_small;
-        slot_small = first.slot_small;
-        waits = λ some. below ss some is first.short;
-        follow = follow_segments size (site.place + size) ss (subst (λ p. AreSegments size (p + size) (map segment_view ss)) (sym first.at) are.1);
+        lie = record {
+          in_segment = first.short;
+          place_in_reach = first.place_small;
+          slot_in_reach = first.slot_small;
+          waits = λ some. below now.first.site now.first.buffer now.behind.items some is first.short;
+          follow = follow_segments size (now.first.site.place + size) now.behind.items (subst (λ p. AreSegments size (p + size) (map segment_view now.behind.items)) (sym first.at) are.1);
+        };
         filled = subst (AreFilled size log.reserved_to) (sym is) (filled_promoted size log.reserved_to line_written filled_now);
       }
     where
-      below : (l : List SegmentBuffer) → 0 < length l → line_at site b l ≡ line_left → length b.bytes.items ≤ size → b.written_len < size
-      below [] some same short = absurd (omega (arith, some))
-      below (s ∷ l) some same short =
+      below : (site : SegmentPosition) (b : IoBuf) (l : List SegmentBuffer) → 0 < length l → line_at site b l ≡ line_left → length b.bytes.items ≤ size → b.written_len < size
+      below site b [] some same short = absurd (omega (arith, some))
+      below site b (s ∷ l) some same short =
           let other = promoted_waits size line_written (view_at site b) (segment_view s) (map segment_view l) (sym same) in
           let up = written_behind b in
           omega (arith, other, up, short)
@@ -123,9 +123,9 @@ module _ {D C : Type 0} (log : Log D C) (n k : ℕ) (r : IsReadyIn (line_of log)
   -- The first one isn't wholly on the device, where there is a further one.
   first_waits : (x y : SegmentView) (ys : List SegmentView) → line ≡ x ∷ y ∷ ys → x.parts.written_len < size
   first_waits x y ys same =
-      let one : view_at log.site log.buffer ≡ x = cc in
+      let one : segment_view log.segments.first ≡ x = cc in
       let long : length line ≡ suc (suc (length ys)) = ap length same in
-      let low = log.waits (omega (arith, long, length-map log.behind.items segment_view)) in
+      let low = log.lies.waits (omega (arith, long, length-map log.segments.behind.items segment_view)) in
       subst (λ (u : SegmentView). u.parts.written_len < size) one low
 
   module _ (trace : D → Trace) (sum : List ℕ → ℕ) (whole : fault_of log ≡ None) where
@@ -146,7 +146,7 @@ module _ {D C : Type 0} (log : Log D C) (n k : ℕ) (r : IsReadyIn (line_of log)
     left new came reach H A f U fits =
         performs_throughout (LeavesRecoverable sum size H (stable_below reach H.batches) f) (write_in line n k) before new came
         (subst (λ (es : List Event). Along (LeavesRecoverable sum size H (stable_below reach H.batches) f) es device) (sym calls)
-        (along_write sum size log.config.config.least device log.fault.kept whole v k r.buffer r.there r.ready log.pins H A f U (log_recorded log n v r.among) log.site.place reach line (line_segments log) n r.among fits))
+        (along_write sum size log.config.config.least device log.fault.kept whole v k r.buffer r.there r.ready log.pins H A f U (log_recorded log n v r.among) log.segments.first.site.place reach line (line_segments log) n r.among fits))
 
     -- At each moment of the calls a crash leaves what can be recovered.
     pub crash_write : (new : Trace) → Performs (write_in line n k) before new → (H : History) (A f : ℕ) (U : List Message) → Fits trace sum log H A f U → Throughout (LeavesRecoverable sum size H A f) before new
@@ -198,39 +198,40 @@ module _ {D C : Type 0} (log : Log D C) (n k : ℕ) (r : IsReadyIn (line_of log)
     holds_done new came now none H holds =
         subst (λ (o : Option IoError). HoldsWith sum noted_left size (state_of new) o line_left slots (logged H)) (whole ∙ sym none)
         (subst (λ (t : Trace). HoldsWith sum noted_left size (state_of t) log.fault.kept line_left slots (logged H)) (sym (made new came)) (record {
-          holds = holds_promoted sum size (buffer_synced sum size log.config.config.least device log.fault.kept whole v k r.buffer r.there r.ready) log.fault.kept (logged H) log.config.config.least log.site.place line_written segments_written
-              (holds_write sum size log.config.config.least device log.fault.kept whole v k r.buffer r.there r.ready log.site.place line (line_segments log) n r.among (logged H) holds.holds);
+          holds = holds_promoted sum size (buffer_synced sum size log.config.config.least device log.fault.kept whole v k r.buffer r.there r.ready) log.fault.kept (logged H) log.config.config.least log.segments.first.site.place line_written segments_written
+              (holds_write sum size log.config.config.least device log.fault.kept whole v k r.buffer r.there r.ready log.segments.first.site.place line (line_segments log) n r.among (logged H) holds.holds);
           batches = batches_after (logged H) holds.batches;
-          slots = slots_write sum size log.config.config.least device log.fault.kept whole v k r.buffer r.there r.ready log.site.place line (line_segments log) n r.among slots log.fault.kept holds.slots;
+          slots = slots_write sum size log.config.config.least device log.fault.kept whole v k r.buffer r.there r.ready log.segments.first.site.place line (line_segments log) n r.among slots log.fault.kept holds.slots;
         }))
 
     pub fits_done : (new : Trace) → new ≡ after_all (write_in line n k) before → (now : Option IoError) → now ≡ None → (H : History) (A f : ℕ) (U : List Message) → Fits trace sum log H A f U → FitsWith sum noted_left size (state_of new) now line_left slots log.pins H A f U
     unfolding Fits
     fits_done new came now none H A f U fits =
-        let after = fits_write sum size log.config.config.least device log.fault.kept whole v k r.buffer r.there r.ready log.pins H A f U (log_recorded log n v r.among) log.reserved_to log.site.place fits.reach line (line_segments log) n r.among filled_now first_waits fits.parts in
+        let after = fits_write sum size log.config.config.least device log.fault.kept whole v k r.buffer r.there r.ready log.pins H A f U (log_recorded log n v r.among) log.reserved_to log.segments.first.site.place fits.reach line (line_segments log) n r.among filled_now first_waits fits.parts in
         subst (λ (o : Option IoError). FitsWith sum noted_left size (state_of new) o line_left slots log.pins H A f U) (sym none)
         (subst (λ (t : Trace). FitsWith sum noted_left size (state_of t) None line_left slots log.pins H A f U) (sym (made new came)) (record {
           reach = after.0;
           parts = after.1;
           batches = batches_after (logged H) fits.batches;
-          slots = slots_write sum size log.config.config.least device log.fault.kept whole v k r.buffer r.there r.ready log.site.place line (line_segments log) n r.among slots None fits.slots;
-          begun = λ none. begun_write sum size log.config.config.least device log.fault.kept whole v k r.buffer r.there r.ready log.site.place line (line_segments log) n r.among slots fits.slots (logged H)
+          slots = slots_write sum size log.config.config.least device log.fault.kept whole v k r.buffer r.there r.ready log.segments.first.site.place line (line_segments log) n r.among slots None fits.slots;
+          begun = λ none. begun_write sum size log.config.config.least device log.fault.kept whole v k r.buffer r.there r.ready log.segments.first.site.place line (line_segments log) n r.among slots fits.slots (logged H)
               (line_holds sum size device log.fault.kept line fits.reach log.pins H A f U fits.parts) (fits.begun whole);
-          own = λ none zeros. placed_left sum size log.config.config.least device log.fault.kept whole v k r.buffer r.there r.ready log.site.place line (line_segments log) n r.among slots fits.slots (logged H)
+          own = λ none zeros. placed_left sum size log.config.config.least device log.fault.kept whole v k r.buffer r.there r.ready log.segments.first.site.place line (line_segments log) n r.among slots fits.slots (logged H)
               (line_holds sum size device log.fault.kept line fits.reach log.pins H A f U fits.parts) zeros (fits.own whole zeros);
           entries = fits.entries;
         }))
 
 -- A call that changed the device alone left the line as it was.
 pub same_line : {D C : Type 0} (old mid : Log D C) → ChangesDevice old mid → line_of mid ≡ line_of old
-same_line old mid rest = λ i. line_at (rest.site i) (rest.buffer i) (rest.behind i).items
+same_line old mid rest = λ i. line_in (rest.segments i)
 
 -- The line once its buffer is marked, and those at the front have gone.
-pub line_after : {D C : Type 0} (old mid : Log D C) (n k : ℕ) (v : SegmentView) → ChangesDevice old mid → slice_get (line_of old) n ≡ Some v → (b : IoBuf) (ss : List SegmentBuffer)
-    → ((site : SegmentPosition) (u : SegmentView) → slice_get (line_at site mid.buffer mid.behind.items) n ≡ Some u → line_at site b ss ≡ set (line_at site mid.buffer mid.behind.items) n (written_now k u))
-    → (l : List SegmentView) → l ≡ promoted mid.config.config.segment_size (line_at mid.site b ss) → l ≡ promoted (segment_size_of old) (set (line_of old) n (written_now k v))
-line_after old mid n k v rest among b ss marked l is =
+pub line_after : {D C : Type 0} (old mid : Log D C) (n k : ℕ) (v : SegmentView) → ChangesDevice old mid → slice_get (line_of old) n ≡ Some v → (s : SegmentBuffer) → slice_get (open_segments mid.segments) n ≡ Some s
+    → (now : SegmentBuffer) → segment_view now ≡ written_now k (segment_view s)
+    → (l : List SegmentView) → l ≡ promoted mid.config.config.segment_size (line_in (with_nth mid.segments n now)) → l ≡ promoted (segment_size_of old) (set (line_of old) n (written_now k v))
+line_after old mid n k v rest among s there now marked l is =
     let same : line_of mid ≡ line_of old = same_line old mid rest in
+    let its : segment_view s ≡ v = nth_same mid n s there v (ap (λ (x : List SegmentView). slice_get x n) same ∙ among) in
     is
-    ∙ ap (promoted mid.config.config.segment_size) (marked mid.site v (ap (λ (x : List SegmentView). slice_get x n) same ∙ among) ∙ ap (λ (x : List SegmentView). set x n (written_now k v)) same)
+    ∙ ap (promoted mid.config.config.segment_size) (line_with mid.segments n now ∙ (λ i. set (same i) n ((marked ∙ ap (written_now k) its) i)))
     ∙ (λ i. promoted (rest.config i).segment_size (set (line_of old) n (written_now k v)))

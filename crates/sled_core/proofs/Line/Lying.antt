@@ -2,7 +2,7 @@
 use Rattle.std.proofs.Common.{◌≡◌, ◌∙◌, ◌≤◌, ◌<◌, ◌+◌, ap, sym, refl, arith, subst, ℕ, zero, suc, Bool, true, false, if◌then◌else◌, List, [], ◌∷◌, ◌++◌, drop, map, take, set, Some}
 use Rattle.std.specs.List.{slice_get}
 use Rattle.std.proofs.lemmas.List.{drop-drop}
-use Rattle.sled_core.specs.Begun.{SegmentView, begin_of, segment_view, view_at}
+use Rattle.sled_core.specs.Begun.{SegmentView, begin_of, segment_view}
 use Rattle.sled_core.specs.declared.iobuf.Reserved.{Reserved}
 use Rattle.sled_core.specs.declared.iobuf.Sealed.{Sealed}
 use Rattle.sled_core.specs.declared.iobuf.SegmentPosition.{SegmentPosition}
@@ -127,4 +127,4 @@ set_within size (x ∷ xs) (suc n) v k b there has ready within = (within.0, wit
 
 -- What is on the device ends before the current buffer.
 pub synced_up : {D C : Type 0} (log : Log D C) → synced_end log ≤ current_begin log
-synced_up log = lie_up (synced_end log) (waiting_of log) (current_begin log) (line_lie (segment_size_of log) log.site.place (view_at log.site log.buffer) (map segment_view log.behind.items) (line_segments log))
+synced_up log = lie_up (synced_end log) (waiting_of log) (current_begin log) (line_lie (segment_size_of log) log.segments.first.site.place (segment_view log.segments.first) (map segment_view log.segments.behind.items) (line_segments log))

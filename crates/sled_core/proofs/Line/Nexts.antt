@@ -8,7 +8,7 @@ use Rattle.sled_store.specs.SegmentStates.{Machine, next_slot}
 use Rattle.sled_core.specs.Begun.{AreFilled, FollowOn, SegmentView, last_buffer, line_at, segment_view, view_at}
 use Rattle.sled_core.specs.declared.iobuf.IoBuf.{IoBuf}
 use Rattle.sled_core.specs.declared.iobuf.SegmentPosition.{SegmentPosition}
-use Rattle.sled_core.specs.declared.logger.segments.SegmentBuffer.{SegmentBuffer}
+use Rattle.sled_core.specs.declared.logger.io_bufs.SegmentBuffer.{SegmentBuffer}
 use Rattle.sled_core.specs.Turned.{IsBegunView, begun_view, next_line}
 use Rattle.sled_core.specs.Waiting.{closed_now, last_of}
 use Rattle.sled_core.proofs.Line.Begins.{closable}

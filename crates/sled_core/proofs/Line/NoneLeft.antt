@@ -8,7 +8,7 @@ use Rattle.std.proofs.lemmas.List.Elements.{All-contains, All-head, All-tail}
 use Rattle.sled_codec.specs.History.{Batch, History, Message}
 use Rattle.sled_store.specs.Device.{State, Trace, state_of}
 use Rattle.sled_store.proofs.Segments.Elements.{all_from_in, in_cases, in_first, in_nothing}
-use Rattle.sled_core.specs.Begun.{AreFilled, IsUsed, SegmentView, segment_view, view_at}
+use Rattle.sled_core.specs.Begun.{AreFilled, IsUsed, SegmentView, segment_view}
 use Rattle.sled_core.specs.declared.logger.batches.NotedBatch.{NotedBatch}
 use Rattle.sled_core.specs.declared.logger.Log.{Log}
 use Rattle.sled_core.specs.Buffers.{completed_in}
@@ -99,40 +99,40 @@ module _ {D C : Type 0} (trace : D → Trace) (sum : List ℕ → ℕ) (log : Lo
   its_device = state_of (trace (device_of log))
 
   abbrev bytes : List ℕ
-  bytes = log.buffer.bytes.items
+  bytes = log.segments.first.buffer.bytes.items
 
   abbrev from : ℕ
-  from = log.buffer.written_len
+  from = log.segments.first.buffer.written_len
 
   abbrev behind : List SegmentView
-  behind = map segment_view log.behind.items
+  behind = map segment_view log.segments.behind.items
 
   within : from ≤ its_size
-  within = let low = written_behind log.buffer in let short = log.in_segment in omega (arith, low, short)
+  within = let low = written_behind log.segments.first.buffer in let short = log.lies.in_segment in omega (arith, low, short)
 
-  sealed_within : sealed_end from log.buffer.sealed.items ≤ length bytes
-  sealed_within = let at = log.buffer.begins in let low = log.buffer.behind in omega (arith, at, low)
+  sealed_within : sealed_end from log.segments.first.buffer.sealed.items ≤ length bytes
+  sealed_within = let at = log.segments.first.buffer.begins in let low = log.segments.first.buffer.behind in omega (arith, at, low)
 
-  first : IsEntered log.reserved_to (view_at log.site log.buffer) × IsUsed log.reserved_to log.site.place (length bytes)
-  first = filled_first its_size log.reserved_to (view_at log.site log.buffer) behind log.filled
+  first : IsEntered log.reserved_to (segment_view log.segments.first) × IsUsed log.reserved_to log.segments.first.site.place (length bytes)
+  first = filled_first its_size log.reserved_to (segment_view log.segments.first) behind log.filled
 
-  fill : ArePadding its_size log.buffer.reserved.items
-  fill = entered_padding sum its_size (log.site.place / its_size) log.reserved_to log.site.place (max 20 from) (length bytes) bytes log.buffer.reserved.items (omega (arith, all)) holds.holds.own.chain holds.holds.own.stand first.0
+  fill : ArePadding its_size log.segments.first.buffer.reserved.items
+  fill = entered_padding sum its_size (log.segments.first.site.place / its_size) log.reserved_to log.segments.first.site.place (max 20 from) (length bytes) bytes log.segments.first.buffer.reserved.items (omega (arith, all)) holds.holds.own.chain holds.holds.own.stand first.0
 
-  begun : 20 < sealed_end from log.buffer.sealed.items → 20 ≤ from
+  begun : 20 < sealed_end from log.segments.first.buffer.sealed.items → 20 ≤ from
   begun some = let low = sealed_within in let used = first.1 (omega (arith, some, low)) in omega (arith, used, all)
 
-  clean : AreZeros its_device.log.bytes (log.site.slot + from) (log.site.slot + its_size)
-  clean = rest_zeros its_device.log.bytes log.site.slot its_size bytes from log.buffer.sealed.items log.buffer.reserved.items log.buffer.head log.buffer.are fill
-      (let low = sealed_within in let short = log.in_segment in omega (arith, low, short)) begun (holds.holds.own.laid whole)
+  clean : AreZeros its_device.log.bytes (log.segments.first.site.slot + from) (log.segments.first.site.slot + its_size)
+  clean = rest_zeros its_device.log.bytes log.segments.first.site.slot its_size bytes from log.segments.first.buffer.sealed.items log.segments.first.buffer.reserved.items log.segments.first.buffer.head log.segments.first.buffer.are fill
+      (let low = sealed_within in let short = log.lies.in_segment in omega (arith, low, short)) begun (holds.holds.own.laid whole)
 
   nothing_behind : holds.holds.later ≡ []
-  nothing_behind = behind_nothing sum its_size log.reserved_to its_device (fault_of log) (log.site.place + its_size) behind _ (logged H).batches holds.holds.later (let low = within in omega (arith, all, low))
-      (filled_rest its_size log.reserved_to (view_at log.site log.buffer) behind log.filled) holds.holds.others
+  nothing_behind = behind_nothing sum its_size log.reserved_to its_device (fault_of log) (log.segments.first.site.place + its_size) behind _ (logged H).batches holds.holds.later (let low = within in omega (arith, all, low))
+      (filled_rest its_size log.reserved_to (segment_view log.segments.first) behind log.filled) holds.holds.others
 
   all_there : IsWritten trace sum log H
-  all_there = all_kept sum its_size log.site its_device (fault_of log) bytes from log.buffer.sealed.items log.buffer.reserved.items (logged H) holds.holds closed (padding_nothing its_size log.site bytes log.buffer.reserved.items fill).0
-      nothing_behind whole log.place_in_reach within clean
+  all_there = all_kept sum its_size log.segments.first.site its_device (fault_of log) bytes from log.segments.first.buffer.sealed.items log.segments.first.buffer.reserved.items (logged H) holds.holds closed (padding_nothing its_size log.segments.first.site bytes log.segments.first.buffer.reserved.items fill).0
+      nothing_behind whole log.lies.place_in_reach within clean
 
 -- So the device has all of what the log holds.
 pub all_written : {D C : Type 0} (trace : D → Trace) (sum : List ℕ → ℕ) (log : Log D C) → reserved_end log ≤ synced_end log → fault_of log ≡ None → (H : History) → Holds trace sum log H → IsWritten trace sum log H

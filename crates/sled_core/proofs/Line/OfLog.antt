@@ -5,7 +5,7 @@ use Rattle.sled_codec.specs.History.{History, Message}
 use Rattle.sled_store.specs.Device.{LogState, State, Trace, at_rest, state_of}
 use Rattle.sled_store.specs.Foreign.{HeaderWasPlaced, NoForeignLog, RecordWasPlaced}
 use Rattle.sled_store.proofs.Segments.Elements.{in_cases, in_nothing}
-use Rattle.sled_core.specs.Begun.{SegmentView, view_at}
+use Rattle.sled_core.specs.Begun.{SegmentView, segment_view}
 use Rattle.sled_core.specs.declared.logger.Log.{Log}
 use Rattle.sled_core.specs.Fits.{HoldsLine, device_of, fault_of, line_of, machine_at, noted_in, segment_size_of}
 use Rattle.sled_core.specs.Logged.{logged}
@@ -54,7 +54,7 @@ module _ {D C : Type 0} (trace : D → Trace) (sum : List ℕ → ℕ) (log : Lo
     -- A slot in which one of its segments lies.
     slot_at_nth : (n : ℕ) (v : SegmentView) → slice_get line n ≡ Some v → (slot : ℕ) → v.parts.site.slot ≡ slot * size → HasOwnSlot sum size Header Own state.log.bytes slot
     slot_at_nth n v there slot lies =
-        let is : IsSegment size v.parts.site.place v = nth_segment size log.site.place line (line_segments log) n v there in
+        let is : IsSegment size v.parts.site.place v = nth_segment size log.segments.first.site.place line (line_segments log) n v there in
         let least = log.config.config.least in
         with_part sum size state log.fault.kept line n v (logged H) holds there (λ stays its segment.
         slot_of_segment sum size Header Own zeros (omega (arith, least)) state.log.bytes v.parts.site slot v.parts.written_len v.parts.reserved v.parts.sealed v.parts.bytes lies is.fresh is.are
@@ -73,7 +73,7 @@ module _ {D C : Type 0} (trace : D → Trace) (sum : List ℕ → ℕ) (log : Lo
 
     -- The log file is settled.
     settled : state.log ≡ at_rest state.log.bytes
-    settled = with_part sum size state log.fault.kept line 0 (view_at log.site log.buffer) (logged H) holds refl (λ stays its segment. let on = segment.written none in rests state.log on.log on.settled)
+    settled = with_part sum size state log.fault.kept line 0 (segment_view log.segments.first) (logged H) holds refl (λ stays its segment. let on = segment.written none in rests state.log on.log on.settled)
 
     none_in_log : NoForeignLog sum size state.log state.placed state.log.bytes
     none_in_log = subst (λ (l : LogState). NoForeignLog sum size l state.placed state.log.bytes) (sym settled) (none_foreign sum size state.placed state.log.bytes reads_placed)

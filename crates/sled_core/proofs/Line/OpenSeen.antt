@@ -6,7 +6,7 @@ use Rattle.std.proofs.lemmas.List.{append-nil, drop-append-le, drop-drop}
 use Rattle.std.proofs.lemmas.List.Elements.{All-append, All-cons, All-drop, All-nil, All-take, All-weaker}
 use Rattle.sled_codec.specs.History.{Message}
 use Rattle.sled_store.proofs.Segments.Elements.{in_first, in_rest}
-use Rattle.sled_core.specs.Begun.{SegmentView, begin_of, segment_view, view_at}
+use Rattle.sled_core.specs.Begun.{SegmentView, begin_of, segment_view}
 use Rattle.sled_core.specs.Buffers.{IsChain, ended, none_open, padding_at}
 use Rattle.sled_core.specs.declared.iobuf.ReservationState.TheVariants.{Completed}
 use Rattle.sled_core.specs.declared.iobuf.Reserved.{Reserved}
@@ -243,12 +243,12 @@ held_along size place (v ∷ vs) are = held_both size place v vs are.0 are.1 (he
 pub buffers_held : {D C : Type 0} (sum : List ℕ → ℕ) (log : Log D C) → All (λ b. b.held ≡ first_between b.place b.end (open_places log)) (buffers_of sum log)
 buffers_held sum log =
     let size : ℕ = segment_size_of log in
-    let v : SegmentView = view_at log.site log.buffer in
-    let vs : List SegmentView = map segment_view log.behind.items in
+    let v : SegmentView = segment_view log.segments.first in
+    let vs : List SegmentView = map segment_view log.segments.behind.items in
     let now : List SegmentView = at_last (as_sealed sum size) (line_of log) in
     let same : open_places_along now ≡ open_places log = at_last_places (as_sealed sum size) v vs (as_sealed_places sum size (last_of v vs)) in
-    All-weaker (IsHeldFrom log.site.place (open_places_along now)) (λ b. b.held ≡ first_between b.place b.end (open_places log)) (λ b is. is.held ∙ ap (first_between b.place b.end) same) (buffers_of sum log)
-    (held_along size log.site.place now (line_laid sum size log.site.place (line_of log) (line_segments log)))
+    All-weaker (IsHeldFrom log.segments.first.site.place (open_places_along now)) (λ b. b.held ≡ first_between b.place b.end (open_places log)) (λ b is. is.held ∙ ap (first_between b.place b.end) same) (buffers_of sum log)
+    (held_along size log.segments.first.site.place now (line_laid sum size log.segments.first.site.place (line_of log) (line_segments log)))
 
 -- Those from where the current buffer begins on are its own.
 
@@ -283,7 +283,7 @@ line_from_begin size place v (w ∷ ws) are =
 own_places : {D C : Type 0} (log : Log D C) → places_from (current_begin log) (open_places log) ≡ open_places_in (current_of log).parts.site.place (current_reserved_in (current_of log))
 own_places log =
     let size : ℕ = segment_size_of log in
-    line_from_begin size log.site.place (view_at log.site log.buffer) (map segment_view log.behind.items) (segments_laid size log.site.place (line_of log) (line_segments log))
+    line_from_begin size log.segments.first.site.place (segment_view log.segments.first) (map segment_view log.segments.behind.items) (segments_laid size log.segments.first.site.place (line_of log) (line_segments log))
 
 -- So there are as many of them as it has open ones, and the first is the least of these.
 pub current_count : {D C : Type 0} (log : Log D C) → open_of log ≡ length (places_from (current_begin log) (open_places log))

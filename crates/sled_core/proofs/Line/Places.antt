@@ -7,7 +7,7 @@ use Rattle.std.proofs.lemmas.List.{length-map}
 use Rattle.std.specs.declared.io.Error.{Error as IoError}
 use Rattle.sled_codec.specs.declared.result.Error.{Error}
 use Rattle.sled_codec.specs.declared.result.Error.TheVariants.{Held, Io, OutOfMemory, PlacesUsedUp}
-use Rattle.sled_core.specs.Begun.{segment_view, view_at}
+use Rattle.sled_core.specs.Begun.{segment_view}
 use Rattle.sled_core.specs.declared.logger.Log.{Log}
 use Rattle.sled_core.specs.Causes.{HeldAnswers, OnDone}
 use Rattle.sled_core.specs.Fits.{holding_below, line_end, line_of, noted_in, reserved_end, stable_end, synced_end, writing_below}
@@ -40,7 +40,7 @@ inside_read lsn read last end same it test = grind (arith, ints, same, it, test)
 -- What was reserved ends in reach.
 pub reserved_in_reach : {D C : Type 0} (log : Log D C) → reserved_end log < 2 ^ 63
 reserved_in_reach log =
-    let most = (filled_last log.config.config.segment_size log.reserved_to (view_at log.site log.buffer) (map segment_view log.behind.items) log.filled).1 in
+    let most = (filled_last log.config.config.segment_size log.reserved_to (segment_view log.segments.first) (map segment_view log.segments.behind.items) log.filled).1 in
     let facts = current_facts log in
     let short = facts.short in
     let near = facts.place_small in
@@ -49,11 +49,11 @@ reserved_in_reach log =
 -- It ends within the segments.
 pub reserved_ends : {D C : Type 0} (log : Log D C) → reserved_end log ≤ line_end log.config.config.segment_size (line_of log)
 reserved_ends log =
-    let most = (filled_last log.config.config.segment_size log.reserved_to (view_at log.site log.buffer) (map segment_view log.behind.items) log.filled).1 in
+    let most = (filled_last log.config.config.segment_size log.reserved_to (segment_view log.segments.first) (map segment_view log.segments.behind.items) log.filled).1 in
     let facts = current_facts log in
     let short = facts.short in
     let at = facts.at in
-    omega (arith, most, short, at, ap (λ n. n * log.config.config.segment_size) (length-map log.behind.items segment_view), suc-mul (length log.behind.items) log.config.config.segment_size)
+    omega (arith, most, short, at, ap (λ n. n * log.config.config.segment_size) (length-map log.segments.behind.items segment_view), suc-mul (length log.segments.behind.items) log.config.config.segment_size)
 
 module _ {D C : Type 0} (sum : List ℕ → ℕ) (log : Log D C) (lsn : ℤ) where
   -- One that is durable.

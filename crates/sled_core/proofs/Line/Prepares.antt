@@ -11,7 +11,7 @@ use Rattle.sled_store.specs.Device.{Trace}
 use Rattle.sled_store.specs.SegmentStates.{handed_out, next_slot}
 use Rattle.sled_store.specs.declared.config.Config.{Config}
 use Rattle.sled_store.specs.declared.config.RunningConfig.{RunningConfig}
-use Rattle.sled_core.specs.Begun.{SegmentView, last_buffer, segment_view, view_at}
+use Rattle.sled_core.specs.Begun.{SegmentView, last_buffer_in, segment_view}
 use Rattle.sled_core.specs.Buffers.{message_in, placeholder_head, record_size, reserved_for, pointer_as, item_as, SpellsBlob}
 use Rattle.sled_core.specs.declared.iobuf.Purpose.{Purpose}
 use Rattle.sled_core.specs.declared.iobuf.Reserved.{Reserved}
@@ -87,7 +87,7 @@ module _ {D C : Type 0} (trace : D → Trace) (sum : List ℕ → ℕ) (old mid 
   pub here_further : IsUsedUpFor old kept.page n → ⊥
   here_further used = let moves = used.0 in let stays = here_stays in let both : true ≡ false = sym moves ∙ stays in cc
 
-  pub prepared_here : line_of mid ≡ line_of old → ChangesLine old mid → HasRoomIn (last_buffer mid.buffer mid.behind.items) (head.len + n) → (is_manifest kept.log_kind kept.page ≡ true → HasRoomForBatch mid) → IsPrepared trace sum old mid kept head n
+  pub prepared_here : line_of mid ≡ line_of old → ChangesLine old mid → HasRoomIn (last_buffer_in mid.segments) (head.len + n) → (is_manifest kept.log_kind kept.page ≡ true → HasRoomForBatch mid) → IsPrepared trace sum old mid kept head n
   prepared_here line rest room batch =
       let same : IsUnchanged old mid = left_alone old mid line rest in
       let current : current_of mid ≡ current_of old = unchanged_current old mid same in
@@ -147,7 +147,7 @@ module _ {D C : Type 0} (trace : D → Trace) (sum : List ℕ → ℕ) (old : Lo
   next_up none = (next_moves, none)
 
   pub prepared_next : (mid : Log D C) (head : Head) → IsHeadOf head kept n (number_of mid) → line_of mid ≡ next_line sum size (machine_at old) (stable_end old) (line_of old) → machine_at mid ≡ handed_out (v.parts.site.place + size) (machine_at old) → ChangesSlots old mid
-      → reserved_end mid ≡ reserved_end old → HasRoomIn (last_buffer mid.buffer mid.behind.items) (size - 20) → (is_manifest kept.log_kind kept.page ≡ true → HasRoomForBatch mid) → IsPrepared trace sum old mid kept head n
+      → reserved_end mid ≡ reserved_end old → HasRoomIn (last_buffer_in mid.segments) (size - 20) → (is_manifest kept.log_kind kept.page ≡ true → HasRoomForBatch mid) → IsPrepared trace sum old mid kept head n
   prepared_next mid head is line machine rest reserved room batch =
       let current : current_of mid ≡ begun_view sum size (machine_at old) (stable_end old) v = begins_current trace sum old mid line machine rest in
       let header = length-short_header sum (pos (v.parts.site.place + size)) (pos (stable_end old) -ℤ pos 1) in
@@ -303,4 +303,4 @@ module _ {D C : Type 0} {trace : D → Trace} {sum : List ℕ → ℕ} {old mid 
   made_ticket m is =
       subst (λ (x : Message). AwaitsIn (line_of new) ticket x) (sym (is ∙ message_here))
       (subst (λ (l : List SegmentView). AwaitsIn l ticket (message_in w.parts.site (w.parts.bytes ++ more) r)) (sym line)
-      (ticket_reserved sum (segment_size_of mid) more r (view_at mid.site mid.buffer) (map segment_view mid.behind.items) ticket own.index (record { open_yet = refl; place = own.place; pointer = own.pointer; long = own.long; manifest = laid.manifest })))
+      (ticket_reserved sum (segment_size_of mid) more r (segment_view mid.segments.first) (map segment_view mid.segments.behind.items) ticket own.index (record { open_yet = refl; place = own.place; pointer = own.pointer; long = own.long; manifest = laid.manifest })))

@@ -23,7 +23,7 @@ use Rattle.sled_store.specs.Script.{Performs, after_all}
 use Rattle.sled_store.specs.SnapshotFiles.{BeginsFrom}
 use Rattle.sled_store.proofs.Names.OneBegin.{one_begin}
 use Rattle.sled_store.proofs.Traces.ScriptLemmas.{performs_whole}
-use Rattle.sled_core.specs.Begun.{segment_view, view_at}
+use Rattle.sled_core.specs.Begun.{segment_view}
 use Rattle.sled_core.specs.Causes.{HeldAnswers, IsFault, IsFaultAt, IsHeld, OnDone, RecordAnswers}
 use Rattle.sled_core.specs.declared.logger.Log.{Log}
 use Rattle.sled_core.specs.Fits.{HasRecordOf, Holds, HoldsLine, current_begin, device_of, fault_of, line_of, reserved_end, segment_size_of, start_of, synced_end, waiting_of}
@@ -87,15 +87,15 @@ none_is (Some b) is = cc
 module _ {D C : Type 0} (sum : List ℕ → ℕ) (log : Log D C) (device : State) (H : History) (holds : HoldsLine sum (segment_size_of log) device None (line_of log) H) where
   -- what the log has the record of lies in one of its segments, or stays
   has_record : (m : Message) → Contains H.messages m → HasRecordOf log H m
-      → (log.site.place ≤ m.place) ⊎ StaysFrom H (first_stable sum (segment_size_of log) device 0 log.site.place (view_at log.site log.buffer) (map segment_view log.behind.items) (line_segments log) H holds) m
+      → (log.segments.first.site.place ≤ m.place) ⊎ StaysFrom H (first_stable sum (segment_size_of log) device 0 log.segments.first.site.place (segment_view log.segments.first) (map segment_view log.segments.behind.items) (line_segments log) H holds) m
   has_record m there has = elim has [
     | inl above ↦ inl above
-    | inr (cut, far, entry) ↦ inr (entry_stays sum (segment_size_of log) device 0 log.site.place (view_at log.site log.buffer) (map segment_view log.behind.items) (line_segments log) H holds log.in_segment m there cut (let reached = holds.begun.reached in omega (arith, reached, far)) entry)
+    | inr (cut, far, entry) ↦ inr (entry_stays sum (segment_size_of log) device 0 log.segments.first.site.place (segment_view log.segments.first) (map segment_view log.segments.behind.items) (line_segments log) H holds log.lies.in_segment m there cut (let reached = holds.begun.reached in omega (arith, reached, far)) entry)
   ]
 
-  its_record : (m : Message) → Contains H.messages m → (log.site.place ≤ m.place) ⊎ StaysFrom H (stable_place holds.begun.first.stable) m → IsWrittenPlace log m.place → (lid : ℕ) → m.pointer ≡ Inline lid → IsHeldAt sum (segment_size_of log) device.log.bytes lid m
+  its_record : (m : Message) → Contains H.messages m → (log.segments.first.site.place ≤ m.place) ⊎ StaysFrom H (stable_place holds.begun.first.stable) m → IsWrittenPlace log m.place → (lid : ℕ) → m.pointer ≡ Inline lid → IsHeldAt sum (segment_size_of log) device.log.bytes lid m
   its_record m there has written lid pointer =
-      line_record sum (segment_size_of log) device log.reserved_to log.site.place (view_at log.site log.buffer) (map segment_view log.behind.items) (line_segments log) H holds log.filled m there has written.0
+      line_record sum (segment_size_of log) device log.reserved_to log.segments.first.site.place (segment_view log.segments.first) (map segment_view log.segments.behind.items) (line_segments log) H holds log.filled m there has written.0
       (none_is _ (sym (none_found m.place (waiting_of log)) ∙ written.1)) lid pointer
 
 -- A log has the record of a message with its item in it in what it has of the history, too.
@@ -114,7 +114,7 @@ fits_begins trace sum log H A f U fits none m there has lid pointer =
     let device : State = state_of (trace log.config.device) in
     let holds : HoldsLine sum size device None (line_of log) (logged H) = subst (λ (o : Option IoError). HoldsLine sum size device o (line_of log) (logged H)) none fits.parts.holds in
     let known : Contains (logged H).messages m = inline_there H m lid pointer there in
-    line_begins sum size device 0 log.site.place (view_at log.site log.buffer) (map segment_view log.behind.items) (line_segments log) (logged H) holds m known (has_record sum log device (logged H) holds m known (inline_record log H m lid pointer has)) lid pointer
+    line_begins sum size device 0 log.segments.first.site.place (segment_view log.segments.first) (map segment_view log.segments.behind.items) (line_segments log) (logged H) holds m known (has_record sum log device (logged H) holds m known (inline_record log H m lid pointer has)) lid pointer
 
 -- The record of a message of the history stands where its pointer says, once its place was brought to the device.
 pub settled_record : {D C : Type 0} (trace : D → Trace) (sum : List ℕ → ℕ) (old mid : Log D C) (H : History) (m : Message) → Holds trace sum old H → Holds trace sum mid H → fault_of old ≡ None → fault_of mid ≡ None → Contains H.messages m → HasRecordOf old H m

@@ -9,7 +9,7 @@ use Rattle.sled_store.specs.Script.{Performs, after_all}
 use Rattle.sled_store.specs.declared.config.RunningConfig.{RunningConfig}
 use Rattle.sled_store.proofs.Segments.Elements.{in_nothing, only_in}
 use Rattle.sled_store.proofs.Traces.ScriptLemmas.{performs_nothing}
-use Rattle.sled_core.specs.Begun.{SegmentView, segment_view, view_at}
+use Rattle.sled_core.specs.Begun.{SegmentView, segment_view}
 use Rattle.sled_core.specs.declared.logger.Log.{Log}
 use Rattle.sled_core.specs.Causes.{HeldAnswers, IsHeld, OnDone}
 use Rattle.sled_core.specs.Fits.{AddsBuffers, IsUnchanged, IsUsedUp, IsUsedUpBelow, KeepsAll, KeepsTickets, NoneSealed, buffers_of, current_begin, current_of, device_of, fault_of, holding_below, reserved_end, sealing_end, segment_size_of, start_of, synced_end, waiting_of, writing_below}
@@ -32,7 +32,7 @@ use Rattle.sled_core.proofs.Line.Segments.{line_segments}
 -- The current buffer holds something, where it begins below a place that was reserved.
 pub some_below : {D C : Type 0} (log : Log D C) (to : ℕ) → to ≤ reserved_end log → current_begin log < to → holds_any (current_of log) ≡ true
 some_below log to reserved below =
-    let last = filled_last log.config.config.segment_size log.reserved_to (view_at log.site log.buffer) (map segment_view log.behind.items) log.filled in
+    let last = filled_last log.config.config.segment_size log.reserved_to (segment_view log.segments.first) (map segment_view log.segments.behind.items) log.filled in
     let most = last.1 in
     grind (arith, nat_tests, reserved, below, most)
 
@@ -41,7 +41,7 @@ pub ends_behind : {D C : Type 0} (log : Log D C) → reserved_end log ≤ sealin
 ends_behind log =
     let size : ℕ = segment_size_of log in
     let v : SegmentView = current_of log in
-    let most = (filled_last log.config.config.segment_size log.reserved_to (view_at log.site log.buffer) (map segment_view log.behind.items) log.filled).1 in
+    let most = (filled_last log.config.config.segment_size log.reserved_to (segment_view log.segments.first) (map segment_view log.segments.behind.items) log.filled).1 in
     let short = (current_facts log).short in
     by_test size v short most (is_short size (length v.parts.bytes))
   where
@@ -96,7 +96,7 @@ module _ {D C : Type 0} (sum : List ℕ → ℕ) (to : ℕ) (old mid : Log D C) 
     few unsealed =
         subst (λ (l : List BufferAt). (length l ≤ 1) × ((b : BufferAt) → Contains l b → b.place < to)) (sym waiting)
         (few_below (current_begin old) to (waiting_of old) (buffers_of sum old) unsealed
-        (line_current sum (segment_size_of old) old.site.place (view_at old.site old.buffer) (map segment_view old.behind.items) (line_segments old)) below)
+        (line_current sum (segment_size_of old) old.segments.first.site.place (segment_view old.segments.first) (map segment_view old.segments.behind.items) (line_segments old)) below)
 
     pub writes_sealed : WritesBelow sum result to old new
     writes_sealed = record {
@@ -129,12 +129,12 @@ writes_still sum to old new result sealed current none one above some marked = r
 pub writes_already : {T D C : Type 0} (sum : List ℕ → ℕ) (to : ℕ) (log : Log D C) (x : T) → to ≤ synced_end log → WritesBelow {T = T} sum (Ok x) to log log
 writes_already sum to log x past =
     let size : ℕ = segment_size_of log in
-    let first : SegmentView = view_at log.site log.buffer in
-    let behind : List SegmentView = map segment_view log.behind.items in
+    let first : SegmentView = segment_view log.segments.first in
+    let behind : List SegmentView = map segment_view log.segments.behind.items in
     let up = synced_up log in
     record {
       seals = record { held = λ held. absurd held; none = λ unsealed. unsealed; err = λ unsealed. tt };
-      above = leaves_above sum to log log (omega (arith, past, up)) refl (left_all to (waiting_of log)) (line_past size log.site.place to first behind (line_segments log) past);
+      above = leaves_above sum to log log (omega (arith, past, up)) refl (left_all to (waiting_of log)) (line_past size log.segments.first.site.place to first behind (line_segments log) past);
       some = tt;
       marked = none_begun sum log log refl;
     }

@@ -9,7 +9,7 @@ use Rattle.sled_store.specs.Device.{State, Trace, state_of}
 use Rattle.sled_store.specs.SegmentStates.{Machine}
 use Rattle.sled_store.specs.Accounts.{machine_of}
 use Rattle.sled_store.specs.declared.config.RunningConfig.{RunningConfig}
-use Rattle.sled_core.specs.Begun.{SegmentParts, SegmentView, begin_of, segment_view, view_at}
+use Rattle.sled_core.specs.Begun.{SegmentParts, SegmentView, begin_of, segment_view}
 use Rattle.sled_core.specs.declared.logger.Log.{Log}
 use Rattle.sled_core.specs.declared.reservation.Reservation.{Reservation}
 use Rattle.sled_core.specs.Fits.{written_to, AwaitsIn, Holds, HoldsIn, HoldsLine, KeepsAll, KeepsTickets, buffers_of, current_begin, current_of, device_of, fault_of, line_end, line_of, noted_in, log_parts, machine_at, parts_in, pins_of, segment_size_of, synced_end, waiting_of}
@@ -92,10 +92,10 @@ module _ {D C : Type 0} (trace : D → Trace) (sum : List ℕ → ℕ) (old new 
   size = segment_size_of old
 
   abbrev v : SegmentView
-  v = view_at old.site old.buffer
+  v = segment_view old.segments.first
 
   abbrev vs : List SegmentView
-  vs = map segment_view old.behind.items
+  vs = map segment_view old.segments.behind.items
 
   its : IsFilledSome size (current_of old)
   its = let f = current_facts old in let short = f.short in record { short = short; some = grind (arith, nat_tests, some) }

@@ -8,7 +8,7 @@ use Rattle.sled_codec.specs.declared.result.Error.{Error}
 use Rattle.sled_store.specs.Device.{Trace}
 use Rattle.sled_store.specs.declared.config.RunningConfig.{RunningConfig}
 use Rattle.sled_store.proofs.Segments.Elements.{in_nothing, only_in}
-use Rattle.sled_core.specs.Begun.{SegmentView, segment_view, view_at}
+use Rattle.sled_core.specs.Begun.{SegmentView, segment_view}
 use Rattle.sled_core.specs.declared.logger.Log.{Log}
 use Rattle.sled_core.specs.Fits.{AddsBuffers, IsUsedUp, KeepsAll, KeepsTickets, buffers_of, current_begin, current_of, device_of, fault_of, held_len, reserved_end, sealing_end, segment_size_of, start_of, synced_end, waiting_of}
 use Rattle.sled_core.specs.Fronts.{CameAround, WroteNone, syncs}
@@ -70,7 +70,7 @@ seals_still trace sum place log lower = record {
 pub holds_reserved : {D C : Type 0} (log : Log D C) (place : ℕ) → current_begin log ≤ place → place < log.reserved_to → (0 < held_len log) × (place < sealing_end log)
 holds_reserved log place above reserved =
     let v : SegmentView = current_of log in
-    let last = filled_last (segment_size_of log) log.reserved_to (view_at log.site log.buffer) (map segment_view log.behind.items) log.filled in
+    let last = filled_last (segment_size_of log) log.reserved_to (segment_view log.segments.first) (map segment_view log.segments.behind.items) log.filled in
     let raw : log.reserved_to ≤ v.parts.site.place + length v.parts.bytes = last.1 in
     let up = ends_behind log in
     (omega (arith, above, reserved, raw), omega (arith, reserved, up))

@@ -11,7 +11,7 @@ use Rattle.sled_core.specs.declared.iobuf.Reserved.{Reserved}
 use Rattle.sled_core.specs.declared.iobuf.Sealed.{Sealed}
 use Rattle.sled_core.specs.declared.iobuf.SegmentPosition.{SegmentPosition}
 use Rattle.sled_core.specs.declared.logger.Log.{Log}
-use Rattle.sled_core.specs.declared.logger.segments.SegmentBuffer.{SegmentBuffer}
+use Rattle.sled_core.specs.declared.logger.io_bufs.SegmentBuffer.{SegmentBuffer}
 use Rattle.sled_core.specs.Fits.{line_of}
 use Rattle.sled_core.specs.SealedBuffers.{AreSealed, behind_run, is_ready, run_count, sealed_count, sealed_end, written_at}
 use Rattle.sled_core.specs.Turned.{promoted, written_now}
@@ -38,8 +38,8 @@ from_each size place (v ∷ vs) each = (
 )
 
 -- The segments of a log are such ones.
-pub line_segments : {D C : Type 0} (log : Log D C) → AreSegments log.config.config.segment_size log.site.place (line_of log)
-line_segments log = from_each log.config.config.segment_size log.site.place (line_of log) (nth_facts log)
+pub line_segments : {D C : Type 0} (log : Log D C) → AreSegments log.config.config.segment_size log.segments.first.site.place (line_of log)
+line_segments log = from_each log.config.config.segment_size log.segments.first.site.place (line_of log) (nth_facts log)
 
 -- the n-th one of them
 pub nth_segment : (size place : ℕ) (vs : List SegmentView) → AreSegments size place vs → (n : ℕ) (v : SegmentView) → slice_get vs n ≡ Some v → IsSegment size v.parts.site.place v

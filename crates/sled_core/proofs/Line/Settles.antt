@@ -32,27 +32,27 @@ use Rattle.sled_core.proofs.Sealed.Progress.{first_front, open_front}
 use Rattle.sled_core.proofs.Sealed.Slices.{end_to}
 
 -- The number of the segment that has the place is that of one of the log.
-pub number_inside : {D C : Type 0} (log : Log D C) (place : ℕ) → log.site.place ≤ place → place < (current_of log).parts.site.place + segment_size_of log → (place - log.site.place) / segment_size_of log ≤ length log.behind.items
+pub number_inside : {D C : Type 0} (log : Log D C) (place : ℕ) → log.segments.first.site.place ≤ place → place < (current_of log).parts.site.place + segment_size_of log → (place - log.segments.first.site.place) / segment_size_of log ≤ length log.segments.behind.items
 number_inside log place above lower =
     let size : ℕ = segment_size_of log in
-    let n : ℕ = (place - log.site.place) / size in
-    let low = div-mul-le_self (place - log.site.place) size in
+    let n : ℕ = (place - log.segments.first.site.place) / size in
+    let low = div-mul-le_self (place - log.segments.first.site.place) size in
     let at = (current_facts log).at in
-    elim (cases_lt (length log.behind.items) n) [
+    elim (cases_lt (length log.segments.behind.items) n) [
       | inr le ↦ le
-      | inl lt ↦ (let up : suc (length log.behind.items) * size ≤ n * size = mul-le-mul_right size lt in absurd (omega (arith, low, at, above, lower, up)))
+      | inl lt ↦ (let up : suc (length log.segments.behind.items) * size ≤ n * size = mul-le-mul_right size lt in absurd (omega (arith, low, at, above, lower, up)))
     ]
 
-pub number_within : {D C : Type 0} (log : Log D C) (place : ℕ) → log.site.place ≤ place → place < current_begin log → (place - log.site.place) / segment_size_of log ≤ length log.behind.items
+pub number_within : {D C : Type 0} (log : Log D C) (place : ℕ) → log.segments.first.site.place ≤ place → place < current_begin log → (place - log.segments.first.site.place) / segment_size_of log ≤ length log.segments.behind.items
 number_within log place above lower =
-    let last = filled_last (segment_size_of log) log.reserved_to (view_at log.site log.buffer) (map segment_view log.behind.items) log.filled in
+    let last = filled_last (segment_size_of log) log.reserved_to (segment_view log.segments.first) (map segment_view log.segments.behind.items) log.filled in
     number_inside log place above (omega (arith, last.0, lower))
 
 -- The place of that segment.
-pub place_low : {D C : Type 0} (log : Log D C) (place n at : ℕ) → log.site.place ≤ place → n ≡ (place - log.site.place) / segment_size_of log → at ≡ log.site.place + n * segment_size_of log → (at ≤ place) × (place < at + segment_size_of log)
+pub place_low : {D C : Type 0} (log : Log D C) (place n at : ℕ) → log.segments.first.site.place ≤ place → n ≡ (place - log.segments.first.site.place) / segment_size_of log → at ≡ log.segments.first.site.place + n * segment_size_of log → (at ≤ place) × (place < at + segment_size_of log)
 place_low log place n at above is at_is =
     let size : ℕ = segment_size_of log in
-    let x : ℕ = place - log.site.place in
+    let x : ℕ = place - log.segments.first.site.place in
     let least = log.config.config.least in
     let low : x / size * size ≤ x = div-mul-le_self x size in
     let high : x < x / size * size + size = lt-div-mul-add (omega (arith, least)) in
@@ -69,8 +69,8 @@ pub record LooksAt {D C : Type 0} (log : Log D C) (place : ℕ) : Type 0 where
   pub high : place < segment.parts.site.place + segment_size_of log
   pub lower : place < current_begin log
 
-abbrev pub looks : {D C : Type 0} (log : Log D C) (place n : ℕ) (site : SegmentPosition) (b : IoBuf) → synced_end log ≤ place → place < current_begin log → n ≡ (place - log.site.place) / segment_size_of log → slice_get (line_of log) n ≡ Some (view_at site b)
-    → site.place ≡ log.site.place + n * segment_size_of log → LooksAt log place
+abbrev pub looks : {D C : Type 0} (log : Log D C) (place n : ℕ) (site : SegmentPosition) (b : IoBuf) → synced_end log ≤ place → place < current_begin log → n ≡ (place - log.segments.first.site.place) / segment_size_of log → slice_get (line_of log) n ≡ Some (view_at site b)
+    → site.place ≡ log.segments.first.site.place + n * segment_size_of log → LooksAt log place
 looks log place n site b behind lower is among at =
     record {
       number = n;
@@ -95,7 +95,7 @@ module _ {D C : Type 0} (log : Log D C) (place : ℕ) (looked : LooksAt log plac
   abbrev line : List SegmentView
   line = line_of log
 
-  facts : IsSegment size (log.site.place + looked.number * size) looked.segment
+  facts : IsSegment size (log.segments.first.site.place + looked.number * size) looked.segment
   facts = nth_facts log looked.number looked.segment looked.among
 
   -- it lies in a buffer that is sealed, or written
@@ -103,7 +103,7 @@ module _ {D C : Type 0} (log : Log D C) (place : ℕ) (looked : LooksAt log plac
   inside = begin_above size log.reserved_to place line n v log.filled looked.among looked.high looked.lower
 
   waiting_found : found place (waiting_of log) ≡ found place (unwritten_of v.parts)
-  waiting_found = found_there size log.site.place place line n v (line_segments log) looked.among looked.low looked.high
+  waiting_found = found_there size log.segments.first.site.place place line n v (line_segments log) looked.among looked.low looked.high
 
   -- the current buffer doesn't have it
   buffers_found : (sum : List ℕ → ℕ) → found place (buffers_of sum log) ≡ found place (waiting_of log)
@@ -243,14 +243,14 @@ module _ {D C : Type 0} (log : Log D C) (place : ℕ) (looked : LooksAt log plac
         wrote_waiting : waiting_of new ≡ unwritten (set line n (written_now k v))
         wrote_waiting =
             ap unwritten wrote
-            ∙ promoted_unwritten size (set line n (written_now k v)) (set_within size line n v k b looked.among there is_ready_there.ready (segments_within size log.site.place line (line_segments log)))
+            ∙ promoted_unwritten size (set line n (written_now k v)) (set_within size line n v k b looked.among there is_ready_there.ready (segments_within size log.segments.first.site.place line (line_segments log)))
 
         -- and that buffer is left out
         pub wrote_without : waiting_of new ≡ without_around place (waiting_of log)
-        wrote_without = wrote_waiting ∙ without_line size log.site.place place line n v (written_now k v) (line_segments log) looked.among looked.low looked.high left_out
+        wrote_without = wrote_waiting ∙ without_line size log.segments.first.site.place place line n v (written_now k v) (line_segments log) looked.among looked.low looked.high left_out
 
         wrote_found : found place (waiting_of new) ≡ None
-        wrote_found = ap (found place) wrote_waiting ∙ found_line size log.site.place place line n v (written_now k v) (line_segments log) looked.among looked.low looked.high ∙ found_marked
+        wrote_found = ap (found place) wrote_waiting ∙ found_line size log.segments.first.site.place place line n v (written_now k v) (line_segments log) looked.among looked.low looked.high ∙ found_marked
 
         pub wrote_place : IsWrittenPlace new place
         wrote_place = (let lower = looked.lower in omega (arith, lower, wrote_current), none_found place (waiting_of new) ∙ ap is_none wrote_found)
@@ -261,7 +261,7 @@ module _ {D C : Type 0} (log : Log D C) (place : ℕ) (looked : LooksAt log plac
 -- A place that is stable is on the device.
 pub stable_written : {D C : Type 0} (log : Log D C) (place : ℕ) → place < synced_end log → IsWrittenPlace log place
 stable_written log place below =
-    let lie = line_lie (segment_size_of log) log.site.place (view_at log.site log.buffer) (map segment_view log.behind.items) (line_segments log) in
+    let lie = line_lie (segment_size_of log) log.segments.first.site.place (segment_view log.segments.first) (map segment_view log.segments.behind.items) (line_segments log) in
     let up = synced_up log in
     (omega (arith, below, up), none_found place (waiting_of log) ∙ ap is_none (found_above place (waiting_of log) (lie_begin (synced_end log) (suc place) (waiting_of log) (current_begin log) below lie)))
 

@@ -4,7 +4,7 @@ use Rattle.std.specs.List.{All}
 use Rattle.std.proofs.Math.Nat.{div-le_self}
 use Rattle.std.proofs.lemmas.Bool.Decides.{nat_tests}
 use Rattle.std.proofs.lemmas.List.Elements.{All-append, All-cons, All-head, All-nil, All-tail}
-use Rattle.sled_core.specs.Begun.{SegmentView, begin_of, segment_view, view_at}
+use Rattle.sled_core.specs.Begun.{SegmentView, begin_of, segment_view}
 use Rattle.sled_core.specs.Buffers.{first_open_in, none_open}
 use Rattle.sled_core.specs.Caps.{segment_rest}
 use Rattle.sled_core.specs.declared.iobuf.Reserved.{Reserved}
@@ -51,23 +51,23 @@ pub buffers_add : {D C : Type 0} (sum : List ℕ → ℕ) (log : Log D C) → 0 
 buffers_add sum log some =
     let size : ℕ = segment_size_of log in
     let any : holds_any (current_of log) ≡ true = grind (arith, nat_tests, some) in
-    let one = as_sealed_adds sum size (log.site.place + length log.behind.items * size) (current_of log) (current_facts log) any in
-    record { more = one.more; is = at_last_more (as_sealed sum size) (view_at log.site log.buffer) (map segment_view log.behind.items) one.more one.is; seen = one.seen }
+    let one = as_sealed_adds sum size (log.segments.first.site.place + length log.segments.behind.items * size) (current_of log) (current_facts log) any in
+    record { more = one.more; is = at_last_more (as_sealed sum size) (segment_view log.segments.first) (map segment_view log.segments.behind.items) one.more one.is; seen = one.seen }
 
 -- which has no current one where that holds nothing,
 pub buffers_still : {D C : Type 0} (sum : List ℕ → ℕ) (log : Log D C) → held_len log ≡ 0 → buffers_of sum log ≡ waiting_of log
 buffers_still sum log none =
     let size : ℕ = segment_size_of log in
     let nothing : holds_any (current_of log) ≡ false = grind (arith, nat_tests, none) in
-    at_last_unwritten (as_sealed sum size) (view_at log.site log.buffer) (map segment_view log.behind.items)
+    at_last_unwritten (as_sealed sum size) (segment_view log.segments.first) (map segment_view log.segments.behind.items)
     (ap (λ (o : Bool). unwritten_of (if o then turned_now sum size (current_of log) else current_of log).parts) nothing)
 
 -- and where its segment is filled to the end.
 pub buffers_closed : {D C : Type 0} (sum : List ℕ → ℕ) (log : Log D C) → AddsSpan (waiting_of log) (unwritten (at_last (closed_now sum (segment_size_of log)) (line_of log))) (record { place = current_begin log; end = (current_of log).parts.site.place + segment_size_of log; lid = (start_of log).lid })
 buffers_closed sum log =
     let size : ℕ = segment_size_of log in
-    let place : ℕ = log.site.place + length log.behind.items * size in
-    line_closed_adds sum size place (view_at log.site log.buffer) (map segment_view log.behind.items) (current_facts log) (number_small size place (current_of log) (current_facts log))
+    let place : ℕ = log.segments.first.site.place + length log.segments.behind.items * size in
+    line_closed_adds sum size place (segment_view log.segments.first) (map segment_view log.segments.behind.items) (current_facts log) (number_small size place (current_of log) (current_facts log))
 
 -- How long they are.
 
@@ -141,7 +141,7 @@ pub buffers_long : {D C : Type 0} (sum : List ℕ → ℕ) (log : Log D C) → A
 buffers_long sum log =
     let size : ℕ = segment_size_of log in
     all_unwritten EndsIn HasLength (λ v rise. long_in v.parts.site v.parts.bytes v.parts.written_len v.parts.sealed v.parts.reserved rise) (at_last (as_sealed sum size) (line_of log))
-    (All-at_last EndsIn (as_sealed sum size) (as_sealed_ends sum size) (line_of log) (segments_end size log.site.place (line_of log) (line_segments log)))
+    (All-at_last EndsIn (as_sealed sum size) (as_sealed_ends sum size) (line_of log) (segments_end size log.segments.first.site.place (line_of log) (line_segments log)))
 
 -- None of them is held up where no reservation is open.
 

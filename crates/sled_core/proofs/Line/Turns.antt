@@ -7,7 +7,7 @@ use Rattle.sled_codec.proofs.Segments.{length-short_header}
 use Rattle.sled_store.specs.Device.{Trace}
 use Rattle.sled_store.specs.SegmentStates.{handed_out}
 use Rattle.sled_store.specs.declared.config.RunningConfig.{RunningConfig}
-use Rattle.sled_core.specs.Begun.{SegmentView, segment_view, view_at}
+use Rattle.sled_core.specs.Begun.{SegmentView, segment_view}
 use Rattle.sled_core.specs.declared.logger.Log.{Log}
 use Rattle.sled_core.specs.Fits.{AddsBuffers, buffers_of, current_begin, current_of, line_of, machine_at, reserved_end, sealing_end, segment_size_of, stable_end, waiting_of}
 use Rattle.sled_core.specs.Keeps.{SamePosition}
@@ -30,7 +30,7 @@ at_last_behind f (v ∷ x ∷ xs) w = ap (λ (l : List SegmentView). v ∷ l) (a
 pub turns_within : {D C : Type 0} (log : Log D C) → reserved_end log ≤ (current_of log).parts.site.place + segment_size_of log
 turns_within log =
     let here = current_facts log in
-    let last = filled_last (segment_size_of log) log.reserved_to (view_at log.site log.buffer) (map segment_view log.behind.items) log.filled in
+    let last = filled_last (segment_size_of log) log.reserved_to (segment_view log.segments.first) (map segment_view log.segments.behind.items) log.filled in
     let end = last.1 in
     let inside = here.short in
     omega (arith, end, inside)
@@ -45,10 +45,10 @@ module _ {D C : Type 0} (trace : D → Trace) (sum : List ℕ → ℕ) (old new 
   v = current_of old
 
   abbrev first : SegmentView
-  first = view_at old.site old.buffer
+  first = segment_view old.segments.first
 
   abbrev behind : List SegmentView
-  behind = map segment_view old.behind.items
+  behind = map segment_view old.segments.behind.items
 
   as_closed : as_sealed sum size v ≡ closed_now sum size v
   as_closed = ap (λ b. if b then turned_now sum size v else v) some ∙ ap (λ b. if b then closed_now sum size v else sealed_now v) short

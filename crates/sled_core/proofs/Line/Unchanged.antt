@@ -3,7 +3,7 @@ use Rattle.std.proofs.Common.{refl, ◌≡◌, ◌∙◌, ap, sym, arith, subst,
 use Rattle.sled_store.specs.Accounts.{machine_of}
 use Rattle.sled_store.specs.Device.{Trace}
 use Rattle.sled_store.specs.declared.config.RunningConfig.{RunningConfig}
-use Rattle.sled_core.specs.Begun.{SegmentView, view_at}
+use Rattle.sled_core.specs.Begun.{SegmentView, segment_view}
 use Rattle.sled_core.specs.declared.logger.Log.{Log}
 use Rattle.sled_core.specs.Fits.{written_to, AwaitsIn, Holds, IsUnchanged, KeepsAll, KeepsTickets, current_of, line_of, machine_at, noted_in, segment_size_of, synced_end}
 use Rattle.sled_core.specs.Keeps.{Preserves, SamePosition}
@@ -26,7 +26,7 @@ module _ {D C : Type 0} (old new : Log D C) (same : IsUnchanged old new) where
   unchanged_synced = ap written_to same.line
 
   pub unchanged_current : current_of new ≡ current_of old
-  unchanged_current = ap (last_of (view_at old.site old.buffer)) same.line
+  unchanged_current = ap (last_of (segment_view old.segments.first)) same.line
 
   pub unchanged_size : segment_size_of new ≡ segment_size_of old
   unchanged_size = ap (λ (x : RunningConfig D C). x.config.segment_size) same.config

@@ -288,7 +288,7 @@ module _ {D C : Type 0} (trace : D → Trace) (sum : List ℕ → ℕ) (log : Lo
 
   segment_told : HoldsLine sum size device log.fault.kept (line_of log) (logged H) → log.fault.kept ≡ None → (n : ℕ) (v : SegmentView) → slice_get (line_of log) n ≡ Some v → IsTold sum size v
   segment_told holds none n v there =
-      let is : IsSegment size v.parts.site.place v = nth_segment size log.site.place (line_of log) (line_segments log) n v there in
+      let is : IsSegment size v.parts.site.place v = nth_segment size log.segments.first.site.place (line_of log) (line_segments log) n v there in
       with_part sum size device log.fault.kept (line_of log) n v (logged H) holds there (λ stays own segment.
       let on = segment.written none in
       record {
@@ -309,6 +309,6 @@ module _ {D C : Type 0} (trace : D → Trace) (sum : List ℕ → ℕ) (log : Lo
   unfolding Holds
   buffers_whole holds none =
       let line : List SegmentView = line_of log in
-      let are : AreSegments size log.site.place line = line_segments log in
-      along sum size log.site.place (at_last (as_sealed sum size) line) (line_laid sum size log.site.place line are)
-      (line_told sum size log.site.place line are (each_told sum size line (λ n v there. segment_told holds.holds none n v there)))
+      let are : AreSegments size log.segments.first.site.place line = line_segments log in
+      along sum size log.segments.first.site.place (at_last (as_sealed sum size) line) (line_laid sum size log.segments.first.site.place line are)
+      (line_told sum size log.segments.first.site.place line are (each_told sum size line (λ n v there. segment_told holds.holds none n v there)))

@@ -173,39 +173,39 @@ module _ {D C : Type 0} (log : Log D C) (i p : ℕ) (few : i < pending_in (waiti
   abbrev size : ℕ
   size = log.config.config.segment_size
 
-  its : Found size log.site.place (line_of log) i p
+  its : Found size log.segments.first.site.place (line_of log) i p
   its =
-      let many = pending_length size log.site.place (line_of log) (line_segments log) in
-      subst (Found size log.site.place (line_of log) i) (ap (λ (l : List ℕ). get_or l i p) (sym log.indexed.places) ∙ sym read) (found size log.site.place (line_of log) i p (line_segments log) (omega (arith, few, many)))
+      let many = pending_length size log.segments.first.site.place (line_of log) (line_segments log) in
+      subst (Found size log.segments.first.site.place (line_of log) i) (ap (λ (l : List ℕ). get_or l i p) (sym log.indexed.places) ∙ sym read) (found size log.segments.first.site.place (line_of log) i p (line_segments log) (omega (arith, few, many)))
 
-  its_facts : IsSegment size (log.site.place + its.n * size) its.segment
+  its_facts : IsSegment size (log.segments.first.site.place + its.n * size) its.segment
   its_facts = nth_facts log its.n its.segment its.among
 
   lies_in : (its.segment.parts.written_len ≤ begin_at its.segment its.k) × (begin_at its.segment its.k < begin_of its.segment)
   lies_in = begin_within its.segment.parts.written_len its.segment.parts.sealed its.k its.buffer (rise_of its.segment.parts.written_len its.segment.parts.reserved its.segment.parts.sealed its_facts.are) its.there
 
-  number_is : (p - log.site.place) / size ≡ its.n
+  number_is : (p - log.segments.first.site.place) / size ≡ its.n
   number_is =
       let at = its.at in
       let lies = its.lies in
       let short = its_facts.short in
       let begins = its_facts.begins in
       let inside = lies_in.1 in
-      ap (λ m. m / size) (let same : p - log.site.place ≡ its.n * size + begin_at its.segment its.k = omega (arith, at, lies) in same)
+      ap (λ m. m / size) (let same : p - log.segments.first.site.place ≡ its.n * size + begin_at its.segment its.k = omega (arith, at, lies) in same)
       ∙ div-mul-add its.n size (begin_at its.segment its.k) (omega (arith, short, begins, inside))
 
-  pub place_behind : log.site.place ≤ p
+  pub place_behind : log.segments.first.site.place ≤ p
   place_behind = let at = its.at in let lies = its.lies in omega (arith, at, lies)
 
-  module _ (n : ℕ) (by_place : n ≡ (p - log.site.place) / size) where
+  module _ (n : ℕ) (by_place : n ≡ (p - log.segments.first.site.place) / size) where
     same_number : its.n ≡ n
     same_number = sym (by_place ∙ number_is)
 
-    pub number_within : n ≤ length log.behind.items
+    pub number_within : n ≤ length log.segments.behind.items
     number_within =
         let within = slice_get_within (line_of log) its.n its.segment its.among in
         let same = same_number in
-        omega (arith, within, same, length-map log.behind.items segment_view)
+        omega (arith, within, same, length-map log.segments.behind.items segment_view)
 
     module _ (site : SegmentPosition) (b : IoBuf) (view : slice_get (line_of log) n ≡ Some (view_at site b)) where
       same_segment : its.segment ≡ view_at site b

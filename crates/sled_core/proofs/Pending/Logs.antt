@@ -43,14 +43,14 @@ seals_closed sum size v = by (nat_lt (length v.parts.bytes) size) where
 
 module _ {D C : Type 0} (log : Log D C) where
   abbrev before : List ℕ
-  before = before_places (length (map segment_view log.behind.items)) (line_of log)
+  before = before_places (length (map segment_view log.segments.behind.items)) (line_of log)
 
   abbrev others : ℕ
-  others = other_held (length (map segment_view log.behind.items)) (line_of log)
+  others = other_held (length (map segment_view log.segments.behind.items)) (line_of log)
 
   -- what code knows of the segment that is being filled
   pub current_own : HasOwn log.ready (current_of log).parts.site.place (current_of log).parts.written_len (current_of log).parts.sealed before [] others
-  current_own = last_ready log.config.config.segment_size log.site.place (view_at log.site log.buffer) (map segment_view log.behind.items) log.ready (line_segments log) log.indexed
+  current_own = last_ready log.config.config.segment_size log.segments.first.site.place (segment_view log.segments.first) (map segment_view log.segments.behind.items) log.ready (line_segments log) log.indexed
 
   -- One more is sealed in it.
   pub seals_ready : (f : SegmentView → SegmentView) → SealsOne (current_of log) (f (current_of log)) → (site : SegmentPosition) (b : IoBuf) → view_at site b ≡ f (current_of log) → (old now : ReadyBuffers) → old.places.items ≡ log.ready.places.items → old.held ≡ log.ready.held
@@ -65,7 +65,7 @@ module _ {D C : Type 0} (log : Log D C) where
       let same : HasOwn old v.parts.site.place v.parts.written_len v.parts.sealed before [] others = record { places = places ∙ own.places; held = held ∙ own.held; low = own.low; high = own.high } in
       let moved : HasOwn old site.place b.written_len v.parts.sealed before [] others =
       subst (λ (p : SegmentPosition). HasOwn old p.place b.written_len v.parts.sealed before [] others) at (subst (λ n. HasOwn old v.parts.site.place n v.parts.sealed before [] others) from same) in
-      at_last_ready f (view_at log.site log.buffer) (map segment_view log.behind.items) now
+      at_last_ready f (segment_view log.segments.first) (map segment_view log.segments.behind.items) now
       (subst (λ (w : SegmentView). HasOwn now w.parts.site.place w.parts.written_len w.parts.sealed before [] others) view (noted v.parts.sealed seals.buffer before others sealed seals.fresh moved))
 
   -- A reservation of a segment has ended.
@@ -82,7 +82,7 @@ module _ {D C : Type 0} (log : Log D C) where
     module _ (site : SegmentPosition) (b : IoBuf) (view : view_at site b ≡ w) (j : ℕ) (same : j ≡ i) where
       ended_one : EndedOne b j v.parts.sealed v.parts.reserved
       ended_one =
-          let is = nth_segment log.config.config.segment_size log.site.place (line_of log) (line_segments log) n v its.among in
+          let is = nth_segment log.config.config.segment_size log.segments.first.site.place (line_of log) (line_segments log) n v its.among in
           let from : v.parts.written_len ≡ b.written_len = ap (λ (x : SegmentView). x.parts.written_len) (sym view) in
           let are = subst (λ m. AreSealed m v.parts.reserved v.parts.sealed) from is.are in
           record {
@@ -104,7 +104,7 @@ module _ {D C : Type 0} (log : Log D C) where
       ended_own : HasOwn log.ready site.place b.written_len v.parts.sealed (before_places n (line_of log)) (behind_places n (line_of log)) (other_held n (line_of log))
       ended_own =
           subst (λ (x : SegmentView). HasOwn log.ready x.parts.site.place x.parts.written_len v.parts.sealed (before_places n (line_of log)) (behind_places n (line_of log)) (other_held n (line_of log))) (sym view)
-          (own_ready log.config.config.segment_size log.site.place (line_of log) n v log.ready (line_segments log) its.among log.indexed)
+          (own_ready log.config.config.segment_size log.segments.first.site.place (line_of log) n v log.ready (line_segments log) its.among log.indexed)
 
       -- what code asks of it
       pub ended_asks : (bs : List Sealed) × (rs : List Reserved) × (before : List ℕ) × (behind : List ℕ) × (others : ℕ) × EndedOne b j bs rs × HasOwn log.ready site.place b.written_len bs before behind others
@@ -128,12 +128,12 @@ module _ {D C : Type 0} (log : Log D C) where
     written_ready now noted =
         let both : Some r.segment ≡ Some (view_at site b) = sym r.among ∙ there in
         let same : r.segment ≡ view_at site b = cc in
-        let own = own_ready log.config.config.segment_size log.site.place (line_of log) n (view_at site b) log.ready (line_segments log) there log.indexed in
+        let own = own_ready log.config.config.segment_size log.segments.first.site.place (line_of log) n (view_at site b) log.ready (line_segments log) there log.indexed in
         let known = noted r.buffer (before_places n (line_of log)) (behind_places n (line_of log)) (other_held n (line_of log)) (ap (λ (x : SegmentView). slice_get x.parts.sealed k) (sym same) ∙ r.there) r.ready own in
         let cs : List Sealed = written_at k b.sealed.items in
         let all : AreReady (set (line_of log) n (written_now k (view_at site b))) now =
         set_ready (line_of log) n (view_at site b) (written_now k (view_at site b)) now there
         (known.places ∙ ap (λ (l : List ℕ). before_places n (line_of log) ++ l ++ behind_places n (line_of log)) (sym (ready_run site.place b.written_len cs)))
         (known.held ∙ ap (λ m. other_held n (line_of log) + m) (sym (held_run cs))) in
-        promoted_ready log.config.config.segment_size log.site.place (set (line_of log) n (written_now k r.segment)) now (segments_written log n k r)
+        promoted_ready log.config.config.segment_size log.segments.first.site.place (set (line_of log) n (written_now k r.segment)) now (segments_written log n k r)
         (subst (λ (x : SegmentView). AreReady (set (line_of log) n (written_now k x)) now) (sym same) all)

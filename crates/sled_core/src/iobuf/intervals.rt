@@ -2,7 +2,7 @@
 //! the stable end is the last place up to which all is durable, with no batch cut in two (`specs/StableEnds.antt`). Kept are
 //! the contiguous end, the intervals beyond it, of which the lowest comes out first, and by place the batches that aren't
 //! wholly synced. What was given since the beginning is `Knows` (`specs/Synced.antt`).
-ghost use Rattle.std.specs.Prelude.{◌≡◌, ◌≤◌, ◌<◌, ◌+◌, ◌⊎◌, ◌≤ℤ◌, ◌<ℤ◌, ◌+ℤ◌, pos, MatchBool, OnSome, ℕ, ℤ, List, [], ◌∷◌, length, All, Contains, Some, IfOk, OnOk, OnErr, IfSome, IfNone, IsOk, IsOkUnless};
+ghost use Rattle.std.specs.Prelude.{◌≡◌, ◌≤◌, ◌<◌, ◌+◌, ◌≤ℤ◌, ◌<ℤ◌, ◌+ℤ◌, pos, MatchBool, OnSome, ℤ, List, [], ◌∷◌, length, All, Contains, Some, IfOk, OnOk, OnErr, IfSome, IfNone, IsOk, IsOkUnless};
 ghost use Rattle.std.specs.List.{AllWithin};
 ghost use Rattle.std.specs.BinaryHeap.{IsHeap, HeapUnchanged, heap_items, heap_len, heap_capacity};
 ghost use Rattle.std.specs.VecDeque.{deque_len, deque_capacity};

@@ -1,8 +1,8 @@
 //! How a record is laid out at the end of a segment's bytes. Until it is completed it has zeros in place
 //! of its sum and its kind.
-ghost use Rattle.std.specs.Prelude.{◌≡◌, ◌+◌, ◌-◌, ◌≤◌, ◌<◌, ◌^◌, ◌++◌, ◌∷◌, [], length, take, drop, replicate, vec_capacity};
+ghost use Rattle.std.specs.Prelude.{◌≡◌, ◌+◌, ◌-◌, ◌≤◌, ◌<◌, ◌++◌, length, take, drop, replicate, vec_capacity};
 ghost use Rattle.sled_codec.specs.Places.{part};
-ghost use Rattle.sled_codec.specs.Spelling.{low_bytes, short_header_tail};
+ghost use Rattle.sled_codec.specs.Spelling.{short_header_tail};
 ghost use Rattle.sled_core.specs.Buffers.{placeholder_head};
 ghost use Rattle.sled_core.specs.Caps.{capped_rest, segment_rest};
 

@@ -1,5 +1,5 @@
 //! What is left of a log file for an iterator to give (`specs/Ahead.antt`).
-ghost use Rattle.std.specs.Prelude.{◌≡◌, ◌↔◌, ◌+◌, ◌^◌, ◌≤◌, ◌<◌, ℕ, ℤ, pos, nat_lt, List, [], true, false, Ok, None, length, take, IsTrue, IfOk, OnOk, IfNone, OnSome};
+ghost use Rattle.std.specs.Prelude.{◌≡◌, ◌↔◌, ◌+◌, ◌^◌, ◌≤◌, ◌<◌, ℤ, pos, nat_lt, List, [], true, false, Ok, None, length, take, IsTrue, IfOk, OnOk, IfNone, OnSome};
 ghost use Rattle.sled_codec.specs.Errors.{IsCorruption};
 ghost use Rattle.sled_store.specs.Causes.{DeviceAnswers};
 ghost use Rattle.sled_store.specs.Device.{state_of};

@@ -1,6 +1,6 @@
 //! What a reader finds at an offset of a slot whose bytes it has: a record of the segment, the end of what was written, or
 //! nothing that passes (`IsStep`, `specs/Scan.antt`). No memory is taken for it.
-ghost use Rattle.std.specs.Prelude.{◌≡◌, ◌≢◌, ◌⊎◌, ◌+◌, ◌%◌, ◌^◌, ◌++◌, ◌≤◌, ◌<◌, ℕ, List, length, take, drop, IfOk, IfErr, IfSome, IfNone, MatchOption, true};
+ghost use Rattle.std.specs.Prelude.{◌≡◌, ◌≢◌, ◌⊎◌, ◌+◌, ◌%◌, ◌^◌, ◌≤◌, ◌<◌, ℕ, List, length, drop, IfOk, IfErr, IfSome, IfNone, MatchOption, true};
 ghost use Rattle.sled_codec.specs.declared.serialization.message.MessageHeader.{MessageHeader};
 ghost use Rattle.sled_codec.specs.declared.serialization.message.MessageKind.TheVariants as kind;
 ghost use Rattle.sled_codec.specs.Errors.{IsCorruption, IsDecodeError};

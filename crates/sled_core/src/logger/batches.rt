@@ -4,7 +4,7 @@
 //! manifest is reserved, room is made for its batch. The batches are kept by place, and looked for by a search: each ends in front
 //! of where the next one begins, since a batch that is noted has no place in common with one that isn't wholly on the device, and
 //! begins behind all that is.
-ghost use Rattle.std.specs.Prelude.{vec_capacity, ◌≡◌, ◌+◌, ◌*◌, ◌<◌, ◌≤◌, ◌^◌, ◌⊎◌, ◌↔◌, ◌<ℤ◌, pos, [], if◌then◌else◌, suc, ℕ, All, Contains, IsTrue, map, length, true, OnOk, IsOkUnless};
+ghost use Rattle.std.specs.Prelude.{if◌then◌else◌, vec_capacity, ◌≡◌, ◌+◌, ◌*◌, ◌<◌, ◌≤◌, ◌^◌, ◌⊎◌, ◌↔◌, ◌<ℤ◌, pos, [], suc, ℕ, All, Contains, IsTrue, map, length, true, OnOk, IsOkUnless};
 ghost use Rattle.std.specs.List.Sorted.{IsPartitionPoint};
 ghost use Rattle.sled_codec.specs.History.{Batch};
 ghost use Rattle.sled_core.specs.OpenBatches.{AreByPlace, AreByPlace-prop, batch_of, behind_batch, not_whole, stable_below, with_batch};

@@ -1,5 +1,5 @@
 //! A log over a device that a test can stop within a call.
-ghost use Rattle.std.specs.Prelude.{◌≡◌, ◌∷◌, if◌then◌else◌};
+ghost use Rattle.std.specs.Prelude.{if◌then◌else◌, ◌≡◌, ◌∷◌};
 ghost use Rattle.sled_store.specs.Device.{StopAsked};
 ghost use Rattle.sled_store.specs.Stops.{KeepsToStop};
 ghost use Rattle.sled_core.specs.Fits.{KeepsTickets, device_of};

@@ -1,5 +1,5 @@
 //! Which reservation a ticket is for, and ending it.
-ghost use Rattle.std.specs.Prelude.{◌≡◌, ◌+◌, ◌-◌, ◌≤◌, ◌<◌, ◌^◌, ◌↔◌, ℕ, false, true, All, Some, IsTrue, length, set, slice_get};
+ghost use Rattle.std.specs.Prelude.{◌≡◌, ◌+◌, ◌-◌, ◌<◌, ◌^◌, ◌↔◌, false, true, Some, IsTrue, length, set, slice_get};
 ghost use Rattle.sled_core.specs.declared.iobuf.Reserved.{Reserved};
 ghost use Rattle.sled_core.specs.Begun.{SegmentView};
 ghost use Rattle.sled_core.specs.Buffers.{canceling, completing, marking, none_open};
@@ -11,12 +11,10 @@ ghost use Rattle.sled_core.specs.Turned.{ChangesLine, HasOpenIn, HasRoomForBatch
 use crate::iobuf::{IoBuf, ReservationState, Reserved, SegmentPosition};
 use crate::logger::Log;
 use crate::logger::reserving::is_manifest;
-use crate::logger::segments::SegmentBuffer;
 use crate::reservation::Reservation;
 use sled_codec::result::DiskPtr;
 use sled_codec::serialization::Checksum;
 use sled_store::Device;
-use std::collections::VecDeque;
 
 impl<D: Device, C: Checksum> Log<D, C> {
     /// Completes a reservation of a segment, by their numbers. It isn't of a manifest.
@@ -29,16 +27,10 @@ impl<D: Device, C: Checksum> Log<D, C> {
             → line_of self.new ≡ set (line_of self.old) n (ended_now (index - v.gone) r (completing r) ReservationState.Completed v) }
         ensures rest { ChangesLine self.old self.new }
     {
-        if n == 0 {
-            let i = index - self.buffer.gone;
-            self.buffer.complete(i);
-            self.ready.note_ended(&self.site, &self.buffer, i);
-        } else {
-            let s = &mut self.behind[n - 1];
-            let i = index - s.buffer.gone;
-            s.buffer.complete(i);
-            self.ready.note_ended(&s.site, &s.buffer, i);
-        }
+        let s = self.segments.segment_mut(n);
+        let i = index - s.buffer.gone;
+        s.buffer.complete(i);
+        self.ready.note_ended(&s.site, &s.buffer, i);
     }
 
     /// Aborts one, of a manifest or not.
@@ -52,16 +44,10 @@ impl<D: Device, C: Checksum> Log<D, C> {
     {
         let checksum = &self.config.checksum;
         self.batches.end_manifest(manifest);
-        if n == 0 {
-            let i = index - self.buffer.gone;
-            self.buffer.abort(checksum, i);
-            self.ready.note_ended(&self.site, &self.buffer, i);
-        } else {
-            let s = &mut self.behind[n - 1];
-            let i = index - s.buffer.gone;
-            s.buffer.abort(checksum, i);
-            self.ready.note_ended(&s.site, &s.buffer, i);
-        }
+        let s = self.segments.segment_mut(n);
+        let i = index - s.buffer.gone;
+        s.buffer.abort(checksum, i);
+        self.ready.note_ended(&s.site, &s.buffer, i);
     }
 
     /// Ends one that is the manifest of a batch, with the peg of this. The room that was made for the batch is left for it.
@@ -78,16 +64,10 @@ impl<D: Device, C: Checksum> Log<D, C> {
     {
         let checksum = &self.config.checksum;
         self.batches.end_manifest(true);
-        if n == 0 {
-            let i = index - self.buffer.gone;
-            self.buffer.mark_batch(checksum, i, peg);
-            self.ready.note_ended(&self.site, &self.buffer, i);
-        } else {
-            let s = &mut self.behind[n - 1];
-            let i = index - s.buffer.gone;
-            s.buffer.mark_batch(checksum, i, peg);
-            self.ready.note_ended(&s.site, &s.buffer, i);
-        }
+        let s = self.segments.segment_mut(n);
+        let i = index - s.buffer.gone;
+        s.buffer.mark_batch(checksum, i, peg);
+        self.ready.note_ended(&s.site, &s.buffer, i);
     }
 
     /// Returns whether this ticket is for an open reservation of the log.
@@ -95,32 +75,23 @@ impl<D: Device, C: Checksum> Log<D, C> {
         ensures { IsTrue result ↔ IsOpen self.now ticket.now }
     {
         let place = ticket.lsn();
-        if place < 0 || (place as u64) < self.site.place {
+        if place < 0 || (place as u64) < self.segments.first.site.place {
             return false;
         }
         let n = self.segment_of(place as u64);
-        if n == 0 {
-            return is_open_in(&self.site, &self.buffer, ticket);
+        if n > self.segments.last_index() {
+            return false;
         }
-        match self.behind.get(n - 1) {
-            Some(s) => is_open_in(&s.site, &s.buffer, ticket),
-            None => false,
-        }
+        let (site, buffer) = self.segment(n);
+        is_open_in(&site, buffer, ticket)
     }
 
     /// Returns whether no reservation is open. One whose ticket was abandoned is.
     pub fn none_open(&self) -> bool
         ensures { IsTrue result ↔ NoneOpen self.now }
     {
-        self.buffer.none_open() && none_open_behind(&self.behind)
+        self.segments.none_open()
     }
-}
-
-/// None of these segments has an open reservation.
-fn none_open_behind(behind: &VecDeque<SegmentBuffer>) -> bool
-    ensures { IsTrue result ↔ All (λ s. none_open s.buffer.reserved.items ≡ true) behind.now.items }
-{
-    behind.iter().all(|s| s.buffer.none_open())
 }
 
 /// Whether a ticket is for an open reservation of this segment.

@@ -23,7 +23,7 @@ use sled_store::{Device, RunningConfig};
 use std::alloc::Global;
 
 impl<D: Device, C: Checksum> Log<D, C> {
-    ghost use Rattle.sled_core.specs.Fits.{config_of, device_of, fault_of, machine_at, segment_size_of, stable_end};
+    ghost use Rattle.sled_core.specs.Fits.{config_of, device_of, fault_of, machine_at, segment_size_of};
     ghost use Rattle.sled_core.specs.Causes.{FaultOrMemory};
     ghost use Rattle.sled_core.specs.Iterators.{BorrowsLog, GivesMessages, GoesOver, IsReadFor, IsRefusedFor, refusal_of};
     ghost use Rattle.sled_core.specs.LogSegments.{AreSegments, begins_from};

@@ -2,11 +2,11 @@
 //!
 //! Its record has the peg of the batch as its body, which a recovery reads: where what it finds doesn't go up to the peg, it
 //! ends in front of the manifest, so that none of the batch's messages counts (`specs/Batches.antt`).
-ghost use Rattle.std.specs.Prelude.{ℕ, List, ◌≡◌, ◌<◌, ◌⊎◌, ◌↔◌, ◌<ℤ◌, Contains, IsTrue, pos, true, unsigned_abs, IfOk, OnOk, OnErr};
+ghost use Rattle.std.specs.Prelude.{ℕ, List, ◌≡◌, ◌<◌, ◌⊎◌, ◌↔◌, ◌<ℤ◌, Contains, IsTrue, pos, true, IfOk, OnOk, OnErr};
 ghost use Rattle.sled_codec.specs.History.{Batch, Batched, History, Message, Step};
 ghost use Rattle.sled_core.specs.Batches.{EndsBatch, LiesInNoFilling, MayEndAt, NotesBatchOf, batch_for};
 ghost use Rattle.sled_core.specs.Causes.{FaultAnswers};
-ghost use Rattle.sled_core.specs.Fits.{Awaits, Holds, IsOpen, KeepsBuffers, fault_of, line_of, noted_in, open_places, reserved_end, segment_size_of};
+ghost use Rattle.sled_core.specs.Fits.{Holds, IsOpen, KeepsBuffers, fault_of, line_of, noted_in, open_places, reserved_end, segment_size_of};
 ghost use Rattle.sled_core.specs.Keeps.{GoesOn, KeepsOthers, Preserves, SamePosition};
 ghost use Rattle.sled_core.specs.OpenPlaces.{TakesOutPlaceOf};
 ghost use Rattle.sled_core.specs.Running.{Fits};
@@ -73,7 +73,7 @@ impl<D: Device, C: Checksum> Log<D, C> {
         requires { place <ℤ pos (reserved_end self.now) }
         ensures { IsTrue result ↔ LiesInNoFilling (segment_size_of self.now) (line_of self.now) place }
     {
-        if place < self.site.place as Lsn {
+        if place < self.segments.first.site.place as Lsn {
             return true;
         }
         let place = place.unsigned_abs();

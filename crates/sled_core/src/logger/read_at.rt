@@ -1,6 +1,5 @@
 //! What bytes of a log file are read from: the device, or a part of the file that was read before.
-ghost use Rattle.std.specs.Prelude.{◌≡◌, ◌≤◌, ◌<◌, ◌+◌, ◌-◌, ◌++◌, ℕ, List, [], length, take, drop, min, replicate, IfOk, OnOk, IfErr, OnErr};
-ghost use Rattle.sled_codec.specs.Errors.{IsCorruption};
+ghost use Rattle.std.specs.Prelude.{◌≡◌, ◌≤◌, ◌<◌, ◌+◌, ◌-◌, ◌++◌, ℕ, List, [], length, drop, min, IfOk, OnOk};
 ghost use Rattle.sled_codec.specs.Places.{part};
 ghost use Rattle.sled_store.specs.Device.{Trace, state_of};
 ghost use Rattle.sled_core.specs.Causes.{ReaderAnswers};

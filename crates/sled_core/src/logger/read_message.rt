@@ -1,6 +1,5 @@
 //! Reading a message from the device: which bytes pass as its record, and what that holds.
-ghost use Rattle.std.specs.Prelude.{IfSome, IfNone, None, Some, is_some, ◌≡◌, ◌≢◌, ◌≤◌, ◌<◌, ◌+◌, ◌-◌, ◌%◌, ◌^◌, ◌++◌, ◌↔◌, ℕ, List, length, take, drop, min, vec_capacity, IfOk, IfErr, OnOk, IsTrue, IsErr, slice_index, MatchOption, ◌⊎◌, true};
-ghost use Rattle.std.specs.declared.io.ErrorKind.TheVariants.{OutOfMemory};
+ghost use Rattle.std.specs.Prelude.{IfSome, IfNone, None, Some, is_some, ◌≡◌, ◌≢◌, ◌≤◌, ◌<◌, ◌+◌, ◌-◌, ◌%◌, ◌^◌, ◌++◌, ◌↔◌, ℕ, List, length, take, min, vec_capacity, IfOk, IfErr, IsTrue, slice_index, MatchOption, ◌⊎◌, true};
 ghost use Rattle.sled_codec.specs.declared.serialization.message.MessageHeader.{MessageHeader};
 ghost use Rattle.sled_codec.specs.declared.serialization.message.MessageKind.TheVariants as kind;
 ghost use Rattle.sled_codec.specs.Errors.{IsCorruption, IsDecodeError};
@@ -8,7 +7,6 @@ ghost use Rattle.sled_codec.specs.Places.{part, MayBegin};
 ghost use Rattle.sled_codec.specs.Spelling.{SpellsMessageHeader, SpellsSigned};
 ghost use Rattle.sled_codec.specs.Sums.{flipped};
 ghost use Rattle.sled_store.specs.Device.{state_of};
-ghost use Rattle.sled_store.specs.Answers.{Counts, Fails};
 ghost use Rattle.sled_store.specs.Causes.{DeviceAnswers};
 ghost use Rattle.sled_store.specs.Blobs.{IsDamagedFor, NamesBlobAt, OnDamage};
 ghost use Rattle.sled_core.specs.Keeps.{OnlyReads};

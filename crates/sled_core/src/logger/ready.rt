@@ -1,6 +1,6 @@
 //! The sealed buffers of a log that can be written, by the places where they begin, so that the i-th one is found without
 //! going over the others (`specs/ReadyBuffers.antt`).
-ghost use Rattle.std.specs.Prelude.{◌≡◌, ◌+◌, ◌<◌, ◌≤◌, ◌^◌, ◌++◌, ◌∷◌, [], ℕ, List, true, false, length, slice_get, slice_index_or, OnOk, IsOkUnless, All, Some};
+ghost use Rattle.std.specs.Prelude.{◌≡◌, ◌+◌, ◌<◌, ◌≤◌, ◌^◌, ◌++◌, ◌∷◌, [], ℕ, List, true, false, length, slice_get, OnOk, IsOkUnless, All, Some};
 ghost use Rattle.std.specs.VecDeque.{deque_len, deque_capacity};
 ghost use Rattle.sled_core.specs.declared.iobuf.Reserved.{Reserved};
 ghost use Rattle.sled_core.specs.SealedBuffers.{is_ready, written_at};

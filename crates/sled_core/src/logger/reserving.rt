@@ -1,7 +1,7 @@
 //! The parts of a reservation: whether its record has a place in the current segment, the room for it, and its placeholder.
-ghost use Rattle.std.specs.Prelude.{◌≡◌, ◌+◌, ◌-◌, ◌/◌, ◌^◌, ◌<◌, ◌≤◌, ◌++◌, ◌∷◌, [], None, drop, length, take, true, IsTrue, IfOk, OnOk, OnErr, ◌↔◌};
+ghost use Rattle.std.specs.Prelude.{◌≡◌, ◌+◌, ◌-◌, ◌/◌, ◌^◌, ◌<◌, ◌++◌, None, drop, length, take, true, IsTrue, OnOk, OnErr, ◌↔◌};
 ghost use Rattle.sled_codec.specs.Spelling.{short_header_tail};
-ghost use Rattle.sled_core.specs.Begun.{last_buffer};
+ghost use Rattle.sled_core.specs.Begun.{last_buffer_in};
 ghost use Rattle.sled_core.specs.Buffers.{placeholder_head, reserved_for};
 ghost use Rattle.sled_core.specs.Causes.{MakesRoom};
 ghost use Rattle.sled_core.specs.Fits.{FitsInline, IsLeastOpen, IsUnchanged, IsUsedUpFor, KeepsAll, current_of, line_of, open_for, open_of, segment_size_of};
@@ -79,7 +79,7 @@ impl<D: Device, C: Checksum> Log<D, C> {
     pub(crate) fn room_for(&mut self, len: usize, manifest: bool) -> Result<()>
         requires { len < 2 ^ 32 }
         ensures line { line_of self.new ≡ line_of self.old }
-        ensures room { OnOk result (HasRoomIn (last_buffer self.new.buffer self.new.behind.items) len) }
+        ensures room { OnOk result (HasRoomIn (last_buffer_in self.new.segments) len) }
         ensures batch { OnOk result (manifest ≡ true → HasRoomForBatch self.new) }
         ensures rest { ChangesLine self.old self.new }
         ensures answers { MakesRoom result (open_of self.old) (IsLeastOpen self.old) }
@@ -89,11 +89,7 @@ impl<D: Device, C: Checksum> Log<D, C> {
             return Err(Error::Held(buffer.least_open(buffer.first, &site)));
         }
         self.batches.make_room_for(manifest)?;
-        let n = self.behind.len();
-        if n == 0 {
-            return self.buffer.make_room(len);
-        }
-        self.behind[n - 1].buffer.make_room(len)
+        self.segments.last_mut().buffer.make_room(len)
     }
 
     /// Lays out the placeholder of a record behind what is there in the current segment, and returns its ticket.
@@ -107,7 +103,7 @@ impl<D: Device, C: Checksum> Log<D, C> {
     ) -> Reservation
         requires fits { T.fits (T.meaning item.now) }
         requires len { item_len ≡ length (T.short (T.meaning item.now)) }
-        requires room { HasRoomIn (last_buffer self.old.buffer self.old.behind.items) (head.now.len + item_len) }
+        requires room { HasRoomIn (last_buffer_in self.old.segments) (head.now.len + item_len) }
         requires place { HasPlace self.old (head.now.len + item_len) }
         requires batch { is_manifest purpose.now.log_kind purpose.now.page ≡ true → HasRoomForBatch self.old }
         requires body { is_manifest purpose.now.log_kind purpose.now.page ≡ true → item_len ≡ 8 }
@@ -148,7 +144,7 @@ impl<D: Device, C: Checksum> Log<D, C> {
     )
         requires fits { T.fits (T.meaning item.now) }
         requires len { item_len ≡ length (T.short (T.meaning item.now)) }
-        requires room { HasRoomIn (last_buffer self.old.buffer self.old.behind.items) (head.now.len + item_len) }
+        requires room { HasRoomIn (last_buffer_in self.old.segments) (head.now.len + item_len) }
         requires place { HasPlace self.old (head.now.len + item_len) }
         requires batch { is_manifest purpose.now.log_kind purpose.now.page ≡ true → HasRoomForBatch self.old }
         requires body { is_manifest purpose.now.log_kind purpose.now.page ≡ true → item_len ≡ 8 }
@@ -163,16 +159,9 @@ impl<D: Device, C: Checksum> Log<D, C> {
         let checksum = &self.config.checksum;
         let manifest = is_manifest(purpose.log_kind, purpose.page);
         self.batches.begin_manifest(manifest);
-        let n = self.behind.len();
-        if n == 0 {
-            self.buffer.append(checksum, head, purpose, item, item_len);
-            self.reserved_to = to;
-        } else {
-            self.behind[n - 1]
-                .buffer
-                .append(checksum, head, purpose, item, item_len);
-            self.reserved_to = to;
-        }
+        let s = self.segments.last_mut();
+        s.buffer.append(checksum, head, purpose, item, item_len);
+        self.reserved_to = to;
     }
 }
 

@@ -1,17 +1,17 @@
 //! The segments of a log: the first one that isn't wholly on the device, and those that were begun behind it, of which the
 //! last one is being filled (`specs/Begun.antt`).
-ghost use Rattle.std.specs.Prelude.{◌≡◌, ◌≢◌, ◌+◌, ◌-◌, ◌*◌, ◌/◌, ◌<◌, ◌≤◌, ◌^◌, ◌∷◌, [], ℕ, true, false, length, slice_get, OnOk, OnErr, IfOk, IsOkUnless, IsTrue, ◌↔◌, pos, None, Some};
+ghost use Rattle.std.specs.Prelude.{◌≡◌, ◌+◌, ◌-◌, ◌*◌, ◌/◌, ◌<◌, ◌≤◌, ◌^◌, true, false, length, slice_get, OnOk, OnErr, IfOk, IsOkUnless, IsTrue, ◌↔◌, None, Some};
 ghost use Rattle.std.specs.VecDeque.{deque_len, deque_capacity};
 ghost use Rattle.sled_store.specs.Accounts.{MayHandOut, NextAnswers};
 ghost use Rattle.sled_store.specs.SegmentStates.{handed_out};
-ghost use Rattle.sled_core.specs.Begun.{SegmentView, begin_of, last_buffer, line_at, view_at};
+ghost use Rattle.sled_core.specs.Begun.{last_buffer_in, view_at};
 ghost use Rattle.sled_core.specs.Causes.{FaultOrMemory};
 ghost use Rattle.sled_core.specs.Fits.{AddsBuffers, IsUnchanged, IsUsedUp, KeepsAll, KeepsTickets, buffers_of, current_begin, current_of, line_of, machine_at, reserved_end, sealing_end, segment_size_of, stable_end, start_of, waiting_of};
 ghost use Rattle.sled_core.specs.Keeps.{Preserves, SamePosition, start_sealed};
 ghost use Rattle.sled_core.specs.Marked.{BeginsMarked};
 ghost use Rattle.sled_core.specs.Positions.{is_short};
-ghost use Rattle.sled_core.specs.Turned.{CanClose, ChangesLine, ChangesSlots, HasRoomForBatch, HasRoomIn, IsBegunView, next_line, promoted};
-ghost use Rattle.sled_core.specs.Waiting.{at_last, holds_any, sealed_now, with_parts};
+ghost use Rattle.sled_core.specs.Turned.{CanClose, ChangesLine, ChangesSlots, HasRoomForBatch, HasRoomIn, IsBegunView, next_line};
+ghost use Rattle.sled_core.specs.Waiting.{at_last, holds_any, sealed_now};
 
 use crate::iobuf::{IoBuf, SegmentPosition};
 use crate::logger::Log;
@@ -19,45 +19,32 @@ use sled_codec::result::{Error, Lsn, Result};
 use sled_codec::serialization::{Checksum, SegmentHeader};
 use sled_store::segment::MAX_MSG_HEADER_LEN;
 use sled_store::{Config, Device};
-use std::alloc::Global;
-use std::collections::VecDeque;
-
-/// A segment that was begun: where it lies, and its bytes.
-#[derive(Drop)]
-pub(crate) struct SegmentBuffer {
-    pub(crate) site: SegmentPosition,
-    pub(crate) buffer: IoBuf,
-}
 
 impl<D: Device, C: Checksum> Log<D, C> {
     /// The segment that is being filled.
     #[inline(always)]
     pub(crate) fn current(&self) -> (SegmentPosition, &IoBuf)
         ensures view { view_at result.0 result.1.now ≡ current_of self.now }
-        ensures buffer { result.1.now ≡ last_buffer self.now.buffer self.now.behind.items }
+        ensures buffer { result.1.now ≡ last_buffer_in self.now.segments }
         ensures short { length result.1.now.bytes.items ≤ self.now.config.config.segment_size }
         ensures place_in_reach { result.0.place + self.now.config.config.segment_size < 2 ^ 63 }
         ensures slot_in_reach { result.0.slot + self.now.config.config.segment_size < 2 ^ 63 }
     {
-        match self.behind.back() {
-            Some(s) => (s.site, &s.buffer),
-            None => (self.site, &self.buffer),
-        }
+        let s = self.segments.segment(self.segments.last_index());
+        (s.site, &s.buffer)
     }
 
     /// A segment, by its number, counted from the first one.
     pub(crate) fn segment(&self, n: usize) -> (SegmentPosition, &IoBuf)
-        requires { n ≤ length self.now.behind.items }
+        requires { n ≤ length self.now.segments.behind.items }
         ensures view { slice_get (line_of self.now) n ≡ Some (view_at result.0 result.1.now) }
         ensures short { length result.1.now.bytes.items ≤ self.now.config.config.segment_size }
         ensures place_in_reach { result.0.place + self.now.config.config.segment_size < 2 ^ 63 }
         ensures slot_in_reach { result.0.slot + self.now.config.config.segment_size < 2 ^ 63 }
-        ensures place { result.0.place ≡ self.now.site.place + n * self.now.config.config.segment_size }
+        ensures place { result.0.place ≡ self.now.segments.first.site.place + n * self.now.config.config.segment_size }
     {
-        if n == 0 {
-            return (self.site, &self.buffer);
-        }
-        (self.behind[n - 1].site, &self.behind[n - 1].buffer)
+        let s = self.segments.segment(n);
+        (s.site, &s.buffer)
     }
 
     /// Where the current buffer begins.
@@ -109,13 +96,7 @@ impl<D: Device, C: Checksum> Log<D, C> {
         ensures memory { IsOkUnless result Error.OutOfMemory }
     {
         self.ready.make_room()?;
-        let n = self.behind.len();
-        if n == 0 {
-            self.buffer.seal()?;
-            self.ready.note_sealed(&self.site, &self.buffer);
-            return Ok(());
-        }
-        let s = &mut self.behind[n - 1];
+        let s = self.segments.last_mut();
         s.buffer.seal()?;
         self.ready.note_sealed(&s.site, &s.buffer);
         Ok(())
@@ -131,7 +112,7 @@ impl<D: Device, C: Checksum> Log<D, C> {
         ensures machine { OnOk result (machine_at self.new
             ≡ handed_out ((current_of self.old).parts.site.place + segment_size_of self.old) (machine_at self.old)) }
         ensures reserved { reserved_end self.new ≡ reserved_end self.old }
-        ensures room { OnOk result (HasRoomIn (last_buffer self.new.buffer self.new.behind.items) (segment_size_of self.old - 20)) }
+        ensures room { OnOk result (HasRoomIn (last_buffer_in self.new.segments) (segment_size_of self.old - 20)) }
         ensures batch { OnOk result (manifest ≡ true → HasRoomForBatch self.new) }
         ensures rest { ChangesSlots self.old self.new }
         ensures err { OnErr result (IsUnchanged self.old self.new) }
@@ -147,20 +128,11 @@ impl<D: Device, C: Checksum> Log<D, C> {
         let buffer = self.next_buffer(next)?;
         self.room_to_close(manifest)?;
         let slot = self.accountant.next(&mut self.config, next as Lsn)?;
-        let n = self.behind.len();
-        if n == 0 {
-            self.buffer
-                .close(&self.config.checksum, &site, size as usize);
-            self.ready.note_sealed(&site, &self.buffer);
-        } else {
-            let s = &mut self.behind[n - 1];
-            s.buffer.close(&self.config.checksum, &site, size as usize);
-            self.ready.note_sealed(&site, &s.buffer);
-        }
-        self.behind.push_back_reserved(SegmentBuffer {
-            site: SegmentPosition { place: next, slot },
-            buffer,
-        });
+        let s = self.segments.last_mut();
+        s.buffer.close(&self.config.checksum, &site, size as usize);
+        self.ready.note_sealed(&site, &s.buffer);
+        self.segments
+            .begin(SegmentPosition { place: next, slot }, buffer);
         Ok(())
     }
 
@@ -197,8 +169,8 @@ impl<D: Device, C: Checksum> Log<D, C> {
     fn room_to_close(&mut self, manifest: bool) -> Result<()>
         ensures line { line_of self.new ≡ line_of self.old }
         ensures rest { ChangesLine self.old self.new }
-        ensures room { OnOk result (CanClose (last_buffer self.new.buffer self.new.behind.items) (segment_size_of self.old)) }
-        ensures place { OnOk result (deque_len self.new.behind < deque_capacity self.new.behind) }
+        ensures room { OnOk result (CanClose (last_buffer_in self.new.segments) (segment_size_of self.old)) }
+        ensures place { OnOk result (deque_len self.new.segments.behind < deque_capacity self.new.segments.behind) }
         ensures ready { OnOk result (deque_len self.new.ready.places + self.new.ready.held < deque_capacity self.new.ready.places) }
         ensures batch { OnOk result (manifest ≡ true → HasRoomForBatch self.new) }
         ensures memory { IsOkUnless result Error.OutOfMemory }
@@ -206,21 +178,17 @@ impl<D: Device, C: Checksum> Log<D, C> {
         let size = self.config.config.segment_size as usize;
         self.batches.make_room_for(manifest)?;
         self.ready.make_room()?;
-        self.behind.reserve(1)?;
-        let n = self.behind.len();
-        if n == 0 {
-            return self.buffer.room_to_close(size);
-        }
-        self.behind[n - 1].buffer.room_to_close(size)
+        self.segments.make_room()?;
+        self.segments.last_mut().buffer.room_to_close(size)
     }
 
     /// The number of the segment that has a place, counted from the first one.
     #[inline(always)]
     pub(crate) fn segment_of(&self, place: u64) -> usize
-        requires { self.now.site.place ≤ place }
-        ensures { result ≡ (place - self.now.site.place) / segment_size_of self.now }
+        requires { self.now.segments.first.site.place ≤ place }
+        ensures { result ≡ (place - self.now.segments.first.site.place) / segment_size_of self.now }
     {
-        segments_in(place - self.site.place, &self.config.config) as usize
+        segments_in(place - self.segments.first.site.place, &self.config.config) as usize
     }
 }
 
@@ -230,31 +198,4 @@ pub(crate) fn segments_in(len: u64, config: &Config) -> u64
     ensures { result ≡ len / config.now.segment_size }
 {
     len >> config.segment_size.trailing_zeros()
-}
-
-/// No segment is begun behind the first one.
-pub(crate) fn no_segments(alloc: Global) -> VecDeque<SegmentBuffer>
-    ensures { result.items ≡ [] }
-{
-    VecDeque::new(alloc)
-}
-
-/// Leaves out the segments at the front that are wholly on the device, as long as there is a further one.
-pub(crate) fn promote(
-    site: &mut SegmentPosition,
-    buffer: &mut IoBuf,
-    behind: &mut VecDeque<SegmentBuffer>,
-    size: u64,
-)
-    ensures { line_at site.new buffer.new behind.new.items ≡ promoted size (line_at site.old buffer.old behind.old.items) }
-{
-    while buffer.written_len as u64 == size {
-        match behind.pop_front() {
-            Some(s) => {
-                *site = s.site;
-                *buffer = s.buffer;
-            }
-            None => break,
-        }
-    }
 }

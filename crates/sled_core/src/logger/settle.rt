@@ -3,7 +3,7 @@
 //! The others aren't written, so it may lie behind a gap (`specs/ReadBuffer.antt`).
 ghost use Rattle.std.specs.Prelude.{◌≡◌, ◌<◌, ◌≤◌, ◌<ℤ◌, ◌≤ℤ◌, ◌⊎◌, Contains, pos, unsigned_abs, None, true, OnErr, OnOk};
 ghost use Rattle.sled_store.specs.Script.{after_all, Performs};
-ghost use Rattle.sled_core.specs.Causes.{HeldAnswers, IsHeld, OnDone};
+ghost use Rattle.sled_core.specs.Causes.{HeldAnswers, OnDone};
 ghost use Rattle.sled_core.specs.Fits.{KeepsTickets, NoneSealed, current_begin, device_of, fault_of, reserved_end, start_of, synced_end, waiting_of};
 ghost use Rattle.sled_core.specs.Fronts.{CameAround, WroteNone};
 ghost use Rattle.sled_core.specs.Keeps.{Preserves, SamePosition};

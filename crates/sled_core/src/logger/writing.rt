@@ -2,7 +2,7 @@
 //!
 //! A sealed buffer is written as a whole, by one write and one sync, in any order. The stable end lies behind those at the
 //! front that are written (`specs/Waiting.antt`).
-ghost use Rattle.std.specs.Prelude.{List, ℕ, ◌≡◌, ◌≢◌, ◌+◌, ◌<◌, ◌≤◌, ◌^◌, ◌∷◌, [], pos, None, Some, false, true, if◌then◌else◌, length, slice_get, set, Contains, IfOk, IfErr, OnOk, OnErr, max};
+ghost use Rattle.std.specs.Prelude.{if◌then◌else◌, List, ℕ, ◌≡◌, ◌+◌, ◌<◌, ◌≤◌, ◌^◌, ◌∷◌, [], pos, None, Some, false, length, slice_get, set, Contains, IfOk, IfErr, OnOk, OnErr, max};
 ghost use Rattle.std.specs.declared.io.Error.{Error as IoError};
 ghost use Rattle.std.specs.IoError.{error_kind};
 ghost use Rattle.std.specs.declared.io.ErrorKind.TheVariants.{OutOfMemory};
@@ -11,25 +11,22 @@ ghost use Rattle.sled_store.specs.Answers.{Counts, FailsOr};
 ghost use Rattle.sled_store.specs.Blobs.{UnlessFault};
 ghost use Rattle.sled_store.specs.Device.{state_of, Wrote, Synced};
 ghost use Rattle.sled_store.specs.Script.{after_all, Performs};
-ghost use Rattle.sled_core.specs.Begun.{SegmentView, line_at, view_at};
+ghost use Rattle.sled_core.specs.Begun.{SegmentView};
 ghost use Rattle.sled_core.specs.Buffers.{first_open_in, open_in};
 ghost use Rattle.sled_core.specs.Causes.{Answers, FaultOrMemory, HeldAnswers, OnDone};
 ghost use Rattle.sled_core.specs.Fits.{Holds, IsUnchanged, IsUsedUp, IsUsedUpBelow, IsWritten, KeepsAll, KeepsTickets, NoneSealed, buffers_of, current_begin, current_of, device_of, fault_of, flushing, held_len, holding_below, line_of, pending_of, reserved_end, sealing_end, segment_size_of, stable_end, start_of, synced_end, waiting_of, writing_below, writing_pending};
 ghost use Rattle.sled_core.specs.Fronts.{CameTo, WroteFront, WroteNone, syncs};
-ghost use Rattle.sled_core.specs.Keeps.{LeavesAbove, Preserves, SamePosition, SealsBelow, WritesBelow};
+ghost use Rattle.sled_core.specs.Keeps.{LeavesAbove, Preserves, SamePosition, WritesBelow};
 ghost use Rattle.sled_core.specs.Marked.{BeginsMarked, KeepsSegment};
 ghost use Rattle.sled_core.specs.Running.{Fits, end_below};
 ghost use Rattle.sled_core.specs.Stable.{SparesDevice, SyncsAll};
 ghost use Rattle.sled_core.specs.Turned.{ChangesDevice, IsReadyIn, promoted, ready_below, write_in, written_now};
 ghost use Rattle.sled_core.specs.Waiting.{BufferAt, holds_any, unwritten, without_pending};
 
-use crate::iobuf::{IoBuf, SegmentPosition};
 use crate::logger::Log;
-use crate::logger::segments::{SegmentBuffer, promote};
 use sled_codec::result::{Error, LogOffset, Lsn, Result};
 use sled_codec::serialization::Checksum;
 use sled_store::Device;
-use std::collections::VecDeque;
 use std::io;
 
 impl<D: Device, C: Checksum> Log<D, C> {
@@ -158,7 +155,7 @@ impl<D: Device, C: Checksum> Log<D, C> {
         ensures is { result ≡ synced_end self.now }
         ensures in_reach { result < 2 ^ 63 }
     {
-        self.site.place + self.buffer.written_len as u64
+        self.segments.first.site.place + self.segments.first.buffer.written_len as u64
     }
 
     /// Writes the buffers that begin below a place, by place, up to the first that has an open reservation, which holds it
@@ -215,17 +212,19 @@ impl<D: Device, C: Checksum> Log<D, C> {
 
     /// The least place of an open reservation of the first segment, of which one is.
     fn least_held(&self) -> Lsn
-        requires { 0 < open_in self.now.buffer.reserved.items }
-        ensures { (from : ℕ) → first_open_in self.now.buffer.reserved.items ≡ Some from → result ≡ pos (self.now.site.place + from) }
+        requires { 0 < open_in self.now.segments.first.buffer.reserved.items }
+        ensures { (from : ℕ) → first_open_in self.now.segments.first.buffer.reserved.items ≡ Some from
+            → result ≡ pos (self.now.segments.first.site.place + from) }
     {
-        self.buffer.least_open(0, &self.site)
+        let s = &self.segments.first;
+        s.buffer.least_open(0, &s.site)
     }
 
     /// The first of the sealed buffers begins below a place, and can be written.
     fn has_ready_below(&self, to: u64) -> bool
         ensures { result ≡ ready_below (line_of self.now) to }
     {
-        match self.buffer.sealed.front() {
+        match self.segments.first.buffer.sealed.front() {
             Some(first) => self.synced_end() < to && first.is_ready(),
             None => false,
         }
@@ -249,11 +248,10 @@ impl<D: Device, C: Checksum> Log<D, C> {
         ensures unwritten { OnErr result (WroteNone D.trace self.old self.new) }
     {
         self.write_bytes(n, k)?;
-        let (site, buffer) = nth(&self.site, &self.buffer, &self.behind, n);
-        self.ready.note_written(&site, buffer, k);
-        mark_nth(&mut self.buffer, &mut self.behind, n, k);
-        let size = self.config.config.segment_size;
-        promote(&mut self.site, &mut self.buffer, &mut self.behind, size);
+        let s = self.segments.segment_mut(n);
+        self.ready.note_written(&s.site, &s.buffer, k);
+        s.buffer.mark_written(k);
+        self.segments.promote(self.config.config.segment_size);
         Ok(())
     }
 
@@ -269,46 +267,15 @@ impl<D: Device, C: Checksum> Log<D, C> {
         ensures refused { OnErr result (fault_of self.new ≡ None → D.trace (device_of self.new) ≡ D.trace (device_of self.old)) }
         ensures unsynced { OnErr result (syncs (D.trace (device_of self.new)) ≡ syncs (D.trace (device_of self.old))) }
     {
-        let (site, buffer) = nth(&self.site, &self.buffer, &self.behind, n);
-        let (from, to) = buffer.span(k);
-        let at = site.slot + from as u64;
-        let written = write_out(&mut self.config.device, at, &buffer.bytes[from..to]);
+        let s = self.segments.segment(n);
+        let (from, to) = s.buffer.span(k);
+        let at = s.site.slot + from as u64;
+        let written = write_out(&mut self.config.device, at, &s.buffer.bytes[from..to]);
         if let Err(e) = written {
             return Err(self.fault.keep(e));
         }
         Ok(())
     }
-}
-
-/// The n-th of the segments of a log: where it lies, and its buffer.
-fn nth<'a>(
-    site: &SegmentPosition,
-    buffer: &'a IoBuf,
-    behind: &'a VecDeque<SegmentBuffer>,
-    n: usize,
-) -> (SegmentPosition, &'a IoBuf)
-    requires { n ≤ length behind.now.items }
-    ensures { slice_get (line_at site.now buffer.now behind.now.items) n ≡ Some (view_at result.0 result.1.now) }
-{
-    if n == 0 {
-        return (*site, buffer);
-    }
-    let s = &behind[n - 1];
-    (s.site, &s.buffer)
-}
-
-/// One of the sealed buffers of the n-th one is on the device now.
-fn mark_nth(buffer: &mut IoBuf, behind: &mut VecDeque<SegmentBuffer>, n: usize, k: usize)
-    requires { (site : SegmentPosition) × IsReadyIn (line_at site buffer.old behind.old.items) n k }
-    ensures { (site : SegmentPosition) (v : SegmentView) → slice_get (line_at site buffer.old behind.old.items) n ≡ Some v
-        → line_at site buffer.new behind.new.items ≡ set (line_at site buffer.old behind.old.items) n (written_now k v) }
-{
-    if n == 0 {
-        buffer.mark_written(k);
-        return;
-    }
-    let s = &mut behind[n - 1];
-    s.buffer.mark_written(k);
 }
 
 /// Writes bytes to the log file, and syncs it.

@@ -43,7 +43,7 @@ unfolding Holds
 none_there trace sum log H holds ticket m awaits message =
     let v : SegmentView = awaits.segment in
     let r : Reserved = awaits.reserved in
-    let done = holds_completed sum log.config.config.segment_size (state_of (trace log.config.device)) log.fault.kept (line_of log) awaits.number v awaits.among log.site.place (nth_facts log) (index_of ticket - v.gone) r awaits.there awaits.own.open_yet (machine_of log.accountant) (noted_in log)
+    let done = holds_completed sum log.config.config.segment_size (state_of (trace log.config.device)) log.fault.kept (line_of log) awaits.number v awaits.among log.segments.first.site.place (nth_facts log) (index_of ticket - v.gone) r awaits.there awaits.own.open_yet (machine_of log.accountant) (noted_in log)
     (sym awaits.own.manifest ∙ message) (logged H) holds in
     let real = adds_real H m done.0 (subst (λ (x : Message). AddsMessage (logged H) x done.0) (sym awaits.message) done.1) in
     put_apart H real.0 m real.1

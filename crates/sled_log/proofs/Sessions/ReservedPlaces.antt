@@ -5,7 +5,7 @@ use Rattle.std.proofs.lemmas.Bool.{cases_lt}
 use Rattle.sled_codec.specs.History.{Message}
 use Rattle.sled_store.specs.Accounts.{machine_of}
 use Rattle.sled_store.specs.SegmentStates.{Machine, next_slot}
-use Rattle.sled_core.specs.Begun.{SegmentView, begin_of, segment_view, view_at}
+use Rattle.sled_core.specs.Begun.{SegmentView, begin_of, segment_view}
 use Rattle.sled_core.specs.Buffers.{most_open}
 use Rattle.sled_core.specs.declared.logger.Log.{Log}
 use Rattle.sled_core.specs.Fits.{FitsInline, IsLeastOpen, IsUsedUpFor, current_begin, current_of, fault_of, in_blob, is_moved, line_of, next_place, open_for, open_of, open_places, position_of, reserved_end, segment_size_of, start_behind, start_of, waiting_behind, waiting_of}
@@ -62,7 +62,7 @@ module _ {D C : Type 0} (log : Log D C) (begun : ℕ) (tickets : List (Option Me
 
   -- the current buffer begins within its segment, and what was reserved ends with its bytes at most
   filled : (begin_of (current_of log) < size) × (reserved_end log ≤ (current_of log).parts.site.place + length (current_of log).parts.bytes)
-  filled = let is = filled_last size (reserved_end log) (view_at log.site log.buffer) (map segment_view log.behind.items) log.filled in (is.0, is.1)
+  filled = let is = filled_last size (reserved_end log) (segment_view log.segments.first) (map segment_view log.segments.behind.items) log.filled in (is.0, is.1)
 
   target : LiesHere size (current_of log) page n (position_of log) ⊎ LiesNext size (current_of log) machine page n (position_of log)
   target = lies size (current_of log) machine page n log.config.config.least (current_facts log).short inline

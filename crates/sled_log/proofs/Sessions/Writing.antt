@@ -14,7 +14,7 @@ use Rattle.sled_store.specs.Accounts.{machine_of}
 use Rattle.sled_store.specs.Blobs.{UnlessFault}
 use Rattle.sled_store.specs.Device.{Event, Trace}
 use Rattle.sled_store.specs.Script.{Performs, after_all}
-use Rattle.sled_core.specs.Begun.{begin_of, segment_view, view_at}
+use Rattle.sled_core.specs.Begun.{begin_of, segment_view}
 use Rattle.sled_core.specs.Causes.{Answers, HeldAnswers, IsHeld, OnDone}
 use Rattle.sled_core.specs.declared.logger.Log.{Log}
 use Rattle.sled_core.specs.Fits.{FirstWaits, IsUsedUp, IsUsedUpBelow, KeepsTickets, buffers_of, current_begin, current_of, device_of, fault_of, held_len, holding_below, noted_in, open_places, pending_of, position_of, reserved_end, sealing_end, segment_size_of, stable_end, start_of, synced_end, waiting_of, writing_below}
@@ -181,7 +181,7 @@ module _ {D C : Type 0} (log : Log D C) (sum : List ℕ → ℕ) (begun : ℕ) (
 
   -- the current buffer begins within its segment, and what was reserved ends with its bytes at most
   pub filled : (begin_of (current_of log) < size) × (reserved_end log ≤ (current_of log).parts.site.place + length (current_of log).parts.bytes)
-  filled = let is = filled_last size (reserved_end log) (view_at log.site log.buffer) (map segment_view log.behind.items) log.filled in (is.0, is.1)
+  filled = let is = filled_last size (reserved_end log) (segment_view log.segments.first) (map segment_view log.segments.behind.items) log.filled in (is.0, is.1)
 
   pub begins : begin_of (current_of log) ≤ length (current_of log).parts.bytes
   begins = (current_facts log).begins

@@ -70,7 +70,7 @@ returns-clause-history g c = λ H m holds awaits.
     let i : ℕ = c.index-index.result - v.gone in
     let at = among g c m awaits in
     let its = there g c m awaits in
-    let done = holds_completed g.C.Checksum.sum_of old.config.config.segment_size (state_of (g.D.Device.trace old.config.device)) old.fault.kept (line_of old) c.segment_of-n.result v at old.site.place (nth_facts old) i r its awaits.own.open_yet (machine_of old.accountant) (noted_in old)
+    let done = holds_completed g.C.Checksum.sum_of old.config.config.segment_size (state_of (g.D.Device.trace old.config.device)) old.fault.kept (line_of old) c.segment_of-n.result v at old.segments.first.site.place (nth_facts old) i r its awaits.own.open_yet (machine_of old.accountant) (noted_in old)
     (sym awaits.own.manifest ∙ c.requires.message) (logged H) holds in
     let real = put_real (HoldsWith g.C.Checksum.sum_of (noted_in old) old.config.config.segment_size (state_of (g.D.Device.trace old.config.device)) old.fault.kept _ (machine_of old.accountant)) H m done.0 (subst (λ (x : Message). AddsMessage (logged H) x done.0) (sym awaits.message) done.1) done.2 in (
       real.0,
@@ -88,7 +88,7 @@ returns-clause-fits g c = λ H A f U m fits awaits stored out.
     let i : ℕ = c.index-index.result - v.gone in
     let at = among g c m awaits in
     let its = there g c m awaits in
-    let done = fits_completed g.C.Checksum.sum_of old.config.config.segment_size (state_of (g.D.Device.trace old.config.device)) old.fault.kept (line_of old) c.segment_of-n.result v at old.site.place (nth_facts old) i r its awaits.own.open_yet (machine_of old.accountant) (noted_in old) m awaits.message stored.below stored.item (sym awaits.own.manifest ∙ c.requires.message) old.pins H A f U old.config.config.least c.in_default.is out fits in (
+    let done = fits_completed g.C.Checksum.sum_of old.config.config.segment_size (state_of (g.D.Device.trace old.config.device)) old.fault.kept (line_of old) c.segment_of-n.result v at old.segments.first.site.place (nth_facts old) i r its awaits.own.open_yet (machine_of old.accountant) (noted_in old) m awaits.message stored.below stored.item (sym awaits.own.manifest ∙ c.requires.message) old.pins H A f U old.config.config.least c.in_default.is out fits in (
       done.0,
       done.1,
       fits_ended old c.complete_in.new.self c.segment_of-n.result v at i r its awaits.own.open_yet (completing r) (completing_short v i r (nth_facts old c.segment_of-n.result v at) its awaits.own.open_yet) Completed (c.complete_in.ensures.line v r at its) c.complete_in.ensures.rest g.D.Device.trace g.C.Checksum.sum_of done.0 A f _ done.2,
@@ -104,7 +104,7 @@ returns-clause-others g c = λ H other m holds awaits apart.
     let at = among g c c.requires.awaited.0 own in
     let its = there g c c.requires.awaited.0 own in
     subst (λ (l : List SegmentView). AwaitsIn l other (in_log m)) (sym (c.complete_in.ensures.line own.segment own.reserved at its))
-    (others_await old.config.config.segment_size (line_of old) old.site.place c.segment_of-n.result own.segment at (nth_facts old) (c.index-index.result - own.segment.gone) own.reserved its own.own.open_yet (completing own.reserved)
+    (others_await old.config.config.segment_size (line_of old) old.segments.first.site.place c.segment_of-n.result own.segment at (nth_facts old) (c.index-index.result - own.segment.gone) own.reserved its own.own.open_yet (completing own.reserved)
     (completing_short own.segment (c.index-index.result - own.segment.gone) own.reserved (nth_facts c.args.self.now c.segment_of-n.result own.segment at) its own.own.open_yet) Completed g.C.Checksum.sum_of (state_of (g.D.Device.trace old.config.device)) old.fault.kept
     (logged H) holds.holds c.args.ticket other (in_log m) own.own.place awaits apart)
 
@@ -117,7 +117,7 @@ returns-clause-opens g c = λ place is.
     let here : own.segment.parts.site.place + own.reserved.from ≡ place = sym (ap unsigned_abs (is ∙ own.own.place)) in
     subst (λ (p : ℕ). TakesOut p (open_places old) (open_places c.complete_in.new.self)) here
     (subst (λ (l : List SegmentView). TakesOut (own.segment.parts.site.place + own.reserved.from) (open_places old) (open_places_along l)) (sym (c.complete_in.ensures.line own.segment own.reserved at its))
-    (ended_takes old.config.config.segment_size (line_of old) old.site.place c.segment_of-n.result own.segment at (nth_facts old) (c.index-index.result - own.segment.gone) own.reserved its own.own.open_yet (completing own.reserved) (completing_short own.segment (c.index-index.result - own.segment.gone) own.reserved (nth_facts c.args.self.now c.segment_of-n.result own.segment at) its own.own.open_yet) Completed refl))
+    (ended_takes old.config.config.segment_size (line_of old) old.segments.first.site.place c.segment_of-n.result own.segment at (nth_facts old) (c.index-index.result - own.segment.gone) own.reserved its own.own.open_yet (completing own.reserved) (completing_short own.segment (c.index-index.result - own.segment.gone) own.reserved (nth_facts c.args.self.now c.segment_of-n.result own.segment at) its own.own.open_yet) Completed refl))
 
 pub returns-clause-goes_on : goal.returns-clause-goes_on
 returns-clause-goes_on g c =

@@ -1,49 +1,26 @@
--- The segment that is being filled is the one at the end of those behind the first, where there is one.
-use Rattle.std.proofs.Common.{◌≡◌, ◌+◌, ◌-◌, ◌≤◌, ◌<◌, ◌^◌, sym, arith, rules, subst, suc, ℕ, List, length, slice_index_or, deque_len, Some}
+-- The segment that is being filled is the last one.
+use Rattle.std.proofs.Common.{◌≡◌, ◌+◌, ◌≤◌, ◌<◌, ◌^◌, sym, subst, length, Some}
 use Rattle.std.specs.List.{slice_get}
-use Rattle.std.proofs.lemmas.Option.{slice_get_read}
-use Rattle.sled_core.specs.Begun.{SegmentView, segment_view, view_at}
-use Rattle.sled_core.specs.Fits.{current_of}
-use Rattle.sled_core.specs.declared.logger.Log.{Log}
-use Rattle.sled_core.specs.declared.logger.segments.SegmentBuffer.{SegmentBuffer}
+use Rattle.sled_core.specs.Begun.{SegmentView, open_segments}
 use Rattle.sled_core.proofs.Holds.Facts.{current_facts}
-use Rattle.sled_core.proofs.Holds.Nth.{last_behind, last_buffer_behind}
+use Rattle.sled_core.proofs.Line.NthOpen.{last_buffer_is, last_is}
+use Rattle.sled_core.proofs.logger.Log.current.Given.{Over}
 use Rattle.sled_core.proofs.logger.Log.current.Goals as goal
 
--- what is at the end of a list of segments
-at_end : (ss : List SegmentBuffer) (n : ℕ) (s : SegmentBuffer) → n ≡ length ss → 0 < length ss → s ≡ slice_index_or ss (n - 1) s → (suc (n - 1) ≡ length ss) × (slice_get ss (n - 1) ≡ Some s)
-at_end ss n s is some there = (omega (arith, is, some), slice_get_read ss n (n - 1) s is (omega (arith, some)) there)
+last_there : (g : Over) (c : goal.After-result-1 g) → slice_get (open_segments c.args.self.now.segments) (length c.args.self.now.segments.behind.items) ≡ Some c.segment-s.result.now
+last_there g c = subst (λ n. slice_get (open_segments c.args.self.now.segments) n ≡ Some c.segment-s.result.now) c.last_index.ensures c.segment-s.ensures
 
--- such a segment is the one that is being filled
-is_current : {D C : Type 0} (log : Log D C) (n : ℕ) (s : SegmentBuffer) → suc n ≡ length log.behind.items → slice_get log.behind.items n ≡ Some s → segment_view s ≡ current_of log
-is_current log n s at there = sym (last_behind (view_at log.site log.buffer) log.behind.items s n at there)
+pub returns-clause-view : goal.returns-clause-view
+returns-clause-view g c = sym (last_is c.args.self.now c.segment-s.result.now (last_there g c))
 
-pub returns-in-Some-clause-view : goal.returns-in-Some-clause-view
-returns-in-Some-clause-view g c =
-    let long : deque_len c.args.self.now.behind ≡ length c.args.self.now.behind.items = search rules in
-    let there = at_end c.args.self.now.behind.items _ c.in-Some.s.now long c.in-Some.ensures.item.3.0 c.in-Some.ensures.lookup in
-    is_current c.args.self.now _ c.in-Some.s.now there.0 there.1
+pub returns-clause-buffer : goal.returns-clause-buffer
+returns-clause-buffer g c = sym (last_buffer_is c.args.self.now.segments c.segment-s.result.now (last_there g c))
 
-pub returns-in-Some-clause-buffer : goal.returns-in-Some-clause-buffer
-returns-in-Some-clause-buffer g c =
-    let long : deque_len c.args.self.now.behind ≡ length c.args.self.now.behind.items = search rules in
-    let there = at_end c.args.self.now.behind.items _ c.in-Some.s.now long c.in-Some.ensures.item.3.0 c.in-Some.ensures.lookup in
-    sym (last_buffer_behind c.args.self.now.buffer c.args.self.now.behind.items c.in-Some.s.now _ there.0 there.1)
+pub returns-clause-short : goal.returns-clause-short
+returns-clause-short g c = subst (λ (v : SegmentView). length v.parts.bytes ≤ c.args.self.now.config.config.segment_size) (last_is c.args.self.now c.segment-s.result.now (last_there g c)) (current_facts c.args.self.now).short
 
-pub returns-in-Some-clause-short : goal.returns-in-Some-clause-short
-returns-in-Some-clause-short g c =
-    let long : deque_len c.args.self.now.behind ≡ length c.args.self.now.behind.items = search rules in
-    let there = at_end c.args.self.now.behind.items _ c.in-Some.s.now long c.in-Some.ensures.item.3.0 c.in-Some.ensures.lookup in
-    subst (λ (v : SegmentView). length v.parts.bytes ≤ c.args.self.now.config.config.segment_size) (sym (is_current c.args.self.now _ c.in-Some.s.now there.0 there.1)) (current_facts c.args.self.now).short
+pub returns-clause-place_in_reach : goal.returns-clause-place_in_reach
+returns-clause-place_in_reach g c = subst (λ (v : SegmentView). v.parts.site.place + c.args.self.now.config.config.segment_size < 2 ^ 63) (last_is c.args.self.now c.segment-s.result.now (last_there g c)) (current_facts c.args.self.now).place_small
 
-pub returns-in-Some-clause-place_in_reach : goal.returns-in-Some-clause-place_in_reach
-returns-in-Some-clause-place_in_reach g c =
-    let long : deque_len c.args.self.now.behind ≡ length c.args.self.now.behind.items = search rules in
-    let there = at_end c.args.self.now.behind.items _ c.in-Some.s.now long c.in-Some.ensures.item.3.0 c.in-Some.ensures.lookup in
-    subst (λ (v : SegmentView). v.parts.site.place + c.args.self.now.config.config.segment_size < 2 ^ 63) (sym (is_current c.args.self.now _ c.in-Some.s.now there.0 there.1)) (current_facts c.args.self.now).place_small
-
-pub returns-in-Some-clause-slot_in_reach : goal.returns-in-Some-clause-slot_in_reach
-returns-in-Some-clause-slot_in_reach g c =
-    let long : deque_len c.args.self.now.behind ≡ length c.args.self.now.behind.items = search rules in
-    let there = at_end c.args.self.now.behind.items _ c.in-Some.s.now long c.in-Some.ensures.item.3.0 c.in-Some.ensures.lookup in
-    subst (λ (v : SegmentView). v.parts.site.slot + c.args.self.now.config.config.segment_size < 2 ^ 63) (sym (is_current c.args.self.now _ c.in-Some.s.now there.0 there.1)) (current_facts c.args.self.now).slot_small
+pub returns-clause-slot_in_reach : goal.returns-clause-slot_in_reach
+returns-clause-slot_in_reach g c = subst (λ (v : SegmentView). v.parts.site.slot + c.args.self.now.config.config.segment_size < 2 ^ 63) (last_is c.args.self.now c.segment-s.result.now (last_there g c)) (current_facts c.args.self.now).slot_small

@@ -93,9 +93,9 @@ returns-clause-keeps g c =
     record {
       goes_on = goes_on_ended old c.abort_in.new.self c.segment_of-n.result v at i r its own.own.open_yet (canceling g.C.Checksum.sum_of v.parts.bytes r) (canceling_short g.C.Checksum.sum_of v i r (nth_facts old c.segment_of-n.result v at) its own.own.open_yet) Canceled (c.abort_in.ensures.line v r at its) c.abort_in.ensures.rest g.D.Device.trace g.C.Checksum.sum_of;
       history = λ H holds. holds_ended old c.abort_in.new.self c.segment_of-n.result v at i r its own.own.open_yet (canceling g.C.Checksum.sum_of v.parts.bytes r) (canceling_short g.C.Checksum.sum_of v i r (nth_facts old c.segment_of-n.result v at) its own.own.open_yet) Canceled (c.abort_in.ensures.line v r at its) c.abort_in.ensures.rest g.D.Device.trace g.C.Checksum.sum_of H
-          (holds_aborted g.C.Checksum.sum_of old.config.config.segment_size (state_of (g.D.Device.trace old.config.device)) old.fault.kept (line_of old) c.segment_of-n.result v at old.site.place (nth_facts old) i r its own.own.open_yet (machine_of old.accountant) (noted_in old) (logged H) holds);
+          (holds_aborted g.C.Checksum.sum_of old.config.config.segment_size (state_of (g.D.Device.trace old.config.device)) old.fault.kept (line_of old) c.segment_of-n.result v at old.segments.first.site.place (nth_facts old) i r its own.own.open_yet (machine_of old.accountant) (noted_in old) (logged H) holds);
       fits = λ H A f U fits. fits_ended old c.abort_in.new.self c.segment_of-n.result v at i r its own.own.open_yet (canceling g.C.Checksum.sum_of v.parts.bytes r) (canceling_short g.C.Checksum.sum_of v i r (nth_facts old c.segment_of-n.result v at) its own.own.open_yet) Canceled (c.abort_in.ensures.line v r at its) c.abort_in.ensures.rest g.D.Device.trace g.C.Checksum.sum_of H A f U
-          (fits_aborted g.C.Checksum.sum_of old.config.config.segment_size (state_of (g.D.Device.trace old.config.device)) old.fault.kept (line_of old) c.segment_of-n.result v at old.site.place (nth_facts old) i r its own.own.open_yet (machine_of old.accountant) (noted_in old) old.pins H A f U fits);
+          (fits_aborted g.C.Checksum.sum_of old.config.config.segment_size (state_of (g.D.Device.trace old.config.device)) old.fault.kept (line_of old) c.segment_of-n.result v at old.segments.first.site.place (nth_facts old) i r its own.own.open_yet (machine_of old.accountant) (noted_in old) old.pins H A f U fits);
       noted = left_ended old c.abort_in.new.self c.segment_of-n.result v at i r its own.own.open_yet (canceling g.C.Checksum.sum_of v.parts.bytes r) (canceling_short g.C.Checksum.sum_of v i r (nth_facts old c.segment_of-n.result v at) its own.own.open_yet) Canceled (c.abort_in.ensures.line v r at its) c.abort_in.ensures.rest;
       kept = kept_same old c.abort_in.new.self c.abort_in.ensures.rest.noted;
     }
@@ -157,7 +157,7 @@ returns-clause-others g c = λ H other m holds awaits apart.
     let at = among g c c.requires.0 own in
     let its = there g c c.requires.0 own in
     subst (λ (l : List SegmentView). AwaitsIn l other (in_log m)) (sym (c.abort_in.ensures.line own.segment own.reserved at its))
-    (others_await old.config.config.segment_size (line_of old) old.site.place c.segment_of-n.result own.segment at (nth_facts old) (c.index-index.result - own.segment.gone) own.reserved its own.own.open_yet (canceling g.C.Checksum.sum_of own.segment.parts.bytes own.reserved)
+    (others_await old.config.config.segment_size (line_of old) old.segments.first.site.place c.segment_of-n.result own.segment at (nth_facts old) (c.index-index.result - own.segment.gone) own.reserved its own.own.open_yet (canceling g.C.Checksum.sum_of own.segment.parts.bytes own.reserved)
     (canceling_short g.C.Checksum.sum_of own.segment (c.index-index.result - own.segment.gone) own.reserved (nth_facts c.args.self.now c.segment_of-n.result own.segment at) its own.own.open_yet) Canceled g.C.Checksum.sum_of (state_of (g.D.Device.trace old.config.device)) old.fault.kept
     (logged H) holds.holds c.args.ticket other (in_log m) own.own.place awaits apart)
 
@@ -170,7 +170,7 @@ returns-clause-opens g c = λ place is.
     let here : own.segment.parts.site.place + own.reserved.from ≡ place = sym (ap unsigned_abs (is ∙ own.own.place)) in
     subst (λ (p : ℕ). TakesOut p (open_places old) (open_places c.abort_in.new.self)) here
     (subst (λ (l : List SegmentView). TakesOut (own.segment.parts.site.place + own.reserved.from) (open_places old) (open_places_along l)) (sym (c.abort_in.ensures.line own.segment own.reserved at its))
-    (ended_takes old.config.config.segment_size (line_of old) old.site.place c.segment_of-n.result own.segment at (nth_facts old) (c.index-index.result - own.segment.gone) own.reserved its own.own.open_yet (canceling g.C.Checksum.sum_of own.segment.parts.bytes own.reserved) (canceling_short g.C.Checksum.sum_of own.segment (c.index-index.result - own.segment.gone) own.reserved (nth_facts c.args.self.now c.segment_of-n.result own.segment at) its own.own.open_yet) Canceled refl))
+    (ended_takes old.config.config.segment_size (line_of old) old.segments.first.site.place c.segment_of-n.result own.segment at (nth_facts old) (c.index-index.result - own.segment.gone) own.reserved its own.own.open_yet (canceling g.C.Checksum.sum_of own.segment.parts.bytes own.reserved) (canceling_short g.C.Checksum.sum_of own.segment (c.index-index.result - own.segment.gone) own.reserved (nth_facts c.args.self.now c.segment_of-n.result own.segment at) its own.own.open_yet) Canceled refl))
 
 pub returns-clause-same : goal.returns-clause-same
 returns-clause-same g c =

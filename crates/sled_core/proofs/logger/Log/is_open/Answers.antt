@@ -1,32 +1,22 @@
 -- A ticket is for an open reservation of the log where it is for one of the segment that its place says.
-use Rattle.std.proofs.Common.{◌≡◌, ◌∙◌, ◌≤◌, ◌<◌, ◌+◌, ◌-◌, ◌/◌, ap, sym, subst, refl, arith, rules, ℕ, zero, suc, pos, map, ◌∷◌, true, false, List, length, Some, None, Option, ℤ}
+use Rattle.std.proofs.Common.{◌≡◌, ◌∙◌, ◌≤◌, ◌+◌, ◌-◌, ◌/◌, sym, subst, refl, arith, rules, ℕ, pos, true, false, List, Some, None, Option, ℤ}
 use Rattle.std.specs.Prelude.{unsigned_abs, ◌<ℤ◌}
 use Rattle.std.specs.List.{slice_get}
-use Rattle.std.specs.VecDeque.{deque_len}
 use Rattle.sled_core.specs.declared.logger.Log.{Log}
-use Rattle.sled_core.specs.declared.logger.segments.SegmentBuffer.{SegmentBuffer}
+use Rattle.sled_core.specs.declared.logger.io_bufs.SegmentBuffer.{SegmentBuffer}
 use Rattle.sled_core.specs.declared.reservation.Reservation.{Reservation}
-use Rattle.sled_core.specs.Begun.{SegmentView, segment_view, view_at}
+use Rattle.sled_core.specs.Begun.{SegmentView, segment_view}
 use Rattle.sled_core.specs.Buffers.{pointer_as, item_as, message_in, body_in}
 use Rattle.sled_core.specs.Fits.{AwaitsIn, IsOpen, line_of}
 use Rattle.sled_core.specs.Tickets.{IsFor, index_of, place_of}
 use Rattle.sled_core.specs.Turned.{IsOpenIn}
-use Rattle.sled_core.proofs.Line.EndedLine.{behind_within}
+use Rattle.sled_core.proofs.Line.NthOpen.{nth_within}
 use Rattle.sled_core.proofs.Line.EndedTickets.{says_place, ticket_above, ticket_among}
-use Rattle.sled_core.proofs.Holds.Facts.{nth_facts}
-use Rattle.sled_core.proofs.Holds.Nth.{behind_get}
-use Rattle.sled_core.proofs.Reserve.Parts.{there_is}
-use Rattle.sled_core.proofs.logger.Log.is_open.Given.{Over}
 use Rattle.sled_core.proofs.logger.Log.is_open.Goals as goal
 use Rattle.sled_core.proofs.logger.Log.is_open.Goals.{then-place-lt0-via-then-place-lt0, then-place-lt0-via-else-place-lt0+then-place-self}
 use Rattle.sled_core.specs.declared.iobuf.SegmentPosition.{SegmentPosition}
 use Rattle.sled_core.specs.declared.iobuf.Reserved.{Reserved}
 use Rattle.sled_core.specs.Logged.{in_log, item_in_log}
-
--- the segment at a number above 0 is one of those behind the first
-get_next : (v : SegmentView) (vs : List SegmentView) (n : ℕ) (w : SegmentView) → (n ≡ 0 → ⊥) → slice_get vs (n - 1) ≡ Some w → slice_get (v ∷ vs) n ≡ Some w
-get_next v vs zero w some there = absurd (some refl)
-get_next v vs (suc k) w some there = let at : k ≡ suc k - 1 = omega arith in ap (slice_get vs) at ∙ there
 
 -- what the log has of the message of a reservation is that
 logged_message : (site : SegmentPosition) (bytes : List ℕ) (r : Reserved) → in_log (message_in site bytes r) ≡ message_in site bytes r
@@ -41,7 +31,7 @@ module _ {D C : Type 0} (log : Log D C) (n : ℕ) (s : SegmentBuffer) (there : s
   opens : IsOpenIn s.site s.buffer ticket → IsOpen log ticket
   opens is = (message_in s.site s.buffer.bytes.items is.reserved, record { number = n; segment = segment_view s; among = there; reserved = is.reserved; numbered = is.numbered; there = is.there; own = is.own; message = logged_message s.site s.buffer.bytes.items is.reserved })
 
-  is_there : (place : ℕ) → place ≡ unsigned_abs (place_of ticket) → n ≡ (place - log.site.place) / log.config.config.segment_size → IsOpen log ticket → IsOpenIn s.site s.buffer ticket
+  is_there : (place : ℕ) → place ≡ unsigned_abs (place_of ticket) → n ≡ (place - log.segments.first.site.place) / log.config.config.segment_size → IsOpen log ticket → IsOpenIn s.site s.buffer ticket
   is_there place place_is n_is is =
       let awaits : AwaitsIn (line_of log) ticket (in_log is.0) = is.1 in
       let among = ticket_among log ticket is.0 is.1 place n (index_of ticket) place_is n_is refl in
@@ -71,58 +61,26 @@ returns-then-place-lt0 g c = (
   ],
 )
 
-pub returns-then-n-eq0 : goal.returns-then-n-eq0
-returns-then-n-eq0 g c =
-    let log = c.args.self.now in
-    let s : SegmentBuffer = record { site = log.site; buffer = log.buffer } in
-    let there : slice_get (line_of log) c.segment_of-n.result ≡ Some (segment_view s) = ap (slice_get (line_of log)) c.if-n-eq0.true in (
-      λ yes. opens log c.segment_of-n.result s there c.args.ticket.now (c.is_open_in.ensures.0 yes),
-      λ is. c.is_open_in.ensures.1 (is_there log c.segment_of-n.result s there c.args.ticket.now _ (says_place c.lsn-place.result (place_of c.args.ticket.now) c.lsn-place.type_inv c.lsn-place.ensures) c.segment_of-n.ensures is),
-    )
-
-some_there : (g : Over) (c : goal.In-Some g) → slice_get (line_of c.args.self.now) c.segment_of-n.result ≡ Some (segment_view c.in-Some.s.now)
-some_there g c =
-    let log = c.args.self.now in
-    let found = c.in-Some.ensures in
-    let long : deque_len log.behind ≡ length log.behind.items = search rules in
-    let inside : c.segment_of-n.result - 1 < length log.behind.items = omega (arith, found.variant.0 refl, long) in
-    let at = there_is log.behind.items (c.segment_of-n.result - 1) c.in-Some.s.now inside found.lookup in
-    get_next (view_at log.site log.buffer) (map segment_view log.behind.items) c.segment_of-n.result (segment_view c.in-Some.s.now) c.if-n-eq0.false (behind_get log.behind.items (c.segment_of-n.result - 1) c.in-Some.s.now at)
-
-pub is_open_in-requires-in-Some-clause-place : goal.is_open_in-requires-in-Some-clause-place
-is_open_in-requires-in-Some-clause-place g c =
-    let facts = nth_facts c.args.self.now c.segment_of-n.result (segment_view c.in-Some.s.now) (some_there g c) in
-    let short = facts.short in let small = facts.place_small in
-    omega (arith, short, small)
-
-pub is_open_in-requires-in-Some-clause-slot : goal.is_open_in-requires-in-Some-clause-slot
-is_open_in-requires-in-Some-clause-slot g c =
-    let facts = nth_facts c.args.self.now c.segment_of-n.result (segment_view c.in-Some.s.now) (some_there g c) in
-    let short = facts.short in let small = facts.slot_small in
-    omega (arith, short, small)
-
-pub returns-in-Some : goal.returns-in-Some
-returns-in-Some g c =
-    let log = c.args.self.now in
-    let s : SegmentBuffer = c.in-Some.s.now in
-    let found = c.in-Some.ensures in
-    let long : deque_len log.behind ≡ length log.behind.items = search rules in
-    let inside : c.segment_of-n.result - 1 < length log.behind.items = omega (arith, found.variant.0 refl, long) in
-    let at = there_is log.behind.items (c.segment_of-n.result - 1) s inside found.lookup in
-    let there : slice_get (line_of log) c.segment_of-n.result ≡ Some (segment_view s) =
-    get_next (view_at log.site log.buffer) (map segment_view log.behind.items) c.segment_of-n.result (segment_view s) c.if-n-eq0.false (behind_get log.behind.items (c.segment_of-n.result - 1) s at) in (
-      λ yes. opens log c.segment_of-n.result s there c.args.ticket.now (c.is_open_in-in-Some.ensures.0 yes),
-      λ is. c.is_open_in-in-Some.ensures.1 (is_there log c.segment_of-n.result s there c.args.ticket.now _ (says_place c.lsn-place.result (place_of c.args.ticket.now) c.lsn-place.type_inv c.lsn-place.ensures) c.segment_of-n.ensures is),
-    )
-
-pub returns-in-None : goal.returns-in-None
-returns-in-None g c = (
+pub returns-then-n-last_index : goal.returns-then-n-last_index
+returns-then-n-last_index g c = (
   λ yes. (let no : false ≡ true = yes in cc),
   λ is.
       let log = c.args.self.now in
-      let long : deque_len log.behind ≡ length log.behind.items = search rules in
       let among = ticket_among log c.args.ticket.now is.0 is.1 _ c.segment_of-n.result (index_of c.args.ticket.now) (says_place c.lsn-place.result (place_of c.args.ticket.now) c.lsn-place.type_inv c.lsn-place.ensures) c.segment_of-n.ensures refl in
-      let within = behind_within log c.segment_of-n.result is.1.segment c.if-n-eq0.false among in
-      let past : c.segment_of-n.result - 1 < deque_len log.behind → ⊥ = λ less. let no : false ≡ true = c.in-None.ensures.variant.1 less in cc in
-      absurd (past (omega (arith, long, within))),
+      let within = nth_within log c.segment_of-n.result is.1.segment among in
+      let past = c.if-n-last_index.true in
+      let last = c.last_index.ensures in
+      absurd (omega (arith, within, past, last)),
 )
+
+pub segment-requires : goal.segment-requires
+segment-requires g c = let low = c.if-n-last_index.false in let last = c.last_index.ensures in omega (arith, low, last)
+
+pub returns : goal.returns
+returns g c =
+    let log = c.args.self.now in
+    let s : SegmentBuffer = record { site = c.segment.result.0; buffer = c.segment.result.1.now } in
+    let there : slice_get (line_of log) c.segment_of-n.result ≡ Some (segment_view s) = c.segment.ensures.view in (
+      λ yes. opens log c.segment_of-n.result s there c.args.ticket.now (c.is_open_in.ensures.0 yes),
+      λ is. c.is_open_in.ensures.1 (is_there log c.segment_of-n.result s there c.args.ticket.now _ (says_place c.lsn-place.result (place_of c.args.ticket.now) c.lsn-place.type_inv c.lsn-place.ensures) c.segment_of-n.ensures is),
+    )

@@ -1,8 +1,8 @@
--- A placeholder is laid out in the first segment or in the last one behind it, whichever is being filled.
-use Rattle.std.proofs.Common.{◌≡◌, ◌∙◌, ◌+◌, ◌-◌, ◌<◌, sym, ap, refl, subst, arith, rules, ℕ, suc, Bool, if◌then◌else◌, List, [], ◌∷◌, ◌++◌, append_assoc, length, length-append, map, drop, take, set, deque_len, Some}
+-- A placeholder is laid out in the last segment, which is being filled.
+use Rattle.std.proofs.Common.{◌≡◌, ◌∙◌, ◌+◌, ◌<◌, sym, ap, refl, subst, arith, ℕ, suc, Bool, if◌then◌else◌, List, [], ◌∷◌, ◌++◌, append_assoc, length, length-append, map, drop, take, Some}
 use Rattle.std.specs.List.{All, slice_get}
 use Rattle.std.proofs.lemmas.List.Elements.{All-weaker}
-use Rattle.sled_core.specs.Begun.{AreFilled, SegmentView, line_at, segment_view, view_at}
+use Rattle.sled_core.specs.Begun.{AreFilled, SegmentView, line_in, segment_view, open_segments, view_at, with_nth}
 use Rattle.sled_core.specs.Buffers.{placeholder_head, reserved_for}
 use Rattle.sled_core.specs.declared.iobuf.IoBuf.{IoBuf}
 use Rattle.sled_core.specs.declared.iobuf.Reserved.{Reserved}
@@ -10,7 +10,8 @@ use Rattle.sled_core.specs.declared.iobuf.SegmentPosition.{SegmentPosition}
 use Rattle.sled_core.specs.declared.iobuf.ReservationState.TheVariants.{Open}
 use Rattle.sled_core.specs.declared.logger.Log.{Log}
 use Rattle.sled_core.specs.declared.logger.batches.NotedBatch.{NotedBatch}
-use Rattle.sled_core.specs.declared.logger.segments.SegmentBuffer.{SegmentBuffer}
+use Rattle.sled_core.specs.declared.logger.io_bufs.IoBufs.{IoBufs}
+use Rattle.sled_core.specs.declared.logger.io_bufs.SegmentBuffer.{SegmentBuffer}
 use Rattle.sled_core.specs.Fits.{current_of, line_of}
 use Rattle.sled_core.specs.Manifests.{is_manifest}
 use Rattle.sled_core.specs.OpenPlaces.{open_manifests}
@@ -19,8 +20,7 @@ use Rattle.sled_core.specs.Turned.{HasRoomIn, reserved_now}
 use Rattle.sled_core.specs.Waiting.{at_last}
 use Rattle.sled_core.proofs.Line.Entered.{filled_last}
 use Rattle.sled_core.proofs.Line.Segments.{line_segments}
-use Rattle.sled_core.proofs.Line.Filling.{follow_with, last_none, line_first, line_last, read_last}
-use Rattle.sled_core.proofs.Holds.Nth.{last_behind, last_buffer_behind}
+use Rattle.sled_core.proofs.Line.NthOpen.{last_buffer_is, last_is, line_with_last, within_with}
 use Rattle.sled_core.proofs.Line.OpenManifests.{manifests_reserved, more_counted}
 use Rattle.sled_core.proofs.Line.Reserves.{filled_reserved}
 use Rattle.sled_core.proofs.Pending.Segments.{at_last_same}
@@ -46,19 +46,19 @@ laid_filled : {D C : Type 0} (log : Log D C) (more : List ℕ) (r : Reserved) (t
     → AreFilled log.config.config.segment_size to line
 laid_filled log more r to line is is_open begins some end =
     subst (AreFilled log.config.config.segment_size to) (sym is)
-    (filled_reserved (λ _. 0) log.config.config.segment_size more r log.reserved_to to log.site.place (view_at log.site log.buffer) (map segment_view log.behind.items) (line_segments log) is_open begins some end log.filled).1
+    (filled_reserved (λ _. 0) log.config.config.segment_size more r log.reserved_to to log.segments.first.site.place (segment_view log.segments.first) (map segment_view log.segments.behind.items) (line_segments log) is_open begins some end log.filled).1
 
 -- What was noted lies below what is reserved then, and as many manifests are open as are counted.
 laid_pegs : {D C : Type 0} (log : Log D C) (to n : ℕ) → to ≡ (current_of log).parts.site.place + length (current_of log).parts.bytes + n → All (λ (b : NotedBatch). b.peg < to) log.batches.noted.items
 laid_pegs log to n end =
-    let low = (filled_last log.config.config.segment_size log.reserved_to (view_at log.site log.buffer) (map segment_view log.behind.items) log.filled).1 in
+    let low = (filled_last log.config.config.segment_size log.reserved_to (segment_view log.segments.first) (map segment_view log.segments.behind.items) log.filled).1 in
     All-weaker (λ (b : NotedBatch). b.peg < log.reserved_to) (λ (b : NotedBatch). b.peg < to) (λ b less. omega (arith, less, low, end)) log.batches.noted.items log.pegs
 
 laid_counted : {D C : Type 0} (log : Log D C) (more : List ℕ) (r : Reserved) (manifest : Bool) (now : ℕ) (line : List SegmentView) → line ≡ at_last (reserved_now more r) (line_of log) → r.state ≡ Open → manifest ≡ is_manifest r.log_kind r.page
     → now ≡ (if manifest then suc log.batches.manifests else log.batches.manifests) → open_manifests line ≡ now
 laid_counted log more r manifest now line is opened kind more_is =
     more_counted manifest (open_manifests (line_of log)) (open_manifests line) log.batches.manifests now
-    (ap open_manifests is ∙ manifests_reserved more r manifest (view_at log.site log.buffer) (map segment_view log.behind.items) opened (sym kind))
+    (ap open_manifests is ∙ manifests_reserved more r manifest (segment_view log.segments.first) (map segment_view log.segments.behind.items) opened (sym kind))
     more_is log.counted
 
 -- The same buffers can be written.
@@ -69,123 +69,64 @@ laid_indexed log more r line is = subst (λ (l : List SegmentView). AreReady l l
 pub begin_manifest-requires : goal.begin_manifest-requires
 begin_manifest-requires g c = λ is. (c.requires.batch (sym c.is_manifest-manifest.ensures ∙ is)).place
 
+-- The last segment is the one that is being filled, and has room.
+
+has_room : (g : Over) (c : goal.After-append-arg-1 g) → HasRoomIn c.last_mut-s.result.now.buffer (c.args.head.now.len + c.args.item_len)
+has_room g c = subst (λ (b : IoBuf). HasRoomIn b (c.args.head.now.len + c.args.item_len)) (last_buffer_is c.args.self.now.segments c.last_mut-s.result.now c.last_mut-s.ensures.value) c.requires.room
+
+pub append-requires-clause-room : goal.append-requires-clause-room
+append-requires-clause-room g c = let room = (has_room g c).bytes in omega (arith, room)
+
+pub append-requires-clause-place : goal.append-requires-clause-place
+append-requires-clause-place g c = (has_room g c).reserved
+
+pub append-requires-clause-few : goal.append-requires-clause-few
+append-requires-clause-few g c = (has_room g c).few
+
+-- what code makes of it
+module _ {D C : Type 0} (log : Log D C) (s : SegmentBuffer) (there : slice_get (open_segments log.segments) (length log.segments.behind.items) ≡ Some s) (new : IoBuf) (head item : List ℕ) (r : Reserved)
+    (bytes : new.bytes.items ≡ (s.buffer.bytes.items ++ head) ++ item) (reserved : new.reserved.items ≡ s.buffer.reserved.items ++ r ∷ []) (from : new.written_len ≡ s.buffer.written_len) (gone : new.gone ≡ s.buffer.gone) (filling : new.filled ≡ s.buffer.filled)
+    (sealed : new.sealed.items ≡ s.buffer.sealed.items) where
+  abbrev now : IoBufs
+  now = with_nth log.segments (length log.segments.behind.items) (record { site = s.site; buffer = new })
+
+  laid_line : line_in now ≡ at_last (reserved_now (head ++ item) r) (line_of log)
+  laid_line = line_with_last (reserved_now (head ++ item) r) log.segments s (record { site = s.site; buffer = new }) there (reserved_view s.site s.buffer new head item r bytes reserved from gone filling sealed)
+
 pub invariant_of-self : goal.invariant_of-self
 invariant_of-self g c =
     let log = c.args.self.now in
-    let none : length log.behind.items ≡ 0 = (let long : deque_len log.behind ≡ length log.behind.items = search rules in omega (arith, long, c.len-n.ensures, c.if-n-eq0.true)) in
-    let current : current_of log ≡ view_at log.site log.buffer = last_none (view_at log.site log.buffer) log.behind.items none in
-    let bytes : length (current_of log).parts.bytes ≡ length log.buffer.bytes.items = ap (λ (v : SegmentView). length v.parts.bytes) current in
+    let s : SegmentBuffer = c.last_mut-s.result.now in
+    let there = c.last_mut-s.ensures.value in
     let head : List ℕ = placeholder_head (take c.args.head.now.len c.args.head.now.bytes) in
     let item : List ℕ = g.T.Serialize.short (g.T.Serialize.meaning c.args.item.now) in
-    let long : length (head ++ item) ≡ c.args.head.now.len + c.args.item_len = laid_long log.buffer.bytes.items head item c.append.new.self.bytes.items (c.args.head.now.len + c.args.item_len) c.append.ensures.bytes (omega (arith, c.append.ensures.len)) in
-    let fits = c.requires.place.record_fits in
-    record {
-      in_segment = omega (arith, c.append.ensures.len, bytes, fits);
-      place_in_reach = log.place_in_reach;
-      slot_in_reach = log.slot_in_reach;
-      waits = λ some. absurd (omega (arith, some, none));
-      follow = log.follow;
-      filled = laid_filled log (head ++ item) _ c.args.to (line_at log.site c.append.new.self log.behind.items)
-          (line_first (reserved_now (head ++ item) _) log.site log.buffer c.append.new.self log.behind.items none
-          (reserved_view log.site log.buffer c.append.new.self head item _ c.append.ensures.bytes c.append.ensures.reserved c.append.ensures.from c.append.ensures.gone c.append.ensures.filled c.append.ensures.sealed))
-          refl (sym bytes) (placeholder_some (take c.args.head.now.len c.args.head.now.bytes) item) (omega (arith, c.requires.end, long));
-      account = log.account;
-      pegs = subst (All (λ (b : NotedBatch). b.peg < c.args.to)) (sym c.begin_manifest.ensures.items) (laid_pegs log c.args.to (c.args.head.now.len + c.args.item_len) c.requires.end);
-      counted = laid_counted log (head ++ item) _ c.is_manifest-manifest.result c.begin_manifest.new.self.manifests (line_at log.site c.append.new.self log.behind.items)
-          (line_first (reserved_now (head ++ item) _) log.site log.buffer c.append.new.self log.behind.items none
-          (reserved_view log.site log.buffer c.append.new.self head item _ c.append.ensures.bytes c.append.ensures.reserved c.append.ensures.from c.append.ensures.gone c.append.ensures.filled c.append.ensures.sealed))
-          refl c.is_manifest-manifest.ensures c.begin_manifest.ensures.manifests;
-      indexed = laid_indexed log (head ++ item) _ (line_at log.site c.append.new.self log.behind.items)
-          (line_first (reserved_now (head ++ item) _) log.site log.buffer c.append.new.self log.behind.items none
-          (reserved_view log.site log.buffer c.append.new.self head item _ c.append.ensures.bytes c.append.ensures.reserved c.append.ensures.from c.append.ensures.gone c.append.ensures.filled c.append.ensures.sealed));
-    }
-
-pub returns-then-n-eq0-clause-rest : goal.returns-then-n-eq0-clause-rest
-returns-then-n-eq0-clause-rest g c = record { config = refl; fault = refl; pins = refl; noted = c.begin_manifest.ensures.items }
-
-pub returns-else-n-eq0-clause-rest : goal.returns-else-n-eq0-clause-rest
-returns-else-n-eq0-clause-rest g c = record { config = refl; fault = refl; pins = refl; noted = c.begin_manifest.ensures.items }
-
--- The last one behind the first is the one that is being filled.
-
-abbrev last : (g : Over) (c : goal.After-append-arg-else-n-eq0-1 g) → SegmentBuffer
-last g c = c.index_mut.result.now
-
-is_last : (g : Over) (c : goal.After-append-arg-else-n-eq0-1 g) → (suc (c.len-n.result - 1) ≡ length c.args.self.now.behind.items) × (slice_get c.args.self.now.behind.items (c.len-n.result - 1) ≡ Some (last g c))
-is_last g c =
-    let long : deque_len c.args.self.now.behind ≡ length c.args.self.now.behind.items = search rules in
-    read_last c.args.self.now.behind.items c.len-n.result (last g c) (c.len-n.ensures ∙ long) c.if-n-eq0.false c.index_mut.ensures.value
-
-has_room : (g : Over) (c : goal.After-append-arg-else-n-eq0-1 g) → HasRoomIn (last g c).buffer (c.args.head.now.len + c.args.item_len)
-has_room g c =
-    let there = is_last g c in
-    subst (λ (b : IoBuf). HasRoomIn b (c.args.head.now.len + c.args.item_len)) (last_buffer_behind c.args.self.now.buffer c.args.self.now.behind.items (last g c) (c.len-n.result - 1) there.0 there.1) c.requires.room
-
-pub append-requires-else-n-eq0-clause-room : goal.append-requires-else-n-eq0-clause-room
-append-requires-else-n-eq0-clause-room g c = let room = (has_room g c).bytes in omega (arith, room)
-
-pub append-requires-else-n-eq0-clause-place : goal.append-requires-else-n-eq0-clause-place
-append-requires-else-n-eq0-clause-place g c = (has_room g c).reserved
-
-pub append-requires-else-n-eq0-clause-few : goal.append-requires-else-n-eq0-clause-few
-append-requires-else-n-eq0-clause-few g c = (has_room g c).few
-
--- what code makes of it
-module _ {D C : Type 0} (log : Log D C) (n : ℕ) (s : SegmentBuffer) (at : suc n ≡ length log.behind.items) (there : slice_get log.behind.items n ≡ Some s) (new : IoBuf) (head item : List ℕ) (r : Reserved)
-    (bytes : new.bytes.items ≡ (s.buffer.bytes.items ++ head) ++ item) (reserved : new.reserved.items ≡ s.buffer.reserved.items ++ r ∷ []) (from : new.written_len ≡ s.buffer.written_len) (gone : new.gone ≡ s.buffer.gone) (filling : new.filled ≡ s.buffer.filled)
-    (sealed : new.sealed.items ≡ s.buffer.sealed.items) where
-  is_current : current_of log ≡ segment_view s
-  is_current = last_behind (view_at log.site log.buffer) log.behind.items s n at there
-
-  abbrev now : SegmentBuffer
-  now = record { site = s.site; buffer = new }
-
-  laid_line : line_at log.site log.buffer (set log.behind.items n now) ≡ at_last (reserved_now (head ++ item) r) (line_of log)
-  laid_line = line_last (reserved_now (head ++ item) r) (view_at log.site log.buffer) log.behind.items n s now at there (reserved_view s.site s.buffer new head item r bytes reserved from gone filling sealed)
-
-pub invariant_of-self-else-n-eq0 : goal.invariant_of-self-else-n-eq0
-invariant_of-self-else-n-eq0 g c =
-    let log = c.args.self.now in
-    let s : SegmentBuffer = c.index_mut.result.now in
-    let n : ℕ = c.len-n.result - 1 in
-    let counted : deque_len log.behind ≡ length log.behind.items = search rules in
-    let is = read_last log.behind.items c.len-n.result s (c.len-n.ensures ∙ counted) c.if-n-eq0.false c.index_mut.ensures.value in
-    let head : List ℕ = placeholder_head (take c.args.head.now.len c.args.head.now.bytes) in
-    let item : List ℕ = g.T.Serialize.short (g.T.Serialize.meaning c.args.item.now) in
-    let new : IoBuf = c.append-else-n-eq0.new.self in
-    let made = c.append-else-n-eq0.ensures in
+    let made = c.append.ensures in
+    let new : IoBuf = c.append.new.self in
+    let bytes : length (current_of log).parts.bytes ≡ length s.buffer.bytes.items = ap (λ (v : SegmentView). length v.parts.bytes) (last_is log s there) in
     let long : length (head ++ item) ≡ c.args.head.now.len + c.args.item_len = laid_long s.buffer.bytes.items head item new.bytes.items (c.args.head.now.len + c.args.item_len) made.bytes (omega (arith, made.len)) in
-    let current : current_of log ≡ segment_view s = is_current log n s is.0 is.1 new head item _ made.bytes made.reserved made.from made.gone made.filled made.sealed in
-    let bytes : length (current_of log).parts.bytes ≡ length s.buffer.bytes.items = ap (λ (v : SegmentView). length v.parts.bytes) current in
     let fits = c.requires.place.record_fits in
+    let size : ℕ = log.config.config.segment_size in
+    let lie = within_with size log.segments (length log.segments.behind.items) s (record { site = s.site; buffer = new }) there refl (omega (arith, made.len, bytes, fits)) (omega (arith, made.from)) log.lies in
+    let line = laid_line log s there new head item _ made.bytes made.reserved made.from made.gone made.filled made.sealed in
     record {
-      in_segment = log.in_segment;
-      place_in_reach = log.place_in_reach;
-      slot_in_reach = log.slot_in_reach;
-      waits = λ some. log.waits (omega (arith, is.0));
-      follow = follow_with log.config.config.segment_size (log.site.place + log.config.config.segment_size) log.behind.items n s (record { site = s.site; buffer = new }) is.1 refl (omega (arith, made.len, bytes, fits)) log.follow;
-      filled = laid_filled log (head ++ item) _ c.args.to (line_at log.site log.buffer (set log.behind.items n (record { site = s.site; buffer = new })))
-          (laid_line log n s is.0 is.1 new head item _ made.bytes made.reserved made.from made.gone made.filled made.sealed)
-          refl (sym bytes) (placeholder_some (take c.args.head.now.len c.args.head.now.bytes) item) (omega (arith, c.requires.end, long));
+      lies = lie;
+      filled = laid_filled log (head ++ item) _ c.args.to _ line refl (sym bytes) (placeholder_some (take c.args.head.now.len c.args.head.now.bytes) item) (omega (arith, c.requires.end, long));
       account = log.account;
       pegs = subst (All (λ (b : NotedBatch). b.peg < c.args.to)) (sym c.begin_manifest.ensures.items) (laid_pegs log c.args.to (c.args.head.now.len + c.args.item_len) c.requires.end);
-      counted = laid_counted log (head ++ item) _ c.is_manifest-manifest.result c.begin_manifest.new.self.manifests (line_at log.site log.buffer (set log.behind.items n (record { site = s.site; buffer = new })))
-          (laid_line log n s is.0 is.1 new head item _ made.bytes made.reserved made.from made.gone made.filled made.sealed)
-          refl c.is_manifest-manifest.ensures c.begin_manifest.ensures.manifests;
-      indexed = laid_indexed log (head ++ item) _ (line_at log.site log.buffer (set log.behind.items n (record { site = s.site; buffer = new })))
-          (laid_line log n s is.0 is.1 new head item _ made.bytes made.reserved made.from made.gone made.filled made.sealed);
+      counted = laid_counted log (head ++ item) _ c.is_manifest-manifest.result c.begin_manifest.new.self.manifests _ line refl c.is_manifest-manifest.ensures c.begin_manifest.ensures.manifests;
+      indexed = laid_indexed log (head ++ item) _ _ line;
     }
 
-pub returns-else-n-eq0-clause-line : goal.returns-else-n-eq0-clause-line
-returns-else-n-eq0-clause-line g c =
+pub returns-clause-rest : goal.returns-clause-rest
+returns-clause-rest g c = record { config = refl; fault = refl; pins = refl; noted = c.begin_manifest.ensures.items }
+
+pub returns-clause-line : goal.returns-clause-line
+returns-clause-line g c =
     let log = c.args.self.now in
-    let s : SegmentBuffer = c.index_mut.result.now in
-    let n : ℕ = c.len-n.result - 1 in
-    let counted : deque_len log.behind ≡ length log.behind.items = search rules in
-    let is = read_last log.behind.items c.len-n.result s (c.len-n.ensures ∙ counted) c.if-n-eq0.false c.index_mut.ensures.value in
+    let s : SegmentBuffer = c.last_mut-s.result.now in
     let head : List ℕ = placeholder_head (take c.args.head.now.len c.args.head.now.bytes) in
     let item : List ℕ = g.T.Serialize.short (g.T.Serialize.meaning c.args.item.now) in
-    let made = c.append-else-n-eq0.ensures in
-    let current : current_of log ≡ segment_view s = is_current log n s is.0 is.1 c.append-else-n-eq0.new.self head item _ made.bytes made.reserved made.from made.gone made.filled made.sealed in
-    laid_line log n s is.0 is.1 c.append-else-n-eq0.new.self head item _ made.bytes made.reserved made.from made.gone made.filled made.sealed
-    ∙ ap (λ (v : SegmentView). at_last (reserved_now (head ++ item) (reserved_for c.args.purpose.now (length v.parts.bytes) c.args.head.now.len c.args.item_len (g.C.Checksum.sum_of (item ++ drop 4 (take c.args.head.now.len c.args.head.now.bytes))))) (line_of log)) (sym current)
+    let made = c.append.ensures in
+    laid_line log s c.last_mut-s.ensures.value c.append.new.self head item _ made.bytes made.reserved made.from made.gone made.filled made.sealed
+    ∙ ap (λ (v : SegmentView). at_last (reserved_now (head ++ item) (reserved_for c.args.purpose.now (length v.parts.bytes) c.args.head.now.len c.args.item_len (g.C.Checksum.sum_of (item ++ drop 4 (take c.args.head.now.len c.args.head.now.bytes))))) (line_of log))
+    (sym (last_is log s c.last_mut-s.ensures.value))

@@ -41,11 +41,7 @@ pub invariant_of-self : goal.invariant_of-self
 invariant_of-self g c =
     let log = c.args.self.now in
     record {
-      in_segment = log.in_segment;
-      place_in_reach = log.place_in_reach;
-      slot_in_reach = log.slot_in_reach;
-      waits = log.waits;
-      follow = log.follow;
+      lies = log.lies;
       filled = log.filled;
       account = log.account;
       pegs = c.put_in.ensures.pegs log.reserved_to c.requires.within (c.drop_whole.ensures.pegs log.reserved_to log.pegs);

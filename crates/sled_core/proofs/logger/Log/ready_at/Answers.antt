@@ -11,7 +11,7 @@ pub index-place-requires : goal.index-place-requires
 index-place-requires g c =
     let log = c.args.self.now in
     let long : deque_len log.ready.places ≡ length log.ready.places.items = search rules in
-    let many = pending_length log.config.config.segment_size log.site.place (line_of log) (line_segments log) in
+    let many = pending_length log.config.config.segment_size log.segments.first.site.place (line_of log) (line_segments log) in
     omega (arith, long, many, c.requires, ap length log.indexed.places)
 
 pub segment_of-n-requires : goal.segment_of-n-requires

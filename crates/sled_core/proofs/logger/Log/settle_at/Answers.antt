@@ -1,5 +1,5 @@
 -- A place that isn't negative is settled where it is stable or was reserved.
-use Rattle.std.proofs.Common.{◌≡◌, ◌<ℤ◌, ◌⊎◌, inl, inr, subst, refl, arith, ℤ, of_z, pos, to_z, None, OnErr, unsigned_abs}
+use Rattle.std.proofs.Common.{◌≡◌, ◌<ℤ◌, ◌⊎◌, inl, inr, subst, refl, arith, ℤ, of_z, pos, to_z, None, OnErr}
 use Rattle.std.specs.Int.{w64}
 use Rattle.std.proofs.lemmas.Int.{ints, to_z-of_z}
 use Rattle.sled_codec.specs.declared.result.Error.TheVariants.{NotReserved}

@@ -22,7 +22,7 @@ use Rattle.sled_core.specs.declared.iobuf.IoBuf.{IoBuf}
 use Rattle.sled_core.specs.declared.iobuf.Reserved.{Reserved}
 use Rattle.sled_core.specs.declared.iobuf.Sealed.{Sealed}
 use Rattle.sled_core.specs.declared.logger.batches.NotedBatch.{NotedBatch}
-use Rattle.sled_core.specs.declared.logger.segments.SegmentBuffer.{SegmentBuffer}
+use Rattle.sled_core.specs.declared.logger.io_bufs.SegmentBuffer.{SegmentBuffer}
 use Rattle.sled_core.specs.Begun.{AreEntered, AreFilled, FollowOn, IsUnfilled, IsUsed, SegmentView, begin_of, line_at, segment_view, view_at}
 use Rattle.sled_core.specs.Fits.{CloseBelow, FitsBatches, Holds, HoldsIn, HoldsLine, NoneOpenIn, line_end, log_parts, written_to}
 use Rattle.sled_core.specs.FirstBuffer.{IsFirstBuffer}
@@ -102,11 +102,13 @@ invariant_of-result g c =
     let place = place_in_reach c.args.config.config.segment_size len s c.in-Ok.beginning c.in-Ok.ensures.beginning c.in-Ok.ensures.answers.0 c.in-Ok.ensures.answers.1 in
     let slot = slot_in_reach c.args.config.config.segment_size len s c.in-Ok.beginning c.in-Ok.ensures.beginning c.in-Ok.ensures.answers.0 c.in-Ok.ensures.answers.1 in
     record {
-      in_segment = omega (arith, same, inside);
-      place_in_reach = omega (arith, same, place);
-      slot_in_reach = omega (arith, same, slot);
-      waits = λ some. absurd (let none = ap (λ (ss : List SegmentBuffer). length ss) c.no_segments.ensures in omega (arith, some, none));
-      follow = subst (λ (ss : List SegmentBuffer). FollowOn c.begin.new.config.config.segment_size (c.in-Ok.beginning.place + c.begin.new.config.config.segment_size) ss) (sym c.no_segments.ensures) _;
+      lies = record {
+        in_segment = omega (arith, same, inside);
+        place_in_reach = omega (arith, same, place);
+        slot_in_reach = omega (arith, same, slot);
+        waits = λ some. absurd (let none = ap (λ (ss : List SegmentBuffer). length ss) c.no_segments.ensures in omega (arith, some, none));
+        follow = subst (λ (ss : List SegmentBuffer). FollowOn c.begin.new.config.config.segment_size (c.in-Ok.beginning.place + c.begin.new.config.config.segment_size) ss) (sym c.no_segments.ensures) _;
+      };
       filled = (
           let first = c.in-Ok.ensures.buffer in
           let low = offset_low c.args.config.config.segment_size len s c.in-Ok.beginning c.in-Ok.ensures.beginning (omega (arith, long)) in

@@ -18,7 +18,7 @@ pub segment-requires : goal.segment-requires
 segment-requires g c =
     let log = c.args.self.now in
     let behind = c.requires.behind in
-    subst (λ k. k ≤ length log.behind.items) (sym c.segment_of-n.ensures) (number_within log c.args.place (omega (arith, behind)) c.requires.sealed)
+    subst (λ k. k ≤ length log.segments.behind.items) (sym c.segment_of-n.ensures) (number_within log c.args.place (omega (arith, behind)) c.requires.sealed)
 
 pub around-k-requires-clause-sealed : goal.around-k-requires-clause-sealed
 around-k-requires-clause-sealed g c =

@@ -1,4 +1,4 @@
-use Rattle.std.proofs.Common.{◌≡◌, ◌∙◌, List, ℕ, ap, sym, subst, refl, arith, map, set, true, Option, None, Some, Err, inl, inr}
+use Rattle.std.proofs.Common.{◌≡◌, ◌∙◌, List, ℕ, ap, sym, subst, refl, arith, rules, length, deque_len, map, set, true, Option, None, Some, Err, inl, inr}
 use Rattle.std.specs.declared.io.Error.{Error as IoError}
 use Rattle.sled_codec.specs.declared.result.Error.{Error}
 use Rattle.sled_codec.specs.declared.result.Error.TheVariants.{Io, OutOfMemory}
@@ -9,12 +9,10 @@ use Rattle.std.specs.List.{slice_get}
 use Rattle.sled_store.specs.Accounts.{machine_of}
 use Rattle.sled_store.proofs.Traces.ScriptLemmas.{later_performed}
 use Rattle.sled_store.specs.declared.config.Config.{Config}
-use Rattle.std.proofs.lemmas.Option.{slice_get_within}
 use Rattle.std.proofs.lemmas.Result.{err_from_is_err_and}
-use Rattle.sled_core.specs.Begun.{SegmentView, line_at, view_at}
-use Rattle.sled_core.specs.declared.iobuf.IoBuf.{IoBuf}
-use Rattle.sled_core.specs.declared.iobuf.SegmentPosition.{SegmentPosition}
-use Rattle.sled_core.specs.declared.logger.segments.SegmentBuffer.{SegmentBuffer}
+use Rattle.sled_core.specs.Begun.{SegmentView, line_in, segment_view, open_segments, with_nth}
+use Rattle.sled_core.specs.declared.logger.io_bufs.IoBufs.{IoBufs}
+use Rattle.sled_core.specs.declared.logger.io_bufs.SegmentBuffer.{SegmentBuffer}
 use Rattle.sled_core.specs.declared.logger.batches.NotedBatch.{NotedBatch}
 use Rattle.sled_core.specs.declared.iobuf.Sealed.{Sealed}
 use Rattle.sled_core.specs.declared.logger.ready.ReadyBuffers.{ReadyBuffers}
@@ -31,10 +29,11 @@ use Rattle.sled_core.specs.SealedBuffers.{is_ready, written_at}
 use Rattle.sled_core.specs.Turned.{ChangesDevice, IsReadyIn, promoted, written_now}
 use Rattle.sled_core.specs.Waiting.{last_of}
 use Rattle.sled_core.proofs.Holds.StoredItems.{items_same}
-use Rattle.sled_core.proofs.Holds.Facts.{nth_facts}
 use Rattle.sled_core.proofs.Line.Faulty.{fits_with_same, holds_with_same}
 use Rattle.sled_core.proofs.Line.LineEnds.{kept_same, noted_later, noted_same}
 use Rattle.sled_core.proofs.Line.LogWrites.{KeepsInvariants, crash_write, end_grows, fits_done, fits_failed, holds_done, holds_failed, keeps_invariants, line_after, line_left, names, noted_left, same_line, segments_written}
+use Rattle.sled_core.proofs.Line.Marks.{HasReady, marked_view, ready_at}
+use Rattle.sled_core.proofs.Line.NthOpen.{nth_is, nth_there, nth_within}
 use Rattle.sled_core.proofs.Line.OpenManifests.{manifests_promoted, set_same}
 use Rattle.sled_core.proofs.Line.Outcomes.{all_err}
 use Rattle.sled_core.proofs.Line.OpenPlaces.{places_promoted, set_places}
@@ -107,57 +106,80 @@ returns-in_err-write_bytes-clause-keeps g c =
     }
 
 -- The segments that are left keep what the type of a log asks.
-kept : {D C : Type 0} (old mid : Log D C) (n k : ℕ) (r : IsReadyIn (line_of old) n k) → ChangesDevice old mid → (b : IoBuf) (ss : List SegmentBuffer)
-    → ((site : SegmentPosition) (u : SegmentView) → slice_get (line_at site mid.buffer mid.behind.items) n ≡ Some u → line_at site b ss ≡ set (line_at site mid.buffer mid.behind.items) n (written_now k u))
-    → (site' : SegmentPosition) (b' : IoBuf) (ss' : List SegmentBuffer) → line_at site' b' ss' ≡ promoted mid.config.config.segment_size (line_at mid.site b ss)
-    → (site : SegmentPosition) (its : IoBuf) → slice_get (line_of mid) n ≡ Some (view_at site its) → (ready : ReadyBuffers)
-    → ((x : Sealed) (before behind : List ℕ) (others : ℕ) → slice_get its.sealed.items k ≡ Some x → is_ready x ≡ true → HasOwn mid.ready site.place its.written_len its.sealed.items before behind others
-    → HasOwn ready site.place its.written_len (written_at k its.sealed.items) before behind others)
-    → (now : IsReadyIn (line_of mid) n k) × KeepsInvariants mid n k now site' b' ss' × (open_manifests (line_at site' b' ss') ≡ mid.batches.manifests) × AreReady (line_at site' b' ss') ready
-kept old mid n k r rest b ss marked site' b' ss' is site its there ready noted =
-    let now : IsReadyIn (line_of mid) n k = subst (λ (l : List SegmentView). IsReadyIn l n k) (sym (same_line old mid rest)) r in
-    let still : ChangesDevice mid mid = record { config = refl; checksum = refl; site = refl; buffer = refl; behind = refl; reserved = refl; pins = refl; accountant = refl; batches = refl } in
-    let line = line_after mid mid n k now.segment still now.among b ss marked (line_at site' b' ss') is in
+kept : {D C : Type 0} (old mid : Log D C) (n k : ℕ) (r : IsReadyIn (line_of old) n k) → ChangesDevice old mid → (s : SegmentBuffer) → slice_get (open_segments mid.segments) n ≡ Some s → (marked : SegmentBuffer) → segment_view marked ≡ written_now k (segment_view s)
+    → (now : IoBufs) → line_in now ≡ promoted mid.config.config.segment_size (line_in (with_nth mid.segments n marked)) → (ready : ReadyBuffers)
+    → ((x : Sealed) (before behind : List ℕ) (others : ℕ) → slice_get s.buffer.sealed.items k ≡ Some x → is_ready x ≡ true → HasOwn mid.ready s.site.place s.buffer.written_len s.buffer.sealed.items before behind others
+    → HasOwn ready s.site.place s.buffer.written_len (written_at k s.buffer.sealed.items) before behind others)
+    → (r' : IsReadyIn (line_of mid) n k) × KeepsInvariants mid n k r' now × (open_manifests (line_in now) ≡ mid.batches.manifests) × AreReady (line_in now) ready
+kept old mid n k r rest s there marked is_marked now is ready noted =
+    let r' : IsReadyIn (line_of mid) n k = subst (λ (l : List SegmentView). IsReadyIn l n k) (sym (same_line old mid rest)) r in
+    let still : ChangesDevice mid mid = record { config = refl; checksum = refl; segments = refl; reserved = refl; pins = refl; accountant = refl; batches = refl } in
+    let line = line_after mid mid n k r'.segment still r'.among s there marked is_marked (line_in now) is in
     let same = ap open_manifests line in
-    let left = manifests_promoted mid.config.config.segment_size mid.site.place (set (line_of mid) n (written_now k now.segment)) mid.config.config.least (segments_written mid n k now) in
-    let is_segment = nth_segment mid.config.config.segment_size mid.site.place (line_of mid) (line_segments mid) n now.segment now.among in
-    let written = set_same (line_of mid) n now.segment (written_now k now.segment) now.among (manifests_written (line_of mid) n k now.segment now.buffer now.among now.there now.ready is_segment.are) in
+    let left = manifests_promoted mid.config.config.segment_size mid.segments.first.site.place (set (line_of mid) n (written_now k r'.segment)) mid.config.config.least (segments_written mid n k r') in
+    let is_segment = nth_segment mid.config.config.segment_size mid.segments.first.site.place (line_of mid) (line_segments mid) n r'.segment r'.among in
+    let written = set_same (line_of mid) n r'.segment (written_now k r'.segment) r'.among (manifests_written (line_of mid) n k r'.segment r'.buffer r'.among r'.there r'.ready is_segment.are) in
     let old = mid.counted in (
-      now,
-      keeps_invariants mid n k now site' b' ss' line,
+      r',
+      keeps_invariants mid n k r' now line,
       omega (arith, same, left, written, old),
-      subst (λ (l : List SegmentView). AreReady l ready) (sym line) (written_ready mid n k now site its there ready noted),
+      subst (λ (l : List SegmentView). AreReady l ready) (sym line) (written_ready mid n k r' s.site s.buffer (nth_there mid n s there) ready noted),
     )
 
--- The buffer is one of a segment, which lies in reach.
+-- The buffer is one of a segment that code has, which lies in reach.
+
+pub segment_mut-s-requires : goal.segment_mut-s-requires
+segment_mut-s-requires g c =
+    let mid = c.write_bytes.new.self in
+    let r : IsReadyIn (line_of mid) c.args.n c.args.k = subst (λ (l : List SegmentView). IsReadyIn l c.args.n c.args.k) (sym (same_line c.args.self.now mid c.in_ok-write_bytes.ensures.rest)) c.requires.ready in
+    nth_within mid c.args.n r.segment r.among
+
+-- it can be written
+has_ready : {D C : Type 0} (old mid : Log D C) (n k : ℕ) → IsReadyIn (line_of old) n k → ChangesDevice old mid → (s : SegmentBuffer) → slice_get (open_segments mid.segments) n ≡ Some s → HasReady s.buffer k
+has_ready old mid n k r rest s there = ready_at (line_of old) n k s.site s.buffer (ap (λ (l : List SegmentView). slice_get l n) (sym (same_line old mid rest)) ∙ nth_there mid n s there) r
+
 pub note_written-requires : goal.note_written-requires
 note_written-requires g c =
     let mid = c.write_bytes.new.self in
-    let site = c.nth.result.0 in
-    let b = c.nth.result.1.now in
-    let is = nth_facts mid c.args.n (view_at site b) c.nth.ensures in
+    let s : SegmentBuffer = c.segment_mut-s.result.now in
+    let is = nth_is mid c.args.n s c.segment_mut-s.ensures.value in
     let short = is.short in
     let small = is.place_small in
-    let now : IsReadyIn (line_of mid) c.args.n c.args.k = subst (λ (l : List SegmentView). IsReadyIn l c.args.n c.args.k) (sym (same_line c.args.self.now mid c.in_ok-write_bytes.ensures.rest)) c.requires.ready in
-    let both : Some now.segment ≡ Some (view_at site b) = sym now.among ∙ c.nth.ensures in
-    let same : now.segment ≡ view_at site b = cc in
-    record {
-      place = omega (arith, short, small);
-      within = slice_get_within b.sealed.items c.args.k now.buffer (ap (λ (x : SegmentView). slice_get x.parts.sealed c.args.k) (sym same) ∙ now.there);
-    }
+    record { place = omega (arith, short, small); within = (has_ready c.args.self.now mid c.args.n c.args.k c.requires.ready c.in_ok-write_bytes.ensures.rest s c.segment_mut-s.ensures.value).within }
+
+pub mark_written-requires-clause-within : goal.mark_written-requires-clause-within
+mark_written-requires-clause-within g c =
+    let s : SegmentBuffer = c.segment_mut-s.result.now in
+    let long : deque_len s.buffer.sealed ≡ length s.buffer.sealed.items = search rules in
+    let within = (has_ready c.args.self.now c.write_bytes.new.self c.args.n c.args.k c.requires.ready c.in_ok-write_bytes.ensures.rest s c.segment_mut-s.ensures.value).within in
+    omega (arith, long, within)
+
+pub mark_written-requires-clause-ready : goal.mark_written-requires-clause-ready
+mark_written-requires-clause-ready g c = (has_ready c.args.self.now c.write_bytes.new.self c.args.n c.args.k c.requires.ready c.in_ok-write_bytes.ensures.rest c.segment_mut-s.result.now c.segment_mut-s.ensures.value).ready
 
 pub invariant_of-self : goal.invariant_of-self
 invariant_of-self g c =
     let mid = c.write_bytes.new.self in
-    let found = kept c.args.self.now mid c.args.n c.args.k c.requires.ready c.in_ok-write_bytes.ensures.rest c.mark_nth.new.buffer c.mark_nth.new.behind.items c.mark_nth.ensures c.promote.new.site c.promote.new.buffer c.promote.new.behind.items c.promote.ensures
-    c.nth.result.0 c.nth.result.1.now c.nth.ensures c.note_written.new.self c.note_written.ensures in
-    let is = found.1 in
-    record { in_segment = is.short; place_in_reach = is.place_small; slot_in_reach = is.slot_small; waits = is.waits; follow = is.follow; filled = is.filled; account = mid.account; pegs = mid.pegs; counted = found.2; indexed = found.3 }
+    let s : SegmentBuffer = c.segment_mut-s.result.now in
+    let is = c.mark_written.ensures in
+    let found = kept c.args.self.now mid c.args.n c.args.k c.requires.ready c.in_ok-write_bytes.ensures.rest s c.segment_mut-s.ensures.value (record { site = s.site; buffer = c.mark_written.new.self })
+    (marked_view s.site s.buffer c.mark_written.new.self c.args.k is.sealed is.from is.reserved is.gone is.filled is.bytes) c.promote.new.self c.promote.ensures c.note_written.new.self c.note_written.ensures in
+    let lie = found.1.lie in
+    record {
+      lies = lie;
+      filled = found.1.filled;
+      account = mid.account;
+      pegs = mid.pegs;
+      counted = found.2;
+      indexed = found.3;
+    }
 
 pub returns-clause-line : goal.returns-clause-line
 returns-clause-line g c = λ v among.
-    line_after c.args.self.now c.write_bytes.new.self c.args.n c.args.k v c.in_ok-write_bytes.ensures.rest among c.mark_nth.new.buffer c.mark_nth.new.behind.items c.mark_nth.ensures
-    (line_at c.promote.new.site c.promote.new.buffer c.promote.new.behind.items) c.promote.ensures
+    let s : SegmentBuffer = c.segment_mut-s.result.now in
+    let is = c.mark_written.ensures in
+    line_after c.args.self.now c.write_bytes.new.self c.args.n c.args.k v c.in_ok-write_bytes.ensures.rest among s c.segment_mut-s.ensures.value (record { site = s.site; buffer = c.mark_written.new.self })
+    (marked_view s.site s.buffer c.mark_written.new.self c.args.k is.sealed is.from is.reserved is.gone is.filled is.bytes) (line_in c.promote.new.self) c.promote.ensures
 
 pub returns-clause-keeps : goal.returns-clause-keeps
 unfolding Holds Fits
@@ -192,14 +214,14 @@ returns-clause-tickets g c =
     let old = c.args.self.now in
     let r = c.requires.ready in
     let line = returns-clause-line g c r.segment r.among in
-    let is = nth_segment (segment_size_of old) old.site.place (line_of old) (line_segments old) c.args.n r.segment r.among in
+    let is = nth_segment (segment_size_of old) old.segments.first.site.place (line_of old) (line_segments old) c.args.n r.segment r.among in
     record {
       awaits = λ ticket m awaits.
           subst (λ (l : List SegmentView). AwaitsIn l ticket (in_log m)) (sym line)
-          (awaits_promoted (segment_size_of old) old.site.place (set (line_of old) c.args.n (written_now c.args.k r.segment)) ticket (in_log m) old.config.config.least (segments_written old c.args.n c.args.k r)
+          (awaits_promoted (segment_size_of old) old.segments.first.site.place (set (line_of old) c.args.n (written_now c.args.k r.segment)) ticket (in_log m) old.config.config.least (segments_written old c.args.n c.args.k r)
           (awaits_written (line_of old) c.args.n c.args.k r.segment r.buffer r.among r.there r.ready is.are ticket (in_log m) awaits));
       opens = ap open_places_along line
-          ∙ places_promoted (segment_size_of old) old.site.place (set (line_of old) c.args.n (written_now c.args.k r.segment)) old.config.config.least (segments_written old c.args.n c.args.k r)
+          ∙ places_promoted (segment_size_of old) old.segments.first.site.place (set (line_of old) c.args.n (written_now c.args.k r.segment)) old.config.config.least (segments_written old c.args.n c.args.k r)
           ∙ set_places (line_of old) c.args.n r.segment (written_now c.args.k r.segment) r.among (places_written (line_of old) c.args.n c.args.k r.segment r.buffer r.among r.there r.ready is.are);
     }
 

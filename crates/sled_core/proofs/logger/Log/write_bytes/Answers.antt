@@ -8,20 +8,20 @@ use Rattle.sled_core.specs.declared.iobuf.SegmentPosition.{SegmentPosition}
 use Rattle.sled_core.specs.Fits.{line_of}
 use Rattle.sled_core.specs.SealedBuffers.{bytes_between, sealed_end, writing}
 use Rattle.sled_core.specs.Turned.{write_in, write_of}
-use Rattle.sled_core.proofs.Holds.Facts.{nth_facts}
+use Rattle.sled_core.proofs.Line.NthOpen.{nth_is, nth_there}
 use Rattle.sled_core.proofs.Sealed.Slices.{slice_between}
 use Rattle.sled_core.proofs.logger.Log.write_bytes.Goals as goal
 
 pub overflow_add-at : goal.overflow_add-at
 overflow_add-at g c =
-    let is = nth_facts c.args.self.now c.args.n (view_at c.nth.result.0 c.nth.result.1.now) c.nth.ensures in
+    let is = nth_is c.args.self.now c.args.n c.segment-s.result.now c.segment-s.ensures in
     let short = is.short in
     let small = is.slot_small in
     omega (arith, short, small, c.span-from.ensures.rises, c.span-from.ensures.inside)
 
 pub write_out-written-requires : goal.write_out-written-requires
 write_out-written-requires g c =
-    let is = nth_facts c.args.self.now c.args.n (view_at c.nth.result.0 c.nth.result.1.now) c.nth.ensures in
+    let is = nth_is c.args.self.now c.args.n c.segment-s.result.now c.segment-s.ensures in
     let short = is.short in
     let small = is.slot_small in
     omega (arith, short, small, c.span-from.ensures.rises, c.span-from.ensures.inside, length-take (c.span-from.result.1 - c.span-from.result.0) (drop c.span-from.result.0 c.deref.result.now))
@@ -32,11 +32,7 @@ pub invariant_of-self : goal.invariant_of-self
 invariant_of-self g c =
     let log = c.args.self.now in
     record {
-      in_segment = log.in_segment;
-      place_in_reach = log.place_in_reach;
-      slot_in_reach = log.slot_in_reach;
-      waits = log.waits;
-      follow = log.follow;
+      lies = log.lies;
       filled = log.filled;
       account = log.account;
       pegs = log.pegs;
@@ -48,11 +44,7 @@ pub invariant_of-self-in_default : goal.invariant_of-self-in_default
 invariant_of-self-in_default g c =
     let log = c.args.self.now in
     record {
-      in_segment = log.in_segment;
-      place_in_reach = log.place_in_reach;
-      slot_in_reach = log.slot_in_reach;
-      waits = log.waits;
-      follow = log.follow;
+      lies = log.lies;
       filled = log.filled;
       account = log.account;
       pegs = log.pegs;
@@ -71,17 +63,17 @@ calls_at line n k site b from to whole among at end rises same =
 pub returns-in-Err-clause-at_most : goal.returns-in-Err-clause-at_most
 returns-in-Err-clause-at_most g c =
     subst (λ (es : List Event). Performs es (g.D.Device.trace c.args.self.now.config.device) (g.D.Device.trace c.write_out-written.new.device))
-    (calls_at (line_of c.args.self.now) c.args.n c.args.k c.nth.result.0 c.nth.result.1.now c.span-from.result.0 c.span-from.result.1 c.deref.result.now c.nth.ensures c.span-from.ensures.from c.span-from.ensures.to c.span-from.ensures.rises c.deref.ensures.value)
+    (calls_at (line_of c.args.self.now) c.args.n c.args.k c.segment-s.result.now.site c.segment-s.result.now.buffer c.span-from.result.0 c.span-from.result.1 c.deref.result.now (nth_there c.args.self.now c.args.n c.segment-s.result.now c.segment-s.ensures) c.span-from.ensures.from c.span-from.ensures.to c.span-from.ensures.rises c.deref.ensures.value)
     c.write_out-written.ensures.calls
 
 pub returns-clause-calls : goal.returns-clause-calls
 returns-clause-calls g c =
     c.in_default.ensures.done
     ∙ ap (λ (es : List Event). after_all es (g.D.Device.trace c.args.self.now.config.device))
-    (calls_at (line_of c.args.self.now) c.args.n c.args.k c.nth.result.0 c.nth.result.1.now c.span-from.result.0 c.span-from.result.1 c.deref.result.now c.nth.ensures c.span-from.ensures.from c.span-from.ensures.to c.span-from.ensures.rises c.deref.ensures.value)
+    (calls_at (line_of c.args.self.now) c.args.n c.args.k c.segment-s.result.now.site c.segment-s.result.now.buffer c.span-from.result.0 c.span-from.result.1 c.deref.result.now (nth_there c.args.self.now c.args.n c.segment-s.result.now c.segment-s.ensures) c.span-from.ensures.from c.span-from.ensures.to c.span-from.ensures.rises c.deref.ensures.value)
 
 pub returns-clause-at_most : goal.returns-clause-at_most
 returns-clause-at_most g c =
     subst (λ (es : List Event). Performs es (g.D.Device.trace c.args.self.now.config.device) (g.D.Device.trace c.write_out-written.new.device))
-    (calls_at (line_of c.args.self.now) c.args.n c.args.k c.nth.result.0 c.nth.result.1.now c.span-from.result.0 c.span-from.result.1 c.deref.result.now c.nth.ensures c.span-from.ensures.from c.span-from.ensures.to c.span-from.ensures.rises c.deref.ensures.value)
+    (calls_at (line_of c.args.self.now) c.args.n c.args.k c.segment-s.result.now.site c.segment-s.result.now.buffer c.span-from.result.0 c.span-from.result.1 c.deref.result.now (nth_there c.args.self.now c.args.n c.segment-s.result.now c.segment-s.ensures) c.span-from.ensures.from c.span-from.ensures.to c.span-from.ensures.rises c.deref.ensures.value)
     c.write_out-written.ensures.calls

@@ -91,7 +91,7 @@ pub least_held-requires : goal.least_held-requires
 least_held-requires g c =
     (stuck_left g.D.Device.trace g.C.Checksum.sum_of g.D.Device.faults c.args.to c.args.self.now c.loop-self.self c.requires.sealed c.loop-self.invariant.advanced (omega (arith, c.synced_end.ensures.is, c.if-synced_end-to.true)) (sym c.has_ready_below.ensures ∙ c.loop-self-test.false)).some
 
-stuck : (g : given.Over) (c : goal.After-least_held g) → IsStuck c.args.to c.loop-self.self.site.place (waiting_of c.loop-self.self) c.loop-self.self.buffer.reserved.items
+stuck : (g : given.Over) (c : goal.After-least_held g) → IsStuck c.args.to c.loop-self.self.segments.first.site.place (waiting_of c.loop-self.self) c.loop-self.self.segments.first.buffer.reserved.items
 stuck g c =
     stuck_left g.D.Device.trace g.C.Checksum.sum_of g.D.Device.faults c.args.to c.args.self.now c.loop-self.self c.requires.sealed c.loop-self.invariant.advanced (omega (arith, c.synced_end.ensures.is, c.if-synced_end-to.true)) (sym c.has_ready_below.ensures ∙ c.loop-self-test.false)
 
@@ -116,7 +116,7 @@ returns-then-synced_end-to-clause-answers g c =
     let held = stuck g c in
     let now = c.loop-self.self in
     let fits : SFits w64 c.least_held.result = search rules in (
-      (now.site.place + held.from, holds_up g.D.Device.trace g.C.Checksum.sum_of g.D.Device.faults c.args.to c.args.self.now now c.requires.sealed c.loop-self.invariant.advanced ∙ held.holds, to_z-of_z w64 c.least_held.result fits ∙ c.least_held.ensures held.from held.first),
+      (now.segments.first.site.place + held.from, holds_up g.D.Device.trace g.C.Checksum.sum_of g.D.Device.faults c.args.to c.args.self.now now c.requires.sealed c.loop-self.invariant.advanced ∙ held.holds, to_z-of_z w64 c.least_held.result fits ∙ c.least_held.ensures held.from held.first),
       (λ none. none),
       refl,
       c.loop-self.invariant.advanced.fault,

@@ -26,7 +26,7 @@ returns-clause-written g c =
     let k = c.ready_at-n.result.1 in
     let r = c.ready_at-n.ensures.ready in
     on_ok c.write_buffer.result _ _
-    (λ is. ap unwritten is ∙ unwritten_promoted (segment_size_of old) old.site.place (set (line_of old) n (written_now k r.segment)) (segments_written old n k r) ∙ c.ready_at-n.ensures.left r.segment r.among)
+    (λ is. ap unwritten is ∙ unwritten_promoted (segment_size_of old) old.segments.first.site.place (set (line_of old) n (written_now k r.segment)) (segments_written old n k r) ∙ c.ready_at-n.ensures.left r.segment r.among)
     (c.write_buffer.ensures.line r.segment r.among)
 
 pub returns-clause-start : goal.returns-clause-start

@@ -34,8 +34,8 @@ returns-in-Ok-clause-step g c = λ k at free.
     let position = c.flush.ensures.position in
     let put = stays_put trace sum old new c.flush.ensures.tickets position c.flush.ensures.keeps in
     let ends : synced_end new ≡ stable_from to l = sym c.in-Ok.ensures.synced.stable ∙ stable_seen old sum begun k.tickets to some new (view old.config.device) (view new.config.device) H k.acknowledged k.floor put above in
-    let kept : IsKept sum (segment_size_of old) new.site new.buffer.written_len (state_of (trace (device_of new))) (logged H) =
-    subst (λ n. IsKept sum n new.site new.buffer.written_len (state_of (trace (device_of new))) (logged H)) position.size (c.in-Ok.ensures.records H holds) in
+    let kept : IsKept sum (segment_size_of old) new.segments.first.site new.segments.first.buffer.written_len (state_of (trace (device_of new))) (logged H) =
+    subst (λ n. IsKept sum n new.segments.first.site new.segments.first.buffer.written_len (state_of (trace (device_of new))) (logged H)) position.size (c.in-Ok.ensures.records H holds) in
     let reached : ℕ = max k.acknowledged (end_below (stable_end new) H) in
     record {
       not_refused = refl;
@@ -44,8 +44,8 @@ returns-in-Ok-clause-step g c = λ k at free.
         written = has_written old sum begun k.tickets to some new (view old.config.device) (view new.config.device) H k.acknowledged k.floor put (whole_of trace sum old H k.acknowledged k.floor at.unmarked at.fits answers.2) c.in-Ok.grown answers.2 answers.3 answers.1 answers.0
             (c.in-Ok.ensures.calls ∙ ap (λ (es : List Event). after_all es (trace (device_of old))) (writes_seen old sum begun k.tickets to some)) answers.4 c.in-Ok.ensures.answer c.in-Ok.ensures.synced.whole past above;
         all = λ i d lt. let low = written_past trace sum new H (c.in-Ok.ensures.records H holds) i d lt in omega (arith, low, ends);
-        site = new.site;
-        from = new.buffer.written_len;
+        site = new.segments.first.site;
+        from = new.segments.first.buffer.written_len;
         at = ends;
         kept = kept;
       };
