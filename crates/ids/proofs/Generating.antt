@@ -27,7 +27,8 @@ use Rattle.sled_core.specs.Fronts.{CameTo, WritesWhole}
 use Rattle.sled_core.specs.Positions.{Position, is_short, next_segment_at, position_in}
 use Rattle.sled_core.specs.Keeps.{ConfigKept, GoesOn, Preserves}
 use Rattle.sled_core.specs.OpenPlaces.{TakesOut, places_from}
-use Rattle.sled_core.specs.Running.{Fits, end_below}
+use Rattle.sled_core.specs.invariants.Running.{Fits}
+use Rattle.sled_core.specs.Running.{end_below}
 use Rattle.sled_core.specs.Waiting.{last_of}
 use Rattle.sled_core.proofs.PublicLaws.{current_count, fits_apart, fits_leaves, fits_reach, inline_message, message_acknowledged, target_above}
 use Rattle.ids.specs.Bounds.{GivesFrom, HasBound}

@@ -19,7 +19,7 @@ use Rattle.sled_core.specs.Fits.{device_of}
 use Rattle.sled_core.specs.Good.{IsGood}
 use Rattle.sled_core.specs.Keeps.{GoesOn, Preserves}
 use Rattle.sled_core.specs.Recoverable.{RecoverableIfOwn}
-use Rattle.sled_core.specs.Running.{Fits, Ready}
+use Rattle.sled_core.specs.invariants.Running.{Fits, Ready}
 use Rattle.sled_core.specs.Starts.{BeginsBehind, HasMadeStart, StartCalls}
 use Rattle.sled_core.proofs.PublicLaws.{ready_place}
 use Rattle.sled_log.specs.Orderly.{CanRecover}

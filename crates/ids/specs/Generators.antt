@@ -16,7 +16,7 @@ use Rattle.sled_core.specs.Fits.{IsUsedUpBelow, IsUsedUpFor, config_of, fault_of
 use Rattle.sled_core.specs.Fronts.{WritesWhole}
 use Rattle.sled_core.specs.Positions.{Position}
 use Rattle.sled_core.specs.Recoverable.{ReadsOnlyOwn}
-use Rattle.sled_core.specs.Running.{Fits}
+use Rattle.sled_core.specs.invariants.Running.{Fits}
 use Rattle.sled_core.specs.Waiting.{BufferAt, writes_below}
 use Rattle.sled_log.specs.RunStates.{EndsInReach}
 use Rattle.ids.specs.declared.generator.IdGenerator.{IdGenerator}

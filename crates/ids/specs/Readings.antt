@@ -18,7 +18,7 @@ use Rattle.sled_core.specs.declared.logger.read_message.LogRead.TheVariants as r
 use Rattle.sled_core.specs.Fits.{KeepsTickets, NoneSealed, device_of, fault_of, reserved_end, synced_end}
 use Rattle.sled_core.specs.Keeps.{Preserves, SamePosition}
 use Rattle.sled_core.specs.Reading.{IsInline, IsNoPlace, StandsAt, is_inline}
-use Rattle.sled_core.specs.Running.{Fits}
+use Rattle.sled_core.specs.invariants.Running.{Fits}
 use Rattle.ids.specs.Bounds.{IsLastMessage, IsOfBounds}
 
 -- Why no generator was opened on a device that has a generator's log: it failed, memory was refused, or places are used up.

@@ -19,8 +19,10 @@ use Rattle.sled_core.specs.Fits.{KeepsAll, stable_end, FirstWaits, FitsInline, H
 use Rattle.sled_core.specs.Logged.{logged}
 use Rattle.sled_core.specs.Waiting.{BufferAt, BufferStart, HasLength, at_last, closed_now, first_held, held_below, spans, unwritten}
 use Rattle.sled_store.specs.SegmentStates.{next_slot}
-use Rattle.sled_core.specs.Recoverable.{NoForeign, Recoverable, LeavesRecoverable}
-use Rattle.sled_core.specs.Running.{Fits, IsStored, Ready}
+use Rattle.sled_core.specs.Recoverable.{NoForeign, LeavesRecoverable}
+use Rattle.sled_core.specs.invariants.Recoverable.{Recoverable}
+use Rattle.sled_core.specs.invariants.Running.{Fits, Ready}
+use Rattle.sled_core.specs.Running.{IsStored}
 use Rattle.sled_core.proofs.Flush.Settled.{leaves_less}
 pub use Rattle.sled_core.proofs.Holds.CallMoments.{own_after_crash}
 use Rattle.sled_core.proofs.Holds.ReachLemmas.{kept_past}

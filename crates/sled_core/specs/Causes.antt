@@ -1,5 +1,5 @@
 -- Why a call of a log failed.
-use Rattle.std.specs.Prelude.{Bool, true, ◌≡◌, ◌⊎◌, [], ◌+◌, ◌<◌, ◌%◌, ◌^◌, ℕ, ℤ, pos, if◌then◌else◌, List, Option, None, Some, Result, Ok, Err, IsTrue, IsSome}
+use Rattle.std.specs.Prelude.{Bool, true, ◌≡◌, ◌⊎◌, [], ◌+◌, ◌<◌, ◌%◌, ◌^◌, ℕ, ℤ, pos, List, Option, None, Some, Result, Ok, Err, IsTrue, IsSome}
 use Rattle.std.specs.declared.io.Error.{Error as IoError}
 use Rattle.std.specs.IoError.{error_kind}
 use Rattle.std.specs.declared.io.ErrorKind.TheVariants.{AlreadyExists, NotFound}
@@ -12,7 +12,7 @@ use Rattle.sled_codec.specs.declared.serialization.message.MessageKind.{MessageK
 use Rattle.sled_store.specs.declared.config.RunningConfig.{RunningConfig}
 use Rattle.sled_store.specs.Answers.{is_fault}
 use Rattle.sled_core.specs.Buffers.{most_open}
-use Rattle.sled_store.specs.Blobs.{ItemAnswers, NamesDamage}
+use Rattle.sled_store.specs.Blobs.{ItemAnswers}
 use Rattle.sled_store.specs.Device.{Trace, state_of}
 
 -- The log kept this failure of the device from an earlier call, or the device failed in this call, and the log keeps that.
@@ -113,14 +113,6 @@ RewriteAnswers (Err (Held at)) fault used open_count least = (fault ≡ None) ×
 RewriteAnswers (Err OutOfMemory) fault used open_count least = (fault ≡ None) × (used → ⊥) × (open_count < most_open)
 RewriteAnswers (Err _) fault used open_count least = ⊥
 
--- Room for one more reservation of a buffer of which so many are open: no further one may be open, with the least place of those that are, or memory was
--- refused.
-abbrev pub MakesRoom : {T : Type 0} → Result T Error → ℕ → (ℤ → Type 0) → Type 0
-MakesRoom (Ok _) open_count least = open_count < most_open
-MakesRoom (Err (Held at)) open_count least = (open_count ≡ most_open) × least at
-MakesRoom (Err OutOfMemory) open_count least = open_count < most_open
-MakesRoom (Err _) open_count least = ⊥
-
 -- A call that reads bytes: it wants no memory, a failure of the device is counted and answered, and damage comes only where this is so.
 abbrev pub ReaderAnswers : {T : Type 0} → Result T Error → Type 0 → ℕ → ℕ → Type 0
 ReaderAnswers (Ok _) early before after = after ≡ before
@@ -138,19 +130,6 @@ abbrev pub IsFaultAt : (ℤ → Option (List ℕ)) → DiskPtr → IoError → T
 IsFaultAt blobs (Inline lid) e so old new before after = IsFault e old new before after
 IsFaultAt blobs (Blob lid place) e so old new before after =
     IsFault e old new before after ⊎ ((error_kind e ≡ NotFound) × (blobs place ≡ None) × so × (old ≡ None) × (new ≡ None) × (after ≡ before))
-
--- A read of a pointer: as each call that may touch the device, and damage or a missing blob besides.
-abbrev pub RecordAnswers : {T : Type 0} → (List ℕ → ℕ) → (ℤ → Option (List ℕ)) → DiskPtr → Result T Error → Option IoError → Option IoError → ℕ → ℕ → Type 0
-RecordAnswers sum blobs p (Ok _) old new before after = (old ≡ None) × (new ≡ None) × (after ≡ before)
-RecordAnswers sum blobs p (Err (Io e)) old new before after = IsFaultAt blobs p e (Unit {0}) old new before after
-RecordAnswers sum blobs p (Err OutOfMemory) old new before after = (old ≡ None) × (new ≡ None) × (after ≡ before)
-RecordAnswers sum blobs p (Err (Corruption at)) old new before after = (old ≡ None) × (new ≡ None) × (after ≡ before) × NamesDamage sum blobs at
-RecordAnswers sum blobs p (Err _) old new before after = ⊥
-
--- the failure of the device that an answer tells of; a missing blob is none
-abbrev pub fault_in : {T : Type 0} → Result T Error → Option IoError
-fault_in (Err (Io e)) = if is_fault e then Some e else None
-fault_in _ = None
 
 -- the failure of the device that an answer tells of
 abbrev pub failure_in : {T : Type 0} → Result T Error → Option IoError

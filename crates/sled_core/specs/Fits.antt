@@ -1,12 +1,11 @@
 -- What a log has to do with the history of what was completed, and with its device. Its segments lie one behind another; the first one isn't wholly on the
 -- device, and the last one is being filled.
-use Rattle.std.specs.Prelude.{◌≡◌, ◌⊎◌, ◌+◌, ◌-◌, ◌*◌, ◌/◌, ◌%◌, ◌^◌, ◌≤◌, ◌<◌, ◌<ℤ◌, if◌then◌else◌, nat_le, nat_lt, Bool, ℕ, ℤ, pos, max, true, List, [], ◌++◌}
-use Rattle.std.specs.Prelude.{◌∷◌, length, map, take, drop, All, Option, None, Some, slice_get, Contains}
+use Rattle.std.specs.Prelude.{◌≡◌, ◌⊎◌, ◌+◌, ◌-◌, ◌*◌, ◌/◌, ◌%◌, ◌^◌, ◌≤◌, ◌<◌, if◌then◌else◌, nat_le, nat_lt, Bool, ℕ, ℤ, pos, true, List, [], ◌∷◌, length}
+use Rattle.std.specs.Prelude.{map, drop, All, Option, None, Some, slice_get, Contains}
 use Rattle.std.specs.declared.io.Error.{Error as IoError}
 use Rattle.sled_codec.specs.declared.result.DiskPtr.TheVariants.{Blob}
 use Rattle.sled_codec.specs.declared.serialization.message.LogKind.{LogKind}
 use Rattle.sled_codec.specs.declared.serialization.message.LogKind.TheVariants.{Replace}
-use Rattle.sled_codec.specs.Record.{IsHeader, short_header}
 use Rattle.sled_codec.specs.History.{Message, Batch, History, CutFits, table}
 use Rattle.sled_codec.specs.WellFormed.{LieApart}
 use Rattle.sled_codec.specs.Snapshots.{SnapshotModel, stable_place}
@@ -16,23 +15,18 @@ use Rattle.sled_store.specs.Device.{Event, Trace, LogState, State, state_of, at_
 use Rattle.sled_store.specs.SegmentStates.{Machine, next_slot}
 use Rattle.sled_store.specs.SnapshotFiles.{BeginsFrom}
 use Rattle.sled_core.specs.declared.iobuf.Reserved.{Reserved}
-use Rattle.sled_core.specs.declared.iobuf.Sealed.{Sealed}
 use Rattle.sled_core.specs.declared.iobuf.SegmentPosition.{SegmentPosition}
 use Rattle.sled_core.specs.declared.reservation.Reservation.{Reservation}
 use Rattle.sled_core.specs.declared.logger.Log.{Log}
 use Rattle.sled_store.specs.declared.config.RunningConfig.{RunningConfig}
-use Rattle.sled_core.specs.Begun.{SegmentParts, SegmentView, begin_of, line_in, segment_view}
-pub use Rattle.sled_core.specs.Begun.{line_end}
-use Rattle.sled_core.specs.Buffers.{Stands, IsChain, pointer_as, batches_in, completed_in, message_in, none_open, open_in, first_open_in, records_end}
-use Rattle.sled_core.specs.FreeSlots.{HasSlots}
-use Rattle.sled_core.specs.LogFile.{IsLogFile, StaysBelow, StaysFrom}
+use Rattle.sled_core.specs.Begun.{SegmentView, begin_of, line_in, segment_view}
+use Rattle.sled_core.specs.Buffers.{pointer_as, message_in, none_open, open_in, first_open_in}
+use Rattle.sled_core.specs.LogFile.{IsLogFile, StaysFrom}
 use Rattle.sled_core.specs.Logged.{in_log, logged}
-use Rattle.sled_core.specs.OpenBatches.{AreApart, batch_of, not_whole, stable_below}
+use Rattle.sled_core.specs.OpenBatches.{batch_of, not_whole, stable_below}
 use Rattle.sled_core.specs.OpenPlaces.{open_places_along}
 use Rattle.sled_core.specs.Positions.{Position, behind_record, is_short, placed_at, lid_at, position_in, size_at}
-use Rattle.sled_core.specs.Reached.{BegunSegment, FollowApart}
-use Rattle.sled_core.specs.Recoverable.{IsMarkOf, NoBatchEnds}
-use Rattle.sled_core.specs.SealedBuffers.{AreSealed, AreZeros, Laid, sealed_count, sealed_end}
+use Rattle.sled_core.specs.SealedBuffers.{AreZeros, sealed_count}
 use Rattle.sled_core.specs.Tickets.{index_of, IsFor}
 use Rattle.sled_core.specs.Waiting.{BufferAt, BufferStart, at_last, buffers_in, closed_now, held_below, last_of, pending_in, spans, start_in, unwritten}
 use Rattle.sled_core.specs.Waiting.{write_pending, writes_below}
@@ -238,35 +232,6 @@ NoneOpen log = NoneOpenIn (line_of log)
 abbrev pub open_places : {D C : Type 0} → Log D C → List ℕ
 open_places log = open_places_along (line_of log)
 
--- What a log has of its current segment over its device: the size of segments, where this one lies, what is on the device, the failure that the log keeps,
--- the bytes, how many of them were written, the buffers that were sealed since, and the reservations since.
-pub record LogParts : Type 0 where
-  pub size : ℕ
-  pub site : SegmentPosition
-  pub device : State
-  pub fault : Option IoError
-  pub bytes : List ℕ
-  pub written_len : ℕ
-  pub sealed : List Sealed
-  pub reserved : List Reserved
-
--- the view with these parts
-abbrev pub log_parts : ℕ → SegmentPosition → State → Option IoError → List ℕ → ℕ → List Sealed → List Reserved → LogParts
-log_parts size site device fault bytes written_len sealed reserved = record {
-  size = size;
-  site = site;
-  device = device;
-  fault = fault;
-  bytes = bytes;
-  written_len = written_len;
-  sealed = sealed;
-  reserved = reserved;
-}
-
--- what a log has of a segment, but for how many reservations have gone
-abbrev pub parts_in : SegmentView → SegmentParts
-parts_in v = v.parts
-
 -- The log file has these messages, and those that stay of earlier segments, and all of it is settled, so that a crash leaves just that.
 pub record IsOnDevice (sum : List ℕ → ℕ) (size : ℕ) (device : LogState) (site : SegmentPosition) (from : ℕ) (messages : List Message)
     (stays : Message → Type 0) : Type 0 where
@@ -291,113 +256,6 @@ EndBelow place = All (λ m. (m.place < place) × (m.place + m.size ≤ place))
 -- batches begin and end below a place
 abbrev pub CloseBelow : ℕ → List Batch → Type 0
 CloseBelow place = All (λ b. (b.low < place) × (b.peg < place))
-
--- Of the batches of a history these begin behind what is written of a segment that lies there, and no others.
-pub record HasBatches (size : ℕ) (site : SegmentPosition) (from : ℕ) (own bs : List Batch) : Type 0 where
-  pub noted : (b : Batch) → Contains own b → Contains bs b
-  pub begun : (b : Batch) → Contains bs b → Contains own b ⊎ (b.low < site.place + from) ⊎ (site.place + size ≤ b.low)
-
--- The bytes of a segment begin with its header. Its mark lies below the segment, and in no batch of the history.
-pub record HasMark (sum : List ℕ → ℕ) (site : SegmentPosition) (bytes : List ℕ) (H : History) : Type 0 where
-  pub mark : ℤ
-  pub is : take 20 bytes ≡ short_header sum (pos site.place) mark
-  pub of_history : IsMarkOf H (record { place = site.place; slot = site.slot; mark = mark })
-
--- A history, and the bytes and reservations of a segment of a log over a device: what was written is settled there, with those messages of earlier segments
--- that stay, and what was completed since stands in the buffer.
-pub record HoldsSegment (sum : List ℕ → ℕ) (parts : LogParts) (stays : Message → Type 0) (H : History) : Type 0 where
-  -- the messages that were written
-  pub earlier : List Message
-  pub messages : H.messages ≡ earlier ++ completed_in parts.site parts.bytes parts.reserved
-  pub below : EndBelow (parts.site.place + parts.written_len) earlier
-  pub apart : LieApart earlier
-  pub batched : HasBatches parts.size parts.site parts.written_len (batches_in parts.site parts.bytes parts.reserved) H.batches
-  -- none ends in what fills the segment, and none behind what is reserved of it
-  pub no_end : NoBatchEnds H (parts.site.place + records_end parts.reserved (length parts.bytes)) (parts.site.place + parts.size)
-  pub place_begins : parts.site.place % parts.size ≡ 0
-  pub slot_begins : parts.site.slot % parts.size ≡ 0
-  pub header : parts.written_len ≡ 0 → HasMark sum parts.site parts.bytes H
-  pub chain : IsChain (max 20 parts.written_len) parts.reserved (length parts.bytes)
-  pub stand : All (Stands sum parts.size (parts.site.place / parts.size) parts.bytes) parts.reserved
-  pub written : parts.fault ≡ None → IsOnDevice sum parts.size parts.device.log parts.site parts.written_len earlier stays
-  -- what the log file has of the sealed buffers, and zeros behind them
-  pub laid : parts.fault ≡ None → Laid parts.device.log.bytes parts.site.slot parts.bytes parts.written_len parts.sealed parts.size
-
--- where it lies, how much of it is written, and where what fills it begins
-abbrev pub begun_segment : SegmentParts → BegunSegment
-begun_segment s = record { site = s.site; from = s.written_len; filled = s.filled }
-
--- A segment that begins at a place holds these messages.
-pub record HoldsNext (sum : List ℕ → ℕ) (size : ℕ) (device : State) (fault : Option IoError) (place : ℕ) (s : SegmentParts) (stays : Message → Type 0)
-    (batches : List Batch) (own : List Message) : Type 0 where
-  pub next : s.site.place ≡ place
-  pub inside : length s.bytes ≤ size
-  pub are : AreSealed s.written_len s.reserved s.sealed
-  pub held : sealed_end s.written_len s.sealed ≤ length s.bytes
-  pub behind : s.written_len ≤ length s.bytes
-  pub segment : HoldsSegment sum (log_parts size s.site device fault s.bytes s.written_len s.sealed s.reserved) stays (record {
-    messages = own;
-    batches = batches;
-  })
-  -- behind its header
-  pub above : All (λ m. place + 20 ≤ m.place) own
-
--- Segments that begin one behind another at a place hold these messages.
-abbrev pub HoldBehind : (List ℕ → ℕ) → ℕ → State → Option IoError → ℕ → List SegmentParts → (Message → Type 0) → List Batch → List Message → Type 0
-HoldBehind sum size device fault place [] stays batches ms = ms ≡ []
-HoldBehind sum size device fault place (s ∷ ss) stays batches ms =
-    (own later : List Message) × (ms ≡ own ++ later) × HoldsNext sum size device fault place s stays batches own
-    × HoldBehind sum size device fault (place + size) ss stays batches later
-
--- The same of a log: its first segment that isn't wholly on the device holds these messages and all before them, and the segments that were begun behind it
--- hold the later ones. The newest snapshot is that with which the log began.
-pub record HoldsIn (sum : List ℕ → ℕ) (parts : LogParts) (behind : List SegmentParts) (H : History) : Type 0 where
-  pub begun : IsBegunFrom sum parts.size parts.device.snapshots.file parts.site parts.written_len H
-  pub head : List Message
-  pub later : List Message
-  pub messages : H.messages ≡ head ++ later
-  pub own : HoldsSegment sum parts (StaysFrom H (stable_place begun.first.stable)) (record { messages = head; batches = H.batches })
-  pub others : HoldBehind sum parts.size parts.device parts.fault (parts.site.place + parts.size) behind
-      (StaysBelow H (stable_place begun.first.stable) parts.site.place) H.batches later
-  pub apart : FollowApart parts.site (map begun_segment behind)
-  -- the header of a segment behind of which nothing is written has a mark below the stable end
-  pub marked : (s : SegmentParts) → Contains behind s → s.written_len ≡ 0 → (mark : ℤ) → IsHeader sum (take 20 s.bytes) (pos s.site.place) mark
-      → mark <ℤ pos (parts.site.place + parts.written_len)
-
--- Segments one behind another hold a history, over a device.
-abbrev pub HoldsLine : (List ℕ → ℕ) → ℕ → State → Option IoError → List SegmentView → History → Type 0
-HoldsLine sum size device fault [] H = ⊥
-HoldsLine sum size device fault (v ∷ vs) H =
-    HoldsIn sum (log_parts size v.parts.site device fault v.parts.bytes v.parts.written_len v.parts.sealed v.parts.reserved) (map parts_in vs) H
-
--- how far the first one of segments is written
-abbrev pub written_to : List SegmentView → ℕ
-written_to [] = 0
-written_to (v ∷ vs) = v.parts.site.place + v.parts.written_len
-
--- The batches of a history of which all up to one place is written, and which has places below another one. Those that aren't wholly written are noted.
--- Each of these has no place in common with another one, and no message that begins in front of it ends in it.
-pub record FitsBatches (end last : ℕ) (noted : List Batch) (H : History) : Type 0 where
-  pub known : (b : Batch) → Contains noted b → Contains H.batches b
-  pub all : (b : Batch) → Contains H.batches b → end ≤ b.peg → Contains noted b
-  pub within : CloseBelow last H.batches
-  pub apart : AreApart end H.batches
-  pub before : (m : Message) → Contains H.messages m → (b : Batch) → Contains H.batches b → end ≤ b.peg → m.place < b.low → m.place + m.size ≤ b.low
-  -- where it ends before that place it begins there, too
-  pub rising : (b : Batch) → Contains H.batches b → (b.low ≤ b.peg) ⊎ (b.low < end)
-
--- So do those of a log that has noted these batches and whose slots are these: theirs are taken, and the free ones have zeros.
-pub record HoldsWith (sum : List ℕ → ℕ) (noted : List Batch) (size : ℕ) (device : State) (fault : Option IoError) (line : List SegmentView) (m : Machine)
-    (H : History) : Type 0 where
-  pub holds : HoldsLine sum size device fault line H
-  pub batches : FitsBatches (written_to line) (line_end size line) noted H
-  pub slots : HasSlots size line device.log.bytes fault m
-
--- The log holds this history: its records are those of the history as a log has it, without the items that blobs have.
-unfoldable pub Holds : {D C : Type 0} → (D → Trace) → (List ℕ → ℕ) → Log D C → History → Type 0
-Holds trace sum log H =
-    HoldsWith sum (noted_in log) log.config.config.segment_size (state_of (trace log.config.device)) log.fault.kept (line_of log) (machine_of log.accountant)
-    (logged H)
 
 -- A log has the record of a message: it is of a segment that isn't wholly on the device, or an entry of the table of all that was written, or of that and more.
 abbrev pub HasRecordOf : {D C : Type 0} → Log D C → History → Message → Type 0
@@ -425,13 +283,6 @@ IsWritten trace sum log H = IsKept sum log.config.config.segment_size log.segmen
 -- all buffers that aren't on the device, by place, with the current one as it would be sealed
 abbrev pub buffers_of : {D C : Type 0} → (List ℕ → ℕ) → Log D C → List BufferAt
 buffers_of sum log = buffers_in sum log.config.config.segment_size (line_of log)
-
--- The buffers of a log are those that they were, and behind them at most those that begin at or behind all that was reserved: the header of a segment that
--- was begun is one.
-pub record AddsBuffers {D C : Type 0} (sum : List ℕ → ℕ) (old new : Log D C) : Type 0 where
-  pub more : List BufferAt
-  pub is : buffers_of sum new ≡ buffers_of sum old ++ more
-  pub behind : All (λ (b : BufferAt). reserved_end old ≤ b.place) more
 
 -- The calls that write those that begin below a place, and settle each, up to the first that has an open reservation.
 abbrev pub writing_below : {D C : Type 0} → (List ℕ → ℕ) → Log D C → ℕ → List Event

@@ -1,5 +1,5 @@
 -- What a caller sees of an iterator: what it borrows, and what is ahead of it.
-use Rattle.std.specs.Prelude.{◌≡◌, ◌+◌, ℕ, ℤ, true, List, map, Option, None, Some, Result, Err, IfNone, IfSome}
+use Rattle.std.specs.Prelude.{◌≡◌, ℕ, ℤ, true, List, map, Option, None, Some, Result, Err, IfNone, IfSome}
 use Rattle.std.specs.Borrow.{MutBor}
 use Rattle.std.specs.declared.io.Error.{Error as IoError}
 use Rattle.sled_codec.specs.History.{History, Message}
@@ -16,10 +16,10 @@ use Rattle.sled_core.specs.Causes.{failure_in}
 use Rattle.sled_core.specs.Fits.{KeepsBuffers, KeepsTickets, device_of, fault_of, machine_at, segment_size_of, stable_end}
 use Rattle.sled_core.specs.Keeps.{OnlyReads, Preserves, SamePosition}
 use Rattle.sled_core.specs.Iterates.{Item, Damage, IsIteration, NextGives, NextAnswers, BehindLast}
-use Rattle.sled_core.specs.Ahead.{IsLeft, IsSpent, most_left}
 use Rattle.sled_core.specs.LogSegments.{AreSegments, begins_from}
 use Rattle.sled_core.specs.OnFile.{AreOnFile, item_of}
 use Rattle.sled_core.specs.Sources.{BorrowSame, config_in, file_in, log_in}
+use Rattle.sled_core.specs.invariants.Iterators.{IsAhead, IsOver}
 
 -- why nothing can be gone over, where that is so: the one item of the iterator
 abbrev pub refusal_of : {D C : Type 0} → LogIter D C → Option Error
@@ -46,23 +46,6 @@ IsFileOf it result = result ≡ file_in it.source
 
 abbrev pub IsLogOf : {D C : Type 0} → LogIter D C → Option (MutBor (Log D C)) → Type 0
 IsLogOf it result = result ≡ log_in it.source
-
--- These messages are ahead of an iterator that wasn't refused, and then damage or the end.
-unfoldable pub IsAhead : {D C : Type 0} → (D → Trace) → (List ℕ → ℕ) → LogIter D C → List Item → Damage → Type 0
-IsAhead trace sum it items damage = IfNone it.refusal (IsLeft trace sum (config_in it.source) it.rest items damage)
-
--- No message is ahead of an iterator, and nothing is read any more.
-unfoldable pub IsOver : {D C : Type 0} → LogIter D C → Type 0
-IsOver it = (it.refusal ≡ None) × IsSpent it.rest
-
--- a refusal is one item
-abbrev pub items_for : Option Error → ℕ
-items_for None = 0
-items_for (Some e) = 1
-
--- not more items than this are ahead of an iterator
-unfoldable pub most_ahead : {D C : Type 0} → LogIter D C → ℕ
-most_ahead it = most_left it.rest + items_for it.refusal
 
 -- the first failure of a device: the one that was kept, or that of this item
 abbrev pub first_failure : Option IoError → Option (Result Item Error) → Option IoError

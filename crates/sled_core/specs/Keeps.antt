@@ -8,8 +8,9 @@ use Rattle.sled_store.specs.Device.{Trace}
 use Rattle.sled_store.specs.Moments.{IsLater, LeavesOnly}
 use Rattle.sled_core.specs.declared.logger.Log.{Log}
 use Rattle.sled_core.specs.declared.reservation.Reservation.{Reservation}
-use Rattle.sled_core.specs.Fits.{Awaits, Holds, NoneSealed, buffers_of, config_of, current_begin, current_of, device_of, fault_of, kept_batches, line_of}
-use Rattle.sled_core.specs.Fits.{machine_at, noted_in, pins_of, position_of, reserved_end, segment_size_of, start_of, synced_end, waiting_of}
+use Rattle.sled_core.specs.Fits.{Awaits, NoneSealed, buffers_of, config_of, current_begin, current_of, device_of, fault_of, kept_batches, line_of, machine_at}
+use Rattle.sled_core.specs.Fits.{noted_in, pins_of, position_of, reserved_end, segment_size_of, start_of, synced_end, waiting_of}
+use Rattle.sled_core.specs.invariants.Fits.{Holds}
 use Rattle.sled_store.specs.SegmentStates.{next_slot}
 use Rattle.sled_core.specs.Marked.{BeginsMarked}
 use Rattle.sled_core.specs.Positions.{is_short}
@@ -17,7 +18,8 @@ use Rattle.sled_core.specs.Tickets.{place_of}
 use Rattle.sled_core.specs.Waiting.{BufferAt, BufferStart, not_below}
 use Rattle.sled_core.specs.Recoverable.{RecoverableIfOwn}
 use Rattle.sled_core.specs.OpenBatches.{not_whole}
-use Rattle.sled_core.specs.Running.{Fits, IsStored}
+use Rattle.sled_core.specs.invariants.Running.{Fits}
+use Rattle.sled_core.specs.Running.{IsStored}
 
 -- It has the same sizes and the same checksum.
 pub record ConfigKept {D C : Type 0} (old new : RunningConfig D C) : Type 0 where

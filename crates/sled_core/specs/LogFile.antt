@@ -1,5 +1,5 @@
 -- What stands in a log file of the messages that were written: those of the segment that is being filled, and those of earlier ones that are still needed.
-use Rattle.std.specs.Prelude.{◌≡◌, ◌⊎◌, ◌+◌, ◌-◌, ◌/◌, ◌≤◌, ◌<◌, ℕ, ℤ, pos, false, replicate, length, List, ◌++◌, Some, Contains}
+use Rattle.std.specs.Prelude.{◌≡◌, ◌⊎◌, ◌+◌, ◌/◌, ◌≤◌, ◌<◌, ℕ, ℤ, pos, false, List, Some, Contains}
 use Rattle.sled_codec.specs.declared.result.DiskPtr.TheVariants.{Inline}
 use Rattle.sled_codec.specs.declared.serialization.message.MessageHeader.{MessageHeader}
 use Rattle.sled_codec.specs.Kinds.{kind_written}
@@ -37,10 +37,6 @@ pub record StandsElsewhere (sum : List ℕ → ℕ) (size : ℕ) (log : List ℕ
 abbrev pub StaysFrom : History → ℕ → Message → Type 0
 StaysFrom H place m = Contains (table H place m.page) m ⊎ ((place ≤ m.place) × Contains H.messages m)
 
--- those of them that lie below another place
-abbrev pub StaysBelow : History → ℕ → ℕ → Message → Type 0
-StaysBelow H from place m = StaysFrom H from m × (m.place < place)
-
 -- the header of a segment stands at the beginning of its slot, with a mark below it
 pub record HasHeader (sum : List ℕ → ℕ) (log : List ℕ) (site : SegmentPosition) : Type 0 where
   pub mark : ℤ
@@ -55,7 +51,3 @@ pub record IsLogFile (sum : List ℕ → ℕ) (size : ℕ) (log : List ℕ) (sit
   pub elsewhere : (m : Message) → stays m → m.place < site.place → (lid : ℕ) → m.pointer ≡ Inline lid → StandsElsewhere sum size log site lid m
   pub begun : 0 < from → 20 ≤ from
   pub header : 0 < from → HasHeader sum log site
-
--- a log file with zeros behind its end, up to an offset
-abbrev pub padded : ℕ → List ℕ → List ℕ
-padded to log = log ++ replicate (to - length log) 0

@@ -1,5 +1,5 @@
 -- The segments that a log has, as a reader of its file goes over them.
-use Rattle.std.specs.Prelude.{◌+◌, ◌*◌, ◌/◌, ◌^◌, ◌&&◌, nat_le, nat_lt, not, if◌then◌else◌, ℕ, suc, ℤ, negsuc, List, [], ◌∷◌, ◌++◌, Option, None, Some}
+use Rattle.std.specs.Prelude.{◌+◌, ◌*◌, ◌/◌, ◌^◌, ◌&&◌, nat_le, nat_lt, not, if◌then◌else◌, ℕ, suc, ℤ, negsuc, List, [], ◌∷◌, ◌++◌}
 use Rattle.std.specs.List.Sorted.{IsNonDecreasingBy, IsPermutation}
 use Rattle.sled_store.specs.SegmentStates.{Machine, SlotState, is_free}
 use Rattle.sled_core.specs.declared.iterator.Segment.{Segment}
@@ -16,11 +16,6 @@ segment_within size from to k s =
     if not (is_free s.state) && nat_le from s.lsn && nat_lt s.lsn to && nat_lt (s.lsn + size) (2 ^ 63)
     then record { place = s.lsn; slot = k * size; mark = negsuc 0 } ∷ []
     else []
-
--- what there is, as a list
-abbrev pub list_of : {A : Type 0} → Option A → List A
-list_of None = []
-list_of (Some a) = a ∷ []
 
 -- those of the slots from the k-th on
 abbrev pub segments_among : ℕ → ℕ → ℕ → ℕ → List SlotState → List Segment

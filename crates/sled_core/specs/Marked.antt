@@ -15,8 +15,3 @@ pub record BeginsMarked {D C : Type 0} (sum : List ℕ → ℕ) (old new : Log D
 pub record StartsMarked {D C : Type 0} (sum : List ℕ → ℕ) (log : Log D C) : Type 0 where
   pub header : synced_end log ≡ (current_of log).parts.site.place
       → (current_of log).parts.bytes ≡ short_header sum (pos (current_of log).parts.site.place) (pos (stable_end log) -ℤ pos 1)
-
--- The segment that is being filled lies where it lay, and has the bytes that it had.
-pub record KeepsSegment {D C : Type 0} (old new : Log D C) : Type 0 where
-  pub place : (current_of new).parts.site.place ≡ (current_of old).parts.site.place
-  pub bytes : (current_of new).parts.bytes ≡ (current_of old).parts.bytes

@@ -1,7 +1,5 @@
 -- Up to which place a reader doesn't stop at a batch that isn't whole, of what is read without a gap, and which batches a log has to keep for that.
-use Rattle.std.specs.Prelude.{◌≡◌, ◌+◌, ◌≤◌, ◌<◌, ◌⊎◌, nat_lt, min, max, if◌then◌else◌, ℕ, List, [], ◌∷◌, refl}
-use Rattle.std.specs.List.{Contains}
-use native.Mathlib.Bridge.{le_prop}
+use Rattle.std.specs.Prelude.{◌+◌, nat_lt, min, max, if◌then◌else◌, ℕ, List, [], ◌∷◌}
 use Rattle.sled_codec.specs.History.{Batch}
 use Rattle.sled_core.specs.declared.logger.batches.NotedBatch.{NotedBatch}
 
@@ -10,14 +8,6 @@ abbrev pub stable_below : ℕ → List Batch → ℕ
 stable_below reach [] = reach
 stable_below reach (b ∷ bs) =
     if nat_lt b.low reach then (if nat_lt b.peg reach then stable_below reach bs else min b.low (stable_below reach bs)) else stable_below reach bs
-
--- A batch that is open at a place.
-abbrev pub IsOpenBatch : ℕ → Batch → Type 0
-IsOpenBatch reach b = (b.low < reach) × (reach ≤ b.peg)
-
--- Where a batch isn't wholly read, it has no place in common with another one.
-pub record AreApart (reach : ℕ) (bs : List Batch) : Type 0 where
-  pub apart : (b c : Batch) → Contains bs b → Contains bs c → reach ≤ c.peg → (b ≡ c) ⊎ (b.peg < c.low) ⊎ (c.peg < b.low)
 
 -- those of these batches that aren't wholly read where what is read ends at a place
 abbrev pub not_whole : ℕ → List Batch → List Batch
@@ -38,13 +28,3 @@ behind_batch behind (b ∷ bs) = if nat_lt b.low behind then max (b.peg + 1) (be
 abbrev pub with_batch : Batch → List Batch → List Batch
 with_batch b [] = b ∷ []
 with_batch b (c ∷ cs) = if nat_lt b.low c.low then b ∷ c ∷ cs else c ∷ with_batch b cs
-
--- They lie one behind another from a place on: none ends in front of where it begins, and each ends in front of where the next one begins.
-abbrev pub AreByPlace : ℕ → List Batch → Type 0
-AreByPlace from [] = Unit {0}
-AreByPlace from (b ∷ bs) = (from ≤ b.low) × (b.low ≤ b.peg) × AreByPlace (b.peg + 1) bs
-
--- A log keeps that as a proposition: there is one proof of it at most.
-pub AreByPlace-prop : (from : ℕ) (bs : List Batch) → IsProp (AreByPlace from bs)
-AreByPlace-prop from [] = λ p q. refl
-AreByPlace-prop from (b ∷ bs) = λ p q i. (le_prop p.0 q.0 i, le_prop p.1 q.1 i, AreByPlace-prop (b.peg + 1) bs p.2 q.2 i)

@@ -1,11 +1,10 @@
 -- Which reservations of a log are open or abandoned, as a list of their places.
-use Rattle.std.specs.Prelude.{suc, ◌≡◌, ◌+◌, ◌&&◌, nat_lt, nat_le, ℕ, pos, if◌then◌else◌, List, [], ◌∷◌, ◌++◌, Option, None, Some, Result, OnOk}
+use Rattle.std.specs.Prelude.{◌≡◌, ◌+◌, ◌&&◌, nat_lt, nat_le, ℕ, pos, if◌then◌else◌, List, [], ◌∷◌, ◌++◌, Option, None, Some, Result, OnOk}
 use Rattle.sled_codec.specs.declared.result.Error.{Error}
 use Rattle.sled_core.specs.declared.iobuf.Reserved.{Reserved}
 use Rattle.sled_core.specs.declared.reservation.Reservation.{Reservation}
 use Rattle.sled_core.specs.Begun.{SegmentView}
 use Rattle.sled_core.specs.Buffers.{open_state}
-use Rattle.sled_core.specs.Manifests.{is_manifest}
 use Rattle.sled_core.specs.Tickets.{place_of}
 
 -- the places of those of a segment that begins there
@@ -17,16 +16,6 @@ open_places_in base (r ∷ rs) = if open_state r.state then (base + r.from) ∷ 
 abbrev pub open_places_along : List SegmentView → List ℕ
 open_places_along [] = []
 open_places_along (v ∷ vs) = open_places_in v.parts.site.place v.parts.reserved ++ open_places_along vs
-
--- how many of those of a segment are of manifests
-abbrev pub open_manifests_in : List Reserved → ℕ
-open_manifests_in [] = 0
-open_manifests_in (r ∷ rs) = if open_state r.state && is_manifest r.log_kind r.page then suc (open_manifests_in rs) else open_manifests_in rs
-
--- and of those of segments one behind another
-abbrev pub open_manifests : List SegmentView → ℕ
-open_manifests [] = 0
-open_manifests (v ∷ vs) = open_manifests_in v.parts.reserved + open_manifests vs
 
 -- the first of these places that lies from one place up to another
 abbrev pub first_between : ℕ → ℕ → List ℕ → Option ℕ

@@ -11,11 +11,13 @@ use Rattle.sled_store.specs.Device.{Event, Trace}
 use Rattle.sled_store.specs.Moments.{IsLater, LeavesOnly}
 use Rattle.sled_store.specs.Script.{Performs, after_all}
 use Rattle.sled_core.specs.declared.logger.Log.{Log}
-use Rattle.sled_core.specs.Fits.{Holds, config_of, device_of, fault_of, kept_batches, noted_in, segment_size_of, synced_end}
+use Rattle.sled_core.specs.invariants.Fits.{Holds}
+use Rattle.sled_core.specs.Fits.{config_of, device_of, fault_of, kept_batches, noted_in, segment_size_of, synced_end}
 use Rattle.sled_core.specs.Keeps.{ConfigKept}
 use Rattle.sled_core.specs.OpenBatches.{not_whole}
 use Rattle.sled_core.specs.Recoverable.{RecoverableIfOwn}
-use Rattle.sled_core.specs.Running.{Fits, IsStored}
+use Rattle.sled_core.specs.invariants.Running.{Fits}
+use Rattle.sled_core.specs.Running.{IsStored}
 
 -- a message has its item in no blob of this name, if one is named
 abbrev pub IsBeside : Option ℤ → Message → Type 0

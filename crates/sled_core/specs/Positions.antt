@@ -1,7 +1,5 @@
 -- Where the next record of a log begins, and where that leads.
 use Rattle.std.specs.Prelude.{◌+◌, ◌-◌, ◌*◌, ◌/◌, nat_lt, ℕ, Bool, if◌then◌else◌, length}
-use Rattle.sled_codec.specs.declared.result.DiskPtr.{DiskPtr}
-use Rattle.sled_codec.specs.declared.result.DiskPtr.TheVariants.{Inline}
 use Rattle.sled_store.specs.SegmentStates.{Machine, handed_out, next_slot}
 use Rattle.sled_core.specs.Begun.{SegmentView}
 use Rattle.sled_core.specs.Buffers.{record_size}
@@ -37,10 +35,6 @@ size_at size q page n = record_size ((placed_at size q page n).begins / size) pa
 -- where it lies in the log file
 abbrev pub lid_at : Position → ℕ
 lid_at q = q.slot + (q.place - q.begins)
-
--- its pointer, where its item is in its record
-abbrev pub pointer_at : Position → DiskPtr
-pointer_at q = Inline (lid_at q)
 
 -- where the next record may begin behind one of this length
 abbrev pub behind_record : ℕ → Position → ℕ → Position

@@ -12,7 +12,7 @@ use Rattle.sled_store.specs.Blobs.{IsMissing, NamesDamage}
 use Rattle.sled_store.specs.Device.{Event, Trace}
 use Rattle.sled_store.specs.Script.{Performs, after_all}
 use Rattle.sled_core.specs.declared.logger.Log.{Log}
-use Rattle.sled_core.specs.Causes.{HeldAnswers, IsFaultAt, IsHeld, OnDone}
+use Rattle.sled_core.specs.Causes.{IsFaultAt, IsHeld, OnDone}
 use Rattle.sled_core.specs.Fits.{IsUsedUp, NoneSealed, buffers_of, current_begin, device_of, fault_of, reserved_end, sealing_end, segment_size_of, start_of}
 use Rattle.sled_core.specs.Fits.{synced_end, waiting_of}
 use Rattle.sled_core.specs.Keeps.{start_sealed}
@@ -111,13 +111,6 @@ pub record RefusesPlace {T D C : Type 0} (result : Result T Error) (lsn : ℤ) (
   pub not_reserved : fault_of old ≡ None → (IsNoPlace (segment_size_of old) lsn (lid_of p) → ⊥) → pos (reserved_end old) ≤ℤ place_read lsn p
       → pos (synced_end old) ≤ℤ place_read lsn p → IsNotReserved result
   pub unchanged : IsNotReserved result → new ≡ old
-
--- A place is settled, where all is stable before the one place and what was reserved ends before the other: as each call that writes buffers, and not
--- reserved exactly where that is so.
-abbrev pub SettleAnswers : {T : Type 0} → Result T Error → ℤ → ℕ → ℕ → Option ℕ → Type 0 → Option IoError → ℕ → ℕ → Type 0
-SettleAnswers (Err (NotReserved at)) lsn stable end held used new before after =
-    (at ≡ lsn) × (pos stable ≤ℤ lsn) × (pos end ≤ℤ lsn) × (new ≡ None) × (after ≡ before)
-SettleAnswers result lsn stable end held used new before after = ((lsn <ℤ pos stable) ⊎ (lsn <ℤ pos end)) × HeldAnswers result held used None new before after
 
 -- A read of a pointer by a place, where all is stable before the one place and what was reserved ends before the other, and an open reservation of the
 -- place's buffer begins there: as each call that may touch the device, and damage or a missing blob besides. Held it is exactly where there is such a

@@ -10,7 +10,7 @@ use Rattle.sled_codec.specs.declared.result.Error.TheVariants.{Corruption, Io, O
 use Rattle.sled_codec.specs.declared.serialization.message.MessageHeader.{MessageHeader}
 use Rattle.sled_codec.specs.History.{Message, History, table}
 use Rattle.sled_codec.specs.Pointers.{lid_of}
-use Rattle.sled_store.specs.Blobs.{BlobAnswers, HoldsItem, IsDamagedBlob, ItemAnswers}
+use Rattle.sled_store.specs.Blobs.{HoldsItem, IsDamagedBlob}
 use Rattle.sled_store.specs.Device.{State}
 use Rattle.sled_core.specs.declared.logger.Log.{Log}
 use Rattle.sled_core.specs.declared.logger.read_message.LogRead.{LogRead}
@@ -53,20 +53,10 @@ abbrev pub IsDamageIn : (List ℕ → ℕ) → ℕ → State → ℕ → DiskPtr
 IsDamageIn sum size s number (ptr.Inline lid) at = IsUnreadableAs sum size s.log.bytes s.blobs.file lid number at
 IsDamageIn sum size s number (ptr.Blob lid place) at = IsBlobDamage sum (s.blobs.file place) place at
 
--- damage that is answered for a pointer is there
-abbrev pub IsDamageOf : (List ℕ → ℕ) → ℕ → State → ℕ → DiskPtr → Error → Type 0
-IsDamageOf sum size s number p (Corruption at) = IsDamageIn sum size s number p at
-IsDamageOf sum size s number p _ = Unit {0}
-
 -- so it is where a place is read, or that is none, for which nothing is named
 abbrev pub IsDamageAt : (List ℕ → ℕ) → ℕ → State → ℤ → DiskPtr → Error → Type 0
 IsDamageAt sum size s lsn p (Corruption at) = (IsNoPlace size lsn (lid_of p) × (at ≡ None)) ⊎ IsDamageIn sum size s (unsigned_abs lsn / size) p at
 IsDamageAt sum size s lsn p _ = Unit {0}
-
--- Why a pointer was not read: as a read of an item, or of a blob.
-abbrev pub PointerAnswers : {T : Type 0} → (List ℕ → ℕ) → (ℤ → Option (List ℕ)) → DiskPtr → Result T Error → ℕ → ℕ → Type 0
-PointerAnswers sum blobs (ptr.Inline lid) result before after = ItemAnswers sum blobs result before after
-PointerAnswers sum blobs (ptr.Blob lid place) result before after = BlobAnswers sum place result (blobs place) before after
 
 -- A message of this page and place, whose item is a blob that this pointer names, is in the table of all that is stable.
 pub record IsStableBlob {D C : Type 0} (log : Log D C) (H : History) (m : Message) (pid : ℕ) (lsn : ℤ) (p : DiskPtr) : Type 0 where

@@ -1,22 +1,27 @@
 -- What a reader finds at an offset of the log file.
-use Rattle.std.specs.Borrow.{Bor}
-use Rattle.std.specs.Prelude.{Some, take, replicate, ◌^◌, ◌<◌, Option, None, ◌≡◌, ◌≢◌, ◌⊎◌, ◌+◌, ◌%◌, ◌≤◌, ℕ, Bool, true, false, List, ◌++◌, length, drop, ℤ}
-use Rattle.std.specs.Prelude.{pos, ◌<ℤ◌}
-use Rattle.sled_codec.specs.declared.serialization.message.MessageHeader.{MessageHeader}
-use Rattle.sled_codec.specs.declared.serialization.message.MessageKind.{MessageKind}
-use Rattle.sled_codec.specs.declared.serialization.message.MessageKind.TheVariants as kind
+use Rattle.std.specs.Prelude.{◌≡◌, ◌≢◌, ◌⊎◌, ◌+◌, ◌%◌, ◌≤◌, ◌<◌, ◌≤ℤ◌, ◌<ℤ◌, ℕ, ℤ, pos, true, List, replicate, Option, Some, None, ◌^◌, Bool, false, ◌++◌}
+use Rattle.std.specs.Prelude.{length, drop}
 use Rattle.sled_codec.specs.declared.result.DiskPtr.{DiskPtr}
-use Rattle.sled_codec.specs.declared.result.DiskPtr.TheVariants as ptr
+use Rattle.sled_codec.specs.declared.result.DiskPtr.TheVariants.{Inline, Blob}
+use Rattle.sled_codec.specs.declared.serialization.message.MessageKind.{MessageKind}
 use Rattle.sled_codec.specs.Kinds.{kind_written}
 use Rattle.sled_codec.specs.History.{Message}
+use Rattle.sled_store.specs.Blobs.{IsDamagedFor, IsItemOf, NamesBlobAt}
+use Rattle.std.specs.Borrow.{Bor}
+use Rattle.sled_codec.specs.declared.serialization.message.MessageHeader.{MessageHeader}
+use Rattle.sled_codec.specs.declared.serialization.message.MessageKind.TheVariants as kind
+use Rattle.sled_codec.specs.declared.result.DiskPtr.TheVariants as ptr
 use Rattle.sled_codec.specs.Sums.{flipped}
 use Rattle.sled_codec.specs.Spelling.{SpellsMessageHeader, SpellsSigned}
 use Rattle.sled_codec.specs.Places.{part, MayBegin}
-use Rattle.sled_store.specs.Blobs.{IsItemOf, IsDamagedFor, NamesBlobAt}
 use Rattle.sled_core.specs.declared.logger.read_at.BasedBuf.{BasedBuf}
-use Rattle.sled_core.specs.declared.logger.unverified_record.UnverifiedRecord.{UnverifiedRecord}
 use Rattle.sled_core.specs.declared.logger.read_message.LogRead.{LogRead}
 use Rattle.sled_core.specs.declared.logger.read_message.LogRead.TheVariants.{Inline, Blob, Canceled, Cap, Corrupted, DanglingBlob, BatchManifest}
+
+-- a blob that a message names has a place no higher than the message
+abbrev pub BlobIsBelow : Message → DiskPtr → Type 0
+BlobIsBelow m (Inline lid) = Unit {0}
+BlobIsBelow m (Blob lid place) = place ≤ℤ pos m.place
 
 -- A record of this header and this body stands at an offset of the log, whole within its slot and the file, and it is of this segment.
 pub record StandsAt (sum : List ℕ → ℕ) (size : ℕ) (log : List ℕ) (lid number : ℕ) (h : MessageHeader) (body : List ℕ) (len : ℕ) : Type 0 where
@@ -32,17 +37,6 @@ pub record StandsAt (sum : List ℕ → ℕ) (size : ℕ) (log : List ℕ) (lid 
   -- its end is an offset
   pub small : lid + len < 2 ^ 64
 
--- A header of this segment and the body that it announces stand there, as a record does. The sum may be wrong.
-pub record IsLaid (size : ℕ) (log : List ℕ) (lid number : ℕ) (header : List ℕ) (h : MessageHeader) (body : List ℕ) : Type 0 where
-  pub spelled : SpellsMessageHeader header h
-  pub is : part log lid (length header + length body) ≡ header ++ body
-  pub counted : h.len ≡ length body
-  pub numbered : h.segment_number.0 ≡ number
-  pub valid : h.kind ≢ kind.Corrupted
-  pub in_file : lid + (length header + length body) ≤ length log
-  pub in_slot : lid % size + (length header + length body) ≤ size
-  pub small : lid + (length header + length body) < 2 ^ 64
-
 -- A header of this segment stands there that announces a record whose end is within its slot.
 pub record IsAnnounced (size : ℕ) (log : List ℕ) (lid number : ℕ) : Type 0 where
   pub header : List ℕ
@@ -52,14 +46,6 @@ pub record IsAnnounced (size : ℕ) (log : List ℕ) (lid number : ℕ) : Type 0
   pub numbered : announced.segment_number.0 ≡ number
   pub valid : announced.kind ≢ kind.Corrupted
   pub in_slot : lid % size + (length header + announced.len) ≤ size
-
--- what was found is laid there
-abbrev pub IsFound : ℕ → List ℕ → ℕ → ℕ → UnverifiedRecord → Type 0
-IsFound size log lid number f = IsLaid size log lid number (take f.header_len f.head) f.header f.body.items
-
--- no record of this segment stands there, by whichever checksum
-abbrev pub IsBare : ℕ → List ℕ → ℕ → ℕ → Type 0
-IsBare size log lid number = (sum : List ℕ → ℕ) (h : MessageHeader) (body : List ℕ) (len : ℕ) → StandsAt sum size log lid number h body len → ⊥
 
 -- the file of a buffer of bytes from an offset on, of which the bytes before it aren't known
 abbrev pub file_of : BasedBuf → List ℕ
@@ -86,16 +72,6 @@ is_blob kind.BlobNode = true
 is_blob kind.BlobLink = true
 is_blob _ = false
 
--- what a record of this header, this body and this length holds
-abbrev pub HoldsAs : MessageHeader → List ℕ → ℕ → LogRead → Type 0
-HoldsAs header body n (Inline h bytes len) = (h ≡ header) × (bytes.items ≡ body) × (len ≡ n) × (is_inline header.kind ≡ true)
-HoldsAs header body n (Blob h bytes place len) = ⊥
-HoldsAs header body n (Canceled len) = (len ≡ n) × (header.kind ≡ kind.Canceled)
-HoldsAs header body n (Cap segment) = (segment ≡ header.segment_number) × (header.kind ≡ kind.Cap)
-HoldsAs header body n Corrupted = ⊥
-HoldsAs header body n (DanglingBlob h place len) = (h ≡ header) × (len ≡ n) × (is_blob header.kind ≡ true) × SpellsSigned body place
-HoldsAs header body n (BatchManifest peg len) = (len ≡ n) × (header.kind ≡ kind.BatchManifest) × SpellsSigned body peg
-
 -- What is read of the log alone is what stands there. No blob is looked for, so a message whose item is one is answered as if that were missing.
 abbrev pub IsRecordRead : (List ℕ → ℕ) → ℕ → List ℕ → ℕ → ℕ → LogRead → Type 0
 IsRecordRead sum size log lid number (Inline h bytes len) = StandsAt sum size log lid number h bytes.items len × (is_inline h.kind ≡ true)
@@ -109,12 +85,6 @@ IsRecordRead sum size log lid number (DanglingBlob h place len) =
     (body : List ℕ) × StandsAt sum size log lid number h body len × (is_blob h.kind ≡ true) × SpellsSigned body place
 IsRecordRead sum size log lid number (BatchManifest peg len) =
     (h : MessageHeader) × (body : List ℕ) × StandsAt sum size log lid number h body len × (h.kind ≡ kind.BatchManifest) × SpellsSigned body peg
-
--- what is answered for a message of this header whose blob is at a place: its item, or that the blob is missing
-abbrev pub IsWithItem : (List ℕ → ℕ) → (ℤ → Option (List ℕ)) → MessageHeader → ℤ → ℕ → LogRead → Type 0
-IsWithItem sum blobs header place n (Blob h bytes at len) = (h ≡ header) × (at ≡ place) × (len ≡ n) × IsItemOf sum header.kind (blobs place) (Some bytes.items)
-IsWithItem sum blobs header place n (DanglingBlob h at len) = (h ≡ header) × (at ≡ place) × (len ≡ n) × (blobs place ≡ None)
-IsWithItem sum blobs header place n _ = ⊥
 
 -- What is read is what stands there, with the item of a message whose blob is there.
 abbrev pub IsReading : (List ℕ → ℕ) → ℕ → List ℕ → (ℤ → Option (List ℕ)) → ℕ → ℕ → LogRead → Type 0

@@ -1,5 +1,5 @@
 -- What an iterator borrows, and what that keeps.
-use Rattle.std.specs.Prelude.{◌≡◌, ℕ, Option, None, Some}
+use Rattle.std.specs.Prelude.{◌≡◌, Option, None, Some}
 use Rattle.std.specs.Borrow.{MutBor}
 use Rattle.sled_store.specs.declared.config.RunningConfig.{RunningConfig}
 use Rattle.sled_core.specs.declared.iterator.log_iter.Source.{Source}
@@ -10,9 +10,6 @@ use Rattle.sled_core.specs.declared.logger.Log.{Log}
 abbrev pub config_in : {D C : Type 0} → Source D C → RunningConfig D C
 config_in (source.File r) = r.now
 config_in (source.Log r) = r.now.config
-
-abbrev pub size_in : {D C : Type 0} → Source D C → ℕ
-size_in s = (config_in s).config.segment_size
 
 -- the same is borrowed: a borrow is known by its name
 abbrev pub BorrowSame : {D C : Type 0} → Source D C → Source D C → Type 0

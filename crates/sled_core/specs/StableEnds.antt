@@ -1,11 +1,8 @@
 -- Which places of a log are durable, and up to which place all are. An interval is a pair of places, both of which are in it; a batch is the pair of
 -- its lowest place and its peg, the place at which it is whole.
-use Rattle.std.specs.Prelude.{◌≡◌, ◌⊎◌, ◌≤ℤ◌, ◌<ℤ◌, ◌-ℤ◌, ℤ, pos, ⊤, List, [], ◌∷◌, Any, All, Contains, int_lt, FitsSigned, if◌then◌else◌, map, Option, None}
-use Rattle.std.specs.Prelude.{Some}
+use Rattle.std.specs.Prelude.{◌≡◌, ◌⊎◌, ◌≤ℤ◌, ◌<ℤ◌, ◌-ℤ◌, ℤ, pos, ⊤, List, [], ◌∷◌, Any, All, Contains, int_lt, FitsSigned, if◌then◌else◌, map}
 use Rattle.std.specs.declared.cmp.Reverse.{Reverse}
-use Rattle.std.specs.declared.cmp.Ordering.{Ordering}
 use Rattle.std.specs.Int.{w64}
-use Rattle.std.specs.Ordering.{ordering_then, int_cmp}
 use Rattle.sled_codec.specs.History.{Batch}
 
 -- the place is in the interval
@@ -86,15 +83,6 @@ end_before e (b ∷ bs) = if int_lt e b.0 then e else (b.0 -ℤ pos 1)
 abbrev pub HasPlaceBefore : ℤ × ℤ → Type 0
 HasPlaceBefore batch = FitsSigned w64 (batch.0 -ℤ pos 1)
 
--- the order in which the interval that begins lowest is the greatest
-abbrev pub lowest_first : Reverse (ℤ × ℤ) → Reverse (ℤ × ℤ) → Ordering
-lowest_first x y = ordering_then (int_cmp y.0.0 x.0.0) (int_cmp y.0.1 x.0.1)
-
 -- the intervals of a list that is in that order
 abbrev pub turned : List (Reverse (ℤ × ℤ)) → List (ℤ × ℤ)
 turned rs = map (λ r. r.0) rs
-
--- the lowest of the batches that are half synced at e, if one is
-abbrev pub IsLowestHalf : ℤ → List (ℤ × ℤ) → Option (ℤ × ℤ) → Type 0
-IsLowestHalf e bs None = All (λ b. IsHalfSynced e b → ⊥) bs
-IsLowestHalf e bs (Some lowest) = Contains bs lowest × IsHalfSynced e lowest × All (λ b. IsHalfSynced e b → lowest.0 ≤ℤ b.0) bs

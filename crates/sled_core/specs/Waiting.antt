@@ -7,7 +7,7 @@ use Rattle.sled_core.specs.declared.iobuf.Sealed.{Sealed}
 use Rattle.sled_core.specs.declared.iobuf.SegmentPosition.{SegmentPosition}
 use Rattle.sled_core.specs.Begun.{SegmentParts, SegmentView, begin_of}
 use Rattle.sled_core.specs.Buffers.{first_open_in, padding_at}
-use Rattle.sled_core.specs.Caps.{segment_rest}
+use Rattle.sled_core.specs.invariants.Caps.{segment_rest}
 use Rattle.sled_core.specs.Positions.{is_short}
 use Rattle.sled_core.specs.SealedBuffers.{bytes_between, seal_at, sealed_count, writing}
 
@@ -218,16 +218,6 @@ start_in v = record { place = v.parts.site.place + begin_of v; lid = v.parts.sit
 abbrev pub HasLength : BufferAt → Type 0
 HasLength b = b.place + length b.bytes ≡ b.end
 
--- of buffers one behind another, those that begin below a place, and the others
-abbrev pub begun_below : ℕ → List BufferAt → List BufferAt
-begun_below to [] = []
-begun_below to (b ∷ bs) = if nat_lt b.place to then b ∷ begun_below to bs else []
-
 abbrev pub not_below : ℕ → List BufferAt → List BufferAt
 not_below to [] = []
 not_below to (b ∷ bs) = if nat_lt b.place to then not_below to bs else b ∷ bs
-
--- the calls that write all of them, and settle each
-abbrev pub all_writes : List BufferAt → List Event
-all_writes [] = []
-all_writes (b ∷ bs) = writing b.lid b.bytes (all_writes bs)

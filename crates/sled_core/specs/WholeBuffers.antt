@@ -3,7 +3,7 @@
 use Rattle.std.specs.Prelude.{◌≡◌, ◌⊎◌, ◌+◌, ◌/◌, ◌%◌, ◌≤◌, ◌<ℤ◌, ◌∷◌, ◌++◌, ℕ, ℤ, pos, List, [], length}
 use Rattle.sled_codec.specs.declared.serialization.message.MessageKind.{MessageKind}
 use Rattle.sled_codec.specs.Record.{short_header, short_record}
-use Rattle.sled_core.specs.Caps.{segment_rest}
+use Rattle.sled_core.specs.invariants.Caps.{segment_rest}
 use Rattle.sled_core.specs.Waiting.{BufferAt}
 
 -- A record by what is in it, but for its segment's number.

@@ -5,10 +5,12 @@ ghost use Rattle.std.specs.VecDeque.{deque_len, deque_capacity};
 ghost use Rattle.sled_codec.specs.Written.{written};
 ghost use Rattle.sled_store.specs.Words.{writers_of};
 ghost use Rattle.sled_core.specs.declared.iobuf.Reserved.{Reserved};
-ghost use Rattle.sled_core.specs.Buffers.{IsChain, IsHeaded, canceling, completing, ended, ending, ending_as, first_open_in, marking, most_open, open_in, open_state, placeholder_head, reserved_for};
+ghost use Rattle.sled_core.specs.inside.Buffers.{IsChain, IsHeaded, canceling, completing, ended, ending, ending_as, marking, placeholder_head, reserved_for};
+ghost use Rattle.sled_core.specs.Buffers.{first_open_in, most_open, open_in, open_state};
 ghost use Rattle.sled_core.specs.Manifests.{is_manifest};
-ghost use Rattle.sled_core.specs.SealedBuffers.{AreSealed, FirstUnwritten, sealed_count, sealed_end};
-ghost use Rattle.sled_core.specs.SealedProps.{IsChain-prop, AreSealed-prop, FirstUnwritten-prop};
+ghost use Rattle.sled_core.specs.inside.SealedBuffers.{AreSealed, FirstUnwritten};
+ghost use Rattle.sled_core.specs.SealedBuffers.{sealed_count, sealed_end};
+ghost use Rattle.sled_core.specs.inside.SealedProps.{IsChain-prop, AreSealed-prop, FirstUnwritten-prop};
 
 pub(crate) mod closing;
 pub mod intervals;
@@ -144,7 +146,7 @@ pub(crate) struct IoBuf {
 }
 
 impl IoBuf {
-    ghost use Rattle.sled_core.specs.Turned.{EndsAs};
+    ghost use Rattle.sled_core.specs.inside.Turned.{EndsAs};
     ghost use Rattle.sled_core.specs.Buffers.{none_open};
 
     /// The bytes of a segment that has its header alone, with room for so many, and for a reservation.

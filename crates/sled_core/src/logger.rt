@@ -15,11 +15,13 @@ ghost use Rattle.sled_store.specs.Moments.{IsLater, LeavesOnly};
 ghost use Rattle.sled_store.specs.Accounts.{IsAccountant};
 ghost use Rattle.sled_store.specs.Begin.{IsStartable, IsInReach};
 ghost use Rattle.sled_core.specs.Recoverable.{LeavesRecoverable, NoHeaderOfZeros, RecoverableIfOwn};
-ghost use Rattle.sled_core.specs.AccountProps.{IsAccountant-prop};
-ghost use Rattle.sled_core.specs.Begun.{LieWithin, LieWithin-prop, IsFilledLine, IsFilledLine-prop, line_in};
-ghost use Rattle.sled_core.specs.OpenPlaces.{open_manifests};
-ghost use Rattle.sled_core.specs.ReadyBuffers.{AreReady, AreReady-prop};
-ghost use Rattle.sled_core.specs.Causes.{FaultAnswers, RecordAnswers};
+ghost use Rattle.sled_core.specs.inside.AccountProps.{IsAccountant-prop};
+ghost use Rattle.sled_core.specs.inside.Begun.{LieWithin, LieWithin-prop, IsFilledLine, IsFilledLine-prop};
+ghost use Rattle.sled_core.specs.Begun.{line_in};
+ghost use Rattle.sled_core.specs.inside.OpenPlaces.{open_manifests};
+ghost use Rattle.sled_core.specs.inside.ReadyBuffers.{AreReady, AreReady-prop};
+ghost use Rattle.sled_core.specs.Causes.{FaultAnswers};
+ghost use Rattle.sled_core.specs.inside.Causes.{RecordAnswers};
 
 mod abort;
 pub(crate) mod batches;
@@ -84,15 +86,18 @@ pub struct Log<D, C> {
 }
 
 impl<D: Device, C: Checksum> Log<D, C> {
-    ghost use Rattle.sled_core.specs.Fits.{Holds, open_places, Awaits, IsOpen, FitsInline, fault_of, synced_end, reserved_end, pins_of, config_of, device_of, HasRecordOf, line_of, segment_size_of, waiting_of, current_begin, FirstWaits, stable_end, KeepsBuffers, KeepsAll, KeepsTickets};
+    ghost use Rattle.sled_core.specs.invariants.Fits.{Holds};
+    ghost use Rattle.sled_core.specs.Fits.{open_places, Awaits, IsOpen, FitsInline, fault_of, synced_end, reserved_end, pins_of, config_of, device_of, HasRecordOf, line_of, segment_size_of, waiting_of, current_begin, FirstWaits, stable_end, KeepsBuffers, KeepsAll, KeepsTickets};
     ghost use Rattle.sled_core.specs.OpenPlaces.{TakesOutPlaceOf};
     ghost use Rattle.sled_core.specs.Fronts.{CameAround};
     ghost use Rattle.sled_core.specs.Keeps.{ConfigKept, GoesOn, KeepsOthers, Preserves, SamePosition};
     ghost use Rattle.sled_core.specs.Marked.{StartsMarked};
     ghost use Rattle.sled_core.specs.ReadBuffer.{IsUsedUpAt, ReadAnswers, RefusesPlace, SealsAround, Settles, WritesAround, held_at};
-    ghost use Rattle.sled_core.specs.ReadPointer.{IsDamageAt, IsDamageOf, IsReadOf, ReadsBlob, place_read};
+    ghost use Rattle.sled_core.specs.ReadPointer.{IsDamageAt, IsReadOf, ReadsBlob, place_read};
+    ghost use Rattle.sled_core.specs.inside.ReadPointer.{IsDamageOf};
     ghost use Rattle.sled_core.specs.Ready.{IsReady};
-    ghost use Rattle.sled_core.specs.Running.{Fits, IsStored, Ready, end_below};
+    ghost use Rattle.sled_core.specs.invariants.Running.{Fits, Ready};
+    ghost use Rattle.sled_core.specs.Running.{IsStored, end_below};
     ghost use Rattle.sled_core.specs.Starts.{BeginsBehind, HasMadeStart, StartCalls, StartsOrRefuses, config_left};
 
     /// Begins a log on what a recovery left: it goes on at the snapshot's stable place. First it fills the

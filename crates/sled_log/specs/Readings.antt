@@ -13,7 +13,7 @@ use Rattle.sled_core.specs.Fits.{KeepsTickets, device_of, fault_of, reserved_end
 use Rattle.sled_core.specs.Keeps.{Preserves, SamePosition}
 use Rattle.sled_core.specs.ReadPointer.{place_read}
 use Rattle.sled_core.specs.Recoverable.{NoHeaderOfZeros}
-use Rattle.sled_core.specs.Running.{Fits}
+use Rattle.sled_core.specs.invariants.Running.{Fits}
 use Rattle.sled_log.specs.declared.session.command.Reply.{Reply}
 use Rattle.sled_log.specs.declared.session.command.Reply.TheVariants as reply
 use Rattle.sled_log.specs.Made.{IsMade}

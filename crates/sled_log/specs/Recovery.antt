@@ -16,8 +16,10 @@ use Rattle.sled_core.specs.declared.iterator.Segment.{Segment}
 use Rattle.sled_core.specs.Reading.{IsMalformed}
 use Rattle.sled_core.specs.Scan.{IsDamagedIn, IsPath}
 pub use Rattle.sled_core.specs.Replayed.{IsReplayed, scanned_of, NamesKind, HasBadBlob, with_blob, resolved}
-pub use Rattle.sled_core.specs.Tail.{IsUnordered, is_ascending, IsOrdering, Scanned, IsScanned, place_of_mark, greatest_mark, tail_begins, GoesOn, IsTail}
-pub use Rattle.sled_core.specs.Tail.{tail_end, begun_below, AreScanned, opens, before_open, open_at, stops_in, is_filled, cut_of, IsTailPart, least_place}
+pub use Rattle.sled_core.specs.inside.Tail.{IsUnordered, is_ascending, IsOrdering, greatest_mark, tail_begins, GoesOn, IsTail}
+pub use Rattle.sled_core.specs.Tail.{Scanned, IsScanned, place_of_mark}
+pub use Rattle.sled_core.specs.inside.Tail.{tail_end, begun_below, AreScanned, before_open, stops_in, is_filled, cut_of, least_place}
+pub use Rattle.sled_core.specs.Tail.{opens, open_at, IsTailPart}
 
 -- The pass over the messages.
 

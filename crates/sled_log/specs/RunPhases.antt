@@ -15,7 +15,8 @@ use Rattle.sled_core.specs.Waiting.{spans}
 use Rattle.sled_core.specs.Keeps.{ConfigKept}
 use Rattle.sled_core.specs.Reading.{IsInline}
 use Rattle.sled_core.specs.Recoverable.{LeavesRecoverable, NoHeaderOfZeros}
-use Rattle.sled_core.specs.Running.{Fits, IsStored, Ready}
+use Rattle.sled_core.specs.invariants.Running.{Fits, Ready}
+use Rattle.sled_core.specs.Running.{IsStored}
 use Rattle.sled_core.specs.Tickets.{own_blob}
 use Rattle.sled_log.specs.declared.session.Session.{Session}
 use Rattle.sled_log.specs.declared.session.Phase.{Phase}

@@ -13,7 +13,8 @@ ghost use Rattle.sled_store.specs.Moments.{LeavesOnly};
 ghost use Rattle.sled_core.specs.Fits.{IsUsedUpBelow, NoneOpen, config_of, device_of, fault_of, flushing, reserved_end, segment_size_of};
 ghost use Rattle.sled_core.specs.Keeps.{ConfigKept};
 ghost use Rattle.sled_core.specs.Recoverable.{RecoverableIfOwn};
-ghost use Rattle.sled_core.specs.Running.{Ready, end_below};
+ghost use Rattle.sled_core.specs.invariants.Running.{Ready};
+ghost use Rattle.sled_core.specs.Running.{end_below};
 ghost use Rattle.sled_log.specs.Restarts.{CanRestart, Restarts};
 
 use crate::snapshot::{Snapshot, read_snapshot_or_default};

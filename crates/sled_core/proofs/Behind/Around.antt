@@ -13,10 +13,11 @@ use Rattle.sled_core.specs.declared.iobuf.Reserved.{Reserved}
 use Rattle.sled_core.specs.declared.iobuf.Sealed.{Sealed}
 use Rattle.sled_core.specs.declared.iobuf.SegmentPosition.{SegmentPosition}
 use Rattle.sled_core.specs.Begun.{SegmentParts}
-use Rattle.sled_core.specs.Fits.{HoldBehind, HoldsIn, HoldsNext, HoldsSegment, begun_segment, log_parts}
-use Rattle.sled_core.specs.LogFile.{StaysBelow}
-use Rattle.sled_core.specs.Reached.{BegunSegment, FollowApart}
-use Rattle.sled_core.specs.SealedBuffers.{AreSealed, sealed_end}
+use Rattle.sled_core.specs.inside.Fits.{HoldBehind, HoldsIn, HoldsNext, HoldsSegment, begun_segment, log_parts}
+use Rattle.sled_core.specs.inside.LogFile.{StaysBelow}
+use Rattle.sled_core.specs.inside.Reached.{BegunSegment, FollowApart}
+use Rattle.sled_core.specs.inside.SealedBuffers.{AreSealed}
+use Rattle.sled_core.specs.SealedBuffers.{sealed_end}
 use Rattle.sled_core.proofs.Behind.FitsMoved.{marks_same}
 use Rattle.sled_core.proofs.Flush.Completed.{all_below}
 use Rattle.sled_core.proofs.Reached.SegmentsBeside.{follow_still, follows}

@@ -15,9 +15,11 @@ use Rattle.sled_core.specs.declared.iobuf.Reserved.{Reserved}
 use Rattle.sled_core.specs.declared.iobuf.Sealed.{Sealed}
 use Rattle.sled_core.specs.declared.iobuf.SegmentPosition.{SegmentPosition}
 use Rattle.sled_core.specs.Begun.{SegmentParts}
-use Rattle.sled_core.specs.Fits.{CloseBelow, HasMark, HoldBehind, HoldsIn, HoldsNext, begun_segment, log_parts}
-use Rattle.sled_core.specs.LogFile.{IsLogFile, MessageStands, StandsElsewhere, StaysBelow, StaysFrom}
-use Rattle.sled_core.specs.Reached.{BegunSegment, FollowApart}
+use Rattle.sled_core.specs.Fits.{CloseBelow}
+use Rattle.sled_core.specs.inside.Fits.{HasMark, HoldBehind, HoldsIn, HoldsNext, begun_segment, log_parts}
+use Rattle.sled_core.specs.LogFile.{IsLogFile, MessageStands, StandsElsewhere, StaysFrom}
+use Rattle.sled_core.specs.inside.LogFile.{StaysBelow}
+use Rattle.sled_core.specs.inside.Reached.{BegunSegment, FollowApart}
 use Rattle.sled_core.specs.SealedBuffers.{AreZeros}
 use Rattle.sled_core.proofs.Holds.BatchLemmas.{none_batched}
 use Rattle.sled_core.proofs.Behind.Around.{behind_below, behind_place, together}

@@ -16,11 +16,13 @@ use Rattle.sled_core.specs.declared.iobuf.ReservationState.TheVariants.{Open, Ca
 use Rattle.sled_core.specs.declared.iobuf.Reserved.{Reserved}
 use Rattle.sled_core.specs.declared.iobuf.Sealed.{Sealed}
 use Rattle.sled_core.specs.declared.iobuf.SegmentPosition.{SegmentPosition}
-use Rattle.sled_core.specs.Buffers.{records_end, IsChain, HasText, Stands, batches_in, body_in, canceling, ended, ending, open_state, padding_at}
-use Rattle.sled_core.specs.Caps.{segment_rest}
+use Rattle.sled_core.specs.inside.Buffers.{records_end, IsChain, HasText, Stands, batches_in, canceling, ended, ending}
+use Rattle.sled_core.specs.Buffers.{body_in, open_state, padding_at}
+use Rattle.sled_core.specs.invariants.Caps.{segment_rest}
 use Rattle.sled_core.specs.Begun.{SegmentParts}
-use Rattle.sled_core.specs.Fits.{HoldsIn, HoldsNext, HoldsSegment, log_parts}
-use Rattle.sled_core.specs.SealedBuffers.{AreSealed, one_ended, seal_at, sealed_count, sealed_end}
+use Rattle.sled_core.specs.inside.Fits.{HoldsIn, HoldsNext, HoldsSegment, log_parts}
+use Rattle.sled_core.specs.inside.SealedBuffers.{AreSealed, one_ended}
+use Rattle.sled_core.specs.SealedBuffers.{seal_at, sealed_count, sealed_end}
 use Rattle.sled_core.proofs.Behind.Around.{behind_place, held_around, holds_with, next_with, now_with, stays_below}
 use Rattle.sled_core.proofs.Behind.Refilled.{filled_at, holds-refilled}
 use Rattle.sled_core.proofs.Flush.Completed.{grows}

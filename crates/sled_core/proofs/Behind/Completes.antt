@@ -13,11 +13,13 @@ use Rattle.sled_core.specs.declared.iobuf.ReservationState.TheVariants.{Open, Co
 use Rattle.sled_core.specs.declared.iobuf.Reserved.{Reserved}
 use Rattle.sled_core.specs.declared.iobuf.Sealed.{Sealed}
 use Rattle.sled_core.specs.declared.iobuf.SegmentPosition.{SegmentPosition}
-use Rattle.sled_core.specs.Buffers.{completing, ended, message_in}
+use Rattle.sled_core.specs.inside.Buffers.{completing, ended}
+use Rattle.sled_core.specs.Buffers.{message_in}
 use Rattle.sled_core.specs.Begun.{SegmentParts}
-use Rattle.sled_core.specs.Fits.{HoldBehind, HoldsIn, HoldsNext, HoldsSegment, log_parts}
-use Rattle.sled_core.specs.LogFile.{StaysBelow, StaysFrom}
-use Rattle.sled_core.specs.SealedBuffers.{one_ended}
+use Rattle.sled_core.specs.inside.Fits.{HoldBehind, HoldsIn, HoldsNext, HoldsSegment, log_parts}
+use Rattle.sled_core.specs.inside.LogFile.{StaysBelow}
+use Rattle.sled_core.specs.LogFile.{StaysFrom}
+use Rattle.sled_core.specs.inside.SealedBuffers.{one_ended}
 use Rattle.sled_core.proofs.Behind.Around.{HoldAround, apart_with, behind_below, behind_place, held_around, now_with, stays_below, together}
 use Rattle.sled_core.proofs.Behind.Calls.{ended_are, ended_head, ended_long, held_here}
 use Rattle.sled_core.proofs.Behind.FitsMoved.{marks_same}

@@ -17,15 +17,19 @@ use Rattle.sled_store.proofs.Segments.FitLemmas.{all_front}
 use Rattle.sled_core.specs.declared.iobuf.Reserved.{Reserved}
 use Rattle.sled_core.specs.declared.iobuf.Sealed.{Sealed}
 use Rattle.sled_core.specs.declared.iobuf.SegmentPosition.{SegmentPosition}
-use Rattle.sled_core.specs.Buffers.{IsChain, NoPadding, Stands, batches_in, completed_in, records_end, records_of}
+use Rattle.sled_core.specs.inside.Buffers.{IsChain, NoPadding, Stands, batches_in, completed_in, records_end, records_of}
 use Rattle.sled_core.specs.Begun.{SegmentParts}
-use Rattle.sled_core.specs.Fits.{HasBatches, log_parts, HasMark, HoldsIn, HoldsSegment, EndBelow}
-use Rattle.sled_core.specs.Full.{StandsFull}
-use Rattle.sled_core.specs.LogFile.{IsLogFile, StaysFrom, padded}
+use Rattle.sled_core.specs.inside.Fits.{HasBatches, log_parts, HasMark, HoldsIn, HoldsSegment}
+use Rattle.sled_core.specs.Fits.{EndBelow}
+use Rattle.sled_core.specs.inside.Full.{StandsFull}
+use Rattle.sled_core.specs.LogFile.{IsLogFile, StaysFrom}
+use Rattle.sled_core.specs.inside.LogFile.{padded}
 use Rattle.sled_core.specs.OpenBatches.{stable_below}
-use Rattle.sled_core.specs.Reached.{BegunSegment, StandsAmong}
-use Rattle.sled_core.specs.Recoverable.{NoBatchBegins, NoBatchEnds, NoHeaderOfZeros}
-use Rattle.sled_core.specs.SealedBuffers.{AreSealed, Laid, now_written, run_end, run_count, behind_run, bytes_between}
+use Rattle.sled_core.specs.inside.Reached.{BegunSegment, StandsAmong}
+use Rattle.sled_core.specs.inside.Recoverable.{NoBatchBegins, NoBatchEnds}
+use Rattle.sled_core.specs.Recoverable.{NoHeaderOfZeros}
+use Rattle.sled_core.specs.inside.SealedBuffers.{AreSealed, Laid, now_written, run_end, run_count, behind_run}
+use Rattle.sled_core.specs.SealedBuffers.{bytes_between}
 use Rattle.sled_core.proofs.Behind.FullHead.{first_full, plain_run, torn_head_any}
 use Rattle.sled_core.proofs.Reserve.Entries.{some_long}
 use Rattle.sled_core.proofs.Reserve.Ranges.{chain_grows, completed-append, completed_between}

@@ -9,12 +9,13 @@ use Rattle.sled_core.specs.declared.iobuf.Reserved.{Reserved}
 use Rattle.sled_core.specs.declared.iobuf.Sealed.{Sealed}
 use Rattle.sled_core.specs.declared.iobuf.SegmentPosition.{SegmentPosition}
 use Rattle.sled_core.specs.Begun.{SegmentParts}
-use Rattle.sled_core.specs.Fits.{CloseBelow, HasMark, HoldsIn, begun_segment, log_parts}
-use Rattle.sled_core.specs.LogFile.{padded}
+use Rattle.sled_core.specs.Fits.{CloseBelow}
+use Rattle.sled_core.specs.inside.Fits.{HasMark, HoldsIn, begun_segment, log_parts}
+use Rattle.sled_core.specs.inside.LogFile.{padded}
 use Rattle.sled_core.specs.Logged.{logged}
-use Rattle.sled_core.specs.Reached.{BegunSegment, StandsAmong}
+use Rattle.sled_core.specs.inside.Reached.{BegunSegment, StandsAmong}
 use Rattle.sled_core.specs.Recoverable.{NoHeaderOfZeros}
-use Rattle.sled_core.specs.Running.{FitsIn}
+use Rattle.sled_core.specs.inside.Running.{FitsIn}
 use Rattle.sled_core.specs.SealedBuffers.{AreZeros}
 use Rattle.sled_core.proofs.Behind.Around.{behind_place}
 use Rattle.sled_core.proofs.Behind.Begins.{begun_with, behind-begins, far, next_above, next_apart}

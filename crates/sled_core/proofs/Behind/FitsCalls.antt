@@ -11,13 +11,16 @@ use Rattle.sled_core.specs.declared.iobuf.ReservationState.TheVariants.{Open, Ca
 use Rattle.sled_core.specs.declared.iobuf.Reserved.{Reserved}
 use Rattle.sled_core.specs.declared.iobuf.Sealed.{Sealed}
 use Rattle.sled_core.specs.declared.iobuf.SegmentPosition.{SegmentPosition}
-use Rattle.sled_core.specs.Buffers.{HasText, canceling, completing, ended, message_in, padding_at}
-use Rattle.sled_core.specs.Caps.{segment_rest}
+use Rattle.sled_core.specs.inside.Buffers.{HasText, canceling, completing, ended}
+use Rattle.sled_core.specs.Buffers.{message_in, padding_at}
+use Rattle.sled_core.specs.invariants.Caps.{segment_rest}
 use Rattle.sled_core.specs.Begun.{SegmentParts}
-use Rattle.sled_core.specs.Fits.{HoldsIn, HoldsNext, log_parts}
-use Rattle.sled_core.specs.Running.{FitsIn, KeepsItem}
-use Rattle.sled_core.specs.SealedBuffers.{FirstUnwritten, one_ended, seal_at, sealed_count, sealed_end}
-use Rattle.sled_core.specs.Recoverable.{BlobIsBelow}
+use Rattle.sled_core.specs.inside.Fits.{HoldsIn, HoldsNext, log_parts}
+use Rattle.sled_core.specs.inside.Running.{FitsIn}
+use Rattle.sled_core.specs.Running.{KeepsItem}
+use Rattle.sled_core.specs.inside.SealedBuffers.{FirstUnwritten, one_ended}
+use Rattle.sled_core.specs.SealedBuffers.{seal_at, sealed_count, sealed_end}
+use Rattle.sled_core.specs.Reading.{BlobIsBelow}
 use Rattle.sled_core.proofs.Behind.Around.{behind_place, held_around, now_with, stays_below}
 use Rattle.sled_core.proofs.Behind.Calls.{behind-aborted, behind-append, behind-pad, behind-sealed, held_here}
 use Rattle.sled_core.proofs.Behind.Completes.{adds_here, behind-complete, completed_history}

@@ -13,11 +13,11 @@ use Rattle.sled_core.specs.declared.iobuf.Reserved.{Reserved}
 use Rattle.sled_core.specs.declared.iobuf.Sealed.{Sealed}
 use Rattle.sled_core.specs.declared.iobuf.SegmentPosition.{SegmentPosition}
 use Rattle.sled_core.specs.Begun.{SegmentParts}
-use Rattle.sled_core.specs.Fits.{HoldsIn, begun_segment, log_parts}
-use Rattle.sled_core.specs.LogFile.{padded}
+use Rattle.sled_core.specs.inside.Fits.{HoldsIn, begun_segment, log_parts}
+use Rattle.sled_core.specs.inside.LogFile.{padded}
 use Rattle.sled_core.specs.Logged.{logged}
-use Rattle.sled_core.specs.Reached.{BegunSegment, StandsAmong}
-use Rattle.sled_core.specs.Running.{FitsIn, NamesFit}
+use Rattle.sled_core.specs.inside.Reached.{BegunSegment, StandsAmong}
+use Rattle.sled_core.specs.inside.Running.{FitsIn, NamesFit}
 use Rattle.sled_store.proofs.Names.OneBegin.{one_begin}
 
 -- Segments of which nothing is written have such marks in their headers, if any.

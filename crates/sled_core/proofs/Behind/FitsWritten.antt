@@ -16,13 +16,14 @@ use Rattle.sled_core.specs.declared.iobuf.Reserved.{Reserved}
 use Rattle.sled_core.specs.declared.iobuf.Sealed.{Sealed}
 use Rattle.sled_core.specs.declared.iobuf.SegmentPosition.{SegmentPosition}
 use Rattle.sled_core.specs.Begun.{SegmentParts, records_to}
-use Rattle.sled_core.specs.Buffers.{records_end}
-use Rattle.sled_core.specs.Fits.{HoldsIn, begun_segment, log_parts}
-use Rattle.sled_core.specs.LogFile.{padded}
-use Rattle.sled_core.specs.Reached.{BegunSegment, StandsAmong}
+use Rattle.sled_core.specs.inside.Buffers.{records_end}
+use Rattle.sled_core.specs.inside.Fits.{HoldsIn, begun_segment, log_parts}
+use Rattle.sled_core.specs.inside.LogFile.{padded}
+use Rattle.sled_core.specs.inside.Reached.{BegunSegment, StandsAmong}
 use Rattle.sled_core.specs.Recoverable.{LeavesRecoverable, NoHeaderOfZeros}
-use Rattle.sled_core.specs.Running.{FitsIn}
-use Rattle.sled_core.specs.SealedBuffers.{AreSealed, FirstUnwritten, behind_run, bytes_between, is_ready, now_written, run_count, run_end, sealed_end, written_at}
+use Rattle.sled_core.specs.inside.Running.{FitsIn}
+use Rattle.sled_core.specs.inside.SealedBuffers.{AreSealed, FirstUnwritten, behind_run, is_ready, now_written, run_count, run_end, written_at}
+use Rattle.sled_core.specs.SealedBuffers.{bytes_between, sealed_end}
 use Rattle.sled_core.proofs.Behind.Around.{begun_is, now_with}
 use Rattle.sled_core.proofs.Behind.Calls.{held_here}
 use Rattle.sled_core.proofs.Behind.OneWrite.{reaches, some_asked, torn_one, whole_one}

@@ -14,12 +14,13 @@ use Rattle.sled_core.specs.declared.iterator.scan.ScannedRecord.{ScannedRecord}
 use Rattle.sled_core.specs.declared.iterator.scan.ScanEnd.{ScanEnd}
 use Rattle.sled_core.specs.declared.iterator.scan.ScanEnd.TheVariants.{Full, Broken}
 use Rattle.sled_core.specs.Begun.{SegmentParts, records_to}
-use Rattle.sled_core.specs.Fits.{HoldsIn, begun_segment, log_parts}
-use Rattle.sled_core.specs.Full.{FitsFull, StandsFull}
-use Rattle.sled_core.specs.LogFile.{padded}
-use Rattle.sled_core.specs.Reached.{BeginsNext, IsReadTo, IsSoFar}
-use Rattle.sled_core.specs.Recoverable.{NoBatchBegins, NoBatchEnds, NoHeaderOfZeros}
-use Rattle.sled_core.specs.Running.{BlobsFit, KeepsEntries, KeepsItems}
+use Rattle.sled_core.specs.inside.Fits.{HoldsIn, begun_segment, log_parts}
+use Rattle.sled_core.specs.inside.Full.{FitsFull, StandsFull}
+use Rattle.sled_core.specs.inside.LogFile.{padded}
+use Rattle.sled_core.specs.inside.Reached.{BeginsNext, IsReadTo, IsSoFar}
+use Rattle.sled_core.specs.inside.Recoverable.{NoBatchBegins, NoBatchEnds}
+use Rattle.sled_core.specs.Recoverable.{NoHeaderOfZeros}
+use Rattle.sled_core.specs.inside.Running.{BlobsFit, KeepsEntries, KeepsItems}
 use Rattle.sled_core.specs.Scan.{IsScan}
 use Rattle.sled_core.specs.Tail.{Scanned}
 use Rattle.sled_core.proofs.Behind.FullHolds.{emptied, none_reserved, none_sealed}

@@ -13,16 +13,19 @@ use Rattle.sled_core.specs.OpenBatches.{stable_below}
 use Rattle.sled_core.specs.declared.iobuf.Reserved.{Reserved}
 use Rattle.sled_core.specs.declared.iobuf.Sealed.{Sealed}
 use Rattle.sled_core.specs.declared.iobuf.SegmentPosition.{SegmentPosition}
-use Rattle.sled_core.specs.Buffers.{IsChain, NoPadding, Stands, batches_in, completed_in, records_end, records_of}
-use Rattle.sled_core.specs.Fits.{HasMark}
-use Rattle.sled_core.specs.LogFile.{HasHeader, padded}
-use Rattle.sled_core.specs.Reached.{BegunSegment, StandsAmong}
-use Rattle.sled_core.specs.Recoverable.{NoBatchBegins, NoBatchEnds, NoHeaderOfZeros, NoMessageBegins}
-use Rattle.sled_core.specs.SealedBuffers.{AreSealed, Laid, run_end, run_count, bytes_between}
-use Rattle.sled_core.specs.Tail.{least_place}
+use Rattle.sled_core.specs.inside.Buffers.{IsChain, NoPadding, Stands, batches_in, completed_in, records_end, records_of}
+use Rattle.sled_core.specs.inside.Fits.{HasMark}
+use Rattle.sled_core.specs.LogFile.{HasHeader}
+use Rattle.sled_core.specs.inside.LogFile.{padded}
+use Rattle.sled_core.specs.inside.Reached.{BegunSegment, StandsAmong}
+use Rattle.sled_core.specs.inside.Recoverable.{NoBatchBegins, NoBatchEnds, NoMessageBegins}
+use Rattle.sled_core.specs.Recoverable.{NoHeaderOfZeros}
+use Rattle.sled_core.specs.inside.SealedBuffers.{AreSealed, Laid, run_end, run_count}
+use Rattle.sled_core.specs.SealedBuffers.{bytes_between}
+use Rattle.sled_core.specs.inside.Tail.{least_place}
 use Rattle.sled_core.proofs.Sealed.Padded.{padded_long}
 use Rattle.sled_core.proofs.Reached.BufferPath.{HasOnly}
-use Rattle.sled_core.specs.Full.{StandsFull}
+use Rattle.sled_core.specs.inside.Full.{StandsFull}
 use Rattle.sled_core.proofs.Reached.StandsTo.{StandsTo}
 use Rattle.sled_core.proofs.Reserve.Entries.{padding_in, reserved_in}
 use Rattle.sled_core.proofs.Reserve.Ranges.{chain_grows, chain_within}

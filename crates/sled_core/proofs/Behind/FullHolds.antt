@@ -8,9 +8,9 @@ use Rattle.sled_core.specs.declared.iobuf.Reserved.{Reserved}
 use Rattle.sled_core.specs.declared.iobuf.Sealed.{Sealed}
 use Rattle.sled_core.specs.declared.iobuf.SegmentPosition.{SegmentPosition}
 use Rattle.sled_core.specs.Begun.{SegmentParts}
-use Rattle.sled_core.specs.Fits.{HoldsIn, HoldsSegment, log_parts}
+use Rattle.sled_core.specs.inside.Fits.{HoldsIn, HoldsSegment, log_parts}
 use Rattle.sled_core.specs.LogFile.{StaysFrom}
-use Rattle.sled_core.specs.SealedBuffers.{behind_run, run_end}
+use Rattle.sled_core.specs.inside.SealedBuffers.{behind_run, run_end}
 use Rattle.sled_core.proofs.Behind.FitsMoved.{MarksBelow}
 use Rattle.sled_core.proofs.Reserve.Entries.{some_long}
 use Rattle.sled_core.proofs.Sealed.LaidLemmas.{EndsRise, ends_below}

@@ -9,14 +9,15 @@ use Rattle.sled_codec.specs.Snapshots.{SnapshotModel, stable_place}
 use Rattle.sled_store.specs.Device.{State, at_rest}
 use Rattle.sled_store.proofs.Histories.Ascending.{Ascends}
 use Rattle.sled_core.specs.Begun.{SegmentParts}
-use Rattle.sled_core.specs.Fits.{HoldsIn, HoldsNext, begun_segment, log_parts}
-use Rattle.sled_core.specs.Full.{FitsFull, StandsFull}
-use Rattle.sled_core.specs.LogFile.{StaysBelow, padded}
+use Rattle.sled_core.specs.inside.Fits.{HoldsIn, HoldsNext, begun_segment, log_parts}
+use Rattle.sled_core.specs.inside.Full.{FitsFull, StandsFull}
+use Rattle.sled_core.specs.inside.LogFile.{StaysBelow, padded}
 use Rattle.sled_core.specs.Logged.{logged}
 use Rattle.sled_core.specs.OpenBatches.{stable_below}
-use Rattle.sled_core.specs.Reached.{FollowApart, StandsAmong}
-use Rattle.sled_core.specs.Recoverable.{NoBatchBegins, NoBatchEnds, NoHeaderOfZeros}
-use Rattle.sled_core.specs.Running.{BlobsFit, FitsIn, KeepsEntries, KeepsItems}
+use Rattle.sled_core.specs.inside.Reached.{FollowApart, StandsAmong}
+use Rattle.sled_core.specs.inside.Recoverable.{NoBatchBegins, NoBatchEnds}
+use Rattle.sled_core.specs.Recoverable.{NoHeaderOfZeros}
+use Rattle.sled_core.specs.inside.Running.{BlobsFit, FitsIn, KeepsEntries, KeepsItems}
 use Rattle.sled_core.proofs.Behind.Promoted.{promoted}
 use Rattle.sled_core.proofs.Sealed.Padded.{padded_none}
 use Rattle.sled_core.proofs.Flush.Settled.{blobs_higher, entries_higher, rests, settled_recoverable}

@@ -9,14 +9,15 @@ use Rattle.sled_store.specs.Device.{State, Wrote, Synced, step}
 use Rattle.sled_core.specs.declared.iobuf.Reserved.{Reserved}
 use Rattle.sled_core.specs.declared.iobuf.Sealed.{Sealed}
 use Rattle.sled_core.specs.declared.iobuf.SegmentPosition.{SegmentPosition}
-use Rattle.sled_core.specs.Buffers.{NoPadding, Stands}
+use Rattle.sled_core.specs.inside.Buffers.{NoPadding, Stands}
 use Rattle.sled_core.specs.Begun.{SegmentParts}
-use Rattle.sled_core.specs.Fits.{HoldsSegment, begun_segment, log_parts}
-use Rattle.sled_core.specs.Full.{FitsFull, StandsFull}
+use Rattle.sled_core.specs.inside.Fits.{HoldsSegment, begun_segment, log_parts}
+use Rattle.sled_core.specs.inside.Full.{FitsFull, StandsFull}
 use Rattle.sled_core.specs.LogFile.{StaysFrom}
 use Rattle.sled_core.specs.Logged.{logged}
-use Rattle.sled_core.specs.Running.{FitsIn}
-use Rattle.sled_core.specs.SealedBuffers.{AreSealed, FirstUnwritten, behind_run, bytes_between, is_ready, now_written, run_count, run_end, sealed_end, written_at}
+use Rattle.sled_core.specs.inside.Running.{FitsIn}
+use Rattle.sled_core.specs.inside.SealedBuffers.{AreSealed, FirstUnwritten, behind_run, is_ready, now_written, run_count, run_end, written_at}
+use Rattle.sled_core.specs.SealedBuffers.{bytes_between, sealed_end}
 use Rattle.sled_core.proofs.Behind.FullHead.{plain_run}
 use Rattle.sled_core.proofs.Behind.FullHolds.{emptied, none_reserved, none_sealed, rise_behind}
 use Rattle.sled_core.proofs.Flush.FlushLemmas.{holds_over}

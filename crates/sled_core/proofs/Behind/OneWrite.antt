@@ -16,14 +16,16 @@ use Rattle.sled_core.specs.OpenBatches.{stable_below}
 use Rattle.sled_core.specs.declared.iobuf.Reserved.{Reserved}
 use Rattle.sled_core.specs.declared.iobuf.Sealed.{Sealed}
 use Rattle.sled_core.specs.declared.iobuf.SegmentPosition.{SegmentPosition}
-use Rattle.sled_core.specs.Buffers.{records_end, IsChain, batches_in, completed_in}
+use Rattle.sled_core.specs.inside.Buffers.{records_end, IsChain, batches_in, completed_in}
 use Rattle.sled_core.specs.Begun.{SegmentParts, records_to}
-use Rattle.sled_core.specs.Fits.{HasMark, HoldsIn, HoldsNext, begun_segment, log_parts}
-use Rattle.sled_core.specs.LogFile.{padded}
-use Rattle.sled_core.specs.Reached.{BegunSegment, StandsAmong}
-use Rattle.sled_core.specs.Recoverable.{NoBatchEnds, NoHeaderOfZeros}
-use Rattle.sled_core.specs.SealedBuffers.{AreSealed, FirstUnwritten, Laid, bytes_between, now_written, run_count, run_end, sealed_end}
-use Rattle.sled_core.specs.Tail.{least_place}
+use Rattle.sled_core.specs.inside.Fits.{HasMark, HoldsIn, HoldsNext, begun_segment, log_parts}
+use Rattle.sled_core.specs.inside.LogFile.{padded}
+use Rattle.sled_core.specs.inside.Reached.{BegunSegment, StandsAmong}
+use Rattle.sled_core.specs.inside.Recoverable.{NoBatchEnds}
+use Rattle.sled_core.specs.Recoverable.{NoHeaderOfZeros}
+use Rattle.sled_core.specs.inside.SealedBuffers.{AreSealed, FirstUnwritten, Laid, now_written, run_count, run_end}
+use Rattle.sled_core.specs.SealedBuffers.{bytes_between, sealed_end}
+use Rattle.sled_core.specs.inside.Tail.{least_place}
 use Rattle.sled_core.proofs.Behind.Around.{HoldAround, behind_place, held_around, stays_below}
 use Rattle.sled_core.proofs.Behind.Calls.{held_here}
 use Rattle.sled_core.proofs.Behind.FitsCompleted.{front_low, of_segment}

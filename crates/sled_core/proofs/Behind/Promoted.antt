@@ -13,11 +13,13 @@ use Rattle.sled_store.proofs.Segments.Elements.{in_first, in_rest}
 use Rattle.sled_core.specs.declared.iobuf.Reserved.{Reserved}
 use Rattle.sled_core.specs.declared.iobuf.Sealed.{Sealed}
 use Rattle.sled_core.specs.declared.iobuf.SegmentPosition.{SegmentPosition}
-use Rattle.sled_core.specs.Buffers.{IsChain, completed_in}
+use Rattle.sled_core.specs.inside.Buffers.{IsChain, completed_in}
 use Rattle.sled_core.specs.Begun.{SegmentParts}
-use Rattle.sled_core.specs.Fits.{EndBelow, HoldBehind, HoldsIn, HoldsNext, HoldsSegment, IsBegunFrom, begun_segment, log_parts}
-use Rattle.sled_core.specs.LogFile.{IsLogFile, StandsElsewhere, StaysBelow, StaysFrom}
-use Rattle.sled_core.specs.Reached.{BegunSegment}
+use Rattle.sled_core.specs.Fits.{EndBelow, IsBegunFrom}
+use Rattle.sled_core.specs.inside.Fits.{HoldBehind, HoldsIn, HoldsNext, HoldsSegment, begun_segment, log_parts}
+use Rattle.sled_core.specs.LogFile.{IsLogFile, StandsElsewhere, StaysFrom}
+use Rattle.sled_core.specs.inside.LogFile.{StaysBelow}
+use Rattle.sled_core.specs.inside.Reached.{BegunSegment}
 use Rattle.sled_core.proofs.Behind.Stays.{behind_stays, elsewhere_of, segment-earlier, segment-stays, stays_among}
 use Rattle.sled_core.proofs.Flush.Completed.{all_apart, all_below}
 use Rattle.sled_core.proofs.Flush.FlushLemmas.{on_file}

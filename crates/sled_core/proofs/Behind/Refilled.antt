@@ -11,12 +11,12 @@ use Rattle.sled_core.specs.declared.iobuf.Reserved.{Reserved}
 use Rattle.sled_core.specs.declared.iobuf.Sealed.{Sealed}
 use Rattle.sled_core.specs.declared.iobuf.SegmentPosition.{SegmentPosition}
 use Rattle.sled_core.specs.Begun.{SegmentParts, records_to}
-use Rattle.sled_core.specs.Fits.{HoldsIn, begun_segment, log_parts}
-use Rattle.sled_core.specs.LogFile.{padded}
+use Rattle.sled_core.specs.inside.Fits.{HoldsIn, begun_segment, log_parts}
+use Rattle.sled_core.specs.inside.LogFile.{padded}
 use Rattle.sled_core.specs.Logged.{logged}
-use Rattle.sled_core.specs.Reached.{BegunSegment, FollowApart, StandsAmong, StandsIn}
-use Rattle.sled_core.specs.Running.{FitsIn}
-use Rattle.sled_core.specs.Tail.{least_place}
+use Rattle.sled_core.specs.inside.Reached.{BegunSegment, FollowApart, StandsAmong, StandsIn}
+use Rattle.sled_core.specs.inside.Running.{FitsIn}
+use Rattle.sled_core.specs.inside.Tail.{least_place}
 use Rattle.sled_core.proofs.Behind.Around.{HoldAround, apart_around, begun_is, held_around, stays_below, together}
 use Rattle.sled_core.proofs.Behind.FitsMoved.{marks_same}
 use Rattle.sled_core.proofs.Reached.SegmentsBeside.{as_far, begins_still, follow_still, was_other}

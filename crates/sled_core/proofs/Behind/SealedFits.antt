@@ -13,15 +13,17 @@ use Rattle.sled_core.specs.OpenBatches.{stable_below}
 use Rattle.sled_core.specs.declared.iobuf.Reserved.{Reserved}
 use Rattle.sled_core.specs.declared.iobuf.Sealed.{Sealed}
 use Rattle.sled_core.specs.declared.iobuf.SegmentPosition.{SegmentPosition}
-use Rattle.sled_core.specs.Buffers.{NoPadding}
+use Rattle.sled_core.specs.inside.Buffers.{NoPadding}
 use Rattle.sled_core.specs.Begun.{SegmentParts}
-use Rattle.sled_core.specs.Fits.{log_parts, begun_segment, HoldsIn, HoldsSegment}
-use Rattle.sled_core.specs.Full.{StandsFull}
-use Rattle.sled_core.specs.LogFile.{IsLogFile, padded}
-use Rattle.sled_core.specs.Reached.{BegunSegment, StandsAmong}
+use Rattle.sled_core.specs.inside.Fits.{log_parts, begun_segment, HoldsIn, HoldsSegment}
+use Rattle.sled_core.specs.inside.Full.{StandsFull}
+use Rattle.sled_core.specs.LogFile.{IsLogFile}
+use Rattle.sled_core.specs.inside.LogFile.{padded}
+use Rattle.sled_core.specs.inside.Reached.{BegunSegment, StandsAmong}
 use Rattle.sled_core.specs.Recoverable.{LeavesRecoverable, NoHeaderOfZeros}
-use Rattle.sled_core.specs.Running.{FitsIn}
-use Rattle.sled_core.specs.SealedBuffers.{AreSealed, FirstUnwritten, Laid, sealed_end, now_written, written_at, run_end, run_count, behind_run, bytes_between, is_ready}
+use Rattle.sled_core.specs.inside.Running.{FitsIn}
+use Rattle.sled_core.specs.inside.SealedBuffers.{AreSealed, FirstUnwritten, Laid, now_written, written_at, run_end, run_count, behind_run, is_ready}
+use Rattle.sled_core.specs.SealedBuffers.{sealed_end, bytes_between}
 use Rattle.sled_core.proofs.Reserve.Ranges.{there_split}
 use Rattle.sled_core.proofs.Behind.FirstWritten.{alone_first, ends_first, ends_full, full_first, last_low, last_up, last_whole, none_or_begun, plain_below, reaches_first, rest_batches, rise_in, segment_first, torn_first}
 use Rattle.sled_core.proofs.Flush.FlushLemmas.{holds_over, on_file}

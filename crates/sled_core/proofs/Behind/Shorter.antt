@@ -8,11 +8,12 @@ use Rattle.sled_codec.specs.Snapshots.{SnapshotModel}
 use Rattle.sled_core.specs.OpenBatches.{stable_below}
 use Rattle.sled_core.specs.declared.iobuf.SegmentPosition.{SegmentPosition}
 use Rattle.sled_core.specs.declared.iterator.Segment.{Segment}
-use Rattle.sled_core.specs.LogFile.{padded}
-use Rattle.sled_core.specs.Reached.{BegunSegment, IsLed, StandsAmong, StandsIn}
+use Rattle.sled_core.specs.inside.LogFile.{padded}
+use Rattle.sled_core.specs.inside.Reached.{BegunSegment, IsLed, StandsAmong, StandsIn}
 use Rattle.sled_core.specs.Recoverable.{NoHeaderOfZeros}
-use Rattle.sled_core.specs.Scan.{IsFoundSegment}
-use Rattle.sled_core.specs.Tail.{IsScanned, Scanned, least_place}
+use Rattle.sled_core.specs.inside.Scan.{IsFoundSegment}
+use Rattle.sled_core.specs.Tail.{IsScanned, Scanned}
+use Rattle.sled_core.specs.inside.Tail.{least_place}
 use Rattle.sled_core.proofs.Sealed.Padded.{padded_get}
 use Rattle.sled_core.proofs.Read.FoundLemmas.{found_there}
 use Rattle.sled_core.proofs.Reached.Higher.{known_in}

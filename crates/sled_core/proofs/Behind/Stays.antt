@@ -14,9 +14,10 @@ use Rattle.sled_core.specs.declared.iobuf.Reserved.{Reserved}
 use Rattle.sled_core.specs.declared.iobuf.Sealed.{Sealed}
 use Rattle.sled_core.specs.declared.iobuf.SegmentPosition.{SegmentPosition}
 use Rattle.sled_core.specs.Begun.{SegmentParts}
-use Rattle.sled_core.specs.Fits.{EndBelow, HoldBehind, HoldsSegment, begun_segment, log_parts}
+use Rattle.sled_core.specs.Fits.{EndBelow}
+use Rattle.sled_core.specs.inside.Fits.{HoldBehind, HoldsSegment, begun_segment, log_parts}
 use Rattle.sled_core.specs.LogFile.{IsLogFile, StandsElsewhere, StandsHere, StaysFrom}
-use Rattle.sled_core.specs.Reached.{BegunSegment}
+use Rattle.sled_core.specs.inside.Reached.{BegunSegment}
 use Rattle.sled_core.proofs.Flush.Completed.{apart_both}
 use Rattle.sled_core.proofs.Flush.FlushLemmas.{on_file}
 use Rattle.sled_core.proofs.Flush.Settled.{rests}

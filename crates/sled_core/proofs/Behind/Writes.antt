@@ -10,10 +10,11 @@ use Rattle.sled_core.specs.declared.iobuf.Reserved.{Reserved}
 use Rattle.sled_core.specs.declared.iobuf.Sealed.{Sealed}
 use Rattle.sled_core.specs.declared.iobuf.SegmentPosition.{SegmentPosition}
 use Rattle.sled_core.specs.Begun.{SegmentParts}
-use Rattle.sled_core.specs.Fits.{HoldBehind, HoldsIn, HoldsNext, HoldsSegment, begun_segment, log_parts}
+use Rattle.sled_core.specs.inside.Fits.{HoldBehind, HoldsIn, HoldsNext, HoldsSegment, begun_segment, log_parts}
 use Rattle.sled_core.specs.LogFile.{IsLogFile, StandsElsewhere, StaysFrom}
-use Rattle.sled_core.specs.Reached.{BegunSegment, FollowApart}
-use Rattle.sled_core.specs.SealedBuffers.{AreSealed, FirstUnwritten, behind_run, bytes_between, is_ready, run_count, run_end, sealed_end, written_at}
+use Rattle.sled_core.specs.inside.Reached.{BegunSegment, FollowApart}
+use Rattle.sled_core.specs.inside.SealedBuffers.{AreSealed, FirstUnwritten, behind_run, is_ready, run_count, run_end, written_at}
+use Rattle.sled_core.specs.SealedBuffers.{bytes_between, sealed_end}
 use Rattle.sled_core.proofs.Behind.Around.{HoldAround, apart_around, apart_before, apart_behind, apart_with, behind_below, behind_place, held_around, next_with, now_with, stays_below, together}
 use Rattle.sled_core.proofs.Behind.Calls.{held_here}
 use Rattle.sled_core.proofs.Flush.Completed.{grows}

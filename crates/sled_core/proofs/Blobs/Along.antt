@@ -10,7 +10,7 @@ use Rattle.sled_store.specs.SegmentStates.{Machine}
 use Rattle.sled_store.proofs.Traces.ScriptLemmas.{performs_throughout}
 use Rattle.sled_core.specs.Begun.{SegmentView}
 use Rattle.sled_core.specs.Recoverable.{LeavesRecoverable}
-use Rattle.sled_core.specs.Running.{FitsWith}
+use Rattle.sled_core.specs.inside.Running.{FitsWith}
 use Rattle.sled_core.proofs.Blobs.Events.{KeepsBeside, ReadsNames, making_keeps, removing_keeps}
 use Rattle.sled_core.proofs.Blobs.Leaves.{leaves_beside}
 use Rattle.sled_core.proofs.Blobs.Over.{fits_over_names}

@@ -10,7 +10,9 @@ use Rattle.sled_store.specs.Foreign.{NoForeignNames}
 use Rattle.sled_store.proofs.Crashes.SettledLemmas.{read_left}
 use Rattle.sled_store.proofs.Crashes.SyncedLemmas.{snapshots_firm}
 use Rattle.sled_core.specs.OwnNames.{IsAnyBlob, StayOwn}
-use Rattle.sled_core.specs.Recoverable.{AreRecoverableBlobs, HasItem, LeavesRecoverable, NoForeign, PassesIfThere, ReadsOnlyOwn, Recoverable}
+use Rattle.sled_core.specs.inside.Recoverable.{AreRecoverableBlobs, HasItem, PassesIfThere}
+use Rattle.sled_core.specs.Recoverable.{LeavesRecoverable, NoForeign, ReadsOnlyOwn}
+use Rattle.sled_core.specs.invariants.Recoverable.{Recoverable}
 use Rattle.sled_core.proofs.Blobs.Leaves.{blob_not_empty}
 use Rattle.sled_core.proofs.Blobs.StaysOwn.{own_now}
 

@@ -13,8 +13,9 @@ use Rattle.sled_store.proofs.Crashes.SettledLemmas.{name_settled_left}
 use Rattle.sled_core.specs.Good.{HasOwnBlob}
 use Rattle.sled_core.specs.OwnBlobs.{IsBeside}
 use Rattle.sled_core.specs.OwnNames.{IsAnyBlob}
-use Rattle.sled_core.specs.Recoverable.{HasItem}
-use Rattle.sled_core.specs.Running.{BlobsFit, KeepsEntries, KeepsItem}
+use Rattle.sled_core.specs.inside.Recoverable.{HasItem}
+use Rattle.sled_core.specs.inside.Running.{BlobsFit, KeepsEntries}
+use Rattle.sled_core.specs.Running.{KeepsItem}
 use Rattle.sled_core.proofs.Blobs.ChangesBack.{file_synced_back, leaves_synced, removed_back, renamed_back}
 use Rattle.sled_core.proofs.Blobs.Leaves.{blob_not_empty}
 use Rattle.sled_core.proofs.Blobs.Unnamed.{told_apart}

@@ -11,8 +11,10 @@ use Rattle.sled_codec.specs.Spelling.{low_bytes}
 use Rattle.sled_store.specs.Device.{Content, NamesState, State}
 use Rattle.sled_store.proofs.Segments.TableEntries.{from_table}
 use Rattle.sled_core.specs.OwnNames.{IsAnyBlob, IsAnySnapshot, ReadsStayOwn}
-use Rattle.sled_core.specs.Recoverable.{Recoverable, LeavesRecoverable}
-use Rattle.sled_core.specs.Running.{BlobsFit, KeepsEntries, KeepsItem, KeepsItems, NamesFit}
+use Rattle.sled_core.specs.invariants.Recoverable.{Recoverable}
+use Rattle.sled_core.specs.Recoverable.{LeavesRecoverable}
+use Rattle.sled_core.specs.inside.Running.{BlobsFit, KeepsEntries, KeepsItems, NamesFit}
+use Rattle.sled_core.specs.Running.{KeepsItem}
 use Rattle.sled_core.proofs.Blobs.ChangesBack.{GoesBack, before, before_same, before_left, before_own}
 use Rattle.sled_core.proofs.Blobs.Unnamed.{IsUnnamed, beside_recoverable, told_apart}
 

@@ -9,12 +9,13 @@ use Rattle.sled_core.specs.declared.iobuf.Reserved.{Reserved}
 use Rattle.sled_core.specs.declared.iobuf.Sealed.{Sealed}
 use Rattle.sled_core.specs.declared.iobuf.SegmentPosition.{SegmentPosition}
 use Rattle.sled_core.specs.Begun.{SegmentParts, SegmentView}
-use Rattle.sled_core.specs.Fits.{HoldBehind, HoldsIn, HoldsLine, HoldsSegment, HoldsWith, log_parts, parts_in}
-use Rattle.sled_core.specs.LogFile.{StaysBelow, StaysFrom}
+use Rattle.sled_core.specs.inside.Fits.{HoldBehind, HoldsIn, HoldsLine, HoldsSegment, HoldsWith, log_parts, parts_in}
+use Rattle.sled_core.specs.inside.LogFile.{StaysBelow}
+use Rattle.sled_core.specs.LogFile.{StaysFrom}
 use Rattle.sled_core.specs.Logged.{logged}
 use Rattle.sled_core.specs.OpenBatches.{stable_below}
-use Rattle.sled_core.specs.Running.{FitsIn, FitsLine, FitsWith}
-use Rattle.sled_core.specs.Slots.{HaveEntries}
+use Rattle.sled_core.specs.inside.Running.{FitsIn, FitsLine, FitsWith}
+use Rattle.sled_core.specs.inside.Slots.{HaveEntries}
 use Rattle.sled_core.proofs.Blobs.Leaves.{ChangesAt, with_names, blobs_fit_beside, names_fit_beside, leaves_beside, entries_beside, stored_beside}
 use Rattle.sled_core.proofs.Blobs.Unnamed.{IsUnnamed}
 use Rattle.sled_core.proofs.Flush.FlushLemmas.{holds_over}

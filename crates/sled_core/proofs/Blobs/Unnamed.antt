@@ -9,7 +9,7 @@ use Rattle.sled_codec.specs.History.{Message, History}
 use Rattle.sled_store.specs.Blobs.{IsDamagedFor}
 use Rattle.sled_store.proofs.Segments.TableEntries.{from_table}
 use Rattle.sled_core.specs.Good.{HasOwnBlob}
-use Rattle.sled_core.specs.Recoverable.{HasItem, PassesIfThere, AreRecoverableBlobs}
+use Rattle.sled_core.specs.inside.Recoverable.{HasItem, PassesIfThere, AreRecoverableBlobs}
 
 -- no message of a history names the blob of a place
 abbrev pub IsUnnamed : History → ℤ → Type 0

@@ -12,8 +12,10 @@ use Rattle.sled_core.specs.declared.iobuf.ReservationState.TheVariants.{Open, Co
 use Rattle.sled_core.specs.declared.iobuf.Reserved.{Reserved}
 use Rattle.sled_core.specs.declared.iobuf.Sealed.{Sealed}
 use Rattle.sled_core.specs.declared.iobuf.SegmentPosition.{SegmentPosition}
-use Rattle.sled_core.specs.Buffers.{IsChain, batches_in, completed_in, message_in, with_own}
-use Rattle.sled_core.specs.Fits.{log_parts, HoldsSegment, EndBelow}
+use Rattle.sled_core.specs.inside.Buffers.{IsChain, batches_in, completed_in, with_own}
+use Rattle.sled_core.specs.Buffers.{message_in}
+use Rattle.sled_core.specs.inside.Fits.{log_parts, HoldsSegment}
+use Rattle.sled_core.specs.Fits.{EndBelow}
 use Rattle.sled_core.proofs.Reached.BufferPath.{HasOnly}
 use Rattle.sled_core.proofs.Reserve.Ranges.{chain_grows, completed_between, completed-append}
 use Rattle.sled_core.proofs.Reserve.Entries.{some_long}

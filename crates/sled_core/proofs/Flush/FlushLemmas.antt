@@ -11,10 +11,12 @@ use Rattle.sled_store.specs.SnapshotFiles.{BeginsFrom}
 use Rattle.sled_core.specs.declared.iobuf.Reserved.{Reserved}
 use Rattle.sled_core.specs.declared.iobuf.Sealed.{Sealed}
 use Rattle.sled_core.specs.declared.iobuf.SegmentPosition.{SegmentPosition}
-use Rattle.sled_core.specs.Buffers.{IsChain, Stands, completed_in}
+use Rattle.sled_core.specs.inside.Buffers.{IsChain, Stands, completed_in}
 use Rattle.sled_core.specs.Begun.{SegmentParts}
-use Rattle.sled_core.specs.Fits.{CloseBelow, log_parts, HoldBehind, HoldsIn, HoldsSegment, IsOnDevice, IsBegunFrom, IsKept, EndBelow}
-use Rattle.sled_core.specs.LogFile.{IsLogFile, StaysBelow, StaysFrom}
+use Rattle.sled_core.specs.Fits.{CloseBelow, IsOnDevice, IsBegunFrom, IsKept, EndBelow}
+use Rattle.sled_core.specs.inside.Fits.{log_parts, HoldBehind, HoldsIn, HoldsSegment}
+use Rattle.sled_core.specs.LogFile.{IsLogFile, StaysFrom}
+use Rattle.sled_core.specs.inside.LogFile.{StaysBelow}
 use Rattle.sled_core.proofs.Reached.Marks.{less_than}
 use Rattle.sled_core.proofs.Reserve.Entries.{some_in}
 use Rattle.sled_core.proofs.Reserve.Ranges.{chain_grows}

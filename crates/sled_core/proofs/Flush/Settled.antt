@@ -12,8 +12,11 @@ use Rattle.sled_store.proofs.Histories.EarlierEntries.{entry_earlier}
 use Rattle.sled_store.proofs.LogFile.LogLemmas.{at_rest_left}
 use Rattle.sled_store.proofs.Segments.TableEntries.{from_table}
 use Rattle.sled_core.specs.Logged.{logged}
-use Rattle.sled_core.specs.Recoverable.{AreRecoverableSnapshots, AreRecoverableBlobs, HasItem, NoHeaderOfZeros, Recoverable, LeavesRecoverable}
-use Rattle.sled_core.specs.Running.{NamesFit, BlobsFit, KeepsEntries, KeepsItem, KeepsItems}
+use Rattle.sled_core.specs.inside.Recoverable.{AreRecoverableSnapshots, AreRecoverableBlobs, HasItem}
+use Rattle.sled_core.specs.Recoverable.{NoHeaderOfZeros, LeavesRecoverable}
+use Rattle.sled_core.specs.invariants.Recoverable.{Recoverable}
+use Rattle.sled_core.specs.inside.Running.{NamesFit, BlobsFit, KeepsEntries, KeepsItems}
+use Rattle.sled_core.specs.Running.{KeepsItem}
 use Rattle.sled_core.proofs.Logged.Messages.{logged_ascends, logged_twice}
 use Rattle.sled_core.proofs.Logged.Names.{snapshots_alike}
 use Rattle.sled_core.proofs.Logged.Stands.{stands_alike}

@@ -7,11 +7,11 @@ use Rattle.sled_codec.specs.Record.{IsHeader}
 use Rattle.sled_codec.specs.History.{Message, History}
 use Rattle.sled_store.specs.Device.{overwritten}
 use Rattle.sled_core.specs.declared.iobuf.SegmentPosition.{SegmentPosition}
-use Rattle.sled_core.specs.Fits.{HasMark}
+use Rattle.sled_core.specs.inside.Fits.{HasMark}
 use Rattle.sled_core.specs.LogFile.{HasHeader, IsLogFile}
 use Rattle.sled_core.proofs.Flush.LogFileKept.{here_below, here_kept, elsewhere_kept}
 use Rattle.sled_core.proofs.Reached.BufferPath.{buffer_header}
-use Rattle.sled_core.specs.SealedBuffers.{Agrees}
+use Rattle.sled_core.specs.inside.SealedBuffers.{Agrees}
 use Rattle.sled_core.proofs.Reached.BufferStands.{StandsOwn, same_part}
 use Rattle.sled_core.proofs.Tail.GreatestMark.{mark_below}
 

@@ -5,7 +5,8 @@ use Rattle.std.proofs.lemmas.List.Elements.{All-contains, Contains-append_cases,
 use Rattle.sled_codec.specs.History.{Batch}
 use Rattle.sled_store.proofs.Segments.Elements.{in_nothing}
 use Rattle.sled_core.specs.declared.iobuf.SegmentPosition.{SegmentPosition}
-use Rattle.sled_core.specs.Fits.{CloseBelow, HasBatches}
+use Rattle.sled_core.specs.Fits.{CloseBelow}
+use Rattle.sled_core.specs.inside.Fits.{HasBatches}
 
 -- Both are the same.
 pub same_batched : (size : ℕ) (site : SegmentPosition) (from : ℕ) (own own' bs bs' : List Batch) → own' ≡ own → bs' ≡ bs → HasBatches size site from own bs → HasBatches size site from own' bs'

@@ -13,10 +13,11 @@ use Rattle.sled_store.specs.Device.{LeavesName, NamesState}
 use Rattle.sled_store.specs.SnapshotFiles.{BeginsFrom}
 use Rattle.sled_store.proofs.Names.Trailers.{one_snapshot}
 use Rattle.sled_core.specs.declared.iobuf.SegmentPosition.{SegmentPosition}
-use Rattle.sled_core.specs.Recoverable.{AreRecoverableSnapshots, AreRecoverableBlobs, IsTableFile, PassesIfThere}
+use Rattle.sled_core.specs.inside.Recoverable.{AreRecoverableSnapshots, AreRecoverableBlobs, IsTableFile, PassesIfThere}
 use Rattle.sled_core.specs.Fits.{IsBegunFrom}
 use Rattle.sled_core.specs.LogFile.{StaysFrom}
-use Rattle.sled_core.specs.Running.{KeepsEntries, KeepsItem, NamesFit, BlobsFit}
+use Rattle.sled_core.specs.inside.Running.{KeepsEntries, NamesFit, BlobsFit}
+use Rattle.sled_core.specs.Running.{KeepsItem}
 use Rattle.sled_core.proofs.Holds.Added.{was_or_added}
 
 -- All snapshots that are listed.

@@ -7,9 +7,10 @@ use Rattle.sled_codec.specs.Snapshots.{Page, SnapshotModel, Uninitialized, stabl
 use Rattle.sled_store.specs.Device.{NamesState}
 use Rattle.sled_core.specs.declared.iobuf.SegmentPosition.{SegmentPosition}
 use Rattle.sled_core.specs.Fits.{IsBegunFrom}
-use Rattle.sled_core.specs.LogFile.{StaysBelow, StaysFrom}
-use Rattle.sled_core.specs.Recoverable.{AreRecoverableBlobs, AreRecoverableSnapshots, IsTableFile}
-use Rattle.sled_core.specs.Running.{BlobsFit, KeepsEntries, NamesFit}
+use Rattle.sled_core.specs.inside.LogFile.{StaysBelow}
+use Rattle.sled_core.specs.LogFile.{StaysFrom}
+use Rattle.sled_core.specs.inside.Recoverable.{AreRecoverableBlobs, AreRecoverableSnapshots, IsTableFile}
+use Rattle.sled_core.specs.inside.Running.{BlobsFit, KeepsEntries, NamesFit}
 use Rattle.sled_core.proofs.Reached.AddedBatch.{entry_was, message_was, same_table, was_or_batch}
 use Rattle.sled_core.proofs.Holds.BegunLemmas.{not_above_newest}
 

@@ -13,10 +13,12 @@ use Rattle.sled_core.specs.declared.iobuf.Reserved.{Reserved}
 use Rattle.sled_core.specs.declared.iobuf.Sealed.{Sealed}
 use Rattle.sled_core.specs.declared.iobuf.SegmentPosition.{SegmentPosition}
 use Rattle.sled_core.specs.Begun.{SegmentParts}
-use Rattle.sled_core.specs.Fits.{HoldBehind, HoldsIn, HoldsSegment, begun_segment, log_parts}
-use Rattle.sled_core.specs.LogFile.{HasHeader, IsLogFile, StandsElsewhere, StandsHere, StaysBelow, StaysFrom}
-use Rattle.sled_core.specs.Reached.{BegunSegment}
-use Rattle.sled_core.specs.SealedBuffers.{AreSealed, Laid, sealed_end}
+use Rattle.sled_core.specs.inside.Fits.{HoldBehind, HoldsIn, HoldsSegment, begun_segment, log_parts}
+use Rattle.sled_core.specs.LogFile.{HasHeader, IsLogFile, StandsElsewhere, StandsHere, StaysFrom}
+use Rattle.sled_core.specs.inside.LogFile.{StaysBelow}
+use Rattle.sled_core.specs.inside.Reached.{BegunSegment}
+use Rattle.sled_core.specs.inside.SealedBuffers.{AreSealed, Laid}
+use Rattle.sled_core.specs.SealedBuffers.{sealed_end}
 use Rattle.sled_core.proofs.Flush.FlushLemmas.{on_file}
 use Rattle.sled_core.proofs.Holds.CompletedLemmas.{segment-fewer}
 use Rattle.sled_core.proofs.Tail.LogFileLemmas.{file_grows, header_there, message_kept, part_kept}

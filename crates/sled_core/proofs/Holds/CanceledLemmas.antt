@@ -15,9 +15,10 @@ use Rattle.sled_core.specs.declared.iobuf.ReservationState.TheVariants.{Open, Ca
 use Rattle.sled_core.specs.declared.iobuf.Reserved.{Reserved}
 use Rattle.sled_core.specs.declared.iobuf.Sealed.{Sealed}
 use Rattle.sled_core.specs.declared.iobuf.SegmentPosition.{SegmentPosition}
-use Rattle.sled_core.specs.Buffers.{body_in, canceling, ended, HasText}
-use Rattle.sled_core.specs.Fits.{log_parts, HoldsSegment}
-use Rattle.sled_core.specs.SealedBuffers.{AreSealed, one_ended}
+use Rattle.sled_core.specs.Buffers.{body_in}
+use Rattle.sled_core.specs.inside.Buffers.{canceling, ended, HasText}
+use Rattle.sled_core.specs.inside.Fits.{log_parts, HoldsSegment}
+use Rattle.sled_core.specs.inside.SealedBuffers.{AreSealed, one_ended}
 use Rattle.sled_core.proofs.Holds.CompletedLemmas.{segment-cancel}
 use Rattle.sled_core.proofs.Holds.HoldsLemmas.{segment-same}
 use Rattle.sled_core.proofs.Read.ScanLemmas.{aligned_number}

@@ -1,7 +1,7 @@
 -- A reservation that is completed becomes a message of the history that a log holds, at its place; one that is aborted leaves the history as it was. No other one is touched.
 use Rattle.sled_core.proofs.Reserve.WrittenOver as over
 use Rattle.sled_core.proofs.Reserve.WrittenOver.{batches_ended}
-use Rattle.sled_core.specs.Recoverable.{NoBatchEnds}
+use Rattle.sled_core.specs.inside.Recoverable.{NoBatchEnds}
 use Rattle.sled_core.proofs.Reserve.RecordEnds.{no_end_in, records_ended}
 use Rattle.std.proofs.Common.{◌≡◌, ◌≢◌, ◌≤◌, ◌<◌, ◌+◌, ◌/◌, inl, inr, ℕ, suc, max, List, ◌∷◌, ◌++◌, length, take, drop, set, sym, ◌∙◌, ap, arith, refl, subst, false, append_assoc, Option, None, Some, get_or, ◌-◌, is_some}
 use Rattle.std.specs.List.{All, Contains, slice_get}
@@ -21,8 +21,10 @@ use Rattle.sled_core.specs.declared.iobuf.ReservationState.TheVariants.{Open, Co
 use Rattle.sled_core.specs.declared.iobuf.Reserved.{Reserved}
 use Rattle.sled_core.specs.declared.iobuf.Sealed.{Sealed}
 use Rattle.sled_core.specs.declared.iobuf.SegmentPosition.{SegmentPosition}
-use Rattle.sled_core.specs.Buffers.{records_end, batches_in, body_in, message_in, IsChain, completed_in, with_own, ending, completing, canceling, ended, open_state, HasText, Stands, StandsReserved, item_as}
-use Rattle.sled_core.specs.Fits.{log_parts, HoldsSegment, IsOnDevice}
+use Rattle.sled_core.specs.inside.Buffers.{records_end, batches_in, IsChain, completed_in, with_own, ending, completing, canceling, ended, HasText, Stands, StandsReserved}
+use Rattle.sled_core.specs.Buffers.{body_in, message_in, open_state, item_as}
+use Rattle.sled_core.specs.inside.Fits.{log_parts, HoldsSegment}
+use Rattle.sled_core.specs.Fits.{IsOnDevice}
 use Rattle.sled_core.proofs.Reached.BufferPath.{mark_same}
 use Rattle.sled_core.proofs.Reserve.Ranges.{part-written_before, length-written, completed-same, completed-append, completed_between, chain-split, chain-joined, chain_grows, chain_within, there_split, all_split, all_joined, at_there, there-set_other, chain_apart}
 use Rattle.sled_core.specs.Manifests.{is_manifest}
@@ -30,7 +32,7 @@ use Rattle.sled_core.proofs.Reserve.CompletesLemmas.{changes_page, kind_of_messa
 use Rattle.sled_core.proofs.Reserve.Entries.{completed_plain, in_reserved, open_plain, reserved_in, some_long}
 use Rattle.sled_core.proofs.Holds.HoldsLemmas.{completed_open}
 use Rattle.sled_core.proofs.Holds.BatchLemmas.{same_batched}
-use Rattle.sled_core.specs.SealedBuffers.{AreSealed, Laid, one_ended}
+use Rattle.sled_core.specs.inside.SealedBuffers.{AreSealed, Laid, one_ended}
 use Rattle.sled_core.proofs.Sealed.LaidCalls.{laid_over}
 
 module _ (sum : List ℕ → ℕ) (size : ℕ) (site : SegmentPosition) (device : State) (fault : Option IoError) (bytes : List ℕ) (from : ℕ) (bs : List Sealed) (xs ys : List Reserved) (r : Reserved) (H : History)

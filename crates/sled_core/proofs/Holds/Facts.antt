@@ -2,14 +2,17 @@
 use Rattle.std.proofs.Common.{◌≡◌, ◌<◌, ◌≤◌, ◌+◌, ◌*◌, ◌^◌, refl, arith, subst, ℕ, zero, suc, List, [], ◌∷◌, length, max, drop, map, Some}
 use Rattle.std.specs.List.{All, slice_get}
 use Rattle.std.proofs.lemmas.List.{length-map}
-use Rattle.sled_core.specs.Begun.{FollowOn, SegmentView, begin_of, segment_view, view_at}
-use Rattle.sled_core.specs.Buffers.{IsChain, IsHeaded, most_open, open_in}
+use Rattle.sled_core.specs.inside.Begun.{FollowOn}
+use Rattle.sled_core.specs.Begun.{SegmentView, begin_of, segment_view, view_at}
+use Rattle.sled_core.specs.inside.Buffers.{IsChain, IsHeaded}
+use Rattle.sled_core.specs.Buffers.{most_open, open_in}
 use Rattle.sled_core.specs.declared.iobuf.IoBuf.{IoBuf}
 use Rattle.sled_core.specs.declared.iobuf.SegmentPosition.{SegmentPosition}
 use Rattle.sled_core.specs.declared.logger.Log.{Log}
 use Rattle.sled_core.specs.declared.logger.io_bufs.SegmentBuffer.{SegmentBuffer}
 use Rattle.sled_core.specs.Fits.{current_of, line_of}
-use Rattle.sled_core.specs.SealedBuffers.{AreSealed, FirstUnwritten, sealed_count}
+use Rattle.sled_core.specs.inside.SealedBuffers.{AreSealed, FirstUnwritten}
+use Rattle.sled_core.specs.SealedBuffers.{sealed_count}
 use Rattle.sled_core.proofs.Holds.Nth.{last_get}
 
 -- A segment at a place: within its size and in reach, with its buffers and reservations one behind another.

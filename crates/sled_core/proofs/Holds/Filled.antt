@@ -6,8 +6,9 @@ use Rattle.std.proofs.lemmas.List.{append-nil, drop_at, take_all}
 use Rattle.std.proofs.lemmas.List.Elements.{All-append}
 use Rattle.sled_core.specs.declared.iobuf.Reserved.{Reserved}
 use Rattle.sled_core.specs.declared.iobuf.SegmentPosition.{SegmentPosition}
-use Rattle.sled_core.specs.Buffers.{IsChain, Stands, batches_in, completed_in, padding_at, text_in}
-use Rattle.sled_core.specs.Caps.{segment_rest}
+use Rattle.sled_core.specs.inside.Buffers.{IsChain, Stands, batches_in, completed_in, text_in}
+use Rattle.sled_core.specs.Buffers.{padding_at}
+use Rattle.sled_core.specs.invariants.Caps.{segment_rest}
 use Rattle.sled_core.proofs.Holds.HoldsLemmas.{batches-behind, completed-behind, one, stands-append}
 use Rattle.sled_core.proofs.Reached.CapStands.{length-segment_rest}
 use Rattle.sled_core.proofs.Reserve.Ranges.{chain-append, chain_within, completed-append}

@@ -4,8 +4,10 @@ use Rattle.std.specs.List.{Contains}
 use Rattle.std.proofs.lemmas.List.Elements.{All-append, All-cons, All-contains}
 use Rattle.sled_codec.specs.History.{AddsBatch, AddsMessage, Batch, History, Message}
 use Rattle.sled_store.proofs.Segments.Elements.{in_nothing}
-use Rattle.sled_core.specs.Fits.{CloseBelow, FitsBatches}
-use Rattle.sled_core.specs.OpenBatches.{AreApart, not_whole, stable_below, with_batch}
+use Rattle.sled_core.specs.Fits.{CloseBelow}
+use Rattle.sled_core.specs.inside.Fits.{FitsBatches}
+use Rattle.sled_core.specs.inside.OpenBatches.{AreApart}
+use Rattle.sled_core.specs.OpenBatches.{not_whole, stable_below, with_batch}
 use Rattle.sled_core.proofs.Holds.Added.{was_or_added}
 use Rattle.sled_core.proofs.Reached.AddedBatch.{batch_stays, batch_there, message_was, was_or_batch}
 use Rattle.sled_core.proofs.Holds.BatchLemmas.{closed_up}

@@ -13,8 +13,9 @@ use Rattle.sled_core.specs.declared.iobuf.ReservationState.TheVariants.{Complete
 use Rattle.sled_core.specs.declared.iobuf.Reserved.{Reserved}
 use Rattle.sled_core.specs.declared.iobuf.Sealed.{Sealed}
 use Rattle.sled_core.specs.declared.iobuf.SegmentPosition.{SegmentPosition}
-use Rattle.sled_core.specs.Buffers.{records_end, batch_in, batches_in, body_in, message_in, IsChain, completed_in, with_batch, with_own, HasText, Stands}
-use Rattle.sled_core.specs.Fits.{log_parts, HoldsSegment}
+use Rattle.sled_core.specs.inside.Buffers.{records_end, batch_in, batches_in, IsChain, completed_in, with_batch, with_own, HasText, Stands}
+use Rattle.sled_core.specs.Buffers.{body_in, message_in}
+use Rattle.sled_core.specs.inside.Fits.{log_parts, HoldsSegment}
 use Rattle.sled_core.proofs.Holds.BatchLemmas.{same_batched}
 use Rattle.sled_core.proofs.Sealed.LaidCalls.{laid_append}
 use Rattle.sled_core.proofs.Sealed.LaidLemmas.{EndsRise}

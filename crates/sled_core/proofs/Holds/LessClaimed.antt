@@ -6,11 +6,15 @@ use Rattle.sled_codec.specs.Snapshots.{SnapshotModel}
 use Rattle.sled_store.specs.Device.{Trace, Content, NamesState, State, state_of}
 use Rattle.sled_core.specs.declared.logger.Log.{Log}
 use Rattle.sled_core.specs.Begun.{SegmentParts, SegmentView}
-use Rattle.sled_core.specs.Fits.{LogParts, line_of, log_parts, parts_in}
+use Rattle.sled_core.specs.inside.Fits.{LogParts, log_parts, parts_in}
+use Rattle.sled_core.specs.Fits.{line_of}
 use Rattle.sled_core.specs.Logged.{logged}
 use Rattle.sled_core.specs.OpenBatches.{stable_below}
-use Rattle.sled_core.specs.Recoverable.{AreRecoverableSnapshots, LeavesRecoverable, Recoverable}
-use Rattle.sled_core.specs.Running.{Fits, FitsIn, FitsLine, NamesFit, Ready}
+use Rattle.sled_core.specs.inside.Recoverable.{AreRecoverableSnapshots}
+use Rattle.sled_core.specs.Recoverable.{LeavesRecoverable}
+use Rattle.sled_core.specs.invariants.Recoverable.{Recoverable}
+use Rattle.sled_core.specs.invariants.Running.{Fits, Ready}
+use Rattle.sled_core.specs.inside.Running.{FitsIn, FitsLine, NamesFit}
 use Rattle.sled_core.proofs.Flush.Settled.{recoverable_less}
 
 module _ (sum : List ℕ → ℕ) (size f lower : ℕ) (low : lower ≤ f) where

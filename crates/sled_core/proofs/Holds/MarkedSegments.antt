@@ -15,11 +15,11 @@ use Rattle.sled_core.specs.declared.iobuf.Reserved.{Reserved}
 use Rattle.sled_core.specs.declared.iobuf.Sealed.{Sealed}
 use Rattle.sled_core.specs.declared.iobuf.SegmentPosition.{SegmentPosition}
 use Rattle.sled_core.specs.declared.iterator.Segment.{Segment}
-use Rattle.sled_core.specs.Buffers.{IsChain, Stands, StandsReserved, batches_in, completed_in, ended, marking, records_end}
-use Rattle.sled_core.specs.Fits.{HasBatches, HoldsSegment, log_parts}
+use Rattle.sled_core.specs.inside.Buffers.{IsChain, Stands, StandsReserved, batches_in, completed_in, ended, marking, records_end}
+use Rattle.sled_core.specs.inside.Fits.{HasBatches, HoldsSegment, log_parts}
 use Rattle.sled_core.specs.Manifests.{is_manifest}
-use Rattle.sled_core.specs.Recoverable.{IsMarkOf, NoBatchEnds}
-use Rattle.sled_core.specs.SealedBuffers.{AreSealed, one_ended}
+use Rattle.sled_core.specs.inside.Recoverable.{IsMarkOf, NoBatchEnds}
+use Rattle.sled_core.specs.inside.SealedBuffers.{AreSealed, one_ended}
 use Rattle.sled_core.proofs.Reserve.Batches.{batches_between}
 use Rattle.sled_core.proofs.Reserve.Entries.{open_plain, reserved_in, some_long}
 use Rattle.sled_core.proofs.Reserve.MarksLemmas.{batches_marked, batches_unmarked, completed_marked, manifest_long, marked_long, marking_long, stand_marked}

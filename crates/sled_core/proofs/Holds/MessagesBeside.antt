@@ -9,8 +9,9 @@ use Rattle.sled_core.specs.declared.iobuf.ReservationState.TheVariants.{Complete
 use Rattle.sled_core.specs.declared.iobuf.Reserved.{Reserved}
 use Rattle.sled_core.specs.declared.iobuf.Sealed.{Sealed}
 use Rattle.sled_core.specs.declared.iobuf.SegmentPosition.{SegmentPosition}
-use Rattle.sled_core.specs.Buffers.{IsChain, Stands, batch_in, batches_in, completed_in, message_in}
-use Rattle.sled_core.specs.Fits.{HoldsSegment, log_parts}
+use Rattle.sled_core.specs.inside.Buffers.{IsChain, Stands, batch_in, batches_in, completed_in}
+use Rattle.sled_core.specs.Buffers.{message_in}
+use Rattle.sled_core.specs.inside.Fits.{HoldsSegment, log_parts}
 use Rattle.sled_core.proofs.Reserve.Batches.{batch_cases, batches-append, batches_between}
 use Rattle.sled_core.proofs.Reserve.Entries.{some_long}
 use Rattle.sled_core.proofs.Reserve.Ranges.{all_split, chain-split, chain_grows, completed-append, completed_between, own_cases, there_split}

@@ -2,8 +2,9 @@
 use Rattle.std.proofs.Common.{◌<◌, ◌≤◌, ◌+◌, ℕ, arith, inl, inr}
 use Rattle.std.specs.List.{Contains}
 use Rattle.sled_codec.specs.History.{Batch, History, Message}
-use Rattle.sled_core.specs.OpenBatches.{AreApart, IsOpenBatch, stable_below}
-use Rattle.sled_core.specs.Recoverable.{NoBatchBegins, NoBatchEnds}
+use Rattle.sled_core.specs.inside.OpenBatches.{AreApart, IsOpenBatch}
+use Rattle.sled_core.specs.OpenBatches.{stable_below}
+use Rattle.sled_core.specs.inside.Recoverable.{NoBatchBegins, NoBatchEnds}
 use Rattle.sled_core.specs.Running.{end_below}
 use Rattle.sled_core.proofs.Holds.LastEnds.{acknowledged_least}
 use Rattle.sled_core.proofs.Reached.OpenBatch.{stable_ends}

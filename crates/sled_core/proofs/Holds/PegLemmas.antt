@@ -9,11 +9,12 @@ use Rattle.sled_store.proofs.Segments.Elements.{in_cases, in_nothing}
 use Rattle.sled_core.specs.declared.iobuf.Reserved.{Reserved}
 use Rattle.sled_core.specs.declared.iobuf.SegmentPosition.{SegmentPosition}
 use Rattle.sled_core.specs.Begun.{SegmentParts, records_to}
-use Rattle.sled_core.specs.Buffers.{records_end}
-use Rattle.sled_core.specs.Fits.{HoldBehind, HoldsNext, begun_segment}
-use Rattle.sled_core.specs.LogFile.{padded}
-use Rattle.sled_core.specs.Reached.{BegunSegment}
-use Rattle.sled_core.specs.SealedBuffers.{AreZeros, FirstUnwritten}
+use Rattle.sled_core.specs.inside.Buffers.{records_end}
+use Rattle.sled_core.specs.inside.Fits.{HoldBehind, HoldsNext, begun_segment}
+use Rattle.sled_core.specs.inside.LogFile.{padded}
+use Rattle.sled_core.specs.inside.Reached.{BegunSegment}
+use Rattle.sled_core.specs.SealedBuffers.{AreZeros}
+use Rattle.sled_core.specs.inside.SealedBuffers.{FirstUnwritten}
 use Rattle.sled_core.proofs.Sealed.Padded.{padded_get}
 use Rattle.sled_core.proofs.Sealed.RecordsEnd.{covered_behind}
 use Rattle.sled_core.proofs.Sealed.Zeros.{begin_zeros}

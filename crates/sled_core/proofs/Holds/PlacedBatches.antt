@@ -8,9 +8,9 @@ use Rattle.sled_core.specs.declared.iobuf.ReservationState.TheVariants.{Open}
 use Rattle.sled_core.specs.declared.iobuf.Reserved.{Reserved}
 use Rattle.sled_core.specs.declared.iobuf.Sealed.{Sealed}
 use Rattle.sled_core.specs.declared.iobuf.SegmentPosition.{SegmentPosition}
-use Rattle.sled_core.specs.Buffers.{Stands}
-use Rattle.sled_core.specs.Fits.{HoldsSegment, log_parts}
-use Rattle.sled_core.specs.Recoverable.{BeginsInSegment, IsPlacedBatch}
+use Rattle.sled_core.specs.inside.Buffers.{Stands}
+use Rattle.sled_core.specs.inside.Fits.{HoldsSegment, log_parts}
+use Rattle.sled_core.specs.inside.Recoverable.{BeginsInSegment, IsPlacedBatch}
 use Rattle.sled_core.proofs.Reached.AddedBatch.{was_or_batch}
 use Rattle.sled_core.proofs.Read.ScanLemmas.{aligned_offset}
 use Rattle.sled_core.proofs.Reserve.Entries.{open_plain, reserved_in}

@@ -9,11 +9,13 @@ use Rattle.sled_codec.specs.Snapshots.{SnapshotModel}
 use Rattle.sled_core.specs.declared.iobuf.SegmentPosition.{SegmentPosition}
 use Rattle.sled_core.specs.declared.iterator.scan.ScannedRecord.{ScannedRecord}
 use Rattle.sled_core.specs.declared.iterator.scan.ScanEnd.TheVariants.{Capped, Broken}
-use Rattle.sled_core.specs.Reached.{BegunSegment, GoesOnIn, StandsAmong, StandsIn, StandsTo}
+use Rattle.sled_core.specs.inside.Reached.{BegunSegment, GoesOnIn, StandsAmong, StandsIn, StandsTo}
 use Rattle.sled_core.specs.Recoverable.{NoHeaderOfZeros}
-use Rattle.sled_core.specs.Scan.{IsFoundSegment, IsScan}
+use Rattle.sled_core.specs.inside.Scan.{IsFoundSegment}
+use Rattle.sled_core.specs.Scan.{IsScan}
 use Rattle.sled_core.specs.SealedBuffers.{AreZeros}
-use Rattle.sled_core.specs.Tail.{Scanned, IsScanned, least_place}
+use Rattle.sled_core.specs.Tail.{Scanned, IsScanned}
+use Rattle.sled_core.specs.inside.Tail.{least_place}
 use Rattle.sled_core.proofs.Reached.SegmentsBeside.{going_in}
 use Rattle.sled_core.proofs.Tail.OneTail.{place_aligned, segment_there}
 use Rattle.sled_core.proofs.Tail.Multiples.{apart}

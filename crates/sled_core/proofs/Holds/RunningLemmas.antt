@@ -11,14 +11,20 @@ use Rattle.sled_core.specs.declared.iobuf.Sealed.{Sealed}
 use Rattle.sled_core.specs.declared.iobuf.SegmentPosition.{SegmentPosition}
 use Rattle.sled_core.specs.declared.logger.Log.{Log}
 use Rattle.sled_core.specs.Begun.{SegmentParts}
-use Rattle.sled_core.specs.Fits.{FitsBatches, HoldsIn, begun_segment, device_of, log_parts, segment_size_of}
-use Rattle.sled_core.specs.LogFile.{padded}
+use Rattle.sled_core.specs.inside.Fits.{FitsBatches, HoldsIn, begun_segment, log_parts}
+use Rattle.sled_core.specs.Fits.{device_of, segment_size_of}
+use Rattle.sled_core.specs.inside.LogFile.{padded}
 use Rattle.sled_core.specs.Logged.{logged, in_log}
-use Rattle.sled_core.specs.Running.{BlobsFit, Fits, FitsIn, KeepsEntries, KeepsItem, KeepsItems, NamesFit, end_below}
-use Rattle.sled_core.specs.Reached.{BegunSegment, StandsAmong}
+use Rattle.sled_core.specs.inside.Running.{BlobsFit, FitsIn, KeepsEntries, KeepsItems, NamesFit}
+use Rattle.sled_core.specs.invariants.Running.{Fits}
+use Rattle.sled_core.specs.Running.{KeepsItem, end_below}
+use Rattle.sled_core.specs.inside.Reached.{BegunSegment, StandsAmong}
 use Rattle.sled_core.specs.OpenBatches.{stable_below}
-use Rattle.sled_core.specs.Recoverable.{LeavesRecoverable, NoBatchBegins, NoBatchEnds, NoHeaderOfZeros, BlobIsBelow, BlobsAreBelow}
-use Rattle.sled_core.specs.SealedBuffers.{AreSealed, AreZeros, FirstUnwritten}
+use Rattle.sled_core.specs.Recoverable.{LeavesRecoverable, NoHeaderOfZeros}
+use Rattle.sled_core.specs.inside.Recoverable.{NoBatchBegins, NoBatchEnds, BlobsAreBelow}
+use Rattle.sled_core.specs.Reading.{BlobIsBelow}
+use Rattle.sled_core.specs.inside.SealedBuffers.{AreSealed, FirstUnwritten}
+use Rattle.sled_core.specs.SealedBuffers.{AreZeros}
 use Rattle.sled_core.proofs.Holds.Added.{was_or_added}
 use Rattle.sled_core.proofs.Holds.BegunLemmas.{names-adds, blobs-adds, entries-adds}
 use Rattle.sled_core.proofs.Sealed.Padded.{padded_get}

@@ -7,7 +7,7 @@ use Rattle.std.proofs.Common.{Option}
 use Rattle.sled_core.specs.declared.iobuf.Reserved.{Reserved}
 use Rattle.sled_core.specs.declared.iobuf.Sealed.{Sealed}
 use Rattle.sled_core.specs.declared.iobuf.SegmentPosition.{SegmentPosition}
-use Rattle.sled_core.specs.Fits.{log_parts, HoldsSegment}
+use Rattle.sled_core.specs.inside.Fits.{log_parts, HoldsSegment}
 use Rattle.sled_core.specs.SealedBuffers.{seal_at, sealed_end}
 use Rattle.sled_core.proofs.Sealed.LaidLemmas.{laid_sealed}
 

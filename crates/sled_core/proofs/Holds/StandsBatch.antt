@@ -12,11 +12,14 @@ use Rattle.sled_core.specs.declared.iobuf.SegmentPosition.{SegmentPosition}
 use Rattle.sled_core.specs.declared.iterator.Segment.{Segment}
 use Rattle.sled_core.specs.declared.iterator.scan.ScannedRecord.{ScannedRecord}
 use Rattle.sled_core.specs.declared.iterator.scan.ScanEnd.TheVariants.{Broken, Capped}
-use Rattle.sled_core.specs.Reached.{BegunSegment, ReachesIn, StandsAmong, StandsTo}
-use Rattle.sled_core.specs.Recoverable.{NothingBehind, BeginsInSegment, IsMarkBelow, IsMarkOf, IsOfHistory, IsPlacedBatch, IsReadOn, IsSegmentOf, NoBatchBegins, NoHeaderOfZeros, NoMessageBegins, StandsInline}
+use Rattle.sled_core.specs.inside.Reached.{BegunSegment, ReachesIn, StandsAmong, StandsTo}
+use Rattle.sled_core.specs.inside.Recoverable.{NothingBehind, BeginsInSegment, IsMarkBelow, IsMarkOf, IsOfHistory, IsPlacedBatch, IsReadOn, IsSegmentOf, NoBatchBegins, NoMessageBegins, StandsInline}
+use Rattle.sled_core.specs.Recoverable.{NoHeaderOfZeros}
 use Rattle.sled_core.specs.SealedBuffers.{AreZeros}
-use Rattle.sled_core.specs.Scan.{IsFoundSegment, IsScan}
-use Rattle.sled_core.specs.Tail.{least_place, Scanned}
+use Rattle.sled_core.specs.inside.Scan.{IsFoundSegment}
+use Rattle.sled_core.specs.Scan.{IsScan}
+use Rattle.sled_core.specs.inside.Tail.{least_place}
+use Rattle.sled_core.specs.Tail.{Scanned}
 use Rattle.sled_core.proofs.Reached.AddedBatch.{batch_stays, batch_there, entry_was, message_stays, message_was, no_batch, no_end, no_message, was_or_batch}
 use Rattle.sled_core.proofs.Holds.PlacesBeside.{LiesBeside, cap_beside, first_below, lies_beside, met_beside}
 use Rattle.sled_core.proofs.Holds.PegLemmas.{LiesBesideFilling}

@@ -11,7 +11,7 @@ use Rattle.sled_core.specs.declared.iobuf.Reserved.{Reserved}
 use Rattle.sled_core.specs.declared.iobuf.Sealed.{Sealed}
 use Rattle.sled_core.specs.declared.iobuf.SegmentPosition.{SegmentPosition}
 use Rattle.sled_core.specs.Begun.{SegmentParts}
-use Rattle.sled_core.specs.Fits.{HoldBehind, HoldsIn, log_parts}
+use Rattle.sled_core.specs.inside.Fits.{HoldBehind, HoldsIn, log_parts}
 use Rattle.sled_core.proofs.Flush.Completed.{all_apart, all_below, apart_both}
 use Rattle.sled_core.proofs.Reached.BufferPath.{HasOnly}
 

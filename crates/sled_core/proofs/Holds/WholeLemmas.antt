@@ -12,11 +12,14 @@ use Rattle.sled_core.specs.declared.iobuf.ReservationState.TheVariants.{Open, Co
 use Rattle.sled_core.specs.declared.iobuf.Reserved.{Reserved}
 use Rattle.sled_core.specs.declared.iobuf.Sealed.{Sealed}
 use Rattle.sled_core.specs.declared.iobuf.SegmentPosition.{SegmentPosition}
-use Rattle.sled_core.specs.Buffers.{canceling, completing, ended, message_in, HasText}
+use Rattle.sled_core.specs.inside.Buffers.{canceling, completing, ended, HasText}
+use Rattle.sled_core.specs.Buffers.{message_in}
 use Rattle.sled_core.specs.Begun.{SegmentParts}
-use Rattle.sled_core.specs.Fits.{log_parts, HoldBehind, HoldsIn, HoldsSegment}
-use Rattle.sled_core.specs.LogFile.{StaysBelow, StaysFrom}
-use Rattle.sled_core.specs.SealedBuffers.{AreSealed, one_ended, seal_at, sealed_end}
+use Rattle.sled_core.specs.inside.Fits.{log_parts, HoldBehind, HoldsIn, HoldsSegment}
+use Rattle.sled_core.specs.inside.LogFile.{StaysBelow}
+use Rattle.sled_core.specs.LogFile.{StaysFrom}
+use Rattle.sled_core.specs.inside.SealedBuffers.{AreSealed, one_ended}
+use Rattle.sled_core.specs.SealedBuffers.{seal_at, sealed_end}
 use Rattle.sled_core.proofs.Flush.FlushLemmas.{holds_over}
 use Rattle.sled_core.proofs.Holds.BegunLemmas.{begun-adds, stays_adds}
 use Rattle.sled_core.proofs.Holds.BehindKept.{behind_fewer}

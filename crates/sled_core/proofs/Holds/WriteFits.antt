@@ -15,12 +15,13 @@ use Rattle.sled_core.specs.declared.iobuf.Reserved.{Reserved}
 use Rattle.sled_core.specs.declared.iobuf.Sealed.{Sealed}
 use Rattle.sled_core.specs.declared.iobuf.SegmentPosition.{SegmentPosition}
 use Rattle.sled_core.specs.Begun.{SegmentParts}
-use Rattle.sled_core.specs.Fits.{log_parts, begun_segment, HoldsIn}
-use Rattle.sled_core.specs.Full.{FitsFull, StandsFull}
-use Rattle.sled_core.specs.LogFile.{padded}
-use Rattle.sled_core.specs.Reached.{StandsAmong}
-use Rattle.sled_core.specs.Recoverable.{LeavesRecoverable, NoBatchBegins, NoBatchEnds, NoHeaderOfZeros}
-use Rattle.sled_core.specs.Running.{BlobsFit, FitsIn, KeepsEntries, KeepsItems, NamesFit}
+use Rattle.sled_core.specs.inside.Fits.{log_parts, begun_segment, HoldsIn}
+use Rattle.sled_core.specs.inside.Full.{FitsFull, StandsFull}
+use Rattle.sled_core.specs.inside.LogFile.{padded}
+use Rattle.sled_core.specs.inside.Reached.{StandsAmong}
+use Rattle.sled_core.specs.Recoverable.{LeavesRecoverable, NoHeaderOfZeros}
+use Rattle.sled_core.specs.inside.Recoverable.{NoBatchBegins, NoBatchEnds}
+use Rattle.sled_core.specs.inside.Running.{BlobsFit, FitsIn, KeepsEntries, KeepsItems, NamesFit}
 use Rattle.sled_core.proofs.Blobs.StaysOwn.{own_same}
 use Rattle.sled_core.proofs.Sealed.Padded.{padded_none}
 use Rattle.sled_core.proofs.Flush.Settled.{entries_higher, rests}

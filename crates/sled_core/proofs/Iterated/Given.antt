@@ -19,7 +19,7 @@ use Rattle.sled_core.specs.declared.iterator.scan.RecordContent.{RecordContent}
 use Rattle.sled_core.specs.declared.iterator.scan.RecordContent.TheVariants.{Gives, NamesBlob, Skipped, BatchStart}
 use Rattle.sled_core.specs.Iterates.{Item, Damage, items_of, stops, GivesOf}
 use Rattle.sled_core.specs.OnFile.{HasBlobThere, item_of}
-use Rattle.sled_core.specs.Recoverable.{MeetsMessage, NamesBlobOf, IsOfHistory, PassesIfThere}
+use Rattle.sled_core.specs.inside.Recoverable.{MeetsMessage, NamesBlobOf, IsOfHistory, PassesIfThere}
 use Rattle.sled_core.specs.Replayed.{HasBadBlob, with_blob}
 use Rattle.sled_core.specs.Scan.{IsMet, Says}
 use Rattle.sled_core.specs.Tail.{opens}

@@ -16,20 +16,24 @@ use Rattle.sled_store.specs.SegmentStates.{Machine, is_free, slot_at}
 use Rattle.sled_store.proofs.Names.OneBegin.{one_begin}
 use Rattle.sled_core.specs.declared.iterator.log_iter.LogIter.{LogIter}
 use Rattle.sled_core.specs.declared.logger.Log.{Log}
-use Rattle.sled_core.specs.Begun.{FollowOn, SegmentView, line_end, segment_view}
+use Rattle.sled_core.specs.inside.Begun.{FollowOn, line_end}
+use Rattle.sled_core.specs.Begun.{SegmentView, segment_view}
 use Rattle.sled_core.specs.declared.logger.io_bufs.SegmentBuffer.{SegmentBuffer}
-use Rattle.sled_core.specs.Fits.{begun_segment, line_of, machine_at, noted_in, parts_in, stable_end, synced_end}
-use Rattle.sled_core.specs.FreeSlots.{HasSlot}
+use Rattle.sled_core.specs.inside.Fits.{begun_segment, parts_in}
+use Rattle.sled_core.specs.Fits.{line_of, machine_at, noted_in, stable_end, synced_end}
+use Rattle.sled_core.specs.inside.FreeSlots.{HasSlot}
 use Rattle.sled_core.specs.Iterators.{GivesMessages, GoesOver}
 use Rattle.sled_core.specs.LogFile.{HasHeader}
 use Rattle.sled_core.specs.LogSegments.{begins_from}
 use Rattle.sled_core.specs.Logged.{in_log, logged}
 use Rattle.sled_core.specs.OnFile.{item_of}
 use Rattle.sled_core.specs.OpenBatches.{stable_below}
-use Rattle.sled_core.specs.Reached.{ReachesIn, StandsAmong}
-use Rattle.sled_core.specs.Recoverable.{NoHeaderOfZeros, PassesIfThere}
-use Rattle.sled_core.specs.Running.{FitsWith}
-use Rattle.sled_core.specs.Tail.{least_place, place_of_mark}
+use Rattle.sled_core.specs.inside.Reached.{ReachesIn, StandsAmong}
+use Rattle.sled_core.specs.Recoverable.{NoHeaderOfZeros}
+use Rattle.sled_core.specs.inside.Recoverable.{PassesIfThere}
+use Rattle.sled_core.specs.inside.Running.{FitsWith}
+use Rattle.sled_core.specs.inside.Tail.{least_place}
+use Rattle.sled_core.specs.Tail.{place_of_mark}
 use Rattle.sled_core.proofs.Blobs.FirmContent.{blobs_read, firm_files, firm_leaves, firm_own}
 use Rattle.sled_core.proofs.Holds.BufferEnds.{written_behind}
 use Rattle.sled_core.proofs.Holds.FitsBatches.{stable_noted}

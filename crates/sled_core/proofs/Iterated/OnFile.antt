@@ -20,11 +20,12 @@ use Rattle.sled_core.specs.declared.iterator.scan.ScanEnd.TheVariants.{Full, Cap
 use Rattle.sled_core.specs.Iterates.{Item, Damage, HasItsHeader, GivesOf, GivesBehind, IsIteration}
 use Rattle.sled_core.specs.LogSegments.{AreSegments}
 use Rattle.sled_core.specs.OnFile.{HasBlobThere, item_of, AreOnFile}
-use Rattle.sled_core.specs.Reached.{StandsTo}
-use Rattle.sled_core.specs.Recoverable.{PassesIfThere}
+use Rattle.sled_core.specs.inside.Reached.{StandsTo}
+use Rattle.sled_core.specs.inside.Recoverable.{PassesIfThere}
 use Rattle.sled_core.specs.Replayed.{IsReplayed}
 use Rattle.sled_core.specs.Scan.{IsPath, IsScan}
-use Rattle.sled_core.specs.Tail.{Scanned, least_place, open_at}
+use Rattle.sled_core.specs.Tail.{Scanned, open_at}
+use Rattle.sled_core.specs.inside.Tail.{least_place}
 use Rattle.sled_core.proofs.Iterated.Given.{AreGiven, GivesInline, met_inline, messages_given}
 use Rattle.sled_core.proofs.Iterated.Listed.{listed_of, listed_has, listed_rises}
 use Rattle.sled_core.proofs.Iterated.ReadHere.{IsReadHere, read_here}

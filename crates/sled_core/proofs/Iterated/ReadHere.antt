@@ -13,10 +13,12 @@ use Rattle.sled_core.specs.declared.iterator.Segment.{Segment}
 use Rattle.sled_core.specs.declared.iterator.scan.ScannedRecord.{ScannedRecord}
 use Rattle.sled_core.specs.declared.iterator.scan.ScanEnd.{ScanEnd}
 use Rattle.sled_core.specs.declared.iterator.scan.ScanEnd.TheVariants.{Full, Capped, Broken}
-use Rattle.sled_core.specs.Reached.{StandsTo}
-use Rattle.sled_core.specs.Recoverable.{MeetsMessage, IsOfHistory, IsSegmentOf, NothingBehind}
-use Rattle.sled_core.specs.Scan.{IsFoundSegment, IsEnd, IsScan}
-use Rattle.sled_core.specs.Tail.{Scanned, IsScanned, least_place}
+use Rattle.sled_core.specs.inside.Reached.{StandsTo}
+use Rattle.sled_core.specs.inside.Recoverable.{MeetsMessage, IsOfHistory, IsSegmentOf, NothingBehind}
+use Rattle.sled_core.specs.inside.Scan.{IsFoundSegment}
+use Rattle.sled_core.specs.Scan.{IsEnd, IsScan}
+use Rattle.sled_core.specs.Tail.{Scanned, IsScanned}
+use Rattle.sled_core.specs.inside.Tail.{least_place}
 use Rattle.sled_core.proofs.Reached.StartedStands.{slot_needed}
 use Rattle.sled_core.proofs.Start.PlacedEntries.{same_number}
 use Rattle.sled_core.proofs.Tail.Multiples.{put_down, apart}

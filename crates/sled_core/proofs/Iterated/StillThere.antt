@@ -17,13 +17,16 @@ use Rattle.sled_store.proofs.Histories.Ascending.{apart_ascends}
 use Rattle.sled_store.proofs.Histories.EarlierEntries.{entry_earlier}
 use Rattle.sled_core.specs.Begun.{SegmentView, segment_view}
 use Rattle.sled_core.specs.declared.logger.Log.{Log}
-use Rattle.sled_core.specs.Fits.{HasRecordOf, HoldsLine, begun_segment, current_of, fault_of, line_of, machine_at, noted_in, parts_in, segment_size_of, synced_end}
-use Rattle.sled_core.specs.FreeSlots.{HasSlot}
+use Rattle.sled_core.specs.Fits.{HasRecordOf, current_of, fault_of, line_of, machine_at, noted_in, segment_size_of, synced_end}
+use Rattle.sled_core.specs.inside.Fits.{HoldsLine, begun_segment, parts_in}
+use Rattle.sled_core.specs.inside.FreeSlots.{HasSlot}
 use Rattle.sled_core.specs.Logged.{in_log, logged}
 use Rattle.sled_core.specs.OnFile.{HasSegment}
-use Rattle.sled_core.specs.Reached.{StandsAmong}
-use Rattle.sled_core.specs.Recoverable.{IsSegmentOf, NoHeaderOfZeros}
-use Rattle.sled_core.specs.Running.{Fits, FitsWith}
+use Rattle.sled_core.specs.inside.Reached.{StandsAmong}
+use Rattle.sled_core.specs.inside.Recoverable.{IsSegmentOf}
+use Rattle.sled_core.specs.Recoverable.{NoHeaderOfZeros}
+use Rattle.sled_core.specs.invariants.Running.{Fits}
+use Rattle.sled_core.specs.inside.Running.{FitsWith}
 use Rattle.sled_core.proofs.Holds.ReachLemmas.{line_below}
 use Rattle.sled_core.proofs.Holds.WholeHistory.{whole_apart}
 use Rattle.sled_core.proofs.Line.Ends.{with_part}

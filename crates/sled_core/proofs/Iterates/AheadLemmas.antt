@@ -9,10 +9,11 @@ use Rattle.sled_core.specs.declared.iterator.log_iter.LogIter.{LogIter}
 use Rattle.sled_core.specs.declared.iterator.rest.Rest.{Rest}
 use Rattle.sled_core.specs.declared.iterator.scan.ScannedRecord.{ScannedRecord}
 use Rattle.sled_core.specs.declared.logger.Log.{Log}
-use Rattle.sled_core.specs.Ahead.{IsLeft, LeftBehind}
+use Rattle.sled_core.specs.inside.Ahead.{IsLeft, LeftBehind}
 use Rattle.sled_core.specs.Fits.{config_of, device_of, machine_at, segment_size_of, stable_end}
 use Rattle.sled_core.specs.Iterates.{Item, Damage, GivesOf, IsIteration}
-use Rattle.sled_core.specs.Iterators.{BorrowsFile, BorrowsLog, GoesOver, IsAhead}
+use Rattle.sled_core.specs.Iterators.{BorrowsFile, BorrowsLog, GoesOver}
+use Rattle.sled_core.specs.invariants.Iterators.{IsAhead}
 use Rattle.sled_core.specs.LogSegments.{AreSegments, begins_from}
 use Rattle.sled_core.specs.Sources.{config_in}
 

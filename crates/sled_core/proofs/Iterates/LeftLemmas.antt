@@ -18,7 +18,7 @@ use Rattle.sled_core.specs.declared.iterator.rest.Rest.{Rest}
 use Rattle.sled_core.specs.Replayed.{IsReplayed, HasBadBlob, NamesBlobOf, with_blob, IsDamagedBefore}
 use Rattle.sled_core.specs.Tail.{Scanned, open_at}
 use Rattle.sled_core.specs.Iterates.{Item, Damage, EndsAt, IsNamed, SaysDamage, items_of, stops, GivesOf, GivesBehind, IsMissing, IsIteration}
-use Rattle.sled_core.specs.Ahead.{IsGiven, IsLeft, IsSpent, LeftBehind, reads_behind}
+use Rattle.sled_core.specs.inside.Ahead.{IsGiven, IsLeft, IsSpent, LeftBehind, reads_behind}
 use Rattle.sled_core.proofs.Iterates.Named.{named_so}
 use Rattle.sled_core.proofs.Iterates.OneReplay.{gives_as, one_damage, replayed_ends, replayed_undamaged, replayed_gives}
 use Rattle.sled_core.proofs.Iterates.TurnLemmas.{none_so}

@@ -9,9 +9,11 @@ use Rattle.sled_core.specs.declared.iterator.log_iter.LogIter.{LogIter}
 use Rattle.sled_core.specs.declared.iterator.log_iter.Source.{Source}
 use Rattle.sled_core.specs.declared.iterator.log_iter.Source.TheVariants as source
 use Rattle.sled_core.specs.declared.logger.Log.{Log}
-use Rattle.sled_core.specs.Ahead.{IsLeft, IsSpent, most_left}
+use Rattle.sled_core.specs.inside.Ahead.{IsLeft, IsSpent, most_left}
 use Rattle.sled_core.specs.Iterates.{Item, Damage, NextGives, NextAnswers, BehindLast}
-use Rattle.sled_core.specs.Iterators.{IsAhead, IsNext, IsOver, IsReadFor, LogIsReadFor, items_for, most_ahead}
+use Rattle.sled_core.specs.invariants.Iterators.{IsAhead, IsOver}
+use Rattle.sled_core.specs.Iterators.{IsNext, IsReadFor, LogIsReadFor}
+use Rattle.sled_core.specs.inside.Iterators.{items_for, most_ahead}
 use Rattle.sled_core.specs.Keeps.{OnlyReads}
 use Rattle.sled_core.specs.Sources.{BorrowSame, config_in}
 use Rattle.sled_core.proofs.Iterates.LeftLemmas.{left_still}

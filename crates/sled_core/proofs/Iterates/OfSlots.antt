@@ -5,7 +5,8 @@ use Rattle.std.proofs.lemmas.List.Elements.{All-cons, All-nil}
 use Rattle.std.proofs.lemmas.List.{append_assoc, append-nil}
 use Rattle.sled_store.specs.SegmentStates.{SlotState, free_slot}
 use Rattle.sled_core.specs.declared.iterator.Segment.{Segment}
-use Rattle.sled_core.specs.LogSegments.{list_of, segment_within, segments_among}
+use Rattle.sled_core.specs.inside.LogSegments.{list_of}
+use Rattle.sled_core.specs.LogSegments.{segment_within, segments_among}
 
 -- those of one slot more
 pub among_further : (size from to i : ℕ) (slots : List SlotState) (k j : ℕ) → j ≡ i + k → k < length slots → segments_among size from to i (take (suc k) slots) ≡ segments_among size from to i (take k slots) ++ segment_within size from to j (get_or slots k free_slot)

@@ -12,7 +12,7 @@ use Rattle.sled_core.specs.Reading.{IsMalformed, StandsAt, file_of}
 use Rattle.sled_core.specs.Scan.{IsMet, EndsThere, IsPath, IsEnd, IsScan, IsDamagedIn}
 use Rattle.sled_core.specs.declared.iterator.Segment.{Segment}
 use Rattle.sled_core.proofs.Read.ScanLemmas.{aligned_offset}
-use Rattle.sled_core.specs.Ahead.{IsDamagedBehind}
+use Rattle.sled_core.specs.inside.Ahead.{IsDamagedBehind}
 use Rattle.sled_core.specs.Replayed.{CanBeRead, IsDamagedBefore}
 use Rattle.sled_core.specs.Tail.{open_at}
 

@@ -2,7 +2,7 @@
 use Rattle.std.proofs.Common.{◌≡◌, ◌<◌, ◌≤◌, ℕ, Bool, true, false, length, inl, inr, refl, ap, sym, subst, arith}
 use Rattle.std.proofs.lemmas.Bool.{cases_lt}
 use Rattle.sled_core.specs.declared.iterator.rest.Rest.{Rest}
-use Rattle.sled_core.specs.Ahead.{IsSpent, items_at, most_left}
+use Rattle.sled_core.specs.inside.Ahead.{IsSpent, items_at, most_left}
 
 -- all was passed over
 module _ (r q : Rest) (is : q ≡ record r { read = length r.segments.items; given = length r.met.items; damaged = false }) where

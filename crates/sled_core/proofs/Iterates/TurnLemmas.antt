@@ -11,7 +11,7 @@ use Rattle.sled_core.specs.declared.iterator.scan.RecordContent.{RecordContent}
 use Rattle.sled_core.specs.declared.iterator.scan.RecordContent.TheVariants.{Gives, NamesBlob, Skipped, BatchStart}
 use Rattle.sled_core.specs.Replayed.{HasBadBlob, with_blob, resolved}
 use Rattle.sled_core.specs.Iterates.{Item, Damage, items_of, NextGives, SaysDamage}
-use Rattle.sled_core.specs.Ahead.{those_of}
+use Rattle.sled_core.specs.inside.Ahead.{those_of}
 
 -- a record with its blob is the message that it is at its own place
 with_place : (m : ScannedRecord) (what w : RecordContent) → items_of (record { place = m.place; len = m.len; what = what }) w ≡ items_of m w

@@ -16,9 +16,9 @@ use Rattle.sled_core.specs.Causes.{Answers, HeldAnswers}
 use Rattle.sled_core.specs.Fits.{KeepsTickets, current_begin, device_of, fault_of, holding_below, line_of, start_of, synced_end, waiting_of, writing_below}
 use Rattle.sled_core.specs.Fronts.{syncs}
 use Rattle.sled_core.specs.Keeps.{Preserves, SamePosition}
-use Rattle.sled_core.specs.Marked.{KeepsSegment}
-use Rattle.sled_core.specs.SealedBuffers.{first_ready}
-use Rattle.sled_core.specs.Turned.{IsReadyIn, promoted, ready_below, write_in, written_now}
+use Rattle.sled_core.specs.inside.Marked.{KeepsSegment}
+use Rattle.sled_core.specs.inside.SealedBuffers.{first_ready}
+use Rattle.sled_core.specs.inside.Turned.{IsReadyIn, promoted, ready_below, write_in, written_now}
 use Rattle.sled_core.specs.Waiting.{BufferAt, held_below, unwritten, writes_below}
 use Rattle.sled_core.proofs.Line.KeptCalls.{kept_further, kept_still, position_further, position_still, tickets_further, tickets_still}
 use Rattle.sled_core.proofs.Line.HeaderMarks.{segment_further, segment_written}

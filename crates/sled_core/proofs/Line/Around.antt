@@ -7,12 +7,14 @@ use Rattle.std.proofs.lemmas.List.{drop-drop}
 use Rattle.std.proofs.lemmas.List.Elements.{Contains-append_cases, Contains-append_left, Contains-append_right}
 use Rattle.sled_store.specs.Device.{Event}
 use Rattle.sled_store.proofs.Segments.Elements.{in_first, in_rest}
-use Rattle.sled_core.specs.Begun.{AreFilled, SegmentView, begin_of}
+use Rattle.sled_core.specs.inside.Begun.{AreFilled}
+use Rattle.sled_core.specs.Begun.{SegmentView, begin_of}
 use Rattle.sled_core.specs.declared.iobuf.Reserved.{Reserved}
 use Rattle.sled_core.specs.declared.iobuf.Sealed.{Sealed}
 use Rattle.sled_core.specs.declared.iobuf.SegmentPosition.{SegmentPosition}
-use Rattle.sled_core.specs.SealedBuffers.{AreSealed, sealed_count, sealed_end, writing, written_at}
-use Rattle.sled_core.specs.Turned.{written_now}
+use Rattle.sled_core.specs.inside.SealedBuffers.{AreSealed, written_at}
+use Rattle.sled_core.specs.SealedBuffers.{sealed_count, sealed_end, writing}
+use Rattle.sled_core.specs.inside.Turned.{written_now}
 use Rattle.sled_core.specs.Waiting.{BufferAt, buffer_at, has_place, held_around, none_around, unless_held, unwritten, unwritten_in, unwritten_of, without_around, write_around}
 use Rattle.sled_core.proofs.Line.Below.{BeginFrom, lie_begin}
 use Rattle.sled_core.proofs.Line.Lying.{LieBetween, end_of, lie_up, line_lie, unwritten_lie, unwritten_run}

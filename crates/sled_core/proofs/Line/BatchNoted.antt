@@ -9,21 +9,22 @@ use Rattle.sled_store.specs.Device.{Trace, state_of}
 use Rattle.sled_store.specs.declared.config.RunningConfig.{RunningConfig}
 use Rattle.sled_core.specs.Batches.{LiesInNoFilling, NotesBatchOf, batch_for}
 use Rattle.sled_core.specs.Begun.{SegmentView, line_in, segment_view}
-use Rattle.sled_core.specs.Buffers.{IsHeaded, marking}
+use Rattle.sled_core.specs.inside.Buffers.{IsHeaded, marking}
 use Rattle.sled_core.specs.declared.iobuf.ReservationState.TheVariants.{Manifest}
 use Rattle.sled_core.specs.declared.iobuf.Reserved.{Reserved}
 use Rattle.sled_core.specs.declared.logger.Log.{Log}
 use Rattle.sled_core.specs.declared.reservation.Reservation.{Reservation}
-use Rattle.sled_core.specs.Fits.{Awaits, AwaitsIn, Holds, KeepsAll, KeepsBuffers, config_of, current_of, fault_of, kept_batches, line_of, noted_in, open_places, reserved_end, synced_end}
+use Rattle.sled_core.specs.Fits.{Awaits, AwaitsIn, KeepsAll, KeepsBuffers, config_of, current_of, fault_of, kept_batches, line_of, noted_in, open_places, reserved_end, synced_end}
+use Rattle.sled_core.specs.invariants.Fits.{Holds}
 use Rattle.sled_core.specs.Keeps.{GoesOn, KeepsOthers, SamePosition}
 use Rattle.sled_core.specs.Logged.{logged, in_log}
 use Rattle.sled_core.specs.Manifests.{is_manifest}
 use Rattle.sled_core.specs.OpenBatches.{stable_below, with_batch}
 use Rattle.sled_core.specs.OpenPlaces.{TakesOut, open_places_along}
 use Rattle.sled_core.specs.Positions.{position_in}
-use Rattle.sled_core.specs.Running.{Fits}
+use Rattle.sled_core.specs.invariants.Running.{Fits}
 use Rattle.sled_core.specs.Tickets.{IsFor, index_of, is_manifest_of, place_of}
-use Rattle.sled_core.specs.Turned.{ChangesLine, NotesBatch, ended_now}
+use Rattle.sled_core.specs.inside.Turned.{ChangesLine, NotesBatch, ended_now}
 use Rattle.sled_core.specs.Waiting.{last_of, spans, start_in, unwritten}
 use Rattle.sled_core.proofs.Behind.FirstHoldsMarked.{noted_adds, noted_history}
 use Rattle.sled_core.proofs.Line.KeptCalls.{goes_on_quietly, position_further}

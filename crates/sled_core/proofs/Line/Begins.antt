@@ -17,21 +17,26 @@ use Rattle.sled_store.specs.SegmentStates.{Machine, handed_out, next_slot}
 use Rattle.sled_core.specs.declared.iobuf.SegmentPosition.{SegmentPosition}
 use Rattle.sled_core.specs.declared.logger.Log.{Log}
 use Rattle.sled_core.specs.declared.reservation.Reservation.{Reservation}
-use Rattle.sled_core.specs.Begun.{SegmentParts, SegmentView, begin_of, first_place, segment_view}
-use Rattle.sled_core.specs.Buffers.{IsHeaded}
+use Rattle.sled_core.specs.Begun.{SegmentParts, SegmentView, begin_of, segment_view}
+use Rattle.sled_core.specs.inside.Begun.{first_place}
+use Rattle.sled_core.specs.inside.Buffers.{IsHeaded}
 use Rattle.sled_core.specs.Logged.{logged, in_log}
 use Rattle.sled_core.specs.Tickets.{IsFor, index_of}
 use Rattle.sled_core.specs.declared.iobuf.Reserved.{Reserved}
-use Rattle.sled_core.specs.Fits.{written_to, AwaitsIn, CloseBelow, FitsBatches, HasMark, Holds, HoldsIn, HoldsLine, HoldsWith, KeepsAll, KeepsTickets, current_of, device_of, fault_of, line_end, line_of, noted_in, log_parts, machine_at, parts_in, pins_of, position_of, segment_size_of, stable_end, synced_end}
-use Rattle.sled_core.specs.FreeSlots.{HasSlot, HasSlots, HaveOwn}
+use Rattle.sled_core.specs.inside.Fits.{written_to, FitsBatches, HasMark, HoldsIn, HoldsLine, HoldsWith, log_parts, parts_in}
+use Rattle.sled_core.specs.Fits.{AwaitsIn, CloseBelow, KeepsAll, KeepsTickets, current_of, device_of, fault_of, line_of, noted_in, machine_at, pins_of, position_of, segment_size_of, stable_end, synced_end}
+use Rattle.sled_core.specs.invariants.Fits.{Holds}
+use Rattle.sled_core.specs.inside.Begun.{line_end}
+use Rattle.sled_core.specs.inside.FreeSlots.{HasSlot, HasSlots, HaveOwn}
 use Rattle.sled_core.specs.Keeps.{Preserves}
 use Rattle.sled_core.specs.OpenPlaces.{open_places_along}
 use Rattle.sled_core.specs.Positions.{is_short, next_segment_at, position_in}
-use Rattle.sled_core.specs.Recoverable.{IsMarkOf}
+use Rattle.sled_core.specs.inside.Recoverable.{IsMarkOf}
 use Rattle.sled_core.specs.OpenBatches.{stable_below}
-use Rattle.sled_core.specs.Running.{Fits, FitsIn, FitsLine, FitsWith}
-use Rattle.sled_core.specs.Slots.{AreBegun, HaveEntries}
-use Rattle.sled_core.specs.Turned.{ChangesSlots, begun_view, next_line}
+use Rattle.sled_core.specs.invariants.Running.{Fits}
+use Rattle.sled_core.specs.inside.Running.{FitsIn, FitsLine, FitsWith}
+use Rattle.sled_core.specs.inside.Slots.{AreBegun, HaveEntries}
+use Rattle.sled_core.specs.inside.Turned.{ChangesSlots, begun_view, next_line}
 use Rattle.sled_core.specs.Waiting.{at_last, closed_now, filled_now, last_of}
 use Rattle.sled_core.proofs.Behind.Around.{behind_place, behind_place_is}
 use Rattle.sled_core.proofs.Behind.Begins.{behind-begins}

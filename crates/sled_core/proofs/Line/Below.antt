@@ -6,13 +6,15 @@ use Rattle.std.proofs.lemmas.List.{append-nil, take-append-drop}
 use Rattle.sled_store.specs.Device.{Event}
 use Rattle.sled_store.proofs.Segments.Elements.{in_first}
 use Rattle.std.proofs.lemmas.List.Elements.{All-head, All-tail}
-use Rattle.sled_core.specs.Begun.{AreFilled, SegmentView, begin_of}
+use Rattle.sled_core.specs.inside.Begun.{AreFilled}
+use Rattle.sled_core.specs.Begun.{SegmentView, begin_of}
 use Rattle.sled_core.specs.declared.iobuf.Reserved.{Reserved}
 use Rattle.sled_core.specs.declared.iobuf.Sealed.{Sealed}
 use Rattle.sled_core.specs.declared.iobuf.SegmentPosition.{SegmentPosition}
 use Rattle.sled_core.specs.Buffers.{first_open_in, none_open, open_in}
-use Rattle.sled_core.specs.SealedBuffers.{AreSealed, FirstUnwritten, behind_run, bytes_between, first_ready, is_ready, run_count, run_end, sealed_end, writing, written_at}
-use Rattle.sled_core.specs.Turned.{promoted, ready_below, write_in, written_now}
+use Rattle.sled_core.specs.inside.SealedBuffers.{AreSealed, FirstUnwritten, behind_run, first_ready, is_ready, run_count, run_end, written_at}
+use Rattle.sled_core.specs.SealedBuffers.{bytes_between, sealed_end, writing}
+use Rattle.sled_core.specs.inside.Turned.{promoted, ready_below, write_in, written_now}
 use Rattle.sled_core.specs.Waiting.{BufferAt, buffer_at, first_held, held_below, placed, unless_held, unwritten, unwritten_in, writes_below}
 use Rattle.sled_core.proofs.Line.Lying.{LieBetween, end_of, line_lie, promoted_unwritten, segments_within, set_within, unwritten_run}
 use Rattle.sled_core.proofs.Line.Segments.{AreSegments}

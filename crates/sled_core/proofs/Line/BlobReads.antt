@@ -26,16 +26,24 @@ use Rattle.sled_store.proofs.Segments.TableEntries.{from_table}
 use Rattle.sled_core.specs.declared.logger.Log.{Log}
 use Rattle.sled_core.specs.declared.logger.read_message.LogRead.{LogRead}
 use Rattle.sled_core.specs.declared.logger.read_message.LogRead.TheVariants as read
-use Rattle.sled_core.specs.Begun.{line_end, segment_view}
-use Rattle.sled_core.specs.Reached.{StandsAmong, StandsTo}
-use Rattle.sled_core.specs.Fits.{begun_segment, parts_in, device_of, fault_of, line_of, machine_at, noted_in, segment_size_of, stable_end, synced_end}
+use Rattle.sled_core.specs.inside.Begun.{line_end}
+use Rattle.sled_core.specs.Begun.{segment_view}
+use Rattle.sled_core.specs.inside.Reached.{StandsAmong, StandsTo}
+use Rattle.sled_core.specs.inside.Fits.{begun_segment, parts_in}
+use Rattle.sled_core.specs.Fits.{device_of, fault_of, line_of, machine_at, noted_in, segment_size_of, stable_end, synced_end}
 use Rattle.sled_core.specs.Logged.{in_log, logged}
 use Rattle.sled_core.specs.OpenBatches.{stable_below}
-use Rattle.sled_core.specs.Causes.{IsFault, RecordAnswers}
+use Rattle.sled_core.specs.Causes.{IsFault}
+use Rattle.sled_core.specs.inside.Causes.{RecordAnswers}
 use Rattle.sled_core.specs.Reading.{GivesMessage, IsInline}
-use Rattle.sled_core.specs.ReadPointer.{GivesBlob, IsBlobDamage, IsBlobRead, IsDamageOf, IsReadOf, IsStableBlob, place_read}
-use Rattle.sled_core.specs.Recoverable.{BlobIsBelow, HasItem, IsSegmentOf, NoHeaderOfZeros}
-use Rattle.sled_core.specs.Running.{Fits, FitsWith, KeepsItem}
+use Rattle.sled_core.specs.ReadPointer.{GivesBlob, IsBlobDamage, IsBlobRead, IsReadOf, IsStableBlob, place_read}
+use Rattle.sled_core.specs.inside.ReadPointer.{IsDamageOf}
+use Rattle.sled_core.specs.Reading.{BlobIsBelow}
+use Rattle.sled_core.specs.inside.Recoverable.{HasItem, IsSegmentOf}
+use Rattle.sled_core.specs.Recoverable.{NoHeaderOfZeros}
+use Rattle.sled_core.specs.invariants.Running.{Fits}
+use Rattle.sled_core.specs.inside.Running.{FitsWith}
+use Rattle.sled_core.specs.Running.{KeepsItem}
 use Rattle.sled_core.proofs.Holds.FitsBatches.{stable_noted}
 use Rattle.sled_core.proofs.Holds.WholeHistory.{whole_ascends}
 use Rattle.sled_core.proofs.Line.Reads.{fault_missed}

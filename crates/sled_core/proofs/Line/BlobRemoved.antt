@@ -15,13 +15,17 @@ use Rattle.sled_store.proofs.Traces.MomentLemmas.{at_last}
 use Rattle.sled_store.proofs.Traces.ScriptLemmas.{later_performed, performs_throughout}
 use Rattle.sled_core.specs.declared.logger.Log.{Log}
 use Rattle.sled_core.specs.Begun.{SegmentView}
-use Rattle.sled_core.specs.Causes.{fault_in}
-use Rattle.sled_core.specs.Fits.{Holds, HoldsWith, config_of, device_of, fault_of, line_of, machine_at, noted_in, pins_of, segment_size_of}
+use Rattle.sled_core.specs.inside.Causes.{fault_in}
+use Rattle.sled_core.specs.invariants.Fits.{Holds}
+use Rattle.sled_core.specs.inside.Fits.{HoldsWith}
+use Rattle.sled_core.specs.Fits.{config_of, device_of, fault_of, line_of, machine_at, noted_in, pins_of, segment_size_of}
 use Rattle.sled_core.specs.Logged.{logged}
 use Rattle.sled_core.specs.OwnBlobs.{AreBeside, IsBeside, PreservesWithout, RemovesBlob, removing}
 use Rattle.sled_core.specs.Recoverable.{LeavesRecoverable, RecoverableIfOwn}
-use Rattle.sled_core.specs.Running.{Fits, FitsWith, IsStored, KeepsItem}
-use Rattle.sled_core.specs.Turned.{ChangesDevice}
+use Rattle.sled_core.specs.invariants.Running.{Fits}
+use Rattle.sled_core.specs.inside.Running.{FitsWith}
+use Rattle.sled_core.specs.Running.{IsStored, KeepsItem}
+use Rattle.sled_core.specs.inside.Turned.{ChangesDevice}
 use Rattle.sled_core.proofs.Blobs.Along.{fits_removed, leaves_removing}
 use Rattle.sled_core.proofs.Blobs.ItemsStay.{items_removed}
 use Rattle.sled_core.proofs.Blobs.Over.{holds_over_names}

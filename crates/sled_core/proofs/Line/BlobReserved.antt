@@ -23,18 +23,22 @@ use Rattle.sled_core.specs.declared.iobuf.record.Head.{Head}
 use Rattle.sled_core.specs.declared.logger.Log.{Log}
 use Rattle.sled_core.specs.declared.reservation.Reservation.{Reservation}
 use Rattle.sled_core.specs.Buffers.{item_as, pointer_as}
-use Rattle.sled_core.specs.Begun.{SegmentView, last_buffer_in, segment_view}
+use Rattle.sled_core.specs.Begun.{SegmentView, segment_view}
+use Rattle.sled_core.specs.inside.Begun.{last_buffer_in}
 use Rattle.sled_core.specs.Causes.{HasRecordPlace, ReserveAnswers}
-use Rattle.sled_core.specs.Fits.{AwaitsIn, IsLeastOpen, IsUsedUpFor, KeepsAll, KeepsTickets, current_of, device_of, fault_of, line_of, machine_at, message_as, next_place, position_of, segment_size_of, size_for, target_of, written_to}
+use Rattle.sled_core.specs.Fits.{AwaitsIn, IsLeastOpen, IsUsedUpFor, KeepsAll, KeepsTickets, current_of, device_of, fault_of, line_of, machine_at, message_as, next_place, position_of, segment_size_of, size_for, target_of}
+use Rattle.sled_core.specs.inside.Fits.{written_to}
 use Rattle.sled_core.specs.Keeps.{KeepsSeen, Preserves}
 use Rattle.sled_core.specs.Logged.{in_log}
 use Rattle.sled_core.specs.Manifests.{is_manifest, kind_for}
 use Rattle.sled_core.specs.OpenPlaces.{open_places_along}
 use Rattle.sled_core.specs.Positions.{Position, is_short, lid_at, next_segment_at}
-use Rattle.sled_core.specs.Prepared.{IsMadeReady, IsPrepared, next_here}
-use Rattle.sled_core.specs.Reserves.{MadeAnswers, RefusalLeaves, ReservesAs, TouchesBlob, reserve_causes}
+use Rattle.sled_core.specs.Prepared.{IsMadeReady}
+use Rattle.sled_core.specs.inside.Prepared.{IsPrepared, next_here}
+use Rattle.sled_core.specs.inside.Reserves.{MadeAnswers}
+use Rattle.sled_core.specs.Reserves.{RefusalLeaves, ReservesAs, TouchesBlob, reserve_causes}
 use Rattle.sled_core.specs.Running.{IsStored, KeepsItem}
-use Rattle.sled_core.specs.Turned.{ChangesDevice, HasPlace, HasRoomForBatch, HasRoomIn}
+use Rattle.sled_core.specs.inside.Turned.{ChangesDevice, HasPlace, HasRoomForBatch, HasRoomIn}
 use Rattle.sled_core.specs.Waiting.{last_of, start_in, unwritten}
 use Rattle.sled_core.proofs.Blobs.ItemsStay.{blobs_made, item_made}
 use Rattle.sled_core.proofs.Line.KeptCalls.{kept_further}

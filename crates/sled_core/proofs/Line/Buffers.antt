@@ -3,15 +3,17 @@ use Rattle.std.proofs.Common.{◌≡◌, ◌∙◌, ◌<◌, ◌≤◌, ◌+◌,
 use Rattle.std.specs.List.{slice_get}
 use Rattle.std.proofs.lemmas.Bool.Decides.{nat_tests}
 use Rattle.std.proofs.lemmas.List.{drop-drop, length-map}
-use Rattle.sled_core.specs.Begun.{AreFilled, SegmentView, begin_of, segment_view}
+use Rattle.sled_core.specs.inside.Begun.{AreFilled}
+use Rattle.sled_core.specs.Begun.{SegmentView, begin_of, segment_view}
 use Rattle.sled_core.specs.Buffers.{first_open_in, open_in, open_state}
 use Rattle.sled_core.specs.declared.iobuf.Reserved.{Reserved}
 use Rattle.sled_core.specs.declared.iobuf.Sealed.{Sealed}
 use Rattle.sled_core.specs.declared.iobuf.SegmentPosition.{SegmentPosition}
 use Rattle.sled_core.specs.declared.logger.Log.{Log}
 use Rattle.sled_core.specs.Fits.{FirstWaits, current_begin, synced_end, waiting_of}
-use Rattle.sled_core.specs.SealedBuffers.{AreSealed, FirstUnwritten, behind_run, bytes_between, is_ready, now_written, ready_count, ready_marked, ready_write, run_count, run_end, sealed_end, writing, written_at}
-use Rattle.sled_core.specs.Turned.{IsReadyIn, promoted, write_in, written_now}
+use Rattle.sled_core.specs.inside.SealedBuffers.{AreSealed, FirstUnwritten, behind_run, is_ready, now_written, ready_count, ready_marked, ready_write, run_count, run_end, written_at}
+use Rattle.sled_core.specs.SealedBuffers.{bytes_between, sealed_end, writing}
+use Rattle.sled_core.specs.inside.Turned.{IsReadyIn, promoted, write_in, written_now}
 use Rattle.sled_core.specs.Waiting.{BufferAt, buffer_at, is_unheld, last_of, pending_in, placed, unwritten, unwritten_in, unwritten_of, without_pending, write_pending}
 use Rattle.sled_core.proofs.Holds.Facts.{IsSegment}
 use Rattle.sled_core.proofs.Line.Segments.{AreSegments, by_front, full_unsealed}

@@ -12,12 +12,15 @@ use Rattle.sled_core.specs.declared.iobuf.ReservationState.TheVariants.{Open}
 use Rattle.sled_core.specs.declared.iobuf.Reserved.{Reserved}
 use Rattle.sled_core.specs.declared.iobuf.Sealed.{Sealed}
 use Rattle.sled_core.specs.declared.iobuf.SegmentPosition.{SegmentPosition}
-use Rattle.sled_core.specs.Begun.{AreFilled, SegmentView, begin_of}
-use Rattle.sled_core.specs.Buffers.{IsHeaded, ending, padding_at}
-use Rattle.sled_core.specs.Caps.{segment_rest}
+use Rattle.sled_core.specs.inside.Begun.{AreFilled}
+use Rattle.sled_core.specs.Begun.{SegmentView, begin_of}
+use Rattle.sled_core.specs.inside.Buffers.{IsHeaded, ending}
+use Rattle.sled_core.specs.Buffers.{padding_at}
+use Rattle.sled_core.specs.invariants.Caps.{segment_rest}
 use Rattle.sled_core.specs.Positions.{is_short}
-use Rattle.sled_core.specs.SealedBuffers.{one_ended, seal_at, sealed_count}
-use Rattle.sled_core.specs.Turned.{ended_now}
+use Rattle.sled_core.specs.inside.SealedBuffers.{one_ended}
+use Rattle.sled_core.specs.SealedBuffers.{seal_at, sealed_count}
+use Rattle.sled_core.specs.inside.Turned.{ended_now}
 use Rattle.sled_core.specs.Waiting.{as_sealed, at_last, buffers_in, closed_now, holds_any, sealed_now, turned_now, unwritten, unwritten_in, unwritten_of, with_filling}
 use Rattle.sled_core.proofs.Line.EndedLine.{ended_bytes}
 use Rattle.sled_core.proofs.Holds.Facts.{IsSegment}

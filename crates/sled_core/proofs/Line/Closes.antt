@@ -6,14 +6,16 @@ use Rattle.std.proofs.lemmas.Bool.Decides.{nat_tests}
 use Rattle.std.proofs.lemmas.List.{map-append}
 use Rattle.sled_codec.specs.History.{History, Message}
 use Rattle.sled_store.specs.Device.{State}
-use Rattle.sled_core.specs.Begun.{IsUnfilled, SegmentParts, SegmentView, begin_of, records_to}
-use Rattle.sled_core.specs.Buffers.{message_in, none_open, open_state, padding_at, records_end, pointer_as, item_as}
-use Rattle.sled_core.specs.Caps.{segment_rest}
+use Rattle.sled_core.specs.inside.Begun.{IsUnfilled}
+use Rattle.sled_core.specs.Begun.{SegmentParts, SegmentView, begin_of, records_to}
+use Rattle.sled_core.specs.Buffers.{message_in, none_open, open_state, padding_at, pointer_as, item_as}
+use Rattle.sled_core.specs.inside.Buffers.{records_end}
+use Rattle.sled_core.specs.invariants.Caps.{segment_rest}
 use Rattle.sled_core.specs.declared.iobuf.Reserved.{Reserved}
 use Rattle.sled_core.specs.declared.iobuf.Sealed.{Sealed}
-use Rattle.sled_core.specs.Fits.{HoldsIn, HoldsLine, LogParts, log_parts, parts_in}
+use Rattle.sled_core.specs.inside.Fits.{HoldsIn, HoldsLine, LogParts, log_parts, parts_in}
 use Rattle.sled_core.specs.Logged.{logged}
-use Rattle.sled_core.specs.Running.{FitsIn, FitsLine}
+use Rattle.sled_core.specs.inside.Running.{FitsIn, FitsLine}
 use Rattle.sled_core.specs.SealedBuffers.{seal_at, sealed_count}
 use Rattle.sled_core.specs.Waiting.{at_last, closed_now, filled_now, last_of, sealed_now, with_filling}
 use Rattle.sled_core.proofs.Behind.Calls.{behind-filled, behind-sealed, segment-filled}

@@ -6,9 +6,10 @@ use Rattle.sled_core.specs.declared.iobuf.Reserved.{Reserved}
 use Rattle.sled_core.specs.declared.iobuf.Sealed.{Sealed}
 use Rattle.sled_core.specs.declared.iobuf.SegmentPosition.{SegmentPosition}
 use Rattle.sled_core.specs.Buffers.{padding_at}
-use Rattle.sled_core.specs.Caps.{segment_rest}
+use Rattle.sled_core.specs.invariants.Caps.{segment_rest}
 use Rattle.sled_core.specs.Positions.{is_short}
-use Rattle.sled_core.specs.SealedBuffers.{AreSealed, bytes_between, seal_at, sealed_count, sealed_end}
+use Rattle.sled_core.specs.inside.SealedBuffers.{AreSealed}
+use Rattle.sled_core.specs.SealedBuffers.{bytes_between, seal_at, sealed_count, sealed_end}
 use Rattle.sled_core.specs.Waiting.{BufferAt, as_sealed, buffer_at, buffers_in, filled_now, held_below, holds_any, sealed_now, turned_now, unwritten, unwritten_in, unwritten_of, with_filling, writes_below}
 use Rattle.sled_core.proofs.Line.Below.{BeginFrom, begin_lower, held_front, writes_front}
 use Rattle.sled_core.proofs.Holds.Facts.{IsSegment}

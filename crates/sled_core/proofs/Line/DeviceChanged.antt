@@ -6,11 +6,14 @@ use Rattle.sled_store.specs.Accounts.{machine_of}
 use Rattle.sled_store.specs.Device.{State, Trace, state_of}
 use Rattle.sled_store.specs.declared.config.Config.{Config}
 use Rattle.sled_core.specs.declared.logger.Log.{Log}
-use Rattle.sled_core.specs.Fits.{Holds, HoldsWith, device_of, fault_of, kept_batches, line_of, machine_at, noted_in, pins_of, segment_size_of, synced_end, written_to}
+use Rattle.sled_core.specs.invariants.Fits.{Holds}
+use Rattle.sled_core.specs.inside.Fits.{HoldsWith, written_to}
+use Rattle.sled_core.specs.Fits.{device_of, fault_of, kept_batches, line_of, machine_at, noted_in, pins_of, segment_size_of, synced_end}
 use Rattle.sled_core.specs.Logged.{logged}
 use Rattle.sled_core.specs.OpenBatches.{not_whole}
-use Rattle.sled_core.specs.Running.{Fits, FitsWith}
-use Rattle.sled_core.specs.Turned.{ChangesDevice}
+use Rattle.sled_core.specs.invariants.Running.{Fits}
+use Rattle.sled_core.specs.inside.Running.{FitsWith}
+use Rattle.sled_core.specs.inside.Turned.{ChangesDevice}
 use Rattle.sled_core.proofs.Line.Faulty.{fits_with_kept, fits_with_same, holds_with_kept, holds_with_same}
 use Rattle.sled_core.proofs.Line.LineEnds.{kept_same, noted_later, noted_same}
 use Rattle.sled_core.proofs.Line.LogWrites.{same_line}

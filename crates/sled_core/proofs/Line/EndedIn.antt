@@ -10,12 +10,14 @@ use Rattle.sled_core.specs.declared.iobuf.Reserved.{Reserved}
 use Rattle.sled_core.specs.declared.logger.Log.{Log}
 use Rattle.sled_core.specs.declared.logger.io_bufs.IoBufs.{IoBufs}
 use Rattle.sled_core.specs.declared.logger.io_bufs.SegmentBuffer.{SegmentBuffer}
-use Rattle.sled_core.specs.Begun.{AreFilled, LieWithin, SegmentView, line_in, open_segments, segment_view, with_nth}
-use Rattle.sled_core.specs.Buffers.{canceling, completing, marking, open_state}
+use Rattle.sled_core.specs.inside.Begun.{AreFilled, LieWithin, open_segments, with_nth}
+use Rattle.sled_core.specs.Begun.{SegmentView, line_in, segment_view}
+use Rattle.sled_core.specs.inside.Buffers.{canceling, completing, marking}
+use Rattle.sled_core.specs.Buffers.{open_state}
 use Rattle.sled_core.specs.Fits.{line_of, segment_size_of}
 use Rattle.sled_core.specs.Manifests.{is_manifest}
-use Rattle.sled_core.specs.OpenPlaces.{open_manifests}
-use Rattle.sled_core.specs.Turned.{EndsAs, HasOpenIn, ended_now}
+use Rattle.sled_core.specs.inside.OpenPlaces.{open_manifests}
+use Rattle.sled_core.specs.inside.Turned.{EndsAs, HasOpenIn, ended_now}
 use Rattle.sled_core.proofs.Line.EndedLine.{canceling_short, completing_short, ended_view, filled_over, marking_short}
 use Rattle.sled_core.proofs.Holds.Facts.{nth_facts}
 use Rattle.sled_core.proofs.Line.NthOpen.{line_with, nth_is, nth_same, nth_within, within_with}

@@ -16,14 +16,17 @@ use Rattle.sled_core.specs.declared.iobuf.Sealed.{Sealed}
 use Rattle.sled_core.specs.declared.iobuf.SegmentPosition.{SegmentPosition}
 use Rattle.sled_core.specs.declared.logger.Log.{Log}
 use Rattle.sled_core.specs.Begun.{SegmentView, segment_view}
-use Rattle.sled_core.specs.Fits.{Holds, HoldsWith, KeepsAll, current_of, line_of, noted_in, synced_end}
+use Rattle.sled_core.specs.invariants.Fits.{Holds}
+use Rattle.sled_core.specs.inside.Fits.{HoldsWith}
+use Rattle.sled_core.specs.Fits.{KeepsAll, current_of, line_of, noted_in, synced_end}
 use Rattle.sled_core.specs.Keeps.{GoesOn, SamePosition}
 use Rattle.sled_core.specs.Logged.{logged}
 use Rattle.sled_core.specs.Positions.{is_short, next_segment_at, position_in}
 use Rattle.sled_core.specs.OpenBatches.{not_whole}
-use Rattle.sled_core.specs.Running.{Fits, FitsWith}
-use Rattle.sled_core.specs.SealedBuffers.{one_ended, one_fewer}
-use Rattle.sled_core.specs.Turned.{ChangesLine, ended_now}
+use Rattle.sled_core.specs.invariants.Running.{Fits}
+use Rattle.sled_core.specs.inside.Running.{FitsWith}
+use Rattle.sled_core.specs.inside.SealedBuffers.{one_ended, one_fewer}
+use Rattle.sled_core.specs.inside.Turned.{ChangesLine, ended_now}
 use Rattle.sled_core.specs.Waiting.{buffer_at, unwritten_in}
 use Rattle.sled_core.proofs.Line.KeptCalls.{goes_on_quietly}
 use Rattle.sled_core.proofs.Line.LineEnds.{kept_same, noted_later, noted_same}

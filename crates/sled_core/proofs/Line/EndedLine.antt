@@ -11,11 +11,13 @@ use Rattle.sled_core.specs.declared.iobuf.ReservationState.{ReservationState}
 use Rattle.sled_core.specs.declared.iobuf.ReservationState.TheVariants.{Open, Padding}
 use Rattle.sled_core.specs.declared.iobuf.Reserved.{Reserved}
 use Rattle.sled_core.specs.declared.iobuf.SegmentPosition.{SegmentPosition}
-use Rattle.sled_core.specs.Begun.{AreFilled, SegmentView, view_at}
+use Rattle.sled_core.specs.inside.Begun.{AreFilled}
+use Rattle.sled_core.specs.Begun.{SegmentView, view_at}
 use Rattle.sled_core.proofs.Reserve.BeginBelow.{entered_ended}
-use Rattle.sled_core.specs.Buffers.{IsHeaded, body_in, canceling, completing, ended, ending, marking}
-use Rattle.sled_core.specs.SealedBuffers.{one_ended}
-use Rattle.sled_core.specs.Turned.{ended_now}
+use Rattle.sled_core.specs.inside.Buffers.{IsHeaded, canceling, completing, ended, ending, marking}
+use Rattle.sled_core.specs.Buffers.{body_in}
+use Rattle.sled_core.specs.inside.SealedBuffers.{one_ended}
+use Rattle.sled_core.specs.inside.Turned.{ended_now}
 use Rattle.sled_core.proofs.Holds.Facts.{IsSegment}
 use Rattle.sled_core.proofs.Line.Segments.{filled_set}
 use Rattle.sled_core.proofs.Reserve.MarksLemmas.{marking_long}

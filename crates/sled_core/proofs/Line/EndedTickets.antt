@@ -15,11 +15,13 @@ use Rattle.sled_core.specs.declared.iobuf.Reserved.{Reserved}
 use Rattle.sled_core.specs.declared.logger.Log.{Log}
 use Rattle.sled_core.specs.declared.reservation.Reservation.{Reservation}
 use Rattle.sled_core.specs.Begun.{SegmentView}
-use Rattle.sled_core.specs.Buffers.{IsChain, IsHeaded, ended, message_in, open_state}
-use Rattle.sled_core.specs.Fits.{Awaits, AwaitsIn, HoldsLine, line_of}
+use Rattle.sled_core.specs.inside.Buffers.{IsChain, IsHeaded, ended}
+use Rattle.sled_core.specs.Buffers.{message_in, open_state}
+use Rattle.sled_core.specs.Fits.{Awaits, AwaitsIn, line_of}
+use Rattle.sled_core.specs.inside.Fits.{HoldsLine}
 use Rattle.sled_core.specs.OpenPlaces.{TakesOut, open_places_along}
 use Rattle.sled_core.specs.Tickets.{IsFor, index_of, place_of}
-use Rattle.sled_core.specs.Turned.{HasOpenIn, ended_now}
+use Rattle.sled_core.specs.inside.Turned.{HasOpenIn, ended_now}
 use Rattle.sled_core.proofs.Holds.CompletedLemmas.{others_stay}
 use Rattle.sled_core.proofs.Line.Ends.{with_segment}
 use Rattle.sled_core.proofs.Holds.Facts.{IsSegment, nth_facts}

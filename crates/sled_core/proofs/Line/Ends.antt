@@ -17,13 +17,16 @@ use Rattle.sled_core.specs.declared.iobuf.ReservationState.TheVariants.{Open, Ca
 use Rattle.sled_core.specs.declared.iobuf.Reserved.{Reserved}
 use Rattle.sled_core.specs.declared.iobuf.SegmentPosition.{SegmentPosition}
 use Rattle.sled_core.specs.Begun.{SegmentParts, SegmentView}
-use Rattle.sled_core.specs.Buffers.{canceling, completing, message_in}
-use Rattle.sled_core.specs.Fits.{FitsBatches, line_end, written_to, HoldsIn, HoldsLine, HoldsSegment, HoldsWith, LogParts, log_parts, parts_in}
-use Rattle.sled_core.specs.FreeSlots.{HasSlot, HasSlots, HaveOwn}
-use Rattle.sled_core.specs.Running.{FitsIn, FitsLine, FitsWith, KeepsItem}
-use Rattle.sled_core.specs.Slots.{AreBegun}
-use Rattle.sled_core.specs.Turned.{ended_now}
-use Rattle.sled_core.specs.Recoverable.{BlobIsBelow}
+use Rattle.sled_core.specs.inside.Buffers.{canceling, completing}
+use Rattle.sled_core.specs.Buffers.{message_in}
+use Rattle.sled_core.specs.inside.Fits.{FitsBatches, written_to, HoldsIn, HoldsLine, HoldsSegment, HoldsWith, LogParts, log_parts, parts_in}
+use Rattle.sled_core.specs.inside.Begun.{line_end}
+use Rattle.sled_core.specs.inside.FreeSlots.{HasSlot, HasSlots, HaveOwn}
+use Rattle.sled_core.specs.inside.Running.{FitsIn, FitsLine, FitsWith}
+use Rattle.sled_core.specs.Running.{KeepsItem}
+use Rattle.sled_core.specs.inside.Slots.{AreBegun}
+use Rattle.sled_core.specs.inside.Turned.{ended_now}
+use Rattle.sled_core.specs.Reading.{BlobIsBelow}
 use Rattle.sled_core.proofs.Behind.Calls.{behind-aborted, ended_long, held_here}
 use Rattle.sled_core.proofs.Behind.Completes.{adds_here, behind-complete, completed_history}
 use Rattle.sled_core.proofs.Behind.FitsCalls.{behind-fits-aborted, behind-fits-completed}

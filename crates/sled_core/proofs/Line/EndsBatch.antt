@@ -13,14 +13,15 @@ use Rattle.sled_store.proofs.Segments.Elements.{in_first, in_rest}
 use Rattle.sled_core.specs.declared.iobuf.ReservationState.TheVariants.{Manifest, Open}
 use Rattle.sled_core.specs.declared.iobuf.Reserved.{Reserved}
 use Rattle.sled_core.specs.Begun.{SegmentView}
-use Rattle.sled_core.specs.Buffers.{marking}
-use Rattle.sled_core.specs.Fits.{FitsBatches, HoldBehind, HoldsLine, HoldsWith, line_end, parts_in, written_to}
+use Rattle.sled_core.specs.inside.Buffers.{marking}
+use Rattle.sled_core.specs.inside.Fits.{FitsBatches, HoldBehind, HoldsLine, HoldsWith, parts_in, written_to}
+use Rattle.sled_core.specs.inside.Begun.{line_end}
 use Rattle.sled_core.specs.Logged.{logged}
 use Rattle.sled_core.specs.Manifests.{is_manifest}
 use Rattle.sled_core.specs.OpenBatches.{with_batch}
-use Rattle.sled_core.specs.Running.{FitsWith}
-use Rattle.sled_core.specs.Slots.{AreBegun}
-use Rattle.sled_core.specs.Turned.{ended_now}
+use Rattle.sled_core.specs.inside.Running.{FitsWith}
+use Rattle.sled_core.specs.inside.Slots.{AreBegun}
+use Rattle.sled_core.specs.inside.Turned.{ended_now}
 use Rattle.sled_core.proofs.Flush.Completed.{all_below}
 use Rattle.sled_core.proofs.Holds.FitsBatches.{batches_noted, batches_up}
 use Rattle.sled_core.proofs.Behind.FirstHoldsMarked.{begin_from, noted_adds, noted_history}

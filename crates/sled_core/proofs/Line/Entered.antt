@@ -1,7 +1,8 @@
 -- Which reservations begin below a place: once the current buffer is sealed, and once a further segment is begun.
 use Rattle.std.proofs.Common.{◌≡◌, ◌<◌, ◌≤◌, ◌+◌, arith, refl, ℕ, Option, None, Some, List, [], ◌∷◌, ◌++◌, length, drop}
-use Rattle.sled_core.specs.Begun.{AreEntered, AreFilled, IsUnfilled, IsUsed, SegmentView, begin_of, records_to}
-use Rattle.sled_core.specs.Buffers.{records_end}
+use Rattle.sled_core.specs.inside.Begun.{AreEntered, AreFilled, IsUnfilled, IsUsed}
+use Rattle.sled_core.specs.Begun.{SegmentView, begin_of, records_to}
+use Rattle.sled_core.specs.inside.Buffers.{records_end}
 use Rattle.sled_core.specs.SealedBuffers.{seal_at, sealed_count}
 use Rattle.sled_core.specs.Waiting.{at_last, last_of, sealed_now}
 use Rattle.sled_core.proofs.Line.Segments.{AreSegments}

@@ -8,13 +8,13 @@ use Rattle.sled_store.specs.SegmentStates.{Machine}
 use Rattle.sled_store.proofs.Traces.MomentLemmas.{at_last}
 use Rattle.sled_store.proofs.Traces.ScriptLemmas.{performs_throughout}
 use Rattle.sled_core.specs.Begun.{SegmentView}
-use Rattle.sled_core.specs.Fits.{HoldsLine, HoldsWith}
-use Rattle.sled_core.specs.FreeSlots.{HasSlots}
+use Rattle.sled_core.specs.inside.Fits.{HoldsLine, HoldsWith}
+use Rattle.sled_core.specs.inside.FreeSlots.{HasSlots}
 use Rattle.sled_core.specs.Logged.{logged}
 use Rattle.sled_core.specs.OpenBatches.{stable_below}
 use Rattle.sled_core.specs.Recoverable.{LeavesRecoverable}
-use Rattle.sled_core.specs.Running.{FitsLine, FitsWith}
-use Rattle.sled_core.specs.Slots.{HaveEntries}
+use Rattle.sled_core.specs.inside.Running.{FitsLine, FitsWith}
+use Rattle.sled_core.specs.inside.Slots.{HaveEntries}
 use Rattle.sled_core.proofs.Flush.FlushLemmas.{fault_or_none, holds-faulty}
 use Rattle.sled_core.proofs.Flush.SameFits.{fits_faulty}
 

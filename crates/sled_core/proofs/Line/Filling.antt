@@ -2,7 +2,8 @@
 use Rattle.std.proofs.Common.{◌≡◌, ◌∙◌, ◌<◌, ◌≤◌, ◌+◌, ◌-◌, ◌^◌, ap, sym, refl, arith, subst, ℕ, zero, suc, List, [], ◌∷◌, length, map, set, slice_index_or, Some}
 use Rattle.std.specs.List.{slice_get}
 use Rattle.std.proofs.lemmas.Option.{slice_get_read}
-use Rattle.sled_core.specs.Begun.{FollowOn, SegmentView, line_at, segment_view, view_at}
+use Rattle.sled_core.specs.inside.Begun.{FollowOn}
+use Rattle.sled_core.specs.Begun.{SegmentView, line_at, segment_view, view_at}
 use Rattle.sled_core.specs.declared.iobuf.IoBuf.{IoBuf}
 use Rattle.sled_core.specs.declared.iobuf.SegmentPosition.{SegmentPosition}
 use Rattle.sled_core.specs.declared.logger.io_bufs.SegmentBuffer.{SegmentBuffer}

@@ -5,8 +5,9 @@ use Rattle.std.proofs.Math.Nat.{suc-mul}
 use Rattle.std.proofs.lemmas.Bool.{cases_lt, cases_order}
 use Rattle.std.proofs.lemmas.Int.{ints}
 use Rattle.sled_core.specs.Batches.{LiesInNoFilling}
-use Rattle.sled_core.specs.Begun.{AreFilled, SegmentView, records_to}
-use Rattle.sled_core.specs.Buffers.{records_end}
+use Rattle.sled_core.specs.inside.Begun.{AreFilled}
+use Rattle.sled_core.specs.Begun.{SegmentView, records_to}
+use Rattle.sled_core.specs.inside.Buffers.{records_end}
 use Rattle.sled_core.specs.declared.logger.Log.{Log}
 use Rattle.sled_core.specs.Fits.{line_of, reserved_end, segment_size_of}
 use Rattle.sled_core.proofs.Holds.PegLemmas.{IsOff, LiesOff}

@@ -7,8 +7,9 @@ use Rattle.sled_store.specs.SegmentStates.{Machine}
 use Rattle.sled_core.specs.Begun.{SegmentView, segment_view}
 use Rattle.sled_core.specs.declared.logger.Log.{Log}
 use Rattle.sled_core.specs.Fits.{current_of, line_of, stable_end}
-use Rattle.sled_core.specs.Marked.{BeginsMarked, KeepsSegment}
-use Rattle.sled_core.specs.Turned.{begun_view, promoted, written_now}
+use Rattle.sled_core.specs.Marked.{BeginsMarked}
+use Rattle.sled_core.specs.inside.Marked.{KeepsSegment}
+use Rattle.sled_core.specs.inside.Turned.{begun_view, promoted, written_now}
 use Rattle.sled_core.specs.Waiting.{last_of}
 use Rattle.sled_core.proofs.Line.Promotes.{last_promoted, last_set}
 

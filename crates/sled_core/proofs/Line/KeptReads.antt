@@ -18,15 +18,18 @@ use Rattle.sled_store.proofs.Segments.TableEntries.{from_table}
 use Rattle.sled_core.specs.declared.logger.Log.{Log}
 use Rattle.sled_core.specs.declared.logger.read_message.LogRead.{LogRead}
 use Rattle.sled_core.specs.Begun.{SegmentParts, records_to, segment_view}
-use Rattle.sled_core.specs.Fits.{HoldBehind, begun_segment, device_of, fault_of, line_of, machine_at, next_place, noted_in, parts_in, segment_size_of, synced_end}
+use Rattle.sled_core.specs.inside.Fits.{HoldBehind, begun_segment, parts_in}
+use Rattle.sled_core.specs.Fits.{device_of, fault_of, line_of, machine_at, next_place, noted_in, segment_size_of, synced_end}
 use Rattle.sled_core.specs.Logged.{in_log}
 use Rattle.sled_core.specs.OpenBatches.{stable_below}
-use Rattle.sled_core.specs.Reached.{StandsAmong, StandsIn, StandsTo}
-use Rattle.sled_core.specs.ReadBuffer.{SettleAnswers}
+use Rattle.sled_core.specs.inside.Reached.{StandsAmong, StandsIn, StandsTo}
+use Rattle.sled_core.specs.inside.ReadBuffer.{SettleAnswers}
 use Rattle.sled_core.specs.ReadPointer.{GivesBlob, GivesBlobOrWaits}
-use Rattle.sled_core.specs.Recoverable.{HasItem, NoHeaderOfZeros}
-use Rattle.sled_core.specs.Running.{Fits, FitsWith}
-use Rattle.sled_core.specs.Tail.{least_place}
+use Rattle.sled_core.specs.inside.Recoverable.{HasItem}
+use Rattle.sled_core.specs.Recoverable.{NoHeaderOfZeros}
+use Rattle.sled_core.specs.invariants.Running.{Fits}
+use Rattle.sled_core.specs.inside.Running.{FitsWith}
+use Rattle.sled_core.specs.inside.Tail.{least_place}
 use Rattle.sled_core.proofs.Holds.ReachLemmas.{completed_behind}
 use Rattle.sled_core.proofs.Line.BlobReads.{IsReadable, among, item_read}
 use Rattle.sled_core.proofs.Line.Reads.{fault_missed}

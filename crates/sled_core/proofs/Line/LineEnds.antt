@@ -5,13 +5,15 @@ use Rattle.std.proofs.lemmas.Bool.{cases_lt}
 use Rattle.std.proofs.lemmas.List.{length-set}
 use Rattle.std.proofs.Math.Nat.{suc-mul}
 use Rattle.sled_codec.specs.History.{Batch}
-use Rattle.sled_core.specs.Begun.{SegmentView, first_place}
+use Rattle.sled_core.specs.Begun.{SegmentView}
+use Rattle.sled_core.specs.inside.Begun.{first_place}
 use Rattle.sled_core.specs.declared.iobuf.SegmentPosition.{SegmentPosition}
 use Rattle.sled_core.specs.declared.logger.batches.NotedBatch.{NotedBatch}
 use Rattle.sled_core.specs.declared.logger.Log.{Log}
-use Rattle.sled_core.specs.Fits.{kept_batches, line_end, noted_in, stable_end, synced_end}
+use Rattle.sled_core.specs.Fits.{kept_batches, noted_in, stable_end, synced_end}
+use Rattle.sled_core.specs.inside.Begun.{line_end}
 use Rattle.sled_core.specs.OpenBatches.{batch_of, behind_batch, not_whole, stable_below}
-use Rattle.sled_core.specs.Turned.{promoted}
+use Rattle.sled_core.specs.inside.Turned.{promoted}
 use Rattle.sled_core.specs.Waiting.{at_last}
 use Rattle.sled_core.proofs.Line.Segments.{AreSegments, by_front}
 use Rattle.sled_core.proofs.Reached.NotedSteps.{behind_all, behind_has, behind_least}

@@ -12,18 +12,22 @@ use Rattle.sled_store.specs.Device.{Trace, state_of}
 use Rattle.sled_store.specs.SegmentStates.{Machine}
 use Rattle.sled_store.specs.declared.config.RunningConfig.{RunningConfig}
 use Rattle.sled_core.specs.Begun.{SegmentView, segment_view}
-use Rattle.sled_core.specs.Buffers.{SpellsBlob, placeholder_head, record_size, reserved_for}
+use Rattle.sled_core.specs.inside.Buffers.{SpellsBlob, placeholder_head, reserved_for}
+use Rattle.sled_core.specs.Buffers.{record_size}
 use Rattle.sled_core.specs.declared.iobuf.Purpose.{Purpose}
 use Rattle.sled_core.specs.declared.iobuf.Reserved.{Reserved}
 use Rattle.sled_core.specs.declared.logger.Log.{Log}
 use Rattle.sled_core.specs.declared.reservation.Reservation.{Reservation}
-use Rattle.sled_core.specs.Fits.{written_to, Awaits, AwaitsIn, FitsInline, Holds, open_places, KeepsAll, current_of, device_of, fault_of, line_end, line_of, noted_in, machine_at, pins_of, position_of, segment_size_of, synced_end}
+use Rattle.sled_core.specs.inside.Fits.{written_to}
+use Rattle.sled_core.specs.Fits.{Awaits, AwaitsIn, FitsInline, open_places, KeepsAll, current_of, device_of, fault_of, line_of, noted_in, machine_at, pins_of, position_of, segment_size_of, synced_end}
+use Rattle.sled_core.specs.invariants.Fits.{Holds}
+use Rattle.sled_core.specs.inside.Begun.{line_end}
 use Rattle.sled_core.specs.Keeps.{Preserves}
 use Rattle.sled_core.specs.OpenPlaces.{open_places_along}
 use Rattle.sled_core.specs.Positions.{Position, behind_record, is_short, moved_on, next_segment_at, placed_at, position_in}
-use Rattle.sled_core.specs.Running.{Fits}
-use Rattle.sled_core.specs.Slots.{AreBegun}
-use Rattle.sled_core.specs.Turned.{ChangesSlots, HasPlace, reserved_now}
+use Rattle.sled_core.specs.invariants.Running.{Fits}
+use Rattle.sled_core.specs.inside.Slots.{AreBegun}
+use Rattle.sled_core.specs.inside.Turned.{ChangesSlots, HasPlace, reserved_now}
 use Rattle.sled_core.specs.Waiting.{at_last, last_of}
 use Rattle.sled_core.proofs.Holds.FitsBatches.{batches_up}
 use Rattle.sled_core.proofs.Line.KeptCalls.{goes_on_quietly}

@@ -11,7 +11,7 @@ use Rattle.sled_core.specs.declared.logger.Log.{Log}
 use Rattle.sled_core.specs.Fits.{KeepsBuffers, buffers_of, current_begin, current_of, is_moved, line_of, machine_at, segment_size_of, start_behind, start_of, waiting_behind, waiting_of}
 use Rattle.sled_core.specs.Keeps.{LeavesAbove, LeavesSome, sealed_for, start_for, start_sealed}
 use Rattle.sled_core.specs.Positions.{is_short}
-use Rattle.sled_core.specs.Turned.{ended_now, next_line, promoted, reserved_now, written_now}
+use Rattle.sled_core.specs.inside.Turned.{ended_now, next_line, promoted, reserved_now, written_now}
 use Rattle.sled_core.specs.Waiting.{BufferAt, BufferStart, at_last, closed_now, last_of, not_below, sealed_now, spans, start_in, unwritten}
 use Rattle.sled_core.proofs.Line.Below.{BeginFrom, IsFirst}
 use Rattle.sled_core.proofs.Holds.Facts.{current_facts}

@@ -13,17 +13,22 @@ use Rattle.sled_store.proofs.Traces.MomentLemmas.{at_last, weaker}
 use Rattle.sled_store.proofs.Traces.ScriptLemmas.{performs_throughout}
 use Rattle.sled_core.specs.Logged.{logged}
 use Rattle.sled_core.specs.OpenBatches.{not_whole, stable_below}
-use Rattle.sled_core.specs.Begun.{AreFilled, LieWithin, SegmentView, line_at, line_in, open_segments, segment_view, view_at, with_nth}
+use Rattle.sled_core.specs.inside.Begun.{AreFilled, LieWithin, open_segments, with_nth}
+use Rattle.sled_core.specs.Begun.{SegmentView, line_at, line_in, segment_view, view_at}
 use Rattle.sled_core.specs.declared.iobuf.IoBuf.{IoBuf}
 use Rattle.sled_core.specs.declared.iobuf.SegmentPosition.{SegmentPosition}
 use Rattle.sled_core.specs.declared.logger.Log.{Log}
 use Rattle.sled_core.specs.declared.logger.io_bufs.IoBufs.{IoBufs}
 use Rattle.sled_core.specs.declared.logger.io_bufs.SegmentBuffer.{SegmentBuffer}
-use Rattle.sled_core.specs.Fits.{FitsBatches, written_to, Holds, HoldsWith, device_of, fault_of, line_end, line_of, noted_in, segment_size_of}
+use Rattle.sled_core.specs.inside.Fits.{FitsBatches, written_to, HoldsWith}
+use Rattle.sled_core.specs.invariants.Fits.{Holds}
+use Rattle.sled_core.specs.Fits.{device_of, fault_of, line_of, noted_in, segment_size_of}
+use Rattle.sled_core.specs.inside.Begun.{line_end}
 use Rattle.sled_core.specs.Recoverable.{LeavesRecoverable}
-use Rattle.sled_core.specs.Running.{Fits, FitsLine, FitsWith}
-use Rattle.sled_core.specs.Slots.{HaveEntries}
-use Rattle.sled_core.specs.Turned.{ChangesDevice, IsReadyIn, promoted, write_in, written_now}
+use Rattle.sled_core.specs.invariants.Running.{Fits}
+use Rattle.sled_core.specs.inside.Running.{FitsLine, FitsWith}
+use Rattle.sled_core.specs.inside.Slots.{HaveEntries}
+use Rattle.sled_core.specs.inside.Turned.{ChangesDevice, IsReadyIn, promoted, write_in, written_now}
 use Rattle.sled_core.proofs.Flush.FlushLemmas.{fault_or_none}
 use Rattle.sled_core.proofs.Flush.Settled.{leaves_less}
 use Rattle.sled_core.proofs.Holds.FitsBatches.{batches_left, batches_up}

@@ -13,13 +13,13 @@ use Rattle.sled_store.specs.SegmentStates.{Machine, slot_at}
 use Rattle.sled_store.proofs.Segments.FilledLemmas.{slot_before}
 use Rattle.sled_core.specs.Begun.{SegmentView}
 use Rattle.sled_core.specs.declared.iobuf.Sealed.{Sealed}
-use Rattle.sled_core.specs.Fits.{HoldsLine}
-use Rattle.sled_core.specs.FreeSlots.{HasSlot, HasSlots}
+use Rattle.sled_core.specs.inside.Fits.{HoldsLine}
+use Rattle.sled_core.specs.inside.FreeSlots.{HasSlot, HasSlots}
 use Rattle.sled_core.specs.LogFile.{HasHeader}
-use Rattle.sled_core.specs.OwnLog.{IsOwnFile}
+use Rattle.sled_core.specs.inside.OwnLog.{IsOwnFile}
 use Rattle.sled_core.specs.Recoverable.{NoHeaderOfZeros}
-use Rattle.sled_core.specs.SealedBuffers.{AreSealed, is_ready, written_at}
-use Rattle.sled_core.specs.Turned.{promoted, written_now}
+use Rattle.sled_core.specs.inside.SealedBuffers.{AreSealed, is_ready, written_at}
+use Rattle.sled_core.specs.inside.Turned.{promoted, written_now}
 use Rattle.sled_core.proofs.Line.Ends.{with_part}
 use Rattle.sled_core.proofs.Holds.Facts.{IsSegment}
 use Rattle.sled_core.proofs.Line.Segments.{AreSegments, by_front, full_unsealed, nth_segment, set_segment, written_segment, written_within}

@@ -8,8 +8,9 @@ use Rattle.sled_core.specs.declared.iobuf.Sealed.{Sealed}
 use Rattle.sled_core.specs.declared.iobuf.SegmentPosition.{SegmentPosition}
 use Rattle.sled_core.specs.declared.logger.Log.{Log}
 use Rattle.sled_core.specs.Fits.{current_begin, segment_size_of, synced_end, waiting_of}
-use Rattle.sled_core.specs.SealedBuffers.{AreSealed, behind_run, is_ready, run_count, run_end, sealed_end, written_at}
-use Rattle.sled_core.specs.Turned.{promoted, written_now}
+use Rattle.sled_core.specs.inside.SealedBuffers.{AreSealed, behind_run, is_ready, run_count, run_end, written_at}
+use Rattle.sled_core.specs.SealedBuffers.{sealed_end}
+use Rattle.sled_core.specs.inside.Turned.{promoted, written_now}
 use Rattle.sled_core.specs.Waiting.{BufferAt, buffer_at, last_of, unwritten, unwritten_in, unwritten_of}
 use Rattle.sled_core.proofs.Line.Promotes.{last_set}
 use Rattle.sled_core.proofs.Line.Segments.{AreSegments, by_front, line_segments, written_begin}

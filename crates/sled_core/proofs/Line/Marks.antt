@@ -6,8 +6,8 @@ use Rattle.sled_core.specs.Begun.{SegmentView, view_at}
 use Rattle.sled_core.specs.declared.iobuf.IoBuf.{IoBuf}
 use Rattle.sled_core.specs.declared.iobuf.Sealed.{Sealed}
 use Rattle.sled_core.specs.declared.iobuf.SegmentPosition.{SegmentPosition}
-use Rattle.sled_core.specs.SealedBuffers.{behind_run, is_ready, run_count, run_end, written_at}
-use Rattle.sled_core.specs.Turned.{IsReadyIn, written_now}
+use Rattle.sled_core.specs.inside.SealedBuffers.{behind_run, is_ready, run_count, run_end, written_at}
+use Rattle.sled_core.specs.inside.Turned.{IsReadyIn, written_now}
 
 -- Its sealed buffer can be written.
 pub record HasReady (b : IoBuf) (k : ℕ) : Type 0 where

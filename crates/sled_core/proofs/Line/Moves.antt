@@ -7,9 +7,12 @@ use Rattle.sled_store.specs.Device.{Trace, state_of}
 use Rattle.sled_store.specs.SegmentStates.{Machine}
 use Rattle.sled_core.specs.Begun.{SegmentView}
 use Rattle.sled_core.specs.declared.logger.Log.{Log}
-use Rattle.sled_core.specs.Fits.{Holds, HoldsWith, config_of, device_of, fault_of, line_of, machine_at, noted_in, pins_of, segment_size_of}
+use Rattle.sled_core.specs.invariants.Fits.{Holds}
+use Rattle.sled_core.specs.inside.Fits.{HoldsWith}
+use Rattle.sled_core.specs.Fits.{config_of, device_of, fault_of, line_of, machine_at, noted_in, pins_of, segment_size_of}
 use Rattle.sled_core.specs.Logged.{logged}
-use Rattle.sled_core.specs.Running.{Fits, FitsWith}
+use Rattle.sled_core.specs.invariants.Running.{Fits}
+use Rattle.sled_core.specs.inside.Running.{FitsWith}
 
 module _ {D C : Type 0} (trace : D → Trace) (sum : List ℕ → ℕ) (old new : Log D C) (config : config_of new ≡ config_of old) (fault : fault_of new ≡ fault_of old) (bs : List Batch) (noted : noted_in new ≡ bs)
     (line : List SegmentView) (is_line : line_of new ≡ line) (m : Machine) (is_machine : machine_at new ≡ m) (H : History) where

@@ -5,11 +5,12 @@ use Rattle.std.proofs.lemmas.List.{map-append}
 use Rattle.sled_codec.proofs.Segments.{length-short_header}
 use Rattle.sled_codec.specs.Record.{short_header}
 use Rattle.sled_store.specs.SegmentStates.{Machine, next_slot}
-use Rattle.sled_core.specs.Begun.{AreFilled, FollowOn, SegmentView, last_buffer, line_at, segment_view, view_at}
+use Rattle.sled_core.specs.inside.Begun.{AreFilled, FollowOn, last_buffer}
+use Rattle.sled_core.specs.Begun.{SegmentView, line_at, segment_view, view_at}
 use Rattle.sled_core.specs.declared.iobuf.IoBuf.{IoBuf}
 use Rattle.sled_core.specs.declared.iobuf.SegmentPosition.{SegmentPosition}
 use Rattle.sled_core.specs.declared.logger.io_bufs.SegmentBuffer.{SegmentBuffer}
-use Rattle.sled_core.specs.Turned.{IsBegunView, begun_view, next_line}
+use Rattle.sled_core.specs.inside.Turned.{IsBegunView, begun_view, next_line}
 use Rattle.sled_core.specs.Waiting.{closed_now, last_of}
 use Rattle.sled_core.proofs.Line.Begins.{closable}
 use Rattle.sled_core.proofs.Line.Closes.{IsClosable, closed_begin, closed_ends, closed_entered, closed_records, filled_site}

@@ -8,12 +8,15 @@ use Rattle.std.proofs.lemmas.List.Elements.{All-contains, All-head, All-tail}
 use Rattle.sled_codec.specs.History.{Batch, History, Message}
 use Rattle.sled_store.specs.Device.{State, Trace, state_of}
 use Rattle.sled_store.proofs.Segments.Elements.{all_from_in, in_cases, in_first, in_nothing}
-use Rattle.sled_core.specs.Begun.{AreFilled, IsUsed, SegmentView, segment_view}
+use Rattle.sled_core.specs.inside.Begun.{AreFilled, IsUsed}
+use Rattle.sled_core.specs.Begun.{SegmentView, segment_view}
 use Rattle.sled_core.specs.declared.logger.batches.NotedBatch.{NotedBatch}
 use Rattle.sled_core.specs.declared.logger.Log.{Log}
-use Rattle.sled_core.specs.Buffers.{completed_in}
+use Rattle.sled_core.specs.inside.Buffers.{completed_in}
 use Rattle.sled_core.specs.SealedBuffers.{AreZeros, sealed_end}
-use Rattle.sled_core.specs.Fits.{CloseBelow, HoldBehind, Holds, HoldsNext, HoldsWith, IsWritten, device_of, fault_of, line_of, machine_at, noted_in, parts_in, reserved_end, segment_size_of, stable_end, synced_end}
+use Rattle.sled_core.specs.Fits.{CloseBelow, IsWritten, device_of, fault_of, line_of, machine_at, noted_in, reserved_end, segment_size_of, stable_end, synced_end}
+use Rattle.sled_core.specs.inside.Fits.{HoldBehind, HoldsNext, HoldsWith, parts_in}
+use Rattle.sled_core.specs.invariants.Fits.{Holds}
 use Rattle.sled_core.specs.Logged.{logged}
 use Rattle.sled_core.specs.OpenBatches.{batch_of}
 use Rattle.sled_core.proofs.Flush.FlushLemmas.{all_kept}

@@ -8,13 +8,13 @@ use Rattle.sled_store.specs.Device.{State}
 use Rattle.sled_core.specs.declared.iobuf.ReservationState.TheVariants.{Manifest, Open}
 use Rattle.sled_core.specs.declared.iobuf.Reserved.{Reserved}
 use Rattle.sled_core.specs.Begun.{SegmentParts, SegmentView}
-use Rattle.sled_core.specs.Buffers.{marking}
-use Rattle.sled_core.specs.Fits.{HoldsIn, HoldsLine, LogParts, log_parts, parts_in}
+use Rattle.sled_core.specs.inside.Buffers.{marking}
+use Rattle.sled_core.specs.inside.Fits.{HoldsIn, HoldsLine, LogParts, log_parts, parts_in}
 use Rattle.sled_core.specs.Logged.{logged}
 use Rattle.sled_core.specs.Manifests.{is_manifest}
-use Rattle.sled_core.specs.Recoverable.{BeginsInSegment, IsPlacedBatch}
-use Rattle.sled_core.specs.Running.{FitsIn, FitsLine}
-use Rattle.sled_core.specs.Turned.{ended_now}
+use Rattle.sled_core.specs.inside.Recoverable.{BeginsInSegment, IsPlacedBatch}
+use Rattle.sled_core.specs.inside.Running.{FitsIn, FitsLine}
+use Rattle.sled_core.specs.inside.Turned.{ended_now}
 use Rattle.sled_core.proofs.Behind.FitsMarked.{behind-fits-marked}
 use Rattle.sled_core.proofs.Behind.HoldsMarked.{batch_above, batch_alone, batch_inside, behind-holds-marked}
 use Rattle.sled_core.proofs.Behind.FirstHoldsMarked.{InReach, first_above, first_alone, first_inside, first_long, holds-marked, noted_adds, noted_history}

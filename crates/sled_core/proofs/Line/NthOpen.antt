@@ -4,7 +4,8 @@ use Rattle.std.specs.List.{slice_get}
 use Rattle.std.specs.VecDeque.{deque_capacity, deque_len}
 use Rattle.std.proofs.lemmas.List.{length-map, length-set, map-set}
 use Rattle.std.proofs.lemmas.Option.{slice_get_within}
-use Rattle.sled_core.specs.Begun.{FollowOn, LieWithin, SegmentView, last_buffer, last_buffer_in, line_in, segment_view, open_segments, with_nth}
+use Rattle.sled_core.specs.inside.Begun.{FollowOn, LieWithin, last_buffer, last_buffer_in, open_segments, with_nth}
+use Rattle.sled_core.specs.Begun.{SegmentView, line_in, segment_view}
 use Rattle.sled_core.specs.declared.iobuf.SegmentPosition.{SegmentPosition}
 use Rattle.sled_core.specs.declared.logger.Log.{Log}
 use Rattle.sled_core.specs.declared.logger.io_bufs.IoBufs.{IoBufs}

@@ -7,11 +7,13 @@ use Rattle.sled_store.specs.Foreign.{HeaderWasPlaced, NoForeignLog, RecordWasPla
 use Rattle.sled_store.proofs.Segments.Elements.{in_cases, in_nothing}
 use Rattle.sled_core.specs.Begun.{SegmentView, segment_view}
 use Rattle.sled_core.specs.declared.logger.Log.{Log}
-use Rattle.sled_core.specs.Fits.{HoldsLine, device_of, fault_of, line_of, machine_at, noted_in, segment_size_of}
+use Rattle.sled_core.specs.inside.Fits.{HoldsLine}
+use Rattle.sled_core.specs.Fits.{device_of, fault_of, line_of, machine_at, noted_in, segment_size_of}
 use Rattle.sled_core.specs.Logged.{logged}
-use Rattle.sled_core.specs.OwnLog.{HasOwnSlot, IsOwnSegment, ReadsPlaced}
+use Rattle.sled_core.specs.inside.OwnLog.{HasOwnSlot, IsOwnSegment, ReadsPlaced}
 use Rattle.sled_core.specs.Recoverable.{NoHeaderOfZeros, ReadsOnlyOwn}
-use Rattle.sled_core.specs.Running.{Fits, FitsWith}
+use Rattle.sled_core.specs.invariants.Running.{Fits}
+use Rattle.sled_core.specs.inside.Running.{FitsWith}
 use Rattle.sled_core.proofs.Line.Ends.{line_holds, with_part}
 use Rattle.sled_core.proofs.Holds.Facts.{IsSegment}
 use Rattle.sled_core.proofs.Line.Segments.{line_segments, nth_segment}

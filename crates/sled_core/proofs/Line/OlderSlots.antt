@@ -11,10 +11,11 @@ use Rattle.sled_store.specs.Device.{State}
 use Rattle.sled_store.specs.SegmentStates.{Machine, handed_out, next_slot}
 use Rattle.sled_store.specs.SnapshotFiles.{BeginsFrom}
 use Rattle.sled_store.proofs.Names.OneBegin.{one_begin}
-use Rattle.sled_core.specs.Begun.{SegmentView, first_place}
-use Rattle.sled_core.specs.Fits.{HoldsLine, written_to}
-use Rattle.sled_core.specs.Slots.{AreBegun, HaveEntries}
-use Rattle.sled_core.specs.Tail.{least_place}
+use Rattle.sled_core.specs.Begun.{SegmentView}
+use Rattle.sled_core.specs.inside.Begun.{first_place}
+use Rattle.sled_core.specs.inside.Fits.{HoldsLine, written_to}
+use Rattle.sled_core.specs.inside.Slots.{AreBegun, HaveEntries}
+use Rattle.sled_core.specs.inside.Tail.{least_place}
 use Rattle.sled_core.proofs.Start.OwnSlots.{taken_cases}
 
 module _ (sum : List ℕ → ℕ) (size : ℕ) where

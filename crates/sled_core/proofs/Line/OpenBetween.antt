@@ -3,7 +3,8 @@ use Rattle.std.proofs.Common.{◌≡◌, ◌∙◌, ◌≤◌, ◌<◌, ◌+◌,
 use Rattle.std.specs.List.{All}
 use Rattle.std.proofs.lemmas.Bool.Decides.{nat_tests}
 use Rattle.std.proofs.lemmas.List.Elements.{All-cons, All-head, All-nil, All-tail}
-use Rattle.sled_core.specs.Buffers.{IsChain, first_open_in, open_in, open_state}
+use Rattle.sled_core.specs.inside.Buffers.{IsChain}
+use Rattle.sled_core.specs.Buffers.{first_open_in, open_in, open_state}
 use Rattle.sled_core.specs.declared.iobuf.Reserved.{Reserved}
 use Rattle.sled_core.specs.OpenPlaces.{first_between, open_places_in, places_from}
 use Rattle.sled_core.specs.Waiting.{placed}

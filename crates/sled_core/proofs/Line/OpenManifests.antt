@@ -4,14 +4,15 @@ use Rattle.std.specs.List.{slice_get}
 use Rattle.std.proofs.lemmas.List.{take-append-drop}
 use Rattle.sled_store.specs.SegmentStates.{Machine}
 use Rattle.sled_core.specs.Begun.{SegmentView}
-use Rattle.sled_core.specs.Buffers.{ended, none_open, open_state, padding_at}
-use Rattle.sled_core.specs.Caps.{segment_rest}
+use Rattle.sled_core.specs.inside.Buffers.{ended}
+use Rattle.sled_core.specs.Buffers.{none_open, open_state, padding_at}
+use Rattle.sled_core.specs.invariants.Caps.{segment_rest}
 use Rattle.sled_core.specs.declared.iobuf.ReservationState.{ReservationState}
 use Rattle.sled_core.specs.declared.iobuf.ReservationState.TheVariants.{Open}
 use Rattle.sled_core.specs.declared.iobuf.Reserved.{Reserved}
 use Rattle.sled_core.specs.Manifests.{is_manifest}
-use Rattle.sled_core.specs.OpenPlaces.{open_manifests, open_manifests_in}
-use Rattle.sled_core.specs.Turned.{begun_view, ended_now, next_line, promoted, reserved_now}
+use Rattle.sled_core.specs.inside.OpenPlaces.{open_manifests, open_manifests_in}
+use Rattle.sled_core.specs.inside.Turned.{begun_view, ended_now, next_line, promoted, reserved_now}
 use Rattle.sled_core.specs.Waiting.{at_last, closed_now, filled_now, last_of, sealed_now, with_filling}
 use Rattle.sled_core.proofs.Line.Segments.{AreSegments, by_front, full_empty}
 

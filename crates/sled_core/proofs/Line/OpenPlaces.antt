@@ -4,12 +4,12 @@ use Rattle.std.specs.List.{slice_get}
 use Rattle.std.proofs.lemmas.List.{append-nil, take-append-drop}
 use Rattle.sled_core.specs.Begun.{SegmentView}
 use Rattle.sled_core.specs.Buffers.{none_open, open_state, padding_at}
-use Rattle.sled_core.specs.Caps.{segment_rest}
+use Rattle.sled_core.specs.invariants.Caps.{segment_rest}
 use Rattle.sled_core.specs.declared.iobuf.ReservationState.{ReservationState}
 use Rattle.sled_core.specs.declared.iobuf.ReservationState.TheVariants.{Open}
 use Rattle.sled_core.specs.declared.iobuf.Reserved.{Reserved}
 use Rattle.sled_core.specs.OpenPlaces.{TakesOut, open_places_along, open_places_in}
-use Rattle.sled_core.specs.Turned.{promoted, reserved_now}
+use Rattle.sled_core.specs.inside.Turned.{promoted, reserved_now}
 use Rattle.sled_core.specs.Waiting.{as_sealed, at_last, closed_now, filled_now, holds_any, last_of, sealed_now, turned_now, with_filling}
 use Rattle.sled_core.specs.Positions.{is_short}
 use Rattle.sled_core.proofs.Line.Segments.{AreSegments, by_front, full_empty}

@@ -7,7 +7,8 @@ use Rattle.std.proofs.lemmas.List.Elements.{All-append, All-cons, All-drop, All-
 use Rattle.sled_codec.specs.History.{Message}
 use Rattle.sled_store.proofs.Segments.Elements.{in_first, in_rest}
 use Rattle.sled_core.specs.Begun.{SegmentView, begin_of, segment_view}
-use Rattle.sled_core.specs.Buffers.{IsChain, ended, none_open, padding_at}
+use Rattle.sled_core.specs.inside.Buffers.{IsChain, ended}
+use Rattle.sled_core.specs.Buffers.{none_open, padding_at}
 use Rattle.sled_core.specs.declared.iobuf.ReservationState.TheVariants.{Completed}
 use Rattle.sled_core.specs.declared.iobuf.Reserved.{Reserved}
 use Rattle.sled_core.specs.declared.iobuf.Sealed.{Sealed}
@@ -17,7 +18,8 @@ use Rattle.sled_core.specs.declared.reservation.Reservation.{Reservation}
 use Rattle.sled_core.specs.Fits.{Awaits, IsLeastOpen, NoneOpen, NoneOpenIn, buffers_of, current_begin, current_of, current_reserved_in, line_of, open_of, open_places, segment_size_of}
 use Rattle.sled_core.specs.OpenPlaces.{first_between, open_places_along, open_places_in, places_from}
 use Rattle.sled_core.specs.Positions.{is_short}
-use Rattle.sled_core.specs.SealedBuffers.{AreSealed, sealed_count, sealed_end}
+use Rattle.sled_core.specs.inside.SealedBuffers.{AreSealed}
+use Rattle.sled_core.specs.SealedBuffers.{sealed_count, sealed_end}
 use Rattle.sled_core.specs.Tickets.{index_of}
 use Rattle.sled_core.specs.Waiting.{BufferAt, as_sealed, at_last, buffer_at, closed_now, holds_any, last_of, sealed_now, turned_now, unwritten, unwritten_in, unwritten_of}
 use Rattle.sled_core.proofs.Line.Closes.{by_filled, filled_up, more_of}

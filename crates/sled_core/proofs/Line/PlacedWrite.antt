@@ -10,12 +10,13 @@ use Rattle.sled_store.specs.SegmentStates.{Machine}
 use Rattle.sled_core.specs.Begun.{SegmentView}
 use Rattle.sled_core.specs.declared.iobuf.Reserved.{Reserved}
 use Rattle.sled_core.specs.declared.iobuf.Sealed.{Sealed}
-use Rattle.sled_core.specs.Fits.{HoldsLine}
-use Rattle.sled_core.specs.FreeSlots.{HasSlots}
-use Rattle.sled_core.specs.OwnLog.{HasPlacedFile, IsOwnSegment}
+use Rattle.sled_core.specs.inside.Fits.{HoldsLine}
+use Rattle.sled_core.specs.inside.FreeSlots.{HasSlots}
+use Rattle.sled_core.specs.inside.OwnLog.{HasPlacedFile, IsOwnSegment}
 use Rattle.sled_core.specs.Recoverable.{NoHeaderOfZeros}
-use Rattle.sled_core.specs.SealedBuffers.{AreSealed, is_ready, sealed_end}
-use Rattle.sled_core.specs.Turned.{promoted, written_now}
+use Rattle.sled_core.specs.inside.SealedBuffers.{AreSealed, is_ready}
+use Rattle.sled_core.specs.SealedBuffers.{sealed_end}
+use Rattle.sled_core.specs.inside.Turned.{promoted, written_now}
 use Rattle.sled_core.proofs.Line.Ends.{with_part}
 use Rattle.sled_core.proofs.Line.Segments.{AreSegments, nth_segment}
 use Rattle.sled_core.proofs.Line.Writes.{buffer_begin, buffer_bytes, buffer_synced}

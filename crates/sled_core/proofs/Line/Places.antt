@@ -10,7 +10,8 @@ use Rattle.sled_codec.specs.declared.result.Error.TheVariants.{Held, Io, OutOfMe
 use Rattle.sled_core.specs.Begun.{segment_view}
 use Rattle.sled_core.specs.declared.logger.Log.{Log}
 use Rattle.sled_core.specs.Causes.{HeldAnswers, OnDone}
-use Rattle.sled_core.specs.Fits.{holding_below, line_end, line_of, noted_in, reserved_end, stable_end, synced_end, writing_below}
+use Rattle.sled_core.specs.Fits.{holding_below, line_of, noted_in, reserved_end, stable_end, synced_end, writing_below}
+use Rattle.sled_core.specs.inside.Begun.{line_end}
 use Rattle.sled_core.specs.Stable.{StableAnswers, behind_place, held_for, stabilizing, target_for}
 use Rattle.sled_core.proofs.Line.Entered.{filled_last}
 use Rattle.sled_core.proofs.Holds.Facts.{current_facts}

@@ -11,8 +11,10 @@ use Rattle.sled_store.specs.Device.{Trace}
 use Rattle.sled_store.specs.SegmentStates.{handed_out, next_slot}
 use Rattle.sled_store.specs.declared.config.Config.{Config}
 use Rattle.sled_store.specs.declared.config.RunningConfig.{RunningConfig}
-use Rattle.sled_core.specs.Begun.{SegmentView, last_buffer_in, segment_view}
-use Rattle.sled_core.specs.Buffers.{message_in, placeholder_head, record_size, reserved_for, pointer_as, item_as, SpellsBlob}
+use Rattle.sled_core.specs.Begun.{SegmentView, segment_view}
+use Rattle.sled_core.specs.inside.Begun.{last_buffer_in}
+use Rattle.sled_core.specs.Buffers.{message_in, record_size, pointer_as, item_as}
+use Rattle.sled_core.specs.inside.Buffers.{placeholder_head, reserved_for, SpellsBlob}
 use Rattle.sled_core.specs.declared.iobuf.Purpose.{Purpose}
 use Rattle.sled_core.specs.declared.iobuf.Reserved.{Reserved}
 use Rattle.sled_core.specs.declared.iobuf.record.Head.{Head}
@@ -23,9 +25,9 @@ use Rattle.sled_core.specs.Keeps.{KeepsSeen, Preserves}
 use Rattle.sled_core.specs.Logged.{in_log}
 use Rattle.sled_core.specs.Positions.{Position, behind_record, lid_at, next_segment_at}
 use Rattle.sled_core.specs.Marked.{BeginsMarked}
-use Rattle.sled_core.specs.Prepared.{IsPrepared, next_here, number_of, text_of}
+use Rattle.sled_core.specs.inside.Prepared.{IsPrepared, next_here, number_of, text_of}
 use Rattle.sled_core.specs.Reserves.{StandsBehind}
-use Rattle.sled_core.specs.Turned.{ChangesLine, ChangesSlots, HasPlace, HasRoomForBatch, HasRoomIn, IsTicketFor, begun_view, next_line, reserved_now}
+use Rattle.sled_core.specs.inside.Turned.{ChangesLine, ChangesSlots, HasPlace, HasRoomForBatch, HasRoomIn, IsTicketFor, begun_view, next_line, reserved_now}
 use Rattle.sled_core.specs.Waiting.{BufferAt, BufferStart, at_last, closed_now, unwritten}
 use Rattle.sled_core.proofs.Line.KeptCalls.{kept_further}
 use Rattle.sled_core.proofs.Line.Begins.{begins_current, begins_keeps, begins_same, begins_tickets}

@@ -6,14 +6,16 @@ use Rattle.std.proofs.lemmas.Bool.{cases_eq}
 use Rattle.std.proofs.lemmas.Bool.Decides.{nat_tests}
 use Rattle.sled_codec.specs.History.{Message, History}
 use Rattle.sled_store.specs.Device.{State}
-use Rattle.sled_core.specs.Begun.{AreFilled, SegmentView}
+use Rattle.sled_core.specs.inside.Begun.{AreFilled}
+use Rattle.sled_core.specs.Begun.{SegmentView}
 use Rattle.sled_core.specs.declared.iobuf.Reserved.{Reserved}
 use Rattle.sled_core.specs.declared.reservation.Reservation.{Reservation}
-use Rattle.sled_core.specs.Fits.{written_to, AwaitsIn, HoldsLine, parts_in}
-use Rattle.sled_core.specs.Full.{FitsFull}
-use Rattle.sled_core.specs.Running.{FitsLine}
+use Rattle.sled_core.specs.inside.Fits.{written_to, HoldsLine, parts_in}
+use Rattle.sled_core.specs.Fits.{AwaitsIn}
+use Rattle.sled_core.specs.inside.Full.{FitsFull}
+use Rattle.sled_core.specs.inside.Running.{FitsLine}
 use Rattle.sled_core.specs.Tickets.{index_of}
-use Rattle.sled_core.specs.Turned.{promoted}
+use Rattle.sled_core.specs.inside.Turned.{promoted}
 use Rattle.sled_core.specs.Waiting.{last_of}
 use Rattle.sled_core.proofs.Behind.FullFurther.{full_further}
 use Rattle.sled_core.proofs.Behind.FullNext.{full_next, here}

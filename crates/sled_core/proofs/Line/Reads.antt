@@ -24,16 +24,20 @@ use Rattle.sled_store.specs.SnapshotFiles.{BeginsFrom}
 use Rattle.sled_store.proofs.Names.OneBegin.{one_begin}
 use Rattle.sled_store.proofs.Traces.ScriptLemmas.{performs_whole}
 use Rattle.sled_core.specs.Begun.{segment_view}
-use Rattle.sled_core.specs.Causes.{HeldAnswers, IsFault, IsFaultAt, IsHeld, OnDone, RecordAnswers}
+use Rattle.sled_core.specs.Causes.{HeldAnswers, IsFault, IsFaultAt, IsHeld, OnDone}
+use Rattle.sled_core.specs.inside.Causes.{RecordAnswers}
 use Rattle.sled_core.specs.declared.logger.Log.{Log}
-use Rattle.sled_core.specs.Fits.{HasRecordOf, Holds, HoldsLine, current_begin, device_of, fault_of, line_of, reserved_end, segment_size_of, start_of, synced_end, waiting_of}
+use Rattle.sled_core.specs.Fits.{HasRecordOf, current_begin, device_of, fault_of, line_of, reserved_end, segment_size_of, start_of, synced_end, waiting_of}
+use Rattle.sled_core.specs.invariants.Fits.{Holds}
+use Rattle.sled_core.specs.inside.Fits.{HoldsLine}
 use Rattle.sled_core.specs.LogFile.{StaysFrom}
 use Rattle.sled_core.specs.Logged.{in_log, logged}
-use Rattle.sled_core.specs.Marked.{KeepsSegment}
-use Rattle.sled_core.specs.ReadBuffer.{IsSettled, IsWrittenPlace, LeavesWritten, ReadAnswers, RefusesPlace, SealsAround, SettleAnswers, Settles, WritesAround, held_at, settling}
+use Rattle.sled_core.specs.inside.Marked.{KeepsSegment}
+use Rattle.sled_core.specs.ReadBuffer.{IsSettled, IsWrittenPlace, LeavesWritten, ReadAnswers, RefusesPlace, SealsAround, Settles, WritesAround, held_at, settling}
+use Rattle.sled_core.specs.inside.ReadBuffer.{SettleAnswers}
 use Rattle.sled_core.specs.ReadPointer.{GivesBlob, place_read}
 use Rattle.sled_core.specs.Reading.{IsNoPlace}
-use Rattle.sled_core.specs.Running.{Fits}
+use Rattle.sled_core.specs.invariants.Running.{Fits}
 use Rattle.sled_core.specs.SealedBuffers.{writing}
 use Rattle.sled_core.specs.Stable.{IsNotReserved}
 use Rattle.sled_core.specs.Waiting.{BufferAt, has_place, unless_held, write_around}

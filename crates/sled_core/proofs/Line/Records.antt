@@ -13,15 +13,18 @@ use Rattle.sled_codec.specs.Pointers.{lid_of}
 use Rattle.sled_codec.specs.Snapshots.{stable_place}
 use Rattle.sled_store.specs.Device.{LogState, State}
 use Rattle.sled_store.proofs.Histories.EarlierEntries.{entry_earlier}
-use Rattle.sled_core.specs.Begun.{AreFilled, SegmentView}
+use Rattle.sled_core.specs.inside.Begun.{AreFilled}
+use Rattle.sled_core.specs.Begun.{SegmentView}
 use Rattle.sled_core.specs.declared.iobuf.Reserved.{Reserved}
 use Rattle.sled_core.specs.declared.iobuf.Sealed.{Sealed}
 use Rattle.sled_core.specs.declared.iobuf.SegmentPosition.{SegmentPosition}
-use Rattle.sled_core.specs.Buffers.{IsChain, Stands, completed_in}
-use Rattle.sled_core.specs.Fits.{HoldBehind, HoldsLine, HoldsSegment, log_parts, parts_in}
-use Rattle.sled_core.specs.LogFile.{MessageStands, StaysBelow, StaysFrom}
+use Rattle.sled_core.specs.inside.Buffers.{IsChain, Stands, completed_in}
+use Rattle.sled_core.specs.inside.Fits.{HoldBehind, HoldsLine, HoldsSegment, log_parts, parts_in}
+use Rattle.sled_core.specs.LogFile.{MessageStands, StaysFrom}
+use Rattle.sled_core.specs.inside.LogFile.{StaysBelow}
 use Rattle.sled_core.specs.Reading.{IsInline}
-use Rattle.sled_core.specs.SealedBuffers.{AreSealed, Laid, LaidOne, Agrees, sealed_end}
+use Rattle.sled_core.specs.inside.SealedBuffers.{AreSealed, Laid, LaidOne, Agrees}
+use Rattle.sled_core.specs.SealedBuffers.{sealed_end}
 use Rattle.sled_core.specs.Waiting.{BufferAt, buffer_at, unwritten, unwritten_in, unwritten_of}
 use Rattle.sled_core.proofs.Flush.Completed.{which}
 use Rattle.sled_core.proofs.Holds.ReachLemmas.{completed_behind}

@@ -19,8 +19,9 @@ use Rattle.sled_core.specs.Causes.{HasRecordPlace, NoFault, ReserveAnswers, Rese
 use Rattle.sled_core.specs.Fits.{FitsInline, body_length, in_blob_of, segment_size_of, IsLeastOpen, IsUnchanged, IsUsedUpFor, KeepsAll, blob_at, device_of, fault_of, message_as, target_of}
 use Rattle.sled_core.specs.Manifests.{kind_for}
 use Rattle.sled_core.specs.Logged.{in_log}
-use Rattle.sled_core.specs.Prepared.{PrepareAnswers}
-use Rattle.sled_core.specs.Reserves.{MadeAnswers, RefusalLeaves, ReservesAs, TouchesBlob, reserve_causes}
+use Rattle.sled_core.specs.inside.Prepared.{PrepareAnswers}
+use Rattle.sled_core.specs.inside.Reserves.{MadeAnswers}
+use Rattle.sled_core.specs.Reserves.{RefusalLeaves, ReservesAs, TouchesBlob, reserve_causes}
 use Rattle.sled_core.specs.Running.{IsStored}
 use Rattle.sled_core.specs.Tickets.{own_blob}
 use Rattle.sled_core.specs.declared.iobuf.Purpose.{Purpose}

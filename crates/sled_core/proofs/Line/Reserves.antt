@@ -6,20 +6,23 @@ use Rattle.std.proofs.lemmas.List.{drop-append-le, map-append, take-append-le}
 use Rattle.sled_codec.specs.History.{History, Message}
 use Rattle.sled_store.specs.Device.{State}
 use Rattle.sled_store.specs.SegmentStates.{Machine}
-use Rattle.sled_core.specs.Begun.{AreFilled, SegmentParts, SegmentView, begin_of}
-use Rattle.sled_core.specs.Buffers.{HasText, IsHeaded, message_in, item_as}
+use Rattle.sled_core.specs.inside.Begun.{AreFilled}
+use Rattle.sled_core.specs.Begun.{SegmentParts, SegmentView, begin_of}
+use Rattle.sled_core.specs.inside.Buffers.{HasText, IsHeaded}
+use Rattle.sled_core.specs.Buffers.{message_in, item_as}
 use Rattle.sled_core.specs.declared.iobuf.Reserved.{Reserved}
 use Rattle.sled_core.specs.declared.iobuf.ReservationState.TheVariants.{Open}
 use Rattle.sled_core.specs.declared.iobuf.Sealed.{Sealed}
 use Rattle.sled_core.specs.declared.iobuf.SegmentPosition.{SegmentPosition}
 use Rattle.sled_core.specs.declared.reservation.Reservation.{Reservation}
-use Rattle.sled_core.specs.Fits.{AwaitsIn, HoldsIn, HoldsLine, log_parts, parts_in}
-use Rattle.sled_core.specs.FreeSlots.{HasSlot, HasSlots, HaveOwn}
+use Rattle.sled_core.specs.Fits.{AwaitsIn}
+use Rattle.sled_core.specs.inside.Fits.{HoldsIn, HoldsLine, log_parts, parts_in}
+use Rattle.sled_core.specs.inside.FreeSlots.{HasSlot, HasSlots, HaveOwn}
 use Rattle.sled_core.specs.Logged.{logged}
-use Rattle.sled_core.specs.Running.{FitsIn, FitsLine}
-use Rattle.sled_core.specs.SealedBuffers.{AreSealed}
+use Rattle.sled_core.specs.inside.Running.{FitsIn, FitsLine}
+use Rattle.sled_core.specs.inside.SealedBuffers.{AreSealed}
 use Rattle.sled_core.specs.Tickets.{IsFor, index_of}
-use Rattle.sled_core.specs.Turned.{reserved_now}
+use Rattle.sled_core.specs.inside.Turned.{reserved_now}
 use Rattle.sled_core.specs.Waiting.{at_last, buffer_at, last_of, unwritten_in}
 use Rattle.sled_core.proofs.Behind.Calls.{behind-append}
 use Rattle.sled_core.proofs.Behind.FitsCalls.{behind-fits-reserved}

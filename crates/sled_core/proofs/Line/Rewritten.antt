@@ -14,8 +14,9 @@ use Rattle.sled_core.specs.declared.logger.Log.{Log}
 use Rattle.sled_core.specs.Fits.{current_of, line_of, machine_at, message_rewriting, next_place, noted_in, segment_size_of, synced_end, target_of}
 use Rattle.sled_core.specs.Logged.{logged}
 use Rattle.sled_core.specs.OpenBatches.{stable_below}
-use Rattle.sled_core.specs.Recoverable.{BlobIsBelow}
-use Rattle.sled_core.specs.Running.{FitsWith, IsStored, KeepsEntries, KeepsItem}
+use Rattle.sled_core.specs.Reading.{BlobIsBelow}
+use Rattle.sled_core.specs.inside.Running.{FitsWith, KeepsEntries}
+use Rattle.sled_core.specs.Running.{IsStored, KeepsItem}
 use Rattle.sled_core.proofs.Flush.Settled.{entries_higher}
 use Rattle.sled_core.proofs.Holds.ReachLemmas.{position_past}
 use Rattle.sled_core.proofs.Holds.WholeHistory.{whole_ascends}

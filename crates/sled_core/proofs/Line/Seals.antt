@@ -12,16 +12,20 @@ use Rattle.sled_store.specs.declared.config.RunningConfig.{RunningConfig}
 use Rattle.sled_core.specs.Begun.{SegmentParts, SegmentView, begin_of, segment_view}
 use Rattle.sled_core.specs.declared.logger.Log.{Log}
 use Rattle.sled_core.specs.declared.reservation.Reservation.{Reservation}
-use Rattle.sled_core.specs.Fits.{written_to, AwaitsIn, Holds, HoldsIn, HoldsLine, KeepsAll, KeepsTickets, buffers_of, current_begin, current_of, device_of, fault_of, line_end, line_of, noted_in, log_parts, machine_at, parts_in, pins_of, segment_size_of, synced_end, waiting_of}
-use Rattle.sled_core.specs.FreeSlots.{HasSlot, HasSlots, HaveOwn}
+use Rattle.sled_core.specs.inside.Fits.{written_to, HoldsIn, HoldsLine, log_parts, parts_in}
+use Rattle.sled_core.specs.Fits.{AwaitsIn, KeepsAll, KeepsTickets, buffers_of, current_begin, current_of, device_of, fault_of, line_of, noted_in, machine_at, pins_of, segment_size_of, synced_end, waiting_of}
+use Rattle.sled_core.specs.invariants.Fits.{Holds}
+use Rattle.sled_core.specs.inside.Begun.{line_end}
+use Rattle.sled_core.specs.inside.FreeSlots.{HasSlot, HasSlots, HaveOwn}
 use Rattle.sled_core.specs.Keeps.{Preserves, SamePosition}
 use Rattle.sled_core.specs.Logged.{logged, in_log}
 use Rattle.sled_core.specs.OpenPlaces.{open_places_along}
 use Rattle.sled_core.specs.Positions.{is_short, position_in}
-use Rattle.sled_core.specs.Running.{Fits, FitsIn, FitsLine}
+use Rattle.sled_core.specs.invariants.Running.{Fits}
+use Rattle.sled_core.specs.inside.Running.{FitsIn, FitsLine}
 use Rattle.sled_core.specs.SealedBuffers.{seal_at, sealed_count}
-use Rattle.sled_core.specs.Slots.{AreBegun}
-use Rattle.sled_core.specs.Turned.{ChangesLine}
+use Rattle.sled_core.specs.inside.Slots.{AreBegun}
+use Rattle.sled_core.specs.inside.Turned.{ChangesLine}
 use Rattle.sled_core.specs.Waiting.{as_sealed, at_last, closed_now, holds_any, last_of, sealed_now, turned_now, unwritten}
 use Rattle.sled_core.proofs.Behind.Calls.{behind-sealed}
 use Rattle.sled_core.proofs.Behind.FitsCalls.{behind-fits-sealed}

@@ -10,10 +10,12 @@ use Rattle.sled_store.specs.declared.config.RunningConfig.{RunningConfig}
 use Rattle.sled_store.proofs.Segments.Elements.{in_nothing, only_in}
 use Rattle.sled_core.specs.Begun.{SegmentView, segment_view}
 use Rattle.sled_core.specs.declared.logger.Log.{Log}
-use Rattle.sled_core.specs.Fits.{AddsBuffers, IsUsedUp, KeepsAll, KeepsTickets, buffers_of, current_begin, current_of, device_of, fault_of, held_len, reserved_end, sealing_end, segment_size_of, start_of, synced_end, waiting_of}
+use Rattle.sled_core.specs.inside.Fits.{AddsBuffers}
+use Rattle.sled_core.specs.Fits.{IsUsedUp, KeepsAll, KeepsTickets, buffers_of, current_begin, current_of, device_of, fault_of, held_len, reserved_end, sealing_end, segment_size_of, start_of, synced_end, waiting_of}
 use Rattle.sled_core.specs.Fronts.{CameAround, WroteNone, syncs}
 use Rattle.sled_core.specs.Keeps.{Preserves, SamePosition, start_sealed}
-use Rattle.sled_core.specs.Marked.{BeginsMarked, KeepsSegment}
+use Rattle.sled_core.specs.Marked.{BeginsMarked}
+use Rattle.sled_core.specs.inside.Marked.{KeepsSegment}
 use Rattle.sled_core.specs.ReadBuffer.{IsUsedUpAt, LeavesSealed, LeavesWritten, WritesAround, held_at, settling}
 use Rattle.sled_core.specs.Waiting.{BufferAt, Span, has_place, without_around}
 use Rattle.sled_core.proofs.Line.KeptCalls.{kept_still, position_still, tickets_still}

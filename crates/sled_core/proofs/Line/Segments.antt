@@ -5,16 +5,19 @@ use Rattle.std.proofs.Math.Nat.{suc-mul}
 use Rattle.std.proofs.lemmas.Bool.Decides.{nat_tests}
 use Rattle.std.proofs.lemmas.List.{drop-drop}
 use Rattle.std.proofs.lemmas.List.Elements.{All-drop}
-use Rattle.sled_core.specs.Begun.{AreEntered, AreFilled, FollowOn, IsUnfilled, SegmentView, begin_of, records_to, segment_view}
-use Rattle.sled_core.specs.Buffers.{IsChain, IsHeaded, most_open, open_in, records_end}
+use Rattle.sled_core.specs.inside.Begun.{AreEntered, AreFilled, FollowOn, IsUnfilled}
+use Rattle.sled_core.specs.Begun.{SegmentView, begin_of, records_to, segment_view}
+use Rattle.sled_core.specs.inside.Buffers.{IsChain, IsHeaded, records_end}
+use Rattle.sled_core.specs.Buffers.{most_open, open_in}
 use Rattle.sled_core.specs.declared.iobuf.Reserved.{Reserved}
 use Rattle.sled_core.specs.declared.iobuf.Sealed.{Sealed}
 use Rattle.sled_core.specs.declared.iobuf.SegmentPosition.{SegmentPosition}
 use Rattle.sled_core.specs.declared.logger.Log.{Log}
 use Rattle.sled_core.specs.declared.logger.io_bufs.SegmentBuffer.{SegmentBuffer}
 use Rattle.sled_core.specs.Fits.{line_of}
-use Rattle.sled_core.specs.SealedBuffers.{AreSealed, behind_run, is_ready, run_count, sealed_count, sealed_end, written_at}
-use Rattle.sled_core.specs.Turned.{promoted, written_now}
+use Rattle.sled_core.specs.inside.SealedBuffers.{AreSealed, behind_run, is_ready, run_count, written_at}
+use Rattle.sled_core.specs.SealedBuffers.{sealed_count, sealed_end}
+use Rattle.sled_core.specs.inside.Turned.{promoted, written_now}
 use Rattle.sled_core.proofs.Behind.FullHolds.{none_sealed}
 use Rattle.sled_core.proofs.Holds.Facts.{IsSegment, nth_facts}
 use Rattle.sled_core.proofs.Reserve.BeginBelow.{entered_left}

@@ -16,8 +16,9 @@ use Rattle.sled_core.specs.Buffers.{first_open_in, open_in}
 use Rattle.sled_core.specs.declared.logger.Log.{Log}
 use Rattle.sled_core.specs.Fits.{current_of, buffers_of, current_begin, held_len, line_of, segment_size_of, synced_end, waiting_of}
 use Rattle.sled_core.specs.ReadBuffer.{IsWrittenPlace, held_at, settling}
-use Rattle.sled_core.specs.SealedBuffers.{IsSealed, bytes_between, sealed_count, sealed_end, writing, written_at}
-use Rattle.sled_core.specs.Turned.{IsReadyIn, promoted, write_in, write_of, written_now}
+use Rattle.sled_core.specs.inside.SealedBuffers.{IsSealed, written_at}
+use Rattle.sled_core.specs.SealedBuffers.{bytes_between, sealed_count, sealed_end, writing}
+use Rattle.sled_core.specs.inside.Turned.{IsReadyIn, promoted, write_in, write_of, written_now}
 use Rattle.sled_core.specs.Waiting.{BufferAt, Span, buffer_at, has_place, held_around, none_around, placed, unless_held, unwritten, unwritten_of, without_around, write_around}
 use Rattle.sled_core.proofs.Line.Around.{IsAround, all_found, begin_above, fewer_line, found, found_above, found_front, found_in, found_line, found_there, found_written, held_found, held_of, is_none, left_of, none_found, without_in, without_line, without_none, writes_found, writes_of}
 use Rattle.sled_core.proofs.Line.Below.{lie_begin, none_first}

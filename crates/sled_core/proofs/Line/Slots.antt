@@ -11,10 +11,11 @@ use Rattle.sled_store.specs.Begin.{first_or}
 use Rattle.sled_store.specs.SegmentStates.{Machine, SlotState, free_among, free_slot, handed_out, is_free, next_slot, slot_at, taken_slot}
 use Rattle.sled_store.proofs.Marks.SlotLemmas.{Passes, where_passes}
 use Rattle.sled_store.proofs.Segments.Elements.{in_cases, in_first, in_nothing}
-use Rattle.sled_core.specs.Begun.{SegmentView, line_end}
-use Rattle.sled_core.specs.Fits.{begun_segment, parts_in}
-use Rattle.sled_core.specs.FreeSlots.{HasSlot, HasSlots, HaveOwn}
-use Rattle.sled_core.specs.Reached.{BegunSegment}
+use Rattle.sled_core.specs.Begun.{SegmentView}
+use Rattle.sled_core.specs.inside.Begun.{line_end}
+use Rattle.sled_core.specs.inside.Fits.{begun_segment, parts_in}
+use Rattle.sled_core.specs.inside.FreeSlots.{HasSlot, HasSlots, HaveOwn}
+use Rattle.sled_core.specs.inside.Reached.{BegunSegment}
 use Rattle.sled_core.proofs.Holds.HoldsLemmas.{one}
 use Rattle.sled_core.proofs.Start.BegunSlots.{handed_taken}
 use Rattle.sled_core.proofs.Start.FreeSlots.{free_before, handed_free}

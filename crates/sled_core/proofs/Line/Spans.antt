@@ -8,8 +8,9 @@ use Rattle.sled_core.specs.declared.iobuf.Reserved.{Reserved}
 use Rattle.sled_core.specs.declared.iobuf.ReservationState.{ReservationState}
 use Rattle.sled_core.specs.declared.iobuf.Sealed.{Sealed}
 use Rattle.sled_core.specs.declared.iobuf.SegmentPosition.{SegmentPosition}
-use Rattle.sled_core.specs.SealedBuffers.{one_ended, one_fewer, seal_at, sealed_count}
-use Rattle.sled_core.specs.Turned.{begun_view, ended_now, next_line, promoted, reserved_now, written_now}
+use Rattle.sled_core.specs.inside.SealedBuffers.{one_ended, one_fewer}
+use Rattle.sled_core.specs.SealedBuffers.{seal_at, sealed_count}
+use Rattle.sled_core.specs.inside.Turned.{begun_view, ended_now, next_line, promoted, reserved_now, written_now}
 use Rattle.sled_core.specs.Waiting.{BufferAt, Span, at_last, buffer_at, closed_now, filled_now, last_of, sealed_now, span_of, spans, start_in, unwritten, unwritten_in, unwritten_of}
 use Rattle.sled_core.proofs.Line.Closes.{filled_length}
 use Rattle.sled_core.proofs.Line.Current.{filled_same, unwritten_more, unwritten_one}

@@ -9,10 +9,11 @@ use Rattle.sled_store.specs.SegmentStates.{handed_out}
 use Rattle.sled_store.specs.declared.config.RunningConfig.{RunningConfig}
 use Rattle.sled_core.specs.Begun.{SegmentView, segment_view}
 use Rattle.sled_core.specs.declared.logger.Log.{Log}
-use Rattle.sled_core.specs.Fits.{AddsBuffers, buffers_of, current_begin, current_of, line_of, machine_at, reserved_end, sealing_end, segment_size_of, stable_end, waiting_of}
+use Rattle.sled_core.specs.inside.Fits.{AddsBuffers}
+use Rattle.sled_core.specs.Fits.{buffers_of, current_begin, current_of, line_of, machine_at, reserved_end, sealing_end, segment_size_of, stable_end, waiting_of}
 use Rattle.sled_core.specs.Keeps.{SamePosition}
 use Rattle.sled_core.specs.Positions.{is_short, next_segment_at}
-use Rattle.sled_core.specs.Turned.{ChangesSlots, begun_view, next_line}
+use Rattle.sled_core.specs.inside.Turned.{ChangesSlots, begun_view, next_line}
 use Rattle.sled_core.specs.Waiting.{BufferAt, as_sealed, at_last, buffer_at, closed_now, holds_any, sealed_now, turned_now, unwritten}
 use Rattle.sled_core.proofs.Line.Begins.{begins_position}
 use Rattle.sled_core.proofs.Line.Entered.{filled_last}

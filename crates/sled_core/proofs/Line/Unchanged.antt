@@ -5,12 +5,14 @@ use Rattle.sled_store.specs.Device.{Trace}
 use Rattle.sled_store.specs.declared.config.RunningConfig.{RunningConfig}
 use Rattle.sled_core.specs.Begun.{SegmentView, segment_view}
 use Rattle.sled_core.specs.declared.logger.Log.{Log}
-use Rattle.sled_core.specs.Fits.{written_to, AwaitsIn, Holds, IsUnchanged, KeepsAll, KeepsTickets, current_of, line_of, machine_at, noted_in, segment_size_of, synced_end}
+use Rattle.sled_core.specs.inside.Fits.{written_to}
+use Rattle.sled_core.specs.Fits.{AwaitsIn, IsUnchanged, KeepsAll, KeepsTickets, current_of, line_of, machine_at, noted_in, segment_size_of, synced_end}
+use Rattle.sled_core.specs.invariants.Fits.{Holds}
 use Rattle.sled_core.specs.Keeps.{Preserves, SamePosition}
 use Rattle.sled_core.specs.OpenPlaces.{open_places_along}
 use Rattle.sled_core.specs.Positions.{position_in}
-use Rattle.sled_core.specs.Running.{Fits}
-use Rattle.sled_core.specs.Turned.{ChangesLine}
+use Rattle.sled_core.specs.invariants.Running.{Fits}
+use Rattle.sled_core.specs.inside.Turned.{ChangesLine}
 use Rattle.sled_core.specs.Waiting.{last_of}
 use Rattle.sled_core.proofs.Line.KeptCalls.{goes_on_quietly}
 use Rattle.sled_core.proofs.Line.LineEnds.{kept_same, noted_quiet, noted_same}

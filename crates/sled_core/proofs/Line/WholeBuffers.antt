@@ -12,18 +12,22 @@ use Rattle.sled_codec.specs.Places.{part}
 use Rattle.sled_codec.specs.Record.{short_header, short_record}
 use Rattle.sled_store.specs.Device.{State, Trace, state_of}
 use Rattle.sled_core.specs.Begun.{SegmentView}
-use Rattle.sled_core.specs.Buffers.{IsChain, Stands, StandsBy, body_in, first_open_in, none_open, open_state, text_as, text_in}
-use Rattle.sled_core.specs.Caps.{segment_rest}
+use Rattle.sled_core.specs.inside.Buffers.{IsChain, Stands, StandsBy, text_as, text_in}
+use Rattle.sled_core.specs.Buffers.{body_in, first_open_in, none_open, open_state}
+use Rattle.sled_core.specs.invariants.Caps.{segment_rest}
 use Rattle.sled_core.specs.declared.iobuf.ReservationState.{ReservationState}
 use Rattle.sled_core.specs.declared.iobuf.ReservationState.TheVariants as state
 use Rattle.sled_core.specs.declared.iobuf.Reserved.{Reserved}
 use Rattle.sled_core.specs.declared.iobuf.Sealed.{Sealed}
 use Rattle.sled_core.specs.declared.iobuf.SegmentPosition.{SegmentPosition}
 use Rattle.sled_core.specs.declared.logger.Log.{Log}
-use Rattle.sled_core.specs.Fits.{Holds, HoldsLine, buffers_of, fault_of, line_of}
+use Rattle.sled_core.specs.invariants.Fits.{Holds}
+use Rattle.sled_core.specs.inside.Fits.{HoldsLine}
+use Rattle.sled_core.specs.Fits.{buffers_of, fault_of, line_of}
 use Rattle.sled_core.specs.Logged.{logged}
 use Rattle.sled_core.specs.Positions.{is_short}
-use Rattle.sled_core.specs.SealedBuffers.{AreSealed, bytes_between}
+use Rattle.sled_core.specs.inside.SealedBuffers.{AreSealed}
+use Rattle.sled_core.specs.SealedBuffers.{bytes_between}
 use Rattle.sled_core.specs.Waiting.{BufferAt, as_sealed, at_last, buffer_at, closed_now, holds_any, placed, sealed_now, turned_now, unwritten, unwritten_in, unwritten_of}
 use Rattle.sled_core.specs.WholeBuffers.{IsFilling, IsWholeBuffer, IsWholeText, RecordParts, records_text}
 use Rattle.sled_core.proofs.Line.Closes.{by_filled, filled_up, more_of}

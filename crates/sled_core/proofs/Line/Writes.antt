@@ -9,17 +9,19 @@ use Rattle.sled_codec.specs.History.{Message, History}
 use Rattle.sled_store.specs.Device.{Event, State, Wrote, Synced, overwritten, step}
 use Rattle.sled_store.specs.Script.{Along}
 use Rattle.sled_store.specs.SegmentStates.{Machine, is_free, slot_at}
-use Rattle.sled_core.specs.Begun.{AreFilled, SegmentParts, SegmentView, begin_of, line_end, records_to}
-use Rattle.sled_core.specs.Buffers.{records_end}
+use Rattle.sled_core.specs.inside.Begun.{AreFilled, line_end}
+use Rattle.sled_core.specs.Begun.{SegmentParts, SegmentView, begin_of, records_to}
+use Rattle.sled_core.specs.inside.Buffers.{records_end}
 use Rattle.sled_core.specs.declared.iobuf.Sealed.{Sealed}
-use Rattle.sled_core.specs.Fits.{HoldsIn, HoldsLine, log_parts, parts_in}
-use Rattle.sled_core.specs.FreeSlots.{FreeAreZeros, HasSlot, HasSlots, HaveOwn}
-use Rattle.sled_core.specs.Full.{FitsFull}
+use Rattle.sled_core.specs.inside.Fits.{HoldsIn, HoldsLine, log_parts, parts_in}
+use Rattle.sled_core.specs.inside.FreeSlots.{FreeAreZeros, HasSlot, HasSlots, HaveOwn}
+use Rattle.sled_core.specs.inside.Full.{FitsFull}
 use Rattle.sled_core.specs.Recoverable.{LeavesRecoverable}
-use Rattle.sled_core.specs.Running.{FitsIn, FitsLine}
-use Rattle.sled_core.specs.SealedBuffers.{bytes_between, is_ready, run_end, sealed_end, writing, written_at}
+use Rattle.sled_core.specs.inside.Running.{FitsIn, FitsLine}
+use Rattle.sled_core.specs.SealedBuffers.{bytes_between, sealed_end, writing}
+use Rattle.sled_core.specs.inside.SealedBuffers.{is_ready, run_end, written_at}
 use Rattle.sled_core.specs.OpenBatches.{stable_below}
-use Rattle.sled_core.specs.Turned.{promoted, write_in, write_of, written_now}
+use Rattle.sled_core.specs.inside.Turned.{promoted, write_in, write_of, written_now}
 use Rattle.sled_core.proofs.Behind.FitsWritten.{behind-along, behind-fits-written}
 use Rattle.sled_core.proofs.Behind.FullWrites.{fits_written_full, written_plain}
 use Rattle.sled_core.proofs.Behind.Writes.{behind-written}

@@ -11,14 +11,15 @@ use Rattle.sled_store.specs.Device.{LogState, State, overwritten}
 use Rattle.sled_store.specs.SegmentStates.{Machine, slot_at}
 use Rattle.sled_store.proofs.LogFile.LogLemmas.{part_written}
 use Rattle.sled_store.proofs.Segments.FilledLemmas.{slot_before}
-use Rattle.sled_core.specs.Begun.{SegmentView, first_place, line_end}
+use Rattle.sled_core.specs.Begun.{SegmentView}
+use Rattle.sled_core.specs.inside.Begun.{first_place, line_end}
 use Rattle.sled_core.specs.declared.iobuf.Sealed.{Sealed}
-use Rattle.sled_core.specs.Fits.{HoldsLine}
-use Rattle.sled_core.specs.FreeSlots.{HasSlot, HasSlots, HaveOwn}
+use Rattle.sled_core.specs.inside.Fits.{HoldsLine}
+use Rattle.sled_core.specs.inside.FreeSlots.{HasSlot, HasSlots, HaveOwn}
 use Rattle.sled_core.specs.LogFile.{HasHeader}
-use Rattle.sled_core.specs.SealedBuffers.{is_ready}
-use Rattle.sled_core.specs.Slots.{AreBegun}
-use Rattle.sled_core.specs.Turned.{promoted, written_now}
+use Rattle.sled_core.specs.inside.SealedBuffers.{is_ready}
+use Rattle.sled_core.specs.inside.Slots.{AreBegun}
+use Rattle.sled_core.specs.inside.Turned.{promoted, written_now}
 use Rattle.sled_core.proofs.Line.Ends.{with_part}
 use Rattle.sled_core.proofs.Holds.Facts.{IsSegment}
 use Rattle.sled_core.proofs.Line.LineEnds.{first_set}

@@ -10,9 +10,9 @@ use Rattle.sled_core.specs.declared.iobuf.Sealed.{Sealed}
 use Rattle.sled_core.specs.declared.reservation.Reservation.{Reservation}
 use Rattle.sled_core.specs.Fits.{AwaitsIn}
 use Rattle.sled_core.specs.OpenPlaces.{open_places_in}
-use Rattle.sled_core.specs.SealedBuffers.{AreSealed, is_ready, run_count, written_at}
+use Rattle.sled_core.specs.inside.SealedBuffers.{AreSealed, is_ready, run_count, written_at}
 use Rattle.sled_core.specs.Tickets.{IsFor, index_of}
-use Rattle.sled_core.specs.Turned.{written_now}
+use Rattle.sled_core.specs.inside.Turned.{written_now}
 use Rattle.sled_core.proofs.Holds.Nth.{set_get, set_other}
 use Rattle.sled_core.proofs.Line.OpenManifests.{manifests_behind, manifests_of}
 use Rattle.sled_core.proofs.Line.OpenPlaces.{none_placed, places_of, places_parted}

@@ -14,7 +14,7 @@ use Rattle.sled_store.proofs.Marks.DeactivationSteps.{from_map}
 use Rattle.sled_store.proofs.Segments.Elements.{all_from_in, in_cases, in_first, in_nothing, in_rest}
 use Rattle.sled_core.specs.Fits.{EndBelow}
 use Rattle.sled_core.specs.Logged.{in_log, item_in_log, logged}
-use Rattle.sled_core.specs.Recoverable.{BlobIsBelow}
+use Rattle.sled_core.specs.Reading.{BlobIsBelow}
 use Rattle.sled_core.specs.Running.{end_below, last_batch, last_message}
 
 -- One message.

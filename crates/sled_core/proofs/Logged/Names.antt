@@ -9,9 +9,9 @@ use Rattle.sled_core.specs.Fits.{CloseBelow}
 use Rattle.sled_core.specs.LogFile.{StandsHere}
 use Rattle.sled_core.specs.Logged.{logged}
 use Rattle.sled_core.specs.Ready.{HasActive, HasFile, HasNoActive, HaveRecords, IsReady, StandsUsed, active_site}
-use Rattle.sled_core.specs.Recoverable.{AreRecoverableSnapshots, IsTableFile}
-use Rattle.sled_core.specs.Running.{NamesFit}
-use Rattle.sled_core.specs.Slots.{HaveEntries}
+use Rattle.sled_core.specs.inside.Recoverable.{AreRecoverableSnapshots, IsTableFile}
+use Rattle.sled_core.specs.inside.Running.{NamesFit}
+use Rattle.sled_core.specs.inside.Slots.{HaveEntries}
 use Rattle.sled_core.proofs.Logged.Alike.{alike_apart, alike_batches, alike_below, alike_there, cut_alike, entry_alike, table_alike}
 use Rattle.sled_core.proofs.Logged.Messages.{inline_alike}
 

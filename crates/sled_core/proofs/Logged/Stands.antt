@@ -14,8 +14,9 @@ use Rattle.sled_core.specs.declared.iterator.scan.ScanEnd.{ScanEnd}
 use Rattle.sled_core.specs.LogFile.{MessageStands}
 use Rattle.sled_core.specs.Logged.{in_log, logged}
 use Rattle.sled_core.specs.OpenBatches.{stable_below}
-use Rattle.sled_core.specs.Reached.{BegunSegment, BeginsNext, ReachesIn, StandsActive, StandsAmong, StandsTo}
-use Rattle.sled_core.specs.Recoverable.{BeginsInSegment, BlobIsBelow, IsMarkBelow, IsMarkOf, IsOfHistory, IsPlacedBatch, IsReachedIn, IsReadOn, IsSegmentOf, LiesInSegment, MeetsMessage, NamesBlobOf, NothingBehind, StandsInline}
+use Rattle.sled_core.specs.inside.Reached.{BegunSegment, BeginsNext, ReachesIn, StandsActive, StandsAmong, StandsTo}
+use Rattle.sled_core.specs.inside.Recoverable.{BeginsInSegment, IsMarkBelow, IsMarkOf, IsOfHistory, IsPlacedBatch, IsReachedIn, IsReadOn, IsSegmentOf, LiesInSegment, MeetsMessage, NamesBlobOf, NothingBehind, StandsInline}
+use Rattle.sled_core.specs.Reading.{BlobIsBelow}
 use Rattle.sled_core.proofs.Logged.Alike.{alike_all, alike_batch, alike_batches, alike_there, entry_alike, no_batch_alike, no_end_alike, no_message_alike}
 use Rattle.sled_core.proofs.Logged.Messages.{inline_alike}
 

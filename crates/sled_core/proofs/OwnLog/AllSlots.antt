@@ -7,8 +7,8 @@ use Rattle.sled_codec.specs.Record.{IsHeader}
 use Rattle.sled_store.specs.Readers.{Reads}
 use Rattle.sled_store.proofs.Segments.Elements.{in_cases, in_first, in_nothing, in_rest}
 use Rattle.sled_core.specs.Begun.{SegmentView}
-use Rattle.sled_core.specs.LogFile.{padded}
-use Rattle.sled_core.specs.OwnLog.{HasOwnSlot, IsOwnFile}
+use Rattle.sled_core.specs.inside.LogFile.{padded}
+use Rattle.sled_core.specs.inside.OwnLog.{HasOwnSlot, IsOwnFile}
 use Rattle.sled_core.proofs.Sealed.Padded.{padded_none}
 
 -- a segment of a line lies in a slot, or none does

@@ -10,8 +10,10 @@ use Rattle.sled_core.specs.declared.iobuf.ReservationState.{ReservationState}
 use Rattle.sled_core.specs.declared.iobuf.Reserved.{Reserved}
 use Rattle.sled_core.specs.declared.iobuf.Sealed.{Sealed}
 use Rattle.sled_core.specs.declared.iobuf.SegmentPosition.{SegmentPosition}
-use Rattle.sled_core.specs.Buffers.{IsChain, NoPadding, Stands, StandsBy, none_open, open_in}
-use Rattle.sled_core.specs.SealedBuffers.{AreSealed, IsSealed, bytes_between, sealed_count, sealed_end}
+use Rattle.sled_core.specs.inside.Buffers.{IsChain, NoPadding, Stands, StandsBy}
+use Rattle.sled_core.specs.Buffers.{none_open, open_in}
+use Rattle.sled_core.specs.inside.SealedBuffers.{AreSealed, IsSealed}
+use Rattle.sled_core.specs.SealedBuffers.{bytes_between, sealed_count, sealed_end}
 use Rattle.sled_core.proofs.OwnLog.Paths.{path_reads}
 use Rattle.sled_core.proofs.Reached.BufferPath.{path_to}
 use Rattle.sled_core.proofs.Reached.BufferStands.{met_in}

@@ -7,10 +7,10 @@ use Rattle.sled_store.specs.SegmentStates.{Machine}
 use Rattle.sled_core.specs.Begun.{SegmentView}
 use Rattle.sled_core.specs.declared.iobuf.ReservationState.{ReservationState}
 use Rattle.sled_core.specs.declared.iobuf.Reserved.{Reserved}
-use Rattle.sled_core.specs.OwnLog.{IsOwnFile, IsOwnSegment}
+use Rattle.sled_core.specs.inside.OwnLog.{IsOwnFile, IsOwnSegment}
 use Rattle.sled_core.specs.SealedBuffers.{seal_at, sealed_count}
-use Rattle.sled_core.specs.Caps.{segment_rest}
-use Rattle.sled_core.specs.Turned.{begun_view, ended_now, next_line, reserved_now}
+use Rattle.sled_core.specs.invariants.Caps.{segment_rest}
+use Rattle.sled_core.specs.inside.Turned.{begun_view, ended_now, next_line, reserved_now}
 use Rattle.sled_core.specs.Waiting.{at_last, closed_now, last_of, sealed_now, with_filling}
 use Rattle.sled_core.proofs.OwnLog.LineChanges.{own_at_last, own_begun, own_set}
 use Rattle.sled_core.proofs.OwnLog.SealedRanges.{ended_among, sealed_behind}

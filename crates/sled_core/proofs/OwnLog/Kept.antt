@@ -9,8 +9,8 @@ use Rattle.sled_store.specs.Readers.{Reads, IsOwnRange}
 use Rattle.sled_store.proofs.LogFile.LooseLemmas.{end_of-some}
 use Rattle.sled_store.proofs.LogFile.OverwrittenLemmas.{length-overwritten}
 use Rattle.sled_store.proofs.Own.RangeLemmas.{range_stays}
-use Rattle.sled_core.specs.LogFile.{padded}
-use Rattle.sled_core.specs.OwnLog.{HasOwnSlot}
+use Rattle.sled_core.specs.inside.LogFile.{padded}
+use Rattle.sled_core.specs.inside.OwnLog.{HasOwnSlot}
 use Rattle.sled_core.proofs.Tail.LogFileLemmas.{file_grows, part_kept}
 use Rattle.sled_core.proofs.Sealed.Padded.{length-padded, padded_get, padded_none}
 use Rattle.sled_core.proofs.Sealed.OneWritten.{overwritten_beside}

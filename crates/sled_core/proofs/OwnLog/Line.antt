@@ -11,10 +11,11 @@ use Rattle.sled_store.proofs.Segments.FilledLemmas.{slot_before}
 use Rattle.sled_core.specs.Begun.{SegmentView}
 use Rattle.sled_core.specs.declared.iobuf.Sealed.{Sealed}
 use Rattle.sled_core.specs.LogFile.{HasHeader}
-use Rattle.sled_core.specs.OwnLog.{HasOwnSlot, IsOwnFile, IsOwnSegment}
+use Rattle.sled_core.specs.inside.OwnLog.{HasOwnSlot, IsOwnFile, IsOwnSegment}
 use Rattle.sled_core.specs.Recoverable.{NoHeaderOfZeros}
-use Rattle.sled_core.specs.SealedBuffers.{sealed_end, written_at}
-use Rattle.sled_core.specs.Turned.{written_now}
+use Rattle.sled_core.specs.SealedBuffers.{sealed_end}
+use Rattle.sled_core.specs.inside.SealedBuffers.{written_at}
+use Rattle.sled_core.specs.inside.Turned.{written_now}
 use Rattle.sled_core.proofs.OwnLog.Kept.{HeadersStay, RecordsStay, range_kept, slot_kept}
 use Rattle.sled_core.proofs.OwnLog.SealedRanges.{behind_front, front_written, written_behind}
 use Rattle.sled_core.proofs.OwnLog.SlotOfSegment.{slot_of_segment}

@@ -6,7 +6,7 @@ use Rattle.sled_store.proofs.Segments.Elements.{in_cases, in_first, in_nothing, 
 use Rattle.sled_core.specs.Begun.{SegmentView}
 use Rattle.sled_core.specs.declared.iobuf.Sealed.{Sealed}
 use Rattle.sled_core.specs.declared.iobuf.SegmentPosition.{SegmentPosition}
-use Rattle.sled_core.specs.OwnLog.{IsOwnFile, IsOwnSegment}
+use Rattle.sled_core.specs.inside.OwnLog.{IsOwnFile, IsOwnSegment}
 use Rattle.sled_core.specs.Waiting.{at_last}
 
 -- an element of other segments, in the same place

@@ -3,7 +3,7 @@ use Rattle.std.proofs.Common.{◌+◌, ◌*◌, ℕ, List, drop, inl}
 use Rattle.sled_store.specs.Device.{LogState, Placement, at_rest}
 use Rattle.sled_store.specs.Foreign.{HeaderWasPlaced, IsWhole, NoForeignLog, RecordWasPlaced}
 use Rattle.sled_store.proofs.Crashes.ForeignLemmas.{take_again}
-use Rattle.sled_core.specs.OwnLog.{ReadsOwn}
+use Rattle.sled_core.specs.inside.OwnLog.{ReadsOwn}
 
 module _ (sum : List ℕ → ℕ) (size : ℕ) (placed : List Placement) (log : List ℕ) where
   abbrev pub WasPlaced : ℕ → Type 0

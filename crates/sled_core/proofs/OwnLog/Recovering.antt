@@ -7,7 +7,7 @@ use Rattle.sled_codec.specs.Record.{IsHeader}
 use Rattle.sled_store.specs.Device.{State}
 use Rattle.sled_store.specs.Foreign.{HeaderWasPlaced, RecordWasPlaced}
 use Rattle.sled_store.specs.Readers.{ReadsTo}
-use Rattle.sled_core.specs.OwnLog.{ReadsPlaced}
+use Rattle.sled_core.specs.inside.OwnLog.{ReadsPlaced}
 use Rattle.sled_core.specs.Recoverable.{NoHeaderOfZeros}
 use Rattle.sled_core.proofs.OwnLog.NoneForeign.{WasPlaced}
 use Rattle.sled_core.proofs.OwnLog.Placed.{headers_stay, records_stay, synced}

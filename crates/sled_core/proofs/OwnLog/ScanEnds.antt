@@ -11,7 +11,7 @@ use Rattle.sled_store.proofs.Own.ReachedLemmas.{begins, same_len, same_record}
 use Rattle.sled_core.specs.declared.iterator.scan.ScannedRecord.{ScannedRecord}
 use Rattle.sled_core.specs.declared.iterator.scan.ScanEnd.{ScanEnd}
 use Rattle.sled_core.specs.declared.iterator.scan.ScanEnd.TheVariants.{Full, Capped, Broken}
-use Rattle.sled_core.specs.OwnLog.{HasOwnSlot, ReadsOwn}
+use Rattle.sled_core.specs.inside.OwnLog.{HasOwnSlot, ReadsOwn}
 use Rattle.sled_core.specs.Scan.{EndsThere, IsScan}
 use Rattle.sled_core.proofs.OwnLog.Kept.{part_in}
 use Rattle.sled_core.proofs.OwnLog.Paths.{path_reads}

@@ -4,8 +4,9 @@ use Rattle.std.specs.List.{slice_get}
 use Rattle.sled_store.specs.Readers.{IsOwnRange}
 use Rattle.sled_store.proofs.Own.RangeLemmas.{ranges_joined}
 use Rattle.sled_core.specs.declared.iobuf.Sealed.{Sealed}
-use Rattle.sled_core.specs.OwnLog.{AreWritten}
-use Rattle.sled_core.specs.SealedBuffers.{behind_run, one_ended, one_fewer, run_end, sealed_end, written_at}
+use Rattle.sled_core.specs.inside.OwnLog.{AreWritten}
+use Rattle.sled_core.specs.inside.SealedBuffers.{behind_run, one_ended, one_fewer, run_end, written_at}
+use Rattle.sled_core.specs.SealedBuffers.{sealed_end}
 use Rattle.sled_core.proofs.Sealed.LaidLemmas.{EndsRise, ends_below}
 
 -- no buffer ends below where the first one begins

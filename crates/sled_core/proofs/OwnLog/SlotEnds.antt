@@ -10,8 +10,8 @@ use Rattle.sled_store.specs.Readers.{Reads, ReadsTo}
 use Rattle.sled_store.proofs.LogFile.LogLemmas.{same_part}
 use Rattle.sled_store.proofs.Own.NoRecord.{reads_none}
 use Rattle.sled_store.proofs.Own.ReaderLemmas.{SameFrom, no_lower, read_same, reads_apart, reads_same, starts}
-use Rattle.sled_core.specs.LogFile.{padded}
-use Rattle.sled_core.specs.OwnLog.{HasOwnSlot}
+use Rattle.sled_core.specs.inside.LogFile.{padded}
+use Rattle.sled_core.specs.inside.OwnLog.{HasOwnSlot}
 use Rattle.sled_core.specs.Recoverable.{NoHeaderOfZeros}
 use Rattle.sled_core.specs.SealedBuffers.{AreZeros}
 use Rattle.sled_core.proofs.Sealed.Padded.{length-padded, padded_get}

@@ -7,7 +7,7 @@ use Rattle.sled_codec.specs.Record.{IsHeader}
 use Rattle.sled_store.specs.Readers.{Reads, ReadsTo, IsOwnRange}
 use Rattle.sled_store.proofs.Own.NoRecord.{reads_none}
 use Rattle.sled_store.proofs.Own.ReaderLemmas.{no_lower, reads_apart}
-use Rattle.sled_core.specs.OwnLog.{HasOwnSlot}
+use Rattle.sled_core.specs.inside.OwnLog.{HasOwnSlot}
 use Rattle.sled_core.proofs.OwnLog.SlotEnds.{OwnTo, ends_zero, own_to_end, own_whole, slot_has}
 
 module _ (sum : List ℕ → ℕ) (size : ℕ) (Header : ℕ → List ℕ → Type 0) (Own : ℕ → ℕ → List ℕ → Type 0) (big : 32 ≤ size) (log : List ℕ) (slot place from : ℕ) where

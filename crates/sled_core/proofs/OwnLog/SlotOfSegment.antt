@@ -9,9 +9,9 @@ use Rattle.sled_core.specs.declared.iobuf.Reserved.{Reserved}
 use Rattle.sled_core.specs.declared.iobuf.Sealed.{Sealed}
 use Rattle.sled_core.specs.declared.iobuf.SegmentPosition.{SegmentPosition}
 use Rattle.sled_core.specs.LogFile.{HasHeader}
-use Rattle.sled_core.specs.OwnLog.{HasOwnSlot, IsOwnSegment}
+use Rattle.sled_core.specs.inside.OwnLog.{HasOwnSlot, IsOwnSegment}
 use Rattle.sled_core.specs.Recoverable.{NoHeaderOfZeros}
-use Rattle.sled_core.specs.SealedBuffers.{AreSealed, FirstUnwritten, Laid}
+use Rattle.sled_core.specs.inside.SealedBuffers.{AreSealed, FirstUnwritten, Laid}
 use Rattle.sled_core.proofs.OwnLog.SlotEnds.{slot_unbegun}
 use Rattle.sled_core.proofs.OwnLog.SlotOfRange.{slot_of_range}
 use Rattle.sled_core.proofs.Reserve.Entries.{IsLong}

@@ -26,13 +26,14 @@ use Rattle.sled_core.specs.declared.iterator.scan.ScannedRecord.{ScannedRecord}
 use Rattle.sled_core.specs.declared.iterator.scan.ScanEnd.{ScanEnd}
 use Rattle.sled_core.specs.Begun.{SegmentView}
 use Rattle.sled_core.specs.Logged.{logged}
-use Rattle.sled_core.specs.OwnLog.{HasOwnSlot, HasPlacedFile, IsOwnFile, IsOwnSegment, ReadsOwn, ReadsPlaced}
-use Rattle.sled_core.specs.Reached.{StandsActive}
-use Rattle.sled_core.specs.Recoverable.{ActiveFits, NoHeaderOfZeros}
-use Rattle.sled_core.specs.Running.{IsReadyFor}
+use Rattle.sled_core.specs.inside.OwnLog.{HasOwnSlot, HasPlacedFile, IsOwnFile, IsOwnSegment, ReadsOwn, ReadsPlaced}
+use Rattle.sled_core.specs.inside.Reached.{StandsActive}
+use Rattle.sled_core.specs.inside.Recoverable.{ActiveFits}
+use Rattle.sled_core.specs.Recoverable.{NoHeaderOfZeros}
+use Rattle.sled_core.specs.inside.Running.{IsReadyFor}
 use Rattle.sled_core.specs.Scan.{IsScan}
 use Rattle.sled_core.specs.Starts.{site_from}
-use Rattle.sled_core.specs.Tail.{least_place}
+use Rattle.sled_core.specs.inside.Tail.{least_place}
 use Rattle.sled_core.proofs.Holds.HoldsLemmas.{one}
 use Rattle.sled_core.proofs.OwnLog.Kept.{part_in}
 use Rattle.sled_core.proofs.OwnLog.ScanEnds.{reads_inside, scan_reads, slot_read_to_end}

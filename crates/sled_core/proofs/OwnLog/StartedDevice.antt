@@ -11,7 +11,7 @@ use Rattle.sled_store.specs.SegmentStates.{SlotState, cutting, may_be_cut}
 use Rattle.sled_store.specs.Started.{found, started}
 use Rattle.sled_store.proofs.Accounts.StartedFile.{free_begin}
 use Rattle.sled_store.proofs.Traces.ScriptLemmas.{after_joined}
-use Rattle.sled_core.specs.OwnLog.{ReadsPlaced}
+use Rattle.sled_core.specs.inside.OwnLog.{ReadsPlaced}
 use Rattle.sled_core.specs.Recoverable.{NoHeaderOfZeros}
 use Rattle.sled_core.proofs.Tail.LogFileLemmas.{file_grows}
 use Rattle.sled_core.proofs.OwnLog.Starting.{file_synced, slot_overwritten, slots_cut}

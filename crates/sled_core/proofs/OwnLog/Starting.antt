@@ -12,7 +12,7 @@ use Rattle.sled_store.proofs.Crashes.ForeignLemmas.{take_again}
 use Rattle.sled_store.proofs.Crashes.StoodLemmas.{header_settled, record_settled}
 use Rattle.sled_store.proofs.LogFile.LogLemmas.{part_cut}
 use Rattle.sled_store.proofs.Segments.FilledLemmas.{slot_before}
-use Rattle.sled_core.specs.OwnLog.{ReadsPlaced}
+use Rattle.sled_core.specs.inside.OwnLog.{ReadsPlaced}
 use Rattle.sled_core.specs.Recoverable.{NoHeaderOfZeros}
 use Rattle.sled_core.proofs.OwnLog.Kept.{HeadersStay, RecordsStay}
 use Rattle.sled_core.proofs.OwnLog.NoneForeign.{WasPlaced}

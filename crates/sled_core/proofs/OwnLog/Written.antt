@@ -9,8 +9,9 @@ use Rattle.sled_store.specs.Readers.{Reads, ReadsTo, IsOwnRange}
 use Rattle.sled_store.proofs.Crashes.ForeignLemmas.{take_again}
 use Rattle.sled_store.proofs.Own.ReaderLemmas.{no_lower, reached_in}
 use Rattle.sled_core.specs.declared.iobuf.Sealed.{Sealed}
-use Rattle.sled_core.specs.OwnLog.{AreWritten}
-use Rattle.sled_core.specs.SealedBuffers.{sealed_end, written_at}
+use Rattle.sled_core.specs.inside.OwnLog.{AreWritten}
+use Rattle.sled_core.specs.SealedBuffers.{sealed_end}
+use Rattle.sled_core.specs.inside.SealedBuffers.{written_at}
 use Rattle.sled_core.proofs.Tail.LogFileLemmas.{laid_within, part_laid}
 use Rattle.sled_core.proofs.OwnLog.Kept.{HeadersStay, RecordsStay, part_in, range_kept}
 use Rattle.sled_core.proofs.OwnLog.SealedRanges.{one_written}

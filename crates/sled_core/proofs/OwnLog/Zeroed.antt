@@ -8,7 +8,7 @@ use Rattle.sled_store.specs.Readers.{Reads, ReadsTo}
 use Rattle.sled_store.proofs.LogFile.LooseLemmas.{end_of-some}
 use Rattle.sled_store.proofs.LogFile.OverwrittenLemmas.{length-overwritten}
 use Rattle.sled_store.proofs.Segments.FilledLemmas.{slot_before}
-use Rattle.sled_core.specs.OwnLog.{HasOwnSlot, ReadsOwn}
+use Rattle.sled_core.specs.inside.OwnLog.{HasOwnSlot, ReadsOwn}
 use Rattle.sled_core.specs.Recoverable.{NoHeaderOfZeros}
 use Rattle.sled_core.proofs.OwnLog.AllSlots.{header_own, record_own}
 use Rattle.sled_core.proofs.OwnLog.Kept.{HeadersStay, RecordsStay, part_in, range_kept, same_parts}

@@ -8,8 +8,9 @@ use Rattle.sled_core.specs.declared.iobuf.IoBuf.{IoBuf}
 use Rattle.sled_core.specs.declared.iobuf.Reserved.{Reserved}
 use Rattle.sled_core.specs.declared.iobuf.Sealed.{Sealed}
 use Rattle.sled_core.specs.declared.logger.ready.ReadyBuffers.{ReadyBuffers}
-use Rattle.sled_core.specs.ReadyBuffers.{EndedOne, HasOwn, held_in}
-use Rattle.sled_core.specs.SealedBuffers.{AreSealed, HasOpenAt, is_ready, one_ended, one_fewer, sealed_count, sealed_end}
+use Rattle.sled_core.specs.inside.ReadyBuffers.{EndedOne, HasOwn, held_in}
+use Rattle.sled_core.specs.inside.SealedBuffers.{AreSealed, HasOpenAt, is_ready, one_ended, one_fewer}
+use Rattle.sled_core.specs.SealedBuffers.{sealed_count, sealed_end}
 use Rattle.sled_core.proofs.Pending.Owns.{changed, held_counted, ready_uncounted}
 use Rattle.sled_core.proofs.Pending.Places.{Rise, around, begins, held_around, higher, higher_above, lower, lower_below, parted_none, rise_of, rise_up, set_around}
 use Rattle.sled_core.proofs.Reserve.Parts.{get_there}

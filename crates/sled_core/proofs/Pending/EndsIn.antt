@@ -10,8 +10,8 @@ use Rattle.sled_core.specs.declared.iobuf.SegmentPosition.{SegmentPosition}
 use Rattle.sled_core.specs.declared.logger.Log.{Log}
 use Rattle.sled_core.specs.declared.logger.ready.ReadyBuffers.{ReadyBuffers}
 use Rattle.sled_core.specs.Fits.{line_of}
-use Rattle.sled_core.specs.ReadyBuffers.{AreReady, EndedOne, HasOwn}
-use Rattle.sled_core.specs.Turned.{EndsAs, HasOpenIn, ended_now}
+use Rattle.sled_core.specs.inside.ReadyBuffers.{AreReady, EndedOne, HasOwn}
+use Rattle.sled_core.specs.inside.Turned.{EndsAs, HasOpenIn, ended_now}
 use Rattle.sled_core.proofs.Line.EndedLine.{ended_view}
 use Rattle.sled_core.proofs.Holds.Facts.{nth_facts}
 use Rattle.sled_core.proofs.Pending.Logs.{ended_asks, ended_ready}

@@ -15,9 +15,10 @@ use Rattle.sled_core.specs.declared.iobuf.Sealed.{Sealed}
 use Rattle.sled_core.specs.declared.iobuf.SegmentPosition.{SegmentPosition}
 use Rattle.sled_core.specs.declared.logger.Log.{Log}
 use Rattle.sled_core.specs.Fits.{line_of, waiting_of}
-use Rattle.sled_core.specs.ReadyBuffers.{ready_in, ready_places}
-use Rattle.sled_core.specs.SealedBuffers.{is_ready, ready_count, sealed_end}
-use Rattle.sled_core.specs.Turned.{begin_at}
+use Rattle.sled_core.specs.inside.ReadyBuffers.{ready_in, ready_places}
+use Rattle.sled_core.specs.inside.SealedBuffers.{is_ready, ready_count}
+use Rattle.sled_core.specs.SealedBuffers.{sealed_end}
+use Rattle.sled_core.specs.inside.Turned.{begin_at}
 use Rattle.sled_core.specs.Waiting.{pending_in, unwritten}
 use Rattle.sled_core.proofs.Line.Buffers.{Finds, finds_behind, finds_first, pending_first}
 use Rattle.sled_core.proofs.Holds.Facts.{IsSegment, nth_facts}

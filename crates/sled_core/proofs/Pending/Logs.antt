@@ -2,8 +2,8 @@
 use Rattle.std.proofs.Common.{◌≡◌, ◌∙◌, ◌+◌, ◌-◌, ◌/◌, nat_lt, ap, sym, refl, subst, ℕ, Bool, true, false, if◌then◌else◌, List, [], ◌∷◌, ◌++◌, length, map, drop, set, Some}
 use Rattle.std.specs.List.{slice_get}
 use Rattle.sled_core.specs.Begun.{SegmentView, segment_view, view_at}
-use Rattle.sled_core.specs.Buffers.{IsHeaded, ended}
-use Rattle.sled_core.specs.Caps.{segment_rest}
+use Rattle.sled_core.specs.inside.Buffers.{IsHeaded, ended}
+use Rattle.sled_core.specs.invariants.Caps.{segment_rest}
 use Rattle.sled_core.specs.declared.iobuf.IoBuf.{IoBuf}
 use Rattle.sled_core.specs.declared.iobuf.ReservationState.{ReservationState}
 use Rattle.sled_core.specs.declared.iobuf.Reserved.{Reserved}
@@ -12,9 +12,10 @@ use Rattle.sled_core.specs.declared.iobuf.SegmentPosition.{SegmentPosition}
 use Rattle.sled_core.specs.declared.logger.Log.{Log}
 use Rattle.sled_core.specs.declared.logger.ready.ReadyBuffers.{ReadyBuffers}
 use Rattle.sled_core.specs.Fits.{current_of, line_of}
-use Rattle.sled_core.specs.ReadyBuffers.{AreReady, EndedOne, HasOwn}
-use Rattle.sled_core.specs.SealedBuffers.{AreSealed, is_ready, one_ended, seal_at, sealed_count, written_at}
-use Rattle.sled_core.specs.Turned.{HasOpenIn, IsReadyIn, ended_now, promoted, written_now}
+use Rattle.sled_core.specs.inside.ReadyBuffers.{AreReady, EndedOne, HasOwn}
+use Rattle.sled_core.specs.inside.SealedBuffers.{AreSealed, is_ready, one_ended, written_at}
+use Rattle.sled_core.specs.SealedBuffers.{seal_at, sealed_count}
+use Rattle.sled_core.specs.inside.Turned.{HasOpenIn, IsReadyIn, ended_now, promoted, written_now}
 use Rattle.sled_core.specs.Waiting.{at_last, closed_now, sealed_now, with_filling}
 use Rattle.sled_core.proofs.Line.LogWrites.{segments_written}
 use Rattle.sled_core.proofs.Line.Segments.{line_segments, nth_segment}

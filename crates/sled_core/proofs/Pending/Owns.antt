@@ -4,8 +4,9 @@ use Rattle.std.specs.List.{All}
 use Rattle.std.proofs.lemmas.List.{append-nil}
 use Rattle.sled_core.specs.declared.iobuf.Sealed.{Sealed}
 use Rattle.sled_core.specs.declared.logger.ready.ReadyBuffers.{ReadyBuffers}
-use Rattle.sled_core.specs.ReadyBuffers.{HasOwn, held_in, ready_in}
-use Rattle.sled_core.specs.SealedBuffers.{is_ready, sealed_end}
+use Rattle.sled_core.specs.inside.ReadyBuffers.{HasOwn, held_in, ready_in}
+use Rattle.sled_core.specs.inside.SealedBuffers.{is_ready}
+use Rattle.sled_core.specs.SealedBuffers.{sealed_end}
 use Rattle.sled_core.proofs.Pending.Places.{begins, end_on, held_around, held_on, higher, lower, parted, ready_one}
 
 -- the same buffer with other states

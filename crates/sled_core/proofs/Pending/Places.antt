@@ -4,8 +4,9 @@ use Rattle.std.specs.List.{All, slice_get}
 use Rattle.std.proofs.lemmas.List.Elements.{All-append, All-cons, All-nil, All-weaker}
 use Rattle.sled_core.specs.declared.iobuf.Reserved.{Reserved}
 use Rattle.sled_core.specs.declared.iobuf.Sealed.{Sealed}
-use Rattle.sled_core.specs.ReadyBuffers.{held_in, ready_in}
-use Rattle.sled_core.specs.SealedBuffers.{AreSealed, behind_run, is_ready, now_written, run_end, sealed_end, written_at}
+use Rattle.sled_core.specs.inside.ReadyBuffers.{held_in, ready_in}
+use Rattle.sled_core.specs.inside.SealedBuffers.{AreSealed, behind_run, is_ready, now_written, run_end, written_at}
+use Rattle.sled_core.specs.SealedBuffers.{sealed_end}
 
 -- the place of one buffer, where it can be written
 abbrev pub ready_one : ℕ → Sealed → List ℕ

@@ -5,9 +5,9 @@ use Rattle.std.proofs.lemmas.List.Elements.{All-append, All-nil, All-weaker}
 use Rattle.sled_core.specs.Begun.{SegmentView, begin_of}
 use Rattle.sled_core.specs.declared.iobuf.Sealed.{Sealed}
 use Rattle.sled_core.specs.declared.logger.ready.ReadyBuffers.{ReadyBuffers}
-use Rattle.sled_core.specs.ReadyBuffers.{AreReady, HasOwn, held_buffers, held_in, ready_in, ready_places}
+use Rattle.sled_core.specs.inside.ReadyBuffers.{AreReady, HasOwn, held_buffers, held_in, ready_in, ready_places}
 use Rattle.sled_core.specs.SealedBuffers.{sealed_end}
-use Rattle.sled_core.specs.Turned.{promoted}
+use Rattle.sled_core.specs.inside.Turned.{promoted}
 use Rattle.sled_core.specs.Waiting.{at_last, last_of}
 use Rattle.sled_core.proofs.Holds.Facts.{IsSegment}
 use Rattle.sled_core.proofs.Holds.Nth.{at_last_set, last_get}

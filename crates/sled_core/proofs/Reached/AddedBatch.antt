@@ -4,7 +4,7 @@ use Rattle.std.specs.List.{Contains}
 use Rattle.std.proofs.lemmas.List.Elements.{Contains-append_cases, Contains-append_left, Contains-append_right}
 use Rattle.sled_codec.specs.History.{AddsBatch, Batch, History, Message, of_page, page_state, table}
 use Rattle.sled_store.proofs.Segments.Elements.{in_first, only_in}
-use Rattle.sled_core.specs.Recoverable.{NoBatchBegins, NoBatchEnds, NoMessageBegins}
+use Rattle.sled_core.specs.inside.Recoverable.{NoBatchBegins, NoBatchEnds, NoMessageBegins}
 
 module _ (H H' : History) (b : Batch) (adds : AddsBatch H b H') where
   in_new : (c : Batch) → Contains (H.batches ++ b ∷ []) c → Contains H'.batches c

@@ -19,16 +19,17 @@ use Rattle.sled_core.specs.declared.iterator.Segment.{Segment}
 use Rattle.sled_core.specs.declared.iterator.scan.ScannedRecord.{ScannedRecord}
 use Rattle.sled_core.specs.declared.iterator.scan.ScanEnd.{ScanEnd}
 use Rattle.sled_core.specs.declared.iterator.scan.ScanEnd.TheVariants.{Full, Capped, Broken}
-use Rattle.sled_core.specs.Buffers.{IsChain, batch_in, batches_in, completed_in, message_in, none_open, with_batch, with_own, NoPadding, Stands, item_as, body_in}
-use Rattle.sled_core.specs.Reached.{BeginsNext}
-use Rattle.sled_core.specs.Fits.{HasMark}
-use Rattle.sled_core.specs.Recoverable.{NoBatchBegins, IsOfHistory, IsMarkOf, IsMarkBelow}
+use Rattle.sled_core.specs.inside.Buffers.{IsChain, batch_in, batches_in, completed_in, with_batch, with_own, NoPadding, Stands}
+use Rattle.sled_core.specs.Buffers.{message_in, none_open, item_as, body_in}
+use Rattle.sled_core.specs.inside.Reached.{BeginsNext}
+use Rattle.sled_core.specs.inside.Fits.{HasMark}
+use Rattle.sled_core.specs.inside.Recoverable.{NoBatchBegins, IsOfHistory, IsMarkOf, IsMarkBelow}
 use Rattle.sled_core.specs.Scan.{IsPath, IsEnd, EndsThere}
 use Rattle.sled_core.proofs.Reached.OpenTickets.{by_first}
 use Rattle.sled_core.proofs.Read.PathLemmas.{zeros_empty}
 use Rattle.sled_core.proofs.Reserve.Entries.{completed_plain, reserved_in, some_in, some_long, manifest_plain}
 use Rattle.sled_core.proofs.Reserve.Ranges.{chain_grows, completed_between, own_cases, own_rest}
-use Rattle.sled_core.specs.SealedBuffers.{Agrees}
+use Rattle.sled_core.specs.inside.SealedBuffers.{Agrees}
 use Rattle.sled_core.proofs.Reached.BufferStands.{met_as, met_in, one_inline, one_meets, path_in}
 use Rattle.sled_core.proofs.Reserve.MarksLemmas.{blobless, kind_of_manifest}
 use Rattle.sled_core.specs.declared.iterator.scan.RecordContent.TheVariants.{BatchStart}

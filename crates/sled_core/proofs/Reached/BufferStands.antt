@@ -29,11 +29,12 @@ use Rattle.sled_core.specs.declared.iobuf.SegmentPosition.{SegmentPosition}
 use Rattle.sled_core.specs.declared.iterator.scan.ScannedRecord.{ScannedRecord}
 use Rattle.sled_core.specs.declared.iterator.scan.RecordContent.{RecordContent}
 use Rattle.sled_core.specs.declared.iterator.scan.RecordContent.TheVariants.{BatchStart, Gives, NamesBlob, Skipped}
-use Rattle.sled_core.specs.Buffers.{SpellsBlob, body_in, item_as, pointer_as, message_in, text_as, IsChain, completed_in, none_open, HasText, NoPadding, Stands}
-use Rattle.sled_core.specs.SealedBuffers.{Agrees}
+use Rattle.sled_core.specs.inside.Buffers.{SpellsBlob, text_as, IsChain, completed_in, HasText, NoPadding, Stands}
+use Rattle.sled_core.specs.Buffers.{body_in, item_as, pointer_as, message_in, none_open}
+use Rattle.sled_core.specs.inside.SealedBuffers.{Agrees}
 use Rattle.sled_core.specs.LogFile.{MessageStands, StandsHere}
 use Rattle.sled_core.specs.Reading.{StandsAt}
-use Rattle.sled_core.specs.Recoverable.{MeetsMessage, NamesBlobOf, StandsInline}
+use Rattle.sled_core.specs.inside.Recoverable.{MeetsMessage, NamesBlobOf, StandsInline}
 use Rattle.sled_core.specs.Scan.{IsMet, IsPath}
 use Rattle.sled_core.proofs.Reserve.CompletesLemmas.{kind_of_message}
 use Rattle.sled_core.proofs.Reserve.MarksLemmas.{blobless, kind_of_manifest}

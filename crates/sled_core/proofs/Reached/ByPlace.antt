@@ -5,7 +5,8 @@ use Rattle.std.specs.List.{Contains}
 use Rattle.std.proofs.lemmas.Bool.Decides.{nat_tests}
 use Rattle.sled_codec.specs.History.{Batch}
 use Rattle.sled_store.proofs.Segments.Elements.{in_cases, in_first, in_nothing, in_rest}
-use Rattle.sled_core.specs.OpenBatches.{AreByPlace, not_whole, stable_below, with_batch}
+use Rattle.sled_core.specs.inside.OpenBatches.{AreByPlace}
+use Rattle.sled_core.specs.OpenBatches.{not_whole, stable_below, with_batch}
 
 -- Each of them with one more is that one or one of the others,
 pub with_cases : (b : Batch) (cs : List Batch) (x : Batch) → Contains (with_batch b cs) x → (b ≡ x) ⊎ Contains cs x

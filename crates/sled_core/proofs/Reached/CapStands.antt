@@ -11,7 +11,8 @@ use Rattle.sled_codec.specs.Record.{IsRecord}
 use Rattle.sled_codec.specs.Spelling.{short_number, short_header_tail}
 use Rattle.sled_codec.specs.SpellingLaws.{length-short_number}
 use Rattle.sled_codec.proofs.Records.{short_is_record, length-short_record}
-use Rattle.sled_core.specs.Caps.{cap_page, cap_record, filled_up, capped_rest, segment_rest, rest_why}
+use Rattle.sled_core.specs.inside.Caps.{cap_page, cap_record, filled_up, capped_rest, rest_why}
+use Rattle.sled_core.specs.invariants.Caps.{segment_rest}
 use Rattle.sled_core.specs.declared.iterator.scan.ScanEnd.TheVariants.{Full, Capped}
 use Rattle.sled_core.specs.Reading.{StandsAt}
 use Rattle.sled_core.specs.Scan.{EndsThere, IsEnd}

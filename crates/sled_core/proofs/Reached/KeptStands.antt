@@ -14,15 +14,17 @@ use Rattle.sled_core.specs.declared.iterator.scan.ScannedRecord.{ScannedRecord}
 use Rattle.sled_core.specs.declared.iterator.scan.ScanEnd.{ScanEnd}
 use Rattle.sled_core.specs.declared.iterator.scan.ScanEnd.TheVariants.{Full, Capped, Broken}
 use Rattle.sled_core.specs.Reading.{StandsAt}
-use Rattle.sled_core.specs.Recoverable.{StandsInline, IsReachedIn, IsReadOn, IsSegmentOf}
-use Rattle.sled_core.specs.Scan.{IsFoundSegment, IsMet, IsPath, IsEnd, EndsThere, IsScan}
+use Rattle.sled_core.specs.inside.Recoverable.{StandsInline, IsReachedIn, IsReadOn, IsSegmentOf}
+use Rattle.sled_core.specs.inside.Scan.{IsFoundSegment}
+use Rattle.sled_core.specs.Scan.{IsMet, IsPath, IsEnd, EndsThere, IsScan}
 use Rattle.sled_core.proofs.Tail.LogFileLemmas.{record_moved}
 use Rattle.sled_core.proofs.Torn.AlikeSlots.{SameIn, slot_found}
 use Rattle.sled_core.proofs.Torn.KeptSlots.{KeepsSlots}
 use Rattle.sled_core.proofs.Torn.TornRecords.{long_enough}
 use Rattle.sled_core.proofs.Torn.WrittenParts.{all_there, in_this_file, in_segment}
 use Rattle.sled_core.proofs.Torn.WrittenRecords.{AlikeAlong}
-use Rattle.sled_core.specs.Tail.{Scanned, IsScanned, IsOrdering, least_place}
+use Rattle.sled_core.specs.Tail.{Scanned, IsScanned}
+use Rattle.sled_core.specs.inside.Tail.{IsOrdering, least_place}
 use Rattle.sled_core.proofs.Tail.Moved.{message_moved}
 use Rattle.sled_core.proofs.Tail.OneTail.{scan_there, segment_there}
 use Rattle.sled_core.proofs.Reached.LeftBeside.{truth_alike}

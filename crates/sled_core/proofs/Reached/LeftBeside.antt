@@ -14,8 +14,9 @@ use Rattle.sled_store.specs.Foreign.{NoForeignLog}
 use Rattle.sled_store.proofs.Segments.Elements.{in_first, in_rest, in_cases, in_nothing}
 use Rattle.sled_core.specs.declared.iterator.Segment.{Segment}
 use Rattle.sled_core.specs.declared.iterator.scan.ScannedRecord.{ScannedRecord}
-use Rattle.sled_core.specs.Recoverable.{NothingBehind, StandsInline, IsOfHistory, IsReachedIn, IsReadOn, IsSegmentOf}
-use Rattle.sled_core.specs.Scan.{IsFoundSegment, IsMet, IsPath, IsScan}
+use Rattle.sled_core.specs.inside.Recoverable.{NothingBehind, StandsInline, IsOfHistory, IsReachedIn, IsReadOn, IsSegmentOf}
+use Rattle.sled_core.specs.inside.Scan.{IsFoundSegment}
+use Rattle.sled_core.specs.Scan.{IsMet, IsPath, IsScan}
 use Rattle.sled_core.proofs.Read.ScanLemmas.{met_fits, aligned_offset}
 use Rattle.sled_core.proofs.Torn.TornLemmas.{after_write, left_grows, part_left}
 use Rattle.sled_core.proofs.Torn.WrittenParts.{in_segment, path_rises, path_stays}

@@ -5,9 +5,11 @@ use Rattle.sled_codec.specs.History.{Message, History, table}
 use Rattle.sled_codec.specs.Places.{part}
 use Rattle.sled_codec.specs.Snapshots.{SnapshotModel, stable_place}
 use Rattle.sled_core.specs.declared.iterator.Segment.{Segment}
-use Rattle.sled_core.specs.Recoverable.{IsSegmentOf, StandsInline}
-use Rattle.sled_core.specs.Scan.{IsFoundSegment, IsScan}
-use Rattle.sled_core.specs.Tail.{IsOrdering, IsScanned, Scanned, least_place}
+use Rattle.sled_core.specs.inside.Recoverable.{IsSegmentOf, StandsInline}
+use Rattle.sled_core.specs.inside.Scan.{IsFoundSegment}
+use Rattle.sled_core.specs.Scan.{IsScan}
+use Rattle.sled_core.specs.inside.Tail.{IsOrdering, least_place}
+use Rattle.sled_core.specs.Tail.{IsScanned, Scanned}
 use Rattle.sled_core.proofs.Read.FoundLemmas.{found_there}
 use Rattle.sled_core.proofs.Reached.KeptStands.{alike_kept, item_kept, reached_kept, read_on_kept}
 use Rattle.sled_core.proofs.Reached.LeftBeside.{truth_alike}

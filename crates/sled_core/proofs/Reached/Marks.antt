@@ -5,7 +5,7 @@ use Rattle.std.proofs.lemmas.Bool.{cases_lt}
 use Rattle.std.proofs.lemmas.Int.{ints}
 use Rattle.sled_codec.specs.History.{Batch, History}
 use Rattle.sled_core.specs.OpenBatches.{stable_below}
-use Rattle.sled_core.specs.Recoverable.{IsMarkBelow}
+use Rattle.sled_core.specs.inside.Recoverable.{IsMarkBelow}
 use Rattle.sled_core.proofs.Reached.StableBelow.{stable_is}
 use Rattle.sled_core.proofs.Tail.GreatestMark.{mark_below}
 use Rattle.sled_core.proofs.Tail.Multiples.{lower_multiple}

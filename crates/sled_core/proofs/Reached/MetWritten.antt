@@ -11,10 +11,11 @@ use Rattle.sled_core.specs.declared.iobuf.SegmentPosition.{SegmentPosition}
 use Rattle.sled_core.specs.declared.iterator.Segment.{Segment}
 use Rattle.sled_core.specs.declared.iterator.scan.ScanEnd.{ScanEnd}
 use Rattle.sled_core.specs.declared.iterator.scan.ScanEnd.TheVariants.{Full, Capped, Broken}
-use Rattle.sled_core.specs.Reached.{StandsIn, StandsTo}
-use Rattle.sled_core.specs.Recoverable.{IsReachedIn}
+use Rattle.sled_core.specs.inside.Reached.{StandsIn, StandsTo}
+use Rattle.sled_core.specs.inside.Recoverable.{IsReachedIn}
 use Rattle.sled_core.specs.Scan.{IsEnd}
-use Rattle.sled_core.specs.Tail.{Scanned, least_place}
+use Rattle.sled_core.specs.Tail.{Scanned}
+use Rattle.sled_core.specs.inside.Tail.{least_place}
 use Rattle.sled_core.proofs.Read.ScanLemmas.{aligned_offset}
 use Rattle.sled_core.proofs.Reached.ReachedEntries.{reached_of}
 use Rattle.sled_core.proofs.Tail.Multiples.{one_multiple, put_down}

@@ -14,11 +14,13 @@ use Rattle.sled_core.specs.declared.iobuf.SegmentPosition.{SegmentPosition}
 use Rattle.sled_core.specs.declared.iterator.Segment.{Segment}
 use Rattle.sled_core.specs.declared.iterator.scan.ScanEnd.{ScanEnd}
 use Rattle.sled_core.specs.declared.iterator.scan.ScanEnd.TheVariants.{Broken}
-use Rattle.sled_core.specs.Full.{StandsFull}
-use Rattle.sled_core.specs.Reached.{BeginsNext, BeginsOne, BegunSegment, FollowApart, IsReadTo, IsSoFar, StandsAlone, StandsAmong, StandsIn}
-use Rattle.sled_core.specs.Recoverable.{NoHeaderOfZeros, NoMessageBegins}
-use Rattle.sled_core.specs.Scan.{IsFoundSegment}
-use Rattle.sled_core.specs.Tail.{Scanned, least_place}
+use Rattle.sled_core.specs.inside.Full.{StandsFull}
+use Rattle.sled_core.specs.inside.Reached.{BeginsNext, BeginsOne, BegunSegment, FollowApart, IsReadTo, IsSoFar, StandsAlone, StandsAmong, StandsIn}
+use Rattle.sled_core.specs.Recoverable.{NoHeaderOfZeros}
+use Rattle.sled_core.specs.inside.Recoverable.{NoMessageBegins}
+use Rattle.sled_core.specs.inside.Scan.{IsFoundSegment}
+use Rattle.sled_core.specs.Tail.{Scanned}
+use Rattle.sled_core.specs.inside.Tail.{least_place}
 use Rattle.sled_core.proofs.Reached.Higher.{IsBegunOrLedTo, known_in, stands_higher}
 use Rattle.sled_core.proofs.Reached.Marks.{less_than}
 use Rattle.sled_core.proofs.Reached.StandsTo.{StandsTo}

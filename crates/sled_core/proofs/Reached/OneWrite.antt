@@ -10,17 +10,19 @@ use Rattle.sled_core.specs.declared.iterator.Segment.{Segment}
 use Rattle.sled_core.specs.declared.iterator.scan.ScannedRecord.{ScannedRecord}
 use Rattle.sled_core.specs.declared.iterator.scan.ScanEnd.{ScanEnd}
 use Rattle.sled_core.specs.OpenBatches.{stable_below}
-use Rattle.sled_core.specs.Recoverable.{NothingBehind, NoHeaderOfZeros, NoMessageBegins, IsOfHistory, IsMarkOf, IsMarkBelow}
+use Rattle.sled_core.specs.inside.Recoverable.{NothingBehind, NoMessageBegins, IsOfHistory, IsMarkOf, IsMarkBelow}
+use Rattle.sled_core.specs.Recoverable.{NoHeaderOfZeros}
 use Rattle.sled_core.specs.Scan.{IsPath, IsEnd, IsScan}
 use Rattle.sled_core.proofs.Torn.TornLemmas.{after_write}
 use Rattle.sled_core.proofs.Torn.WrittenParts.{path_rises}
 use Rattle.sled_core.proofs.Torn.WrittenRecords.{AreClear}
-use Rattle.sled_core.specs.Tail.{Scanned, least_place}
+use Rattle.sled_core.specs.Tail.{Scanned}
+use Rattle.sled_core.specs.inside.Tail.{least_place}
 use Rattle.sled_store.proofs.Histories.Ascending.{Ascends}
 use Rattle.sled_core.proofs.Tail.OneTail.{segment_there}
 use Rattle.sled_core.proofs.Reached.Higher.{IsBegunOrLedTo}
 use Rattle.sled_core.proofs.Reached.StandsTo.{StandsTo}
-pub use Rattle.sled_core.specs.Reached.{GoesOnIn}
+pub use Rattle.sled_core.specs.inside.Reached.{GoesOnIn}
 use Rattle.sled_core.proofs.Reached.TornBegun.{torn_begun}
 use Rattle.sled_core.proofs.Reached.TornBehind.{torn_behind}
 use Rattle.sled_core.proofs.Reached.WholeBegun.{written_begun}

@@ -6,7 +6,8 @@ use Rattle.std.proofs.lemmas.Bool.{cases_lt}
 use Rattle.std.proofs.lemmas.Bool.Decides.{nat_tests}
 use Rattle.sled_codec.specs.History.{AddsBatch, Batch, History}
 use Rattle.sled_store.proofs.Segments.Elements.{in_cases, in_first, in_nothing, in_rest}
-use Rattle.sled_core.specs.OpenBatches.{AreApart, IsOpenBatch, not_whole, stable_below}
+use Rattle.sled_core.specs.inside.OpenBatches.{AreApart, IsOpenBatch}
+use Rattle.sled_core.specs.OpenBatches.{not_whole, stable_below}
 use Rattle.sled_core.proofs.Reached.AddedBatch.{was_or_batch}
 use Rattle.sled_core.proofs.Reached.StableBelow.{stable_is, stable_low, stable_open}
 

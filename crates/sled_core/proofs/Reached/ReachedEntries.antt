@@ -11,8 +11,9 @@ use Rattle.sled_core.specs.declared.iterator.Segment.{Segment}
 use Rattle.sled_core.specs.declared.iterator.scan.ScannedRecord.{ScannedRecord}
 use Rattle.sled_core.specs.declared.iterator.scan.ScanEnd.{ScanEnd}
 use Rattle.sled_core.specs.declared.iterator.scan.ScanEnd.TheVariants.{Broken}
-use Rattle.sled_core.specs.Recoverable.{MeetsMessage, StandsInline, IsReachedIn, IsReadOn, IsSegmentOf}
-use Rattle.sled_core.specs.Scan.{IsEnd, IsFoundSegment, IsMet, IsPath, IsScan, Says}
+use Rattle.sled_core.specs.inside.Recoverable.{MeetsMessage, StandsInline, IsReachedIn, IsReadOn, IsSegmentOf}
+use Rattle.sled_core.specs.Scan.{IsEnd, IsMet, IsPath, IsScan, Says}
+use Rattle.sled_core.specs.inside.Scan.{IsFoundSegment}
 use Rattle.sled_core.specs.Tail.{Scanned, IsScanned}
 use Rattle.sled_store.proofs.Histories.Ascending.{Ascends}
 use Rattle.sled_store.proofs.Histories.EarlierEntries.{entry_earlier}

@@ -11,7 +11,8 @@ use Rattle.std.proofs.lemmas.List.Elements.{All-contains, All-map}
 use Rattle.sled_codec.specs.History.{Batch}
 use Rattle.sled_store.proofs.Segments.Elements.{in_first, in_rest}
 use Rattle.sled_core.specs.declared.logger.batches.NotedBatch.{NotedBatch}
-use Rattle.sled_core.specs.OpenBatches.{AreByPlace, batch_of, behind_batch, stable_below, with_batch}
+use Rattle.sled_core.specs.inside.OpenBatches.{AreByPlace}
+use Rattle.sled_core.specs.OpenBatches.{batch_of, behind_batch, stable_below, with_batch}
 use Rattle.sled_core.proofs.Reached.NotedSteps.{behind_all, behind_has, behind_least, behind_within, left_of}
 use Rattle.sled_core.proofs.Reached.OpenBatch.{not_whole_there, whole_not}
 use Rattle.sled_core.proofs.Reached.StableBelow.{stable_all, stable_is, stable_open}

@@ -6,8 +6,9 @@ use Rattle.std.proofs.lemmas.Bool.{cases_lt}
 use Rattle.std.proofs.lemmas.Bool.Decides.{nat_tests}
 use Rattle.sled_codec.specs.History.{Batch, History}
 use Rattle.sled_store.proofs.Segments.Elements.{in_cases, in_first, in_nothing, in_rest}
-use Rattle.sled_core.specs.OpenBatches.{IsOpenBatch, stable_below}
-use Rattle.sled_core.specs.Recoverable.{IsPlacedBatch}
+use Rattle.sled_core.specs.inside.OpenBatches.{IsOpenBatch}
+use Rattle.sled_core.specs.OpenBatches.{stable_below}
+use Rattle.sled_core.specs.inside.Recoverable.{IsPlacedBatch}
 
 -- The stable place lies there, or a batch begins there that is open.
 pub stable_is : (reach : ℕ) (bs : List Batch) → (stable_below reach bs ≡ reach) ⊎ ((b : Batch) × Contains bs b × (stable_below reach bs ≡ b.low) × IsOpenBatch reach b)

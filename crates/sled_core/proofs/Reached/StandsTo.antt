@@ -9,13 +9,14 @@ use Rattle.sled_core.specs.declared.iterator.Segment.{Segment}
 use Rattle.sled_core.specs.declared.iterator.scan.ScanEnd.{ScanEnd}
 use Rattle.sled_core.specs.declared.iterator.scan.ScanEnd.TheVariants.{Full, Capped, Broken}
 use Rattle.sled_core.proofs.Read.FoundLemmas.{pos_injective}
-use Rattle.sled_core.specs.Tail.{Scanned, GoesOn, IsTail, greatest_mark, tail_begins, tail_end, least_place}
+use Rattle.sled_core.specs.Tail.{Scanned}
+use Rattle.sled_core.specs.inside.Tail.{GoesOn, IsTail, greatest_mark, tail_begins, tail_end, least_place}
 use Rattle.sled_core.proofs.Tail.OneTail.{segment_there}
 use Rattle.sled_core.proofs.Tail.GreatestMark.{greatest_is, mark_below}
 use Rattle.sled_core.proofs.Tail.Multiples.{put_down, one_multiple, next_multiple, lower_multiple}
 use Rattle.sled_core.proofs.Tail.Tails.{known, one_reading, tail_some, tail_there}
 use Rattle.sled_core.proofs.Tail.SegmentsFrom.{greatest_above, tail_low}
-pub use Rattle.sled_core.specs.Reached.{StandsTo}
+pub use Rattle.sled_core.specs.inside.Reached.{StandsTo}
 
 module _ (sum : List ℕ → ℕ) (size : ℕ) (log : List ℕ) (some : 256 ≤ size) (H : History) (first : SnapshotModel) (reach : ℕ) (is : StandsTo sum size log H reach first reach) where
   abbrev pub least : ℕ

@@ -15,8 +15,8 @@ use Rattle.sled_store.specs.SegmentStates.{SlotState, left_after, cutting}
 use Rattle.sled_store.proofs.LogFile.LogLemmas.{at_rest_left, part_cut}
 use Rattle.sled_store.proofs.Segments.FilledLemmas.{filled, filling-log, slot_before}
 use Rattle.sled_core.specs.declared.iterator.Segment.{Segment}
-use Rattle.sled_core.specs.Recoverable.{IsSegmentOf}
-use Rattle.sled_core.specs.Scan.{IsFoundSegment}
+use Rattle.sled_core.specs.inside.Recoverable.{IsSegmentOf}
+use Rattle.sled_core.specs.inside.Scan.{IsFoundSegment}
 use Rattle.sled_core.proofs.Read.FoundLemmas.{found_there}
 use Rattle.sled_core.proofs.Read.ScanLemmas.{aligned_offset}
 use Rattle.sled_core.proofs.Torn.AlikeSlots.{SameIn, slot_found}

@@ -13,13 +13,16 @@ use Rattle.sled_store.specs.Foreign.{NoForeignLog}
 use Rattle.sled_core.specs.declared.iterator.Segment.{Segment}
 use Rattle.sled_core.specs.declared.iterator.scan.ScannedRecord.{ScannedRecord}
 use Rattle.sled_core.specs.declared.iterator.scan.ScanEnd.{ScanEnd}
-use Rattle.sled_core.specs.Recoverable.{NothingBehind, NoHeaderOfZeros, StandsInline, IsOfHistory, IsReachedIn, IsReadOn, IsSegmentOf, IsMarkOf, IsMarkBelow}
-use Rattle.sled_core.specs.Scan.{IsFoundSegment, IsMisplaced, IsPath, IsEnd, IsScan}
+use Rattle.sled_core.specs.inside.Recoverable.{NothingBehind, StandsInline, IsOfHistory, IsReachedIn, IsReadOn, IsSegmentOf, IsMarkOf, IsMarkBelow}
+use Rattle.sled_core.specs.Recoverable.{NoHeaderOfZeros}
+use Rattle.sled_core.specs.inside.Scan.{IsFoundSegment, IsMisplaced}
+use Rattle.sled_core.specs.Scan.{IsPath, IsEnd, IsScan}
 use Rattle.sled_core.proofs.Read.FoundLemmas.{pos_injective}
 use Rattle.sled_core.proofs.Torn.TornLemmas.{after_write}
 use Rattle.sled_core.proofs.Torn.WrittenRecords.{AreClear, MeetsFirst}
 use Rattle.sled_core.proofs.Torn.WrittenBegun.{none_stood, begun_or_none, meets_begun}
-use Rattle.sled_core.specs.Tail.{Scanned, IsScanned, IsOrdering, least_place}
+use Rattle.sled_core.specs.Tail.{Scanned, IsScanned}
+use Rattle.sled_core.specs.inside.Tail.{IsOrdering, least_place}
 use Rattle.sled_core.proofs.Tail.OneTail.{scan_there, segment_there}
 use Rattle.sled_core.proofs.Reached.KeptStands.{read_on_kept}
 use Rattle.sled_core.proofs.Reached.LeftBeside.{IsSameBeside, truth_alike, beside, bytes_beside, segment_left, found_beside, same_beside, reading_beside}

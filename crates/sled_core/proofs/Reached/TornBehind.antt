@@ -15,14 +15,16 @@ use Rattle.sled_core.specs.declared.iterator.Segment.{Segment}
 use Rattle.sled_core.specs.declared.iterator.scan.ScannedRecord.{ScannedRecord}
 use Rattle.sled_core.specs.declared.iterator.scan.ScanEnd.{ScanEnd}
 use Rattle.sled_core.specs.declared.iterator.scan.ScanEnd.TheVariants.{Capped, Broken}
-use Rattle.sled_core.specs.Recoverable.{NoBatchEnds, NothingBehind, NoMessageBegins, NoBatchBegins, IsOfHistory, IsReachedIn, IsReadOn}
-use Rattle.sled_core.specs.Scan.{IsFoundSegment, IsPath, IsEnd, IsScan}
+use Rattle.sled_core.specs.inside.Recoverable.{NoBatchEnds, NothingBehind, NoMessageBegins, NoBatchBegins, IsOfHistory, IsReachedIn, IsReadOn}
+use Rattle.sled_core.specs.inside.Scan.{IsFoundSegment}
+use Rattle.sled_core.specs.Scan.{IsPath, IsEnd, IsScan}
 use Rattle.sled_core.proofs.Read.ScanLemmas.{one_more}
 use Rattle.sled_core.proofs.Torn.TornLemmas.{after_write}
 use Rattle.sled_core.proofs.Torn.WrittenParts.{path_rises, path_stays, paths_joined}
 use Rattle.sled_core.proofs.Torn.WrittenRecords.{AreClear, MeetsFirst, meets_within}
 use Rattle.sled_core.proofs.Torn.WrittenBehind.{header_same, header_left, meets_on}
-use Rattle.sled_core.specs.Tail.{Scanned, IsScanned, IsOrdering, least_place}
+use Rattle.sled_core.specs.Tail.{Scanned, IsScanned}
+use Rattle.sled_core.specs.inside.Tail.{IsOrdering, least_place}
 use Rattle.sled_core.proofs.Tail.OneReading.{one_scan, path_begins}
 use Rattle.sled_core.proofs.Tail.OneTail.{one_at_place, rises_of, scan_there, segment_there}
 use Rattle.sled_core.proofs.Tail.Tails.{one_reading}

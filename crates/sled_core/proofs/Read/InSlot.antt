@@ -7,7 +7,8 @@ use Rattle.sled_codec.specs.HeaderLaws.{no_front-header, one_value-header}
 use Rattle.sled_codec.specs.Places.{part}
 use Rattle.sled_codec.specs.Spelling.{SpellsMessageHeader}
 use Rattle.sled_core.specs.declared.logger.read_at.BasedBuf.{BasedBuf}
-use Rattle.sled_core.specs.Reading.{IsLaid, StandsAt, file_of}
+use Rattle.sled_core.specs.inside.Reading.{IsLaid}
+use Rattle.sled_core.specs.Reading.{StandsAt, file_of}
 use Rattle.sled_core.proofs.Read.ReadingLemmas.{header_some, laid_front, laid_of}
 use Rattle.sled_core.proofs.Reserve.Parts.{mid_is}
 

@@ -10,7 +10,8 @@ use Rattle.sled_codec.specs.Pointers.{lid_of}
 use Rattle.sled_store.specs.Device.{State}
 use Rattle.sled_core.specs.declared.logger.read_message.LogRead.{LogRead}
 use Rattle.sled_core.specs.Reading.{IsInline, IsReading, IsUnreadable}
-use Rattle.sled_core.specs.ReadPointer.{IsDamageAt, IsDamageOf, IsReadOf, place_read}
+use Rattle.sled_core.specs.ReadPointer.{IsDamageAt, IsReadOf, place_read}
+use Rattle.sled_core.specs.inside.ReadPointer.{IsDamageOf}
 
 pub read_here : (lsn : ℤ) (p : DiskPtr) → IsInline p → place_read lsn p ≡ lsn
 read_here lsn (Inline lid) inline = refl

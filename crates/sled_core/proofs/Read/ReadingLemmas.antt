@@ -13,7 +13,8 @@ use Rattle.std.specs.Prelude.{Result, Ok, Err, IfOk}
 use Rattle.sled_core.specs.declared.logger.read_message.LogRead.{LogRead}
 use Rattle.sled_core.specs.declared.logger.read_message.LogRead.TheVariants.{Inline, Blob, Canceled, Cap, Corrupted, DanglingBlob, BatchManifest}
 use Rattle.sled_codec.specs.SpellingLaws.{same_fronts, same_rests}
-use Rattle.sled_core.specs.Reading.{StandsAt, IsAnnounced, IsLaid, HoldsAs, IsRecordRead, is_inline, is_blob}
+use Rattle.sled_core.specs.Reading.{StandsAt, IsAnnounced, IsRecordRead, is_inline, is_blob}
+use Rattle.sled_core.specs.inside.Reading.{IsLaid, HoldsAs}
 
 -- a number whose lead is a byte has nine bytes at most
 number_short : (text : List ℕ) (v : ℕ) → SpellsNumber text v → get_or text 0 0 < 256 → (1 ≤ length text) × (length text ≤ 9)

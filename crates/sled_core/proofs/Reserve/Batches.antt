@@ -9,7 +9,8 @@ use Rattle.sled_core.specs.declared.iobuf.ReservationState.TheVariants.{Open, Co
 use Rattle.sled_core.specs.declared.iobuf.Reserved.{Reserved}
 use Rattle.sled_core.specs.declared.iobuf.SegmentPosition.{SegmentPosition}
 use Rattle.sled_store.proofs.Segments.Elements.{in_cases, in_nothing, in_rest}
-use Rattle.sled_core.specs.Buffers.{IsChain, batch_in, batches_in, body_in, with_batch}
+use Rattle.sled_core.specs.inside.Buffers.{IsChain, batch_in, batches_in, with_batch}
+use Rattle.sled_core.specs.Buffers.{body_in}
 use Rattle.sled_core.proofs.Reserve.Ranges.{chain_grows}
 
 -- One before those of two parts is one before those of the first.

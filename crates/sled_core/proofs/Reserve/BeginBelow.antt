@@ -3,8 +3,9 @@ use Rattle.std.proofs.Common.{◌≡◌, ◌≢◌, ◌⊎◌, ◌∙◌, ◌<�
 use Rattle.std.specs.List.{All, slice_get}
 use Rattle.std.proofs.lemmas.List.Elements.{All-head, All-tail}
 use Rattle.sled_codec.specs.History.{Batch, Message}
-use Rattle.sled_core.specs.Begun.{AreEntered}
-use Rattle.sled_core.specs.Buffers.{IsChain, IsPadding, NoPadding, Stands, StandsBy, batch_in, batches_in, completed_in, ended, message_in, with_batch, with_own}
+use Rattle.sled_core.specs.inside.Begun.{AreEntered}
+use Rattle.sled_core.specs.inside.Buffers.{IsChain, IsPadding, NoPadding, Stands, StandsBy, batch_in, batches_in, completed_in, ended, with_batch, with_own}
+use Rattle.sled_core.specs.Buffers.{message_in}
 use Rattle.sled_core.specs.declared.iobuf.Reserved.{Reserved}
 use Rattle.sled_core.specs.declared.iobuf.ReservationState.{ReservationState}
 use Rattle.sled_core.specs.declared.iobuf.ReservationState.TheVariants.{Open, Completed, Canceled, Manifest, Padding}

@@ -16,7 +16,8 @@ use Rattle.sled_core.specs.declared.iobuf.ReservationState.{ReservationState}
 use Rattle.sled_core.specs.declared.iobuf.ReservationState.TheVariants.{Open, Completed, Canceled, Manifest}
 use Rattle.sled_core.specs.declared.iobuf.Reserved.{Reserved}
 use Rattle.sled_core.specs.Manifests.{is_manifest, kind_for}
-use Rattle.sled_core.specs.Buffers.{text_in, body_in, text_as, placeholder, ending, completing, canceling, ended, HasText, Stands, StandsAs}
+use Rattle.sled_core.specs.inside.Buffers.{text_in, text_as, placeholder, ending, completing, canceling, ended, HasText, Stands, StandsAs}
+use Rattle.sled_core.specs.Buffers.{body_in}
 use Rattle.sled_core.proofs.Reserve.Parts.{mid_is}
 use Rattle.sled_core.proofs.Reserve.Ranges.{part-written_behind, part-written_at}
 use Rattle.sled_core.proofs.Reserve.WrittenOver as over

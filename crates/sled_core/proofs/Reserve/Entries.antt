@@ -4,7 +4,8 @@ use Rattle.std.specs.List.{All}
 use Rattle.sled_core.specs.declared.iobuf.ReservationState.{ReservationState}
 use Rattle.sled_core.specs.declared.iobuf.ReservationState.TheVariants.{Open, Completed, Canceled, Manifest, Padding}
 use Rattle.sled_core.specs.declared.iobuf.Reserved.{Reserved}
-use Rattle.sled_core.specs.Buffers.{text_in, body_in, IsPadding, NoPadding, Stands, StandsAs, StandsBy, StandsReserved}
+use Rattle.sled_core.specs.inside.Buffers.{text_in, IsPadding, NoPadding, Stands, StandsAs, StandsBy, StandsReserved}
+use Rattle.sled_core.specs.Buffers.{body_in}
 
 -- one that is open or was completed, and an ended manifest, is no padding
 pub open_plain : (s : ReservationState) → s ≡ Open → s ≢ Padding

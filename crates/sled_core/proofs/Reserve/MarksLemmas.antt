@@ -18,7 +18,8 @@ use Rattle.sled_core.specs.declared.iobuf.ReservationState.{ReservationState}
 use Rattle.sled_core.specs.declared.iobuf.ReservationState.TheVariants.{Open, Manifest}
 use Rattle.sled_core.specs.declared.iobuf.Reserved.{Reserved}
 use Rattle.sled_core.specs.declared.iobuf.SegmentPosition.{SegmentPosition}
-use Rattle.sled_core.specs.Buffers.{HasText, IsChain, Stands, StandsAs, batches_in, body_in, completed_in, ended, ending, ending_as, marking, message_in, text_in, with_own, SpellsBlob}
+use Rattle.sled_core.specs.inside.Buffers.{HasText, IsChain, Stands, StandsAs, batches_in, completed_in, ended, ending, ending_as, marking, text_in, with_own, SpellsBlob}
+use Rattle.sled_core.specs.Buffers.{body_in, message_in}
 use Rattle.sled_core.specs.Manifests.{is_manifest, kind_for}
 use Rattle.sled_core.proofs.Reserve.Batches.{batches-append, batches_without}
 use Rattle.sled_core.proofs.Reserve.CompletesLemmas.{tail_there}

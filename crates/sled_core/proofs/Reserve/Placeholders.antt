@@ -2,7 +2,7 @@
 use Rattle.std.proofs.Common.{◌≡◌, ◌≤◌, ◌+◌, ◌-◌, ◌∙◌, ◌++◌, ℕ, List, length, take, drop, replicate, sym, ap, arith, refl, append_assoc, length-append, length-take, length-drop}
 use Rattle.std.proofs.lemmas.List.{take_at, take-take, take-append-drop, drop_at, drop-take, take-append-le, drop-append-le, drop-drop, length-replicate}
 use Rattle.sled_codec.specs.Written.{written, take-written}
-use Rattle.sled_core.specs.Buffers.{placeholder_head}
+use Rattle.sled_core.specs.inside.Buffers.{placeholder_head}
 use Rattle.sled_core.proofs.Reserve.Parts.{mid_is}
 
 -- what stands behind a first part, up to an end within it

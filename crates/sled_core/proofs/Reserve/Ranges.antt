@@ -13,7 +13,8 @@ use Rattle.sled_core.specs.declared.iobuf.Reserved.{Reserved}
 use Rattle.sled_core.specs.declared.iobuf.SegmentPosition.{SegmentPosition}
 use Rattle.sled_store.proofs.Segments.Elements.{in_cases, in_rest}
 use Rattle.sled_core.proofs.Reserve.Parts.{get_there}
-use Rattle.sled_core.specs.Buffers.{body_in, message_in, IsChain, completed_in, with_own, item_as}
+use Rattle.sled_core.specs.Buffers.{body_in, message_in, item_as}
+use Rattle.sled_core.specs.inside.Buffers.{IsChain, completed_in, with_own}
 
 -- a part stays when bytes are put behind the text
 pub part-append : (xs ys : List ℕ) (at n : ℕ) → at + n ≤ length xs → part (xs ++ ys) at n ≡ part xs at n

@@ -7,8 +7,8 @@ use Rattle.sled_codec.specs.History.{Batch, History}
 use Rattle.sled_core.specs.declared.iobuf.ReservationState.{ReservationState}
 use Rattle.sled_core.specs.declared.iobuf.ReservationState.TheVariants.{Open, Completed, Canceled, Manifest, Padding}
 use Rattle.sled_core.specs.declared.iobuf.Reserved.{Reserved}
-use Rattle.sled_core.specs.Buffers.{IsChain, ended, padding_state, records_end}
-use Rattle.sled_core.specs.Recoverable.{NoBatchBegins, NoBatchEnds}
+use Rattle.sled_core.specs.inside.Buffers.{IsChain, ended, padding_state, records_end}
+use Rattle.sled_core.specs.inside.Recoverable.{NoBatchBegins, NoBatchEnds}
 
 -- one entry more behind those
 pub records_more : (rs : List Reserved) (r : Reserved) (end to : ℕ) → end ≤ to → end ≤ records_end (r ∷ []) to → records_end rs end ≤ records_end (rs ++ r ∷ []) to

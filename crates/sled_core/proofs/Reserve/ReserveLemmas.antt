@@ -16,7 +16,8 @@ use Rattle.sled_core.specs.declared.iobuf.Reserved.{Reserved}
 use Rattle.sled_core.specs.declared.iobuf.Purpose.{Purpose}
 use Rattle.sled_core.specs.declared.iobuf.SegmentPosition.{SegmentPosition}
 use Rattle.sled_core.specs.Manifests.{is_manifest, kind_for}
-use Rattle.sled_core.specs.Buffers.{SpellsBlob, text_in, body_in, item_as, pointer_as, message_in, placeholder, placeholder_head, reserved_for, record_size, HasText, StandsAs}
+use Rattle.sled_core.specs.inside.Buffers.{SpellsBlob, text_in, placeholder, placeholder_head, reserved_for, HasText, StandsAs}
+use Rattle.sled_core.specs.Buffers.{body_in, item_as, pointer_as, message_in, record_size}
 use Rattle.sled_core.proofs.Reserve.Heads.{length-short_header_tail}
 
 -- no message is written as damage

@@ -6,7 +6,8 @@ use Rattle.sled_core.specs.declared.iobuf.ReservationState.{ReservationState}
 use Rattle.sled_core.specs.declared.iobuf.ReservationState.TheVariants.{Manifest}
 use Rattle.sled_core.specs.declared.iobuf.Reserved.{Reserved}
 use Rattle.sled_core.specs.declared.iobuf.SegmentPosition.{SegmentPosition}
-use Rattle.sled_core.specs.Buffers.{IsChain, NoPadding, Stands, batches_in, body_in, completed_in, ended}
+use Rattle.sled_core.specs.inside.Buffers.{IsChain, NoPadding, Stands, batches_in, completed_in, ended}
+use Rattle.sled_core.specs.Buffers.{body_in}
 use Rattle.sled_core.proofs.Reserve.Batches.{batches-append, batches-same, batches_without}
 use Rattle.sled_core.proofs.Reserve.Entries.{completed_plain, manifest_plain, reserved_in, stands-same}
 use Rattle.sled_core.proofs.Reserve.Ranges.{all_split, chain-split, chain_within, completed-same, part-written_before, part-written_behind}

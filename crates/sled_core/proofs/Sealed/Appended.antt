@@ -3,8 +3,10 @@ use Rattle.std.proofs.Common.{◌≡◌, ◌<◌, ◌+◌, ◌-◌, ℕ, max, fa
 use Rattle.std.proofs.lemmas.List.{length-drop, take_all}
 use Rattle.sled_core.specs.declared.iobuf.Reserved.{Reserved}
 use Rattle.sled_core.specs.declared.iobuf.Sealed.{Sealed}
-use Rattle.sled_core.specs.Buffers.{IsChain, open_in}
-use Rattle.sled_core.specs.SealedBuffers.{IsSealed, AreSealed, FirstUnwritten, seal_at, sealed_count, sealed_end}
+use Rattle.sled_core.specs.inside.Buffers.{IsChain}
+use Rattle.sled_core.specs.Buffers.{open_in}
+use Rattle.sled_core.specs.inside.SealedBuffers.{IsSealed, AreSealed, FirstUnwritten}
+use Rattle.sled_core.specs.SealedBuffers.{seal_at, sealed_count, sealed_end}
 use Rattle.sled_core.proofs.Sealed.Ended.{sealed_one}
 
 pub first_one : (bs : List Sealed) (b : Sealed) → b.is_written ≡ false → FirstUnwritten bs → FirstUnwritten (bs ++ b ∷ [])

@@ -7,8 +7,9 @@ use Rattle.std.proofs.lemmas.List.{drop-drop}
 use Rattle.std.proofs.lemmas.Option.{slice_get-get_or, slice_get_within}
 use Rattle.sled_core.specs.declared.iobuf.Reserved.{Reserved}
 use Rattle.sled_core.specs.declared.iobuf.Sealed.{Sealed}
-use Rattle.sled_core.specs.Buffers.{IsChain}
-use Rattle.sled_core.specs.SealedBuffers.{AreSealed, IsSealed, sealed_count, sealed_end}
+use Rattle.sled_core.specs.inside.Buffers.{IsChain}
+use Rattle.sled_core.specs.inside.SealedBuffers.{AreSealed, IsSealed}
+use Rattle.sled_core.specs.SealedBuffers.{sealed_count, sealed_end}
 use Rattle.sled_core.proofs.Reserve.Ranges.{chain_within}
 use Rattle.sled_core.proofs.Sealed.Ended.{chain_rest, get_behind, get_front, lies_in}
 use Rattle.sled_core.proofs.Sealed.Runs.{chain_on, end_begun, take_more}

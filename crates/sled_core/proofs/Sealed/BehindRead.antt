@@ -12,9 +12,11 @@ use Rattle.sled_store.specs.Device.{overwritten}
 use Rattle.sled_core.specs.OpenBatches.{stable_below}
 use Rattle.sled_core.specs.declared.iobuf.SegmentPosition.{SegmentPosition}
 use Rattle.sled_core.specs.declared.iterator.Segment.{Segment}
-use Rattle.sled_core.specs.Reached.{IsSoFar, StandsIn}
-use Rattle.sled_core.specs.Scan.{IsFoundSegment, IsEnd, IsScan}
-use Rattle.sled_core.specs.Tail.{Scanned, IsScanned, least_place}
+use Rattle.sled_core.specs.inside.Reached.{IsSoFar, StandsIn}
+use Rattle.sled_core.specs.inside.Scan.{IsFoundSegment}
+use Rattle.sled_core.specs.Scan.{IsEnd, IsScan}
+use Rattle.sled_core.specs.Tail.{Scanned, IsScanned}
+use Rattle.sled_core.specs.inside.Tail.{least_place}
 use Rattle.sled_core.proofs.Tail.LogFileLemmas.{part_kept}
 use Rattle.sled_core.proofs.Read.FoundLemmas.{pos_injective}
 use Rattle.sled_core.proofs.Reached.Higher.{known_in}

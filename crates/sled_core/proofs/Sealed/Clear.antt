@@ -7,9 +7,9 @@ use Rattle.sled_core.specs.declared.iobuf.Sealed.{Sealed}
 use Rattle.sled_core.specs.declared.iobuf.SegmentPosition.{SegmentPosition}
 use Rattle.sled_core.specs.declared.iterator.scan.ScannedRecord.{ScannedRecord}
 use Rattle.sled_core.specs.declared.iterator.scan.ScanEnd.TheVariants.{Full, Broken}
-use Rattle.sled_core.specs.Buffers.{IsChain}
+use Rattle.sled_core.specs.inside.Buffers.{IsChain}
 use Rattle.sled_core.specs.Scan.{IsMet, IsPath, IsEnd, EndsThere}
-use Rattle.sled_core.specs.SealedBuffers.{AreSealed, LaidOne, Laid}
+use Rattle.sled_core.specs.inside.SealedBuffers.{AreSealed, LaidOne, Laid}
 use Rattle.sled_core.proofs.Read.PathLemmas.{zeros_empty}
 use Rattle.sled_core.proofs.Reached.BufferPath.{ending_at}
 use Rattle.sled_core.proofs.Reserve.Entries.{IsLong}

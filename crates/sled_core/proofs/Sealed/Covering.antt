@@ -10,7 +10,8 @@ use Rattle.sled_core.specs.declared.iobuf.ReservationState.TheVariants.{Open}
 use Rattle.sled_core.specs.declared.iobuf.Reserved.{Reserved}
 use Rattle.sled_core.specs.declared.iobuf.Sealed.{Sealed}
 use Rattle.sled_core.specs.declared.iobuf.SegmentPosition.{SegmentPosition}
-use Rattle.sled_core.specs.SealedBuffers.{IsSealed, AreSealed, bytes_between, one_ended, one_fewer, sealed_count, sealed_end}
+use Rattle.sled_core.specs.inside.SealedBuffers.{IsSealed, AreSealed, one_ended, one_fewer}
+use Rattle.sled_core.specs.SealedBuffers.{bytes_between, sealed_count, sealed_end}
 use Rattle.sled_core.specs.Waiting.{BufferAt, buffer_at, unwritten_in}
 use Rattle.sled_core.proofs.Sealed.Ended.{get_behind, get_front, lies_in}
 use Rattle.sled_core.proofs.Sealed.InBuffer.{own_open}

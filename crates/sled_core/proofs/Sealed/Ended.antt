@@ -7,8 +7,10 @@ use Rattle.std.proofs.lemmas.Option.{slice_get_within}
 use Rattle.sled_store.proofs.Accounts.HandLemmas.{take-set-lt}
 use Rattle.sled_core.specs.declared.iobuf.Reserved.{Reserved}
 use Rattle.sled_core.specs.declared.iobuf.Sealed.{Sealed}
-use Rattle.sled_core.specs.Buffers.{IsChain, open_in}
-use Rattle.sled_core.specs.SealedBuffers.{IsSealed, AreSealed, sealed_end, sealed_count, one_ended, one_fewer}
+use Rattle.sled_core.specs.inside.Buffers.{IsChain}
+use Rattle.sled_core.specs.Buffers.{open_in}
+use Rattle.sled_core.specs.inside.SealedBuffers.{IsSealed, AreSealed, one_ended, one_fewer}
+use Rattle.sled_core.specs.SealedBuffers.{sealed_end, sealed_count}
 use Rattle.sled_core.proofs.Reserve.Ranges.{chain_grows}
 use Rattle.sled_core.proofs.Sealed.LaidLemmas.{EndsRise, SameWritten}
 

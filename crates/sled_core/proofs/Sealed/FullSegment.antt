@@ -6,11 +6,12 @@ use Rattle.sled_codec.specs.Snapshots.{SnapshotModel}
 use Rattle.sled_core.specs.declared.iobuf.SegmentPosition.{SegmentPosition}
 use Rattle.sled_core.specs.declared.iterator.scan.ScanEnd.{ScanEnd}
 use Rattle.sled_core.specs.declared.iterator.scan.ScanEnd.TheVariants.{Full, Capped, Broken}
-use Rattle.sled_core.specs.Reached.{BegunSegment, LeadsTo, StandsAmong}
-use Rattle.sled_core.specs.Recoverable.{NoMessageBegins, NoBatchBegins, NoBatchEnds}
+use Rattle.sled_core.specs.inside.Reached.{BegunSegment, LeadsTo, StandsAmong}
+use Rattle.sled_core.specs.inside.Recoverable.{NoMessageBegins, NoBatchBegins, NoBatchEnds}
 use Rattle.sled_core.specs.Scan.{IsEnd, IsScan}
-use Rattle.sled_core.specs.Tail.{Scanned, least_place}
-use Rattle.sled_core.specs.Full.{StandsFull}
+use Rattle.sled_core.specs.Tail.{Scanned}
+use Rattle.sled_core.specs.inside.Tail.{least_place}
+use Rattle.sled_core.specs.inside.Full.{StandsFull}
 use Rattle.sled_core.proofs.Reached.Marks.{less_than}
 use Rattle.sled_core.proofs.Tail.Multiples.{next_multiple, one_multiple}
 use Rattle.sled_core.proofs.Tail.OneTail.{segment_there}

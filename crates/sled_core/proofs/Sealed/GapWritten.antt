@@ -13,10 +13,12 @@ use Rattle.sled_core.specs.OpenBatches.{stable_below}
 use Rattle.sled_core.specs.declared.iobuf.SegmentPosition.{SegmentPosition}
 use Rattle.sled_core.specs.declared.iterator.Segment.{Segment}
 use Rattle.sled_core.specs.declared.iterator.scan.ScanEnd.TheVariants.{Broken}
-use Rattle.sled_core.specs.Reached.{BeginsOne, BegunSegment, GoesOnIn, IsLed, StandsAmong, StandsIn}
+use Rattle.sled_core.specs.inside.Reached.{BeginsOne, BegunSegment, GoesOnIn, IsLed, StandsAmong, StandsIn}
 use Rattle.sled_core.specs.Recoverable.{NoHeaderOfZeros}
-use Rattle.sled_core.specs.Scan.{IsFoundSegment, IsEnd, EndsThere, IsScan}
-use Rattle.sled_core.specs.Tail.{Scanned, least_place}
+use Rattle.sled_core.specs.inside.Scan.{IsFoundSegment}
+use Rattle.sled_core.specs.Scan.{IsEnd, EndsThere, IsScan}
+use Rattle.sled_core.specs.Tail.{Scanned}
+use Rattle.sled_core.specs.inside.Tail.{least_place}
 use Rattle.sled_core.proofs.Read.PathLemmas.{zeros_empty}
 use Rattle.sled_codec.specs.Places.{part}
 use Rattle.sled_core.proofs.Torn.WrittenBegun.{none_in_zeros}

@@ -14,17 +14,19 @@ use Rattle.sled_core.specs.declared.iobuf.Sealed.{Sealed}
 use Rattle.sled_core.specs.declared.iobuf.SegmentPosition.{SegmentPosition}
 use Rattle.sled_core.specs.declared.iterator.scan.ScanEnd.{ScanEnd}
 use Rattle.sled_core.specs.declared.iterator.scan.ScanEnd.TheVariants.{Full, Capped, Broken}
-use Rattle.sled_core.specs.Caps.{rest_why}
-use Rattle.sled_core.specs.Buffers.{batches_in, completed_in, records_end, records_of, NoPadding, Stands}
-use Rattle.sled_core.specs.Fits.{HasMark}
+use Rattle.sled_core.specs.inside.Caps.{rest_why}
+use Rattle.sled_core.specs.inside.Buffers.{batches_in, completed_in, records_end, records_of, NoPadding, Stands}
+use Rattle.sled_core.specs.inside.Fits.{HasMark}
 use Rattle.sled_core.specs.LogFile.{HasHeader}
-use Rattle.sled_core.specs.Reached.{BegunSegment, StandsAmong}
-use Rattle.sled_core.specs.Recoverable.{NoBatchEnds, NoHeaderOfZeros}
-use Rattle.sled_core.specs.SealedBuffers.{AreSealed, Laid, run_end, run_count, bytes_between}
-use Rattle.sled_core.specs.Tail.{least_place}
+use Rattle.sled_core.specs.inside.Reached.{BegunSegment, StandsAmong}
+use Rattle.sled_core.specs.inside.Recoverable.{NoBatchEnds}
+use Rattle.sled_core.specs.Recoverable.{NoHeaderOfZeros}
+use Rattle.sled_core.specs.inside.SealedBuffers.{AreSealed, Laid, run_end, run_count}
+use Rattle.sled_core.specs.SealedBuffers.{bytes_between}
+use Rattle.sled_core.specs.inside.Tail.{least_place}
 use Rattle.sled_core.proofs.Reached.BufferPath.{HasOnly, ending_at}
 use Rattle.sled_core.proofs.Reached.BufferStands.{met_in}
-use Rattle.sled_core.specs.Full.{StandsFull}
+use Rattle.sled_core.specs.inside.Full.{StandsFull}
 use Rattle.sled_core.proofs.Reached.StandsTo.{StandsTo}
 use Rattle.sled_core.proofs.Sealed.HeadWritten.{head_filled, head_written, torn_head}
 use Rattle.sled_core.proofs.Sealed.LaidLemmas.{EndsRise}

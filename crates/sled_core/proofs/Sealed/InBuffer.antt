@@ -8,8 +8,9 @@ use Rattle.std.proofs.lemmas.List.Elements.{All-cons, All-nil}
 use Rattle.sled_core.specs.declared.iobuf.ReservationState.TheVariants.{Open, Completed}
 use Rattle.sled_core.specs.declared.iobuf.Reserved.{Reserved}
 use Rattle.sled_core.specs.declared.iobuf.Sealed.{Sealed}
-use Rattle.sled_core.specs.Buffers.{ended}
-use Rattle.sled_core.specs.SealedBuffers.{IsSealed, AreSealed, FirstUnwritten, HasOpenAt, sealed_end, sealed_count, one_ended, one_fewer}
+use Rattle.sled_core.specs.inside.Buffers.{ended}
+use Rattle.sled_core.specs.inside.SealedBuffers.{IsSealed, AreSealed, FirstUnwritten, HasOpenAt, one_ended, one_fewer}
+use Rattle.sled_core.specs.SealedBuffers.{sealed_end, sealed_count}
 use Rattle.sled_core.proofs.Reserve.OpenCounts.{open_fewer}
 use Rattle.sled_core.proofs.Sealed.Ended.{get_front, get_behind, lies_in}
 

@@ -8,8 +8,9 @@ use Rattle.sled_core.specs.declared.iobuf.ReservationState.{ReservationState}
 use Rattle.sled_core.specs.declared.iobuf.ReservationState.TheVariants.{Open}
 use Rattle.sled_core.specs.declared.iobuf.Reserved.{Reserved}
 use Rattle.sled_core.specs.declared.iobuf.Sealed.{Sealed}
-use Rattle.sled_core.specs.Buffers.{IsChain, ended, open_state}
-use Rattle.sled_core.specs.SealedBuffers.{AreSealed, Laid, one_ended}
+use Rattle.sled_core.specs.inside.Buffers.{IsChain, ended}
+use Rattle.sled_core.specs.Buffers.{open_state}
+use Rattle.sled_core.specs.inside.SealedBuffers.{AreSealed, Laid, one_ended}
 use Rattle.sled_core.proofs.Reserve.OpenCounts.{open_fewer}
 use Rattle.sled_core.proofs.Reserve.Ranges.{part-written_before, part-written_behind, length-written}
 use Rattle.sled_core.proofs.Sealed.Ended.{ended_same}

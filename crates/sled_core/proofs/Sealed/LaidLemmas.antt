@@ -1,7 +1,8 @@
 -- What the log file has of sealed buffers, once one of them is written, once bytes of one that isn't written change, and in another file that has the same there.
 use Rattle.std.proofs.Common.{◌≡◌, ◌≤◌, ◌<◌, ◌+◌, ◌-◌, ◌⊎◌, ℕ, Bool, true, false, nat_lt, if◌then◌else◌, List, [], ◌∷◌, ◌++◌, length, get_or, sym, ◌∙◌, ap, arith, refl, subst, inl, inr}
 use Rattle.sled_core.specs.declared.iobuf.Sealed.{Sealed}
-use Rattle.sled_core.specs.SealedBuffers.{sealed_end, AreZeros, Agrees, LaidOne, Laid, now_written, one_ended}
+use Rattle.sled_core.specs.SealedBuffers.{sealed_end, AreZeros}
+use Rattle.sled_core.specs.inside.SealedBuffers.{Agrees, LaidOne, Laid, now_written, one_ended}
 
 -- one behind another, and no further than an offset
 abbrev pub EndsRise : ℕ → List Sealed → ℕ → Type 0

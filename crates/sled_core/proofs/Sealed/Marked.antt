@@ -4,7 +4,8 @@ use Rattle.std.specs.List.{slice_get}
 use Rattle.std.proofs.lemmas.Bool.Decides.{nat_tests}
 use Rattle.sled_core.specs.declared.iobuf.Reserved.{Reserved}
 use Rattle.sled_core.specs.declared.iobuf.Sealed.{Sealed}
-use Rattle.sled_core.specs.SealedBuffers.{AreSealed, FirstUnwritten, behind_run, is_ready, now_written, run_count, run_end, sealed_count, sealed_end, written_at}
+use Rattle.sled_core.specs.inside.SealedBuffers.{AreSealed, FirstUnwritten, behind_run, is_ready, now_written, run_count, run_end, written_at}
+use Rattle.sled_core.specs.SealedBuffers.{sealed_count, sealed_end}
 use Rattle.sled_core.proofs.Reserve.Ranges.{there_split}
 use Rattle.sled_core.proofs.Sealed.OneWritten.{sealed_written}
 

@@ -7,7 +7,8 @@ use Rattle.sled_store.proofs.LogFile.LooseLemmas.{end_of-some}
 use Rattle.sled_store.proofs.LogFile.OverwrittenLemmas.{length-overwritten, overwritten-above, overwritten-below, overwritten-part}
 use Rattle.sled_core.specs.declared.iobuf.Reserved.{Reserved}
 use Rattle.sled_core.specs.declared.iobuf.Sealed.{Sealed}
-use Rattle.sled_core.specs.SealedBuffers.{IsSealed, AreSealed, sealed_end, sealed_count, Agrees, Laid, now_written, bytes_between}
+use Rattle.sled_core.specs.inside.SealedBuffers.{IsSealed, AreSealed, Agrees, Laid, now_written}
+use Rattle.sled_core.specs.SealedBuffers.{sealed_end, sealed_count, bytes_between}
 use Rattle.sled_core.proofs.Reached.WrittenUnread.{zero_below}
 use Rattle.sled_core.proofs.Sealed.LaidLemmas.{EndsRise, ends_below, laid_written}
 

@@ -9,10 +9,11 @@ use Rattle.sled_core.specs.OpenBatches.{stable_below}
 use Rattle.sled_core.specs.declared.iobuf.Reserved.{Reserved}
 use Rattle.sled_core.specs.declared.iobuf.Sealed.{Sealed}
 use Rattle.sled_core.specs.declared.iobuf.SegmentPosition.{SegmentPosition}
-use Rattle.sled_core.specs.Buffers.{Stands}
-use Rattle.sled_core.specs.Reached.{BegunSegment, StandsAmong}
+use Rattle.sled_core.specs.inside.Buffers.{Stands}
+use Rattle.sled_core.specs.inside.Reached.{BegunSegment, StandsAmong}
 use Rattle.sled_core.specs.Recoverable.{NoHeaderOfZeros}
-use Rattle.sled_core.specs.SealedBuffers.{AreSealed, Laid, bytes_between, sealed_end}
+use Rattle.sled_core.specs.inside.SealedBuffers.{AreSealed, Laid}
+use Rattle.sled_core.specs.SealedBuffers.{bytes_between, sealed_end}
 use Rattle.sled_core.proofs.Reached.StandsTo.{StandsTo}
 use Rattle.sled_core.proofs.Sealed.BehindUnwritten.{stands_in_gap, torn_in_gap}
 use Rattle.sled_core.proofs.Sealed.GapWritten.{other_gap}

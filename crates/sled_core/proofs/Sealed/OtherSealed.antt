@@ -20,14 +20,16 @@ use Rattle.sled_core.specs.declared.iobuf.SegmentPosition.{SegmentPosition}
 use Rattle.sled_core.specs.declared.iterator.Segment.{Segment}
 use Rattle.sled_core.specs.declared.iterator.scan.ScanEnd.{ScanEnd}
 use Rattle.sled_core.specs.declared.iterator.scan.ScanEnd.TheVariants.{Full, Broken}
-use Rattle.sled_core.specs.Buffers.{IsChain, batches_in, completed_in, records_end, records_of, Stands}
-use Rattle.sled_core.specs.Fits.{HasMark}
+use Rattle.sled_core.specs.inside.Buffers.{IsChain, batches_in, completed_in, records_end, records_of, Stands}
+use Rattle.sled_core.specs.inside.Fits.{HasMark}
 use Rattle.sled_core.specs.LogFile.{HasHeader}
-use Rattle.sled_core.specs.Reached.{BegunSegment, IsSoFar, StandsAmong, StandsIn}
-use Rattle.sled_core.specs.Recoverable.{NoBatchEnds, NoHeaderOfZeros}
-use Rattle.sled_core.specs.Scan.{IsFoundSegment}
-use Rattle.sled_core.specs.SealedBuffers.{Agrees, AreSealed, Laid, run_end, run_count, bytes_between}
-use Rattle.sled_core.specs.Tail.{least_place}
+use Rattle.sled_core.specs.inside.Reached.{BegunSegment, IsSoFar, StandsAmong, StandsIn}
+use Rattle.sled_core.specs.inside.Recoverable.{NoBatchEnds}
+use Rattle.sled_core.specs.Recoverable.{NoHeaderOfZeros}
+use Rattle.sled_core.specs.inside.Scan.{IsFoundSegment}
+use Rattle.sled_core.specs.inside.SealedBuffers.{Agrees, AreSealed, Laid, run_end, run_count}
+use Rattle.sled_core.specs.SealedBuffers.{bytes_between}
+use Rattle.sled_core.specs.inside.Tail.{least_place}
 use Rattle.sled_core.proofs.Tail.LogFileLemmas.{part_kept}
 use Rattle.sled_core.proofs.Sealed.SealedFile.{chain_done}
 use Rattle.sled_core.proofs.Read.FoundLemmas.{found_there}

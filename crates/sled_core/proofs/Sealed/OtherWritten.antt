@@ -18,12 +18,14 @@ use Rattle.sled_core.specs.declared.iobuf.SegmentPosition.{SegmentPosition}
 use Rattle.sled_core.specs.declared.iterator.Segment.{Segment}
 use Rattle.sled_core.specs.declared.iterator.scan.ScannedRecord.{ScannedRecord}
 use Rattle.sled_core.specs.declared.iterator.scan.ScanEnd.{ScanEnd}
-use Rattle.sled_core.specs.Fits.{HasMark}
+use Rattle.sled_core.specs.inside.Fits.{HasMark}
 use Rattle.sled_core.specs.LogFile.{HasHeader}
-use Rattle.sled_core.specs.Reached.{BeginsOne, BegunSegment, GoesOnIn, IsLed, IsReadTo, IsSoFar, ReachesIn, StandsAmong, StandsIn}
-use Rattle.sled_core.specs.Recoverable.{NothingBehind, NoHeaderOfZeros, IsOfHistory, IsMarkBelow}
-use Rattle.sled_core.specs.Scan.{IsFoundSegment, IsPath, IsEnd}
-use Rattle.sled_core.specs.Tail.{least_place}
+use Rattle.sled_core.specs.inside.Reached.{BeginsOne, BegunSegment, GoesOnIn, IsLed, IsReadTo, IsSoFar, ReachesIn, StandsAmong, StandsIn}
+use Rattle.sled_core.specs.inside.Recoverable.{NothingBehind, IsOfHistory, IsMarkBelow}
+use Rattle.sled_core.specs.Recoverable.{NoHeaderOfZeros}
+use Rattle.sled_core.specs.inside.Scan.{IsFoundSegment}
+use Rattle.sled_core.specs.Scan.{IsPath, IsEnd}
+use Rattle.sled_core.specs.inside.Tail.{least_place}
 use Rattle.sled_core.proofs.Reached.BufferPath.{buffer_header, buffer_mark_below}
 use Rattle.sled_core.proofs.Reached.LeftBeside.{IsSameBeside}
 use Rattle.sled_core.proofs.Reached.Marks.{mark_stable}

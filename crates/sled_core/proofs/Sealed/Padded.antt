@@ -5,7 +5,7 @@ use Rattle.std.proofs.lemmas.Grind.{same_number_lists}
 use Rattle.std.proofs.lemmas.List.{append-nil, get_or-append_right, get_or-replicate, get_or_append_left, get_or_past, length-replicate}
 use Rattle.sled_store.specs.Device.{overwritten}
 use Rattle.sled_store.proofs.LogFile.OverwrittenLemmas.{length-overwritten}
-use Rattle.sled_core.specs.LogFile.{padded}
+use Rattle.sled_core.specs.inside.LogFile.{padded}
 use Rattle.sled_core.proofs.Sealed.OneWritten.{overwritten_beside, overwritten_inside}
 
 pub length-padded : (to : ℕ) (log : List ℕ) → length (padded to log) ≡ length log + (to - length log)

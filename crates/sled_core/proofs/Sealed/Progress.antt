@@ -7,7 +7,8 @@ use Rattle.sled_store.specs.Device.{Event}
 use Rattle.sled_core.specs.declared.iobuf.Reserved.{Reserved}
 use Rattle.sled_core.specs.declared.iobuf.Sealed.{Sealed}
 use Rattle.sled_core.specs.Buffers.{first_open_in, none_open, open_in, open_state}
-use Rattle.sled_core.specs.SealedBuffers.{AreSealed, behind_run, bytes_between, current_buffer, first_ready, is_ready, now_written, ready_count, ready_marked, ready_write, ready_writes, reserved_below, run_count, run_end, seal_at, sealed_count, sealed_end, writing, written_at}
+use Rattle.sled_core.specs.inside.SealedBuffers.{AreSealed, behind_run, current_buffer, first_ready, is_ready, now_written, ready_count, ready_marked, ready_write, ready_writes, reserved_below, run_count, run_end, written_at}
+use Rattle.sled_core.specs.SealedBuffers.{bytes_between, seal_at, sealed_count, sealed_end, writing}
 use Rattle.sled_core.proofs.Reserve.OpenCounts.{none_open_count}
 use Rattle.sled_core.proofs.Reserve.Ranges.{chain_grows}
 use Rattle.sled_core.proofs.Sealed.EndedParts.{ended_behind, ended_front}

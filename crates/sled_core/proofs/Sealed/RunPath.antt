@@ -14,12 +14,15 @@ use Rattle.sled_core.specs.declared.iobuf.SegmentPosition.{SegmentPosition}
 use Rattle.sled_core.specs.declared.iterator.scan.ScannedRecord.{ScannedRecord}
 use Rattle.sled_core.specs.declared.iterator.scan.ScanEnd.{ScanEnd}
 use Rattle.sled_core.specs.declared.iterator.scan.ScanEnd.TheVariants.{Full, Capped, Broken}
-use Rattle.sled_core.specs.Buffers.{IsChain, batches_in, completed_in, message_in, none_open, records_end, records_of, NoPadding, Stands}
-use Rattle.sled_core.specs.Caps.{rest_why, segment_rest}
-use Rattle.sled_core.specs.Fits.{HasMark}
-use Rattle.sled_core.specs.Recoverable.{NoBatchEnds, NothingBehind, NoBatchBegins, NoMessageBegins, IsOfHistory}
+use Rattle.sled_core.specs.inside.Buffers.{IsChain, batches_in, completed_in, records_end, records_of, NoPadding, Stands}
+use Rattle.sled_core.specs.Buffers.{message_in, none_open}
+use Rattle.sled_core.specs.inside.Caps.{rest_why}
+use Rattle.sled_core.specs.invariants.Caps.{segment_rest}
+use Rattle.sled_core.specs.inside.Fits.{HasMark}
+use Rattle.sled_core.specs.inside.Recoverable.{NoBatchEnds, NothingBehind, NoBatchBegins, NoMessageBegins, IsOfHistory}
 use Rattle.sled_core.specs.Scan.{IsPath, IsEnd}
-use Rattle.sled_core.specs.SealedBuffers.{Agrees, AreSealed, AreZeros, sealed_end, LaidOne, Laid, now_written, run_end, run_count, behind_run, bytes_between}
+use Rattle.sled_core.specs.inside.SealedBuffers.{Agrees, AreSealed, LaidOne, Laid, now_written, run_end, run_count, behind_run}
+use Rattle.sled_core.specs.SealedBuffers.{AreZeros, sealed_end, bytes_between}
 use Rattle.sled_core.proofs.Reached.BufferPath.{HasOnly, ending_at, never_capped, path_to, truth_to}
 use Rattle.sled_core.proofs.Reached.BufferStands.{met_as, met_in, same_part}
 use Rattle.sled_core.proofs.Reached.CapStands.{rest_ends}

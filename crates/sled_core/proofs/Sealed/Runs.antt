@@ -5,8 +5,9 @@ use Rattle.std.proofs.lemmas.Bool.Decides.{nat_tests}
 use Rattle.std.proofs.lemmas.List.{drop-drop}
 use Rattle.sled_core.specs.declared.iobuf.Reserved.{Reserved}
 use Rattle.sled_core.specs.declared.iobuf.Sealed.{Sealed}
-use Rattle.sled_core.specs.Buffers.{IsChain, none_open, open_in, open_state}
-use Rattle.sled_core.specs.SealedBuffers.{IsSealed, AreSealed, Agrees, LaidOne, Laid, run_end, run_count, behind_run}
+use Rattle.sled_core.specs.inside.Buffers.{IsChain}
+use Rattle.sled_core.specs.Buffers.{none_open, open_in, open_state}
+use Rattle.sled_core.specs.inside.SealedBuffers.{IsSealed, AreSealed, Agrees, LaidOne, Laid, run_end, run_count, behind_run}
 use Rattle.sled_core.proofs.Reserve.OpenCounts.{ended_is}
 use Rattle.sled_core.proofs.Reserve.Ranges.{chain_grows}
 

@@ -11,13 +11,16 @@ use Rattle.sled_store.proofs.Histories.Ascending.{Ascends}
 use Rattle.sled_core.specs.declared.iobuf.Reserved.{Reserved}
 use Rattle.sled_core.specs.declared.iobuf.Sealed.{Sealed}
 use Rattle.sled_core.specs.declared.iobuf.SegmentPosition.{SegmentPosition}
-use Rattle.sled_core.specs.Buffers.{records_end, NoPadding, Stands, batches_in, completed_in}
-use Rattle.sled_core.specs.Fits.{HasMark}
-use Rattle.sled_core.specs.LogFile.{HasHeader, padded}
-use Rattle.sled_core.specs.Reached.{BegunSegment, StandsAmong}
-use Rattle.sled_core.specs.Recoverable.{NoBatchEnds, NoHeaderOfZeros}
-use Rattle.sled_core.specs.SealedBuffers.{Agrees, AreSealed, Laid, run_count, run_end, sealed_end, bytes_between}
-use Rattle.sled_core.specs.Tail.{least_place}
+use Rattle.sled_core.specs.inside.Buffers.{records_end, NoPadding, Stands, batches_in, completed_in}
+use Rattle.sled_core.specs.inside.Fits.{HasMark}
+use Rattle.sled_core.specs.LogFile.{HasHeader}
+use Rattle.sled_core.specs.inside.LogFile.{padded}
+use Rattle.sled_core.specs.inside.Reached.{BegunSegment, StandsAmong}
+use Rattle.sled_core.specs.inside.Recoverable.{NoBatchEnds}
+use Rattle.sled_core.specs.Recoverable.{NoHeaderOfZeros}
+use Rattle.sled_core.specs.inside.SealedBuffers.{Agrees, AreSealed, Laid, run_count, run_end}
+use Rattle.sled_core.specs.SealedBuffers.{sealed_end, bytes_between}
+use Rattle.sled_core.specs.inside.Tail.{least_place}
 use Rattle.sled_core.proofs.Tail.LogFileLemmas.{header_kept}
 use Rattle.sled_core.proofs.Sealed.Padded.{length-padded, overwritten-further, padded_get, padded_long}
 use Rattle.sled_core.proofs.Reserve.Ranges.{part-append}

@@ -6,7 +6,8 @@ use Rattle.std.proofs.lemmas.List.Elements.{All-cons, All-head, All-nil, All-tai
 use Rattle.sled_core.specs.declared.iobuf.Reserved.{Reserved}
 use Rattle.sled_core.specs.declared.iobuf.Sealed.{Sealed}
 use Rattle.sled_core.specs.Buffers.{none_open, open_in, open_state}
-use Rattle.sled_core.specs.SealedBuffers.{AreSealed, is_ready, ready_count, sealed_count}
+use Rattle.sled_core.specs.inside.SealedBuffers.{AreSealed, is_ready, ready_count}
+use Rattle.sled_core.specs.SealedBuffers.{sealed_count}
 use Rattle.sled_core.proofs.Reserve.OpenCounts.{ended_is, none_open_count}
 
 part_step : (o : Bool) (n a b : ℕ) → n ≡ a + b → (if o then suc n else n) ≡ (if o then suc a else a) + b

@@ -9,10 +9,11 @@ use Rattle.sled_store.specs.Device.{overwritten}
 use Rattle.sled_core.specs.declared.iobuf.Reserved.{Reserved}
 use Rattle.sled_core.specs.declared.iobuf.Sealed.{Sealed}
 use Rattle.sled_core.specs.declared.iobuf.SegmentPosition.{SegmentPosition}
-use Rattle.sled_core.specs.Buffers.{IsChain, completed_in, Stands}
-use Rattle.sled_core.specs.Fits.{HasMark}
+use Rattle.sled_core.specs.inside.Buffers.{IsChain, completed_in, Stands}
+use Rattle.sled_core.specs.inside.Fits.{HasMark}
 use Rattle.sled_core.specs.LogFile.{IsLogFile}
-use Rattle.sled_core.specs.SealedBuffers.{Agrees, AreSealed, Laid, now_written, run_end, run_count, bytes_between}
+use Rattle.sled_core.specs.inside.SealedBuffers.{Agrees, AreSealed, Laid, now_written, run_end, run_count}
+use Rattle.sled_core.specs.SealedBuffers.{bytes_between}
 use Rattle.sled_core.proofs.Tail.LogFileLemmas.{header_kept}
 use Rattle.sled_core.proofs.Flush.WrittenFile.{file_more}
 use Rattle.sled_core.proofs.Reached.BufferStands.{StandsOwn, own_in}

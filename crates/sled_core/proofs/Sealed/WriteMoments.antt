@@ -9,7 +9,7 @@ use Rattle.sled_store.proofs.Histories.Ascending.{Ascends}
 use Rattle.sled_core.specs.Logged.{logged}
 use Rattle.sled_core.specs.OpenBatches.{stable_below}
 use Rattle.sled_core.specs.Recoverable.{LeavesRecoverable, NoHeaderOfZeros}
-use Rattle.sled_core.specs.Running.{BlobsFit, KeepsItems, NamesFit}
+use Rattle.sled_core.specs.inside.Running.{BlobsFit, KeepsItems, NamesFit}
 use Rattle.sled_core.proofs.Flush.Settled.{blobs_higher, left_items, leaves_less, settled_recoverable, stands_recoverable}
 use Rattle.sled_core.proofs.Reached.StableBelow.{stable_rises}
 use Rattle.sled_core.proofs.Reached.StandsTo.{StandsTo}

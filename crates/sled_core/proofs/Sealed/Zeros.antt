@@ -3,7 +3,8 @@ use Rattle.std.proofs.Common.{◌≡◌, ◌<◌, ◌≤◌, ◌+◌, ℕ, Bool,
 use Rattle.std.proofs.lemmas.Bool.{cases_lt}
 use Rattle.sled_core.specs.declared.iobuf.Reserved.{Reserved}
 use Rattle.sled_core.specs.declared.iobuf.Sealed.{Sealed}
-use Rattle.sled_core.specs.SealedBuffers.{AreSealed, AreZeros, FirstUnwritten, Laid, LaidOne, sealed_end}
+use Rattle.sled_core.specs.inside.SealedBuffers.{AreSealed, FirstUnwritten, Laid, LaidOne}
+use Rattle.sled_core.specs.SealedBuffers.{AreZeros, sealed_end}
 use Rattle.sled_core.proofs.Reserve.BeginBelow.{ArePadding, padding_end, padding_take}
 use Rattle.sled_core.proofs.Reserve.Ranges.{chain_grows}
 use Rattle.sled_core.proofs.Sealed.Ended.{ends_up}

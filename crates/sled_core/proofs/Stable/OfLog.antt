@@ -7,7 +7,8 @@ use Rattle.sled_codec.specs.History.{Batch}
 use Rattle.sled_store.proofs.Segments.Elements.{all_from_in, in_first}
 use Rattle.sled_core.specs.declared.logger.Log.{Log}
 use Rattle.sled_core.specs.Fits.{noted_in, stable_end, synced_end}
-use Rattle.sled_core.specs.OpenBatches.{IsOpenBatch, stable_below}
+use Rattle.sled_core.specs.inside.OpenBatches.{IsOpenBatch}
+use Rattle.sled_core.specs.OpenBatches.{stable_below}
 use Rattle.sled_core.specs.StableEnds.{IsBeforeHalfSynced, IsContiguousEnd, IsHalfSynced, IsStableEnd, LiesIn, places_of}
 use Rattle.sled_core.proofs.Logged.Messages.{in_map}
 use Rattle.sled_core.proofs.Reached.StableBelow.{stable_is, stable_open}

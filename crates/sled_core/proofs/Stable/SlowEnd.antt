@@ -4,7 +4,8 @@ use Rattle.std.specs.Int.{int_gap, saturate_signed}
 use Rattle.std.specs.List.{Any}
 use Rattle.std.proofs.lemmas.Int.{ints}
 use Rattle.std.proofs.lemmas.List.Elements.{All-weaker, All-append, All-cons, All-nil, Contains-append_left, Contains-append_right}
-use Rattle.sled_core.specs.StableEnds.{LiesIn, Covers, IsContiguousEnd, IsHalfSynced, IsLowestHalf, IsStableEnd}
+use Rattle.sled_core.specs.StableEnds.{LiesIn, Covers, IsContiguousEnd, IsHalfSynced, IsStableEnd}
+use Rattle.sled_core.specs.inside.StableEnds.{IsLowestHalf}
 use Rattle.sled_core.proofs.Stable.EndLemmas.{or_beyond, first, some_in}
 
 -- a higher end is nearer to the greatest number

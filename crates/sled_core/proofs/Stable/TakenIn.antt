@@ -9,7 +9,8 @@ use Rattle.std.specs.declared.cmp.Reverse.{Reverse}
 use Rattle.std.proofs.lemmas.Int.{ints, clamps}
 use Rattle.std.proofs.lemmas.List.Elements.{All-contains, All-cons, All-tail, All-weaker, All-map, All-from_recursion}
 use Rattle.std.proofs.lemmas.List.Sorted.{All-permutation, Contains-permutation}
-use Rattle.sled_core.specs.StableEnds.{LiesIn, IsContiguousEnd, Reaches, lowest_first, turned}
+use Rattle.sled_core.specs.StableEnds.{LiesIn, IsContiguousEnd, Reaches, turned}
+use Rattle.sled_core.specs.inside.StableEnds.{lowest_first}
 use Rattle.sled_core.proofs.Stable.EndLemmas.{or_beyond, first, later, first_or_later, some_in, some_later, greatest_at, uncovered}
 
 -- the end moves to the far end of an interval that begins right behind it

@@ -13,7 +13,8 @@ use Rattle.sled_store.proofs.Segments.EntryLemmas.{same_number}
 use Rattle.sled_store.proofs.Accounts.StartedFile.{started_file}
 use Rattle.sled_core.specs.Begun.{SegmentView}
 use Rattle.sled_core.specs.declared.iobuf.SegmentPosition.{SegmentPosition}
-use Rattle.sled_core.specs.FreeSlots.{FreeAreZeros, HasSlot, HasSlots, HaveOwn, begun_machine, with_current}
+use Rattle.sled_core.specs.inside.FreeSlots.{FreeAreZeros, HasSlot, HasSlots, HaveOwn}
+use Rattle.sled_core.specs.FreeSlots.{begun_machine, with_current}
 use Rattle.sled_core.specs.Starts.{site_from}
 use Rattle.sled_core.proofs.Holds.HoldsLemmas.{one}
 use Rattle.sled_core.proofs.Start.Entries.{active_used}

@@ -14,7 +14,7 @@ use Rattle.sled_store.specs.Started.{all_entries, found, found_slot, started}
 use Rattle.sled_store.proofs.Accounts.StartNext.{free_found}
 use Rattle.sled_store.proofs.Segments.FilledLemmas.{free_has}
 use Rattle.sled_store.proofs.Accounts.StartedFile.{left_within, started_file, started_past, started_zero}
-use Rattle.sled_core.specs.FreeSlots.{FreeAreZeros}
+use Rattle.sled_core.specs.inside.FreeSlots.{FreeAreZeros}
 use Rattle.sled_core.proofs.Sealed.OneWritten.{overwritten_beside}
 
 -- Where it has started: those that the snapshot doesn't use were filled, and behind the file there is nothing.

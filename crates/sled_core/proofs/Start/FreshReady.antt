@@ -10,10 +10,12 @@ use Rattle.sled_store.proofs.LogFile.LogLemmas.{at_rest_left}
 use Rattle.sled_store.proofs.Names.NamesLemmas.{settled_name_left, settled_name_at_rest}
 use Rattle.sled_store.proofs.Segments.Elements.{in_nothing}
 use Rattle.sled_core.specs.OwnNames.{IsAnyBlob, IsAnySnapshot}
-use Rattle.sled_core.specs.Recoverable.{Recoverable, LeavesRecoverable, AreRecoverableSnapshots, AreRecoverableBlobs}
+use Rattle.sled_core.specs.invariants.Recoverable.{Recoverable}
+use Rattle.sled_core.specs.Recoverable.{LeavesRecoverable}
+use Rattle.sled_core.specs.inside.Recoverable.{AreRecoverableSnapshots, AreRecoverableBlobs}
 use Rattle.sled_core.specs.Ready.{IsReady}
-use Rattle.sled_core.specs.Running.{Ready}
-use Rattle.sled_core.specs.Reached.{StandsTo}
+use Rattle.sled_core.specs.invariants.Running.{Ready}
+use Rattle.sled_core.specs.inside.Reached.{StandsTo}
 use Rattle.sled_core.proofs.Blobs.StaysOwn.{own_at_rest}
 use Rattle.sled_core.proofs.Start.FreshLemmas.{no_entry, ready_fresh, nothing_stands, nothing_active}
 use Rattle.sled_core.proofs.Start.Recoverable.{stands_recoverable}

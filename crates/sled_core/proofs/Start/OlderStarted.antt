@@ -13,10 +13,10 @@ use Rattle.sled_store.specs.SnapshotFiles.{BeginsFrom}
 use Rattle.sled_store.proofs.Accounts.StartedFile.{started_file, started_part}
 use Rattle.sled_core.specs.declared.iterator.Segment.{Segment}
 use Rattle.sled_core.specs.FreeSlots.{begun_machine}
-use Rattle.sled_core.specs.Reached.{StandsActive}
+use Rattle.sled_core.specs.inside.Reached.{StandsActive}
 use Rattle.sled_core.specs.Ready.{IsReady}
-use Rattle.sled_core.specs.Slots.{AreBegun, HaveEntries}
-use Rattle.sled_core.specs.Tail.{least_place}
+use Rattle.sled_core.specs.inside.Slots.{AreBegun, HaveEntries}
+use Rattle.sled_core.specs.inside.Tail.{least_place}
 use Rattle.sled_core.proofs.Reached.StartedStands.{found_inside}
 use Rattle.sled_core.proofs.Start.BegunSlots.{next_within}
 use Rattle.sled_core.proofs.Start.Entries.{entry_used}

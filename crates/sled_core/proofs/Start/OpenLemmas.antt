@@ -8,7 +8,7 @@ use Rattle.sled_codec.proofs.Segments.{length-short_header}
 use Rattle.sled_store.specs.declared.segment.start.Beginning.{Beginning}
 use Rattle.sled_core.specs.declared.iobuf.IoBuf.{IoBuf}
 use Rattle.sled_store.specs.Begin.{slots_of, unused, first_or, is_used, place_at, offset_at, beginning_at, beginning_of, MayBeActive, IsStartable, IsInReach}
-use Rattle.sled_core.specs.FirstBuffer.{IsFirstBuffer}
+use Rattle.sled_core.specs.inside.FirstBuffer.{IsFirstBuffer}
 use Rattle.sled_store.proofs.Segments.FilledLemmas.{slot_before, free_below, first_there}
 
 pub begins_place : (size slots stable : ℕ) (free : List ℕ) (o : Option ℕ) → (beginning_at size slots stable free o).place ≡ place_at size stable o

@@ -18,7 +18,8 @@ use Rattle.sled_store.specs.Started.{all_entries, found, found_slot, started}
 use Rattle.sled_store.proofs.Segments.Elements.{in_cases}
 use Rattle.sled_store.proofs.Segments.EntryLemmas.{first_in}
 use Rattle.sled_store.proofs.Segments.StartLemmas.{startable_fits}
-use Rattle.sled_core.specs.FreeSlots.{HaveOwn, begun_machine, with_current}
+use Rattle.sled_core.specs.inside.FreeSlots.{HaveOwn}
+use Rattle.sled_core.specs.FreeSlots.{begun_machine, with_current}
 use Rattle.sled_core.proofs.Tail.Multiples.{apart}
 
 -- What was put there is there,

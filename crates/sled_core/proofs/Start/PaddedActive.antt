@@ -12,11 +12,12 @@ use Rattle.sled_store.specs.Begin.{slots_of, is_used, unused}
 use Rattle.sled_store.proofs.Segments.FilledLemmas.{free_below, free_has}
 use Rattle.sled_store.proofs.Accounts.StartedFile.{started_file, started_short, started_there, started_zero, left_within}
 use Rattle.sled_core.specs.declared.iterator.Segment.{Segment}
-use Rattle.sled_core.specs.LogFile.{padded}
-use Rattle.sled_core.specs.Reached.{StandsActive}
+use Rattle.sled_core.specs.inside.LogFile.{padded}
+use Rattle.sled_core.specs.inside.Reached.{StandsActive}
 use Rattle.sled_core.specs.Recoverable.{NoHeaderOfZeros}
-use Rattle.sled_core.specs.Scan.{IsFoundSegment}
-use Rattle.sled_core.specs.Tail.{Scanned, least_place}
+use Rattle.sled_core.specs.inside.Scan.{IsFoundSegment}
+use Rattle.sled_core.specs.Tail.{Scanned}
+use Rattle.sled_core.specs.inside.Tail.{least_place}
 use Rattle.sled_core.proofs.Start.Entries.{entry_message, used_cases}
 use Rattle.sled_core.specs.declared.iterator.scan.ScanEnd.TheVariants.{Broken}
 use Rattle.sled_core.specs.Tail.{IsScanned}

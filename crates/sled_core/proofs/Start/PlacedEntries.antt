@@ -11,8 +11,8 @@ use Rattle.sled_store.specs.Begin.{slots_of, slot_of, segment_number_of, entries
 use Rattle.sled_store.proofs.Segments.SnapshotEntries.{IsEntryOf}
 use Rattle.sled_store.proofs.Histories.TableParts.{from_table}
 use Rattle.sled_core.specs.declared.iterator.Segment.{Segment}
-use Rattle.sled_core.specs.Reached.{StandsActive}
-use Rattle.sled_core.specs.Recoverable.{LiesInSegment, IsSegmentOf}
+use Rattle.sled_core.specs.inside.Reached.{StandsActive}
+use Rattle.sled_core.specs.inside.Recoverable.{LiesInSegment, IsSegmentOf}
 use Rattle.sled_core.proofs.Start.Entries.{entry_message}
 use Rattle.sled_core.proofs.Reached.StartedStands.{found_inside, slot_needed}
 use Rattle.sled_core.proofs.Read.ScanLemmas.{aligned_offset}

@@ -2,7 +2,7 @@
 use Rattle.std.proofs.Common.{◌≡◌, ◌∙◌, ◌<◌, ◌+◌, ◌-◌, ◌*◌, ◌/◌, ◌%◌, ℕ, Option, None, Some, ap, arith}
 use Rattle.sled_codec.specs.Coords.{raised}
 use Rattle.sled_store.specs.Begin.{offset_at, place_at}
-use Rattle.sled_core.specs.Recoverable.{ActiveFits}
+use Rattle.sled_core.specs.inside.Recoverable.{ActiveFits}
 use Rattle.std.proofs.Math.Nat.{div-eq_of_lt-le, mod-add-div'}
 
 pub goes_on_at : (size stable : ℕ) (active : Option ℕ) → 0 < size → ActiveFits size stable active → place_at size stable active + offset_at size stable active ≡ stable

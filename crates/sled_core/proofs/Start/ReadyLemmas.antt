@@ -17,7 +17,8 @@ use Rattle.sled_store.specs.SnapshotFiles.{BeginsFrom}
 use Rattle.sled_store.specs.declared.segment.start.Beginning.{Beginning}
 use Rattle.sled_core.specs.declared.iobuf.SegmentPosition.{SegmentPosition}
 use Rattle.sled_store.specs.Begin.{slots_of, slot_of, segment_number_of, entries_of, unused, first_or, beginning_at, beginning_of, MayBeActive, IsStartable}
-use Rattle.sled_core.specs.Fits.{log_parts, EndBelow, CloseBelow, IsBegunFrom, HoldsIn}
+use Rattle.sled_core.specs.inside.Fits.{log_parts, HoldsIn}
+use Rattle.sled_core.specs.Fits.{EndBelow, CloseBelow, IsBegunFrom}
 use Rattle.sled_core.specs.LogFile.{IsLogFile, StaysFrom}
 use Rattle.sled_core.specs.SealedBuffers.{AreZeros}
 use Rattle.sled_core.proofs.Holds.BatchLemmas.{closed_up, none_batched}

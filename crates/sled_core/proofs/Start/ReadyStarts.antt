@@ -10,11 +10,12 @@ use Rattle.sled_store.specs.SnapshotFiles.{BeginsFrom}
 use Rattle.sled_store.proofs.Segments.Elements.{all_from_in}
 use Rattle.sled_store.proofs.Segments.SnapshotEntries.{all_seen}
 use Rattle.sled_core.specs.Logged.{logged}
-use Rattle.sled_core.specs.Running.{IsReadyFor}
-use Rattle.sled_core.specs.Reached.{StandsActive}
-use Rattle.sled_core.specs.Recoverable.{ActiveFits}
-use Rattle.sled_core.specs.Scan.{IsFoundSegment}
-use Rattle.sled_core.specs.Tail.{Scanned, least_place}
+use Rattle.sled_core.specs.inside.Running.{IsReadyFor}
+use Rattle.sled_core.specs.inside.Reached.{StandsActive}
+use Rattle.sled_core.specs.inside.Recoverable.{ActiveFits}
+use Rattle.sled_core.specs.inside.Scan.{IsFoundSegment}
+use Rattle.sled_core.specs.Tail.{Scanned}
+use Rattle.sled_core.specs.inside.Tail.{least_place}
 use Rattle.sled_core.proofs.Start.PlacedEntries.{Known, known, slot_is, number_is, placed, of_slot, of_number, same_number}
 use Rattle.sled_core.proofs.Start.SegmentSizes.{slot_counted}
 use Rattle.sled_core.proofs.Reached.StartedStands.{found_inside}

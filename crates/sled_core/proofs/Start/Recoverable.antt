@@ -11,9 +11,11 @@ use Rattle.sled_store.proofs.Histories.EarlierEntries.{entry_earlier}
 use Rattle.sled_store.proofs.Histories.TableParts.{from_table}
 use Rattle.sled_core.specs.Fits.{EndBelow}
 use Rattle.sled_core.specs.Logged.{logged}
-use Rattle.sled_core.specs.Recoverable.{Recoverable, LeavesRecoverable, IsMarkBelow, NoHeaderOfZeros, AreRecoverableSnapshots, AreRecoverableBlobs}
-use Rattle.sled_core.specs.Running.{BlobsFit, NamesFit}
-use Rattle.sled_core.specs.Tail.{IsOrdering}
+use Rattle.sled_core.specs.invariants.Recoverable.{Recoverable}
+use Rattle.sled_core.specs.Recoverable.{LeavesRecoverable, NoHeaderOfZeros}
+use Rattle.sled_core.specs.inside.Recoverable.{IsMarkBelow, AreRecoverableSnapshots, AreRecoverableBlobs}
+use Rattle.sled_core.specs.inside.Running.{BlobsFit, NamesFit}
+use Rattle.sled_core.specs.inside.Tail.{IsOrdering}
 use Rattle.sled_core.proofs.Flush.Settled.{recoverable_less}
 use Rattle.sled_core.proofs.Logged.Messages.{logged_apart, logged_below, logged_twice}
 use Rattle.sled_core.proofs.Logged.Names.{snapshots_alike}

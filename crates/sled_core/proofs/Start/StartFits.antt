@@ -14,14 +14,14 @@ use Rattle.sled_core.specs.declared.iobuf.Sealed.{Sealed}
 use Rattle.sled_core.specs.declared.iobuf.SegmentPosition.{SegmentPosition}
 use Rattle.sled_store.specs.Begin.{slots_of, unused, first_or, beginning_at, beginning_of, MayBeActive, IsStartable}
 use Rattle.sled_store.proofs.Accounts.StartedFile.{started_file}
-use Rattle.sled_core.specs.Fits.{log_parts, HoldsIn}
-use Rattle.sled_core.specs.LogFile.{padded}
+use Rattle.sled_core.specs.inside.Fits.{log_parts, HoldsIn}
+use Rattle.sled_core.specs.inside.LogFile.{padded}
 use Rattle.sled_core.specs.Logged.{in_log, logged}
 use Rattle.sled_core.specs.OpenBatches.{stable_below}
 use Rattle.sled_core.specs.Ready.{HasFile}
 use Rattle.sled_core.specs.Recoverable.{LeavesRecoverable, NoHeaderOfZeros}
-use Rattle.sled_core.specs.Running.{BlobsFit, KeepsEntries, NamesFit, FitsIn, IsReadyFor}
-use Rattle.sled_core.specs.Reached.{StandsActive, StandsAlone}
+use Rattle.sled_core.specs.inside.Running.{BlobsFit, KeepsEntries, NamesFit, FitsIn, IsReadyFor}
+use Rattle.sled_core.specs.inside.Reached.{StandsActive, StandsAlone}
 use Rattle.sled_core.proofs.Blobs.StaysOwn.{own_same}
 use Rattle.sled_core.proofs.Logged.Messages.{logged_there}
 use Rattle.sled_core.proofs.Reached.StableBelow.{stable_all}

@@ -13,7 +13,7 @@ use Rattle.sled_store.specs.Started.{found, left_slots, started}
 use Rattle.sled_store.proofs.Accounts.StartNext.{used_left}
 use Rattle.sled_store.proofs.Segments.FilledLemmas.{filled}
 use Rattle.sled_store.proofs.Accounts.StartedFile.{started_file, started_covered, free_begin}
-use Rattle.sled_core.specs.Reached.{StandsActive}
+use Rattle.sled_core.specs.inside.Reached.{StandsActive}
 use Rattle.sled_core.specs.Recoverable.{NoHeaderOfZeros}
 use Rattle.sled_core.proofs.Start.KeptActive.{Uses, active_left}
 use Rattle.sled_core.proofs.Reached.KeptStands.{SameInUsed}

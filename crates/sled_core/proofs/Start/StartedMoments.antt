@@ -10,9 +10,11 @@ use Rattle.sled_store.specs.SegmentStates.{SlotState, may_be_cut, cutting}
 use Rattle.sled_store.specs.Started.{found, started}
 use Rattle.sled_store.proofs.Traces.ScriptLemmas.{performs_throughout, along_last}
 use Rattle.sled_core.specs.Logged.{logged}
-use Rattle.sled_core.specs.Recoverable.{Recoverable, RecoverableIfOwn, LeavesRecoverable, NoForeign, NoHeaderOfZeros}
-use Rattle.sled_core.specs.Running.{BlobsFit, NamesFit, IsReadyFor, Ready}
-use Rattle.sled_core.specs.Reached.{StandsActive}
+use Rattle.sled_core.specs.invariants.Recoverable.{Recoverable}
+use Rattle.sled_core.specs.Recoverable.{RecoverableIfOwn, LeavesRecoverable, NoForeign, NoHeaderOfZeros}
+use Rattle.sled_core.specs.inside.Running.{BlobsFit, NamesFit, IsReadyFor}
+use Rattle.sled_core.specs.invariants.Running.{Ready}
+use Rattle.sled_core.specs.inside.Reached.{StandsActive}
 use Rattle.sled_core.proofs.Reached.StartedStands.{both_along}
 use Rattle.sled_core.proofs.Start.StartedActive.{ActiveIfOwn, starting_active}
 use Rattle.sled_core.proofs.Start.Recoverable.{same_place, stands_recoverable}

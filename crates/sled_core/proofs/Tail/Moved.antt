@@ -11,8 +11,9 @@ use Rattle.sled_core.specs.declared.iterator.Segment.{Segment}
 use Rattle.sled_core.specs.declared.iterator.scan.ScannedRecord.{ScannedRecord}
 use Rattle.sled_core.specs.declared.iterator.scan.RecordContent.TheVariants.{Gives}
 use Rattle.sled_core.specs.LogFile.{MessageStands}
-use Rattle.sled_core.specs.Recoverable.{StandsInline, MeetsMessage, IsOfHistory}
-use Rattle.sled_core.specs.Scan.{Says, IsFoundSegment, IsMet}
+use Rattle.sled_core.specs.inside.Recoverable.{StandsInline, MeetsMessage, IsOfHistory}
+use Rattle.sled_core.specs.Scan.{Says, IsMet}
+use Rattle.sled_core.specs.inside.Scan.{IsFoundSegment}
 use Rattle.sled_core.proofs.Tail.LogFileLemmas.{record_moved}
 use Rattle.sled_core.proofs.Read.FoundLemmas.{pos_injective}
 

@@ -6,7 +6,7 @@ use Rattle.sled_codec.specs.History.{Message, Batch, History}
 use Rattle.sled_core.specs.declared.iterator.scan.ScannedRecord.{ScannedRecord}
 use Rattle.sled_core.specs.declared.iterator.scan.RecordContent.{RecordContent}
 use Rattle.sled_core.specs.declared.iterator.scan.RecordContent.TheVariants.{BatchStart}
-use Rattle.sled_core.specs.Recoverable.{MeetsMessage, StandsInline, IsOfHistory}
+use Rattle.sled_core.specs.inside.Recoverable.{MeetsMessage, StandsInline, IsOfHistory}
 use Rattle.sled_core.specs.Tail.{opens}
 use Rattle.sled_store.proofs.Histories.Ascending.{Ascends, one_at_place}
 

@@ -5,9 +5,10 @@ use Rattle.std.proofs.lemmas.Bool.{cases_lt, leb-true, le-leb}
 use Rattle.sled_codec.specs.History.{History}
 use Rattle.sled_store.proofs.Segments.Elements.{in_first, in_filter, from_filter}
 use Rattle.sled_core.specs.declared.iterator.Segment.{Segment}
-use Rattle.sled_core.specs.Recoverable.{IsMarkBelow}
+use Rattle.sled_core.specs.inside.Recoverable.{IsMarkBelow}
 use Rattle.sled_core.proofs.Read.FoundLemmas.{pos_injective}
-use Rattle.sled_core.specs.Tail.{is_ascending, IsOrdering, Scanned, AreScanned, greatest_mark, tail_begins}
+use Rattle.sled_core.specs.inside.Tail.{is_ascending, IsOrdering, AreScanned, greatest_mark, tail_begins}
+use Rattle.sled_core.specs.Tail.{Scanned}
 use Rattle.sled_core.proofs.Tail.Multiples.{apart, put_down, one_multiple, raised_within}
 use Rattle.sled_core.proofs.Tail.GreatestMark.{greatest_is, mark_below}
 use Rattle.sled_core.proofs.Tail.OneTail.{Rises, rises_of}

@@ -10,7 +10,8 @@ use Rattle.sled_core.specs.declared.iterator.Segment.{Segment}
 use Rattle.sled_core.specs.declared.iterator.scan.ScannedRecord.{ScannedRecord}
 use Rattle.sled_core.specs.declared.iterator.scan.ScanEnd.{ScanEnd}
 use Rattle.sled_core.specs.Reading.{StandsAt}
-use Rattle.sled_core.specs.Scan.{IsFoundSegment, IsScan}
+use Rattle.sled_core.specs.inside.Scan.{IsFoundSegment}
+use Rattle.sled_core.specs.Scan.{IsScan}
 use Rattle.sled_core.proofs.Tail.LogFileLemmas.{record_moved}
 use Rattle.sled_core.proofs.Read.FoundLemmas.{found_there}
 use Rattle.sled_core.proofs.Torn.TornRecords.{long_enough, record_read}

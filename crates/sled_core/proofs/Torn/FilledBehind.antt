@@ -11,7 +11,8 @@ use Rattle.sled_core.specs.declared.iterator.Segment.{Segment}
 use Rattle.sled_core.specs.declared.iterator.scan.ScannedRecord.{ScannedRecord}
 use Rattle.sled_core.specs.declared.iterator.scan.ScanEnd.{ScanEnd}
 use Rattle.sled_core.specs.Recoverable.{NoHeaderOfZeros}
-use Rattle.sled_core.specs.Scan.{IsFoundSegment, IsScan}
+use Rattle.sled_core.specs.inside.Scan.{IsFoundSegment}
+use Rattle.sled_core.specs.Scan.{IsScan}
 use Rattle.sled_core.proofs.Torn.AlikeSlots.{SameIn, found_same, scan_same}
 use Rattle.sled_core.proofs.Torn.FilledSlots.{after_zeros}
 use Rattle.sled_core.proofs.Torn.WrittenBegun.{none_in_zeros}

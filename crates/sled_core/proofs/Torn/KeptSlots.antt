@@ -21,7 +21,8 @@ use Rattle.sled_core.specs.declared.iterator.Segment.{Segment}
 use Rattle.sled_core.specs.declared.iterator.scan.ScannedRecord.{ScannedRecord}
 use Rattle.sled_core.specs.declared.iterator.scan.ScanEnd.{ScanEnd}
 use Rattle.sled_core.specs.Recoverable.{NoHeaderOfZeros}
-use Rattle.sled_core.specs.Scan.{IsFoundSegment, IsScan}
+use Rattle.sled_core.specs.inside.Scan.{IsFoundSegment}
+use Rattle.sled_core.specs.Scan.{IsScan}
 use Rattle.sled_core.proofs.Torn.AlikeSlots.{slot_found}
 use Rattle.sled_core.proofs.Torn.CutAlong.{cutting_along}
 use Rattle.sled_core.proofs.Torn.CutSlots.{after_cut, cut_header_was, below_found, below_met, below_met_before, none_behind, taken_found, taken_found_before, taken_met, taken_met_before}

@@ -3,7 +3,7 @@ ghost use Rattle.std.specs.Prelude.{◌≡◌, ◌<◌, ◌≤◌, length, OnOk,
 ghost use Rattle.sled_core.specs.Begun.{view_at};
 ghost use Rattle.sled_core.specs.Buffers.{padding_at};
 ghost use Rattle.sled_core.specs.SealedBuffers.{sealed_end};
-ghost use Rattle.sled_core.specs.Turned.{CanClose};
+ghost use Rattle.sled_core.specs.inside.Turned.{CanClose};
 ghost use Rattle.sled_core.specs.Waiting.{closed_now};
 
 use crate::iobuf::record::push_rest;

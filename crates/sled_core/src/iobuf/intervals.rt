@@ -7,7 +7,8 @@ ghost use Rattle.std.specs.List.{AllWithin};
 ghost use Rattle.std.specs.BinaryHeap.{IsHeap, HeapUnchanged, heap_items, heap_len, heap_capacity};
 ghost use Rattle.std.specs.VecDeque.{deque_len, deque_capacity};
 ghost use Rattle.std.proofs.Props.{props};
-ghost use Rattle.sled_core.specs.StableEnds.{IsContiguousEnd, IsStableEnd, IsOpenAround, AreApart, AreInOrder, Reaches, AreWaiting, HasPlaceBefore, end_before, lowest_first, turned};
+ghost use Rattle.sled_core.specs.StableEnds.{IsContiguousEnd, IsStableEnd, IsOpenAround, AreApart, AreInOrder, Reaches, AreWaiting, HasPlaceBefore, end_before, turned};
+ghost use Rattle.sled_core.specs.inside.StableEnds.{lowest_first};
 
 pub mod reference;
 

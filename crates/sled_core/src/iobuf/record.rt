@@ -3,8 +3,9 @@
 ghost use Rattle.std.specs.Prelude.{◌≡◌, ◌+◌, ◌-◌, ◌≤◌, ◌<◌, ◌++◌, length, take, drop, replicate, vec_capacity};
 ghost use Rattle.sled_codec.specs.Places.{part};
 ghost use Rattle.sled_codec.specs.Spelling.{short_header_tail};
-ghost use Rattle.sled_core.specs.Buffers.{placeholder_head};
-ghost use Rattle.sled_core.specs.Caps.{capped_rest, segment_rest};
+ghost use Rattle.sled_core.specs.inside.Buffers.{placeholder_head};
+ghost use Rattle.sled_core.specs.inside.Caps.{capped_rest};
+ghost use Rattle.sled_core.specs.invariants.Caps.{segment_rest};
 
 use sled_codec::result::PageId;
 use sled_codec::serialization::bytes::copy_in;

@@ -4,7 +4,8 @@ ghost use Rattle.std.specs.Prelude.{◌≡◌, ◌+◌, ◌<◌, ◌≤◌, ◌^
 ghost use Rattle.std.specs.List.Sorted.{IsNonDecreasingBy, IsPartitionPoint};
 ghost use Rattle.std.specs.VecDeque.{deque_len, deque_capacity};
 ghost use Rattle.sled_core.specs.declared.iobuf.Reserved.{Reserved};
-ghost use Rattle.sled_core.specs.SealedBuffers.{HasOpenAt, behind_run, is_ready, one_ended, run_count, run_end, seal_at, sealed_count, sealed_end, written_at};
+ghost use Rattle.sled_core.specs.inside.SealedBuffers.{HasOpenAt, behind_run, is_ready, one_ended, run_count, run_end, written_at};
+ghost use Rattle.sled_core.specs.SealedBuffers.{seal_at, sealed_count, sealed_end};
 
 use crate::iobuf::{IoBuf, Reserved, Sealed};
 use sled_codec::result::{Error, Result};

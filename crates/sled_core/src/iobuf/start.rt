@@ -6,7 +6,7 @@ ghost use Rattle.sled_store.specs.Device.{state_of};
 ghost use Rattle.sled_store.specs.Accounts.{IsAccountant, MayHandOut, machine_of};
 ghost use Rattle.sled_store.specs.Begin.{IsStartable, IsInReach, place_at, offset_at, beginning_of};
 ghost use Rattle.sled_store.specs.Started.{FoundOrRefuses};
-ghost use Rattle.sled_core.specs.FirstBuffer.{IsFirstBuffer, RefusesBuffer};
+ghost use Rattle.sled_core.specs.inside.FirstBuffer.{IsFirstBuffer, RefusesBuffer};
 ghost use Rattle.sled_core.specs.FreeSlots.{begun_machine, with_current};
 ghost use Rattle.sled_core.specs.Starts.{HasMadeStart, StartCalls};
 

@@ -6,8 +6,9 @@ ghost use Rattle.std.specs.Prelude.{◌≡◌, None, Some, IfSome};
 ghost use Rattle.std.specs.Iterator.{at_most};
 ghost use Rattle.std.proofs.Props.{props};
 ghost use Rattle.sled_codec.specs.Errors.{IsCorrupt};
-ghost use Rattle.sled_core.specs.Ahead.{CanGoOn, IsSpent};
-ghost use Rattle.sled_core.specs.Sources.{size_in};
+ghost use Rattle.sled_core.specs.Ahead.{CanGoOn};
+ghost use Rattle.sled_core.specs.inside.Ahead.{IsSpent};
+ghost use Rattle.sled_core.specs.inside.Sources.{size_in};
 
 use crate::iterator::rest::Rest;
 use crate::logger::Log;
@@ -122,7 +123,9 @@ impl<D: Device, C: Checksum> Iterator for LogIter<'_, D, C> {
     /// What a message does, its page, its place, its pointer and the length of its record.
     type Item = Result<(LogKind, PageId, Lsn, DiskPtr, u64)>;
 
-    ghost use Rattle.sled_core.specs.Iterators.{IsNext, most_ahead};
+    ghost use Rattle.sled_core.specs.Iterators.{IsNext};
+
+    ghost use Rattle.sled_core.specs.inside.Iterators.{most_ahead};
 
     ghost next_gives = { IsNext D.trace D.faults C.sum_of };
 

@@ -4,7 +4,7 @@ ghost use Rattle.std.specs.Prelude.{◌≡◌, ◌+◌, ◌^◌, ◌≤◌, ◌<
 ghost use Rattle.std.specs.List.{All};
 ghost use Rattle.sled_codec.specs.Errors.{IsCorruption, IsDecodeError};
 ghost use Rattle.sled_core.specs.Reading.{file_of};
-ghost use Rattle.sled_core.specs.Ahead.{IsDamagedBehind};
+ghost use Rattle.sled_core.specs.inside.Ahead.{IsDamagedBehind};
 ghost use Rattle.sled_core.specs.Replayed.{CanBeRead, IsDamagedBefore, IsReplayed, scanned_of};
 ghost use Rattle.sled_core.specs.Tail.{opens};
 

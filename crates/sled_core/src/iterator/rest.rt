@@ -7,7 +7,8 @@ ghost use Rattle.sled_core.specs.Causes.{ItemAnswersOver};
 ghost use Rattle.sled_core.specs.Keeps.{OnlyReads};
 ghost use Rattle.sled_codec.specs.Record.{IsHeader};
 ghost use Rattle.sled_core.specs.Iterates.{Item, Damage, items_of, NextGives, NextAnswers, BehindLast, stops};
-ghost use Rattle.sled_core.specs.Ahead.{CanGoOn, IsLeft, IsGiven, IsSpent, Finds, IsEnd, most_left, read_behind, those_of};
+ghost use Rattle.sled_core.specs.Ahead.{CanGoOn};
+ghost use Rattle.sled_core.specs.inside.Ahead.{IsLeft, IsGiven, IsSpent, Finds, IsEnd, most_left, read_behind, those_of};
 
 use crate::iterator::blobs::find_blob;
 use crate::iterator::records::{opens, scan_into};

@@ -5,8 +5,10 @@ ghost use Rattle.sled_codec.specs.declared.serialization.message.MessageHeader.{
 ghost use Rattle.sled_codec.specs.declared.serialization.message.MessageKind.TheVariants as kind;
 ghost use Rattle.sled_codec.specs.Errors.{IsCorruption, IsDecodeError};
 ghost use Rattle.sled_codec.specs.Places.{part};
-ghost use Rattle.sled_core.specs.Reading.{IsBare, IsLaid, IsMalformed, StandsAt, file_of, is_blob};
-ghost use Rattle.sled_core.specs.Scan.{HasPlace, IsStep, Says};
+ghost use Rattle.sled_core.specs.inside.Reading.{IsBare, IsLaid};
+ghost use Rattle.sled_core.specs.Reading.{IsMalformed, StandsAt, file_of, is_blob};
+ghost use Rattle.sled_core.specs.inside.Scan.{HasPlace};
+ghost use Rattle.sled_core.specs.Scan.{IsStep, Says};
 
 use crate::iterator::scan::{RecordContent, ScanEnd, ScannedRecord, Step};
 use crate::iterator::sums::sum_in_place;

@@ -6,12 +6,13 @@ ghost use Rattle.std.specs.Prelude.{◌≡◌, IfOk, IsSome, None, OnErr, OnOk};
 ghost use Rattle.sled_codec.specs.History.{History, Message};
 ghost use Rattle.sled_core.specs.Canceled.{WritesCanceled};
 ghost use Rattle.sled_core.specs.Causes.{FaultAnswers};
-ghost use Rattle.sled_core.specs.Fits.{Awaits, Holds, IsOpen, KeepsAll, KeepsBuffers, KeepsTickets, device_of, fault_of, open_places};
+ghost use Rattle.sled_core.specs.Fits.{Awaits, IsOpen, KeepsAll, KeepsBuffers, KeepsTickets, device_of, fault_of, open_places};
+ghost use Rattle.sled_core.specs.invariants.Fits.{Holds};
 ghost use Rattle.sled_core.specs.Keeps.{KeepsOthers, KeepsSeen, Preserves, SamePosition};
 ghost use Rattle.sled_core.specs.OpenPlaces.{TakesOutPlaceOf};
 ghost use Rattle.sled_core.specs.OwnBlobs.{PreservesWithout, RemovedAnswers, RemovesBlob};
 ghost use Rattle.sled_core.specs.Tickets.{IsPlaceOf, own_blob};
-ghost use Rattle.sled_core.specs.Turned.{ChangesDevice};
+ghost use Rattle.sled_core.specs.inside.Turned.{ChangesDevice};
 
 use crate::logger::Log;
 use crate::reservation::Reservation;

@@ -7,7 +7,8 @@
 ghost use Rattle.std.specs.Prelude.{if◌then◌else◌, vec_capacity, ◌≡◌, ◌+◌, ◌*◌, ◌<◌, ◌≤◌, ◌^◌, ◌⊎◌, ◌↔◌, ◌<ℤ◌, pos, [], suc, ℕ, All, Contains, IsTrue, map, length, true, OnOk, IsOkUnless};
 ghost use Rattle.std.specs.List.Sorted.{IsPartitionPoint};
 ghost use Rattle.sled_codec.specs.History.{Batch};
-ghost use Rattle.sled_core.specs.OpenBatches.{AreByPlace, AreByPlace-prop, batch_of, behind_batch, not_whole, stable_below, with_batch};
+ghost use Rattle.sled_core.specs.inside.OpenBatches.{AreByPlace, AreByPlace-prop};
+ghost use Rattle.sled_core.specs.OpenBatches.{batch_of, behind_batch, not_whole, stable_below, with_batch};
 
 use crate::logger::Log;
 use sled_codec::result::{Error, Lsn, Result};
@@ -198,7 +199,7 @@ fn is_below(b: &NotedBatch, end: u64, low: Lsn) -> bool
 
 impl<D: Device, C: Checksum> Log<D, C> {
     ghost use Rattle.sled_core.specs.Fits.{kept_batches, noted_in, reserved_end, stable_end, synced_end};
-    ghost use Rattle.sled_core.specs.Turned.{HasRoomForBatch, NotesBatch};
+    ghost use Rattle.sled_core.specs.inside.Turned.{HasRoomForBatch, NotesBatch};
 
     /// The place behind the stable end: behind all that is on the device without a gap, or where the lowest batch begins that
     /// goes on behind that.

@@ -11,9 +11,10 @@ ghost use Rattle.sled_core.specs.Fits.{Awaits, IsLeastOpen, IsUnchanged, IsUsedU
 ghost use Rattle.sled_core.specs.Keeps.{Preserves};
 ghost use Rattle.sled_core.specs.Manifests.{kind_for};
 ghost use Rattle.sled_core.specs.Tickets.{is_manifest_of, own_blob};
-ghost use Rattle.sled_core.specs.Prepared.{next_here};
-ghost use Rattle.sled_core.specs.Reserves.{MadeAnswers, ReservesAs, StandsBehind};
-ghost use Rattle.sled_core.specs.Turned.{ChangesDevice};
+ghost use Rattle.sled_core.specs.inside.Prepared.{next_here};
+ghost use Rattle.sled_core.specs.inside.Reserves.{MadeAnswers};
+ghost use Rattle.sled_core.specs.Reserves.{ReservesAs, StandsBehind};
+ghost use Rattle.sled_core.specs.inside.Turned.{ChangesDevice};
 
 use crate::iobuf::Purpose;
 use crate::iobuf::record::Head;

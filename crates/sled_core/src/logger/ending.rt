@@ -2,11 +2,12 @@
 ghost use Rattle.std.specs.Prelude.{◌≡◌, ◌+◌, ◌-◌, ◌<◌, ◌^◌, ◌↔◌, false, true, Some, IsTrue, length, set, slice_get};
 ghost use Rattle.sled_core.specs.declared.iobuf.Reserved.{Reserved};
 ghost use Rattle.sled_core.specs.Begun.{SegmentView};
-ghost use Rattle.sled_core.specs.Buffers.{canceling, completing, marking, none_open};
+ghost use Rattle.sled_core.specs.inside.Buffers.{canceling, completing, marking};
+ghost use Rattle.sled_core.specs.Buffers.{none_open};
 ghost use Rattle.sled_core.specs.Fits.{IsOpen, NoneOpen, line_of};
 ghost use Rattle.sled_core.specs.Manifests.{is_manifest};
 ghost use Rattle.sled_core.specs.Tickets.{IsFor};
-ghost use Rattle.sled_core.specs.Turned.{ChangesLine, HasOpenIn, HasRoomForBatch, IsOpenIn, ended_now};
+ghost use Rattle.sled_core.specs.inside.Turned.{ChangesLine, HasOpenIn, HasRoomForBatch, IsOpenIn, ended_now};
 
 use crate::iobuf::{IoBuf, ReservationState, Reserved, SegmentPosition};
 use crate::logger::Log;

@@ -3,7 +3,7 @@ ghost use Rattle.std.specs.Prelude.{◌≡◌, ◌≢◌, None, Some};
 ghost use Rattle.std.specs.IoError.{error_kind};
 ghost use Rattle.std.specs.declared.io.ErrorKind.TheVariants.{OutOfMemory};
 ghost use Rattle.sled_codec.specs.Errors.{IsErrorOf};
-ghost use Rattle.sled_core.specs.Causes.{fault_in};
+ghost use Rattle.sled_core.specs.inside.Causes.{fault_in};
 ghost use Rattle.sled_core.specs.Iterators.{first_failure};
 
 use sled_codec::result::{DiskPtr, Error, Lsn, PageId, Result};

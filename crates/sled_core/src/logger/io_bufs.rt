@@ -30,9 +30,10 @@ pub(crate) struct IoBufs {
 }
 
 impl IoBufs {
-    ghost use Rattle.sled_core.specs.Begun.{line_in, open_segments};
-    ghost use Rattle.sled_core.specs.Lending.{LendsSegment};
-    ghost use Rattle.sled_core.specs.Turned.{promoted};
+    ghost use Rattle.sled_core.specs.Begun.{line_in};
+    ghost use Rattle.sled_core.specs.inside.Begun.{open_segments};
+    ghost use Rattle.sled_core.specs.inside.Lending.{LendsSegment};
+    ghost use Rattle.sled_core.specs.inside.Turned.{promoted};
 
     /// The number of the last one.
     #[inline(always)]

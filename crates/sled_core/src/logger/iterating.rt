@@ -5,11 +5,13 @@ ghost use Rattle.sled_store.specs.Accounts.{IsAccountant, machine_of};
 ghost use Rattle.sled_codec.specs.History.{History, Message};
 ghost use Rattle.sled_store.specs.Device.{state_of};
 ghost use Rattle.sled_core.specs.Recoverable.{NoHeaderOfZeros};
-ghost use Rattle.sled_core.specs.Running.{Fits};
-ghost use Rattle.sled_core.specs.Ahead.{CanGoOn, HasEnds, IsLeft, IsSpent, most_left};
+ghost use Rattle.sled_core.specs.invariants.Running.{Fits};
+ghost use Rattle.sled_core.specs.Ahead.{CanGoOn, HasEnds};
+ghost use Rattle.sled_core.specs.inside.Ahead.{IsLeft, IsSpent, most_left};
 ghost use Rattle.sled_core.specs.Iterates.{Item, Damage, NextGives, NextAnswers, BehindLast};
 ghost use Rattle.sled_core.specs.Keeps.{OnlyReads};
-ghost use Rattle.sled_core.specs.LogSegments.{list_of, segment_within, segments_among};
+ghost use Rattle.sled_core.specs.inside.LogSegments.{list_of};
+ghost use Rattle.sled_core.specs.LogSegments.{segment_within, segments_among};
 ghost use Rattle.sled_store.specs.SegmentStates.{slot_at};
 
 use crate::iterator::log_iter::LogIter;

@@ -6,10 +6,11 @@ ghost use Rattle.std.specs.Prelude.{ℕ, List, ◌≡◌, ◌<◌, ◌⊎◌, �
 ghost use Rattle.sled_codec.specs.History.{Batch, Batched, History, Message, Step};
 ghost use Rattle.sled_core.specs.Batches.{EndsBatch, LiesInNoFilling, MayEndAt, NotesBatchOf, batch_for};
 ghost use Rattle.sled_core.specs.Causes.{FaultAnswers};
-ghost use Rattle.sled_core.specs.Fits.{Holds, IsOpen, KeepsBuffers, fault_of, line_of, noted_in, open_places, reserved_end, segment_size_of};
+ghost use Rattle.sled_core.specs.invariants.Fits.{Holds};
+ghost use Rattle.sled_core.specs.Fits.{IsOpen, KeepsBuffers, fault_of, line_of, noted_in, open_places, reserved_end, segment_size_of};
 ghost use Rattle.sled_core.specs.Keeps.{GoesOn, KeepsOthers, Preserves, SamePosition};
 ghost use Rattle.sled_core.specs.OpenPlaces.{TakesOutPlaceOf};
-ghost use Rattle.sled_core.specs.Running.{Fits};
+ghost use Rattle.sled_core.specs.invariants.Running.{Fits};
 ghost use Rattle.sled_core.specs.Tickets.{IsPlaceOf, is_manifest_of, place_of};
 
 use crate::logger::Log;

@@ -11,7 +11,8 @@ ghost use Rattle.sled_store.specs.Causes.{DeviceAnswers};
 ghost use Rattle.sled_store.specs.Blobs.{IsDamagedFor, NamesBlobAt, OnDamage};
 ghost use Rattle.sled_core.specs.Keeps.{OnlyReads};
 ghost use Rattle.sled_core.specs.Causes.{ItemAnswersOver, ReaderAnswers};
-ghost use Rattle.sled_core.specs.Reading.{HoldsAs, IsRecordRead, IsReading, IsWithItem, IsMalformed, IsUnreadable, IsUnreadableAs, IsFound, IsBare, IsAnnounced, file_read, data_of, is_blob};
+ghost use Rattle.sled_core.specs.inside.Reading.{HoldsAs, IsWithItem, IsFound, IsBare};
+ghost use Rattle.sled_core.specs.Reading.{IsRecordRead, IsReading, IsMalformed, IsUnreadable, IsUnreadableAs, IsAnnounced, file_read, data_of, is_blob};
 
 use crate::iobuf::record::sum_behind;
 use crate::logger::read_at::{BasedBuf, ReadAt};

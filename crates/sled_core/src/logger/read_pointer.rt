@@ -7,7 +7,8 @@ ghost use Rattle.sled_codec.specs.Pointers.{lid_of};
 ghost use Rattle.sled_store.specs.Blobs.{BlobAnswers};
 ghost use Rattle.sled_store.specs.Device.{state_of};
 ghost use Rattle.sled_core.specs.Keeps.{OnlyReads};
-ghost use Rattle.sled_core.specs.ReadPointer.{IsBlobRead, IsDamageOf, IsReadOf, PointerAnswers, place_read};
+ghost use Rattle.sled_core.specs.ReadPointer.{IsBlobRead, IsReadOf, place_read};
+ghost use Rattle.sled_core.specs.inside.ReadPointer.{IsDamageOf, PointerAnswers};
 
 use crate::logger::read_message::{LogRead, read_message};
 use sled_codec::result::{BlobPointer, DiskPtr, Lsn, PageId, Result};

@@ -1,9 +1,9 @@
 //! The sealed buffers of a log that can be written, by the places where they begin, so that the i-th one is found without
-//! going over the others (`specs/ReadyBuffers.antt`).
+//! going over the others (`specs/inside/ReadyBuffers.antt`).
 ghost use Rattle.std.specs.Prelude.{◌≡◌, ◌+◌, ◌<◌, ◌≤◌, ◌^◌, ◌++◌, ◌∷◌, [], ℕ, List, true, false, length, slice_get, OnOk, IsOkUnless, All, Some};
 ghost use Rattle.std.specs.VecDeque.{deque_len, deque_capacity};
 ghost use Rattle.sled_core.specs.declared.iobuf.Reserved.{Reserved};
-ghost use Rattle.sled_core.specs.SealedBuffers.{is_ready, written_at};
+ghost use Rattle.sled_core.specs.inside.SealedBuffers.{is_ready, written_at};
 
 use crate::iobuf::{IoBuf, Sealed, SegmentPosition};
 use sled_codec::result::{Error, Result};
@@ -21,7 +21,7 @@ pub(crate) struct ReadyBuffers {
 }
 
 impl ReadyBuffers {
-    ghost use Rattle.sled_core.specs.ReadyBuffers.{EndedOne, HasOwn};
+    ghost use Rattle.sled_core.specs.inside.ReadyBuffers.{EndedOne, HasOwn};
 
     /// There are none.
     pub(crate) fn new(alloc: Global) -> ReadyBuffers

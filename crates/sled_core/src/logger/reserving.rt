@@ -1,14 +1,14 @@
 //! The parts of a reservation: whether its record has a place in the current segment, the room for it, and its placeholder.
 ghost use Rattle.std.specs.Prelude.{◌≡◌, ◌+◌, ◌-◌, ◌/◌, ◌^◌, ◌<◌, ◌++◌, None, drop, length, take, true, IsTrue, OnOk, OnErr, ◌↔◌};
 ghost use Rattle.sled_codec.specs.Spelling.{short_header_tail};
-ghost use Rattle.sled_core.specs.Begun.{last_buffer_in};
-ghost use Rattle.sled_core.specs.Buffers.{placeholder_head, reserved_for};
-ghost use Rattle.sled_core.specs.Causes.{MakesRoom};
+ghost use Rattle.sled_core.specs.inside.Begun.{last_buffer_in};
+ghost use Rattle.sled_core.specs.inside.Buffers.{placeholder_head, reserved_for};
+ghost use Rattle.sled_core.specs.inside.Causes.{MakesRoom};
 ghost use Rattle.sled_core.specs.Fits.{FitsInline, IsLeastOpen, IsUnchanged, IsUsedUpFor, KeepsAll, current_of, line_of, open_for, open_of, segment_size_of};
 ghost use Rattle.sled_core.specs.Manifests.{is_manifest, kind_for};
-ghost use Rattle.sled_core.specs.Prepared.{IsPrepared, PrepareAnswers};
+ghost use Rattle.sled_core.specs.inside.Prepared.{IsPrepared, PrepareAnswers};
 ghost use Rattle.sled_core.specs.Tickets.{is_manifest_of, own_blob};
-ghost use Rattle.sled_core.specs.Turned.{ChangesLine, ChangesSlots, HasRoomForBatch, HasRoomIn, HasPlace, IsTicketFor, reserved_now};
+ghost use Rattle.sled_core.specs.inside.Turned.{ChangesLine, ChangesSlots, HasRoomForBatch, HasRoomIn, HasPlace, IsTicketFor, reserved_now};
 ghost use Rattle.sled_core.specs.Waiting.{at_last};
 
 use crate::iobuf::Purpose;

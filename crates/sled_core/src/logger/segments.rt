@@ -4,13 +4,15 @@ ghost use Rattle.std.specs.Prelude.{◌≡◌, ◌+◌, ◌-◌, ◌*◌, ◌/�
 ghost use Rattle.std.specs.VecDeque.{deque_len, deque_capacity};
 ghost use Rattle.sled_store.specs.Accounts.{MayHandOut, NextAnswers};
 ghost use Rattle.sled_store.specs.SegmentStates.{handed_out};
-ghost use Rattle.sled_core.specs.Begun.{last_buffer_in, view_at};
+ghost use Rattle.sled_core.specs.inside.Begun.{last_buffer_in};
+ghost use Rattle.sled_core.specs.Begun.{view_at};
 ghost use Rattle.sled_core.specs.Causes.{FaultOrMemory};
-ghost use Rattle.sled_core.specs.Fits.{AddsBuffers, IsUnchanged, IsUsedUp, KeepsAll, KeepsTickets, buffers_of, current_begin, current_of, line_of, machine_at, reserved_end, sealing_end, segment_size_of, stable_end, start_of, waiting_of};
+ghost use Rattle.sled_core.specs.inside.Fits.{AddsBuffers};
+ghost use Rattle.sled_core.specs.Fits.{IsUnchanged, IsUsedUp, KeepsAll, KeepsTickets, buffers_of, current_begin, current_of, line_of, machine_at, reserved_end, sealing_end, segment_size_of, stable_end, start_of, waiting_of};
 ghost use Rattle.sled_core.specs.Keeps.{Preserves, SamePosition, start_sealed};
 ghost use Rattle.sled_core.specs.Marked.{BeginsMarked};
 ghost use Rattle.sled_core.specs.Positions.{is_short};
-ghost use Rattle.sled_core.specs.Turned.{CanClose, ChangesLine, ChangesSlots, HasRoomForBatch, HasRoomIn, IsBegunView, next_line};
+ghost use Rattle.sled_core.specs.inside.Turned.{CanClose, ChangesLine, ChangesSlots, HasRoomForBatch, HasRoomIn, IsBegunView, next_line};
 ghost use Rattle.sled_core.specs.Waiting.{at_last, holds_any, sealed_now};
 
 use crate::iobuf::{IoBuf, SegmentPosition};

@@ -7,8 +7,9 @@ ghost use Rattle.sled_core.specs.Causes.{HeldAnswers, OnDone};
 ghost use Rattle.sled_core.specs.Fits.{KeepsTickets, NoneSealed, current_begin, device_of, fault_of, reserved_end, start_of, synced_end, waiting_of};
 ghost use Rattle.sled_core.specs.Fronts.{CameAround, WroteNone};
 ghost use Rattle.sled_core.specs.Keeps.{Preserves, SamePosition};
-ghost use Rattle.sled_core.specs.Marked.{KeepsSegment};
-ghost use Rattle.sled_core.specs.ReadBuffer.{IsUsedUpAt, IsWrittenPlace, SealsAround, SettleAnswers, WritesAround, held_at, settling};
+ghost use Rattle.sled_core.specs.inside.Marked.{KeepsSegment};
+ghost use Rattle.sled_core.specs.ReadBuffer.{IsUsedUpAt, IsWrittenPlace, SealsAround, WritesAround, held_at, settling};
+ghost use Rattle.sled_core.specs.inside.ReadBuffer.{SettleAnswers};
 ghost use Rattle.sled_core.specs.Stable.{IsNotReserved};
 ghost use Rattle.sled_core.specs.Waiting.{BufferAt, has_place, without_around};
 

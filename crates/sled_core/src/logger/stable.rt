@@ -11,7 +11,8 @@ ghost use Rattle.sled_core.specs.Fits.{IsUsedUpBelow, KeepsTickets, config_of, d
 ghost use Rattle.sled_core.specs.Fronts.{CameTo, ClosedAt};
 ghost use Rattle.sled_core.specs.Keeps.{ConfigKept, Preserves, SamePosition, WritesBelow};
 ghost use Rattle.sled_core.specs.Recoverable.{LeavesRecoverable, RecoverableIfOwn};
-ghost use Rattle.sled_core.specs.Running.{Fits, end_below};
+ghost use Rattle.sled_core.specs.invariants.Running.{Fits};
+ghost use Rattle.sled_core.specs.Running.{end_below};
 ghost use Rattle.sled_core.specs.Stable.{held_for, stabilizing, stable_behind, target_for, IsNotReserved, SparesDevice, StableAnswers, CloseAnswers};
 
 use crate::logger::Log;

@@ -6,8 +6,8 @@ use Rattle.sled_codec.specs.History.{History, CutFits, below}
 use Rattle.sled_codec.specs.Snapshots.{SnapshotModel, stable_place}
 use Rattle.sled_core.specs.declared.iterator.Segment.{Segment}
 use Rattle.sled_core.specs.declared.iterator.scan.ScannedRecord.{ScannedRecord}
-use Rattle.sled_core.specs.Recoverable.{ActiveFits, IsRecoverableLog}
-use Rattle.sled_core.specs.Scan.{IsFoundSegment}
+use Rattle.sled_core.specs.inside.Recoverable.{ActiveFits, IsRecoverableLog}
+use Rattle.sled_core.specs.inside.Scan.{IsFoundSegment}
 use Rattle.sled_log.specs.Recovery.{Scanned, IsScanned}
 use Rattle.sled_core.proofs.Tail.Multiples.{apart, put_down}
 use Rattle.sled_core.proofs.Tail.OneReading.{one_scan}

@@ -6,7 +6,7 @@ use Rattle.sled_store.specs.Device.{overwritten, at_rest}
 use Rattle.sled_store.proofs.Segments.Elements.{in_first, in_rest, in_cases, in_nothing}
 use Rattle.sled_core.specs.declared.iterator.Segment.{Segment}
 use Rattle.sled_core.specs.Recoverable.{NoHeaderOfZeros}
-use Rattle.sled_core.specs.Scan.{IsFoundSegment}
+use Rattle.sled_core.specs.inside.Scan.{IsFoundSegment}
 use Rattle.sled_log.specs.WritesBack.{after_zeroing}
 use Rattle.sled_log.proofs.Moments.UnreadSlots.{AreFree, still_free}
 use Rattle.sled_log.proofs.Moments.UnreadZeroed.{none_there, found_old}

@@ -5,7 +5,8 @@ use Rattle.sled_codec.specs.Snapshots.{SnapshotModel, stable_place}
 use Rattle.sled_store.specs.Device.{Synced, NamesSynced, LogState, NamesState, Content, Trace, state_of, content_of, names_synced, LeavesLog}
 use Rattle.sled_store.proofs.LogFile.LogLemmas.{at_rest_left}
 use Rattle.sled_store.proofs.Traces.ScriptLemmas.{ends_in}
-use Rattle.sled_core.specs.Recoverable.{IsRecoverableLog, ReadsOnlyOwn}
+use Rattle.sled_core.specs.inside.Recoverable.{IsRecoverableLog}
+use Rattle.sled_core.specs.Recoverable.{ReadsOnlyOwn}
 use Rattle.sled_core.proofs.Blobs.ItemsStay.{entries_synced}
 use Rattle.sled_log.proofs.Recovers.Readable.{CanRead}
 use Rattle.sled_log.specs.Recovery.{RecoveryResult, Recovered, Recovers}

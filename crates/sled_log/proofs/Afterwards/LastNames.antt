@@ -15,8 +15,9 @@ use Rattle.sled_store.proofs.Crashes.LeavesLemmas.{remove_blob}
 use Rattle.sled_store.proofs.Segments.Elements.{in_first, in_rest}
 use Rattle.sled_store.proofs.Segments.TableEntries.{from_table}
 use Rattle.sled_store.proofs.Traces.ScriptLemmas.{EndsIn}
-use Rattle.sled_core.specs.Recoverable.{AreRecoverableSnapshots, BlobIsBelow, LiesInSegment}
-use Rattle.sled_core.specs.Running.{KeepsEntries}
+use Rattle.sled_core.specs.inside.Recoverable.{AreRecoverableSnapshots, LiesInSegment}
+use Rattle.sled_core.specs.Reading.{BlobIsBelow}
+use Rattle.sled_core.specs.inside.Running.{KeepsEntries}
 use Rattle.sled_core.proofs.Blobs.ItemsStay.{items_removed}
 use Rattle.sled_log.specs.Recovery.{RecoveryResult}
 use Rattle.sled_log.specs.WritesBack.{shredding, zeroing, removing, short_file, snapshot_number_of, publishing_file, publishing, forgetting, writing_back}

@@ -9,8 +9,9 @@ use Rattle.sled_codec.specs.Snapshots.{stable_place}
 use Rattle.sled_store.specs.Device.{Synced, NamesSynced, LogState, Content, State, Trace, state_of, content_of, at_rest}
 use Rattle.sled_core.specs.declared.iterator.Segment.{Segment}
 use Rattle.sled_core.specs.Good.{ReadsAt, IsGood}
-use Rattle.sled_core.specs.Recoverable.{ActiveFits, NoHeaderOfZeros, StandsInline, HasItem, AreRecoverableBlobs}
-use Rattle.sled_core.specs.Scan.{IsFoundSegment}
+use Rattle.sled_core.specs.inside.Recoverable.{ActiveFits, StandsInline, HasItem, AreRecoverableBlobs}
+use Rattle.sled_core.specs.Recoverable.{NoHeaderOfZeros}
+use Rattle.sled_core.specs.inside.Scan.{IsFoundSegment}
 use Rattle.sled_log.proofs.Recovers.Readable.{CanRead}
 use Rattle.sled_log.specs.Recovery.{RecoveryResult, Recovered, Recovers}
 use Rattle.sled_log.specs.WritesBack.{after_shredding, after_zeroing, forgotten_from, IsWrittenBack}

@@ -13,8 +13,9 @@ use Rattle.sled_store.specs.Device.{BlobRemoved, Event, NamesSynced, SnapshotFil
 use Rattle.sled_store.specs.Readers.{ReadsTo}
 use Rattle.sled_store.proofs.Segments.Elements.{in_first, in_rest}
 use Rattle.sled_store.proofs.Traces.ScriptLemmas.{EndsIn, ends_in}
-use Rattle.sled_core.specs.OwnLog.{ReadsPlaced}
-use Rattle.sled_core.specs.Recoverable.{ActiveFits, IsRecoverableLog, NoHeaderOfZeros, ReadsOnlyOwn}
+use Rattle.sled_core.specs.inside.OwnLog.{ReadsPlaced}
+use Rattle.sled_core.specs.inside.Recoverable.{ActiveFits, IsRecoverableLog}
+use Rattle.sled_core.specs.Recoverable.{NoHeaderOfZeros, ReadsOnlyOwn}
 use Rattle.sled_core.specs.Scan.{IsPath, IsScan}
 use Rattle.sled_core.specs.declared.iterator.scan.ScannedRecord.{ScannedRecord}
 use Rattle.sled_core.proofs.Tail.LogFileLemmas.{file_grows}

@@ -7,7 +7,8 @@ use Rattle.sled_store.proofs.LogFile.OverwrittenLemmas.{length-overwritten}
 use Rattle.sled_store.proofs.Segments.Elements.{in_first, in_rest, in_cases, in_nothing}
 use Rattle.sled_core.specs.declared.iterator.Segment.{Segment}
 use Rattle.sled_core.specs.declared.iterator.scan.ScannedRecord.{ScannedRecord}
-use Rattle.sled_core.specs.Scan.{IsFoundSegment, IsMisplaced, IsPath}
+use Rattle.sled_core.specs.inside.Scan.{IsFoundSegment, IsMisplaced}
+use Rattle.sled_core.specs.Scan.{IsPath}
 use Rattle.sled_core.proofs.Read.FoundLemmas.{found_there}
 use Rattle.sled_core.proofs.Tail.Multiples.{put_down, next_multiple, one_multiple}
 use Rattle.sled_core.proofs.Tail.OneTail.{Rises, rises_of, place_aligned}

@@ -9,7 +9,8 @@ use Rattle.sled_store.specs.Device.{overwritten, at_rest}
 use Rattle.sled_store.proofs.LogFile.OverwrittenLemmas.{length-overwritten, overwritten-part}
 use Rattle.sled_store.proofs.Segments.Elements.{in_first, in_rest, in_cases, in_nothing}
 use Rattle.sled_core.specs.declared.iterator.Segment.{Segment}
-use Rattle.sled_core.specs.Scan.{IsFoundSegment, IsMisplaced, IsScan}
+use Rattle.sled_core.specs.inside.Scan.{IsFoundSegment, IsMisplaced}
+use Rattle.sled_core.specs.Scan.{IsScan}
 use Rattle.sled_core.proofs.Read.FoundLemmas.{found_there}
 use Rattle.sled_core.proofs.Start.ZeroHeader.{zero_header}
 use Rattle.sled_log.specs.Recovery.{Scanned, IsScanned}

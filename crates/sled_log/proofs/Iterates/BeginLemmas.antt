@@ -9,7 +9,7 @@ use Rattle.sled_core.specs.declared.iterator.rest.Rest.{Rest}
 use Rattle.sled_log.specs.Recovery.{begun_below, tail_end}
 use Rattle.sled_log.specs.IteratorBegins.{IsBegun, Begins}
 use Rattle.sled_core.specs.Iterates.{Item, Damage, GivesOf, IsIteration}
-use Rattle.sled_core.specs.Ahead.{IsLeft, LeftBehind}
+use Rattle.sled_core.specs.inside.Ahead.{IsLeft, LeftBehind}
 use Rattle.sled_core.proofs.Iterates.LeftLemmas.{left_spent}
 use Rattle.sled_log.proofs.Iterates.FoundLemmas.{begun_in, none_begun}
 

@@ -9,8 +9,9 @@ use Rattle.sled_codec.specs.Pointers.{lid_of}
 use Rattle.sled_codec.specs.Record.{IsHeader}
 use Rattle.sled_store.specs.Device.{LeavesLog}
 use Rattle.sled_core.specs.declared.iterator.Segment.{Segment}
-use Rattle.sled_core.specs.Recoverable.{StandsInline, IsReachedIn, IsSegmentOf}
-use Rattle.sled_core.specs.Scan.{IsFoundSegment, IsPath}
+use Rattle.sled_core.specs.inside.Recoverable.{StandsInline, IsReachedIn, IsSegmentOf}
+use Rattle.sled_core.specs.inside.Scan.{IsFoundSegment}
+use Rattle.sled_core.specs.Scan.{IsPath}
 use Rattle.sled_core.proofs.Read.FoundLemmas.{found_there}
 use Rattle.sled_core.proofs.Read.ScanLemmas.{met_fits, aligned_offset}
 use Rattle.sled_core.proofs.Reached.KeptStands.{read_on_kept}

@@ -15,7 +15,8 @@ use Rattle.sled_store.proofs.Crashes.LeavesLemmas.{remove_blob}
 use Rattle.sled_store.proofs.Crashes.SettledLemmas.{name_settled_left}
 use Rattle.sled_store.proofs.Names.NamesLemmas.{after_unnamed}
 use Rattle.sled_store.proofs.Segments.Elements.{in_first, in_rest}
-use Rattle.sled_core.specs.Recoverable.{NoHeaderOfZeros, LiesInSegment}
+use Rattle.sled_core.specs.Recoverable.{NoHeaderOfZeros}
+use Rattle.sled_core.specs.inside.Recoverable.{LiesInSegment}
 use Rattle.sled_log.specs.Orderly.{IsOrderly}
 use Rattle.sled_log.specs.WritesBack.{after_zeroing, forgetting}
 use Rattle.sled_log.proofs.Moments.BlobsRemoved.{IsAbove, AreRemovedFrom, blobs_removed}

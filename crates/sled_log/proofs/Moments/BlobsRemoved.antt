@@ -7,7 +7,8 @@ use Rattle.sled_codec.specs.History.{Message, History}
 use Rattle.sled_store.specs.Blobs.{IsDamagedFor}
 use Rattle.sled_store.proofs.Segments.TableEntries.{from_table}
 use Rattle.sled_core.specs.Good.{HasOwnBlob}
-use Rattle.sled_core.specs.Recoverable.{BlobIsBelow, LiesInSegment, HasItem, PassesIfThere, AreRecoverableBlobs}
+use Rattle.sled_core.specs.Reading.{BlobIsBelow}
+use Rattle.sled_core.specs.inside.Recoverable.{LiesInSegment, HasItem, PassesIfThere, AreRecoverableBlobs}
 
 -- a place lies at or above a cut; where that is 0 no message lies below it, so that no place has to
 abbrev pub IsAbove : ℕ → ℤ → Type 0

@@ -9,7 +9,7 @@ use Rattle.sled_core.specs.declared.iterator.Segment.{Segment}
 use Rattle.sled_core.specs.declared.iterator.scan.ScanEnd.{ScanEnd}
 use Rattle.sled_core.specs.declared.iterator.scan.ScanEnd.TheVariants.{Full, Capped, Broken}
 use Rattle.sled_core.specs.Scan.{IsEnd}
-use Rattle.sled_core.specs.Recoverable.{ActiveFits, IsRecoverableLog, scanned_below, cut_from}
+use Rattle.sled_core.specs.inside.Recoverable.{ActiveFits, IsRecoverableLog, scanned_below, cut_from}
 use Rattle.sled_log.specs.Recovery.{Scanned, GoesOn, IsTail, tail_begins, tail_end, is_filled, least_place}
 use Rattle.sled_log.proofs.Recovers.LeftOut.{no_end}
 use Rattle.sled_core.proofs.Tail.OneTail.{in_below}

@@ -6,7 +6,7 @@ use Rattle.sled_codec.specs.Snapshots.{SnapshotModel}
 use Rattle.sled_store.proofs.Segments.Elements.{in_filter, from_filter}
 use Rattle.sled_core.specs.declared.iterator.Segment.{Segment}
 use Rattle.sled_core.specs.declared.iterator.scan.ScannedRecord.{ScannedRecord}
-use Rattle.sled_core.specs.Recoverable.{NoMessageBegins, NoBatchBegins, NoBatchEnds, IsOfHistory, IsReadOn, IsSegmentOf, IsMarkOf, IsMarkBelow, IsPlacedBatch, IsRecoverableLog, AreRecoverableBlobs}
+use Rattle.sled_core.specs.inside.Recoverable.{NoMessageBegins, NoBatchBegins, NoBatchEnds, IsOfHistory, IsReadOn, IsSegmentOf, IsMarkOf, IsMarkBelow, IsPlacedBatch, IsRecoverableLog, AreRecoverableBlobs}
 use Rattle.sled_core.specs.Scan.{IsScan}
 use Rattle.sled_core.proofs.Reached.ReachedEntries.{path_to}
 use Rattle.sled_core.proofs.Reached.ReadOn.{reads_on_in}

@@ -13,7 +13,8 @@ use Rattle.sled_store.proofs.Crashes.LeavesLemmas.{Asked, write, before_leaves, 
 use Rattle.sled_store.proofs.LogFile.LogLemmas.{at_rest_left}
 use Rattle.sled_store.proofs.Segments.Elements.{in_first, in_rest}
 use Rattle.sled_store.proofs.Traces.ScriptLemmas.{along_first}
-use Rattle.sled_core.specs.Recoverable.{ActiveFits, NoForeign, NoHeaderOfZeros, AreRecoverableSnapshots, IsRecoverableLog, AreRecoverableBlobs}
+use Rattle.sled_core.specs.inside.Recoverable.{ActiveFits, AreRecoverableSnapshots, IsRecoverableLog, AreRecoverableBlobs}
+use Rattle.sled_core.specs.Recoverable.{NoForeign, NoHeaderOfZeros}
 use Rattle.sled_core.proofs.Torn.TornLemmas.{after_write}
 use Rattle.sled_log.specs.Orderly.{IsOrderly}
 pub use Rattle.sled_log.proofs.Recovers.Readable.{LeavesReadable}

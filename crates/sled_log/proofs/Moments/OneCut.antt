@@ -13,7 +13,8 @@ use Rattle.sled_store.proofs.Crashes.SettledLemmas.{read_left}
 use Rattle.sled_store.proofs.Segments.Elements.{in_nothing}
 use Rattle.sled_core.specs.declared.iterator.Segment.{Segment}
 use Rattle.sled_core.specs.OwnNames.{StayOwn}
-use Rattle.sled_core.specs.Recoverable.{ReadsOnlyOwn, AreRecoverableBlobs, IsRecoverableLog, cut_from}
+use Rattle.sled_core.specs.Recoverable.{ReadsOnlyOwn}
+use Rattle.sled_core.specs.inside.Recoverable.{AreRecoverableBlobs, IsRecoverableLog, cut_from}
 use Rattle.sled_log.proofs.Recovers.Readable.{CanRead, LeavesReadable}
 use Rattle.sled_log.specs.Recovery.{Scanned, AreScanned, IsTail, tail_begins, tail_end, least_place}
 use Rattle.sled_log.proofs.Moments.LogAlong.{BlobsStand}

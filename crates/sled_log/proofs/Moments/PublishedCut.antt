@@ -4,7 +4,7 @@ use Rattle.std.specs.List.{Contains}
 use Rattle.sled_codec.specs.History.{History, CutFits}
 use Rattle.sled_codec.specs.Snapshots.{SnapshotModel, stable_place}
 use Rattle.sled_core.specs.declared.iterator.Segment.{Segment}
-use Rattle.sled_core.specs.Recoverable.{IsRecoverableLog}
+use Rattle.sled_core.specs.inside.Recoverable.{IsRecoverableLog}
 use Rattle.sled_log.specs.Recovery.{Scanned, least_place}
 use Rattle.sled_log.proofs.Moments.FromCut.{EndsAtCut, IsOfCut, from_end, from_inside}
 use Rattle.sled_core.proofs.Tail.SegmentsFrom.{segments_from, scanned_from, of_segments, in_scanned, of_scanned, reads_from, ordering_from}

@@ -17,7 +17,8 @@ use Rattle.sled_store.proofs.LogFile.LogLemmas.{at_rest_left}
 use Rattle.sled_store.proofs.Names.NamesLemmas.{settled_name_synced}
 use Rattle.sled_store.proofs.Segments.Elements.{in_nothing}
 use Rattle.sled_store.proofs.Traces.ScriptLemmas.{along_first, performs_throughout}
-use Rattle.sled_core.specs.Recoverable.{ActiveFits, IsRecoverableLog, ReadsOnlyOwn}
+use Rattle.sled_core.specs.inside.Recoverable.{ActiveFits, IsRecoverableLog}
+use Rattle.sled_core.specs.Recoverable.{ReadsOnlyOwn}
 use Rattle.sled_core.proofs.Blobs.FirmContent.{blobs_read, content_leaves, content_own, firm_content}
 use Rattle.sled_log.proofs.Recovers.Readable.{CanRead}
 use Rattle.sled_log.specs.Recovery.{RecoveryResult, shred_range_of}

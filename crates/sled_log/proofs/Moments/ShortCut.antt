@@ -11,7 +11,7 @@ use Rattle.sled_core.specs.declared.iterator.scan.RecordContent.{RecordContent}
 use Rattle.sled_core.specs.declared.iterator.scan.RecordContent.TheVariants.{Gives, NamesBlob, Skipped, BatchStart}
 use Rattle.sled_core.specs.declared.iterator.scan.ScanEnd.{ScanEnd}
 use Rattle.sled_core.specs.declared.iterator.scan.ScanEnd.TheVariants.{Full, Capped, Broken}
-use Rattle.sled_core.specs.Recoverable.{IsOfHistory, IsSegmentOf, StandsInline, IsRecoverableLog, scanned_below, cut_over, cut_from}
+use Rattle.sled_core.specs.inside.Recoverable.{IsOfHistory, IsSegmentOf, StandsInline, IsRecoverableLog, scanned_below, cut_over, cut_from}
 use Rattle.sled_log.specs.Recovery.{Scanned, IsScanned, IsOrdering, GoesOn, IsTail, AreScanned, tail_begins, tail_end, opens, cut_of, least_place}
 use Rattle.sled_core.proofs.Tail.OneTail.{in_below, from_below, segment_there, reading_there}
 use Rattle.sled_core.proofs.Tail.Multiples.{put_down, next_multiple, lower_multiple}

@@ -6,8 +6,9 @@ use Rattle.sled_codec.specs.Snapshots.{SnapshotModel, stable_place}
 use Rattle.sled_store.specs.Device.{LogState, overwritten, at_rest}
 use Rattle.sled_store.proofs.LogFile.OverwrittenLemmas.{length-overwritten}
 use Rattle.sled_core.specs.declared.iterator.Segment.{Segment}
-use Rattle.sled_core.specs.Recoverable.{ActiveFits, NoHeaderOfZeros, IsRecoverableLog}
-use Rattle.sled_core.specs.Scan.{IsFoundSegment}
+use Rattle.sled_core.specs.inside.Recoverable.{ActiveFits, IsRecoverableLog}
+use Rattle.sled_core.specs.Recoverable.{NoHeaderOfZeros}
+use Rattle.sled_core.specs.inside.Scan.{IsFoundSegment}
 use Rattle.sled_log.specs.Recovery.{shred_range_of}
 use Rattle.sled_log.specs.WritesBack.{after_shredding, after_zeroing}
 use Rattle.sled_log.proofs.Moments.CutSegment.{cut_segment, ends_segment}

@@ -5,8 +5,9 @@ use Rattle.sled_codec.specs.Snapshots.{SnapshotModel, stable_place}
 use Rattle.sled_store.specs.Device.{LeavesLog, overwritten, Placement}
 use Rattle.sled_store.specs.Foreign.{NoForeignLog}
 use Rattle.sled_core.specs.declared.iterator.Segment.{Segment}
-use Rattle.sled_core.specs.Recoverable.{ActiveFits, NoHeaderOfZeros, IsRecoverableLog}
-use Rattle.sled_core.specs.Scan.{IsFoundSegment}
+use Rattle.sled_core.specs.inside.Recoverable.{ActiveFits, IsRecoverableLog}
+use Rattle.sled_core.specs.Recoverable.{NoHeaderOfZeros}
+use Rattle.sled_core.specs.inside.Scan.{IsFoundSegment}
 use Rattle.sled_core.proofs.Torn.TornLemmas.{after_write}
 use Rattle.sled_log.specs.Recovery.{Scanned}
 use Rattle.sled_log.proofs.Moments.CutSegment.{cut_segment, ends_segment}

@@ -17,8 +17,10 @@ use Rattle.sled_core.specs.declared.iterator.Segment.{Segment}
 use Rattle.sled_core.specs.declared.iterator.scan.ScannedRecord.{ScannedRecord}
 use Rattle.sled_core.specs.declared.iterator.scan.ScanEnd.{ScanEnd}
 use Rattle.sled_core.specs.declared.iterator.scan.ScanEnd.TheVariants.{Full, Capped, Broken}
-use Rattle.sled_core.specs.Recoverable.{NoHeaderOfZeros, StandsInline, IsSegmentOf, IsRecoverableLog}
-use Rattle.sled_core.specs.Scan.{IsFoundSegment, IsPath, IsEnd, EndsThere, IsScan}
+use Rattle.sled_core.specs.Recoverable.{NoHeaderOfZeros}
+use Rattle.sled_core.specs.inside.Recoverable.{StandsInline, IsSegmentOf, IsRecoverableLog}
+use Rattle.sled_core.specs.inside.Scan.{IsFoundSegment}
+use Rattle.sled_core.specs.Scan.{IsPath, IsEnd, EndsThere, IsScan}
 use Rattle.sled_core.proofs.Torn.TornLemmas.{after_write}
 use Rattle.sled_core.proofs.Torn.ZeroedSlots.{header_stood, stood, path_stood}
 use Rattle.sled_core.proofs.Torn.ZeroedScans.{ReadsFirst, scan_left, scan_same, comes_on}

@@ -8,8 +8,10 @@ use Rattle.sled_store.proofs.Segments.Elements.{in_filter, from_filter, in_first
 use Rattle.sled_store.proofs.Segments.TableEntries.{from_table}
 use Rattle.sled_core.specs.declared.iterator.Segment.{Segment}
 use Rattle.sled_core.specs.declared.iterator.scan.ScannedRecord.{ScannedRecord}
-use Rattle.sled_core.specs.Recoverable.{NoHeaderOfZeros, IsOfHistory, StandsInline, IsSegmentOf}
-use Rattle.sled_core.specs.Scan.{IsFoundSegment, IsScan}
+use Rattle.sled_core.specs.Recoverable.{NoHeaderOfZeros}
+use Rattle.sled_core.specs.inside.Recoverable.{IsOfHistory, StandsInline, IsSegmentOf}
+use Rattle.sled_core.specs.inside.Scan.{IsFoundSegment}
+use Rattle.sled_core.specs.Scan.{IsScan}
 use Rattle.sled_log.specs.Recovery.{IsOrdering, Scanned, IsScanned, AreScanned}
 use Rattle.sled_core.proofs.Tail.OneTail.{rises_of, segment_there}
 use Rattle.sled_core.proofs.Tail.Rows.{IsWhole, row_ordered, row_whole, met_stand, stand_rises, stop_inside}

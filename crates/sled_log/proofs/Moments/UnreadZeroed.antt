@@ -8,7 +8,7 @@ use Rattle.sled_store.specs.Device.{overwritten}
 use Rattle.sled_store.proofs.LogFile.OverwrittenLemmas.{overwritten-part}
 use Rattle.sled_core.specs.declared.iterator.Segment.{Segment}
 use Rattle.sled_core.specs.Recoverable.{NoHeaderOfZeros}
-use Rattle.sled_core.specs.Scan.{IsFoundSegment}
+use Rattle.sled_core.specs.inside.Scan.{IsFoundSegment}
 use Rattle.sled_core.proofs.Read.FoundLemmas.{found_there}
 use Rattle.sled_log.proofs.Moments.ZerosStand.{bytes_same, slot_beside, lay_before}
 

@@ -11,7 +11,8 @@ use Rattle.sled_store.specs.Script.{Along}
 use Rattle.sled_store.proofs.Crashes.LeavesLemmas.{fill, publish, remove_snapshot}
 use Rattle.sled_store.proofs.LogFile.LogLemmas.{at_rest_left}
 use Rattle.sled_store.proofs.Segments.Elements.{in_first, in_rest}
-use Rattle.sled_core.specs.Recoverable.{ActiveFits, NoHeaderOfZeros, AreRecoverableSnapshots, IsRecoverableLog}
+use Rattle.sled_core.specs.inside.Recoverable.{ActiveFits, AreRecoverableSnapshots, IsRecoverableLog}
+use Rattle.sled_core.specs.Recoverable.{NoHeaderOfZeros}
 use Rattle.sled_log.specs.Orderly.{IsOrderly}
 use Rattle.sled_log.specs.Recovery.{RecoveryResult, shred_range_of}
 use Rattle.sled_log.specs.WritesBack.{shredding, short_file, snapshot_number_of, removing, publishing_file, publishing, forgetting, writing_back}

@@ -19,8 +19,10 @@ use Rattle.sled_core.specs.declared.iterator.Segment.{Segment}
 use Rattle.sled_core.specs.declared.iterator.scan.ScannedRecord.{ScannedRecord}
 use Rattle.sled_core.specs.declared.iterator.scan.ScanEnd.{ScanEnd}
 use Rattle.sled_core.specs.declared.iterator.scan.ScanEnd.TheVariants.{Full, Capped, Broken}
-use Rattle.sled_core.specs.Recoverable.{NoHeaderOfZeros, StandsInline, IsOfHistory, IsReachedIn, IsReadOn, IsSegmentOf, IsRecoverableLog}
-use Rattle.sled_core.specs.Scan.{IsFoundSegment, IsPath, IsEnd, EndsThere, IsScan}
+use Rattle.sled_core.specs.Recoverable.{NoHeaderOfZeros}
+use Rattle.sled_core.specs.inside.Recoverable.{StandsInline, IsOfHistory, IsReachedIn, IsReadOn, IsSegmentOf, IsRecoverableLog}
+use Rattle.sled_core.specs.inside.Scan.{IsFoundSegment}
+use Rattle.sled_core.specs.Scan.{IsPath, IsEnd, EndsThere, IsScan}
 use Rattle.sled_core.proofs.Read.ScanLemmas.{met_fits, aligned_offset}
 use Rattle.sled_core.proofs.Reached.KeptStands.{read_on_kept}
 use Rattle.sled_core.proofs.Torn.TornLemmas.{after_write}

@@ -15,8 +15,9 @@ use Rattle.sled_core.specs.declared.iterator.Segment.{Segment}
 use Rattle.sled_core.specs.declared.iterator.scan.ScannedRecord.{ScannedRecord}
 use Rattle.sled_core.specs.declared.iterator.scan.ScanEnd.{ScanEnd}
 use Rattle.sled_core.specs.declared.iterator.scan.ScanEnd.TheVariants.{Broken}
-use Rattle.sled_core.specs.Recoverable.{StandsInline, IsOfHistory, IsSegmentOf, IsRecoverableLog}
-use Rattle.sled_core.specs.Scan.{IsFoundSegment, IsPath, IsEnd, EndsThere, IsScan}
+use Rattle.sled_core.specs.inside.Recoverable.{StandsInline, IsOfHistory, IsSegmentOf, IsRecoverableLog}
+use Rattle.sled_core.specs.inside.Scan.{IsFoundSegment}
+use Rattle.sled_core.specs.Scan.{IsPath, IsEnd, EndsThere, IsScan}
 use Rattle.sled_core.proofs.Read.FoundLemmas.{found_there}
 use Rattle.sled_core.proofs.Read.PathLemmas.{zeros_empty}
 use Rattle.sled_core.proofs.Torn.TornLemmas.{after_write}

@@ -8,7 +8,7 @@ use Rattle.sled_codec.specs.Places.{part}
 use Rattle.sled_codec.specs.Record.{IsHeader}
 use Rattle.sled_codec.proofs.Segments.{one_header}
 use Rattle.sled_core.specs.declared.iterator.Segment.{Segment}
-use Rattle.sled_core.specs.Scan.{IsFoundSegment}
+use Rattle.sled_core.specs.inside.Scan.{IsFoundSegment}
 use Rattle.sled_core.proofs.Read.ScanLemmas.{aligned_offset}
 use Rattle.sled_core.proofs.Read.FoundLemmas.{found_there, pos_injective}
 use Rattle.sled_log.specs.Ordering.{AreCollected}

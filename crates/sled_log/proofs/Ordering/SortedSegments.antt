@@ -10,7 +10,7 @@ use Rattle.std.proofs.lemmas.List.Elements.{Contains-get_or}
 use Rattle.std.proofs.lemmas.List.Sorted.{Contains-permutation, IsPermutation-sym}
 use Rattle.std.proofs.lemmas.Map.Keys.{IsDistinct-from_apart, IsDistinct-IsPermutation, apart_from_distinct}
 use Rattle.sled_core.specs.declared.iterator.Segment.{Segment}
-use Rattle.sled_core.specs.Scan.{IsFoundSegment, IsMisplaced}
+use Rattle.sled_core.specs.inside.Scan.{IsFoundSegment, IsMisplaced}
 use Rattle.sled_core.proofs.Read.FoundLemmas.{found_there}
 use Rattle.sled_log.specs.Recovery.{IsOrdering, IsUnordered, is_ascending}
 use Rattle.sled_log.specs.Ordering.{AreCollected, ShareAPlace}

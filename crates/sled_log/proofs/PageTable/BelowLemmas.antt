@@ -5,7 +5,7 @@ use Rattle.std.proofs.lemmas.Bool.{le-ltb}
 use Rattle.std.proofs.lemmas.List.Elements.{All-tail}
 use Rattle.sled_codec.specs.History.{Message, History, CutFits, below}
 use Rattle.sled_codec.specs.Snapshots.{stable_place}
-use Rattle.sled_core.specs.Recoverable.{IsTableFile}
+use Rattle.sled_core.specs.inside.Recoverable.{IsTableFile}
 use Rattle.sled_store.proofs.Histories.Ascending.{from_filter}
 use Rattle.sled_log.proofs.PageTable.TableCuts.{table_below_place}
 

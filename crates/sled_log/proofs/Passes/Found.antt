@@ -3,7 +3,7 @@ use Rattle.std.proofs.Common.{◌+◌, ◌^◌, ◌<◌, ℕ, List, length, arit
 use Rattle.std.specs.List.{Contains}
 use Rattle.std.proofs.lemmas.Bool.{cases_lt}
 use Rattle.sled_core.specs.declared.iterator.Segment.{Segment}
-use Rattle.sled_core.specs.Scan.{IsFoundSegment, IsMisplaced}
+use Rattle.sled_core.specs.inside.Scan.{IsFoundSegment, IsMisplaced}
 use Rattle.sled_core.proofs.Read.FoundLemmas.{found_there}
 use Rattle.sled_log.specs.Recovery.{IsOrdering}
 use Rattle.sled_log.specs.Passes.{CanBeRead}

@@ -4,7 +4,7 @@ use Rattle.std.specs.List.{Contains}
 use Rattle.std.proofs.lemmas.Bool.{cases_lt}
 use Rattle.sled_codec.specs.History.{Message, Batch, History, CutFits, table}
 use Rattle.sled_codec.specs.Snapshots.{SnapshotModel, stable_place}
-use Rattle.sled_core.specs.Recoverable.{ActiveFits, IsRecoverableLog, IsSegmentOf, StandsInline}
+use Rattle.sled_core.specs.inside.Recoverable.{ActiveFits, IsRecoverableLog, IsSegmentOf, StandsInline}
 use Rattle.sled_log.specs.Recovery.{Scanned, least_place}
 use Rattle.sled_core.proofs.Tail.Multiples.{put_down}
 use Rattle.sled_core.proofs.Tail.Tails.{further}

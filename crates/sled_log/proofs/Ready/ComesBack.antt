@@ -9,7 +9,8 @@ use Rattle.sled_core.specs.declared.iobuf.SegmentPosition.{SegmentPosition}
 use Rattle.sled_core.specs.Fits.{EndBelow, CloseBelow, IsKept}
 use Rattle.sled_core.specs.Logged.{logged}
 use Rattle.sled_core.specs.Recoverable.{LeavesRecoverable, RecoverableIfOwn}
-use Rattle.sled_core.specs.Running.{Ready, end_below}
+use Rattle.sled_core.specs.invariants.Running.{Ready}
+use Rattle.sled_core.specs.Running.{end_below}
 use Rattle.sled_core.proofs.Holds.LastEnds.{batches_last, messages_last}
 use Rattle.sled_core.proofs.Logged.Messages.{logged_apart, logged_below}
 use Rattle.sled_log.proofs.Recovers.Readable.{LeavesReadable}

@@ -2,7 +2,8 @@
 use Rattle.std.proofs.Common.{ℕ, List}
 use Rattle.sled_codec.specs.History.{History}
 use Rattle.sled_store.specs.Device.{Content, State}
-use Rattle.sled_core.specs.Recoverable.{Recoverable, LeavesRecoverable}
+use Rattle.sled_core.specs.invariants.Recoverable.{Recoverable}
+use Rattle.sled_core.specs.Recoverable.{LeavesRecoverable}
 use Rattle.sled_log.proofs.Recovers.Readable.{CanRead, LeavesReadable}
 use Rattle.sled_log.specs.Orderly.{IsOrderly}
 

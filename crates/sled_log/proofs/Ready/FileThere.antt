@@ -14,7 +14,7 @@ use Rattle.sled_store.proofs.Histories.Ascending.{Ascends}
 use Rattle.sled_core.specs.declared.iterator.Segment.{Segment}
 use Rattle.sled_core.specs.LogFile.{HasHeader, StandsHere}
 use Rattle.sled_core.specs.Ready.{StandsUsed, HaveRecords, HasActive, HasNoActive, HasFile, active_site}
-use Rattle.sled_core.specs.Recoverable.{ActiveFits, StandsInline, IsReachedIn, IsRecoverableLog}
+use Rattle.sled_core.specs.inside.Recoverable.{ActiveFits, StandsInline, IsReachedIn, IsRecoverableLog}
 use Rattle.sled_core.specs.Tail.{Scanned, IsScanned}
 use Rattle.sled_core.proofs.Read.ScanLemmas.{aligned_offset}
 use Rattle.sled_core.proofs.Reached.ReachedEntries.{reached_of}

@@ -11,9 +11,11 @@ use Rattle.sled_store.proofs.Histories.Ascending.{apart_ascends, all_from_in}
 use Rattle.sled_core.specs.Fits.{EndBelow, CloseBelow}
 use Rattle.sled_core.specs.Logged.{logged}
 use Rattle.sled_core.specs.Ready.{HasFile, IsReady}
-use Rattle.sled_core.specs.Running.{BlobsFit, KeepsEntries, NamesFit, IsReadyFor, Ready}
-use Rattle.sled_core.specs.Reached.{StandsActive}
-use Rattle.sled_core.specs.Recoverable.{NoHeaderOfZeros, IsRecoverableLog, AreRecoverableSnapshots, ReadsOnlyOwn}
+use Rattle.sled_core.specs.inside.Running.{BlobsFit, KeepsEntries, NamesFit, IsReadyFor}
+use Rattle.sled_core.specs.invariants.Running.{Ready}
+use Rattle.sled_core.specs.inside.Reached.{StandsActive}
+use Rattle.sled_core.specs.Recoverable.{NoHeaderOfZeros, ReadsOnlyOwn}
+use Rattle.sled_core.specs.inside.Recoverable.{IsRecoverableLog, AreRecoverableSnapshots}
 use Rattle.sled_log.proofs.Recovers.Readable.{CanRead, LeavesReadable}
 use Rattle.sled_log.specs.Recovery.{RecoveryResult, Recovered, Recovers}
 use Rattle.sled_log.specs.Restores.{BeginsAgain}

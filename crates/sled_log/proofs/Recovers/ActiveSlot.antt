@@ -5,7 +5,7 @@ use Rattle.std.proofs.lemmas.Bool.{ltb-false}
 use Rattle.sled_codec.specs.History.{History}
 use Rattle.sled_codec.specs.Snapshots.{SnapshotModel, stable_place}
 use Rattle.sled_core.specs.declared.iterator.Segment.{Segment}
-use Rattle.sled_core.specs.Recoverable.{ActiveFits, IsRecoverableLog, scanned_below}
+use Rattle.sled_core.specs.inside.Recoverable.{ActiveFits, IsRecoverableLog, scanned_below}
 use Rattle.sled_core.proofs.Read.ScanLemmas.{aligned_offset}
 use Rattle.sled_log.specs.Recovery.{Scanned, tail_end, is_filled, cut_of}
 use Rattle.sled_log.proofs.Recovers.LeftOut.{none_begins}

@@ -7,7 +7,7 @@ use Rattle.sled_codec.specs.Snapshots.{SnapshotModel, stable_place}
 use Rattle.sled_core.specs.declared.iterator.Segment.{Segment}
 use Rattle.sled_core.specs.declared.iterator.scan.ScannedRecord.{ScannedRecord}
 use Rattle.sled_core.specs.declared.iterator.scan.RecordContent.TheVariants.{BatchStart}
-use Rattle.sled_core.specs.Recoverable.{BeginsInSegment, IsRecoverableLog, scanned_below}
+use Rattle.sled_core.specs.inside.Recoverable.{BeginsInSegment, IsRecoverableLog, scanned_below}
 use Rattle.sled_log.specs.Recovery.{Scanned, cut_of, tail_begins, tail_end, opens, open_at, least_place}
 use Rattle.sled_store.proofs.Histories.Ascending.{Ascends}
 use Rattle.sled_core.proofs.Tail.Covered.{PassEnds, IsCovered, covered}

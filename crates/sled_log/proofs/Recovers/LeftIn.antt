@@ -6,7 +6,7 @@ use Rattle.sled_codec.specs.History.{History}
 use Rattle.sled_codec.specs.Snapshots.{SnapshotModel}
 use Rattle.sled_store.proofs.Segments.Elements.{in_first, in_rest, in_cases, in_nothing}
 use Rattle.sled_core.specs.declared.iterator.Segment.{Segment}
-use Rattle.sled_core.specs.Recoverable.{IsRecoverableLog, AreRecoverableBlobs, scanned_below}
+use Rattle.sled_core.specs.inside.Recoverable.{IsRecoverableLog, AreRecoverableBlobs, scanned_below}
 use Rattle.sled_log.specs.Recovery.{Scanned, tail_end, begun_below, StopsOrGoesOn, AreReplayed, open_at, stops_in, slots_of}
 use Rattle.sled_log.proofs.Recovers.ActiveSlot.{behind_header}
 use Rattle.sled_log.proofs.Recovers.LeftOut.{tail_empty}

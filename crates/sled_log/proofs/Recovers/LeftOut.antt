@@ -7,7 +7,7 @@ use Rattle.sled_codec.specs.History.{History}
 use Rattle.sled_codec.specs.Snapshots.{SnapshotModel, stable_place}
 use Rattle.sled_store.proofs.Segments.Elements.{in_first, in_rest, in_cases, in_nothing}
 use Rattle.sled_core.specs.declared.iterator.Segment.{Segment}
-use Rattle.sled_core.specs.Recoverable.{IsRecoverableLog, AreRecoverableBlobs, scanned_below}
+use Rattle.sled_core.specs.inside.Recoverable.{IsRecoverableLog, AreRecoverableBlobs, scanned_below}
 use Rattle.sled_log.specs.Recovery.{Scanned, IsTail, tail_begins, tail_end, begun_below, AreScanned, IsReplayed, StopsOrGoesOn, AreReplayed, open_at, stops_in, slots_of, least_place}
 use Rattle.sled_core.proofs.Tail.OneTail.{Rises, rises_of, place_aligned, in_below}
 use Rattle.sled_log.proofs.Recovers.OnePass.{begins_alike}

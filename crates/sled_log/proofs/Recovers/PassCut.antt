@@ -8,7 +8,7 @@ use Rattle.sled_core.specs.declared.iterator.Segment.{Segment}
 use Rattle.sled_core.specs.declared.iterator.scan.ScannedRecord.{ScannedRecord}
 use Rattle.sled_core.specs.declared.iterator.scan.ScanEnd.TheVariants.{Broken}
 use Rattle.sled_core.specs.Scan.{IsScan}
-use Rattle.sled_core.specs.Recoverable.{IsRecoverableLog, IsSegmentOf, MeetsMessage, scanned_below, cut_over, cut_from}
+use Rattle.sled_core.specs.inside.Recoverable.{IsRecoverableLog, IsSegmentOf, MeetsMessage, scanned_below, cut_over, cut_from}
 use Rattle.sled_log.specs.Recovery.{Scanned, IsScanned, IsTail, tail_begins, tail_end, open_at, passed_in, stops_in, cut_of, least_place}
 use Rattle.sled_core.proofs.Tail.Multiples.{apart}
 use Rattle.sled_core.proofs.Tail.OneReading.{met_there}

@@ -14,7 +14,7 @@ use Rattle.sled_codec.specs.History.{Message, History}
 use Rattle.sled_core.specs.declared.iterator.scan.ScannedRecord.{ScannedRecord}
 use Rattle.sled_core.specs.declared.iterator.scan.RecordContent.{RecordContent}
 use Rattle.sled_core.specs.declared.iterator.scan.RecordContent.TheVariants.{Gives, NamesBlob, Skipped, BatchStart}
-use Rattle.sled_core.specs.Recoverable.{HasItem, NamesBlobOf, MeetsMessage, IsOfHistory}
+use Rattle.sled_core.specs.inside.Recoverable.{HasItem, NamesBlobOf, MeetsMessage, IsOfHistory}
 use Rattle.sled_core.proofs.Read.PathLemmas.{back_if}
 use Rattle.sled_store.proofs.Segments.Elements.{in_first, in_rest, in_cases, in_nothing, all_from_in}
 use Rattle.sled_log.specs.Recovery.{Applied, applied, applied_of, given, resolved, with_blob}

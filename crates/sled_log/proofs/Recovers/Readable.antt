@@ -4,7 +4,8 @@ use Rattle.sled_codec.specs.History.{History}
 use Rattle.sled_codec.specs.Snapshots.{SnapshotModel}
 use Rattle.sled_store.specs.Device.{Content, State}
 use Rattle.sled_store.specs.Moments.{AllLeft}
-use Rattle.sled_core.specs.Recoverable.{AreRecoverableSnapshots, IsRecoverableLog, AreRecoverableBlobs, NoForeign}
+use Rattle.sled_core.specs.inside.Recoverable.{AreRecoverableSnapshots, IsRecoverableLog, AreRecoverableBlobs}
+use Rattle.sled_core.specs.Recoverable.{NoForeign}
 use Rattle.sled_log.specs.Orderly.{IsOrderly}
 
 -- A content can be read back for an orderly history: its snapshots, its log file and its blobs are recoverable, with one cut.

@@ -8,7 +8,8 @@ use Rattle.sled_codec.specs.PageTables.{IsTable}
 use Rattle.sled_codec.specs.Snapshots.{SnapshotModel, stable_place}
 use Rattle.sled_store.specs.Device.{Content}
 use Rattle.sled_core.specs.Good.{ReadsAt, IsGood}
-use Rattle.sled_core.specs.Recoverable.{AreRecoverableSnapshots, IsRecoverableLog, AreRecoverableBlobs, StandsInline, HasItem, scanned_below, Recoverable}
+use Rattle.sled_core.specs.inside.Recoverable.{AreRecoverableSnapshots, IsRecoverableLog, AreRecoverableBlobs, StandsInline, HasItem, scanned_below}
+use Rattle.sled_core.specs.invariants.Recoverable.{Recoverable}
 use Rattle.sled_log.proofs.Recovers.Readable.{CanRead}
 use Rattle.sled_log.specs.Orderly.{IsOrderly}
 use Rattle.sled_log.specs.Recovery.{Scanned, Applied, Outcome, Damaged, Recovered, RecoveryResult, shred_range_of, is_beyond, begun_below, AreReplayed, tail_end, concluded, unchanged, ContinuesFrom, Recovers}

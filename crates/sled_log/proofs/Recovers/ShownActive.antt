@@ -3,7 +3,7 @@ use Rattle.std.proofs.Common.{◌≡◌, ◌≤◌, ◌%◌, ℕ, List, Option, 
 use Rattle.sled_codec.specs.History.{History}
 use Rattle.sled_codec.specs.Snapshots.{stable_place}
 use Rattle.sled_store.specs.Device.{Content}
-use Rattle.sled_core.specs.Recoverable.{ActiveFits}
+use Rattle.sled_core.specs.inside.Recoverable.{ActiveFits}
 use Rattle.sled_log.proofs.Recovers.Readable.{CanRead}
 use Rattle.sled_log.specs.Recovery.{RecoveryResult, Recovered, Recovers}
 use Rattle.sled_log.specs.RunStates.{ShowsActive}

@@ -5,7 +5,7 @@ use Rattle.sled_codec.specs.Coords.{raised}
 use Rattle.sled_codec.specs.History.{Batch, History}
 use Rattle.sled_codec.specs.Snapshots.{SnapshotModel, stable_place}
 use Rattle.sled_core.specs.declared.iterator.Segment.{Segment}
-use Rattle.sled_core.specs.Recoverable.{IsRecoverableLog}
+use Rattle.sled_core.specs.inside.Recoverable.{IsRecoverableLog}
 use Rattle.sled_core.proofs.Read.FoundLemmas.{pos_injective}
 use Rattle.sled_log.specs.Recovery.{greatest_mark, tail_begins, least_place}
 use Rattle.sled_core.proofs.Tail.GreatestMark.{greatest_is, mark_below, mark_above}

@@ -7,7 +7,7 @@ use Rattle.sled_codec.specs.Snapshots.{SnapshotModel, stable_place}
 use Rattle.sled_core.specs.declared.iterator.Segment.{Segment}
 use Rattle.sled_core.specs.declared.iterator.scan.ScannedRecord.{ScannedRecord}
 use Rattle.sled_core.specs.Scan.{IsDamagedIn}
-use Rattle.sled_core.specs.Recoverable.{IsOfHistory, IsRecoverableLog, AreRecoverableBlobs, PassesIfThere, scanned_below, cut_over, cut_from}
+use Rattle.sled_core.specs.inside.Recoverable.{IsOfHistory, IsRecoverableLog, AreRecoverableBlobs, PassesIfThere, scanned_below, cut_over, cut_from}
 use Rattle.sled_store.proofs.Segments.Elements.{in_first, in_rest, in_cases, in_nothing}
 use Rattle.sled_log.specs.Recovery.{IsUnordered, Scanned, IsScanned, tail_begins, tail_end, begun_below, opens, before_open, open_at, stops_in, cut_of, least_place, AreReplayed, HasBadBlob, MeetsBadBlob, resolved, resolved_scan, given, passed_in, Outcome, Recovered, concluded, unchanged, outcome_of, IsDamagedTail, IsDamagedPass, PassesOver, slots_of, Passes, Replays, ContinuesFrom}
 use Rattle.sled_log.proofs.Replay.BlobLemmas.{open_resolved, stops_resolved, passed_resolved}

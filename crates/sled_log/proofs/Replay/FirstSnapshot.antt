@@ -5,7 +5,7 @@ use Rattle.sled_codec.specs.PageTables.{IsTable}
 use Rattle.sled_codec.specs.Snapshots.{SnapshotModel, stable_place, empty_model}
 use Rattle.sled_store.specs.SnapshotFiles.{BeginsFrom, IsDamagedSnapshot}
 use Rattle.sled_store.proofs.Names.Trailers.{one_snapshot}
-use Rattle.sled_core.specs.Recoverable.{AreRecoverableSnapshots}
+use Rattle.sled_core.specs.inside.Recoverable.{AreRecoverableSnapshots}
 use Rattle.sled_log.proofs.PageTable.TableCuts.{no_pages_at_first}
 
 -- the table below the place of a snapshot, and that place is a cut

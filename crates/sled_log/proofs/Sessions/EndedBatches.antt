@@ -17,7 +17,7 @@ use Rattle.sled_core.specs.Keeps.{SamePosition}
 use Rattle.sled_core.specs.Manifests.{is_manifest, manifest_page}
 use Rattle.sled_core.specs.OpenBatches.{with_batch}
 use Rattle.sled_core.specs.OpenPlaces.{TakesOut}
-use Rattle.sled_core.specs.Running.{Fits}
+use Rattle.sled_core.specs.invariants.Running.{Fits}
 use Rattle.sled_core.specs.Tickets.{is_manifest_of, place_of}
 use Rattle.sled_core.proofs.PublicLaws.{awaited, end_off}
 use Rattle.sled_log.specs.declared.session.opened.Opened.{Opened}

@@ -25,7 +25,7 @@ use Rattle.sled_core.specs.Keeps.{KeepsSeen, SamePosition}
 use Rattle.sled_core.specs.OpenPlaces.{TakesOut}
 use Rattle.sled_core.specs.OwnBlobs.{AreBeside, IsBeside, PreservesWithout, RemovedAnswers, RemovesBlob, removing}
 use Rattle.sled_core.specs.Manifests.{is_manifest, manifest_page}
-use Rattle.sled_core.specs.Running.{Fits}
+use Rattle.sled_core.specs.invariants.Running.{Fits}
 use Rattle.sled_core.specs.Tickets.{is_manifest_of, own_blob, place_of}
 use Rattle.sled_core.proofs.PublicLaws.{awaited, fits_apart, fits_holds}
 use Rattle.sled_core.proofs.Read.FoundLemmas.{pos_injective}

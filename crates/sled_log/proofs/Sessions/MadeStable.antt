@@ -16,7 +16,8 @@ use Rattle.sled_core.specs.Fits.{FirstWaits, IsUsedUpBelow, buffers_of, current_
 use Rattle.sled_core.specs.Fronts.{CameTo}
 use Rattle.sled_core.proofs.Line.Places.{behind_stable}
 use Rattle.sled_core.specs.Stable.{IsNotReserved, StableAnswers, held_for, stabilizing, target_for}
-use Rattle.sled_core.specs.Waiting.{BufferAt, Span, begun_below, spans}
+use Rattle.sled_core.specs.Waiting.{BufferAt, Span, spans}
+use Rattle.sled_core.specs.inside.Waiting.{begun_below}
 use Rattle.sled_core.proofs.Line.Settles.{stable_up}
 use Rattle.sled_core.proofs.Line.Shows.{buffers_add}
 use Rattle.sled_core.proofs.PublicLaws.{first_waits, shows_empty}

@@ -22,7 +22,8 @@ use Rattle.sled_core.specs.Fits.{Awaits, FitsInline, IsLeastOpen, IsUnchanged, I
 use Rattle.sled_core.specs.Keeps.{KeepsSeen, Preserves}
 use Rattle.sled_core.specs.Manifests.{manifest_page}
 use Rattle.sled_core.specs.Reserves.{StandsBehind}
-use Rattle.sled_core.specs.Running.{Fits, IsStored}
+use Rattle.sled_core.specs.invariants.Running.{Fits}
+use Rattle.sled_core.specs.Running.{IsStored}
 use Rattle.sled_core.specs.Tickets.{own_blob}
 use Rattle.sled_core.proofs.PublicLaws.{can_rewrite, fits_reach, target_above}
 use Rattle.sled_log.specs.declared.session.Phase.TheVariants.{Open}

@@ -22,7 +22,8 @@ use Rattle.sled_store.proofs.Names.NamesLemmas.{settled_name_left, settled_name_
 use Rattle.sled_store.proofs.Traces.ScriptLemmas.{performs_throughout}
 use Rattle.sled_store.proofs.Crashes.SettledLemmas.{settled_left_too}
 use Rattle.sled_core.specs.Fits.{config_of, device_of, segment_size_of}
-use Rattle.sled_core.specs.Recoverable.{NoForeign, Recoverable, LeavesRecoverable}
+use Rattle.sled_core.specs.Recoverable.{NoForeign, LeavesRecoverable}
+use Rattle.sled_core.specs.invariants.Recoverable.{Recoverable}
 use Rattle.sled_core.proofs.Start.FreshReady.{fresh_leaves}
 use Rattle.sled_core.proofs.Holds.RunningLemmas.{fits_leaves}
 use Rattle.sled_core.proofs.Line.OfLog.{fits_reads_own}

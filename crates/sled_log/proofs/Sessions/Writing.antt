@@ -22,10 +22,12 @@ use Rattle.sled_core.specs.Fronts.{CameTo, syncs}
 use Rattle.sled_core.specs.Keeps.{LeavesAbove, Preserves, SamePosition, sealed_for, start_for, start_sealed}
 use Rattle.sled_core.specs.OpenPlaces.{first_between}
 use Rattle.sled_core.specs.Positions.{next_segment_at, is_short}
-use Rattle.sled_core.specs.Running.{Fits, end_below}
+use Rattle.sled_core.specs.invariants.Running.{Fits}
+use Rattle.sled_core.specs.Running.{end_below}
 use Rattle.sled_core.specs.SealedBuffers.{writing}
 use Rattle.sled_core.specs.OpenBatches.{not_whole, stable_below}
-use Rattle.sled_core.specs.Waiting.{BufferAt, BufferStart, HasLength, Span, begun_below, first_held, held_below, is_unheld, not_below, pending_in, spans, unless_held, without_pending, writes_below}
+use Rattle.sled_core.specs.Waiting.{BufferAt, BufferStart, HasLength, Span, first_held, held_below, is_unheld, not_below, pending_in, spans, unless_held, without_pending, writes_below}
+use Rattle.sled_core.specs.inside.Waiting.{begun_below}
 use Rattle.sled_core.specs.WholeBuffers.{IsWholeBuffer}
 use Rattle.sled_core.proofs.Line.Entered.{filled_last}
 use Rattle.sled_core.proofs.Holds.Facts.{current_facts}

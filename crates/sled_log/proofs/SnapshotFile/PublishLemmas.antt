@@ -10,7 +10,7 @@ use Rattle.sled_store.specs.Device.{NamesState, LeavesName, renamed, unnamed, na
 use Rattle.sled_store.specs.Durable.{IsSettledName}
 use Rattle.sled_store.proofs.Names.NamesLemmas.{settled_name_left, settled_name_synced, file_renamed, after_unnamed}
 use Rattle.sled_store.proofs.Crashes.SyncedLemmas.{firm_renamed}
-use Rattle.sled_core.specs.Recoverable.{AreRecoverableSnapshots}
+use Rattle.sled_core.specs.inside.Recoverable.{AreRecoverableSnapshots}
 use Rattle.sled_log.proofs.SnapshotFile.OtherLemmas.{same_name, other_name}
 use Rattle.sled_store.proofs.Names.Trailers.{one_snapshot}
 

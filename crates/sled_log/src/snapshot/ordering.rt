@@ -9,7 +9,7 @@ ghost use Rattle.sled_codec.specs.Record.{IsHeader};
 ghost use Rattle.sled_store.specs.Device.{state_of};
 ghost use Rattle.sled_store.specs.Causes.{DeviceAnswers};
 ghost use Rattle.sled_core.specs.Keeps.{OnlyReads};
-ghost use Rattle.sled_core.specs.Scan.{IsFoundSegment, IsMisplaced};
+ghost use Rattle.sled_core.specs.inside.Scan.{IsFoundSegment, IsMisplaced};
 ghost use Rattle.sled_core.specs.declared.iterator.Segment.{Segment};
 ghost use Rattle.sled_log.specs.Recovery.{IsUnordered, IsOrdering, is_ascending};
 ghost use Rattle.sled_log.specs.Ordering.{AreCollected, ShareAPlace};

@@ -1,6 +1,6 @@
 use Rattle.std.proofs.Common.{◌≡◌, ◌∙◌, ap, refl, get_or, List, ℕ, [], ◌∷◌}
 use Rattle.sled_codec.specs.Written.{written}
-use Rattle.sled_core.specs.Buffers.{ending}
+use Rattle.sled_core.specs.inside.Buffers.{ending}
 use Rattle.sled_core.proofs.iobuf.put_ending.Goals as goal
 
 pub returns-clause-bytes : goal.returns-clause-bytes

@@ -1,6 +1,7 @@
 //! The stable end by its definition, for tests: slow, and with nothing kept from call to call.
 ghost use Rattle.std.specs.Prelude.{◌≡◌, ◌≤ℤ◌, ◌<ℤ◌, ◌+ℤ◌, ℤ, pos, List, [], ◌∷◌, ◌++◌, All, Any, MatchBool, MatchOption};
-ghost use Rattle.sled_core.specs.StableEnds.{LiesIn, IsContiguousEnd, IsHalfSynced, IsLowestHalf, IsStableEnd, HasPlaceBefore};
+ghost use Rattle.sled_core.specs.StableEnds.{LiesIn, IsContiguousEnd, IsHalfSynced, IsStableEnd, HasPlaceBefore};
+ghost use Rattle.sled_core.specs.inside.StableEnds.{IsLowestHalf};
 
 use crate::iobuf::intervals::is_beyond;
 use sled_codec::result::Lsn;

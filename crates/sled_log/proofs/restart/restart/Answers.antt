@@ -15,9 +15,11 @@ use Rattle.sled_core.proofs.Logged.Alike.{table_alike}
 use Rattle.sled_core.proofs.Logged.Messages.{logged_below, logged_twice}
 use Rattle.sled_core.proofs.PublicLaws.{ready_with_less}
 use Rattle.sled_core.specs.Logged.{logged}
-use Rattle.sled_core.specs.Recoverable.{LeavesRecoverable, ReadsOnlyOwn, Recoverable, RecoverableIfOwn}
+use Rattle.sled_core.specs.Recoverable.{LeavesRecoverable, ReadsOnlyOwn, RecoverableIfOwn}
+use Rattle.sled_core.specs.invariants.Recoverable.{Recoverable}
 use Rattle.sled_core.proofs.Blobs.FirmContent.{read_recoverable}
-use Rattle.sled_core.specs.Running.{Ready, end_below}
+use Rattle.sled_core.specs.invariants.Running.{Ready}
+use Rattle.sled_core.specs.Running.{end_below}
 use Rattle.sled_core.proofs.Holds.ReachLemmas.{fits_holds}
 use Rattle.sled_core.proofs.Holds.RunningLemmas.{fits_leaves}
 use Rattle.sled_core.proofs.Line.OfLog.{fits_reads_own}

@@ -4,7 +4,7 @@ use Rattle.sled_codec.specs.Snapshots.{SnapshotModel, model_of, stable_place}
 use Rattle.sled_store.specs.Device.{Content, Trace, state_of, content_of}
 use Rattle.sled_core.specs.Good.{IsGood}
 use Rattle.sled_core.specs.Recoverable.{LeavesRecoverable}
-use Rattle.sled_core.specs.Running.{Ready}
+use Rattle.sled_core.specs.invariants.Running.{Ready}
 use Rattle.sled_core.proofs.Read.ReadingLemmas.{if_ok}
 use Rattle.sled_log.proofs.Afterwards.LeftGood.{good_left}
 use Rattle.sled_log.proofs.Moments.RecoveryAlong.{can_read}

@@ -4,8 +4,9 @@ use Rattle.std.specs.List.{All}
 use Rattle.std.proofs.lemmas.List.{drop-append-le}
 use Rattle.sled_store.specs.Words.{Fields}
 use Rattle.sled_core.specs.declared.iobuf.Reserved.{Reserved}
-use Rattle.sled_core.specs.Buffers.{IsChain, IsHeaded, open_in}
-use Rattle.sled_core.specs.SealedBuffers.{AreSealed}
+use Rattle.sled_core.specs.inside.Buffers.{IsChain, IsHeaded}
+use Rattle.sled_core.specs.Buffers.{open_in}
+use Rattle.sled_core.specs.inside.SealedBuffers.{AreSealed}
 use Rattle.sled_core.proofs.Reserve.OpenCounts.{open_more}
 use Rattle.sled_core.proofs.Reserve.Ranges.{all_joined, chain-append}
 use Rattle.sled_core.proofs.Sealed.Ended.{sealed_more}

@@ -9,8 +9,10 @@ use Rattle.sled_core.specs.declared.iobuf.ReservationState.TheVariants.{Open}
 use Rattle.sled_store.specs.Words.{Fields}
 use Rattle.sled_core.specs.declared.iobuf.Reserved.{Reserved}
 use Rattle.sled_core.specs.declared.iobuf.Sealed.{Sealed}
-use Rattle.sled_core.specs.Buffers.{IsChain, IsHeaded, ended, ending, open_in, open_state}
-use Rattle.sled_core.specs.SealedBuffers.{AreSealed, FirstUnwritten, HasOpenAt, one_ended, sealed_count, sealed_end}
+use Rattle.sled_core.specs.inside.Buffers.{IsChain, IsHeaded, ended, ending}
+use Rattle.sled_core.specs.Buffers.{open_in, open_state}
+use Rattle.sled_core.specs.inside.SealedBuffers.{AreSealed, FirstUnwritten, HasOpenAt, one_ended}
+use Rattle.sled_core.specs.SealedBuffers.{sealed_count, sealed_end}
 use Rattle.sled_core.proofs.Reserve.OpenCounts.{open_fewer}
 use Rattle.sled_core.proofs.Reserve.Parts.{get_there, there_is}
 use Rattle.sled_core.proofs.Reserve.Ranges.{at_there}

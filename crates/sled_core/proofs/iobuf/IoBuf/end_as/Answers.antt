@@ -5,7 +5,8 @@ use Rattle.sled_codec.specs.Places.{part}
 use Rattle.sled_codec.specs.Written.{written}
 use Rattle.sled_core.specs.declared.iobuf.Reserved.{Reserved}
 use Rattle.std.specs.List.{All}
-use Rattle.sled_core.specs.Buffers.{IsChain, IsHeaded, body_in, ending, ending_as}
+use Rattle.sled_core.specs.inside.Buffers.{IsChain, IsHeaded, ending, ending_as}
+use Rattle.sled_core.specs.Buffers.{body_in}
 use Rattle.sled_core.proofs.Reserve.CompletesLemmas.{summed_around}
 use Rattle.sled_core.proofs.Reserve.Parts.{get_there}
 use Rattle.sled_core.proofs.Reserve.Ranges.{at_there, written-over}

@@ -3,7 +3,7 @@ use Rattle.std.specs.List.{All}
 use Rattle.std.specs.List.Sorted.{IsPartitionPoint}
 use Rattle.sled_core.specs.declared.iobuf.Reserved.{Reserved}
 use Rattle.sled_core.specs.declared.iobuf.Sealed.{Sealed}
-use Rattle.sled_core.specs.Buffers.{IsChain}
+use Rattle.sled_core.specs.inside.Buffers.{IsChain}
 use Rattle.sled_core.specs.SealedBuffers.{sealed_count}
 use Rattle.sled_core.proofs.Sealed.Around.{count_within, first_index, from_in_order, whole_chain}
 use Rattle.sled_core.proofs.iobuf.IoBuf.first_of.Goals as goal

@@ -4,7 +4,7 @@ use Rattle.sled_codec.specs.Written.{written}
 use Rattle.sled_codec.specs.Spelling.{low_bytes}
 use Rattle.sled_core.specs.declared.iobuf.Reserved.{Reserved}
 use Rattle.std.specs.List.{All}
-use Rattle.sled_core.specs.Buffers.{IsChain, IsHeaded, ending_as}
+use Rattle.sled_core.specs.inside.Buffers.{IsChain, IsHeaded, ending_as}
 use Rattle.sled_core.proofs.Reserve.MarksLemmas.{marks}
 use Rattle.sled_core.proofs.Reserve.Parts.{get_there}
 use Rattle.sled_core.proofs.Reserve.Ranges.{at_there}

@@ -5,8 +5,10 @@ use Rattle.std.proofs.lemmas.List.{drop-drop}
 use Rattle.std.proofs.lemmas.List.Elements.{All-drop}
 use Rattle.sled_core.specs.declared.iobuf.Reserved.{Reserved}
 use Rattle.sled_core.specs.declared.iobuf.Sealed.{Sealed}
-use Rattle.sled_core.specs.Buffers.{IsChain, IsHeaded, open_in}
-use Rattle.sled_core.specs.SealedBuffers.{AreSealed, FirstUnwritten, behind_run, run_count, run_end, sealed_count, sealed_end, written_at}
+use Rattle.sled_core.specs.inside.Buffers.{IsChain, IsHeaded}
+use Rattle.sled_core.specs.Buffers.{open_in}
+use Rattle.sled_core.specs.inside.SealedBuffers.{AreSealed, FirstUnwritten, behind_run, run_count, run_end, written_at}
+use Rattle.sled_core.specs.SealedBuffers.{sealed_count, sealed_end}
 use Rattle.sled_core.proofs.Sealed.Marked.{count_run, count_written, end_run, end_written, first_behind, ready_closed, written_are}
 use Rattle.sled_core.proofs.Sealed.Runs.{run_of}
 use Rattle.sled_core.proofs.iobuf.IoBuf.mark_written.Goals as goal

@@ -4,8 +4,10 @@ use Rattle.std.proofs.lemmas.List.{drop_all}
 use Rattle.sled_store.specs.Words.{salt_of, writers_of}
 use Rattle.sled_core.specs.declared.iobuf.Reserved.{Reserved}
 use Rattle.sled_core.specs.declared.iobuf.Sealed.{Sealed}
-use Rattle.sled_core.specs.Buffers.{IsChain, open_in}
-use Rattle.sled_core.specs.SealedBuffers.{AreSealed, FirstUnwritten, seal_at, sealed_count, sealed_end}
+use Rattle.sled_core.specs.inside.Buffers.{IsChain}
+use Rattle.sled_core.specs.Buffers.{open_in}
+use Rattle.sled_core.specs.inside.SealedBuffers.{AreSealed, FirstUnwritten}
+use Rattle.sled_core.specs.SealedBuffers.{seal_at, sealed_count, sealed_end}
 use Rattle.sled_core.proofs.Sealed.Appended.{count_one, end_one, first_one, seal_are, seal_kept}
 use Rattle.sled_core.proofs.iobuf.IoBuf.push_sealed.Goals as goal
 

@@ -1,6 +1,7 @@
 use Rattle.std.proofs.Common.{◌≡◌, ◌≤◌, ◌≤ℤ◌, ℤ, List}
 use Rattle.std.specs.BinaryHeap.{IsHeap, heap_items, heap_len, heap_capacity}
-use Rattle.sled_core.specs.StableEnds.{Reaches, lowest_first, turned}
+use Rattle.sled_core.specs.StableEnds.{Reaches, turned}
+use Rattle.sled_core.specs.inside.StableEnds.{lowest_first}
 use Rattle.sled_core.proofs.iobuf.intervals.take_in.Given as goal
 
 abbrev pub invariant-loop-further : goal.invariant-loop-further

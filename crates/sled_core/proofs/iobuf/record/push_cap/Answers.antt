@@ -8,7 +8,7 @@ use Rattle.sled_codec.specs.Sums.{flipped}
 use Rattle.sled_codec.specs.Spelling.{low_bytes, short_header_tail, short_message_header}
 use Rattle.sled_codec.specs.Record.{record_sum, short_record}
 use Rattle.sled_codec.specs.Written.{written}
-use Rattle.sled_core.specs.Caps.{cap_page, cap_record, capped_rest, filled_up}
+use Rattle.sled_core.specs.inside.Caps.{cap_page, cap_record, capped_rest, filled_up}
 use Rattle.sled_core.proofs.Reserve.Heads.{length-short_message_header}
 use Rattle.sled_core.proofs.Reached.CapStands.{cap_header}
 use Rattle.sled_core.proofs.iobuf.record.push_cap.Goals as goal

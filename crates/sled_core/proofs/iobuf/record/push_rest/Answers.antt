@@ -1,5 +1,5 @@
 use Rattle.std.proofs.Common.{◌≡◌, ◌∙◌, ◌≤◌, ◌<◌, ◌+◌, ◌^◌, ◌++◌, ℕ, List, length, sym, ap, arith, length-append}
-use Rattle.sled_core.specs.Caps.{segment_rest}
+use Rattle.sled_core.specs.invariants.Caps.{segment_rest}
 use Rattle.sled_core.proofs.Reached.CapStands.{length-segment_rest, rest_is_zeros, rest_has_cap}
 use Rattle.sled_core.proofs.iobuf.record.push_rest.Goals as goal
 

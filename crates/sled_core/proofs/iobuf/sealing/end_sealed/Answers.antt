@@ -4,7 +4,7 @@ use Rattle.std.specs.List.Sorted.{IsNonDecreasingBy, IsPartitionPoint}
 use Rattle.std.proofs.lemmas.Option.{slice_get_within}
 use Rattle.sled_core.specs.declared.iobuf.Reserved.{Reserved}
 use Rattle.sled_core.specs.declared.iobuf.Sealed.{Sealed}
-use Rattle.sled_core.specs.SealedBuffers.{HasOpenAt, one_fewer}
+use Rattle.sled_core.specs.inside.SealedBuffers.{HasOpenAt, one_fewer}
 use Rattle.sled_core.proofs.Reserve.Parts.{get_there}
 use Rattle.sled_core.proofs.Sealed.InBuffer.{Waits, ends_in_order, waits_first}
 use Rattle.sled_core.proofs.iobuf.sealing.end_sealed.Goals as goal

@@ -1,5 +1,5 @@
 use Rattle.std.proofs.Common.{◌≡◌, ◌+◌, length}
-use Rattle.sled_core.specs.SealedBuffers.{behind_run, run_count, run_end}
+use Rattle.sled_core.specs.inside.SealedBuffers.{behind_run, run_count, run_end}
 use Rattle.sled_core.proofs.iobuf.sealing.take_run.Given as goal
 
 abbrev pub invariant-loop-b : goal.invariant-loop-b

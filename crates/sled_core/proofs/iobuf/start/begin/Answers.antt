@@ -11,7 +11,7 @@ use Rattle.sled_store.specs.SegmentStates.{Machine, next_slot}
 use Rattle.sled_store.specs.Started.{found, started}
 use Rattle.sled_store.proofs.Accounts.StartNext.{lowest_within, left_below, next_started}
 use Rattle.sled_store.proofs.Traces.ScriptLemmas.{performs_nothing}
-use Rattle.sled_core.specs.FirstBuffer.{IsFirstBuffer}
+use Rattle.sled_core.specs.inside.FirstBuffer.{IsFirstBuffer}
 use Rattle.sled_core.specs.FreeSlots.{with_current}
 use Rattle.sled_core.proofs.Start.OpenLemmas.{begins_place, begins_offset}
 use Rattle.sled_core.proofs.iobuf.start.begin.Goals as goal

@@ -3,7 +3,8 @@ use Rattle.std.proofs.lemmas.List.Elements.{All-same, All-push}
 use Rattle.sled_core.specs.declared.iterator.scan.ScannedRecord.{ScannedRecord}
 use Rattle.sled_core.specs.declared.iterator.scan.Step.TheVariants.{Meets, Ends}
 use Rattle.sled_core.specs.Reading.{IsMalformed, file_of}
-use Rattle.sled_core.specs.Scan.{IsPath, IsStep, IsScan, IsDamagedIn, HasPlace}
+use Rattle.sled_core.specs.Scan.{IsPath, IsStep, IsScan, IsDamagedIn}
+use Rattle.sled_core.specs.inside.Scan.{HasPlace}
 use Rattle.sled_core.proofs.Read.InSlot.{of_same_buf}
 use Rattle.sled_core.proofs.Read.ScanLemmas.{one_more, ends_here}
 use Rattle.sled_core.proofs.iterator.scan.scan.Goals as goal

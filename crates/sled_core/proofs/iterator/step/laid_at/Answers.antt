@@ -3,7 +3,8 @@ use Rattle.std.proofs.lemmas.List.{drop-drop}
 use Rattle.sled_codec.specs.declared.serialization.message.MessageHeader.{MessageHeader}
 use Rattle.sled_codec.specs.declared.serialization.message.SegmentNumber.{SegmentNumber}
 use Rattle.sled_codec.specs.Places.{part}
-use Rattle.sled_core.specs.Reading.{IsLaid, file_of}
+use Rattle.sled_core.specs.inside.Reading.{IsLaid}
+use Rattle.sled_core.specs.Reading.{file_of}
 use Rattle.sled_core.proofs.Read.InSlot.{header_first, laid_there, same_record, slot_behind}
 use Rattle.sled_core.proofs.Read.ScanLemmas.{aligned_offset}
 use Rattle.sled_core.proofs.iterator.step.laid_at.Goals as goal

@@ -4,10 +4,10 @@ use Rattle.std.specs.List.{All}
 use Rattle.sled_core.specs.declared.iobuf.ReservationState.TheVariants.{Canceled}
 use Rattle.sled_core.specs.declared.logger.batches.NotedBatch.{NotedBatch}
 use Rattle.sled_core.specs.declared.logger.io_bufs.SegmentBuffer.{SegmentBuffer}
-use Rattle.sled_core.specs.Buffers.{canceling}
+use Rattle.sled_core.specs.inside.Buffers.{canceling}
 use Rattle.sled_core.specs.Fits.{line_of}
-use Rattle.sled_core.specs.OpenPlaces.{open_manifests}
-use Rattle.sled_core.specs.Turned.{HasOpenIn, ended_now}
+use Rattle.sled_core.specs.inside.OpenPlaces.{open_manifests}
+use Rattle.sled_core.specs.inside.Turned.{HasOpenIn, ended_now}
 use Rattle.sled_core.proofs.Line.EndedIn.{cancels, has_ended, index_within, its_view, number_within, numbered, one_open}
 use Rattle.sled_core.proofs.Line.OpenManifests.{manifests_ended, some_counted}
 use Rattle.sled_core.proofs.Pending.EndsIn.{Ended, in_reach, indexed, own}

@@ -1,7 +1,8 @@
 -- The last segment, which is being filled, is filled up, and one more is begun behind it.
 use Rattle.std.proofs.Common.{Result, Ok, Err, IsErrAnd, OnOk, ◌≡◌, ◌∙◌, ◌+◌, ◌-◌, ◌*◌, ◌<◌, ◌≤◌, ◌^◌, ◌-ℤ◌, sym, ap, refl, subst, arith, rules, ℕ, zero, suc, false, pos, List, [], ◌∷◌, ◌++◌, length, length-append, map, deque_len, Some}
 use Rattle.std.specs.List.{slice_get}
-use Rattle.sled_core.specs.Begun.{AreFilled, FollowOn, LieWithin, SegmentView, begin_of, last_buffer, last_buffer_in, line_in, open_segments, segment_view, view_at, with_nth}
+use Rattle.sled_core.specs.inside.Begun.{AreFilled, FollowOn, LieWithin, last_buffer, last_buffer_in, open_segments, with_nth}
+use Rattle.sled_core.specs.Begun.{SegmentView, begin_of, line_in, segment_view, view_at}
 use Rattle.sled_core.specs.declared.iobuf.IoBuf.{IoBuf}
 use Rattle.sled_core.specs.declared.iobuf.SegmentPosition.{SegmentPosition}
 use Rattle.sled_core.specs.declared.iobuf.Sealed.{Sealed}
@@ -10,9 +11,9 @@ use Rattle.sled_core.specs.declared.logger.Log.{Log}
 use Rattle.sled_core.specs.declared.logger.io_bufs.IoBufs.{IoBufs}
 use Rattle.sled_core.specs.declared.logger.io_bufs.SegmentBuffer.{SegmentBuffer}
 use Rattle.sled_core.specs.Fits.{current_of, line_of, machine_at, segment_size_of, stable_end}
-use Rattle.sled_core.specs.OpenPlaces.{open_manifests}
-use Rattle.sled_core.specs.ReadyBuffers.{AreReady, HasOwn}
-use Rattle.sled_core.specs.Turned.{CanClose, ChangesLine, HasRoomIn, IsBegunView, begun_view, next_line}
+use Rattle.sled_core.specs.inside.OpenPlaces.{open_manifests}
+use Rattle.sled_core.specs.inside.ReadyBuffers.{AreReady, HasOwn}
+use Rattle.sled_core.specs.inside.Turned.{CanClose, ChangesLine, HasRoomIn, IsBegunView, begun_view, next_line}
 use Rattle.sled_core.specs.Waiting.{at_last, closed_now, last_of}
 use Rattle.sled_core.proofs.Line.Begins.{closable}
 use Rattle.sled_core.proofs.Line.Closes.{IsClosable, filled_length, filled_written}

@@ -8,11 +8,13 @@ use Rattle.sled_store.specs.Device.{state_of}
 use Rattle.sled_core.specs.declared.iobuf.ReservationState.TheVariants.{Completed}
 use Rattle.sled_core.specs.declared.iobuf.Reserved.{Reserved}
 use Rattle.sled_core.specs.Begun.{SegmentView}
-use Rattle.sled_core.specs.Buffers.{completing}
-use Rattle.sled_core.specs.Fits.{AwaitsIn, Holds, HoldsWith, line_of, noted_in, open_places}
+use Rattle.sled_core.specs.inside.Buffers.{completing}
+use Rattle.sled_core.specs.Fits.{AwaitsIn, line_of, noted_in, open_places}
+use Rattle.sled_core.specs.invariants.Fits.{Holds}
+use Rattle.sled_core.specs.inside.Fits.{HoldsWith}
 use Rattle.sled_core.specs.Logged.{logged, in_log}
 use Rattle.sled_core.specs.OpenPlaces.{TakesOut, open_places_along}
-use Rattle.sled_core.specs.Running.{Fits}
+use Rattle.sled_core.specs.invariants.Running.{Fits}
 use Rattle.sled_core.specs.Tickets.{place_of}
 use Rattle.sled_core.proofs.Line.KeptCalls.{goes_on_still}
 use Rattle.sled_core.proofs.Line.BatchNoted.{kind_there, reserved_at}

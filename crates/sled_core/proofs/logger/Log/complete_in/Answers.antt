@@ -2,9 +2,9 @@
 use Rattle.std.proofs.Common.{false, refl}
 use Rattle.sled_core.specs.declared.iobuf.ReservationState.TheVariants.{Completed}
 use Rattle.sled_core.specs.declared.logger.io_bufs.SegmentBuffer.{SegmentBuffer}
-use Rattle.sled_core.specs.Buffers.{completing}
+use Rattle.sled_core.specs.inside.Buffers.{completing}
 use Rattle.sled_core.specs.Fits.{line_of}
-use Rattle.sled_core.specs.Turned.{HasOpenIn}
+use Rattle.sled_core.specs.inside.Turned.{HasOpenIn}
 use Rattle.sled_core.proofs.Line.EndedIn.{completes, has_ended, index_within, its_view, number_within, numbered, one_open}
 use Rattle.sled_core.proofs.Pending.EndsIn.{Ended, in_reach, indexed, own}
 use Rattle.sled_core.proofs.logger.Log.complete_in.Goals as goal

@@ -1,7 +1,8 @@
 -- The segment that is being filled is the last one.
 use Rattle.std.proofs.Common.{◌≡◌, ◌+◌, ◌≤◌, ◌<◌, ◌^◌, sym, subst, length, Some}
 use Rattle.std.specs.List.{slice_get}
-use Rattle.sled_core.specs.Begun.{SegmentView, open_segments}
+use Rattle.sled_core.specs.Begun.{SegmentView}
+use Rattle.sled_core.specs.inside.Begun.{open_segments}
 use Rattle.sled_core.proofs.Holds.Facts.{current_facts}
 use Rattle.sled_core.proofs.Line.NthOpen.{last_buffer_is, last_is}
 use Rattle.sled_core.proofs.logger.Log.current.Given.{Over}

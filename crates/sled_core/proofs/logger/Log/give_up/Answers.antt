@@ -12,15 +12,17 @@ use Rattle.sled_store.specs.declared.config.RunningConfig.{RunningConfig}
 use Rattle.sled_core.specs.declared.iobuf.ReservationState.TheVariants.{Canceled}
 use Rattle.sled_core.specs.declared.iobuf.Reserved.{Reserved}
 use Rattle.sled_core.specs.Begun.{SegmentView}
-use Rattle.sled_core.specs.Buffers.{Stands, body_in, canceling, item_as, pointer_as, SpellsBlob}
+use Rattle.sled_core.specs.inside.Buffers.{Stands, canceling, SpellsBlob}
+use Rattle.sled_core.specs.Buffers.{body_in, item_as, pointer_as}
 use Rattle.sled_core.specs.Canceled.{canceled_record, IsBodyAt, IsBodyOf}
-use Rattle.sled_core.specs.Fits.{AwaitsIn, Holds, line_of, noted_in, open_places}
+use Rattle.sled_core.specs.Fits.{AwaitsIn, line_of, noted_in, open_places}
+use Rattle.sled_core.specs.invariants.Fits.{Holds}
 use Rattle.sled_core.specs.Logged.{logged, in_log, item_in_log}
 use Rattle.sled_core.specs.Manifests.{is_manifest}
 use Rattle.sled_core.specs.OpenPlaces.{TakesOut, open_places_along}
-use Rattle.sled_core.specs.Running.{Fits}
+use Rattle.sled_core.specs.invariants.Running.{Fits}
 use Rattle.sled_core.specs.Tickets.{place_of}
-use Rattle.sled_core.specs.Turned.{ended_now}
+use Rattle.sled_core.specs.inside.Turned.{ended_now}
 use Rattle.sled_core.specs.Waiting.{BufferAt, buffers_in}
 use Rattle.sled_core.proofs.Holds.CanceledLemmas.{canceled_long, canceled_there}
 use Rattle.sled_core.proofs.Line.KeptCalls.{kept_still}

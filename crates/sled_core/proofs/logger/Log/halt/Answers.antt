@@ -1,4 +1,4 @@
-use Rattle.sled_core.specs.Running.{Fits}
+use Rattle.sled_core.specs.invariants.Running.{Fits}
 use Rattle.sled_core.proofs.Holds.RunningLemmas.{fits-leaves}
 use Rattle.sled_core.proofs.logger.Log.halt.Goals as goal
 

@@ -9,7 +9,7 @@ use Rattle.sled_core.specs.Begun.{SegmentView, segment_view}
 use Rattle.sled_core.specs.Buffers.{pointer_as, item_as, message_in, body_in}
 use Rattle.sled_core.specs.Fits.{AwaitsIn, IsOpen, line_of}
 use Rattle.sled_core.specs.Tickets.{IsFor, index_of, place_of}
-use Rattle.sled_core.specs.Turned.{IsOpenIn}
+use Rattle.sled_core.specs.inside.Turned.{IsOpenIn}
 use Rattle.sled_core.proofs.Line.NthOpen.{nth_within}
 use Rattle.sled_core.proofs.Line.EndedTickets.{says_place, ticket_above, ticket_among}
 use Rattle.sled_core.proofs.logger.Log.is_open.Goals as goal

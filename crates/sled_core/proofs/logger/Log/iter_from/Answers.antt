@@ -4,7 +4,7 @@ use Rattle.std.proofs.lemmas.Int.{to_z-of_z}
 use Rattle.sled_codec.specs.declared.result.Error.{Error}
 use Rattle.sled_core.specs.Fits.{machine_at, segment_size_of}
 use Rattle.sled_core.specs.Iterators.{GivesMessages, GoesOver}
-use Rattle.sled_core.specs.Running.{Fits}
+use Rattle.sled_core.specs.invariants.Running.{Fits}
 use Rattle.sled_core.specs.LogSegments.{AreSegments, begins_from}
 use Rattle.sled_core.proofs.Iterated.OfLog.{gives_messages}
 use Rattle.sled_core.proofs.Iterates.AheadLemmas.{goes_over}

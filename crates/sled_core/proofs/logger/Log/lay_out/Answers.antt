@@ -2,8 +2,9 @@
 use Rattle.std.proofs.Common.{◌≡◌, ◌∙◌, ◌+◌, ◌<◌, sym, ap, refl, subst, arith, ℕ, suc, Bool, if◌then◌else◌, List, [], ◌∷◌, ◌++◌, append_assoc, length, length-append, map, drop, take, Some}
 use Rattle.std.specs.List.{All, slice_get}
 use Rattle.std.proofs.lemmas.List.Elements.{All-weaker}
-use Rattle.sled_core.specs.Begun.{AreFilled, SegmentView, line_in, segment_view, open_segments, view_at, with_nth}
-use Rattle.sled_core.specs.Buffers.{placeholder_head, reserved_for}
+use Rattle.sled_core.specs.inside.Begun.{AreFilled, open_segments, with_nth}
+use Rattle.sled_core.specs.Begun.{SegmentView, line_in, segment_view, view_at}
+use Rattle.sled_core.specs.inside.Buffers.{placeholder_head, reserved_for}
 use Rattle.sled_core.specs.declared.iobuf.IoBuf.{IoBuf}
 use Rattle.sled_core.specs.declared.iobuf.Reserved.{Reserved}
 use Rattle.sled_core.specs.declared.iobuf.SegmentPosition.{SegmentPosition}
@@ -14,9 +15,9 @@ use Rattle.sled_core.specs.declared.logger.io_bufs.IoBufs.{IoBufs}
 use Rattle.sled_core.specs.declared.logger.io_bufs.SegmentBuffer.{SegmentBuffer}
 use Rattle.sled_core.specs.Fits.{current_of, line_of}
 use Rattle.sled_core.specs.Manifests.{is_manifest}
-use Rattle.sled_core.specs.OpenPlaces.{open_manifests}
-use Rattle.sled_core.specs.ReadyBuffers.{AreReady}
-use Rattle.sled_core.specs.Turned.{HasRoomIn, reserved_now}
+use Rattle.sled_core.specs.inside.OpenPlaces.{open_manifests}
+use Rattle.sled_core.specs.inside.ReadyBuffers.{AreReady}
+use Rattle.sled_core.specs.inside.Turned.{HasRoomIn, reserved_now}
 use Rattle.sled_core.specs.Waiting.{at_last}
 use Rattle.sled_core.proofs.Line.Entered.{filled_last}
 use Rattle.sled_core.proofs.Line.Segments.{line_segments}

@@ -12,7 +12,7 @@ use Rattle.sled_core.specs.Causes.{HeldAnswers}
 use Rattle.sled_core.specs.Fits.{IsUsedUpBelow, fault_of, noted_in, reserved_end, stable_end}
 use Rattle.sled_core.specs.Fronts.{CameTo}
 use Rattle.sled_core.specs.Keeps.{WritesBelow}
-use Rattle.sled_core.specs.Running.{Fits}
+use Rattle.sled_core.specs.invariants.Running.{Fits}
 use Rattle.sled_core.specs.OpenBatches.{behind_batch}
 use Rattle.sled_core.specs.Stable.{behind_place, held_for, target_for}
 use Rattle.sled_core.specs.declared.logger.Log.{Log}

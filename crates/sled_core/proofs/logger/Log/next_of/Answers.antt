@@ -2,10 +2,11 @@ use Rattle.std.proofs.Common.{ap, arith, refl}
 use Rattle.sled_store.specs.Device.{state_of}
 use Rattle.sled_store.specs.declared.config.Config.{Config}
 use Rattle.sled_store.specs.Accounts.{machine_of}
-use Rattle.sled_core.specs.Fits.{Holds, current_of}
+use Rattle.sled_core.specs.invariants.Fits.{Holds}
+use Rattle.sled_core.specs.Fits.{current_of}
 use Rattle.sled_core.specs.Logged.{logged}
 use Rattle.sled_core.specs.Positions.{position_in}
-use Rattle.sled_core.specs.Running.{Fits}
+use Rattle.sled_core.specs.invariants.Running.{Fits}
 use Rattle.sled_core.proofs.Line.KeptCalls.{goes_on_quietly}
 use Rattle.sled_core.proofs.Iterates.Failures.{first_kept, first_none}
 use Rattle.sled_core.proofs.Line.Faulty.{fits_with_kept, holds_with_kept}

@@ -2,7 +2,8 @@
 use Rattle.std.proofs.Common.{◌≡◌, zero, suc, true, List, [], ◌∷◌, map, refl, subst, arith}
 use Rattle.std.specs.List.{All}
 use Rattle.std.proofs.lemmas.List.Elements.{All-cons, All-tail}
-use Rattle.sled_core.specs.Begun.{SegmentView, segment_view, open_segments}
+use Rattle.sled_core.specs.Begun.{SegmentView, segment_view}
+use Rattle.sled_core.specs.inside.Begun.{open_segments}
 use Rattle.sled_core.specs.Buffers.{none_open}
 use Rattle.sled_core.specs.Fits.{NoneOpenIn}
 use Rattle.sled_core.specs.declared.logger.io_bufs.SegmentBuffer.{SegmentBuffer}

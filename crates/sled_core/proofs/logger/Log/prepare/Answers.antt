@@ -5,9 +5,9 @@ use Rattle.sled_codec.specs.declared.result.Error.{Error}
 use Rattle.sled_codec.specs.declared.result.Error.TheVariants as error
 use Rattle.sled_store.specs.Accounts.{NextAnswers}
 use Rattle.sled_core.specs.Buffers.{record_size}
-use Rattle.sled_core.specs.Causes.{MakesRoom}
-use Rattle.sled_core.specs.Prepared.{PrepareAnswers, number_of}
-use Rattle.sled_core.specs.Turned.{HasPlace}
+use Rattle.sled_core.specs.inside.Causes.{MakesRoom}
+use Rattle.sled_core.specs.inside.Prepared.{PrepareAnswers, number_of}
+use Rattle.sled_core.specs.inside.Turned.{HasPlace}
 use Rattle.sled_core.proofs.Line.Prepares.{IsHeadOf, head_size, here_further, here_open, next_open, next_up, next_used, prepared_here, prepared_next}
 use Rattle.sled_core.proofs.Line.Begins.{begins_same}
 use Rattle.sled_core.proofs.Line.Unchanged.{left_alone, unchanged_same}

@@ -18,12 +18,15 @@ use Rattle.sled_store.proofs.Traces.ScriptLemmas.{performs_nothing}
 use Rattle.sled_core.specs.Causes.{IsHeld, OnDone}
 use Rattle.sled_core.specs.declared.logger.Log.{Log}
 use Rattle.sled_core.specs.declared.logger.read_message.LogRead.{LogRead}
-use Rattle.sled_core.specs.Fits.{HasRecordOf, Holds, device_of, fault_of, reserved_end, segment_size_of, synced_end}
+use Rattle.sled_core.specs.Fits.{HasRecordOf, device_of, fault_of, reserved_end, segment_size_of, synced_end}
+use Rattle.sled_core.specs.invariants.Fits.{Holds}
 use Rattle.sled_core.specs.LogFile.{MessageStands}
 use Rattle.sled_core.specs.Fronts.{CameAround}
-use Rattle.sled_core.specs.ReadBuffer.{IsUsedUpAt, IsWrittenPlace, ReadAnswers, SealsAround, SettleAnswers, WritesAround, held_at, settling}
+use Rattle.sled_core.specs.ReadBuffer.{IsUsedUpAt, IsWrittenPlace, ReadAnswers, SealsAround, WritesAround, held_at, settling}
+use Rattle.sled_core.specs.inside.ReadBuffer.{SettleAnswers}
 use Rattle.sled_core.specs.Reading.{IsInline, IsNoPlace, GivesMessage}
-use Rattle.sled_core.specs.ReadPointer.{GivesBlob, IsDamageOf, IsStableBlob, place_read}
+use Rattle.sled_core.specs.ReadPointer.{GivesBlob, IsStableBlob, place_read}
+use Rattle.sled_core.specs.inside.ReadPointer.{IsDamageOf}
 use Rattle.sled_core.proofs.Line.KeptCalls.{kept_further, kept_still, tickets_further}
 use Rattle.sled_core.proofs.Holds.ReachLemmas.{fits_holds}
 use Rattle.sled_core.proofs.Line.Advanced.{same_current}

@@ -1,9 +1,9 @@
 use Rattle.std.proofs.Common.{ap, arith, refl}
 use Rattle.sled_store.specs.Device.{state_of}
 use Rattle.sled_store.specs.declared.config.Config.{Config}
-use Rattle.sled_core.specs.Fits.{Holds}
+use Rattle.sled_core.specs.invariants.Fits.{Holds}
 use Rattle.sled_core.specs.Logged.{logged}
-use Rattle.sled_core.specs.Running.{Fits}
+use Rattle.sled_core.specs.invariants.Running.{Fits}
 use Rattle.sled_core.proofs.Line.KeptCalls.{goes_on_quietly}
 use Rattle.sled_core.proofs.Line.Faulty.{fits_with_kept, holds_with_kept, none_or_kept}
 use Rattle.sled_core.proofs.Line.LineEnds.{noted_still}

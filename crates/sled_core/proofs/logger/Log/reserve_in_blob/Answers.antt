@@ -11,7 +11,7 @@ use Rattle.sled_core.specs.declared.reservation.Reservation.{Reservation}
 use Rattle.sled_core.specs.Causes.{ReserveCauses}
 use Rattle.sled_core.specs.Fits.{IsLeastOpen, IsUsedUpFor}
 use Rattle.sled_core.specs.Manifests.{kind_for}
-use Rattle.sled_core.specs.Prepared.{next_here}
+use Rattle.sled_core.specs.inside.Prepared.{next_here}
 use Rattle.sled_core.specs.Reserves.{reserve_causes}
 use Rattle.sled_core.proofs.Line.BlobReserved.{TriesBlob, its_answers, its_device, its_message, its_stored, place_is, ready_behind, ready_place, refused_blob}
 use Rattle.sled_core.proofs.Line.Prepares.{IsLaid}

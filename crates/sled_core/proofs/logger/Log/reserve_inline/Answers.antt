@@ -4,13 +4,14 @@ use Rattle.std.specs.Option.{IsSome}
 use Rattle.sled_codec.specs.declared.result.Error.TheVariants.{Unsupported}
 use Rattle.sled_store.specs.declared.config.RunningConfig.{RunningConfig}
 use Rattle.sled_core.specs.declared.iobuf.Purpose.{Purpose}
-use Rattle.sled_core.specs.Buffers.{most_open, placeholder_head, reserved_for}
+use Rattle.sled_core.specs.Buffers.{most_open}
+use Rattle.sled_core.specs.inside.Buffers.{placeholder_head, reserved_for}
 use Rattle.sled_core.specs.Causes.{ReserveCauses}
 use Rattle.sled_core.specs.Fits.{IsLeastOpen, IsUsedUpFor, current_of, line_of, message_as, open_for}
 use Rattle.sled_core.specs.Manifests.{kind_for}
-use Rattle.sled_core.specs.Prepared.{IsPrepared, PrepareAnswers, text_of}
+use Rattle.sled_core.specs.inside.Prepared.{IsPrepared, PrepareAnswers, text_of}
 use Rattle.sled_core.specs.Reserves.{reserve_causes}
-use Rattle.sled_core.specs.Turned.{IsTicketFor, reserved_now}
+use Rattle.sled_core.specs.inside.Turned.{IsTicketFor, reserved_now}
 use Rattle.sled_core.specs.Waiting.{at_last}
 use Rattle.sled_core.proofs.Holds.ReachLemmas.{inline_stored}
 use Rattle.sled_core.proofs.Line.Prepares.{IsLaid}

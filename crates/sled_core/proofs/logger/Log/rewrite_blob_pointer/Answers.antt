@@ -14,7 +14,7 @@ use Rattle.sled_core.specs.declared.reservation.Reservation.{Reservation}
 use Rattle.sled_core.specs.Causes.{RewriteAnswers}
 use Rattle.sled_core.specs.Fits.{IsLeastOpen, IsUsedUpFor, message_rewriting, open_for, size_for, target_of}
 use Rattle.sled_core.specs.Positions.{lid_at}
-use Rattle.sled_core.specs.Prepared.{PrepareAnswers}
+use Rattle.sled_core.specs.inside.Prepared.{PrepareAnswers}
 use Rattle.sled_core.proofs.Line.KeptCalls.{kept_still}
 use Rattle.sled_core.proofs.Line.Prepares.{IsLaid, made_behind, made_keeps, made_others, made_same, made_ticket}
 use Rattle.sled_core.proofs.Line.Unchanged.{unchanged_keeps, unchanged_tickets}

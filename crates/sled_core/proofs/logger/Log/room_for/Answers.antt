@@ -2,7 +2,8 @@
 use Rattle.std.proofs.Common.{Result, Ok, Err, IsErrAnd, ◌≡◌, ◌≢◌, ◌∙◌, ◌+◌, ◌<◌, ◌≤◌, ap, sym, refl, arith, rules, subst, SFits, w64, pos, ℕ, List, length, drop, true, false, Some, OnOk}
 use Rattle.std.specs.List.{All, slice_get}
 use Rattle.std.proofs.lemmas.Int.{to_z-of_z}
-use Rattle.sled_core.specs.Begun.{AreFilled, LieWithin, SegmentView, line_in, open_segments, view_at, with_nth}
+use Rattle.sled_core.specs.inside.Begun.{AreFilled, LieWithin, open_segments, with_nth}
+use Rattle.sled_core.specs.Begun.{SegmentView, line_in, view_at}
 use Rattle.sled_core.specs.Buffers.{first_open_in, most_open, open_in}
 use Rattle.sled_core.specs.declared.iobuf.IoBuf.{IoBuf}
 use Rattle.sled_core.specs.declared.iobuf.Reserved.{Reserved}
@@ -10,9 +11,9 @@ use Rattle.sled_core.specs.declared.logger.Log.{Log}
 use Rattle.sled_core.specs.declared.logger.batches.NotedBatch.{NotedBatch}
 use Rattle.sled_core.specs.declared.logger.io_bufs.SegmentBuffer.{SegmentBuffer}
 use Rattle.sled_core.specs.Fits.{current_of, current_reserved_in, line_of}
-use Rattle.sled_core.specs.OpenPlaces.{open_manifests}
+use Rattle.sled_core.specs.inside.OpenPlaces.{open_manifests}
 use Rattle.sled_core.specs.SealedBuffers.{sealed_count}
-use Rattle.sled_core.specs.Turned.{HasRoomIn}
+use Rattle.sled_core.specs.inside.Turned.{HasRoomIn}
 use Rattle.sled_core.proofs.Line.NthOpen.{last_buffer_is, last_buffer_with, line_still, nth_is, within_with}
 use Rattle.sled_core.proofs.Line.Outcomes.{on_both}
 use Rattle.sled_core.proofs.Reserve.OpenCounts.{first_there}

@@ -1,7 +1,8 @@
 -- The segment that is being filled has room for its end afterwards, and there is room for one more; all hold what they did.
 use Rattle.std.proofs.Common.{◌≡◌, ◌∙◌, ◌<◌, ◌≤◌, ap, sym, refl, arith, subst, length, Some, OnOk}
 use Rattle.std.specs.List.{All, slice_get}
-use Rattle.sled_core.specs.Begun.{AreFilled, LieWithin, SegmentView, line_in, open_segments, view_at, with_nth}
+use Rattle.sled_core.specs.inside.Begun.{AreFilled, LieWithin, open_segments, with_nth}
+use Rattle.sled_core.specs.Begun.{SegmentView, line_in, view_at}
 use Rattle.sled_core.specs.declared.iobuf.IoBuf.{IoBuf}
 use Rattle.sled_core.specs.declared.iobuf.SegmentPosition.{SegmentPosition}
 use Rattle.sled_core.specs.declared.logger.Log.{Log}
@@ -9,8 +10,8 @@ use Rattle.sled_core.specs.declared.logger.batches.NotedBatch.{NotedBatch}
 use Rattle.sled_core.specs.declared.logger.io_bufs.IoBufs.{IoBufs}
 use Rattle.sled_core.specs.declared.logger.io_bufs.SegmentBuffer.{SegmentBuffer}
 use Rattle.sled_core.specs.Fits.{line_of}
-use Rattle.sled_core.specs.OpenPlaces.{open_manifests}
-use Rattle.sled_core.specs.Turned.{CanClose}
+use Rattle.sled_core.specs.inside.OpenPlaces.{open_manifests}
+use Rattle.sled_core.specs.inside.Turned.{CanClose}
 use Rattle.sled_core.proofs.Line.NthOpen.{last_buffer_with, line_same, line_still, short_in, within_same, within_with}
 use Rattle.sled_core.proofs.Pending.Segments.{still_ready}
 use Rattle.sled_core.proofs.logger.Log.room_to_close.Goals as goal

@@ -5,7 +5,8 @@ use Rattle.std.proofs.lemmas.List.{append-nil}
 use Rattle.std.proofs.lemmas.List.Elements.{All-nil}
 use Rattle.sled_core.specs.declared.logger.Log.{Log}
 use Rattle.sled_core.specs.Begun.{SegmentView}
-use Rattle.sled_core.specs.Fits.{AddsBuffers, buffers_of, current_of, machine_at, reserved_end, segment_size_of}
+use Rattle.sled_core.specs.inside.Fits.{AddsBuffers}
+use Rattle.sled_core.specs.Fits.{buffers_of, current_of, machine_at, reserved_end, segment_size_of}
 use Rattle.sled_core.specs.Waiting.{BufferAt}
 use Rattle.sled_core.proofs.Line.Begins.{begins_current, begins_keeps, begins_same, begins_tickets}
 use Rattle.sled_core.proofs.Line.HeaderMarks.{begun_marked, none_begun}

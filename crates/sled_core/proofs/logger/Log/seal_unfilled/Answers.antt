@@ -2,16 +2,17 @@
 use Rattle.std.proofs.Common.{◌≡◌, ◌∙◌, sym, ap, refl, subst, arith, List, [], ◌∷◌, ◌++◌, length, map, drop, true, false, Some}
 use Rattle.std.specs.List.{slice_get}
 use Rattle.std.proofs.lemmas.Bool.Decides.{nat_tests}
-use Rattle.sled_core.specs.Begun.{AreFilled, LieWithin, SegmentView, line_in, open_segments, segment_view, view_at, with_nth}
+use Rattle.sled_core.specs.inside.Begun.{AreFilled, LieWithin, open_segments, with_nth}
+use Rattle.sled_core.specs.Begun.{SegmentView, line_in, segment_view, view_at}
 use Rattle.sled_core.specs.declared.iobuf.IoBuf.{IoBuf}
 use Rattle.sled_core.specs.declared.iobuf.SegmentPosition.{SegmentPosition}
 use Rattle.sled_core.specs.declared.logger.Log.{Log}
 use Rattle.sled_core.specs.declared.logger.io_bufs.IoBufs.{IoBufs}
 use Rattle.sled_core.specs.declared.logger.io_bufs.SegmentBuffer.{SegmentBuffer}
 use Rattle.sled_core.specs.Fits.{current_of, line_of, segment_size_of}
-use Rattle.sled_core.specs.OpenPlaces.{open_manifests}
+use Rattle.sled_core.specs.inside.OpenPlaces.{open_manifests}
 use Rattle.sled_core.specs.Positions.{is_short}
-use Rattle.sled_core.specs.ReadyBuffers.{AreReady}
+use Rattle.sled_core.specs.inside.ReadyBuffers.{AreReady}
 use Rattle.sled_core.specs.SealedBuffers.{seal_at, sealed_count}
 use Rattle.sled_core.specs.Waiting.{at_last, holds_any, sealed_now}
 use Rattle.sled_core.proofs.Line.Entered.{filled_sealed}

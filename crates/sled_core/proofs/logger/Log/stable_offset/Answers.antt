@@ -1,4 +1,4 @@
-use Rattle.sled_core.specs.Running.{Fits}
+use Rattle.sled_core.specs.invariants.Running.{Fits}
 use Rattle.sled_core.proofs.Holds.RunningLemmas.{fits-acknowledged}
 use Rattle.sled_core.proofs.Line.Buffers.{first_waits}
 use Rattle.sled_core.proofs.logger.Log.stable_offset.Goals as goal

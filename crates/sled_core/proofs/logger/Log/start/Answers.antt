@@ -23,22 +23,28 @@ use Rattle.sled_core.specs.declared.iobuf.Reserved.{Reserved}
 use Rattle.sled_core.specs.declared.iobuf.Sealed.{Sealed}
 use Rattle.sled_core.specs.declared.logger.batches.NotedBatch.{NotedBatch}
 use Rattle.sled_core.specs.declared.logger.io_bufs.SegmentBuffer.{SegmentBuffer}
-use Rattle.sled_core.specs.Begun.{AreEntered, AreFilled, FollowOn, IsUnfilled, IsUsed, SegmentView, begin_of, line_at, segment_view, view_at}
-use Rattle.sled_core.specs.Fits.{CloseBelow, FitsBatches, Holds, HoldsIn, HoldsLine, NoneOpenIn, line_end, log_parts, written_to}
-use Rattle.sled_core.specs.FirstBuffer.{IsFirstBuffer}
-use Rattle.sled_core.specs.FreeSlots.{HasSlots, begun_machine}
+use Rattle.sled_core.specs.inside.Begun.{AreEntered, AreFilled, FollowOn, IsUnfilled, IsUsed}
+use Rattle.sled_core.specs.Begun.{SegmentView, begin_of, line_at, segment_view, view_at}
+use Rattle.sled_core.specs.Fits.{CloseBelow, NoneOpenIn}
+use Rattle.sled_core.specs.inside.Fits.{FitsBatches, HoldsIn, HoldsLine, log_parts, written_to}
+use Rattle.sled_core.specs.invariants.Fits.{Holds}
+use Rattle.sled_core.specs.inside.Begun.{line_end}
+use Rattle.sled_core.specs.inside.FirstBuffer.{IsFirstBuffer}
+use Rattle.sled_core.specs.inside.FreeSlots.{HasSlots}
+use Rattle.sled_core.specs.FreeSlots.{begun_machine}
 use Rattle.sled_core.specs.Logged.{logged}
 use Rattle.sled_core.specs.OpenBatches.{batch_of, not_whole, stable_below}
-use Rattle.sled_core.specs.ReadyBuffers.{held_buffers, held_in, ready_in, ready_places}
-use Rattle.sled_core.specs.OpenPlaces.{open_manifests, open_manifests_in}
-use Rattle.sled_core.specs.OwnLog.{HasPlacedFile, ReadsPlaced}
+use Rattle.sled_core.specs.inside.ReadyBuffers.{held_buffers, held_in, ready_in, ready_places}
+use Rattle.sled_core.specs.inside.OpenPlaces.{open_manifests, open_manifests_in}
+use Rattle.sled_core.specs.inside.OwnLog.{HasPlacedFile, ReadsPlaced}
 use Rattle.sled_core.specs.Positions.{Position, is_short, next_segment_at, position_in}
 use Rattle.sled_core.specs.Ready.{IsReady}
 use Rattle.sled_core.specs.SealedBuffers.{sealed_end}
 use Rattle.sled_core.specs.Starts.{site_from}
 use Rattle.sled_core.specs.Waiting.{last_of, start_in, unwritten, unwritten_in}
 use Rattle.sled_core.specs.declared.iobuf.SegmentPosition.{SegmentPosition}
-use Rattle.sled_core.specs.Running.{Ready, Fits, FitsIn, FitsLine}
+use Rattle.sled_core.specs.invariants.Running.{Ready, Fits}
+use Rattle.sled_core.specs.inside.Running.{FitsIn, FitsLine}
 use Rattle.sled_store.proofs.Accounts.StartedFile.{started_file, started-log, started-snapshots, started-blobs}
 use Rattle.sled_core.proofs.Holds.FitsBatches.{batches_begun}
 use Rattle.sled_core.proofs.Logged.Messages.{logged_twice}
@@ -53,7 +59,8 @@ use Rattle.sled_core.proofs.Start.StartFits.{start_fits}
 use Rattle.sled_core.proofs.Start.OpenLemmas.{in_segment, place_in_reach, slot_in_reach, begins_offset, begins_place, first_next}
 use Rattle.sled_core.proofs.Start.ReadyLemmas.{begins_closed, begins_ready}
 use Rattle.sled_store.proofs.Traces.ScriptLemmas.{later_performed}
-use Rattle.sled_core.specs.Buffers.{none_open, records_end}
+use Rattle.sled_core.specs.Buffers.{none_open}
+use Rattle.sled_core.specs.inside.Buffers.{records_end}
 use Rattle.sled_core.proofs.logger.Log.start.Goals as goal
 
 -- the only segment has no open reservation

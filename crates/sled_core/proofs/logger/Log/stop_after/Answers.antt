@@ -2,9 +2,9 @@
 use Rattle.std.proofs.Common.{◌≡◌, Bool, arith, refl}
 use Rattle.sled_store.specs.Device.{state_of}
 use Rattle.sled_store.proofs.Traces.StopLemmas.{asked_state}
-use Rattle.sled_core.specs.Fits.{Holds}
+use Rattle.sled_core.specs.invariants.Fits.{Holds}
 use Rattle.sled_core.specs.Logged.{logged}
-use Rattle.sled_core.specs.Running.{Fits}
+use Rattle.sled_core.specs.invariants.Running.{Fits}
 use Rattle.sled_core.proofs.Line.KeptCalls.{goes_on_asked}
 use Rattle.sled_core.proofs.Line.Faulty.{fits_with_device, holds_with_device}
 use Rattle.sled_core.proofs.Line.LineEnds.{noted_still}

@@ -6,7 +6,7 @@ use Rattle.sled_store.specs.Script.{Performs, after_all}
 use Rattle.sled_store.proofs.Traces.ScriptLemmas.{performs_nothing}
 use Rattle.sled_core.specs.Fits.{segment_size_of, start_of}
 use Rattle.sled_core.proofs.Line.KeptCalls.{kept_still}
-use Rattle.sled_core.specs.Marked.{KeepsSegment}
+use Rattle.sled_core.specs.inside.Marked.{KeepsSegment}
 use Rattle.sled_core.proofs.Line.CameFar.{on_err_both}
 use Rattle.sled_core.proofs.Line.HeaderMarks.{segment_same, segment_written}
 use Rattle.sled_core.proofs.Line.LogSpans.{same_buffers, written_starts}

@@ -10,7 +10,8 @@ use Rattle.sled_store.specs.Accounts.{machine_of}
 use Rattle.sled_store.proofs.Traces.ScriptLemmas.{later_performed}
 use Rattle.sled_store.specs.declared.config.Config.{Config}
 use Rattle.std.proofs.lemmas.Result.{err_from_is_err_and}
-use Rattle.sled_core.specs.Begun.{SegmentView, line_in, segment_view, open_segments, with_nth}
+use Rattle.sled_core.specs.Begun.{SegmentView, line_in, segment_view}
+use Rattle.sled_core.specs.inside.Begun.{open_segments, with_nth}
 use Rattle.sled_core.specs.declared.logger.io_bufs.IoBufs.{IoBufs}
 use Rattle.sled_core.specs.declared.logger.io_bufs.SegmentBuffer.{SegmentBuffer}
 use Rattle.sled_core.specs.declared.logger.batches.NotedBatch.{NotedBatch}
@@ -18,15 +19,18 @@ use Rattle.sled_core.specs.declared.iobuf.Sealed.{Sealed}
 use Rattle.sled_core.specs.declared.logger.ready.ReadyBuffers.{ReadyBuffers}
 use Rattle.sled_core.specs.declared.logger.Log.{Log}
 use Rattle.sled_core.specs.Fronts.{WroteNone}
-use Rattle.sled_core.specs.Fits.{written_to, AwaitsIn, Holds, line_of, noted_in, segment_size_of}
+use Rattle.sled_core.specs.inside.Fits.{written_to}
+use Rattle.sled_core.specs.Fits.{AwaitsIn, line_of, noted_in, segment_size_of}
+use Rattle.sled_core.specs.invariants.Fits.{Holds}
 use Rattle.sled_core.specs.Logged.{logged, in_log}
 use Rattle.sled_core.specs.OpenBatches.{batch_of, not_whole}
-use Rattle.sled_core.specs.OpenPlaces.{open_manifests, open_places_along}
+use Rattle.sled_core.specs.inside.OpenPlaces.{open_manifests}
+use Rattle.sled_core.specs.OpenPlaces.{open_places_along}
 use Rattle.sled_core.specs.Positions.{Position, position_in}
-use Rattle.sled_core.specs.ReadyBuffers.{AreReady, HasOwn}
-use Rattle.sled_core.specs.Running.{Fits}
-use Rattle.sled_core.specs.SealedBuffers.{is_ready, written_at}
-use Rattle.sled_core.specs.Turned.{ChangesDevice, IsReadyIn, promoted, written_now}
+use Rattle.sled_core.specs.inside.ReadyBuffers.{AreReady, HasOwn}
+use Rattle.sled_core.specs.invariants.Running.{Fits}
+use Rattle.sled_core.specs.inside.SealedBuffers.{is_ready, written_at}
+use Rattle.sled_core.specs.inside.Turned.{ChangesDevice, IsReadyIn, promoted, written_now}
 use Rattle.sled_core.specs.Waiting.{last_of}
 use Rattle.sled_core.proofs.Holds.StoredItems.{items_same}
 use Rattle.sled_core.proofs.Line.Faulty.{fits_with_same, holds_with_same}

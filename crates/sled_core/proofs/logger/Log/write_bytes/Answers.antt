@@ -7,7 +7,7 @@ use Rattle.sled_core.specs.declared.iobuf.IoBuf.{IoBuf}
 use Rattle.sled_core.specs.declared.iobuf.SegmentPosition.{SegmentPosition}
 use Rattle.sled_core.specs.Fits.{line_of}
 use Rattle.sled_core.specs.SealedBuffers.{bytes_between, sealed_end, writing}
-use Rattle.sled_core.specs.Turned.{write_in, write_of}
+use Rattle.sled_core.specs.inside.Turned.{write_in, write_of}
 use Rattle.sled_core.proofs.Line.NthOpen.{nth_is, nth_there}
 use Rattle.sled_core.proofs.Sealed.Slices.{slice_between}
 use Rattle.sled_core.proofs.logger.Log.write_bytes.Goals as goal

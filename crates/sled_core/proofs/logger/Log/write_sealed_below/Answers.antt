@@ -3,7 +3,7 @@ use Rattle.std.proofs.lemmas.Int.{to_z-of_z}
 use Rattle.std.proofs.lemmas.Result.{err_from_is_err_and}
 use Rattle.sled_store.proofs.Traces.ScriptLemmas.{performs_whole}
 use Rattle.sled_core.specs.Fits.{line_of, waiting_of}
-use Rattle.sled_core.specs.Turned.{ready_below}
+use Rattle.sled_core.specs.inside.Turned.{ready_below}
 use Rattle.sled_core.proofs.Line.KeptCalls.{kept_further}
 use Rattle.sled_core.proofs.Line.Advanced.{advanced_further, advanced_still, all_made, failed_further, failed_one, failed_position, failed_tickets, failed_any, first_step, first_view, holds_up, past_left, ready_in, same_current, still_short, stuck_left, stuck_one, write_failed}
 use Rattle.sled_core.proofs.Line.Below.{IsStuck, begin_none, first_fewer, held_past, writes_past}

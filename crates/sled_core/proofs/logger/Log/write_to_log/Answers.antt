@@ -2,7 +2,7 @@
 use Rattle.std.proofs.Common.{refl, ap, set, ◌≡◌, ◌∙◌}
 use Rattle.sled_store.proofs.Traces.ScriptLemmas.{performs_nothing}
 use Rattle.sled_core.specs.Fits.{line_of, segment_size_of, start_of}
-use Rattle.sled_core.specs.Turned.{written_now}
+use Rattle.sled_core.specs.inside.Turned.{written_now}
 use Rattle.sled_core.specs.Waiting.{unwritten}
 use Rattle.sled_core.proofs.Line.KeptCalls.{kept_still}
 use Rattle.sled_core.proofs.Line.Buffers.{unwritten_promoted}

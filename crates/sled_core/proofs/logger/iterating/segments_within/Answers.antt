@@ -3,7 +3,8 @@ use Rattle.std.proofs.lemmas.List.Elements.{All-append}
 use Rattle.sled_store.specs.Accounts.{machine_of}
 use Rattle.sled_store.specs.SegmentStates.{SlotState}
 use Rattle.sled_core.specs.Ahead.{HasEnds}
-use Rattle.sled_core.specs.LogSegments.{list_of, segments_among}
+use Rattle.sled_core.specs.inside.LogSegments.{list_of}
+use Rattle.sled_core.specs.LogSegments.{segments_among}
 use Rattle.sled_core.specs.declared.iterator.Segment.{Segment}
 use Rattle.sled_core.proofs.Iterates.OfSlots.{all_of, among_further}
 use Rattle.sled_core.proofs.logger.iterating.segments_within.Goals as goal

@@ -4,7 +4,8 @@ use Rattle.std.specs.Prelude.{IfErr, IfOk, IfNone}
 use Rattle.sled_codec.specs.declared.result.Error.TheVariants.{OutOfMemory}
 use Rattle.sled_store.specs.Device.{state_of}
 use Rattle.sled_core.specs.declared.logger.read_at.BasedBuf.{BasedBuf}
-use Rattle.sled_core.specs.Reading.{IsAnnounced, IsBare, file_read}
+use Rattle.sled_core.specs.Reading.{IsAnnounced, file_read}
+use Rattle.sled_core.specs.inside.Reading.{IsBare}
 use Rattle.sled_core.proofs.logger.read_message.find_in.Goals as goal
 
 pub returns-in-Some-clause-none : goal.returns-in-Some-clause-none

@@ -4,7 +4,8 @@ use Rattle.std.proofs.lemmas.Result.{err_from_is_err_and}
 use Rattle.sled_codec.specs.declared.result.Error.{Error}
 use Rattle.sled_codec.specs.declared.result.Error.TheVariants.{OutOfMemory}
 use Rattle.sled_core.specs.Causes.{ReaderAnswers}
-use Rattle.sled_core.specs.Reading.{IsAnnounced, IsBare}
+use Rattle.sled_core.specs.Reading.{IsAnnounced}
+use Rattle.sled_core.specs.inside.Reading.{IsBare}
 use Rattle.sled_core.proofs.Read.ReadingLemmas.{header_front, same_long}
 use Rattle.sled_core.proofs.logger.read_message.find_record.Goals as goal
 

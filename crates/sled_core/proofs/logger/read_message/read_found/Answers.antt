@@ -1,7 +1,8 @@
 use Rattle.std.proofs.Common.{◌≡◌, ◌-◌, ◌≤◌, ◌+◌, ◌∙◌, ℕ, List, ◌++◌, length, take, drop, ap, sym, subst, arith, rules, true}
 use Rattle.sled_codec.specs.declared.serialization.message.MessageHeader.{MessageHeader}
 use Rattle.sled_codec.specs.Sums.{flipped}
-use Rattle.sled_core.specs.Reading.{StandsAt, IsFound}
+use Rattle.sled_core.specs.Reading.{StandsAt}
+use Rattle.sled_core.specs.inside.Reading.{IsFound}
 use Rattle.sled_core.proofs.Reserve.Parts.{mid_is}
 use Rattle.sled_core.proofs.Read.ReadingLemmas.{laid_of, stands_of, one_head, one_laid, one_text, reading_is, if_ok}
 use Rattle.sled_core.proofs.logger.read_message.read_found.Given as given

@@ -7,7 +7,8 @@ use Rattle.sled_store.specs.Device.{Trace, state_of}
 use Rattle.sled_log.specs.Recovery.{Scanned, IsTail, HaveGoodBlobs, begun_below, greatest_mark}
 use Rattle.sled_log.specs.Passes.{CanBeRead}
 use Rattle.sled_log.specs.IteratorBegins.{IsBegun}
-use Rattle.sled_core.specs.Ahead.{CanBeGiven, HasEnds, IsLeft}
+use Rattle.sled_core.specs.Ahead.{CanBeGiven, HasEnds}
+use Rattle.sled_core.specs.inside.Ahead.{IsLeft}
 use Rattle.sled_log.proofs.Passes.Found.{all_ready}
 use Rattle.sled_log.proofs.Passes.Same.{still_so, was_so_in}
 use Rattle.sled_log.proofs.Iterates.BeginLemmas.{left_begun}

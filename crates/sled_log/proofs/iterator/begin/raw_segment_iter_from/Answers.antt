@@ -4,8 +4,8 @@ use Rattle.std.proofs.lemmas.Int.{to_z-of_z}
 use Rattle.sled_store.specs.Device.{state_of}
 use Rattle.sled_core.specs.declared.iterator.rest.Rest.{Rest}
 use Rattle.sled_log.specs.IteratorBegins.{Begins, IsDamagedFrom, begins_from}
-use Rattle.sled_core.specs.Iterators.{IsAhead}
-use Rattle.sled_core.specs.Ahead.{IsLeft}
+use Rattle.sled_core.specs.invariants.Iterators.{IsAhead}
+use Rattle.sled_core.specs.inside.Ahead.{IsLeft}
 use Rattle.sled_log.proofs.Iterates.BeginLemmas.{begins_as}
 use Rattle.sled_core.proofs.Iterates.AheadLemmas.{file_ahead, left_ahead}
 use Rattle.sled_core.proofs.Iterates.LeftLemmas.{left_still}

@@ -4,7 +4,7 @@ use Rattle.sled_codec.specs.Snapshots.{page_of}
 use Rattle.sled_core.specs.Fits.{Awaits, open_places}
 use Rattle.sled_core.specs.OpenPlaces.{TakesOut}
 use Rattle.sled_core.specs.Tickets.{own_blob}
-use Rattle.sled_core.specs.Running.{Fits}
+use Rattle.sled_core.specs.invariants.Running.{Fits}
 use Rattle.sled_core.proofs.PublicLaws.{awaited, awaited_small, fits_holds, place_back}
 use Rattle.sled_codec.specs.declared.result.DiskPtr.{DiskPtr}
 use Rattle.sled_log.specs.Endings.{TakesTicket}

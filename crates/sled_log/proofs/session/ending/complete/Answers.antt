@@ -5,7 +5,7 @@ use Rattle.std.proofs.lemmas.Bool.{false≢true}
 use Rattle.sled_core.specs.Fits.{Awaits, KeepsAll, KeepsBuffers, fault_of, open_places, pins_of}
 use Rattle.sled_core.specs.Keeps.{SamePosition}
 use Rattle.sled_core.specs.OpenPlaces.{TakesOut}
-use Rattle.sled_core.specs.Running.{Fits}
+use Rattle.sled_core.specs.invariants.Running.{Fits}
 use Rattle.sled_core.specs.Causes.{FaultAnswers}
 use Rattle.sled_core.proofs.PublicLaws.{awaited, awaited_small, fits_holds, place_back}
 use Rattle.sled_codec.specs.declared.result.DiskPtr.{DiskPtr}

@@ -13,7 +13,7 @@ use Rattle.sled_core.specs.Fits.{Awaits, KeepsBuffers, fault_of, open_places, re
 use Rattle.sled_core.specs.Keeps.{SamePosition}
 use Rattle.sled_core.specs.Manifests.{manifest_page}
 use Rattle.sled_core.specs.OpenPlaces.{TakesOut}
-use Rattle.sled_core.specs.Running.{Fits}
+use Rattle.sled_core.specs.invariants.Running.{Fits}
 use Rattle.sled_core.proofs.PublicLaws.{awaited, awaited_small, fits_holds, place_back}
 use Rattle.sled_log.specs.Endings.{TakesTicket}
 use Rattle.sled_log.specs.RunPhases.{HasBatch, IsOpenAt, IsSafe, Unstored, traces, view_by}

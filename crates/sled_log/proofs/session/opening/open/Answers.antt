@@ -19,7 +19,7 @@ use Rattle.sled_store.proofs.Traces.ScriptLemmas.{performs_whole}
 use Rattle.sled_core.specs.Good.{IsGood}
 use Rattle.sled_core.specs.Recoverable.{LeavesRecoverable, ReadsOnlyOwn, RecoverableIfOwn}
 use Rattle.sled_core.proofs.Blobs.FirmContent.{read_recoverable}
-use Rattle.sled_core.specs.Running.{Ready}
+use Rattle.sled_core.specs.invariants.Running.{Ready}
 use Rattle.sled_log.specs.declared.session.command.Command.TheVariants as command
 use Rattle.sled_log.specs.declared.session.command.Reply.{Reply}
 use Rattle.sled_log.specs.declared.session.command.Reply.TheVariants as reply

@@ -4,7 +4,8 @@ use Rattle.sled_store.specs.Device.{Event, state_of}
 use Rattle.sled_store.specs.Script.{Performs, after_all}
 use Rattle.sled_core.specs.Fits.{IsKept, IsUsedUpBelow, current_begin, device_of, fault_of, held_len, holding_below, reserved_end, segment_size_of, stable_end, synced_end}
 use Rattle.sled_core.specs.Logged.{logged}
-use Rattle.sled_core.specs.Running.{Fits, end_below}
+use Rattle.sled_core.specs.invariants.Running.{Fits}
+use Rattle.sled_core.specs.Running.{end_below}
 use Rattle.sled_core.proofs.Holds.ReachLemmas.{fits_holds, fits_stable}
 use Rattle.sled_core.proofs.PublicLaws.{written_past}
 use Rattle.sled_log.specs.RunPhases.{seen, view_by}

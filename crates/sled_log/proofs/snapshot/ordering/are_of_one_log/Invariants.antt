@@ -1,7 +1,7 @@
 use Rattle.std.proofs.Common.{◌≡◌, ◌+◌, ◌-◌, ◌<◌, ℕ, get_or}
 use Rattle.std.specs.List.{AllAdjacentBelow}
 use Rattle.sled_core.specs.declared.iterator.Segment.{Segment}
-use Rattle.sled_core.specs.Scan.{IsMisplaced}
+use Rattle.sled_core.specs.inside.Scan.{IsMisplaced}
 use Rattle.sled_log.proofs.snapshot.ordering.are_of_one_log.Given as goal
 
 -- those so far begin where they can, one above the other, and the next one must begin above them

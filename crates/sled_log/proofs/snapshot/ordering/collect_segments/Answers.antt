@@ -2,7 +2,7 @@ use Rattle.std.proofs.Common.{rules, Vec, Global, ◌∙◌, sym, ap, ◌≡◌,
 use Rattle.std.proofs.Math.Nat.{add-mod_right}
 use Rattle.sled_store.specs.Device.{state_of}
 use Rattle.sled_core.specs.declared.iterator.Segment.{Segment}
-use Rattle.sled_core.specs.Scan.{IsFoundSegment}
+use Rattle.sled_core.specs.inside.Scan.{IsFoundSegment}
 use Rattle.sled_log.specs.Ordering.{AreCollected}
 use Rattle.sled_log.proofs.Passes.Same.{was_so}
 use Rattle.sled_log.proofs.Ordering.CollectedLemmas.{none_more, one_more, all_slots}

@@ -3,7 +3,7 @@ use Rattle.std.specs.List.Sorted.{IsNonDecreasingBy}
 use Rattle.std.proofs.lemmas.List.Sorted.{IsNonDecreasingBy-from_sort_by_key}
 use Rattle.std.specs.List.{Contains}
 use Rattle.sled_store.specs.declared.config.Config.{Config}
-use Rattle.sled_core.specs.Scan.{IsMisplaced}
+use Rattle.sled_core.specs.inside.Scan.{IsMisplaced}
 use Rattle.sled_log.specs.Ordering.{ShareAPlace}
 use Rattle.sled_store.specs.Device.{state_of}
 use Rattle.sled_core.specs.declared.iterator.Segment.{Segment}

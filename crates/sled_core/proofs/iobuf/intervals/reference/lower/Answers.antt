@@ -1,6 +1,7 @@
 use Rattle.std.proofs.Common.{rules, ◌≤ℤ◌, ◌<ℤ◌, w64, SFits, arith, subst}
 use Rattle.std.proofs.lemmas.Int.{ints, to_z-of_z}
-use Rattle.sled_core.specs.StableEnds.{IsHalfSynced, IsLowestHalf}
+use Rattle.sled_core.specs.StableEnds.{IsHalfSynced}
+use Rattle.sled_core.specs.inside.StableEnds.{IsLowestHalf}
 use Rattle.sled_core.proofs.Stable.SlowEnd.{none_more, still_lowest, first_lowest, now_lowest}
 use Rattle.sled_core.proofs.iobuf.intervals.reference.lower.Goals as goal
 

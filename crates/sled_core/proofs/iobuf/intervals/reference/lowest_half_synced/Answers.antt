@@ -1,7 +1,7 @@
 use Rattle.std.proofs.Common.{rules, ◌≤◌, pos, w64, to_z, of_z, length, take, sym, subst}
 use Rattle.std.proofs.lemmas.Int.{to_z-of_z}
 use Rattle.std.proofs.lemmas.List.{take_all, take_more}
-use Rattle.sled_core.specs.StableEnds.{IsLowestHalf}
+use Rattle.sled_core.specs.inside.StableEnds.{IsLowestHalf}
 use Rattle.sled_core.proofs.iobuf.intervals.reference.lowest_half_synced.Goals as goal
 
 pub loop-batch-preserved : goal.loop-batch-preserved

@@ -2,7 +2,8 @@ use Rattle.std.proofs.Common.{rules, ◌∙◌, ◌-ℤ◌, pos, w64, SFits, Som
 use Rattle.std.specs.Int.{saturate_signed}
 use Rattle.std.proofs.lemmas.Int.{to_z-of_z}
 use Rattle.std.proofs.lemmas.List.Elements.{All-contains}
-use Rattle.sled_core.specs.StableEnds.{HasPlaceBefore, IsContiguousEnd, IsLowestHalf}
+use Rattle.sled_core.specs.StableEnds.{HasPlaceBefore, IsContiguousEnd}
+use Rattle.sled_core.specs.inside.StableEnds.{IsLowestHalf}
 use Rattle.sled_core.proofs.Stable.SlowEnd.{low_end, nearest}
 use Rattle.sled_core.proofs.iobuf.intervals.reference.stable_end_of.Goals as goal
 

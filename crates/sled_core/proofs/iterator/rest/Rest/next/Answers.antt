@@ -1,5 +1,5 @@
 -- Behind an error nothing is left, and before it something was.
-use Rattle.sled_core.specs.Ahead.{most_left}
+use Rattle.sled_core.specs.inside.Ahead.{most_left}
 use Rattle.sled_core.proofs.Iterates.Spent.{left_some, none_so_left, spent_so}
 use Rattle.sled_core.proofs.iterator.rest.Rest.next.Goals as goal
 

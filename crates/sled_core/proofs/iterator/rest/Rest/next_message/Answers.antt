@@ -1,7 +1,8 @@
 use Rattle.std.proofs.Common.{◌∙◌, ◌≤◌, ◌<◌, length, sym, subst, arith}
 use Rattle.sled_store.specs.declared.config.Config.{Config}
 use Rattle.sled_core.specs.Keeps.{OnlyReads}
-use Rattle.sled_core.specs.Ahead.{CanGoOn, IsGiven}
+use Rattle.sled_core.specs.Ahead.{CanGoOn}
+use Rattle.sled_core.specs.inside.Ahead.{IsGiven}
 use Rattle.sled_core.proofs.Iterates.LeftLemmas.{left_still, spent_ends}
 use Rattle.sled_core.proofs.Iterates.TurnLemmas.{damage_said}
 use Rattle.sled_core.proofs.iterator.rest.Rest.next_message.Goals as goal

@@ -1,6 +1,7 @@
 use Rattle.std.proofs.Common.{◌≡◌, ◌-◌, ◌≤◌, List, length}
 use Rattle.sled_core.specs.Iterates.{Item, Damage}
-use Rattle.sled_core.specs.Ahead.{CanGoOn, IsLeft, IsSpent, most_left}
+use Rattle.sled_core.specs.Ahead.{CanGoOn}
+use Rattle.sled_core.specs.inside.Ahead.{IsLeft, IsSpent, most_left}
 use Rattle.sled_core.proofs.iterator.rest.Rest.next_message.Given as goal
 
 -- what was left at first is left; the device was only read

@@ -5,7 +5,7 @@ use Rattle.sled_core.specs.declared.iterator.scan.ScannedRecord.{ScannedRecord}
 use Rattle.sled_core.specs.declared.iterator.rest.Rest.{Rest}
 use Rattle.sled_core.specs.Replayed.{HasBadBlob, NamesBlobOf, resolved}
 use Rattle.sled_core.specs.Iterates.{Item}
-use Rattle.sled_core.specs.Ahead.{IsLeft, most_left, those_of}
+use Rattle.sled_core.specs.inside.Ahead.{IsLeft, most_left, those_of}
 use Rattle.sled_core.proofs.Iterates.LeftLemmas.{left_damaged, left_finished, turn_ends, turn_bad, turn_given}
 use Rattle.sled_core.proofs.Iterates.Spent.{no_more_left, spent_so}
 use Rattle.sled_core.proofs.Iterates.TurnLemmas.{fine_still, found_gives, said_named}

@@ -1,6 +1,7 @@
 use Rattle.std.proofs.Common.{◌≡◌, ◌-◌, ◌≤◌, List, length}
 use Rattle.sled_core.specs.Iterates.{Item, Damage}
-use Rattle.sled_core.specs.Ahead.{CanGoOn, IsLeft, most_left}
+use Rattle.sled_core.specs.Ahead.{CanGoOn}
+use Rattle.sled_core.specs.inside.Ahead.{IsLeft, most_left}
 use Rattle.sled_core.proofs.iterator.rest.Rest.next_met.Given as goal
 
 -- what was left at first is left, of the same segments; the device was only read

@@ -8,7 +8,8 @@ use Rattle.sled_core.specs.declared.iterator.Segment.{Segment}
 use Rattle.sled_core.specs.declared.iterator.scan.ScannedRecord.{ScannedRecord}
 use Rattle.sled_core.specs.declared.iterator.rest.Rest.{Rest}
 use Rattle.sled_core.specs.Replayed.{NamesKind, scanned_of}
-use Rattle.sled_core.specs.Ahead.{CanGoOn, HasEnds, IsLeft, items_at, most_left, read_behind}
+use Rattle.sled_core.specs.Ahead.{CanGoOn, HasEnds}
+use Rattle.sled_core.specs.inside.Ahead.{IsLeft, items_at, most_left, read_behind}
 use Rattle.sled_core.proofs.Iterates.Headers.{begins_inside, none_missing, none_stands, not_found}
 use Rattle.sled_core.proofs.Iterates.Slots.{replayed_whole, damaged_behind_whole}
 use Rattle.sled_core.proofs.Iterates.Kinds.{path_kinds}

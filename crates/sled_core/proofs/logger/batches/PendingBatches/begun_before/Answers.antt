@@ -5,7 +5,8 @@ use Rattle.std.proofs.lemmas.List.Sorted.{IsPartitionPoint-from_clause, IsPartit
 use borrow.Author.Tests.{ltb-true}
 use lib.Dec.{ltb}
 use Rattle.sled_core.specs.declared.logger.batches.NotedBatch.{NotedBatch}
-use Rattle.sled_core.specs.OpenBatches.{AreByPlace, batch_of}
+use Rattle.sled_core.specs.inside.OpenBatches.{AreByPlace}
+use Rattle.sled_core.specs.OpenBatches.{batch_of}
 use Rattle.sled_core.proofs.Reached.Searched.{lows_rise}
 use Rattle.sled_core.proofs.logger.batches.PendingBatches.begun_before.Goals as goal
 

@@ -7,7 +7,8 @@ use Rattle.std.proofs.lemmas.Fn.{filter_same}
 use Rattle.std.proofs.lemmas.List.Elements.{All-filter, All-same}
 use Rattle.sled_codec.specs.History.{Batch}
 use Rattle.sled_core.specs.declared.logger.batches.NotedBatch.{NotedBatch}
-use Rattle.sled_core.specs.OpenBatches.{AreByPlace, batch_of, not_whole}
+use Rattle.sled_core.specs.inside.OpenBatches.{AreByPlace}
+use Rattle.sled_core.specs.OpenBatches.{batch_of, not_whole}
 use Rattle.sled_core.proofs.Reached.ByPlace.{left_by_place}
 use Rattle.sled_core.proofs.logger.batches.PendingBatches.keep_open.Goals as goal
 

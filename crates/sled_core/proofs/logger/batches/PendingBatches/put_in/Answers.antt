@@ -5,7 +5,8 @@ use Rattle.std.proofs.lemmas.List.Elements.{All-contains, All-map}
 use Rattle.sled_codec.specs.History.{Batch}
 use Rattle.sled_core.specs.declared.logger.batches.NotedBatch.{NotedBatch}
 use Rattle.sled_core.specs.declared.logger.batches.PendingBatches.{PendingBatches}
-use Rattle.sled_core.specs.OpenBatches.{AreByPlace, batch_of}
+use Rattle.sled_core.specs.inside.OpenBatches.{AreByPlace}
+use Rattle.sled_core.specs.OpenBatches.{batch_of}
 use Rattle.sled_core.proofs.Reached.ByPlace.{with_by_place}
 use Rattle.sled_core.proofs.Reached.Searched.{put_in_place}
 use Rattle.sled_core.proofs.logger.batches.PendingBatches.put_in.Goals as goal

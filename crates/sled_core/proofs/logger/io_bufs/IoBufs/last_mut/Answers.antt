@@ -1,7 +1,7 @@
 -- It is the one at the number of those behind the first.
 use Rattle.std.proofs.Common.{◌≡◌, ap, refl, subst, rules, length, Some}
 use Rattle.std.specs.List.{slice_get}
-use Rattle.sled_core.specs.Begun.{open_segments, with_nth}
+use Rattle.sled_core.specs.inside.Begun.{open_segments, with_nth}
 use Rattle.sled_core.proofs.logger.io_bufs.IoBufs.last_mut.Goals as goal
 
 pub returns : goal.returns

@@ -1,6 +1,6 @@
 use Rattle.std.specs.Prelude.{◌≡◌, length}
 use Rattle.sled_core.specs.Begun.{line_in}
-use Rattle.sled_core.specs.Turned.{promoted}
+use Rattle.sled_core.specs.inside.Turned.{promoted}
 use Rattle.sled_core.proofs.logger.io_bufs.IoBufs.promote.Given as goal
 
 -- Segments are left out until the first one isn't wholly on the device, or is the last.

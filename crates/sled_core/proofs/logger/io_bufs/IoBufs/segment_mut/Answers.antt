@@ -1,7 +1,7 @@
 -- The first one is lent, or one behind it, by the number before.
 use Rattle.std.proofs.Common.{◌≡◌, ◌-◌, ◌<◌, ap, refl, arith, ℕ, zero, suc}
 use Rattle.std.specs.VecDeque.{deque_with_item}
-use Rattle.sled_core.specs.Begun.{with_nth}
+use Rattle.sled_core.specs.inside.Begun.{with_nth}
 use Rattle.sled_core.specs.declared.logger.io_bufs.IoBufs.{IoBufs}
 use Rattle.sled_core.specs.declared.logger.io_bufs.SegmentBuffer.{SegmentBuffer}
 use Rattle.sled_core.proofs.Holds.Nth.{get_behind}

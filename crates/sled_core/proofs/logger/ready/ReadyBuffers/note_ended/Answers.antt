@@ -1,7 +1,7 @@
 -- The buffer that had the reservation is the one around where that begins: its place comes, where it has no other open one.
 use Rattle.std.proofs.Common.{arith, ◌∙◌, ◌+◌, ◌<◌, ap, sym, subst, List}
 use Rattle.sled_core.specs.declared.iobuf.Sealed.{Sealed}
-use Rattle.sled_core.specs.ReadyBuffers.{HasOwn}
+use Rattle.sled_core.specs.inside.ReadyBuffers.{HasOwn}
 use Rattle.sled_core.specs.SealedBuffers.{sealed_count}
 use Rattle.sled_core.proofs.Pending.Ends.{around_it, entered, left_held, none_of_them, now_ready, read_at, read_below, stays}
 use Rattle.sled_core.proofs.logger.ready.ReadyBuffers.note_ended.Goals as goal

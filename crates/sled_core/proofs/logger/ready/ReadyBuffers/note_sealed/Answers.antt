@@ -4,8 +4,9 @@ use Rattle.std.proofs.Math.Seq.{get_or-append_seam}
 use Rattle.std.proofs.lemmas.List.{append-nil}
 use Rattle.std.proofs.lemmas.List.Elements.{All-nil}
 use Rattle.sled_core.specs.declared.iobuf.Sealed.{Sealed}
-use Rattle.sled_core.specs.ReadyBuffers.{held_in}
-use Rattle.sled_core.specs.SealedBuffers.{is_ready, sealed_end}
+use Rattle.sled_core.specs.inside.ReadyBuffers.{held_in}
+use Rattle.sled_core.specs.inside.SealedBuffers.{is_ready}
+use Rattle.sled_core.specs.SealedBuffers.{sealed_end}
 use Rattle.sled_core.proofs.Pending.Owns.{held_counted, one_more, ready_uncounted}
 use Rattle.sled_core.proofs.logger.ready.ReadyBuffers.note_sealed.Goals as goal
 

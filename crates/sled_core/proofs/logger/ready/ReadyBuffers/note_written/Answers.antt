@@ -2,7 +2,7 @@
 use Rattle.std.proofs.Common.{arith, ◌≡◌, ◌∙◌, ◌+◌, ◌<◌, ◌≤◌, ap, sym, subst, ℕ, suc, true, List, [], ◌∷◌, ◌++◌, append_assoc, take, drop}
 use Rattle.std.specs.List.{All}
 use Rattle.sled_core.specs.declared.iobuf.Sealed.{Sealed}
-use Rattle.sled_core.specs.ReadyBuffers.{HasOwn}
+use Rattle.sled_core.specs.inside.ReadyBuffers.{HasOwn}
 use Rattle.sled_core.proofs.Pending.Owns.{changed, ready_uncounted}
 use Rattle.sled_core.proofs.Pending.Places.{Rise, around, begins, higher, higher_above, lower, lower_below, parted_ready, rise_of, written_around}
 use Rattle.sled_core.proofs.logger.ready.ReadyBuffers.note_written.Goals as goal

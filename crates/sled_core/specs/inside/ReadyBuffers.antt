@@ -7,7 +7,8 @@ use Rattle.sled_core.specs.declared.iobuf.IoBuf.{IoBuf}
 use Rattle.sled_core.specs.declared.iobuf.Reserved.{Reserved}
 use Rattle.sled_core.specs.declared.iobuf.Sealed.{Sealed}
 use Rattle.sled_core.specs.declared.logger.ready.ReadyBuffers.{ReadyBuffers}
-use Rattle.sled_core.specs.SealedBuffers.{AreSealed, HasOpenAt, is_ready, one_ended, sealed_count, sealed_end}
+use Rattle.sled_core.specs.inside.SealedBuffers.{AreSealed, HasOpenAt, is_ready, one_ended}
+use Rattle.sled_core.specs.SealedBuffers.{sealed_count, sealed_end}
 
 -- where those of a segment at this place begin that can be written, from an offset on
 abbrev pub ready_in : ℕ → ℕ → List Sealed → List ℕ

@@ -6,8 +6,8 @@ use native.Mathlib.Nat.{ℕ_set}
 use native.Mathlib.Bridge.{le_prop}
 use Rattle.sled_core.specs.declared.iobuf.Reserved.{Reserved}
 use Rattle.sled_core.specs.declared.iobuf.Sealed.{Sealed}
-use Rattle.sled_core.specs.Buffers.{IsChain}
-use Rattle.sled_core.specs.SealedBuffers.{IsSealed, AreSealed, FirstUnwritten}
+use Rattle.sled_core.specs.inside.Buffers.{IsChain}
+use Rattle.sled_core.specs.inside.SealedBuffers.{IsSealed, AreSealed, FirstUnwritten}
 
 pub IsChain-prop : (from : ℕ) (rs : List Reserved) (end : ℕ) → IsProp (IsChain from rs end)
 IsChain-prop from [] end = λ p q. ℕ_set _ _ p q

@@ -14,10 +14,11 @@ use Rattle.sled_core.specs.declared.iobuf.ReservationState.{ReservationState}
 use Rattle.sled_core.specs.declared.iobuf.ReservationState.TheVariants.{Open}
 use Rattle.sled_core.specs.declared.logger.Log.{Log}
 use Rattle.sled_core.specs.Begun.{SegmentView, view_at}
-use Rattle.sled_core.specs.Buffers.{ended, most_open, open_in, pointer_as}
+use Rattle.sled_core.specs.inside.Buffers.{ended}
+use Rattle.sled_core.specs.Buffers.{most_open, open_in, pointer_as}
 use Rattle.sled_core.specs.Fits.{current_of, segment_size_of}
-use Rattle.sled_core.specs.SealedBuffers.{behind_run, bytes_between, first_ready, is_ready, one_ended, run_count, run_end, sealed_count, sealed_end, writing}
-use Rattle.sled_core.specs.SealedBuffers.{written_at}
+use Rattle.sled_core.specs.inside.SealedBuffers.{behind_run, first_ready, is_ready, one_ended, run_count, run_end, written_at}
+use Rattle.sled_core.specs.SealedBuffers.{bytes_between, sealed_count, sealed_end, writing}
 use Rattle.sled_core.specs.declared.reservation.Reservation.{Reservation}
 use Rattle.sled_core.specs.Tickets.{IsFor, index_of, len_of, place_of, pointer_of}
 use Rattle.sled_core.specs.Waiting.{at_last, closed_now, last_of, with_parts}

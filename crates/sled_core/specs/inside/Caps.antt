@@ -1,4 +1,4 @@
--- What fills a full segment to its end: a Cap and zeros, or zeros alone where a header has no room.
+-- What proofs, and functions that no user calls, need beside `specs/Caps.antt`. No public contract names it.
 use Rattle.std.specs.Prelude.{◌+◌, ◌-◌, ◌^◌, nat_lt, ℕ, if◌then◌else◌, List, ◌++◌, length, replicate}
 use Rattle.sled_codec.specs.declared.serialization.message.MessageKind.TheVariants.{Cap}
 use Rattle.sled_codec.specs.Record.{short_record}
@@ -20,10 +20,6 @@ filled_up text len = text ++ replicate (len - length text) 0
 -- a Cap with zeros behind it, from an offset of a segment of this number to its end; the Cap's body is as long as if its header had 32 bytes
 abbrev pub capped_rest : (List ℕ → ℕ) → ℕ → ℕ → ℕ → List ℕ
 capped_rest sum size number from = filled_up (cap_record sum number (size - from - 32)) (size - from)
-
--- What fills a segment of this number from an offset to its end: a Cap with zeros behind it, or zeros alone where a header has no room.
-unfoldable pub segment_rest : (List ℕ → ℕ) → ℕ → ℕ → ℕ → List ℕ
-segment_rest sum size number from = if nat_lt size (from + 32) then replicate (size - from) 0 else capped_rest sum size number from
 
 -- why the reading of a segment that was filled so ends there
 abbrev pub rest_why : ℕ → ℕ → ScanEnd

@@ -7,7 +7,7 @@ use Rattle.sled_codec.specs.Record.{IsHeader}
 use Rattle.sled_codec.specs.Snapshots.{SnapshotModel, stable_place}
 use Rattle.sled_store.specs.SegmentStates.{Machine, is_free, slot_at}
 use Rattle.sled_store.specs.SnapshotFiles.{BeginsFrom}
-use Rattle.sled_core.specs.Tail.{least_place}
+use Rattle.sled_core.specs.inside.Tail.{least_place}
 
 -- The header of its segment stands in each slot that isn't free whose segment begins below a place.
 abbrev pub AreBegun : (List ℕ → ℕ) → ℕ → List ℕ → ℕ → Machine → Type 0

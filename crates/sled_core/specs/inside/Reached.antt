@@ -10,10 +10,11 @@ use Rattle.sled_core.specs.declared.iterator.scan.ScanEnd.{ScanEnd}
 use Rattle.sled_core.specs.declared.iterator.scan.ScanEnd.TheVariants.{Broken}
 use Rattle.sled_core.specs.Begun.{records_to}
 use Rattle.sled_core.specs.OpenBatches.{stable_below}
-use Rattle.sled_core.specs.Scan.{IsFoundSegment}
-use Rattle.sled_core.specs.Tail.{IsOrdering, IsScanned, Scanned, AreScanned, least_place}
-use Rattle.sled_core.specs.Recoverable.{NothingBehind, NoMessageBegins, NoBatchBegins, NoBatchEnds, StandsInline, IsOfHistory, IsSegmentOf, IsMarkOf}
-use Rattle.sled_core.specs.Recoverable.{IsMarkBelow, LiesInSegment, IsPlacedBatch}
+use Rattle.sled_core.specs.inside.Scan.{IsFoundSegment}
+use Rattle.sled_core.specs.inside.Tail.{IsOrdering, AreScanned, least_place}
+use Rattle.sled_core.specs.Tail.{IsScanned, Scanned}
+use Rattle.sled_core.specs.inside.Recoverable.{NothingBehind, NoMessageBegins, NoBatchBegins, NoBatchEnds, StandsInline, IsOfHistory, IsSegmentOf, IsMarkOf}
+use Rattle.sled_core.specs.inside.Recoverable.{IsMarkBelow, LiesInSegment, IsPlacedBatch}
 
 -- The segments that are found from that of the snapshot on are of the history, and up to a place that the log has reached they are read without a gap. What
 -- is found beyond is of the history too, however much of it there is.

@@ -8,16 +8,17 @@ use Rattle.sled_store.specs.Device.{State}
 use Rattle.sled_core.specs.declared.iobuf.SegmentPosition.{SegmentPosition}
 use Rattle.sled_core.specs.declared.iterator.Segment.{Segment}
 use Rattle.sled_core.specs.Begun.{SegmentParts, records_to}
-use Rattle.sled_core.specs.Fits.{HoldsIn, begun_segment, log_parts}
-use Rattle.sled_core.specs.LogFile.{padded}
+use Rattle.sled_core.specs.inside.Fits.{HoldsIn, begun_segment, log_parts}
+use Rattle.sled_core.specs.inside.LogFile.{padded}
 use Rattle.sled_core.specs.Logged.{logged}
-use Rattle.sled_core.specs.Reached.{BeginsNext, BeginsOne, BegunSegment, LeadsTo, StandsIn, StandsTo}
+use Rattle.sled_core.specs.inside.Reached.{BeginsNext, BeginsOne, BegunSegment, LeadsTo, StandsIn, StandsTo}
 use Rattle.sled_core.specs.OpenBatches.{stable_below}
 use Rattle.sled_core.specs.OwnNames.{ReadsStayOwn}
-use Rattle.sled_core.specs.Recoverable.{LeavesRecoverable, NoBatchBegins, NoBatchEnds, NoHeaderOfZeros, BlobsAreBelow}
-use Rattle.sled_core.specs.Running.{BlobsFit, KeepsEntries, KeepsItems, NamesFit}
-use Rattle.sled_core.specs.Scan.{IsFoundSegment}
-use Rattle.sled_core.specs.Tail.{least_place}
+use Rattle.sled_core.specs.Recoverable.{LeavesRecoverable, NoHeaderOfZeros}
+use Rattle.sled_core.specs.inside.Recoverable.{NoBatchBegins, NoBatchEnds, BlobsAreBelow}
+use Rattle.sled_core.specs.inside.Running.{BlobsFit, KeepsEntries, KeepsItems, NamesFit}
+use Rattle.sled_core.specs.inside.Scan.{IsFoundSegment}
+use Rattle.sled_core.specs.inside.Tail.{least_place}
 
 -- The segment before one at this place is full and read to its end; behind it come these, each as far as it is written.
 pub record StandsFull (sum : List ℕ → ℕ) (size : ℕ) (log : List ℕ) (place : ℕ) (others : List BegunSegment) (reach : ℕ) (H : History)

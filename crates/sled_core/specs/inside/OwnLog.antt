@@ -9,7 +9,7 @@ use Rattle.sled_store.specs.Readers.{Reads, IsOwnRange}
 use Rattle.sled_core.specs.Begun.{SegmentView}
 use Rattle.sled_core.specs.declared.iobuf.Sealed.{Sealed}
 use Rattle.sled_core.specs.declared.iobuf.SegmentPosition.{SegmentPosition}
-use Rattle.sled_core.specs.LogFile.{padded}
+use Rattle.sled_core.specs.inside.LogFile.{padded}
 
 -- Each of these sealed buffers that is written is such a range of its segment.
 abbrev pub AreWritten : (ℕ → ℕ → Type 0) → ℕ → List Sealed → Type 0
