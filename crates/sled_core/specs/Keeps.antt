@@ -8,7 +8,7 @@ use Rattle.sled_store.specs.Device.{Trace}
 use Rattle.sled_store.specs.Moments.{IsLater, LeavesOnly}
 use Rattle.sled_core.specs.declared.logger.Log.{Log}
 use Rattle.sled_core.specs.declared.reservation.Reservation.{Reservation}
-use Rattle.sled_core.specs.Fits.{Awaits, NoneSealed, buffers_of, config_of, current_begin, current_of, device_of, fault_of, kept_batches, line_of, machine_at}
+use Rattle.sled_core.specs.Fits.{KeepsTickets, Awaits, NoneSealed, buffers_of, config_of, current_begin, current_of, device_of, fault_of, kept_batches, line_of, machine_at}
 use Rattle.sled_core.specs.Fits.{noted_in, pins_of, position_of, reserved_end, segment_size_of, start_of, synced_end, waiting_of}
 use Rattle.sled_core.specs.invariants.Fits.{Holds}
 use Rattle.sled_store.specs.SegmentStates.{next_slot}
@@ -79,6 +79,13 @@ pub record SamePosition {D C : Type 0} (old new : Log D C) : Type 0 where
   pub reserved : reserved_end new ≡ reserved_end old
   pub pins : pins_of new ≡ pins_of old
   pub size : segment_size_of new ≡ segment_size_of old
+
+-- What a call keeps that makes no reservation and ends none: what the log holds and goes on fitting, its open reservations with their tickets, and where the
+-- next record begins.
+pub record KeepsLog {D C : Type 0} (trace : D → Trace) (sum : List ℕ → ℕ) (old new : Log D C) : Type 0 where
+  pub preserves : Preserves trace sum old new
+  pub tickets : KeepsTickets old new
+  pub position : SamePosition old new
 
 -- Nothing that a caller sees of the log is another, but for its device.
 pub record IsUnchangedOver {D C : Type 0} (old new : Log D C) : Type 0 where

@@ -4,6 +4,7 @@ pub mod Begun
 pub mod Buffers
 pub mod Canceled
 pub mod Causes
+pub mod Endings
 pub mod Fits
 pub mod FreeSlots
 pub mod Fronts

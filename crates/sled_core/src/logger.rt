@@ -2,7 +2,7 @@
 //!
 //! A log keeps the bytes of its segments that aren't wholly on the device, the reservations in them, the accountant of all
 //! segments, the count of pins, and the first failure of its device, which it answers from then on. `specs/Fits.antt` says which history it holds.
-ghost use Rattle.std.specs.Prelude.{All, List, ◌≡◌, ◌≢◌, ◌↔◌, ◌+◌, ◌-◌, ◌<◌, ◌≤◌, ◌^◌, ◌∷◌, ◌-ℤ◌, pos, [], ℕ, length, false, IsTrue, IfOk, IfErr, OnOk, OnErr, Contains, None, Some, ◌/◌, unsigned_abs, ℤ, max};
+ghost use Rattle.std.specs.Prelude.{All, List, ◌≡◌, ◌≢◌, ◌↔◌, ◌+◌, ◌-◌, ◌<◌, ◌^◌, ◌∷◌, ◌-ℤ◌, pos, [], ℕ, length, false, IsTrue, IfOk, IfErr, OnOk, OnErr, Contains, None, Some, ◌/◌, unsigned_abs, ℤ, max};
 ghost use Rattle.sled_codec.specs.History.{History, Message, Completed, Step};
 ghost use Rattle.sled_codec.specs.Errors.{IsCorrupt, IsCorruption};
 ghost use Rattle.sled_store.specs.Device.{state_of};
@@ -87,10 +87,10 @@ pub struct Log<D, C> {
 
 impl<D: Device, C: Checksum> Log<D, C> {
     ghost use Rattle.sled_core.specs.invariants.Fits.{Holds};
-    ghost use Rattle.sled_core.specs.Fits.{open_places, Awaits, IsOpen, FitsInline, fault_of, synced_end, reserved_end, pins_of, config_of, device_of, HasRecordOf, line_of, segment_size_of, waiting_of, current_begin, FirstWaits, stable_end, KeepsBuffers, KeepsAll, KeepsTickets};
-    ghost use Rattle.sled_core.specs.OpenPlaces.{TakesOutPlaceOf};
+    ghost use Rattle.sled_core.specs.Fits.{Awaits, IsOpen, FitsInline, fault_of, synced_end, reserved_end, pins_of, config_of, device_of, HasRecordOf, line_of, segment_size_of, waiting_of, current_begin, FirstWaits, stable_end, KeepsAll};
     ghost use Rattle.sled_core.specs.Fronts.{CameAround};
-    ghost use Rattle.sled_core.specs.Keeps.{ConfigKept, GoesOn, KeepsOthers, Preserves, SamePosition};
+    ghost use Rattle.sled_core.specs.Endings.{EndsTicket};
+    ghost use Rattle.sled_core.specs.Keeps.{KeepsLog, ConfigKept, GoesOn, Preserves};
     ghost use Rattle.sled_core.specs.Marked.{StartsMarked};
     ghost use Rattle.sled_core.specs.ReadBuffer.{IsUsedUpAt, ReadAnswers, RefusesPlace, SealsAround, Settles, WritesAround, held_at};
     ghost use Rattle.sled_core.specs.ReadPointer.{IsDamageAt, IsReadOf, ReadsBlob, place_read};
@@ -227,16 +227,13 @@ impl<D: Device, C: Checksum> Log<D, C> {
         ensures place { IfOk result (IsPlaceOf ticket) }
         ensures history { (H : History) (m : Message) → Holds D.trace C.sum_of self.old H → Awaits self.old ticket m
             → OnOk result ((H' : History) × Step H (Completed m) H' × Holds D.trace C.sum_of self.new H') }
-        ensures others { KeepsOthers D.trace C.sum_of ticket self.old self.new }
-        ensures opens { TakesOutPlaceOf result ticket (open_places self.old) (open_places self.new) }
+        ensures ends { EndsTicket D.trace C.sum_of result ticket self.old self.new }
         ensures answers { FaultAnswers result (fault_of self.old) }
         ensures fits { (H : History) (A f : ℕ) (U : List Message) (m : Message)
             → Fits D.trace C.sum_of self.old H A f U → Awaits self.old ticket m → IsStored D.trace C.sum_of self.old m → 0 < pins_of self.old
             → OnOk result ((H' : History) × Step H (Completed m) H' × Fits D.trace C.sum_of self.new H' A f (m ∷ U)) }
         ensures goes_on { GoesOn D.trace C.sum_of self.old self.new }
         ensures same { KeepsAll self.old self.new }
-        ensures position { SamePosition self.old self.new }
-        ensures buffers { KeepsBuffers self.old self.new }
         ensures err { OnErr result (self.new ≡ self.old) }
     {
         let place = ticket.lsn();
@@ -289,9 +286,7 @@ impl<D: Device, C: Checksum> Log<D, C> {
         ensures refused { RefusesPlace result lsn ptr self.old self.new }
         ensures buffers { let at = place_read lsn ptr in SealsAround result at self.old self.new × WritesAround C.sum_of result at self.old self.new
             × OnErr result (CameAround D.trace C.sum_of at self.old self.new) }
-        ensures keeps { Preserves D.trace C.sum_of self.old self.new }
-        ensures tickets { KeepsTickets self.old self.new }
-        ensures position { SamePosition self.old self.new }
+        ensures keeps { KeepsLog D.trace C.sum_of self.old self.new }
         ensures answers { let blobs = (state_of (D.trace (device_of self.new))).blobs.file in let at = place_read lsn ptr in
             ReadAnswers C.sum_of blobs ptr result at (synced_end self.old) (reserved_end self.old) (held_at C.sum_of self.old at) (IsUsedUpAt self.old at)
             (fault_of self.old) (fault_of self.new) (D.faults (device_of self.old)) (D.faults (device_of self.new)) }
@@ -314,9 +309,7 @@ impl<D: Device, C: Checksum> Log<D, C> {
         requires begin { MayBegin (segment_size_of self.old) (lid_of ptr) }
         ensures reading { IfOk result (IsReadOf C.sum_of (segment_size_of self.old) (state_of (D.trace (device_of self.old))) page number.0 ptr) }
         ensures damage { IfErr result (IsDamageOf C.sum_of (segment_size_of self.old) (state_of (D.trace (device_of self.old))) number.0 ptr) }
-        ensures keeps { Preserves D.trace C.sum_of self.old self.new }
-        ensures tickets { KeepsTickets self.old self.new }
-        ensures position { SamePosition self.old self.new }
+        ensures keeps { KeepsLog D.trace C.sum_of self.old self.new }
         ensures trace { D.trace (device_of self.new) ≡ D.trace (device_of self.old) }
         ensures line { line_of self.new ≡ line_of self.old }
         ensures answers { let blobs = (state_of (D.trace (device_of self.old))).blobs.file in

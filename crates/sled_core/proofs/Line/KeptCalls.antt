@@ -1,5 +1,6 @@
 -- A call keeps what a log held and fitted where it leaves its device and what is written alone, and where it is two such calls in a row.
-use Rattle.std.proofs.Common.{◌≡◌, ◌∙◌, ◌≤◌, ℕ, Bool, List, [], None, refl, ap, subst, arith}
+use Rattle.std.proofs.Common.{◌≡◌, ◌∙◌, ◌≤◌, ℕ, Bool, List, [], None, refl, ap, subst, arith, Err}
+use Rattle.sled_codec.specs.declared.result.Error.{Error}
 use Rattle.sled_codec.specs.History.{Message, History}
 use Rattle.sled_store.specs.declared.config.Config.{Config}
 use Rattle.sled_store.specs.Device.{State, Trace, state_of}
@@ -8,8 +9,10 @@ use Rattle.sled_store.proofs.PublicLaws.{later_both}
 use Rattle.sled_store.proofs.Traces.MomentLemmas.{started, stays, joined}
 use Rattle.sled_store.proofs.Traces.StopLemmas.{asked_behind, asked_state, asked_later, asked_throughout}
 use Rattle.sled_core.specs.declared.logger.Log.{Log}
+use Rattle.sled_core.specs.declared.reservation.Reservation.{Reservation}
+use Rattle.sled_core.specs.Endings.{EndsTicket}
 use Rattle.sled_core.specs.Fits.{KeepsTickets, config_of, device_of, fault_of, segment_size_of, synced_end}
-use Rattle.sled_core.specs.Keeps.{ConfigKept, GoesOn, Preserves, SamePosition}
+use Rattle.sled_core.specs.Keeps.{ConfigKept, GoesOn, KeepsLog, Preserves, SamePosition}
 use Rattle.sled_core.specs.Recoverable.{RecoverableIfOwn}
 use Rattle.sled_core.specs.invariants.Running.{Fits}
 use Rattle.sled_core.proofs.Holds.RunningLemmas.{fits_leaves}
@@ -86,3 +89,11 @@ position_still log = record { position = refl; reserved = refl; pins = refl; siz
 
 pub position_further : {D C : Type 0} (old mid new : Log D C) → SamePosition old mid → SamePosition mid new → SamePosition old new
 position_further old mid new first then = record { position = then.position ∙ first.position; reserved = then.reserved ∙ first.reserved; pins = then.pins ∙ first.pins; size = then.size ∙ first.size }
+
+-- All of it.
+pub log_still : {D C : Type 0} (trace : D → Trace) (sum : List ℕ → ℕ) (log : Log D C) → KeepsLog trace sum log log
+log_still trace sum log = record { preserves = kept_still trace sum log; tickets = tickets_still log; position = position_still log }
+
+-- A ticket was spent for nothing.
+pub ends_none : {T D C : Type 0} (trace : D → Trace) (sum : List ℕ → ℕ) (ticket : Reservation) (log : Log D C) (e : Error) → EndsTicket {T = T} trace sum (Err e) ticket log log
+ends_none trace sum ticket log e = record { others = λ H other m holds awaits apart. awaits; opens = λ place is. tt; position = position_still log; buffers = record { waiting = refl; start = refl } }

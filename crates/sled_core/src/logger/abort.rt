@@ -6,10 +6,10 @@ ghost use Rattle.std.specs.Prelude.{◌≡◌, IfOk, IsSome, None, OnErr, OnOk};
 ghost use Rattle.sled_codec.specs.History.{History, Message};
 ghost use Rattle.sled_core.specs.Canceled.{WritesCanceled};
 ghost use Rattle.sled_core.specs.Causes.{FaultAnswers};
-ghost use Rattle.sled_core.specs.Fits.{Awaits, IsOpen, KeepsAll, KeepsBuffers, KeepsTickets, device_of, fault_of, open_places};
+ghost use Rattle.sled_core.specs.Fits.{Awaits, IsOpen, KeepsAll, KeepsTickets, device_of, fault_of};
 ghost use Rattle.sled_core.specs.invariants.Fits.{Holds};
-ghost use Rattle.sled_core.specs.Keeps.{KeepsOthers, KeepsSeen, Preserves, SamePosition};
-ghost use Rattle.sled_core.specs.OpenPlaces.{TakesOutPlaceOf};
+ghost use Rattle.sled_core.specs.Endings.{EndsTicket};
+ghost use Rattle.sled_core.specs.Keeps.{KeepsSeen, Preserves};
 ghost use Rattle.sled_core.specs.OwnBlobs.{PreservesWithout, RemovedAnswers, RemovesBlob};
 ghost use Rattle.sled_core.specs.Tickets.{IsPlaceOf, own_blob};
 ghost use Rattle.sled_core.specs.inside.Turned.{ChangesDevice};
@@ -39,15 +39,12 @@ impl<D: Device, C: Checksum> Log<D, C> {
         ensures place { IfOk result (IsPlaceOf ticket) }
         ensures canceled { (H : History) (m : Message) → Holds D.trace C.sum_of self.old H → Awaits self.old ticket m
             → OnOk result (WritesCanceled C.sum_of self.new m) }
-        ensures others { KeepsOthers D.trace C.sum_of ticket self.old self.new }
-        ensures opens { TakesOutPlaceOf result ticket (open_places self.old) (open_places self.new) }
+        ensures ends { EndsTicket D.trace C.sum_of result ticket self.old self.new }
         ensures answers { RemovedAnswers result (own_blob ticket) (fault_of self.old) (fault_of self.new)
             (D.faults (device_of self.old)) (D.faults (device_of self.new)) }
         ensures device { RemovesBlob D.trace result (own_blob ticket) self.old self.new }
         ensures keeps { PreservesWithout D.trace C.sum_of (own_blob ticket) self.old self.new }
         ensures seen { KeepsSeen self.old self.new }
-        ensures buffers { KeepsBuffers self.old self.new }
-        ensures position { SamePosition self.old self.new }
         ensures err { OnErr result (KeepsTickets self.old self.new × (IsSome (fault_of self.old) → self.new ≡ self.old)) }
     {
         let own = ticket.own_blob;
@@ -94,13 +91,10 @@ impl<D: Device, C: Checksum> Log<D, C> {
         ensures place { IfOk result (IsPlaceOf ticket) }
         ensures canceled { (H : History) (m : Message) → Holds D.trace C.sum_of self.old H → Awaits self.old ticket m
             → OnOk result (WritesCanceled C.sum_of self.new m) }
-        ensures others { KeepsOthers D.trace C.sum_of ticket self.old self.new }
-        ensures opens { TakesOutPlaceOf result ticket (open_places self.old) (open_places self.new) }
+        ensures ends { EndsTicket D.trace C.sum_of result ticket self.old self.new }
         ensures answers { FaultAnswers result (fault_of self.old) }
         ensures keeps { Preserves D.trace C.sum_of self.old self.new }
         ensures same { KeepsAll self.old self.new }
-        ensures buffers { KeepsBuffers self.old self.new }
-        ensures position { SamePosition self.old self.new }
         ensures err { OnErr result (self.new ≡ self.old) }
     {
         let place = ticket.lsn();

@@ -2,8 +2,8 @@
 ghost use Rattle.std.specs.Prelude.{if◌then◌else◌, ◌≡◌, ◌∷◌};
 ghost use Rattle.sled_store.specs.Device.{StopAsked};
 ghost use Rattle.sled_store.specs.Stops.{KeepsToStop};
-ghost use Rattle.sled_core.specs.Fits.{KeepsTickets, device_of};
-ghost use Rattle.sled_core.specs.Keeps.{IsUnchangedOver, Preserves, SamePosition};
+ghost use Rattle.sled_core.specs.Fits.{device_of};
+ghost use Rattle.sled_core.specs.Keeps.{KeepsLog, IsUnchangedOver};
 
 use crate::logger::Log;
 use sled_codec::serialization::Checksum;
@@ -18,9 +18,7 @@ impl<D: CrashDevice, C: Checksum> Log<D, C> {
         ensures faults { D.faults (device_of self.new) ≡ D.faults (device_of self.old) }
         ensures fails { D.fails_in (device_of self.new) ≡ D.fails_in (device_of self.old) }
         ensures stopped { D.is_stopped (device_of self.new) ≡ D.is_stopped (device_of self.old) }
-        ensures keeps { Preserves D.trace C.sum_of self.old self.new }
-        ensures tickets { KeepsTickets self.old self.new }
-        ensures position { SamePosition self.old self.new }
+        ensures keeps { KeepsLog D.trace C.sum_of self.old self.new }
         ensures rest { IsUnchangedOver self.old self.new }
     {
         self.config.device.stop_after(n);

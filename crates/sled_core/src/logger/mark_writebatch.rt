@@ -7,9 +7,9 @@ ghost use Rattle.sled_codec.specs.History.{Batch, Batched, History, Message, Ste
 ghost use Rattle.sled_core.specs.Batches.{EndsBatch, LiesInNoFilling, MayEndAt, NotesBatchOf, batch_for};
 ghost use Rattle.sled_core.specs.Causes.{FaultAnswers};
 ghost use Rattle.sled_core.specs.invariants.Fits.{Holds};
-ghost use Rattle.sled_core.specs.Fits.{IsOpen, KeepsBuffers, fault_of, line_of, noted_in, open_places, reserved_end, segment_size_of};
-ghost use Rattle.sled_core.specs.Keeps.{GoesOn, KeepsOthers, Preserves, SamePosition};
-ghost use Rattle.sled_core.specs.OpenPlaces.{TakesOutPlaceOf};
+ghost use Rattle.sled_core.specs.Fits.{IsOpen, fault_of, line_of, noted_in, reserved_end, segment_size_of};
+ghost use Rattle.sled_core.specs.Endings.{EndsTicket};
+ghost use Rattle.sled_core.specs.Keeps.{GoesOn, Preserves};
 ghost use Rattle.sled_core.specs.invariants.Running.{Fits};
 ghost use Rattle.sled_core.specs.Tickets.{IsPlaceOf, is_manifest_of, place_of};
 
@@ -41,13 +41,10 @@ impl<D: Device, C: Checksum> Log<D, C> {
         ensures fits { (H : History) (A f : ℕ) (U : List Message) → Fits D.trace C.sum_of self.old H A f U
             → OnOk result ((H' : History) × EndsBatch H ticket peg H' × Fits D.trace C.sum_of self.new H' A f U) }
         ensures canceled { peg ≡ place_of ticket → Preserves D.trace C.sum_of self.old self.new }
-        ensures others { KeepsOthers D.trace C.sum_of ticket self.old self.new }
-        ensures opens { TakesOutPlaceOf result ticket (open_places self.old) (open_places self.new) }
+        ensures ends { EndsTicket D.trace C.sum_of result ticket self.old self.new }
         ensures answers { FaultAnswers result (fault_of self.old) }
         ensures goes_on { GoesOn D.trace C.sum_of self.old self.new }
         ensures same { OnOk result (NotesBatchOf ticket peg self.old self.new) }
-        ensures position { SamePosition self.old self.new }
-        ensures buffers { KeepsBuffers self.old self.new }
         ensures err { OnErr result (self.new ≡ self.old) }
     {
         if peg == ticket.lsn() {
@@ -98,13 +95,10 @@ impl<D: Device, C: Checksum> Log<D, C> {
             → OnOk result ((H' : History) × Step H (Batched (batch_for ticket (pos peg))) H' × Holds D.trace C.sum_of self.new H') }
         ensures fits { (H : History) (A f : ℕ) (U : List Message) → Fits D.trace C.sum_of self.old H A f U
             → OnOk result ((H' : History) × Step H (Batched (batch_for ticket (pos peg))) H' × Fits D.trace C.sum_of self.new H' A f U) }
-        ensures others { KeepsOthers D.trace C.sum_of ticket self.old self.new }
-        ensures opens { TakesOutPlaceOf result ticket (open_places self.old) (open_places self.new) }
+        ensures ends { EndsTicket D.trace C.sum_of result ticket self.old self.new }
         ensures answers { FaultAnswers result (fault_of self.old) }
         ensures goes_on { GoesOn D.trace C.sum_of self.old self.new }
         ensures same { OnOk result (NotesBatchOf ticket (pos peg) self.old self.new) }
-        ensures position { SamePosition self.old self.new }
-        ensures buffers { KeepsBuffers self.old self.new }
         ensures err { OnErr result (self.new ≡ self.old) }
     {
         let place = ticket.lsn();

@@ -8,8 +8,8 @@ ghost use Rattle.sled_core.specs.inside.Begun.{last_buffer_in};
 ghost use Rattle.sled_core.specs.Begun.{view_at};
 ghost use Rattle.sled_core.specs.Causes.{FaultOrMemory};
 ghost use Rattle.sled_core.specs.inside.Fits.{AddsBuffers};
-ghost use Rattle.sled_core.specs.Fits.{IsUnchanged, IsUsedUp, KeepsAll, KeepsTickets, buffers_of, current_begin, current_of, line_of, machine_at, reserved_end, sealing_end, segment_size_of, stable_end, start_of, waiting_of};
-ghost use Rattle.sled_core.specs.Keeps.{Preserves, SamePosition, start_sealed};
+ghost use Rattle.sled_core.specs.Fits.{IsUnchanged, IsUsedUp, KeepsAll, buffers_of, current_begin, current_of, line_of, machine_at, reserved_end, sealing_end, segment_size_of, stable_end, start_of, waiting_of};
+ghost use Rattle.sled_core.specs.Keeps.{KeepsLog, start_sealed};
 ghost use Rattle.sled_core.specs.Marked.{BeginsMarked};
 ghost use Rattle.sled_core.specs.Positions.{is_short};
 ghost use Rattle.sled_core.specs.inside.Turned.{CanClose, ChangesLine, ChangesSlots, HasRoomForBatch, HasRoomIn, IsBegunView, next_line};
@@ -75,10 +75,8 @@ impl<D: Device, C: Checksum> Log<D, C> {
         ensures begins { OnOk result (current_begin self.new ≡ sealing_end self.old) }
         ensures start { OnOk result (start_of self.new ≡ start_sealed self.old) }
         ensures marked { OnOk result (BeginsMarked C.sum_of self.old self.new) }
-        ensures keeps { Preserves D.trace C.sum_of self.old self.new }
-        ensures tickets { KeepsTickets self.old self.new }
+        ensures keeps { KeepsLog D.trace C.sum_of self.old self.new }
         ensures same { KeepsAll self.old self.new }
-        ensures position { SamePosition self.old self.new }
         ensures answers { FaultOrMemory result (IsUsedUp self.old) None }
         ensures err { OnErr result (IsUnchanged self.old self.new) }
     {

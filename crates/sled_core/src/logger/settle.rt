@@ -4,9 +4,9 @@
 ghost use Rattle.std.specs.Prelude.{◌≡◌, ◌<◌, ◌≤◌, ◌<ℤ◌, ◌≤ℤ◌, ◌⊎◌, Contains, pos, unsigned_abs, None, true, OnErr, OnOk};
 ghost use Rattle.sled_store.specs.Script.{after_all, Performs};
 ghost use Rattle.sled_core.specs.Causes.{HeldAnswers, OnDone};
-ghost use Rattle.sled_core.specs.Fits.{KeepsTickets, NoneSealed, current_begin, device_of, fault_of, reserved_end, start_of, synced_end, waiting_of};
+ghost use Rattle.sled_core.specs.Fits.{NoneSealed, current_begin, device_of, fault_of, reserved_end, start_of, synced_end, waiting_of};
 ghost use Rattle.sled_core.specs.Fronts.{CameAround, WroteNone};
-ghost use Rattle.sled_core.specs.Keeps.{Preserves, SamePosition};
+ghost use Rattle.sled_core.specs.Keeps.{KeepsLog};
 ghost use Rattle.sled_core.specs.inside.Marked.{KeepsSegment};
 ghost use Rattle.sled_core.specs.ReadBuffer.{IsUsedUpAt, IsWrittenPlace, SealsAround, WritesAround, held_at, settling};
 ghost use Rattle.sled_core.specs.inside.ReadBuffer.{SettleAnswers};
@@ -27,9 +27,7 @@ impl<D: Device, C: Checksum> Log<D, C> {
         ensures unchanged { IsNotReserved result → self.new ≡ self.old }
         ensures calls { OnDone result (D.trace (device_of self.new) ≡ after_all (settling C.sum_of self.old place) (D.trace (device_of self.old))) }
         ensures at_most { Performs (settling C.sum_of self.old place) (D.trace (device_of self.old)) (D.trace (device_of self.new)) }
-        ensures keeps { Preserves D.trace C.sum_of self.old self.new }
-        ensures tickets { KeepsTickets self.old self.new }
-        ensures position { SamePosition self.old self.new }
+        ensures keeps { KeepsLog D.trace C.sum_of self.old self.new }
         ensures answers { SettleAnswers result place (synced_end self.old) (reserved_end self.old) (held_at C.sum_of self.old place) (IsUsedUpAt self.old place)
             (fault_of self.new) (D.faults (device_of self.old)) (D.faults (device_of self.new)) }
         ensures seals { SealsAround result place self.old self.new }
@@ -54,9 +52,7 @@ impl<D: Device, C: Checksum> Log<D, C> {
         ensures still { place < synced_end self.old → self.new ≡ self.old }
         ensures calls { OnDone result (D.trace (device_of self.new) ≡ after_all (settling C.sum_of self.old (pos place)) (D.trace (device_of self.old))) }
         ensures at_most { Performs (settling C.sum_of self.old (pos place)) (D.trace (device_of self.old)) (D.trace (device_of self.new)) }
-        ensures keeps { Preserves D.trace C.sum_of self.old self.new }
-        ensures tickets { KeepsTickets self.old self.new }
-        ensures position { SamePosition self.old self.new }
+        ensures keeps { KeepsLog D.trace C.sum_of self.old self.new }
         ensures answers { HeldAnswers result (held_at C.sum_of self.old (pos place)) (IsUsedUpAt self.old (pos place)) None (fault_of self.new)
             (D.faults (device_of self.old)) (D.faults (device_of self.new)) }
         ensures seals { SealsAround result (pos place) self.old self.new }
@@ -79,9 +75,7 @@ impl<D: Device, C: Checksum> Log<D, C> {
         ensures written { OnOk result (IsWrittenPlace self.new place) }
         ensures calls { OnDone result (D.trace (device_of self.new) ≡ after_all (settling C.sum_of self.old (pos place)) (D.trace (device_of self.old))) }
         ensures at_most { Performs (settling C.sum_of self.old (pos place)) (D.trace (device_of self.old)) (D.trace (device_of self.new)) }
-        ensures keeps { Preserves D.trace C.sum_of self.old self.new }
-        ensures tickets { KeepsTickets self.old self.new }
-        ensures position { SamePosition self.old self.new }
+        ensures keeps { KeepsLog D.trace C.sum_of self.old self.new }
         ensures answers { HeldAnswers result (held_at C.sum_of self.old (pos place)) ⊥ None (fault_of self.new)
             (D.faults (device_of self.old)) (D.faults (device_of self.new)) }
         ensures start { start_of self.new ≡ start_of self.old }

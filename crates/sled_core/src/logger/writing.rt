@@ -15,9 +15,9 @@ ghost use Rattle.sled_core.specs.Begun.{SegmentView};
 ghost use Rattle.sled_core.specs.Buffers.{first_open_in, open_in};
 ghost use Rattle.sled_core.specs.Causes.{Answers, FaultOrMemory, HeldAnswers, OnDone};
 ghost use Rattle.sled_core.specs.invariants.Fits.{Holds};
-ghost use Rattle.sled_core.specs.Fits.{IsUnchanged, IsUsedUp, IsUsedUpBelow, IsWritten, KeepsAll, KeepsTickets, NoneSealed, buffers_of, current_begin, current_of, device_of, fault_of, flushing, held_len, holding_below, line_of, pending_of, reserved_end, sealing_end, segment_size_of, stable_end, start_of, synced_end, waiting_of, writing_below, writing_pending};
+ghost use Rattle.sled_core.specs.Fits.{IsUnchanged, IsUsedUp, IsUsedUpBelow, IsWritten, KeepsAll, NoneSealed, buffers_of, current_begin, current_of, device_of, fault_of, flushing, held_len, holding_below, line_of, pending_of, reserved_end, sealing_end, segment_size_of, stable_end, start_of, synced_end, waiting_of, writing_below, writing_pending};
 ghost use Rattle.sled_core.specs.Fronts.{CameTo, WroteFront, WroteNone, syncs};
-ghost use Rattle.sled_core.specs.Keeps.{LeavesAbove, Preserves, SamePosition, WritesBelow};
+ghost use Rattle.sled_core.specs.Keeps.{KeepsLog, LeavesAbove, WritesBelow};
 ghost use Rattle.sled_core.specs.Marked.{BeginsMarked};
 ghost use Rattle.sled_core.specs.inside.Marked.{KeepsSegment};
 ghost use Rattle.sled_core.specs.invariants.Running.{Fits};
@@ -51,9 +51,7 @@ impl<D: Device, C: Checksum> Log<D, C> {
         ensures calls { OnOk result (D.trace (device_of self.new) ≡ after_all (writing_pending self.old i) (D.trace (device_of self.old))) }
         ensures at_most { Performs (writing_pending self.old i) (D.trace (device_of self.old)) (D.trace (device_of self.new)) }
         ensures written { OnOk result (waiting_of self.new ≡ without_pending i (waiting_of self.old)) }
-        ensures keeps { Preserves D.trace C.sum_of self.old self.new }
-        ensures tickets { KeepsTickets self.old self.new }
-        ensures position { SamePosition self.old self.new }
+        ensures keeps { KeepsLog D.trace C.sum_of self.old self.new }
         ensures start { start_of self.new ≡ start_of self.old }
         ensures answers { Answers result (fault_of self.old) (fault_of self.new) (D.faults (device_of self.old)) (D.faults (device_of self.new)) }
         ensures faulty { (e : IoError) → fault_of self.old ≡ Some e → self.new ≡ self.old }
@@ -96,10 +94,8 @@ impl<D: Device, C: Checksum> Log<D, C> {
         ensures sealed { OnOk result (waiting_of self.new ≡ buffers_of C.sum_of self.old) }
         ensures begins { OnOk result (current_begin self.new ≡ (if holds_any (current_of self.old) then sealing_end self.old else current_begin self.old)) }
         ensures marked { OnOk result (BeginsMarked C.sum_of self.old self.new) }
-        ensures keeps { Preserves D.trace C.sum_of self.old self.new }
-        ensures tickets { KeepsTickets self.old self.new }
+        ensures keeps { KeepsLog D.trace C.sum_of self.old self.new }
         ensures same { KeepsAll self.old self.new }
-        ensures position { SamePosition self.old self.new }
         ensures answers { FaultOrMemory result ((0 < held_len self.old) × IsUsedUp self.old) (fault_of self.old) }
         ensures err { OnErr result (IsUnchanged self.old self.new) }
     {
@@ -133,11 +129,9 @@ impl<D: Device, C: Checksum> Log<D, C> {
         ensures records { (H : History) → Holds D.trace C.sum_of self.old H → OnOk result (IsWritten D.trace C.sum_of self.new H) }
         ensures calls { OnDone result (D.trace (device_of self.new) ≡ after_all (flushing C.sum_of self.old) (D.trace (device_of self.old))) }
         ensures at_most { Performs (flushing C.sum_of self.old) (D.trace (device_of self.old)) (D.trace (device_of self.new)) }
-        ensures keeps { Preserves D.trace C.sum_of self.old self.new }
+        ensures keeps { KeepsLog D.trace C.sum_of self.old self.new }
         ensures acknowledges { (H : History) (A f : ℕ) (U : List Message) → Fits D.trace C.sum_of self.old H A f U
             → OnOk result (Fits D.trace C.sum_of self.new H (max A (end_below (synced_end self.new) H)) f U) }
-        ensures tickets { KeepsTickets self.old self.new }
-        ensures position { SamePosition self.old self.new }
         ensures answers { HeldAnswers result (holding_below C.sum_of self.old (reserved_end self.old)) (IsUsedUpBelow self.old (reserved_end self.old))
             (fault_of self.old) (fault_of self.new) (D.faults (device_of self.old)) (D.faults (device_of self.new)) }
         ensures spares { SparesDevice D.faults (flushing C.sum_of self.old) self.old self.new }
@@ -169,9 +163,7 @@ impl<D: Device, C: Checksum> Log<D, C> {
         ensures written { OnOk result (to ≤ synced_end self.new) }
         ensures calls { OnDone result (D.trace (device_of self.new) ≡ after_all (writing_below C.sum_of self.old to) (D.trace (device_of self.old))) }
         ensures at_most { Performs (writing_below C.sum_of self.old to) (D.trace (device_of self.old)) (D.trace (device_of self.new)) }
-        ensures keeps { Preserves D.trace C.sum_of self.old self.new }
-        ensures tickets { KeepsTickets self.old self.new }
-        ensures position { SamePosition self.old self.new }
+        ensures keeps { KeepsLog D.trace C.sum_of self.old self.new }
         ensures answers { HeldAnswers result (holding_below C.sum_of self.old to) (IsUsedUpBelow self.old to) None (fault_of self.new)
             (D.faults (device_of self.old)) (D.faults (device_of self.new)) }
         ensures idle { writing_below C.sum_of self.old to ≡ [] → D.faults (device_of self.new) ≡ D.faults (device_of self.old) }
@@ -192,9 +184,7 @@ impl<D: Device, C: Checksum> Log<D, C> {
         ensures written { OnOk result (to ≤ synced_end self.new) }
         ensures calls { OnDone result (D.trace (device_of self.new) ≡ after_all (writing_below C.sum_of self.old to) (D.trace (device_of self.old))) }
         ensures at_most { Performs (writing_below C.sum_of self.old to) (D.trace (device_of self.old)) (D.trace (device_of self.new)) }
-        ensures keeps { Preserves D.trace C.sum_of self.old self.new }
-        ensures tickets { KeepsTickets self.old self.new }
-        ensures position { SamePosition self.old self.new }
+        ensures keeps { KeepsLog D.trace C.sum_of self.old self.new }
         ensures answers { HeldAnswers result (holding_below C.sum_of self.old to) ⊥ None (fault_of self.new)
             (D.faults (device_of self.old)) (D.faults (device_of self.new)) }
         ensures current { (current_begin self.new ≡ current_begin self.old) × KeepsSegment self.old self.new }
@@ -243,9 +233,7 @@ impl<D: Device, C: Checksum> Log<D, C> {
         ensures same { OnErr result (line_of self.new ≡ line_of self.old) }
         ensures calls { OnOk result (D.trace (device_of self.new) ≡ after_all (write_in (line_of self.old) n k) (D.trace (device_of self.old))) }
         ensures at_most { Performs (write_in (line_of self.old) n k) (D.trace (device_of self.old)) (D.trace (device_of self.new)) }
-        ensures keeps { Preserves D.trace C.sum_of self.old self.new }
-        ensures tickets { KeepsTickets self.old self.new }
-        ensures position { SamePosition self.old self.new }
+        ensures keeps { KeepsLog D.trace C.sum_of self.old self.new }
         ensures answers { Answers result None (fault_of self.new) (D.faults (device_of self.old)) (D.faults (device_of self.new)) }
         ensures refused { UnlessFault result (D.trace (device_of self.old)) (D.trace (device_of self.new)) }
         ensures unwritten { OnErr result (WroteNone D.trace self.old self.new) }

@@ -44,7 +44,7 @@ returns-in-Ok-clause-ready g c = λ H A f U can.
     let is = c.halt-config.ensures.config in
     let size : ℕ = segment_size_of c.args.log in
     let end : ℕ = max A (end_below (synced_end log) H) in
-    let now_size : segment_size_of log ≡ size = c.flush-flushed.ensures.position.size in
+    let now_size : segment_size_of log ≡ size = c.flush-flushed.ensures.keeps.position.size in
     let sizes : config.config.segment_size ≡ size = ap (λ (x : RunningConfig _ _). x.config.segment_size) is ∙ now_size in
     let same : old ≡ trace (device_of log) = ap (λ (x : RunningConfig _ _). trace x.device) is in
     let there : CanRecover sum size (state_of old) H end f = can_recover trace sum c.args.log log config.device H A end f U now_size same c.in-Ok.ensures.answers.3 can (c.in-Ok.ensures.acknowledges H A f U can.fits) in
@@ -80,7 +80,7 @@ returns-in-Ok-clause-undamaged g c = λ H A f U can.
     let is = c.halt-config.ensures.config in
     let size : ℕ = segment_size_of c.args.log in
     let end : ℕ = max A (end_below (synced_end log) H) in
-    let now_size : segment_size_of log ≡ size = c.flush-flushed.ensures.position.size in
+    let now_size : segment_size_of log ≡ size = c.flush-flushed.ensures.keeps.position.size in
     let sizes : config.config.segment_size ≡ size = ap (λ (x : RunningConfig _ _). x.config.segment_size) is ∙ now_size in
     let same : old ≡ trace (device_of log) = ap (λ (x : RunningConfig _ _). trace x.device) is in
     let there : CanRecover sum size (state_of old) H end f = can_recover trace sum c.args.log log config.device H A end f U now_size same c.in-Ok.ensures.answers.3 can (c.in-Ok.ensures.acknowledges H A f U can.fits) in
@@ -95,7 +95,7 @@ returns-in-Ok-clause-did g c =
     let config = c.halt-config.result in
     let new = c.read_snapshot_or_default-snapshot.new.config in
     let is = c.halt-config.ensures.config in
-    let sizes : config.config.segment_size ≡ segment_size_of c.args.log = ap (λ (x : RunningConfig _ _). x.config.segment_size) is ∙ c.flush-flushed.ensures.position.size in
+    let sizes : config.config.segment_size ≡ segment_size_of c.args.log = ap (λ (x : RunningConfig _ _). x.config.segment_size) is ∙ c.flush-flushed.ensures.keeps.position.size in
     let came : trace config.device ≡ after_all (flushing sum c.args.log) (trace (device_of c.args.log)) = ap (λ (x : RunningConfig _ _). trace x.device) is ∙ c.in-Ok.ensures.calls in
     let answers = c.in-Ok.ensures.answers in
     let counted : g.D.Device.faults config.device ≡ g.D.Device.faults (device_of c.args.log) = ap (λ (x : RunningConfig _ _). g.D.Device.faults x.device) is ∙ answers.4 in
@@ -122,14 +122,14 @@ returns-in-Ok-clause-crash g c = λ H A f U restarts.
     let new = c.read_snapshot_or_default-snapshot.new.config in
     let is = c.halt-config.ensures.config in
     let size : ℕ = segment_size_of c.args.log in
-    let sizes : config.config.segment_size ≡ size = ap (λ (x : RunningConfig _ _). x.config.segment_size) is ∙ c.flush-flushed.ensures.position.size in
+    let sizes : config.config.segment_size ≡ size = ap (λ (x : RunningConfig _ _). x.config.segment_size) is ∙ c.flush-flushed.ensures.keeps.position.size in
     let same : trace config.device ≡ trace (device_of log) = ap (λ (x : RunningConfig _ _). trace x.device) is in
-    let keeps = c.flush-flushed.ensures.keeps in
+    let keeps = c.flush-flushed.ensures.keeps.preserves in
     let left = fits_leaves trace sum log H A f U (keeps.fits H A f U fits) in
     let there : LeavesRecoverable sum size H A f (state_of (trace config.device)) =
-    subst (λ (t : Trace). LeavesRecoverable sum size H A f (state_of t)) (sym same) (subst (λ n. LeavesRecoverable sum n H A f (state_of (trace (device_of log)))) c.flush-flushed.ensures.position.size left) in
+    subst (λ (t : Trace). LeavesRecoverable sum size H A f (state_of t)) (sym same) (subst (λ n. LeavesRecoverable sum n H A f (state_of (trace (device_of log)))) c.flush-flushed.ensures.keeps.position.size left) in
     let own : ReadsOnlyOwn sum size (state_of (trace config.device)) =
-    subst (λ (t : Trace). ReadsOnlyOwn sum size (state_of t)) (sym same) (subst (λ n. ReadsOnlyOwn sum n (state_of (trace (device_of log)))) c.flush-flushed.ensures.position.size (fits_reads_own trace sum log H A f U (keeps.fits H A f U fits) c.in-Ok.ensures.answers.3 restarts.zeros)) in
+    subst (λ (t : Trace). ReadsOnlyOwn sum size (state_of t)) (sym same) (subst (λ n. ReadsOnlyOwn sum n (state_of (trace (device_of log)))) c.flush-flushed.ensures.keeps.position.size (fits_reads_own trace sum log H A f U (keeps.fits H A f U fits) c.in-Ok.ensures.answers.3 restarts.zeros)) in
     let can : CanRecover sum size (state_of (trace config.device)) H A f =
     record { orderly = restarts.orderly; left = there; own = own } in
     let later = c.read_snapshot_or_default-snapshot.ensures.recoverable H A f (subst (λ n. CanRecover sum n (state_of (trace config.device)) H A f) (sym sizes) can) in
@@ -140,7 +140,7 @@ returns-in-Ok-clause-crash g c = λ H A f U restarts.
 pub returns-in-Ok-clause-kept : goal.returns-in-Ok-clause-kept
 returns-in-Ok-clause-kept g c =
     let is = c.halt-config.ensures.config in
-    let kept = c.flush-flushed.ensures.keeps.goes_on.config in
+    let kept = c.flush-flushed.ensures.keeps.preserves.goes_on.config in
     let recovery = c.read_snapshot_or_default-snapshot.ensures.config in
     record { config = recovery.config ∙ ap (λ (x : RunningConfig _ _). x.config) is ∙ kept.config; checksum = recovery.checksum ∙ ap (λ (x : RunningConfig _ _). x.checksum) is ∙ kept.checksum }
 
@@ -165,10 +165,10 @@ returns-in-Err-clause-did g c =
 pub returns-in-Err-clause-crash : goal.returns-in-Err-clause-crash
 returns-in-Err-clause-crash g c = λ H A f U restarts.
     subst (λ (x : RunningConfig _ _). LeavesOnly (RecoverableIfOwn g.C.Checksum.sum_of (segment_size_of c.args.log) H A f) (g.D.Device.trace (device_of c.args.log)) (g.D.Device.trace x.device)) (sym c.halt-config.ensures.config)
-    (c.flush-flushed.ensures.keeps.goes_on.crash H A f U restarts.fits)
+    (c.flush-flushed.ensures.keeps.preserves.goes_on.crash H A f U restarts.fits)
 
 pub returns-in-Err-clause-kept : goal.returns-in-Err-clause-kept
 returns-in-Err-clause-kept g c =
     let is = c.halt-config.ensures.config in
-    let kept = c.flush-flushed.ensures.keeps.goes_on.config in
+    let kept = c.flush-flushed.ensures.keeps.preserves.goes_on.config in
     record { config = ap (λ (x : RunningConfig _ _). x.config) is ∙ kept.config; checksum = ap (λ (x : RunningConfig _ _). x.checksum) is ∙ kept.checksum }

@@ -32,10 +32,10 @@ returns-in-Ok-flush-clause-keeps g c =
     record {
       asked = first.asked;
       block = first.block;
-      generates = λ generates. has_generates trace sum _ (has_flushed trace sum mid.log c.flush.new.self mid.bound mid.asked mid.ahead flushed.synced.whole flushed.position.reserved flushed.acknowledges (generates_has trace sum mid (first.generates generates)));
-      keeps = λ generates. asked_then trace sum c.args.self.now mid c.flush.new.self (ap (λ x. x.segment_size) first.config.config) c.ask.ensures.rest.bound first.asked (first.generates generates) flushed.keeps.goes_on (first.keeps generates);
-      later = later_both _ _ _ first.later flushed.keeps.goes_on.later;
-      config = config_then first.config flushed.keeps.goes_on.config;
+      generates = λ generates. has_generates trace sum _ (has_flushed trace sum mid.log c.flush.new.self mid.bound mid.asked mid.ahead flushed.synced.whole flushed.keeps.position.reserved flushed.acknowledges (generates_has trace sum mid (first.generates generates)));
+      keeps = λ generates. asked_then trace sum c.args.self.now mid c.flush.new.self (ap (λ x. x.segment_size) first.config.config) c.ask.ensures.rest.bound first.asked (first.generates generates) flushed.keeps.preserves.goes_on (first.keeps generates);
+      later = later_both _ _ _ first.later flushed.keeps.preserves.goes_on.later;
+      config = config_then first.config flushed.keeps.preserves.goes_on.config;
     }
 
 pub returns-in-Ok-flush-clause-writes : goal.returns-in-Ok-flush-clause-writes
@@ -50,7 +50,7 @@ returns-in-Ok-flush-clause-room g c =
 pub returns-in-Ok-flush-clause-position : goal.returns-in-Ok-flush-clause-position
 returns-in-Ok-flush-clause-position g c =
     let none = c.if-self.false in
-    c.in-Ok-flush.ensures.position.position ∙ next_begins c.args.self.now c.ask.new.self c.ask.ensures.still c.in-Ok.ensures.asked (λ less. omega (arith, less, none))
+    c.in-Ok-flush.ensures.keeps.position.position ∙ next_begins c.args.self.now c.ask.new.self c.ask.ensures.still c.in-Ok.ensures.asked (λ less. omega (arith, less, none))
 
 -- It is kept all the same.
 pub returns-in-Err-flush-clause-keeps : goal.returns-in-Err-flush-clause-keeps
@@ -60,14 +60,14 @@ returns-in-Err-flush-clause-keeps g c =
     let mid = c.ask.new.self in
     let first = c.ask.ensures.gives_on in
     let failed = c.in-Err-flush.ensures in
-    let same = failed.position.reserved in
+    let same = failed.keeps.position.reserved in
     record {
       asked = first.asked;
       block = first.block;
-      generates = λ generates. has_generates trace sum _ (has_still trace sum mid.log c.flush.new.self mid.bound mid.asked failed.keeps (omega (arith, same)) (generates_has trace sum mid (first.generates generates)));
-      keeps = λ generates. asked_then trace sum c.args.self.now mid c.flush.new.self (ap (λ x. x.segment_size) first.config.config) c.ask.ensures.rest.bound first.asked (first.generates generates) failed.keeps.goes_on (first.keeps generates);
-      later = later_both _ _ _ first.later failed.keeps.goes_on.later;
-      config = config_then first.config failed.keeps.goes_on.config;
+      generates = λ generates. has_generates trace sum _ (has_still trace sum mid.log c.flush.new.self mid.bound mid.asked failed.keeps.preserves (omega (arith, same)) (generates_has trace sum mid (first.generates generates)));
+      keeps = λ generates. asked_then trace sum c.args.self.now mid c.flush.new.self (ap (λ x. x.segment_size) first.config.config) c.ask.ensures.rest.bound first.asked (first.generates generates) failed.keeps.preserves.goes_on (first.keeps generates);
+      later = later_both _ _ _ first.later failed.keeps.preserves.goes_on.later;
+      config = config_then first.config failed.keeps.preserves.goes_on.config;
     }
 
 pub returns-in-Err-flush-clause-causes : goal.returns-in-Err-flush-clause-causes
@@ -132,7 +132,7 @@ returns-in-Err-flush-clause-refused g c =
       c.ask.ensures.rest.bound,
       inr (
         end_of old.next old.bound old.asked (further_bound old) c.ask.new.self.asked (omega (arith, none)) c.in-Ok.ensures.end,
-        c.in-Err-flush.ensures.position.position ∙ next_begins old c.ask.new.self c.ask.ensures.still c.in-Ok.ensures.asked (λ less. omega (arith, less, none)),
+        c.in-Err-flush.ensures.keeps.position.position ∙ next_begins old c.ask.new.self c.ask.ensures.still c.in-Ok.ensures.asked (λ less. omega (arith, less, none)),
       ),
     )
 

@@ -1,10 +1,10 @@
 -- The blob of the reservation's own goes, which leaves the segments of the log as they were, and then its message is given up there.
-use Rattle.std.proofs.Common.{◌≡◌, refl, sym, subst, List}
+use Rattle.std.proofs.Common.{◌≡◌, refl, sym, subst, List, rules}
 use Rattle.sled_core.specs.Begun.{SegmentView}
 use Rattle.sled_core.specs.Fits.{AwaitsIn, line_of}
 use Rattle.sled_core.specs.Logged.{in_log}
 use Rattle.sled_core.specs.Tickets.{own_blob}
-use Rattle.sled_core.proofs.Line.KeptCalls.{position_still}
+use Rattle.sled_core.proofs.Line.KeptCalls.{ends_none}
 use Rattle.sled_core.proofs.Line.WithoutBlob.{without_further, without_still}
 use Rattle.sled_core.proofs.Line.BlobRemoved.{removes_further, removes_nothing}
 use Rattle.sled_core.proofs.Line.LogWrites.{same_line}
@@ -18,11 +18,8 @@ returns-in-Some-clause-device g c = removes_nothing g.D.Device.trace (own_blob c
 pub returns-in-Some-clause-keeps : goal.returns-in-Some-clause-keeps
 returns-in-Some-clause-keeps g c = without_still g.D.Device.trace g.C.Checksum.sum_of (own_blob c.args.ticket) c.args.self.now
 
-pub returns-in-Some-clause-position : goal.returns-in-Some-clause-position
-returns-in-Some-clause-position g c = position_still c.args.self.now
-
-pub returns-in-Some-clause-buffers : goal.returns-in-Some-clause-buffers
-returns-in-Some-clause-buffers g c = record { waiting = refl; start = refl }
+pub returns-in-Some-clause-ends : goal.returns-in-Some-clause-ends
+returns-in-Some-clause-ends g c = ends_none g.D.Device.trace g.C.Checksum.sum_of c.args.ticket c.args.self.now _
 
 -- Without the blob the log has the same segments, so its tickets await what they did.
 
@@ -31,10 +28,16 @@ returns-in-Ok-clause-canceled g c = λ H m holds awaits.
     let same : line_of c.remove_own.new.self ≡ line_of c.args.self.now = same_line c.args.self.now c.remove_own.new.self c.remove_own.ensures.changes in
     c.give_up.ensures.canceled H m (c.remove_own.ensures.keeps.history H holds) (subst (λ (l : List SegmentView). AwaitsIn l c.args.ticket (in_log m)) (sym same) awaits)
 
-pub returns-in-Ok-clause-others : goal.returns-in-Ok-clause-others
-returns-in-Ok-clause-others g c = λ H other m holds awaits apart.
+pub returns-in-Ok-clause-ends : goal.returns-in-Ok-clause-ends
+returns-in-Ok-clause-ends g c =
     let same : line_of c.remove_own.new.self ≡ line_of c.args.self.now = same_line c.args.self.now c.remove_own.new.self c.remove_own.ensures.changes in
-    c.give_up.ensures.others H other m (c.remove_own.ensures.keeps.history H holds) (subst (λ (l : List SegmentView). AwaitsIn l other (in_log m)) (sym same) awaits) apart
+    record {
+      others = λ H other m holds awaits apart.
+          c.give_up.ensures.ends.others H other m (c.remove_own.ensures.keeps.history H holds) (subst (λ (l : List SegmentView). AwaitsIn l other (in_log m)) (sym same) awaits) apart;
+      opens = search rules;
+      position = search rules;
+      buffers = search rules;
+    }
 
 pub returns-in-Ok-clause-device : goal.returns-in-Ok-clause-device
 returns-in-Ok-clause-device g c = removes_further g.D.Device.trace c.remove_own.result c.in-Ok.field-0 _ (own_blob c.args.ticket) (own_blob c.args.ticket) c.args.self.now c.remove_own.new.self c.give_up.new.self c.in-Ok.is refl c.remove_own.ensures.device c.give_up.ensures.same.config

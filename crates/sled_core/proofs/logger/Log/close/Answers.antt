@@ -111,7 +111,7 @@ pub returns-clause-crash : goal.returns-clause-crash
 returns-clause-crash g c = λ H A f U fits.
     let old = c.args.self in
     subst (λ (x : RunningConfig _ _). LeavesOnly (RecoverableIfOwn g.C.Checksum.sum_of (segment_size_of old) H A f) (g.D.Device.trace (device_of old)) (g.D.Device.trace x.device)) (sym c.halt.ensures.config)
-    (c.flush-flushed.ensures.keeps.goes_on.crash H A f U fits)
+    (c.flush-flushed.ensures.keeps.preserves.goes_on.crash H A f U fits)
 
 -- What was flushed can be recovered once the log is given up.
 pub returns-clause-acknowledges : goal.returns-clause-acknowledges
@@ -124,6 +124,6 @@ returns-clause-acknowledges g c = λ H A f U fits.
     (λ flushed synced.
     let up = acknowledged_up (reserved_end old) (synced_end new) H synced.whole in
     leaves_less sum (segment_size_of old) H (max A (end_below (reserved_end old) H)) (max A (end_below (synced_end new) H)) f left (omega (arith, up))
-    (subst (λ n. LeavesRecoverable sum n H (max A (end_below (synced_end new) H)) f left) c.flush-flushed.ensures.position.size
+    (subst (λ n. LeavesRecoverable sum n H (max A (end_below (synced_end new) H)) f left) c.flush-flushed.ensures.keeps.position.size
     (c.halt.ensures.recoverable H (max A (end_below (synced_end new) H)) f U flushed)))
     (c.flush-flushed.ensures.acknowledges H A f U fits) c.flush-flushed.ensures.synced

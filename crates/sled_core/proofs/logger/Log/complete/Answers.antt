@@ -16,7 +16,7 @@ use Rattle.sled_core.specs.Logged.{logged, in_log}
 use Rattle.sled_core.specs.OpenPlaces.{TakesOut, open_places_along}
 use Rattle.sled_core.specs.invariants.Running.{Fits}
 use Rattle.sled_core.specs.Tickets.{place_of}
-use Rattle.sled_core.proofs.Line.KeptCalls.{goes_on_still}
+use Rattle.sled_core.proofs.Line.KeptCalls.{ends_none, goes_on_still}
 use Rattle.sled_core.proofs.Line.BatchNoted.{kind_there, reserved_at}
 use Rattle.sled_core.proofs.Line.EndedKeeps.{fits_ended, goes_on_ended, holds_ended, keeps_ended, position_ended}
 use Rattle.sled_core.proofs.Line.EndedTickets.{ended_takes, others_await, says_place, ticket_above, ticket_among, ticket_open, ticket_there}
@@ -98,28 +98,44 @@ returns-clause-fits g c = λ H A f U m fits awaits stored out.
 
 -- Other tickets stay, and nothing else changes.
 
-pub returns-clause-others : goal.returns-clause-others
+pub returns-clause-ends : goal.returns-clause-ends
 unfolding Holds
-returns-clause-others g c = λ H other m holds awaits apart.
-    let old = c.args.self.now in
-    let own : AwaitsIn (line_of old) c.args.ticket (in_log c.requires.awaited.0) = c.requires.awaited.1 in
-    let at = among g c c.requires.awaited.0 own in
-    let its = there g c c.requires.awaited.0 own in
-    subst (λ (l : List SegmentView). AwaitsIn l other (in_log m)) (sym (c.complete_in.ensures.line own.segment own.reserved at its))
-    (others_await old.config.config.segment_size (line_of old) old.segments.first.site.place c.segment_of-n.result own.segment at (nth_facts old) (c.index-index.result - own.segment.gone) own.reserved its own.own.open_yet (completing own.reserved)
-    (completing_short own.segment (c.index-index.result - own.segment.gone) own.reserved (nth_facts c.args.self.now c.segment_of-n.result own.segment at) its own.own.open_yet) Completed g.C.Checksum.sum_of (state_of (g.D.Device.trace old.config.device)) old.fault.kept
-    (logged H) holds.holds c.args.ticket other (in_log m) own.own.place awaits apart)
-
-pub returns-clause-opens : goal.returns-clause-opens
-returns-clause-opens g c = λ place is.
-    let old = c.args.self.now in
-    let own : AwaitsIn (line_of old) c.args.ticket (in_log c.requires.awaited.0) = c.requires.awaited.1 in
-    let at = among g c c.requires.awaited.0 own in
-    let its = there g c c.requires.awaited.0 own in
-    let here : own.segment.parts.site.place + own.reserved.from ≡ place = sym (ap unsigned_abs (is ∙ own.own.place)) in
-    subst (λ (p : ℕ). TakesOut p (open_places old) (open_places c.complete_in.new.self)) here
-    (subst (λ (l : List SegmentView). TakesOut (own.segment.parts.site.place + own.reserved.from) (open_places old) (open_places_along l)) (sym (c.complete_in.ensures.line own.segment own.reserved at its))
-    (ended_takes old.config.config.segment_size (line_of old) old.segments.first.site.place c.segment_of-n.result own.segment at (nth_facts old) (c.index-index.result - own.segment.gone) own.reserved its own.own.open_yet (completing own.reserved) (completing_short own.segment (c.index-index.result - own.segment.gone) own.reserved (nth_facts c.args.self.now c.segment_of-n.result own.segment at) its own.own.open_yet) Completed refl))
+returns-clause-ends g c = record {
+      others = (
+        λ H other m holds awaits apart.
+        let old = c.args.self.now in
+        let own : AwaitsIn (line_of old) c.args.ticket (in_log c.requires.awaited.0) = c.requires.awaited.1 in
+        let at = among g c c.requires.awaited.0 own in
+        let its = there g c c.requires.awaited.0 own in
+        subst (λ (l : List SegmentView). AwaitsIn l other (in_log m)) (sym (c.complete_in.ensures.line own.segment own.reserved at its))
+        (others_await old.config.config.segment_size (line_of old) old.segments.first.site.place c.segment_of-n.result own.segment at (nth_facts old) (c.index-index.result - own.segment.gone) own.reserved its own.own.open_yet (completing own.reserved)
+        (completing_short own.segment (c.index-index.result - own.segment.gone) own.reserved (nth_facts c.args.self.now c.segment_of-n.result own.segment at) its own.own.open_yet) Completed g.C.Checksum.sum_of (state_of (g.D.Device.trace old.config.device)) old.fault.kept
+        (logged H) holds.holds c.args.ticket other (in_log m) own.own.place awaits apart)
+      );
+      opens = (
+        λ place is.
+        let old = c.args.self.now in
+        let own : AwaitsIn (line_of old) c.args.ticket (in_log c.requires.awaited.0) = c.requires.awaited.1 in
+        let at = among g c c.requires.awaited.0 own in
+        let its = there g c c.requires.awaited.0 own in
+        let here : own.segment.parts.site.place + own.reserved.from ≡ place = sym (ap unsigned_abs (is ∙ own.own.place)) in
+        subst (λ (p : ℕ). TakesOut p (open_places old) (open_places c.complete_in.new.self)) here
+        (subst (λ (l : List SegmentView). TakesOut (own.segment.parts.site.place + own.reserved.from) (open_places old) (open_places_along l)) (sym (c.complete_in.ensures.line own.segment own.reserved at its))
+        (ended_takes old.config.config.segment_size (line_of old) old.segments.first.site.place c.segment_of-n.result own.segment at (nth_facts old) (c.index-index.result - own.segment.gone) own.reserved its own.own.open_yet (completing own.reserved) (completing_short own.segment (c.index-index.result - own.segment.gone) own.reserved (nth_facts c.args.self.now c.segment_of-n.result own.segment at) its own.own.open_yet) Completed refl))
+      );
+      position = (
+        let own : AwaitsIn (line_of c.args.self.now) c.args.ticket (in_log c.requires.awaited.0) = c.requires.awaited.1 in
+        let at = among g c c.requires.awaited.0 own in
+        let its = there g c c.requires.awaited.0 own in
+        position_ended c.args.self.now c.complete_in.new.self c.segment_of-n.result own.segment at (c.index-index.result - own.segment.gone) own.reserved its own.own.open_yet (completing own.reserved) (completing_short own.segment (c.index-index.result - own.segment.gone) own.reserved (nth_facts c.args.self.now c.segment_of-n.result own.segment at) its own.own.open_yet) Completed (c.complete_in.ensures.line own.segment own.reserved at its) c.complete_in.ensures.rest
+      );
+      buffers = (
+        let own : AwaitsIn (line_of c.args.self.now) c.args.ticket (in_log c.requires.awaited.0) = c.requires.awaited.1 in
+        let at = among g c c.requires.awaited.0 own in
+        let its = there g c c.requires.awaited.0 own in
+        ended_buffers c.args.self.now c.complete_in.new.self c.segment_of-n.result own.segment (c.index-index.result - own.segment.gone) own.reserved (completing own.reserved) Completed at (c.complete_in.ensures.line own.segment own.reserved at its)
+      );
+    }
 
 pub returns-clause-goes_on : goal.returns-clause-goes_on
 returns-clause-goes_on g c =
@@ -135,19 +151,5 @@ returns-clause-same g c =
     let its = there g c c.requires.awaited.0 own in
     keeps_ended c.args.self.now c.complete_in.new.self c.segment_of-n.result own.segment at (c.index-index.result - own.segment.gone) own.reserved its own.own.open_yet (completing own.reserved) (completing_short own.segment (c.index-index.result - own.segment.gone) own.reserved (nth_facts c.args.self.now c.segment_of-n.result own.segment at) its own.own.open_yet) Completed (c.complete_in.ensures.line own.segment own.reserved at its) c.complete_in.ensures.rest
 
-pub returns-clause-position : goal.returns-clause-position
-returns-clause-position g c =
-    let own : AwaitsIn (line_of c.args.self.now) c.args.ticket (in_log c.requires.awaited.0) = c.requires.awaited.1 in
-    let at = among g c c.requires.awaited.0 own in
-    let its = there g c c.requires.awaited.0 own in
-    position_ended c.args.self.now c.complete_in.new.self c.segment_of-n.result own.segment at (c.index-index.result - own.segment.gone) own.reserved its own.own.open_yet (completing own.reserved) (completing_short own.segment (c.index-index.result - own.segment.gone) own.reserved (nth_facts c.args.self.now c.segment_of-n.result own.segment at) its own.own.open_yet) Completed (c.complete_in.ensures.line own.segment own.reserved at its) c.complete_in.ensures.rest
-
-pub returns-clause-buffers : goal.returns-clause-buffers
-returns-clause-buffers g c =
-    let own : AwaitsIn (line_of c.args.self.now) c.args.ticket (in_log c.requires.awaited.0) = c.requires.awaited.1 in
-    let at = among g c c.requires.awaited.0 own in
-    let its = there g c c.requires.awaited.0 own in
-    ended_buffers c.args.self.now c.complete_in.new.self c.segment_of-n.result own.segment (c.index-index.result - own.segment.gone) own.reserved (completing own.reserved) Completed at (c.complete_in.ensures.line own.segment own.reserved at its)
-
-pub returns-in-Some-clause-buffers : goal.returns-in-Some-clause-buffers
-returns-in-Some-clause-buffers g c = record { waiting = refl; start = refl }
+pub returns-in-Some-clause-ends : goal.returns-in-Some-clause-ends
+returns-in-Some-clause-ends g c = ends_none g.D.Device.trace g.C.Checksum.sum_of c.args.ticket c.args.self.now _

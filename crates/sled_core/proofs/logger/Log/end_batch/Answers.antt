@@ -94,11 +94,13 @@ seen g c =
     (c.mark_batch_in.ensures.line f.segment f.reserved f.among f.there) c.mark_batch_in.ensures.rest c.note.ensures.rest c.unsigned_abs-low.result place
     c.note.ensures.noted c.requires.above c.note.ensures.few
 
-pub returns-clause-others : goal.returns-clause-others
-returns-clause-others g c = (seen g c).others
-
-pub returns-clause-opens : goal.returns-clause-opens
-returns-clause-opens g c = (seen g c).opens
+pub returns-clause-ends : goal.returns-clause-ends
+returns-clause-ends g c = record {
+      others = (seen g c).others;
+      opens = (seen g c).opens;
+      position = (seen g c).position;
+      buffers = (seen g c).buffers;
+    }
 
 pub returns-clause-goes_on : goal.returns-clause-goes_on
 returns-clause-goes_on g c = (seen g c).goes_on
@@ -106,8 +108,3 @@ returns-clause-goes_on g c = (seen g c).goes_on
 pub returns-clause-same : goal.returns-clause-same
 returns-clause-same g c = (seen g c).same
 
-pub returns-clause-position : goal.returns-clause-position
-returns-clause-position g c = (seen g c).position
-
-pub returns-clause-buffers : goal.returns-clause-buffers
-returns-clause-buffers g c = (seen g c).buffers

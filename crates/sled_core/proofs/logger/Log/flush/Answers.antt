@@ -7,7 +7,7 @@ use Rattle.sled_codec.specs.declared.result.Error.TheVariants.{Io}
 use Rattle.sled_core.specs.Fits.{fault_of, reserved_end, stable_end, synced_end}
 use Rattle.sled_core.specs.invariants.Running.{Fits}
 use Rattle.sled_core.specs.Running.{end_below}
-use Rattle.sled_core.proofs.Line.KeptCalls.{kept_still}
+use Rattle.sled_core.proofs.Line.KeptCalls.{log_still}
 use Rattle.sled_core.proofs.Holds.RunningLemmas.{fits-acknowledged}
 use Rattle.sled_core.proofs.Line.LineEnds.{stable_kept}
 use Rattle.sled_core.proofs.Line.NoneLeft.{all_stable, all_written}
@@ -26,7 +26,7 @@ pub returns-in-Some-clause-at_most : goal.returns-in-Some-clause-at_most
 returns-in-Some-clause-at_most g c = performs_nothing _ _ _ refl
 
 pub returns-in-Some-clause-keeps : goal.returns-in-Some-clause-keeps
-returns-in-Some-clause-keeps g c = kept_still g.D.Device.trace g.C.Checksum.sum_of c.args.self.now
+returns-in-Some-clause-keeps g c = log_still g.D.Device.trace g.C.Checksum.sum_of c.args.self.now
 
 pub returns-in_err-write_below-clause-spares : goal.returns-in_err-write_below-clause-spares
 returns-in_err-write_below-clause-spares g c = record { faulty = λ e is. no_fault (fault_of c.args.self.now) e _ c.in_default.is is; idle = c.write_below.ensures.idle }
@@ -38,11 +38,11 @@ pub returns-clause-records : goal.returns-clause-records
 returns-clause-records g c = λ H holds.
     let new = c.write_below.new.self in
     let did = c.in_ok-write_below.ensures in
-    all_written g.D.Device.trace g.C.Checksum.sum_of new (omega (arith, did.written, did.position.reserved)) did.answers.3 H (did.keeps.history H holds)
+    all_written g.D.Device.trace g.C.Checksum.sum_of new (omega (arith, did.written, did.keeps.position.reserved)) did.answers.3 H (did.keeps.preserves.history H holds)
 
 -- All of it is stable.
 stable : (g : given.Over) (c : goal.After-stable_end g) → stable_end c.write_below.new.self ≡ synced_end c.write_below.new.self
-stable g c = let did = c.in_ok-write_below.ensures in all_stable c.write_below.new.self (omega (arith, did.written, did.position.reserved))
+stable g c = let did = c.in_ok-write_below.ensures in all_stable c.write_below.new.self (omega (arith, did.written, did.keeps.position.reserved))
 
 pub returns-clause-synced : goal.returns-clause-synced
 returns-clause-synced g c = record { whole = (let did = c.in_ok-write_below.ensures in omega (arith, did.written)); stable = stable g c }
@@ -50,7 +50,7 @@ returns-clause-synced g c = record { whole = (let did = c.in_ok-write_below.ensu
 pub returns-clause-acknowledges : goal.returns-clause-acknowledges
 unfolding Fits
 returns-clause-acknowledges g c = λ H A f U fits.
-    let later = c.write_below.ensures.keeps.fits H A f U fits in
+    let later = c.write_below.ensures.keeps.preserves.fits H A f U fits in
     subst (λ n. Fits g.D.Device.trace g.C.Checksum.sum_of c.write_below.new.self H (max A (end_below n H)) f U) (stable g c)
     (record { reach = later.reach; parts = fits-acknowledged g.C.Checksum.sum_of _ _ _ _ _ _ _ _ _ H A f U later.parts _ _ later.batches; batches = later.batches; slots = later.slots; begun = later.begun; own = later.own; entries = later.entries })
 
@@ -74,7 +74,7 @@ returns-clause-buffers g c =
 
 grows : (g : given.Over) (c : goal.After-stable_end g) → stable_end c.args.self.now ≤ stable_end c.write_below.new.self
 grows g c =
-    let keeps = c.write_below.ensures.keeps in
+    let keeps = c.write_below.ensures.keeps.preserves in
     stable_kept c.args.self.now c.write_below.new.self keeps.goes_on.stable keeps.noted
 
 pub overflow_sub-result : goal.overflow_sub-result

@@ -28,7 +28,11 @@ pub returns-in-Some-clause-at_most : goal.returns-in-Some-clause-at_most
 returns-in-Some-clause-at_most g c = performs_nothing _ _ _ refl
 
 pub returns-in-Some-clause-keeps : goal.returns-in-Some-clause-keeps
-returns-in-Some-clause-keeps g c = kept_still g.D.Device.trace g.C.Checksum.sum_of c.args.self.now
+returns-in-Some-clause-keeps g c = record {
+      preserves = kept_still g.D.Device.trace g.C.Checksum.sum_of c.args.self.now;
+      tickets = tickets_still c.args.self.now;
+      position = position_still c.args.self.now;
+    }
 
 pub returns-in-Some-clause-buffers : goal.returns-in-Some-clause-buffers
 returns-in-Some-clause-buffers g c =
@@ -42,7 +46,11 @@ pub returns-then-lsn-stable_offset-clause-at_most : goal.returns-then-lsn-stable
 returns-then-lsn-stable_offset-clause-at_most g c = performs_nothing _ _ _ refl
 
 pub returns-then-lsn-stable_offset-clause-keeps : goal.returns-then-lsn-stable_offset-clause-keeps
-returns-then-lsn-stable_offset-clause-keeps g c = kept_still g.D.Device.trace g.C.Checksum.sum_of c.args.self.now
+returns-then-lsn-stable_offset-clause-keeps g c = record {
+      preserves = kept_still g.D.Device.trace g.C.Checksum.sum_of c.args.self.now;
+      tickets = tickets_still c.args.self.now;
+      position = position_still c.args.self.now;
+    }
 
 durable : (g : given.Over) (c : goal.Then-lsn-stable_offset g) → c.args.lsn <ℤ pos (stable_end c.args.self.now)
 durable g c = search rules
@@ -70,7 +78,11 @@ returns-then-lsn-self-clause-buffers g c =
     (writes_none g.C.Checksum.sum_of to old (NotReserved (to_z w64 (of_z w64 c.args.lsn))) (λ held. held), inl tt)
 
 pub returns-then-lsn-self-clause-keeps : goal.returns-then-lsn-self-clause-keeps
-returns-then-lsn-self-clause-keeps g c = kept_still g.D.Device.trace g.C.Checksum.sum_of c.args.self.now
+returns-then-lsn-self-clause-keeps g c = record {
+      preserves = kept_still g.D.Device.trace g.C.Checksum.sum_of c.args.self.now;
+      tickets = tickets_still c.args.self.now;
+      position = position_still c.args.self.now;
+    }
 
 pub returns-then-lsn-self-clause-answers : goal.returns-then-lsn-self-clause-answers
 returns-then-lsn-self-clause-answers g c =
@@ -162,7 +174,7 @@ returns-clause-at_most g c =
 pub returns-clause-acknowledges : goal.returns-clause-acknowledges
 unfolding Fits
 returns-clause-acknowledges g c = λ H A f U fits.
-    let later = c.write_below.ensures.keeps.fits H A f U fits in
+    let later = c.write_below.ensures.keeps.preserves.fits H A f U fits in
     record { reach = later.reach; parts = fits-acknowledged g.C.Checksum.sum_of _ _ _ _ _ _ _ _ _ H A f U later.parts _ _ later.batches; batches = later.batches; slots = later.slots; begun = later.begun; own = later.own; entries = later.entries }
 
 pub returns-clause-answers : goal.returns-clause-answers
@@ -183,7 +195,7 @@ returns-clause-buffers g c =
 
 grows : (g : given.Over) (c : goal.After-stable_end g) → stable_end c.args.self.now ≤ stable_end c.write_below.new.self
 grows g c =
-    let keeps = c.write_below.ensures.keeps in
+    let keeps = c.write_below.ensures.keeps.preserves in
     stable_kept c.args.self.now c.write_below.new.self keeps.goes_on.stable keeps.noted
 
 pub overflow_sub-result : goal.overflow_sub-result
@@ -203,39 +215,19 @@ returns-clause-target g c =
     let new = c.write_below.new.self in
     let to = to_is old c.args.lsn _ _ c.behind_batch-to.ensures.is (behind_read c.args.lsn _ _ (to_z-of_z w64 c.args.lsn c.ranges.lsn) (above_done g c)) in
     let written = c.in_ok-write_below.ensures.written in
-    below_behind c.args.lsn (stable_end old) (stable_end new) (above_done g c) (stable_reached old new (behind_place c.args.lsn) c.write_below.ensures.keeps.noted (omega (arith, to, written)))
+    below_behind c.args.lsn (stable_end old) (stable_end new) (above_done g c) (stable_reached old new (behind_place c.args.lsn) c.write_below.ensures.keeps.preserves.noted (omega (arith, to, written)))
 
 no_fault : (kept : Option IoError) (e : IoError) (A : Type 0) → kept ≡ None → kept ≡ Some e → A
 no_fault kept e A none some = absurd (let bad : None ≡ Some e = sym none ∙ some in cc)
 
 -- Where nothing was written its tickets and its position are as they were, and else as the writing leaves them.
 
-pub returns-in-Some-clause-tickets : goal.returns-in-Some-clause-tickets
-returns-in-Some-clause-tickets g c = tickets_still c.args.self.now
-
-pub returns-in-Some-clause-position : goal.returns-in-Some-clause-position
-returns-in-Some-clause-position g c = position_still c.args.self.now
-
-pub returns-then-lsn-stable_offset-clause-tickets : goal.returns-then-lsn-stable_offset-clause-tickets
-returns-then-lsn-stable_offset-clause-tickets g c = tickets_still c.args.self.now
-
-pub returns-then-lsn-stable_offset-clause-position : goal.returns-then-lsn-stable_offset-clause-position
-returns-then-lsn-stable_offset-clause-position g c = position_still c.args.self.now
-
-pub returns-then-lsn-self-clause-tickets : goal.returns-then-lsn-self-clause-tickets
-returns-then-lsn-self-clause-tickets g c = tickets_still c.args.self.now
-
-pub returns-then-lsn-self-clause-position : goal.returns-then-lsn-self-clause-position
-returns-then-lsn-self-clause-position g c = position_still c.args.self.now
-
-pub returns-in_err-write_below-clause-tickets : goal.returns-in_err-write_below-clause-tickets
-returns-in_err-write_below-clause-tickets g c = c.in_err-write_below.ensures.tickets
-
-pub returns-in_err-write_below-clause-position : goal.returns-in_err-write_below-clause-position
-returns-in_err-write_below-clause-position g c = c.in_err-write_below.ensures.position
-
 pub returns-in_err-write_below-clause-keeps : goal.returns-in_err-write_below-clause-keeps
-returns-in_err-write_below-clause-keeps g c = c.in_err-write_below.ensures.keeps
+returns-in_err-write_below-clause-keeps g c = record {
+      preserves = c.in_err-write_below.ensures.keeps.preserves;
+      tickets = c.in_err-write_below.ensures.keeps.tickets;
+      position = c.in_err-write_below.ensures.keeps.position;
+    }
 
 pub returns-in_err-write_below-clause-spares : goal.returns-in_err-write_below-clause-spares
 returns-in_err-write_below-clause-spares g c =
@@ -245,14 +237,12 @@ returns-in_err-write_below-clause-spares g c =
       idle = λ none. c.write_below.ensures.idle (wrote_for g.C.Checksum.sum_of old c.args.lsn _ (to_is old c.args.lsn _ _ c.behind_batch-to.ensures.is (behind_read c.args.lsn _ _ (to_z-of_z w64 c.args.lsn c.ranges.lsn) (above g c))) (above g c) ∙ none);
     }
 
-pub returns-clause-tickets : goal.returns-clause-tickets
-returns-clause-tickets g c = c.in_ok-write_below.ensures.tickets
-
-pub returns-clause-position : goal.returns-clause-position
-returns-clause-position g c = c.in_ok-write_below.ensures.position
-
 pub returns-clause-keeps : goal.returns-clause-keeps
-returns-clause-keeps g c = c.in_ok-write_below.ensures.keeps
+returns-clause-keeps g c = record {
+      preserves = c.in_ok-write_below.ensures.keeps.preserves;
+      tickets = c.in_ok-write_below.ensures.keeps.tickets;
+      position = c.in_ok-write_below.ensures.keeps.position;
+    }
 
 pub returns-clause-spares : goal.returns-clause-spares
 returns-clause-spares g c =

@@ -42,23 +42,19 @@ returns-clause-fits g c H A f U fits =
 pub returns-clause-place : goal.returns-clause-place
 returns-clause-place g c = c.end_batch.ensures.place
 
-pub returns-clause-others : goal.returns-clause-others
-returns-clause-others g c = c.end_batch.ensures.others
-
-pub returns-clause-opens : goal.returns-clause-opens
-returns-clause-opens g c = c.end_batch.ensures.opens
+pub returns-clause-ends : goal.returns-clause-ends
+returns-clause-ends g c = record {
+      others = c.end_batch.ensures.ends.others;
+      opens = c.end_batch.ensures.ends.opens;
+      position = c.end_batch.ensures.ends.position;
+      buffers = c.end_batch.ensures.ends.buffers;
+    }
 
 pub returns-clause-answers : goal.returns-clause-answers
 returns-clause-answers g c = c.end_batch.ensures.answers
 
 pub returns-clause-goes_on : goal.returns-clause-goes_on
 returns-clause-goes_on g c = c.end_batch.ensures.goes_on
-
-pub returns-clause-position : goal.returns-clause-position
-returns-clause-position g c = c.end_batch.ensures.position
-
-pub returns-clause-buffers : goal.returns-clause-buffers
-returns-clause-buffers g c = c.end_batch.ensures.buffers
 
 pub returns-clause-err : goal.returns-clause-err
 returns-clause-err g c = c.end_batch.ensures.err

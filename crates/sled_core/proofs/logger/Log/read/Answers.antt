@@ -27,7 +27,7 @@ use Rattle.sled_core.specs.inside.ReadBuffer.{SettleAnswers}
 use Rattle.sled_core.specs.Reading.{IsInline, IsNoPlace, GivesMessage}
 use Rattle.sled_core.specs.ReadPointer.{GivesBlob, IsStableBlob, place_read}
 use Rattle.sled_core.specs.inside.ReadPointer.{IsDamageOf}
-use Rattle.sled_core.proofs.Line.KeptCalls.{kept_further, kept_still, tickets_further}
+use Rattle.sled_core.proofs.Line.KeptCalls.{kept_further, log_still, tickets_further}
 use Rattle.sled_core.proofs.Holds.ReachLemmas.{fits_holds}
 use Rattle.sled_core.proofs.Line.Advanced.{same_current}
 use Rattle.sled_core.proofs.Line.CameFar.{around_none, came_behind, seals_none, still_around}
@@ -62,7 +62,7 @@ pub returns-in-Some-clause-calls : goal.returns-in-Some-clause-calls
 returns-in-Some-clause-calls g c = record { made = tt; damaged = λ is. absurd is; missed = λ none _. absurd (let both : None ≡ c.args.self.now.fault.kept = sym none in let is = c.in-Some.is in cc); at_most = performs_nothing _ _ _ refl; settled = tt; unwritten = λ _. refl }
 
 pub returns-in-Some-clause-keeps : goal.returns-in-Some-clause-keeps
-returns-in-Some-clause-keeps g c = kept_still g.D.Device.trace g.C.Checksum.sum_of c.args.self.now
+returns-in-Some-clause-keeps g c = log_still g.D.Device.trace g.C.Checksum.sum_of c.args.self.now
 
 pub returns-in-Some-clause-buffers : goal.returns-in-Some-clause-buffers
 returns-in-Some-clause-buffers g c = nothing_sealed g.D.Device.trace g.C.Checksum.sum_of c.args.self.now (place_read c.args.lsn c.args.ptr) (Io c.in-Some.e) (λ held. held)
@@ -112,7 +112,7 @@ pub returns-then-lsn-lt0-clause-buffers : goal.returns-then-lsn-lt0-clause-buffe
 returns-then-lsn-lt0-clause-buffers g c = nothing_sealed g.D.Device.trace g.C.Checksum.sum_of c.args.self.now (place_read c.args.lsn c.args.ptr) (Corruption None) (λ held. held)
 
 pub returns-then-lsn-lt0-clause-keeps : goal.returns-then-lsn-lt0-clause-keeps
-returns-then-lsn-lt0-clause-keeps g c = kept_still g.D.Device.trace g.C.Checksum.sum_of c.args.self.now
+returns-then-lsn-lt0-clause-keeps g c = log_still g.D.Device.trace g.C.Checksum.sum_of c.args.self.now
 
 -- The place is one.
 
@@ -207,7 +207,7 @@ returns-in_err-settle_at-clause-answers g c =
 pub read_settled-requires-clause-begin : goal.read_settled-requires-clause-begin
 read_settled-requires-clause-begin g c =
     let yes : IsTrue c.may_begin.result = search rules in
-    subst (λ n. MayBegin n (lid_of c.args.ptr)) (sym c.in_ok-settle_at.ensures.position.size) (subst (MayBegin (segment_size_of c.args.self.now)) c.lid-lid.ensures (c.may_begin.ensures.0 yes))
+    subst (λ n. MayBegin n (lid_of c.args.ptr)) (sym c.in_ok-settle_at.ensures.keeps.position.size) (subst (MayBegin (segment_size_of c.args.self.now)) c.lid-lid.ensures (c.may_begin.ensures.0 yes))
 
 place_is : (g : given.Over) (c : goal.After-read_settled g) → c.unsigned_abs.result ≡ unsigned_abs c.args.lsn
 place_is g c = c.unsigned_abs.ensures.value ∙ ap unsigned_abs (to_z-of_z w64 c.args.lsn c.ranges.lsn)
@@ -229,10 +229,10 @@ held_there g c H m holds there has at pointer inline =
     let written : IsWrittenPlace mid m.place = subst (λ z. pos 0 ≤ℤ z → IsWrittenPlace mid (unsigned_abs z)) here c.in_ok-settle_at.ensures.written (omega (arith, ints)) in
     let still : m.place < synced_end old → mid ≡ old = λ below. subst (λ z. z <ℤ pos (synced_end old) → mid ≡ old) here c.settle_at.ensures.still (omega (arith, ints, below)) in
     let names : (state_of (trace (device_of mid))).snapshots ≡ (state_of (trace (device_of old))).snapshots = ap (λ (t : Trace). (state_of t).snapshots) c.in_ok-settle_at.ensures.calls ∙ settled_names sum old _ (trace (device_of old)) in
-    let found = settled_record trace sum old mid H m holds (c.settle_at.ensures.keeps.history H holds) c.in_default.is c.in_ok-settle_at.ensures.answers.1.3 there has written still names (lid_of c.args.ptr) (pointer ∙ inline_is c.args.ptr inline) in
+    let found = settled_record trace sum old mid H m holds (c.settle_at.ensures.keeps.preserves.history H holds) c.in_default.is c.in_ok-settle_at.ensures.answers.1.3 there has written still names (lid_of c.args.ptr) (pointer ∙ inline_is c.args.ptr inline) in
     let place : c.unsigned_abs.result ≡ m.place = place_is g c ∙ ap unsigned_abs (sym at) in
     let number : c.unsigned_abs.result / c.args.self.now.config.config.segment_size ≡ m.place / size =
-    ap (λ n. n / c.args.self.now.config.config.segment_size) place ∙ ap (λ n. m.place / n) (sym c.in_ok-settle_at.ensures.position.size) in
+    ap (λ n. n / c.args.self.now.config.config.segment_size) place ∙ ap (λ n. m.place / n) (sym c.in_ok-settle_at.ensures.keeps.position.size) in
     subst (λ n. MessageStands sum size device.log.bytes (lid_of c.args.ptr) n m) (sym number) found.stands
 
 pub returns-clause-message : goal.returns-clause-message
@@ -275,15 +275,16 @@ returns-clause-corrupt g c =
     let sum = g.C.Checksum.sum_of in
     let n : ℕ = unsigned_abs c.args.lsn / size in
     if_err c.read_settled.result _ _ (λ e is. damage_at sum size s c.args.lsn c.args.ptr e
-    (subst (λ x. IsDamageOf sum x s n c.args.ptr e) c.in_ok-settle_at.ensures.position.size
+    (subst (λ x. IsDamageOf sum x s n c.args.ptr e) c.in_ok-settle_at.ensures.keeps.position.size
     (subst (λ (t : Trace). IsDamageOf sum (segment_size_of mid) (state_of t) n c.args.ptr e) (sym c.read_settled.ensures.trace)
     (subst (λ x. IsDamageOf sum (segment_size_of mid) now (x / size) c.args.ptr e) (place_is g c) is)))) c.read_settled.ensures.damage
 
 pub returns-clause-keeps : goal.returns-clause-keeps
-returns-clause-keeps g c = kept_further g.D.Device.trace g.C.Checksum.sum_of c.args.self.now c.settle_at.new.self _ c.settle_at.ensures.keeps c.read_settled.ensures.keeps
-
-pub returns-clause-tickets : goal.returns-clause-tickets
-returns-clause-tickets g c = tickets_further c.args.self.now c.settle_at.new.self c.read_settled.new.self c.settle_at.ensures.tickets c.read_settled.ensures.tickets
+returns-clause-keeps g c = record {
+      preserves = kept_further g.D.Device.trace g.C.Checksum.sum_of c.args.self.now c.settle_at.new.self _ c.settle_at.ensures.keeps.preserves c.read_settled.ensures.keeps.preserves;
+      tickets = tickets_further c.args.self.now c.settle_at.new.self c.read_settled.new.self c.settle_at.ensures.keeps.tickets c.read_settled.ensures.keeps.tickets;
+      position = search rules;
+    }
 
 -- the answer of the settling
 ok_at : (g : given.Over) (c : goal.After-read_settled g) → SettleAnswers {T = Unit {0}} (Ok tt) (place_read c.args.lsn c.args.ptr) (synced_end c.args.self.now) (reserved_end c.args.self.now) (held_at g.C.Checksum.sum_of c.args.self.now (place_read c.args.lsn c.args.ptr))

@@ -8,12 +8,12 @@ use Rattle.sled_core.specs.Causes.{FaultOrMemory}
 use Rattle.sled_core.specs.Begun.{SegmentView, begin_of}
 use Rattle.sled_core.specs.declared.iobuf.IoBuf.{IoBuf}
 use Rattle.sled_core.specs.Fits.{held_len}
-use Rattle.sled_core.proofs.Line.KeptCalls.{kept_still}
+use Rattle.sled_core.proofs.Line.KeptCalls.{log_still}
 use Rattle.sled_core.proofs.Line.Shows.{buffers_still}
 use Rattle.sled_core.proofs.logger.Log.roll_iobuf.Goals as goal
 
 pub returns-in-Some-clause-keeps : goal.returns-in-Some-clause-keeps
-returns-in-Some-clause-keeps g c = kept_still g.D.Device.trace g.C.Checksum.sum_of c.args.self.now
+returns-in-Some-clause-keeps g c = log_still g.D.Device.trace g.C.Checksum.sum_of c.args.self.now
 
 pub returns-then-held-eq0-clause-sealed : goal.returns-then-held-eq0-clause-sealed
 returns-then-held-eq0-clause-sealed g c =
@@ -27,7 +27,7 @@ returns-then-held-eq0-clause-sealed g c =
     sym (buffers_still g.C.Checksum.sum_of c.args.self.now none)
 
 pub returns-then-held-eq0-clause-keeps : goal.returns-then-held-eq0-clause-keeps
-returns-then-held-eq0-clause-keeps g c = kept_still g.D.Device.trace g.C.Checksum.sum_of c.args.self.now
+returns-then-held-eq0-clause-keeps g c = log_still g.D.Device.trace g.C.Checksum.sum_of c.args.self.now
 
 -- What isn't sealed says why.
 seal_refused : (T S : Type 0) (e : Error) (here used : Type 0) (fault : Option IoError) → here → fault ≡ None → FaultOrMemory {T = T} (Err e) used None → FaultOrMemory {T = S} (Err e) (here × used) fault

@@ -55,29 +55,30 @@ returns-then-is_short-clause-marked g c =
     on_both c.begin_next.result _ _ _ (λ line machine. begun_marked g.C.Checksum.sum_of old (segment_size_of old) (machine_at old) new (begins_current g.D.Device.trace g.C.Checksum.sum_of old new line machine did.rest)) did.line did.machine
 
 pub returns-then-is_short-clause-keeps : goal.returns-then-is_short-clause-keeps
-returns-then-is_short-clause-keeps g c =
-    let did = c.begin_next.ensures in
-    let old = c.args.self.now in
-    let new = c.begin_next.new.self in
-    either c.begin_next.result _ _ _ (λ keeps. keeps) (λ same. unchanged_keeps old new same g.D.Device.trace g.C.Checksum.sum_of)
-    (on_both c.begin_next.result _ _ _ (λ line machine. begins_keeps g.D.Device.trace g.C.Checksum.sum_of old new line machine did.rest) did.line did.machine) did.err
-
-pub returns-then-is_short-clause-tickets : goal.returns-then-is_short-clause-tickets
-returns-then-is_short-clause-tickets g c =
-    let did = c.begin_next.ensures in
-    let old = c.args.self.now in
-    let new = c.begin_next.new.self in
-    either c.begin_next.result _ _ _ (λ keeps. keeps) (λ same. unchanged_tickets old new same)
-    (on_both c.begin_next.result _ _ _ (λ line machine. begins_tickets g.D.Device.trace g.C.Checksum.sum_of old new line machine did.rest) did.line did.machine) did.err
-
-pub returns-then-is_short-clause-position : goal.returns-then-is_short-clause-position
-returns-then-is_short-clause-position g c =
-    let did = c.begin_next.ensures in
-    let old = c.args.self.now in
-    let new = c.begin_next.new.self in
-    let short = sym c.is_short.ensures ∙ c.if-is_short.true in
-    either c.begin_next.result _ _ _ (λ keeps. keeps) (λ same. unchanged_position old new same)
-    (on_both c.begin_next.result _ _ _ (λ line machine. turns_position g.D.Device.trace g.C.Checksum.sum_of old new line machine did.rest c.requires.some short did.reserved) did.line did.machine) did.err
+returns-then-is_short-clause-keeps g c = record {
+      preserves = (
+        let did = c.begin_next.ensures in
+        let old = c.args.self.now in
+        let new = c.begin_next.new.self in
+        either c.begin_next.result _ _ _ (λ keeps. keeps) (λ same. unchanged_keeps old new same g.D.Device.trace g.C.Checksum.sum_of)
+        (on_both c.begin_next.result _ _ _ (λ line machine. begins_keeps g.D.Device.trace g.C.Checksum.sum_of old new line machine did.rest) did.line did.machine) did.err
+      );
+      tickets = (
+        let did = c.begin_next.ensures in
+        let old = c.args.self.now in
+        let new = c.begin_next.new.self in
+        either c.begin_next.result _ _ _ (λ keeps. keeps) (λ same. unchanged_tickets old new same)
+        (on_both c.begin_next.result _ _ _ (λ line machine. begins_tickets g.D.Device.trace g.C.Checksum.sum_of old new line machine did.rest) did.line did.machine) did.err
+      );
+      position = (
+        let did = c.begin_next.ensures in
+        let old = c.args.self.now in
+        let new = c.begin_next.new.self in
+        let short = sym c.is_short.ensures ∙ c.if-is_short.true in
+        either c.begin_next.result _ _ _ (λ keeps. keeps) (λ same. unchanged_position old new same)
+        (on_both c.begin_next.result _ _ _ (λ line machine. turns_position g.D.Device.trace g.C.Checksum.sum_of old new line machine did.rest c.requires.some short did.reserved) did.line did.machine) did.err
+      );
+    }
 
 pub returns-then-is_short-clause-same : goal.returns-then-is_short-clause-same
 returns-then-is_short-clause-same g c =
@@ -128,26 +129,27 @@ returns-clause-marked g c =
     on_ok c.seal_unfilled.result _ _ (λ line. none_begun g.C.Checksum.sum_of old new (ap (λ (v : SegmentView). v.parts.site.place) (sealed_current g.D.Device.trace g.C.Checksum.sum_of old new c.seal_unfilled.ensures.rest line c.requires.some))) c.seal_unfilled.ensures.line
 
 pub returns-clause-keeps : goal.returns-clause-keeps
-returns-clause-keeps g c =
-    let did = c.seal_unfilled.ensures in
-    let old = c.args.self.now in
-    let new = c.seal_unfilled.new.self in
-    either c.seal_unfilled.result _ _ _ (λ line. sealed_keeps g.D.Device.trace g.C.Checksum.sum_of old new did.rest line c.requires.some) (λ same. unchanged_keeps old new (left_alone old new same did.rest) g.D.Device.trace g.C.Checksum.sum_of) did.line
-    did.unsealed
-
-pub returns-clause-tickets : goal.returns-clause-tickets
-returns-clause-tickets g c =
-    let did = c.seal_unfilled.ensures in
-    let old = c.args.self.now in
-    let new = c.seal_unfilled.new.self in
-    either c.seal_unfilled.result _ _ _ (λ line. sealed_tickets g.D.Device.trace g.C.Checksum.sum_of old new did.rest line c.requires.some) (λ same. unchanged_tickets old new (left_alone old new same did.rest)) did.line did.unsealed
-
-pub returns-clause-position : goal.returns-clause-position
-returns-clause-position g c =
-    let did = c.seal_unfilled.ensures in
-    let old = c.args.self.now in
-    let new = c.seal_unfilled.new.self in
-    either c.seal_unfilled.result _ _ _ (λ line. sealed_position g.D.Device.trace g.C.Checksum.sum_of old new did.rest line c.requires.some) (λ same. unchanged_position old new (left_alone old new same did.rest)) did.line did.unsealed
+returns-clause-keeps g c = record {
+      preserves = (
+        let did = c.seal_unfilled.ensures in
+        let old = c.args.self.now in
+        let new = c.seal_unfilled.new.self in
+        either c.seal_unfilled.result _ _ _ (λ line. sealed_keeps g.D.Device.trace g.C.Checksum.sum_of old new did.rest line c.requires.some) (λ same. unchanged_keeps old new (left_alone old new same did.rest) g.D.Device.trace g.C.Checksum.sum_of) did.line
+        did.unsealed
+      );
+      tickets = (
+        let did = c.seal_unfilled.ensures in
+        let old = c.args.self.now in
+        let new = c.seal_unfilled.new.self in
+        either c.seal_unfilled.result _ _ _ (λ line. sealed_tickets g.D.Device.trace g.C.Checksum.sum_of old new did.rest line c.requires.some) (λ same. unchanged_tickets old new (left_alone old new same did.rest)) did.line did.unsealed
+      );
+      position = (
+        let did = c.seal_unfilled.ensures in
+        let old = c.args.self.now in
+        let new = c.seal_unfilled.new.self in
+        either c.seal_unfilled.result _ _ _ (λ line. sealed_position g.D.Device.trace g.C.Checksum.sum_of old new did.rest line c.requires.some) (λ same. unchanged_position old new (left_alone old new same did.rest)) did.line did.unsealed
+      );
+    }
 
 pub returns-clause-same : goal.returns-clause-same
 returns-clause-same g c =

@@ -1,5 +1,5 @@
 -- The current buffer is sealed first, where it has the place; then the one buffer that has it is written.
-use Rattle.std.proofs.Common.{◌≡◌, ◌∙◌, ◌<◌, ap, sym, refl, arith, subst, inl, inr, pos, ℕ, List}
+use Rattle.std.proofs.Common.{◌≡◌, ◌∙◌, ◌<◌, ap, sym, refl, arith, subst, inl, inr, pos, ℕ, List, rules}
 use Rattle.std.proofs.lemmas.Bool.Decides.{nat_tests}
 use Rattle.std.proofs.lemmas.Int.{ints}
 use Rattle.std.proofs.lemmas.Result.{err_from_is_err_and}
@@ -12,7 +12,7 @@ use Rattle.sled_core.specs.declared.logger.Log.{Log}
 use Rattle.sled_core.specs.Fits.{current_begin, synced_end}
 use Rattle.sled_core.specs.ReadBuffer.{IsUsedUpAt, settling}
 use Rattle.sled_core.specs.Waiting.{BufferStart}
-use Rattle.sled_core.proofs.Line.KeptCalls.{kept_further, kept_still, position_further, tickets_further}
+use Rattle.sled_core.proofs.Line.KeptCalls.{kept_further, log_still, position_further, tickets_further}
 use Rattle.sled_core.proofs.Line.Advanced.{same_current}
 use Rattle.sled_core.proofs.Line.LogSpans.{same_buffers}
 use Rattle.sled_core.proofs.Line.Outcomes.{answers_used, on_err, seal_answers, seal_not_done, seal_not_held}
@@ -32,7 +32,7 @@ pub returns-then-place-synced_end-clause-at_most : goal.returns-then-place-synce
 returns-then-place-synced_end-clause-at_most g c = performs_nothing _ _ _ refl
 
 pub returns-then-place-synced_end-clause-keeps : goal.returns-then-place-synced_end-clause-keeps
-returns-then-place-synced_end-clause-keeps g c = kept_still g.D.Device.trace g.C.Checksum.sum_of c.args.self.now
+returns-then-place-synced_end-clause-keeps g c = log_still g.D.Device.trace g.C.Checksum.sum_of c.args.self.now
 
 pub returns-then-place-synced_end-clause-answers : goal.returns-then-place-synced_end-clause-answers
 returns-then-place-synced_end-clause-answers g c =
@@ -72,7 +72,11 @@ pub returns-in_err-seal-clause-at_most : goal.returns-in_err-seal-clause-at_most
 returns-in_err-seal-clause-at_most g c = performs_nothing _ _ _ (ap (λ (x : RunningConfig g.row.D.Denot g.row.C.Denot). g.D.Device.trace x.device) c.in_err-seal.ensures.err.config)
 
 pub returns-in_err-seal-clause-keeps : goal.returns-in_err-seal-clause-keeps
-returns-in_err-seal-clause-keeps g c = c.in_err-seal.ensures.keeps
+returns-in_err-seal-clause-keeps g c = record {
+      preserves = c.in_err-seal.ensures.keeps.preserves;
+      tickets = search rules;
+      position = search rules;
+    }
 
 pub returns-in_err-seal-clause-answers : goal.returns-in_err-seal-clause-answers
 returns-in_err-seal-clause-answers g c =
@@ -124,7 +128,7 @@ sealed_for g c =
       | then-place-current_begin+in_ok-seal w ↦ subst (λ (l : Log g.row.D.Denot g.row.C.Denot). SealsFor trace sum place old l) (sym w.self-is)
           (seals_current trace sum place old w.seal.new.self (let up = w.if-place-current_begin.true in omega (arith, up, begin))
           (elim c.requires.reserved [ inl below ↦ absurd (omega (arith, below, c.if-place-synced_end.false, c.synced_end.ensures.is)) | inr lower ↦ lower ])
-          w.in_ok-seal.ensures.buffers w.in_ok-seal.ensures.waiting w.in_ok-seal.ensures.begins w.in_ok-seal.ensures.start w.seal.ensures.keeps w.seal.ensures.tickets w.seal.ensures.position w.seal.ensures.same w.in_ok-seal.ensures.answers.0 w.in_ok-seal.ensures.marked)
+          w.in_ok-seal.ensures.buffers w.in_ok-seal.ensures.waiting w.in_ok-seal.ensures.begins w.in_ok-seal.ensures.start w.seal.ensures.keeps.preserves w.seal.ensures.keeps.tickets w.seal.ensures.keeps.position w.seal.ensures.same w.in_ok-seal.ensures.answers.0 w.in_ok-seal.ensures.marked)
       | else-place-current_begin w ↦ subst (λ (l : Log g.row.D.Denot g.row.C.Denot). SealsFor trace sum place old l) (sym w.self-is)
           (seals_still trace sum place old (let low = w.if-place-current_begin.false in omega (arith, low, begin)))
     ]
@@ -149,7 +153,7 @@ seals g c =
       | then-place-current_begin+in_ok-seal w ↦ subst (λ (l : Log g.row.D.Denot g.row.C.Denot). SealsFor trace sum place old l) (sym w.self-is)
           (seals_current trace sum place old w.seal.new.self (let up = w.if-place-current_begin.true in omega (arith, up, begin))
           (elim c.requires.reserved [ inl below ↦ absurd (omega (arith, below, c.if-place-synced_end.false, c.synced_end.ensures.is)) | inr lower ↦ lower ])
-          w.in_ok-seal.ensures.buffers w.in_ok-seal.ensures.waiting w.in_ok-seal.ensures.begins w.in_ok-seal.ensures.start w.seal.ensures.keeps w.seal.ensures.tickets w.seal.ensures.position w.seal.ensures.same w.in_ok-seal.ensures.answers.0 w.in_ok-seal.ensures.marked)
+          w.in_ok-seal.ensures.buffers w.in_ok-seal.ensures.waiting w.in_ok-seal.ensures.begins w.in_ok-seal.ensures.start w.seal.ensures.keeps.preserves w.seal.ensures.keeps.tickets w.seal.ensures.keeps.position w.seal.ensures.same w.in_ok-seal.ensures.answers.0 w.in_ok-seal.ensures.marked)
       | else-place-current_begin w ↦ subst (λ (l : Log g.row.D.Denot g.row.C.Denot). SealsFor trace sum place old l) (sym w.self-is)
           (seals_still trace sum place old (let low = w.if-place-current_begin.false in omega (arith, low, begin)))
     ]
@@ -177,13 +181,11 @@ returns-clause-at_most g c =
     (subst (λ (d : g.row.D.Denot). Performs (settling g.C.Checksum.sum_of c.if-place-current_begin.self (pos c.args.place)) (g.D.Device.trace d) new) first.device c.write_around.ensures.at_most)
 
 pub returns-clause-keeps : goal.returns-clause-keeps
-returns-clause-keeps g c = kept_further g.D.Device.trace g.C.Checksum.sum_of c.args.self.now c.if-place-current_begin.self c.write_around.new.self (seals g c).keeps c.write_around.ensures.keeps
-
-pub returns-clause-tickets : goal.returns-clause-tickets
-returns-clause-tickets g c = tickets_further c.args.self.now c.if-place-current_begin.self c.write_around.new.self (seals g c).tickets c.write_around.ensures.tickets
-
-pub returns-clause-position : goal.returns-clause-position
-returns-clause-position g c = position_further c.args.self.now c.if-place-current_begin.self c.write_around.new.self (seals g c).position c.write_around.ensures.position
+returns-clause-keeps g c = record {
+      preserves = kept_further g.D.Device.trace g.C.Checksum.sum_of c.args.self.now c.if-place-current_begin.self c.write_around.new.self (seals g c).keeps c.write_around.ensures.keeps.preserves;
+      tickets = tickets_further c.args.self.now c.if-place-current_begin.self c.write_around.new.self (seals g c).tickets c.write_around.ensures.keeps.tickets;
+      position = position_further c.args.self.now c.if-place-current_begin.self c.write_around.new.self (seals g c).position c.write_around.ensures.keeps.position;
+    }
 
 pub returns-clause-answers : goal.returns-clause-answers
 returns-clause-answers g c =

@@ -20,13 +20,21 @@ pub returns-then-place-lt0-clause-at_most : goal.returns-then-place-lt0-clause-a
 returns-then-place-lt0-clause-at_most g c = performs_nothing _ _ _ refl
 
 pub returns-then-place-lt0-clause-keeps : goal.returns-then-place-lt0-clause-keeps
-returns-then-place-lt0-clause-keeps g c = kept_still g.D.Device.trace g.C.Checksum.sum_of c.args.self.now
+returns-then-place-lt0-clause-keeps g c = record {
+      preserves = kept_still g.D.Device.trace g.C.Checksum.sum_of c.args.self.now;
+      tickets = tickets_still c.args.self.now;
+      position = position_still c.args.self.now;
+    }
 
 pub returns-then-at-self-clause-at_most : goal.returns-then-at-self-clause-at_most
 returns-then-at-self-clause-at_most g c = performs_nothing _ _ _ refl
 
 pub returns-then-at-self-clause-keeps : goal.returns-then-at-self-clause-keeps
-returns-then-at-self-clause-keeps g c = kept_still g.D.Device.trace g.C.Checksum.sum_of c.args.self.now
+returns-then-at-self-clause-keeps g c = record {
+      preserves = kept_still g.D.Device.trace g.C.Checksum.sum_of c.args.self.now;
+      tickets = tickets_still c.args.self.now;
+      position = position_still c.args.self.now;
+    }
 
 -- it is a place
 is_at : (g : given.Over) (c : goal.After-settle g) → pos c.unsigned_abs-at.result ≡ c.args.place
@@ -66,23 +74,9 @@ returns-then-at-self-clause-buffers g c =
 
 -- Where nothing was written its tickets and its position are as they were, and else as the writing leaves them.
 
-pub returns-then-place-lt0-clause-tickets : goal.returns-then-place-lt0-clause-tickets
-returns-then-place-lt0-clause-tickets g c = tickets_still c.args.self.now
-
-pub returns-then-place-lt0-clause-position : goal.returns-then-place-lt0-clause-position
-returns-then-place-lt0-clause-position g c = position_still c.args.self.now
-
-pub returns-then-at-self-clause-tickets : goal.returns-then-at-self-clause-tickets
-returns-then-at-self-clause-tickets g c = tickets_still c.args.self.now
-
-pub returns-then-at-self-clause-position : goal.returns-then-at-self-clause-position
-returns-then-at-self-clause-position g c = position_still c.args.self.now
-
-pub returns-clause-tickets : goal.returns-clause-tickets
-returns-clause-tickets g c = c.settle.ensures.tickets
-
-pub returns-clause-position : goal.returns-clause-position
-returns-clause-position g c = c.settle.ensures.position
-
 pub returns-clause-keeps : goal.returns-clause-keeps
-returns-clause-keeps g c = c.settle.ensures.keeps
+returns-clause-keeps g c = record {
+      preserves = c.settle.ensures.keeps.preserves;
+      tickets = c.settle.ensures.keeps.tickets;
+      position = c.settle.ensures.keeps.position;
+    }

@@ -5,7 +5,7 @@ use Rattle.sled_store.specs.Device.{Event}
 use Rattle.sled_store.specs.Script.{Performs, after_all}
 use Rattle.sled_store.proofs.Traces.ScriptLemmas.{performs_nothing}
 use Rattle.sled_core.specs.Fits.{segment_size_of, start_of}
-use Rattle.sled_core.proofs.Line.KeptCalls.{kept_still}
+use Rattle.sled_core.proofs.Line.KeptCalls.{log_still}
 use Rattle.sled_core.specs.inside.Marked.{KeepsSegment}
 use Rattle.sled_core.proofs.Line.CameFar.{on_err_both}
 use Rattle.sled_core.proofs.Line.HeaderMarks.{segment_same, segment_written}
@@ -43,7 +43,7 @@ pub returns-then-at-buffer-clause-at_most : goal.returns-then-at-buffer-clause-a
 returns-then-at-buffer-clause-at_most g c = performs_nothing _ _ _ refl
 
 pub returns-then-at-buffer-clause-keeps : goal.returns-then-at-buffer-clause-keeps
-returns-then-at-buffer-clause-keeps g c = kept_still g.D.Device.trace g.C.Checksum.sum_of c.args.self.now
+returns-then-at-buffer-clause-keeps g c = log_still g.D.Device.trace g.C.Checksum.sum_of c.args.self.now
 
 pub returns-then-at-buffer-clause-answers : goal.returns-then-at-buffer-clause-answers
 returns-then-at-buffer-clause-answers g c =
@@ -76,7 +76,7 @@ pub returns-then-b-clause-at_most : goal.returns-then-b-clause-at_most
 returns-then-b-clause-at_most g c = performs_nothing _ _ _ refl
 
 pub returns-then-b-clause-keeps : goal.returns-then-b-clause-keeps
-returns-then-b-clause-keeps g c = kept_still g.D.Device.trace g.C.Checksum.sum_of c.args.self.now
+returns-then-b-clause-keeps g c = log_still g.D.Device.trace g.C.Checksum.sum_of c.args.self.now
 
 pub returns-then-b-clause-answers : goal.returns-then-b-clause-answers
 returns-then-b-clause-answers g c =
@@ -110,7 +110,7 @@ pub returns-then-b-gt0-clause-at_most : goal.returns-then-b-gt0-clause-at_most
 returns-then-b-gt0-clause-at_most g c = performs_nothing _ _ _ refl
 
 pub returns-then-b-gt0-clause-keeps : goal.returns-then-b-gt0-clause-keeps
-returns-then-b-gt0-clause-keeps g c = kept_still g.D.Device.trace g.C.Checksum.sum_of c.args.self.now
+returns-then-b-gt0-clause-keeps g c = log_still g.D.Device.trace g.C.Checksum.sum_of c.args.self.now
 
 pub returns-then-b-gt0-clause-answers : goal.returns-then-b-gt0-clause-answers
 returns-then-b-gt0-clause-answers g c =

@@ -37,7 +37,7 @@ ready g c = elim c.if-current_begin-to.branch [
       let did = w.in_ok-seal.ensures in
       subst (λ (l : Log _ _). SealedFor g.D.Device.trace g.C.Checksum.sum_of c.args.to c.args.self.now l) (sym w.self-is)
       (sealed_first g.D.Device.trace g.C.Checksum.sum_of c.args.to c.args.self.now w.seal.new.self c.requires.fault c.requires.reserved (omega (arith, c.current_begin.ensures.is, w.if-current_begin-to.true))
-      did.waiting did.buffers did.begins did.start did.keeps did.tickets did.same did.position did.answers.0 did.marked)
+      did.waiting did.buffers did.begins did.start did.keeps.preserves did.keeps.tickets did.same did.keeps.position did.answers.0 did.marked)
   | else-current_begin-to w ↦
       subst (λ (l : Log _ _). SealedFor g.D.Device.trace g.C.Checksum.sum_of c.args.to c.args.self.now l) (sym w.self-is)
       (sealed_already g.D.Device.trace g.C.Checksum.sum_of c.args.to c.args.self.now c.requires.fault c.requires.reserved (omega (arith, c.current_begin.ensures.is, w.if-current_begin-to.false)))
@@ -50,13 +50,11 @@ pub returns-clause-at_most : goal.returns-clause-at_most
 returns-clause-at_most g c = first_performs g.D.Device.trace g.C.Checksum.sum_of c.args.to c.args.self.now c.if-current_begin-to.self c.write_sealed_below.new.self (ready g c) c.write_sealed_below.ensures.at_most
 
 pub returns-clause-keeps : goal.returns-clause-keeps
-returns-clause-keeps g c = kept_further g.D.Device.trace g.C.Checksum.sum_of c.args.self.now c.if-current_begin-to.self c.write_sealed_below.new.self (ready g c).keeps c.write_sealed_below.ensures.keeps
-
-pub returns-clause-tickets : goal.returns-clause-tickets
-returns-clause-tickets g c = first_tickets g.D.Device.trace g.C.Checksum.sum_of c.args.to c.args.self.now c.if-current_begin-to.self c.write_sealed_below.new.self (ready g c) c.write_sealed_below.ensures.tickets
-
-pub returns-clause-position : goal.returns-clause-position
-returns-clause-position g c = first_position g.D.Device.trace g.C.Checksum.sum_of c.args.to c.args.self.now c.if-current_begin-to.self c.write_sealed_below.new.self (ready g c) c.write_sealed_below.ensures.position
+returns-clause-keeps g c = record {
+      preserves = kept_further g.D.Device.trace g.C.Checksum.sum_of c.args.self.now c.if-current_begin-to.self c.write_sealed_below.new.self (ready g c).keeps c.write_sealed_below.ensures.keeps.preserves;
+      tickets = first_tickets g.D.Device.trace g.C.Checksum.sum_of c.args.to c.args.self.now c.if-current_begin-to.self c.write_sealed_below.new.self (ready g c) c.write_sealed_below.ensures.keeps.tickets;
+      position = first_position g.D.Device.trace g.C.Checksum.sum_of c.args.to c.args.self.now c.if-current_begin-to.self c.write_sealed_below.new.self (ready g c) c.write_sealed_below.ensures.keeps.position;
+    }
 
 pub returns-clause-answers : goal.returns-clause-answers
 returns-clause-answers g c =

@@ -37,7 +37,7 @@ loop-self-preserved g c =
     let ready : ready_below (line_of mid) c.args.to ≡ true = sym c.has_ready_below.ensures ∙ c.loop-self-test.true in
     record {
       advanced = advanced_further g.D.Device.trace g.C.Checksum.sum_of g.D.Device.faults c.args.to c.args.self.now mid c.write_buffer.new.self c.loop-self.invariant.advanced ready (c.in_ok-write_buffer.ensures.line (first_view mid) refl)
-          c.write_buffer.ensures.keeps c.write_buffer.ensures.tickets c.write_buffer.ensures.position c.in_ok-write_buffer.ensures.calls c.in_ok-write_buffer.ensures.answers.1 c.in_ok-write_buffer.ensures.answers.2;
+          c.write_buffer.ensures.keeps.preserves c.write_buffer.ensures.keeps.tickets c.write_buffer.ensures.keeps.position c.in_ok-write_buffer.ensures.calls c.in_ok-write_buffer.ensures.answers.1 c.in_ok-write_buffer.ensures.answers.2;
     }
 
 -- A write failed.
@@ -47,14 +47,11 @@ returns-in_err-write_buffer-clause-at_most g c =
     failed_further g.D.Device.trace g.C.Checksum.sum_of g.D.Device.faults c.args.to c.args.self.now c.loop-self.self c.write_buffer.new.self c.requires.sealed c.loop-self.invariant.advanced (sym c.has_ready_below.ensures ∙ c.loop-self-test.true) c.write_buffer.ensures.at_most
 
 pub returns-in_err-write_buffer-clause-keeps : goal.returns-in_err-write_buffer-clause-keeps
-returns-in_err-write_buffer-clause-keeps g c =
-    kept_further g.D.Device.trace g.C.Checksum.sum_of c.args.self.now c.loop-self.self c.write_buffer.new.self c.loop-self.invariant.advanced.keeps c.write_buffer.ensures.keeps
-
-pub returns-in_err-write_buffer-clause-tickets : goal.returns-in_err-write_buffer-clause-tickets
-returns-in_err-write_buffer-clause-tickets g c = failed_tickets g.D.Device.trace g.C.Checksum.sum_of g.D.Device.faults c.args.to c.args.self.now c.loop-self.self c.write_buffer.new.self c.loop-self.invariant.advanced c.write_buffer.ensures.tickets
-
-pub returns-in_err-write_buffer-clause-position : goal.returns-in_err-write_buffer-clause-position
-returns-in_err-write_buffer-clause-position g c = failed_position g.D.Device.trace g.C.Checksum.sum_of g.D.Device.faults c.args.to c.args.self.now c.loop-self.self c.write_buffer.new.self c.loop-self.invariant.advanced c.write_buffer.ensures.position
+returns-in_err-write_buffer-clause-keeps g c = record {
+      preserves = kept_further g.D.Device.trace g.C.Checksum.sum_of c.args.self.now c.loop-self.self c.write_buffer.new.self c.loop-self.invariant.advanced.keeps c.write_buffer.ensures.keeps.preserves;
+      tickets = failed_tickets g.D.Device.trace g.C.Checksum.sum_of g.D.Device.faults c.args.to c.args.self.now c.loop-self.self c.write_buffer.new.self c.loop-self.invariant.advanced c.write_buffer.ensures.keeps.tickets;
+      position = failed_position g.D.Device.trace g.C.Checksum.sum_of g.D.Device.faults c.args.to c.args.self.now c.loop-self.self c.write_buffer.new.self c.loop-self.invariant.advanced c.write_buffer.ensures.keeps.position;
+    }
 
 pub returns-in_err-write_buffer-clause-answers : goal.returns-in_err-write_buffer-clause-answers
 returns-in_err-write_buffer-clause-answers g c =
@@ -103,13 +100,11 @@ returns-then-synced_end-to-clause-at_most g c =
     performs_whole _ _ _ (all_made g.D.Device.trace g.C.Checksum.sum_of g.D.Device.faults c.args.to c.args.self.now c.loop-self.self c.requires.sealed c.loop-self.invariant.advanced (stuck g c).writes)
 
 pub returns-then-synced_end-to-clause-keeps : goal.returns-then-synced_end-to-clause-keeps
-returns-then-synced_end-to-clause-keeps g c = c.loop-self.invariant.advanced.keeps
-
-pub returns-then-synced_end-to-clause-tickets : goal.returns-then-synced_end-to-clause-tickets
-returns-then-synced_end-to-clause-tickets g c = c.loop-self.invariant.advanced.tickets
-
-pub returns-then-synced_end-to-clause-position : goal.returns-then-synced_end-to-clause-position
-returns-then-synced_end-to-clause-position g c = c.loop-self.invariant.advanced.position
+returns-then-synced_end-to-clause-keeps g c = record {
+      preserves = c.loop-self.invariant.advanced.keeps;
+      tickets = c.loop-self.invariant.advanced.tickets;
+      position = c.loop-self.invariant.advanced.position;
+    }
 
 pub returns-then-synced_end-to-clause-answers : goal.returns-then-synced_end-to-clause-answers
 returns-then-synced_end-to-clause-answers g c =
@@ -153,13 +148,11 @@ returns-clause-at_most g c =
     (writes_past c.args.to (waiting_of now) (past_left g.D.Device.trace g.C.Checksum.sum_of g.D.Device.faults c.args.to now (omega (arith, c.synced_end.ensures.is, c.if-synced_end-to.false)))))
 
 pub returns-clause-keeps : goal.returns-clause-keeps
-returns-clause-keeps g c = c.loop-self.invariant.advanced.keeps
-
-pub returns-clause-tickets : goal.returns-clause-tickets
-returns-clause-tickets g c = c.loop-self.invariant.advanced.tickets
-
-pub returns-clause-position : goal.returns-clause-position
-returns-clause-position g c = c.loop-self.invariant.advanced.position
+returns-clause-keeps g c = record {
+      preserves = c.loop-self.invariant.advanced.keeps;
+      tickets = c.loop-self.invariant.advanced.tickets;
+      position = c.loop-self.invariant.advanced.position;
+    }
 
 pub returns-clause-answers : goal.returns-clause-answers
 returns-clause-answers g c =

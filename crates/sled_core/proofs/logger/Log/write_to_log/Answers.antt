@@ -4,7 +4,7 @@ use Rattle.sled_store.proofs.Traces.ScriptLemmas.{performs_nothing}
 use Rattle.sled_core.specs.Fits.{line_of, segment_size_of, start_of}
 use Rattle.sled_core.specs.inside.Turned.{written_now}
 use Rattle.sled_core.specs.Waiting.{unwritten}
-use Rattle.sled_core.proofs.Line.KeptCalls.{kept_still}
+use Rattle.sled_core.proofs.Line.KeptCalls.{log_still}
 use Rattle.sled_core.proofs.Line.Buffers.{unwritten_promoted}
 use Rattle.sled_core.proofs.Line.LogSpans.{same_buffers, written_starts}
 use Rattle.sled_core.proofs.Line.LogWrites.{segments_written}
@@ -17,7 +17,7 @@ pub returns-in-Some-clause-at_most : goal.returns-in-Some-clause-at_most
 returns-in-Some-clause-at_most g c = performs_nothing _ _ _ refl
 
 pub returns-in-Some-clause-keeps : goal.returns-in-Some-clause-keeps
-returns-in-Some-clause-keeps g c = kept_still g.D.Device.trace g.C.Checksum.sum_of c.args.self.now
+returns-in-Some-clause-keeps g c = log_still g.D.Device.trace g.C.Checksum.sum_of c.args.self.now
 
 pub returns-clause-written : goal.returns-clause-written
 returns-clause-written g c =

@@ -97,11 +97,11 @@ returns-in-Ok-clause-step g c = λ k at asked.
     let notes : NotesBatchOf ticket.reservation (pos (reserved_end old.log) -ℤ pos 1) old.log new =
     subst (λ x. NotesBatchOf ticket.reservation (pos (reserved_end old.log) -ℤ pos 1) x new) took.log (subst (λ z. NotesBatchOf ticket.reservation z mid.log new) (peg_is g read) done.same) in
     ends_batch (seen_by g) sum old k at n m its.1 its.2 mid ticket took new notes
-    (subst (λ x. SamePosition x new) took.log c.mark_writebatch.ensures.position) (subst (λ x. KeepsBuffers x new) took.log c.mark_writebatch.ensures.buffers)
+    (subst (λ x. SamePosition x new) took.log c.mark_writebatch.ensures.ends.position) (subst (λ x. KeepsBuffers x new) took.log c.mark_writebatch.ensures.ends.buffers)
     (sym (ap (λ x. fault_of x) took.log) ∙ done.answers)
-    (λ t x holds ne. c.mark_writebatch.ensures.others k.history t x (fits_holds trace sum mid.log k.history k.acknowledged k.floor at.unmarked fits) (subst (λ y. Awaits y t x) (sym took.log) holds) ne)
+    (λ t x holds ne. c.mark_writebatch.ensures.ends.others k.history t x (fits_holds trace sum mid.log k.history k.acknowledged k.floor at.unmarked fits) (subst (λ y. Awaits y t x) (sym took.log) holds) ne)
     (λ j x apart had. safe_on trace sum mid.log new x c.mark_writebatch.ensures.goes_on (subst (λ y. IsSafe trace sum y x) (sym took.log) had.stored))
-    (subst (λ x. TakesOut m.place (open_places x) (open_places new)) took.log (done.opens m.place says.0))
+    (subst (λ x. TakesOut m.place (open_places x) (open_places new)) took.log (done.ends.opens m.place says.0))
     _ c.in-Ok.pointer (sym (place_back c.in-Ok.low m.place (done.place.0 ∙ sym says.0) (awaited_small old.log ticket.reservation m awaits)), done.place.1 ∙ sym says.1)
     gives.0 (subst (λ z. EndsBatch k.history ticket.reservation z gives.0) (peg_is g read) gives.1) gives.2
 

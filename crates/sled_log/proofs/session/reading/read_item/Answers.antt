@@ -28,13 +28,13 @@ returns-in_err-item-clause-reads g c =
     let place : ℤ = to_z w64 (of_z w64 c.args.place) in
     let gives = err_from_is_err_and c.from_residual.result c.from_residual.ensures.1 in
     rw (gives.1, gives.2) (record {
-      only = record { keeps = c.read.ensures.keeps; tickets = c.read.ensures.tickets; position = c.read.ensures.position; free = was_free old new c.read.ensures.refused.faulty };
+      only = record { keeps = c.read.ensures.keeps.preserves; tickets = c.read.ensures.keeps.tickets; position = c.read.ensures.keeps.position; free = was_free old new c.read.ensures.refused.faulty };
       item = λ k m begun is of here points none a.
           let at = here ∙ sym (to_z-of_z w64 c.args.place c.ranges.place) in
           let whole = is_whole trace sum old k c.args.page m place is of at c.args.pointer e points
           (came.undamaged k.history k.acknowledged k.floor is.unmarked m is.fits of.there (has_record old k.history (reserved_end old) c.args.page m of) at points)
           (came.blob k.history k.acknowledged k.floor is.unmarked m is.fits is.zeros).kept in
-          read_failed view sum old new k c.args.page m begun of (whole_of trace sum old k.history k.acknowledged k.floor is.unmarked is.fits) (stays_put trace sum old new c.read.ensures.tickets c.read.ensures.position c.read.ensures.keeps) blobs e place c.args.pointer at points
+          read_failed view sum old new k c.args.page m begun of (whole_of trace sum old k.history k.acknowledged k.floor is.unmarked is.fits) (stays_put trace sum old new c.read.ensures.keeps.tickets c.read.ensures.keeps.position c.read.ensures.keeps.preserves) blobs e place c.args.pointer at points
           (came.calls, (came.buffers.1, came.answers, came.buffers.2)) whole none a;
     })
 
@@ -51,7 +51,7 @@ returns-in-Inline-clause-reads g c =
     let r : LogRead = c.in_ok-item.field-0 in
     let place : ℤ = to_z w64 (of_z w64 c.args.place) in
     record {
-      only = record { keeps = c.read.ensures.keeps; tickets = c.read.ensures.tickets; position = c.read.ensures.position; free = was_free old new c.read.ensures.refused.faulty };
+      only = record { keeps = c.read.ensures.keeps.preserves; tickets = c.read.ensures.keeps.tickets; position = c.read.ensures.keeps.position; free = was_free old new c.read.ensures.refused.faulty };
       item = λ k m begun is of here points.
           let at = here ∙ sym (to_z-of_z w64 c.args.place c.ranges.place) in
           let gives : GivesMessage m r = is_given trace sum old k c.args.page m place is of at c.args.pointer r points
@@ -61,7 +61,7 @@ returns-in-Inline-clause-reads g c =
             | inl x ↦ (subst (GivesMessage m) x.2 gives).2
             | inr x ↦ (subst (GivesMessage m) x.3 gives).2
           ] in
-          let read = was_read view sum old new k c.args.page m begun of (whole_of trace sum old k.history k.acknowledged k.floor is.unmarked is.fits) (stays_put trace sum old new c.read.ensures.tickets c.read.ensures.position c.read.ensures.keeps) blobs r place c.args.pointer at points
+          let read = was_read view sum old new k c.args.page m begun of (whole_of trace sum old k.history k.acknowledged k.floor is.unmarked is.fits) (stays_put trace sum old new c.read.ensures.keeps.tickets c.read.ensures.keeps.position c.read.ensures.keeps.preserves) blobs r place c.args.pointer at points
           (came.calls, (came.buffers.1, came.answers, came.buffers.2)) in
           (bytes, read.0, read.1, read.2);
     }
@@ -77,7 +77,7 @@ returns-in-Canceled g c =
     let place : ℤ = to_z w64 (of_z w64 c.args.place) in
     record {
       reads = record {
-        only = record { keeps = c.read.ensures.keeps; tickets = c.read.ensures.tickets; position = c.read.ensures.position; free = was_free old new c.read.ensures.refused.faulty };
+        only = record { keeps = c.read.ensures.keeps.preserves; tickets = c.read.ensures.keeps.tickets; position = c.read.ensures.keeps.position; free = was_free old new c.read.ensures.refused.faulty };
         item = λ k m begun is of here points.
             let at = here ∙ sym (to_z-of_z w64 c.args.place c.ranges.place) in
             let gives : GivesMessage m c.in_ok-item.field-0 = is_given trace sum old k c.args.page m place is of at c.args.pointer c.in_ok-item.field-0 points
@@ -91,5 +91,5 @@ returns-in-Canceled g c =
               | inr (inr (inr (inr x))) ↦ subst (GivesMessage m) x.2 gives
             ]);
       };
-      on = record { later = c.read.ensures.keeps.goes_on.later; kept = c.read.ensures.keeps.goes_on.config };
+      on = record { later = c.read.ensures.keeps.preserves.goes_on.later; kept = c.read.ensures.keeps.preserves.goes_on.config };
     }

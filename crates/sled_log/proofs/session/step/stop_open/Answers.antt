@@ -26,7 +26,7 @@ returns-clause-step g c = λ k at free.
           acknowledged = k.acknowledged;
           floor = k.floor;
           log = Some (record {
-            position = did.position.position i;
+            position = did.keeps.position.position i;
             synced = did.rest.synced i;
             noted = did.rest.noted i;
             end = did.rest.reserved i;
@@ -34,13 +34,13 @@ returns-clause-step g c = λ k at free.
             start = did.rest.start i;
             begun = length opened.pages.items;
             fault = did.rest.fault i;
-            outstanding = did.tickets.opens i;
+            outstanding = did.keeps.tickets.opens i;
             tickets = k.tickets;
           });
         }),
       );
-      at = λ own. still_open trace g.C.Checksum.sum_of opened new k k.acknowledged at did.tickets did.position (λ none. sym did.rest.fault ∙ none) did.keeps (did.keeps.fits k.history k.acknowledged k.floor at.unmarked at.fits);
-      crash = λ own. going_on trace g.C.Checksum.sum_of opened k at new did.keeps.goes_on;
+      at = λ own. still_open trace g.C.Checksum.sum_of opened new k k.acknowledged at did.keeps.tickets did.keeps.position (λ none. sym did.rest.fault ∙ none) did.keeps.preserves (did.keeps.preserves.fits k.history k.acknowledged k.floor at.unmarked at.fits);
+      crash = λ own. going_on trace g.C.Checksum.sum_of opened k at new did.keeps.preserves.goes_on;
     }
 
 pub returns-clause-device : goal.returns-clause-device

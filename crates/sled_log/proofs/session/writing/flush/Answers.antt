@@ -32,8 +32,8 @@ returns-in-Ok-clause-step g c = λ k at free.
     let past = fits_stable trace sum old H k.acknowledged k.floor at.unmarked at.fits in
     let above = c.in-Ok.ensures.buffers.0.above in
     let answers = c.in-Ok.ensures.answers in
-    let position = c.flush.ensures.position in
-    let put = stays_put trace sum old new c.flush.ensures.tickets position c.flush.ensures.keeps in
+    let position = c.flush.ensures.keeps.position in
+    let put = stays_put trace sum old new c.flush.ensures.keeps.tickets position c.flush.ensures.keeps.preserves in
     let ends : synced_end new ≡ stable_from to l = sym c.in-Ok.ensures.synced.stable ∙ stable_seen old sum begun k.tickets to some new (view old.config.device) (view new.config.device) H k.acknowledged k.floor put above in
     let kept : IsKept sum (segment_size_of old) new.segments.first.site new.segments.first.buffer.written_len (state_of (trace (device_of new))) (logged H) =
     subst (λ n. IsKept sum n new.segments.first.site new.segments.first.buffer.written_len (state_of (trace (device_of new))) (logged H)) position.size (c.in-Ok.ensures.records H holds) in
@@ -50,9 +50,9 @@ returns-in-Ok-clause-step g c = λ k at free.
         at = ends;
         kept = kept;
       };
-      at = λ own. still_open trace sum opened new k reached at c.flush.ensures.tickets position (was_free old new c.flush.ensures.spares.faulty) c.flush.ensures.keeps
+      at = λ own. still_open trace sum opened new k reached at c.flush.ensures.keeps.tickets position (was_free old new c.flush.ensures.spares.faulty) c.flush.ensures.keeps.preserves
           (subst (λ n. Fits trace sum new H (max k.acknowledged (end_below n H)) k.floor at.unmarked) (sym c.in-Ok.ensures.synced.stable) (c.in-Ok.ensures.acknowledges H k.acknowledged k.floor at.unmarked at.fits));
-      crash = λ own. going_on trace sum opened k at new c.flush.ensures.keeps.goes_on;
+      crash = λ own. going_on trace sum opened k at new c.flush.ensures.keeps.preserves.goes_on;
     }
 
 -- a flush that failed changes nothing of the history
@@ -69,7 +69,7 @@ returns-in-Err-clause-step g c = λ k at free.
     let H = k.history in
     let to = reserved_end old in
     let some : current_begin old < to → 0 < held_len old = some_reserved old sum begun k.tickets to (omega arith) in
-    let position = c.flush.ensures.position in
+    let position = c.flush.ensures.keeps.position in
     let device = view old.config.device in
     let now = view new.config.device in
     let held = holding_below sum old to in
@@ -81,11 +81,11 @@ returns-in-Err-clause-step g c = λ k at free.
         | inl kept ↦ (
             let same = c.flush.ensures.spares.faulty kept.0 kept.2 in
             inl (keeps_failing old new begun k.tickets device now H k.acknowledged k.floor c.in-Err.e kept.0 kept.1 kept.2 same (ap (λ x. view x.config.device) same)))
-        | inr none ↦ inr (fails_to old sum begun k.tickets to some new device now H k.acknowledged k.floor (stays_put trace sum old new c.flush.ensures.tickets position c.flush.ensures.keeps) (whole_of trace sum old H k.acknowledged k.floor at.unmarked at.fits none) trace c.in-Err.e refl refl none
+        | inr none ↦ inr (fails_to old sum begun k.tickets to some new device now H k.acknowledged k.floor (stays_put trace sum old new c.flush.ensures.keeps.tickets position c.flush.ensures.keeps.preserves) (whole_of trace sum old H k.acknowledged k.floor at.unmarked at.fits none) trace c.in-Err.e refl refl none
             (why_of ℕ c.in-Err.e held _ used _ (fault_of old) (fault_of new) device.failures now.failures none (holding_seen old sum begun k.tickets to some) (λ used. (used.0, flush_out old sum begun k.tickets used.1)) (λ free needs. needs.1 (flush_in old sum begun k.tickets (λ used. free (needs.0, used)))) c.in-Err.ensures.answers)
             (subst (λ (es : List Event). Performs es (trace (device_of old)) (trace (device_of new))) (writes_seen old sum begun k.tickets to some) c.flush.ensures.at_most)
             (if_held ℕ c.in-Err.e _ _ (λ done. done ∙ ap (λ (es : List Event). after_all es (trace (device_of old))) (writes_seen old sum begun k.tickets to some)) c.in-Err.ensures.calls) c.in-Err.ensures.buffers.0.seals.held c.in-Err.ensures.buffers.1)
       ];
-      at = λ own. still_open trace sum opened new k k.acknowledged at c.flush.ensures.tickets position (was_free old new c.flush.ensures.spares.faulty) c.flush.ensures.keeps (c.flush.ensures.keeps.fits H k.acknowledged k.floor at.unmarked at.fits);
-      crash = λ own. going_on trace sum opened k at new c.flush.ensures.keeps.goes_on;
+      at = λ own. still_open trace sum opened new k k.acknowledged at c.flush.ensures.keeps.tickets position (was_free old new c.flush.ensures.spares.faulty) c.flush.ensures.keeps.preserves (c.flush.ensures.keeps.preserves.fits H k.acknowledged k.floor at.unmarked at.fits);
+      crash = λ own. going_on trace sum opened k at new c.flush.ensures.keeps.preserves.goes_on;
     }

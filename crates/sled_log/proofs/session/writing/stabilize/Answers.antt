@@ -35,8 +35,8 @@ returns-in-Ok-clause-step g c = λ k at free.
     let fits = c.in-Ok.ensures.acknowledges H k.acknowledged k.floor at.unmarked at.fits in
     let some : current_begin old < to → 0 < held_len old = some_known old sum begun k.tickets place answers.0 in
     let past = fits_stable trace sum old H k.acknowledged k.floor at.unmarked at.fits in
-    let position = c.make_stable.ensures.position in
-    let put = stays_put trace sum old new c.make_stable.ensures.tickets position c.make_stable.ensures.keeps in
+    let position = c.make_stable.ensures.keeps.position in
+    let put = stays_put trace sum old new c.make_stable.ensures.keeps.tickets position c.make_stable.ensures.keeps.preserves in
     let reached : ℕ = max k.acknowledged (end_below (stable_end new) H) in
     let unheld = holding_seen old sum begun k.tickets to some ∙ sym (held_seen old sum begun k.tickets place answers.0) ∙ answers.1.0 in
     let done : Does view sum (phase.Open opened) (told.Stable place) (phase.Open (over opened new), reply.Flushed c.in-Ok.more) k =
@@ -47,11 +47,11 @@ returns-in-Ok-clause-step g c = λ k at free.
         answers.0,
         has_written old sum begun k.tickets to some new (view old.config.device) (view new.config.device) H k.acknowledged k.floor put (whole_of trace sum old H k.acknowledged k.floor at.unmarked at.fits answers.1.2) c.in-Ok.more answers.1.2 answers.1.3 answers.1.1 unheld
             (c.in-Ok.ensures.made ∙ ap (λ (es : List Event). after_all es (trace (device_of old))) (stabilizing_seen old sum begun k.tickets place)) answers.1.4 c.in-Ok.ensures.answer
-            (target_written old new place c.make_stable.ensures.keeps.noted c.in-Ok.ensures.target) past above,
+            (target_written old new place c.make_stable.ensures.keeps.preserves.noted c.in-Ok.ensures.target) past above,
         subst (λ n. place <ℤ pos n) (stable_seen old sum begun k.tickets to some new (view old.config.device) (view new.config.device) H k.acknowledged k.floor put above) c.in-Ok.ensures.target,
       );
-      at = λ own. still_open trace sum opened new k reached at c.make_stable.ensures.tickets position (was_free old new c.make_stable.ensures.spares.faulty) c.make_stable.ensures.keeps fits;
-      crash = λ own. going_on trace sum opened k at new c.make_stable.ensures.keeps.goes_on;
+      at = λ own. still_open trace sum opened new k reached at c.make_stable.ensures.keeps.tickets position (was_free old new c.make_stable.ensures.spares.faulty) c.make_stable.ensures.keeps.preserves fits;
+      crash = λ own. going_on trace sum opened k at new c.make_stable.ensures.keeps.preserves.goes_on;
     } in
     subst (λ (z : ℤ). Does view sum (phase.Open opened) (told.Stable z) (phase.Open (over opened new), reply.Flushed c.in-Ok.more) k) (to_z-of_z w64 c.args.place c.ranges.place) done
 
@@ -64,16 +64,16 @@ returns-in-Err-clause-step g c = λ k at free.
     let opened = c.args.opened.now in
     let old = opened.log in
     let new = c.make_stable.new.self in
-    let position = c.make_stable.ensures.position in
+    let position = c.make_stable.ensures.keeps.position in
     let place : ℤ = to_z w64 (of_z w64 c.args.place) in
-    let fails = stable_failed view sum old new (length opened.pages.items) k.tickets place k.history k.acknowledged k.floor (stays_put trace sum old new c.make_stable.ensures.tickets position c.make_stable.ensures.keeps) (whole_of trace sum old k.history k.acknowledged k.floor at.unmarked at.fits) c.in-Err.e c.in-Err.ensures.answers c.in-Err.ensures.made c.make_stable.ensures.at_most
+    let fails = stable_failed view sum old new (length opened.pages.items) k.tickets place k.history k.acknowledged k.floor (stays_put trace sum old new c.make_stable.ensures.keeps.tickets position c.make_stable.ensures.keeps.preserves) (whole_of trace sum old k.history k.acknowledged k.floor at.unmarked at.fits) c.in-Err.e c.in-Err.ensures.answers c.in-Err.ensures.made c.make_stable.ensures.at_most
     c.make_stable.ensures.spares.faulty c.in-Err.ensures.refused c.in-Err.ensures.buffers.0.seals.held c.in-Err.ensures.buffers.1 in
     let done : Does view sum (phase.Open opened) (told.Stable place) (phase.Open (over opened new), reply.Failed c.in-Err.e) k =
     record {
       not_refused = refl;
       next = k;
       step = fails;
-      at = λ own. still_open trace sum opened new k k.acknowledged at c.make_stable.ensures.tickets position (was_free old new c.make_stable.ensures.spares.faulty) c.make_stable.ensures.keeps (c.make_stable.ensures.keeps.fits k.history k.acknowledged k.floor at.unmarked at.fits);
-      crash = λ own. going_on trace sum opened k at new c.make_stable.ensures.keeps.goes_on;
+      at = λ own. still_open trace sum opened new k k.acknowledged at c.make_stable.ensures.keeps.tickets position (was_free old new c.make_stable.ensures.spares.faulty) c.make_stable.ensures.keeps.preserves (c.make_stable.ensures.keeps.preserves.fits k.history k.acknowledged k.floor at.unmarked at.fits);
+      crash = λ own. going_on trace sum opened k at new c.make_stable.ensures.keeps.preserves.goes_on;
     } in
     subst (λ (z : ℤ). Does view sum (phase.Open opened) (told.Stable z) (phase.Open (over opened new), reply.Failed c.in-Err.e) k) (to_z-of_z w64 c.args.place c.ranges.place) done

@@ -38,10 +38,10 @@ returns-in-Ok-clause-step g c = λ k at free.
         answers.0,
         record { buffers = waiting_of old; shown = shows_waiting old sum (length opened.pages.items) k.tickets (whole_of trace sum old k.history k.acknowledged k.floor at.unmarked at.fits answers.0); made = c.in-Ok.ensures.calls },
         answers.2,
-        leaves old sum (length opened.pages.items) k.tickets new (view old.config.device) (view new.config.device) k.history k.acknowledged k.floor (stays_put trace sum old new c.write_to_log.ensures.tickets c.write_to_log.ensures.position c.write_to_log.ensures.keeps) _ _ _ left c.write_to_log.ensures.start answers.1,
+        leaves old sum (length opened.pages.items) k.tickets new (view old.config.device) (view new.config.device) k.history k.acknowledged k.floor (stays_put trace sum old new c.write_to_log.ensures.keeps.tickets c.write_to_log.ensures.keeps.position c.write_to_log.ensures.keeps.preserves) _ _ _ left c.write_to_log.ensures.start answers.1,
       );
-      at = λ own. still_open trace sum opened new k k.acknowledged at c.write_to_log.ensures.tickets c.write_to_log.ensures.position (was_free old new c.write_to_log.ensures.faulty) c.write_to_log.ensures.keeps (c.write_to_log.ensures.keeps.fits k.history k.acknowledged k.floor at.unmarked at.fits);
-      crash = λ own. going_on trace sum opened k at new c.write_to_log.ensures.keeps.goes_on;
+      at = λ own. still_open trace sum opened new k k.acknowledged at c.write_to_log.ensures.keeps.tickets c.write_to_log.ensures.keeps.position (was_free old new c.write_to_log.ensures.faulty) c.write_to_log.ensures.keeps.preserves (c.write_to_log.ensures.keeps.preserves.fits k.history k.acknowledged k.floor at.unmarked at.fits);
+      crash = λ own. going_on trace sum opened k at new c.write_to_log.ensures.keeps.preserves.goes_on;
     }
 
 pub returns-in-Err-clause-step : goal.returns-in-Err-clause-step
@@ -57,7 +57,7 @@ returns-in-Err-clause-step g c = λ k at free.
     let device = view old.config.device in
     let now = view new.config.device in
     let begun = length opened.pages.items in
-    let put = stays_put trace sum old new c.write_to_log.ensures.tickets c.write_to_log.ensures.position c.write_to_log.ensures.keeps in
+    let put = stays_put trace sum old new c.write_to_log.ensures.keeps.tickets c.write_to_log.ensures.keeps.position c.write_to_log.ensures.keeps.preserves in
     let answers = held_none (Unit {0}) c.in-Err.e (fault_of old) (fault_of new) device.failures now.failures c.in-Err.ensures.answers in
     record {
       not_refused = refl;
@@ -83,6 +83,6 @@ returns-in-Err-clause-step g c = λ k at free.
           );
         })
       ];
-      at = λ own. still_open trace sum opened new k k.acknowledged at c.write_to_log.ensures.tickets c.write_to_log.ensures.position (was_free old new c.write_to_log.ensures.faulty) c.write_to_log.ensures.keeps (c.write_to_log.ensures.keeps.fits k.history k.acknowledged k.floor at.unmarked at.fits);
-      crash = λ own. going_on trace sum opened k at new c.write_to_log.ensures.keeps.goes_on;
+      at = λ own. still_open trace sum opened new k k.acknowledged at c.write_to_log.ensures.keeps.tickets c.write_to_log.ensures.keeps.position (was_free old new c.write_to_log.ensures.faulty) c.write_to_log.ensures.keeps.preserves (c.write_to_log.ensures.keeps.preserves.fits k.history k.acknowledged k.floor at.unmarked at.fits);
+      crash = λ own. going_on trace sum opened k at new c.write_to_log.ensures.keeps.preserves.goes_on;
     }

@@ -1,0 +1,17 @@
+-- What a call leaves that ends a reservation, whose ticket it takes.
+use Rattle.std.specs.Prelude.{ℕ, List, Result}
+use Rattle.sled_codec.specs.declared.result.Error.{Error}
+use Rattle.sled_store.specs.Device.{Trace}
+use Rattle.sled_core.specs.declared.logger.Log.{Log}
+use Rattle.sled_core.specs.declared.reservation.Reservation.{Reservation}
+use Rattle.sled_core.specs.Fits.{KeepsBuffers, open_places}
+use Rattle.sled_core.specs.Keeps.{KeepsOthers, SamePosition}
+use Rattle.sled_core.specs.OpenPlaces.{TakesOutPlaceOf}
+
+-- The other tickets stay what they were for; at Ok its place isn't open any more; the next record begins where it would have begun; and as many buffers wait,
+-- each where it did.
+pub record EndsTicket {T D C : Type 0} (trace : D → Trace) (sum : List ℕ → ℕ) (result : Result T Error) (ticket : Reservation) (old new : Log D C) : Type 0 where
+  pub others : KeepsOthers trace sum ticket old new
+  pub opens : TakesOutPlaceOf result ticket (open_places old) (open_places new)
+  pub position : SamePosition old new
+  pub buffers : KeepsBuffers old new
