@@ -10,7 +10,8 @@ use Rattle.sled_core.specs.OpenPlaces.{TakesOutPlaceOf}
 
 -- The other tickets stay what they were for; at Ok its place isn't open any more; the next record begins where it would have begun; and as many buffers wait,
 -- each where it did.
-pub record EndsTicket {T D C : Type 0} (trace : D → Trace) (sum : List ℕ → ℕ) (result : Result T Error) (ticket : Reservation) (old new : Log D C) : Type 0 where
+pub record EndsTicket {T D C : Type 0} (trace : D → Trace) (sum : List ℕ → ℕ) (result : Result T Error) (ticket : Reservation)
+    (old new : Log D C) : Type 0 where
   pub others : KeepsOthers trace sum ticket old new
   pub opens : TakesOutPlaceOf result ticket (open_places old) (open_places new)
   pub position : SamePosition old new

@@ -278,7 +278,8 @@ pub record IsKept (sum : List ℕ → ℕ) (size : ℕ) (site : SegmentPosition)
 
 -- all that a log holds is on its device, and settled: the history as the log has it
 abbrev pub IsWritten : {D C : Type 0} → (D → Trace) → (List ℕ → ℕ) → Log D C → History → Type 0
-IsWritten trace sum log H = IsKept sum log.config.config.segment_size log.segments.first.site log.segments.first.buffer.written_len (state_of (trace log.config.device)) (logged H)
+IsWritten trace sum log H =
+    IsKept sum log.config.config.segment_size log.segments.first.site log.segments.first.buffer.written_len (state_of (trace log.config.device)) (logged H)
 
 -- all buffers that aren't on the device, by place, with the current one as it would be sealed
 abbrev pub buffers_of : {D C : Type 0} → (List ℕ → ℕ) → Log D C → List BufferAt

@@ -1,6 +1,6 @@
 //! The bytes of the segment that is being filled. The current buffer is the part of them that was not
 //! written yet, and the reservations in it lie one behind another.
-ghost use Rattle.std.specs.Prelude.{◌≡◌, ◌+◌, ◌-◌, ◌<◌, ◌≤◌, ◌^◌, ◌++◌, ◌∷◌, [], ℕ, true, false, length, max, take, drop, set, vec_capacity, slice_get, OnOk, IfOk, IsOkUnless, IsTrue, ◌↔◌, pos, All, None, Some};
+ghost use Rattle.std.specs.Prelude.{◌≡◌, ◌+◌, ◌-◌, ◌<◌, ◌≤◌, ◌^◌, ◌++◌, [], ℕ, true, false, length, max, take, drop, set, vec_capacity, slice_get, OnOk, IfOk, IsOkUnless, IsTrue, ◌↔◌, pos, All, None, Some};
 ghost use Rattle.std.specs.VecDeque.{deque_len, deque_capacity};
 ghost use Rattle.sled_codec.specs.Written.{written};
 ghost use Rattle.sled_store.specs.Words.{writers_of};
@@ -146,7 +146,8 @@ pub(crate) struct IoBuf {
 }
 
 impl IoBuf {
-    ghost use Rattle.sled_core.specs.inside.Turned.{EndsAs};
+    ghost use Rattle.sled_core.specs.Begun.{view_at};
+    ghost use Rattle.sled_core.specs.inside.Turned.{EndsAs, reserved_now};
     ghost use Rattle.sled_core.specs.Buffers.{none_open};
 
     /// The bytes of a segment that has its header alone, with room for so many, and for a reservation.
@@ -232,12 +233,7 @@ impl IoBuf {
     #[inline(always)]
     pub(crate) fn make_room(&mut self, len: usize) -> Result<()>
         requires { len < 2 ^ 32 }
-        ensures bytes { self.new.bytes.items ≡ self.old.bytes.items }
-        ensures from { self.new.written_len ≡ self.old.written_len }
-        ensures reserved { self.new.reserved.items ≡ self.old.reserved.items }
-        ensures gone { self.new.gone ≡ self.old.gone }
-        ensures filled { self.new.filled ≡ self.old.filled }
-        ensures sealed { self.new.sealed.items ≡ self.old.sealed.items }
+        ensures same { (site : SegmentPosition) → view_at site self.new ≡ view_at site self.old }
         ensures room { OnOk result (length self.old.bytes.items + len + 32 ≤ vec_capacity self.new.bytes) }
         ensures place { OnOk result (deque_len self.new.reserved < deque_capacity self.new.reserved) }
         ensures err { IsOkUnless result Error.OutOfMemory }
@@ -263,15 +259,11 @@ impl IoBuf {
         requires place { deque_len self.old.reserved < deque_capacity self.old.reserved }
         requires body { is_manifest message.now.log_kind message.now.page ≡ true → item_len ≡ 8 }
         requires few { open_in (drop (sealed_count self.old.sealed.items) self.old.reserved.items) < most_open }
-        ensures bytes { self.new.bytes.items ≡ self.old.bytes.items ++ placeholder_head (take head.now.len head.now.bytes) ++ T.short (T.meaning item.now) }
+        ensures laid { (site : SegmentPosition) → view_at site self.new
+            ≡ reserved_now (placeholder_head (take head.now.len head.now.bytes) ++ T.short (T.meaning item.now))
+            (reserved_for message.now (length self.old.bytes.items) head.now.len item_len (C.sum_of (T.short (T.meaning item.now)
+            ++ drop 4 (take head.now.len head.now.bytes)))) (view_at site self.old) }
         ensures len { length self.new.bytes.items ≡ length self.old.bytes.items + head.now.len + item_len }
-        ensures reserved { self.new.reserved.items ≡ self.old.reserved.items
-            ++ reserved_for message.now (length self.old.bytes.items) head.now.len item_len (C.sum_of (T.short (T.meaning item.now)
-            ++ drop 4 (take head.now.len head.now.bytes))) ∷ [] }
-        ensures from { self.new.written_len ≡ self.old.written_len }
-        ensures gone { self.new.gone ≡ self.old.gone }
-        ensures filled { self.new.filled ≡ self.old.filled }
-        ensures sealed { self.new.sealed.items ≡ self.old.sealed.items }
     {
         let from = self.bytes.len();
         let sum = push_placeholder(checksum, &mut self.bytes, head, item, item_len);

@@ -50,7 +50,8 @@ abbrev pub FailsAt : (List ℕ → ℕ) → ℕ → RunState → LogView → ℕ
 FailsAt sum size a l at e old new b =
     Fails l e (holding_read l at) ((l.start.place ≤ at) × (EndsInReach size l.position → ⊥)) old new (λ fault.
     (WritesSome sum size l (sealed_around at l) (reading_around l at) 0 e fault old new
-    × ((IfHeld e ⊥ × LeavesLog a l new b l.waiting l.start fault × (l.start.place ≤ at → fault ≡ None)) ⊎ LeavesLog a l new b (sealed_around at l) (start_around at l) fault))
+    × ((IfHeld e ⊥ × LeavesLog a l new b l.waiting l.start fault × (l.start.place ≤ at → fault ≡ None))
+    ⊎ LeavesLog a l new b (sealed_around at l) (start_around at l) fault))
     ⊎ ((holding_read l at ≡ None) × Writes sum size l (sealed_around at l) (reading_around l at) old new
     × LeavesLog a l new b (spans_without at (sealed_around at l)) (start_around at l) fault))
 

@@ -1,5 +1,5 @@
 -- What proofs, and functions that no user calls, need beside `specs/LogFile.antt`. No public contract names it.
-use Rattle.std.specs.Prelude.{◌+◌, ◌-◌, ◌<◌, ℕ, replicate, length, List, ◌++◌}
+use Rattle.std.specs.Prelude.{◌-◌, ◌<◌, ℕ, replicate, length, List, ◌++◌}
 use Rattle.sled_codec.specs.History.{Message, History}
 use Rattle.sled_core.specs.LogFile.{StaysFrom}
 

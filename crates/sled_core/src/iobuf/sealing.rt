@@ -1,11 +1,15 @@
 //! The buffers of a segment that were sealed: they lie one behind another, and each is written as a whole. Those at the
 //! front that are on the device go, with their reservations (`specs/SealedBuffers.antt`).
-ghost use Rattle.std.specs.Prelude.{◌≡◌, ◌+◌, ◌<◌, ◌≤◌, ◌^◌, ◌++◌, ◌∷◌, [], ℕ, List, true, length, take, drop, slice_get, OnOk, OnErr, IsOkUnless, IsTrue, ◌↔◌, All, Some};
+ghost use Rattle.std.specs.Prelude.{◌≡◌, ◌+◌, ◌<◌, ◌≤◌, ◌^◌, ℕ, List, true, length, take, drop, slice_get, OnOk, OnErr, IsOkUnless, IsTrue, ◌↔◌, All, Some};
 ghost use Rattle.std.specs.List.Sorted.{IsNonDecreasingBy, IsPartitionPoint};
 ghost use Rattle.std.specs.VecDeque.{deque_len, deque_capacity};
 ghost use Rattle.sled_core.specs.declared.iobuf.Reserved.{Reserved};
+ghost use Rattle.sled_core.specs.declared.iobuf.SegmentPosition.{SegmentPosition};
+ghost use Rattle.sled_core.specs.Begun.{view_at};
+ghost use Rattle.sled_core.specs.Waiting.{sealed_now};
+ghost use Rattle.sled_core.specs.inside.Turned.{written_now};
 ghost use Rattle.sled_core.specs.inside.SealedBuffers.{HasOpenAt, behind_run, is_ready, one_ended, run_count, run_end, written_at};
-ghost use Rattle.sled_core.specs.SealedBuffers.{seal_at, sealed_count, sealed_end};
+ghost use Rattle.sled_core.specs.SealedBuffers.{sealed_count, sealed_end};
 
 use crate::iobuf::{IoBuf, Reserved, Sealed};
 use sled_codec::result::{Error, Result};
@@ -16,14 +20,8 @@ impl IoBuf {
     /// Seals the current buffer, which has something in it.
     pub(crate) fn seal(&mut self) -> Result<()>
         requires some { sealed_end self.old.written_len self.old.sealed.items < length self.old.bytes.items }
-        ensures sealed { OnOk result (self.new.sealed.items ≡ self.old.sealed.items
-            ++ seal_at (length self.old.bytes.items) (drop (sealed_count self.old.sealed.items) self.old.reserved.items) ∷ []) }
-        ensures unsealed { OnErr result (self.new.sealed.items ≡ self.old.sealed.items) }
-        ensures bytes { self.new.bytes.items ≡ self.old.bytes.items }
-        ensures from { self.new.written_len ≡ self.old.written_len }
-        ensures reserved { self.new.reserved.items ≡ self.old.reserved.items }
-        ensures gone { self.new.gone ≡ self.old.gone }
-        ensures filled { self.new.filled ≡ self.old.filled }
+        ensures sealed { OnOk result ((site : SegmentPosition) → view_at site self.new ≡ sealed_now (view_at site self.old)) }
+        ensures unsealed { OnErr result ((site : SegmentPosition) → view_at site self.new ≡ view_at site self.old) }
         ensures err { IsOkUnless result Error.OutOfMemory }
     {
         self.sealed.reserve(1)?;
@@ -35,13 +33,7 @@ impl IoBuf {
     pub(crate) fn push_sealed(&mut self)
         requires some { sealed_end self.old.written_len self.old.sealed.items < length self.old.bytes.items }
         requires room { deque_len self.old.sealed < deque_capacity self.old.sealed }
-        ensures sealed { self.new.sealed.items ≡ self.old.sealed.items
-            ++ seal_at (length self.old.bytes.items) (drop (sealed_count self.old.sealed.items) self.old.reserved.items) ∷ [] }
-        ensures bytes { self.new.bytes.items ≡ self.old.bytes.items }
-        ensures from { self.new.written_len ≡ self.old.written_len }
-        ensures reserved { self.new.reserved.items ≡ self.old.reserved.items }
-        ensures gone { self.new.gone ≡ self.old.gone }
-        ensures filled { self.new.filled ≡ self.old.filled }
+        ensures { (site : SegmentPosition) → view_at site self.new ≡ sealed_now (view_at site self.old) }
     {
         self.sealed.push_back_reserved(Sealed {
             end: self.bytes.len(),
@@ -58,12 +50,7 @@ impl IoBuf {
     pub(crate) fn mark_written(&mut self, k: usize)
         requires within { k < deque_len self.old.sealed }
         requires ready { (b : Sealed) → slice_get self.old.sealed.items k ≡ Some b → is_ready b ≡ true }
-        ensures sealed { self.new.sealed.items ≡ behind_run (written_at k self.old.sealed.items) }
-        ensures from { self.new.written_len ≡ run_end self.old.written_len (written_at k self.old.sealed.items) }
-        ensures reserved { self.new.reserved.items ≡ drop (run_count (written_at k self.old.sealed.items)) self.old.reserved.items }
-        ensures gone { self.new.gone ≡ self.old.gone + run_count (written_at k self.old.sealed.items) }
-        ensures filled { self.new.filled ≡ self.old.filled }
-        ensures bytes { self.new.bytes.items ≡ self.old.bytes.items }
+        ensures { (site : SegmentPosition) → view_at site self.new ≡ written_now k (view_at site self.old) }
     {
         note_written(&mut self.sealed, k);
         let (end, count) = take_run(&mut self.sealed, self.written_len);

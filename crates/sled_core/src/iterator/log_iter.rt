@@ -124,7 +124,6 @@ impl<D: Device, C: Checksum> Iterator for LogIter<'_, D, C> {
     type Item = Result<(LogKind, PageId, Lsn, DiskPtr, u64)>;
 
     ghost use Rattle.sled_core.specs.Iterators.{IsNext};
-
     ghost use Rattle.sled_core.specs.inside.Iterators.{most_ahead};
 
     ghost next_gives = { IsNext D.trace D.faults C.sum_of };

@@ -56,7 +56,8 @@ impl<D: Device, C: Checksum> Log<D, C> {
         ensures answers { HeldAnswers result (held_at C.sum_of self.old (pos place)) (IsUsedUpAt self.old (pos place)) None (fault_of self.new)
             (D.faults (device_of self.old)) (D.faults (device_of self.new)) }
         ensures seals { SealsAround result (pos place) self.old self.new }
-        ensures buffers { WritesAround C.sum_of result (pos place) self.old self.new × OnErr result (CameAround D.trace C.sum_of (pos place) self.old self.new) }
+        ensures buffers { WritesAround C.sum_of result (pos place) self.old self.new
+            × OnErr result (CameAround D.trace C.sum_of (pos place) self.old self.new) }
     {
         if place < self.synced_end() {
             return Ok(());

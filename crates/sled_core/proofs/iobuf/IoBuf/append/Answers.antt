@@ -1,10 +1,10 @@
 -- The new reservation is counted.
-use Rattle.std.proofs.Common.{rules, refl, sym, ap, arith, ◌∙◌, ◌≡◌, ◌+◌, ◌≤◌, ◌++◌, ◌∷◌, length, max, drop, vec_len, List, [], ℕ, subst, length-append}
+use Rattle.std.proofs.Common.{rules, refl, sym, ap, arith, ◌∙◌, ◌≡◌, ◌+◌, ◌≤◌, ◌++◌, ◌∷◌, length, max, drop, vec_len, List, [], ℕ, subst, length-append, take, append_assoc}
 use Rattle.std.specs.List.{All}
 use Rattle.std.proofs.lemmas.List.{drop-append-le}
 use Rattle.sled_store.specs.Words.{Fields}
 use Rattle.sled_core.specs.declared.iobuf.Reserved.{Reserved}
-use Rattle.sled_core.specs.inside.Buffers.{IsChain, IsHeaded}
+use Rattle.sled_core.specs.inside.Buffers.{IsChain, IsHeaded, placeholder_head, reserved_for}
 use Rattle.sled_core.specs.Buffers.{open_in}
 use Rattle.sled_core.specs.inside.SealedBuffers.{AreSealed}
 use Rattle.sled_core.proofs.Reserve.OpenCounts.{open_more}
@@ -51,3 +51,12 @@ invariant_of-self g c =
       counted = ap (λ (f : Fields). f.writers) c.incr_writers-self.ensures ∙ ap (λ n. n + 1) c.args.self.now.counted ∙ sym (ap open_in apart ∙ open_more (drop first old) _ refl);
       few = (let one = ap (λ (f : Fields). f.writers) c.incr_writers-self.ensures in let less = c.requires.few in let count = c.args.self.now.counted in let same = c.args.self.now.before in let is = ap (λ n. open_in (drop n old)) same in omega (arith, one, less, count, is));
     }
+
+pub returns-clause-laid : goal.returns-clause-laid
+returns-clause-laid g c = λ site.
+    let old = c.args.self.now in
+    let head : List ℕ = placeholder_head (take c.args.head.now.len c.args.head.now.bytes) in
+    let item : List ℕ = g.T.Serialize.short (g.T.Serialize.meaning c.args.item.now) in
+    let bytes : c.push_placeholder-sum.new.bytes.items ≡ (old.bytes.items ++ head) ++ item = search rules in
+    let reserved : c.push_back_reserved.new.self.items ≡ old.reserved.items ++ reserved_for c.args.message.now (length old.bytes.items) c.args.head.now.len c.args.item_len (g.C.Checksum.sum_of (item ++ drop 4 (take c.args.head.now.len c.args.head.now.bytes))) ∷ [] = search rules in
+    λ i. record { parts = record { site = site; bytes = (bytes ∙ append_assoc old.bytes.items head item) i; written_len = old.written_len; filled = old.filled; sealed = old.sealed.items; reserved = reserved i }; gone = old.gone }

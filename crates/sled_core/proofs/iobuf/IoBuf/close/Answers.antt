@@ -4,12 +4,16 @@ use Rattle.std.specs.List.{All}
 use Rattle.std.proofs.lemmas.List.{drop-append-le}
 use Rattle.sled_core.specs.declared.iobuf.Reserved.{Reserved}
 use Rattle.sled_core.specs.declared.iobuf.ReservationState.TheVariants.{Open, Padding}
+use Rattle.sled_core.specs.declared.iobuf.SegmentPosition.{SegmentPosition}
+use Rattle.sled_core.specs.Begun.{view_at}
+use Rattle.sled_core.specs.Waiting.{filled_now, sealed_now}
 use Rattle.sled_core.specs.inside.Buffers.{IsChain, IsHeaded}
 use Rattle.sled_core.specs.Buffers.{open_in, padding_at}
 use Rattle.sled_core.specs.inside.SealedBuffers.{AreSealed}
 use Rattle.sled_core.proofs.Reserve.OpenCounts.{open_same}
 use Rattle.sled_core.proofs.Reserve.Ranges.{all_joined, chain-append}
 use Rattle.sled_core.proofs.Sealed.Ended.{sealed_more}
+use Rattle.sled_core.proofs.iobuf.IoBuf.close.Goals.{then-from-size, else-from-size}
 use Rattle.sled_core.proofs.iobuf.IoBuf.close.Goals as goal
 
 pub invariant_of-self : goal.invariant_of-self
@@ -44,3 +48,10 @@ invariant_of-self g c =
       counted = c.args.self.now.counted ∙ sym (ap open_in apart ∙ open_same (drop first old) its refl);
       few = c.args.self.now.few;
     }
+
+pub returns : goal.returns
+returns g c =
+    let site : SegmentPosition = c.args.site.now in
+    let filled : view_at site c.if-from-size.self ≡ filled_now g.C.Checksum.sum_of c.args.size (view_at site c.args.self.now) =
+    elim c.if-from-size.branch [ then-from-size w ↦ search rules | else-from-size w ↦ search rules ] in
+    record { closed = c.push_sealed.ensures site ∙ ap sealed_now filled }

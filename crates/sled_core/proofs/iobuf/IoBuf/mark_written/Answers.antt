@@ -85,3 +85,13 @@ invariant_of-self c =
       counted = c.args.self.now.counted ∙ sym (ap open_in same);
       few = c.args.self.now.few;
     }
+
+pub returns : goal.returns
+returns c = λ site.
+    let old = c.args.self.now in
+    let noted = c.note_written.ensures.items in
+    let end = c.take_run-end.ensures.end ∙ ap (run_end old.written_len) noted in
+    let count = c.take_run-end.ensures.count ∙ ap run_count noted in
+    let left = c.take_run-end.ensures.left ∙ ap behind_run noted in
+    let rest = c.drop_first.ensures ∙ ap (λ n. drop n old.reserved.items) count in
+    λ i. record { parts = record { site = site; bytes = old.bytes.items; written_len = end i; filled = old.filled; sealed = left i; reserved = rest i }; gone = old.gone + count i }

@@ -49,12 +49,15 @@ invariant_of-self c =
       few = let none = next_word c.args.self.now.word c.bump_salt-self.result c.bump_salt-self.ensures in omega (arith, none);
     }
 
-pub returns-clause-sealed : goal.returns-clause-sealed
-returns-clause-sealed c =
-    let rs : List Reserved = c.args.self.now.reserved.items in
-    let n : ℕ = length c.args.self.now.bytes.items in
+pub returns : goal.returns
+returns c = λ site.
+    let old = c.args.self.now in
+    let rs : List Reserved = old.reserved.items in
+    let n : ℕ = length old.bytes.items in
     let end : c.len.result ≡ n = search rules in
     let count : c.len-2.result ≡ length rs = search rules in
+    let sealed : c.push_back_reserved.new.self.items ≡ old.sealed.items ++ seal_at n (drop (sealed_count old.sealed.items) rs) ∷ [] =
     c.push_back_reserved.ensures.items
-    ∙ (λ i. c.args.self.now.sealed.items ++ seal_kept rs c.args.self.now.first c.len.result c.len-2.result c.n_writers.result n end count (c.n_writers.ensures ∙ c.args.self.now.counted) i ∷ [])
-    ∙ ap (λ k. c.args.self.now.sealed.items ++ seal_at n (drop k rs) ∷ []) c.args.self.now.before
+    ∙ (λ i. old.sealed.items ++ seal_kept rs old.first c.len.result c.len-2.result c.n_writers.result n end count (c.n_writers.ensures ∙ old.counted) i ∷ [])
+    ∙ ap (λ k. old.sealed.items ++ seal_at n (drop k rs) ∷ []) old.before in
+    λ i. record { parts = record { site = site; bytes = old.bytes.items; written_len = old.written_len; filled = old.filled; sealed = sealed i; reserved = rs }; gone = old.gone }

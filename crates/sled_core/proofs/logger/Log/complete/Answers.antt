@@ -101,41 +101,41 @@ returns-clause-fits g c = λ H A f U m fits awaits stored out.
 pub returns-clause-ends : goal.returns-clause-ends
 unfolding Holds
 returns-clause-ends g c = record {
-      others = (
-        λ H other m holds awaits apart.
-        let old = c.args.self.now in
-        let own : AwaitsIn (line_of old) c.args.ticket (in_log c.requires.awaited.0) = c.requires.awaited.1 in
-        let at = among g c c.requires.awaited.0 own in
-        let its = there g c c.requires.awaited.0 own in
-        subst (λ (l : List SegmentView). AwaitsIn l other (in_log m)) (sym (c.complete_in.ensures.line own.segment own.reserved at its))
-        (others_await old.config.config.segment_size (line_of old) old.segments.first.site.place c.segment_of-n.result own.segment at (nth_facts old) (c.index-index.result - own.segment.gone) own.reserved its own.own.open_yet (completing own.reserved)
-        (completing_short own.segment (c.index-index.result - own.segment.gone) own.reserved (nth_facts c.args.self.now c.segment_of-n.result own.segment at) its own.own.open_yet) Completed g.C.Checksum.sum_of (state_of (g.D.Device.trace old.config.device)) old.fault.kept
-        (logged H) holds.holds c.args.ticket other (in_log m) own.own.place awaits apart)
+  others = (
+      λ H other m holds awaits apart.
+      let old = c.args.self.now in
+      let own : AwaitsIn (line_of old) c.args.ticket (in_log c.requires.awaited.0) = c.requires.awaited.1 in
+      let at = among g c c.requires.awaited.0 own in
+      let its = there g c c.requires.awaited.0 own in
+      subst (λ (l : List SegmentView). AwaitsIn l other (in_log m)) (sym (c.complete_in.ensures.line own.segment own.reserved at its))
+      (others_await old.config.config.segment_size (line_of old) old.segments.first.site.place c.segment_of-n.result own.segment at (nth_facts old) (c.index-index.result - own.segment.gone) own.reserved its own.own.open_yet (completing own.reserved)
+      (completing_short own.segment (c.index-index.result - own.segment.gone) own.reserved (nth_facts c.args.self.now c.segment_of-n.result own.segment at) its own.own.open_yet) Completed g.C.Checksum.sum_of (state_of (g.D.Device.trace old.config.device)) old.fault.kept
+      (logged H) holds.holds c.args.ticket other (in_log m) own.own.place awaits apart)
       );
-      opens = (
-        λ place is.
-        let old = c.args.self.now in
-        let own : AwaitsIn (line_of old) c.args.ticket (in_log c.requires.awaited.0) = c.requires.awaited.1 in
-        let at = among g c c.requires.awaited.0 own in
-        let its = there g c c.requires.awaited.0 own in
-        let here : own.segment.parts.site.place + own.reserved.from ≡ place = sym (ap unsigned_abs (is ∙ own.own.place)) in
-        subst (λ (p : ℕ). TakesOut p (open_places old) (open_places c.complete_in.new.self)) here
-        (subst (λ (l : List SegmentView). TakesOut (own.segment.parts.site.place + own.reserved.from) (open_places old) (open_places_along l)) (sym (c.complete_in.ensures.line own.segment own.reserved at its))
-        (ended_takes old.config.config.segment_size (line_of old) old.segments.first.site.place c.segment_of-n.result own.segment at (nth_facts old) (c.index-index.result - own.segment.gone) own.reserved its own.own.open_yet (completing own.reserved) (completing_short own.segment (c.index-index.result - own.segment.gone) own.reserved (nth_facts c.args.self.now c.segment_of-n.result own.segment at) its own.own.open_yet) Completed refl))
+  opens = (
+      λ place is.
+      let old = c.args.self.now in
+      let own : AwaitsIn (line_of old) c.args.ticket (in_log c.requires.awaited.0) = c.requires.awaited.1 in
+      let at = among g c c.requires.awaited.0 own in
+      let its = there g c c.requires.awaited.0 own in
+      let here : own.segment.parts.site.place + own.reserved.from ≡ place = sym (ap unsigned_abs (is ∙ own.own.place)) in
+      subst (λ (p : ℕ). TakesOut p (open_places old) (open_places c.complete_in.new.self)) here
+      (subst (λ (l : List SegmentView). TakesOut (own.segment.parts.site.place + own.reserved.from) (open_places old) (open_places_along l)) (sym (c.complete_in.ensures.line own.segment own.reserved at its))
+      (ended_takes old.config.config.segment_size (line_of old) old.segments.first.site.place c.segment_of-n.result own.segment at (nth_facts old) (c.index-index.result - own.segment.gone) own.reserved its own.own.open_yet (completing own.reserved) (completing_short own.segment (c.index-index.result - own.segment.gone) own.reserved (nth_facts c.args.self.now c.segment_of-n.result own.segment at) its own.own.open_yet) Completed refl))
       );
-      position = (
-        let own : AwaitsIn (line_of c.args.self.now) c.args.ticket (in_log c.requires.awaited.0) = c.requires.awaited.1 in
-        let at = among g c c.requires.awaited.0 own in
-        let its = there g c c.requires.awaited.0 own in
-        position_ended c.args.self.now c.complete_in.new.self c.segment_of-n.result own.segment at (c.index-index.result - own.segment.gone) own.reserved its own.own.open_yet (completing own.reserved) (completing_short own.segment (c.index-index.result - own.segment.gone) own.reserved (nth_facts c.args.self.now c.segment_of-n.result own.segment at) its own.own.open_yet) Completed (c.complete_in.ensures.line own.segment own.reserved at its) c.complete_in.ensures.rest
+  position = (
+      let own : AwaitsIn (line_of c.args.self.now) c.args.ticket (in_log c.requires.awaited.0) = c.requires.awaited.1 in
+      let at = among g c c.requires.awaited.0 own in
+      let its = there g c c.requires.awaited.0 own in
+      position_ended c.args.self.now c.complete_in.new.self c.segment_of-n.result own.segment at (c.index-index.result - own.segment.gone) own.reserved its own.own.open_yet (completing own.reserved) (completing_short own.segment (c.index-index.result - own.segment.gone) own.reserved (nth_facts c.args.self.now c.segment_of-n.result own.segment at) its own.own.open_yet) Completed (c.complete_in.ensures.line own.segment own.reserved at its) c.complete_in.ensures.rest
       );
-      buffers = (
-        let own : AwaitsIn (line_of c.args.self.now) c.args.ticket (in_log c.requires.awaited.0) = c.requires.awaited.1 in
-        let at = among g c c.requires.awaited.0 own in
-        let its = there g c c.requires.awaited.0 own in
-        ended_buffers c.args.self.now c.complete_in.new.self c.segment_of-n.result own.segment (c.index-index.result - own.segment.gone) own.reserved (completing own.reserved) Completed at (c.complete_in.ensures.line own.segment own.reserved at its)
+  buffers = (
+      let own : AwaitsIn (line_of c.args.self.now) c.args.ticket (in_log c.requires.awaited.0) = c.requires.awaited.1 in
+      let at = among g c c.requires.awaited.0 own in
+      let its = there g c c.requires.awaited.0 own in
+      ended_buffers c.args.self.now c.complete_in.new.self c.segment_of-n.result own.segment (c.index-index.result - own.segment.gone) own.reserved (completing own.reserved) Completed at (c.complete_in.ensures.line own.segment own.reserved at its)
       );
-    }
+}
 
 pub returns-clause-goes_on : goal.returns-clause-goes_on
 returns-clause-goes_on g c =

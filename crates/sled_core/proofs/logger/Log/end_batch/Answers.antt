@@ -96,15 +96,14 @@ seen g c =
 
 pub returns-clause-ends : goal.returns-clause-ends
 returns-clause-ends g c = record {
-      others = (seen g c).others;
-      opens = (seen g c).opens;
-      position = (seen g c).position;
-      buffers = (seen g c).buffers;
-    }
+  others = (seen g c).others;
+  opens = (seen g c).opens;
+  position = (seen g c).position;
+  buffers = (seen g c).buffers;
+}
 
 pub returns-clause-goes_on : goal.returns-clause-goes_on
 returns-clause-goes_on g c = (seen g c).goes_on
 
 pub returns-clause-same : goal.returns-clause-same
 returns-clause-same g c = (seen g c).same
-

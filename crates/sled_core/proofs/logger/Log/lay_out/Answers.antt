@@ -1,17 +1,15 @@
 -- A placeholder is laid out in the last segment, which is being filled.
-use Rattle.std.proofs.Common.{◌≡◌, ◌∙◌, ◌+◌, ◌<◌, sym, ap, refl, subst, arith, ℕ, suc, Bool, if◌then◌else◌, List, [], ◌∷◌, ◌++◌, append_assoc, length, length-append, map, drop, take, Some}
-use Rattle.std.specs.List.{All, slice_get}
+use Rattle.std.proofs.Common.{◌≡◌, ◌∙◌, ◌+◌, ◌<◌, sym, ap, refl, subst, arith, ℕ, suc, Bool, if◌then◌else◌, List, ◌++◌, length, length-append, map, drop, take}
+use Rattle.std.specs.List.{All}
 use Rattle.std.proofs.lemmas.List.Elements.{All-weaker}
-use Rattle.sled_core.specs.inside.Begun.{AreFilled, open_segments, with_nth}
-use Rattle.sled_core.specs.Begun.{SegmentView, line_in, segment_view, view_at}
+use Rattle.sled_core.specs.inside.Begun.{AreFilled}
+use Rattle.sled_core.specs.Begun.{SegmentView, segment_view}
 use Rattle.sled_core.specs.inside.Buffers.{placeholder_head, reserved_for}
 use Rattle.sled_core.specs.declared.iobuf.IoBuf.{IoBuf}
 use Rattle.sled_core.specs.declared.iobuf.Reserved.{Reserved}
-use Rattle.sled_core.specs.declared.iobuf.SegmentPosition.{SegmentPosition}
 use Rattle.sled_core.specs.declared.iobuf.ReservationState.TheVariants.{Open}
 use Rattle.sled_core.specs.declared.logger.Log.{Log}
 use Rattle.sled_core.specs.declared.logger.batches.NotedBatch.{NotedBatch}
-use Rattle.sled_core.specs.declared.logger.io_bufs.IoBufs.{IoBufs}
 use Rattle.sled_core.specs.declared.logger.io_bufs.SegmentBuffer.{SegmentBuffer}
 use Rattle.sled_core.specs.Fits.{current_of, line_of}
 use Rattle.sled_core.specs.Manifests.{is_manifest}
@@ -28,19 +26,8 @@ use Rattle.sled_core.proofs.Pending.Segments.{at_last_same}
 use Rattle.sled_core.proofs.logger.Log.lay_out.Given.{Over}
 use Rattle.sled_core.proofs.logger.Log.lay_out.Goals as goal
 
--- what code makes of a buffer
-reserved_view : (site : SegmentPosition) (old new : IoBuf) (head item : List ℕ) (r : Reserved) → new.bytes.items ≡ (old.bytes.items ++ head) ++ item → new.reserved.items ≡ old.reserved.items ++ r ∷ [] → new.written_len ≡ old.written_len → new.gone ≡ old.gone → new.filled ≡ old.filled → new.sealed.items ≡ old.sealed.items
-    → view_at site new ≡ reserved_now (head ++ item) r (view_at site old)
-reserved_view site old new head item r bytes reserved from gone filling sealed =
-    let all = bytes ∙ append_assoc old.bytes.items head item in
-    λ j. record { parts = record { site = site; bytes = all j; written_len = from j; filled = filling j; sealed = sealed j; reserved = reserved j }; gone = gone j }
-
 placeholder_some : (head item : List ℕ) → 0 < length (placeholder_head head ++ item)
 placeholder_some head item = omega arith
-
--- as many bytes as there are
-laid_long : (old head item new : List ℕ) (n : ℕ) → new ≡ (old ++ head) ++ item → length new ≡ length old + n → length (head ++ item) ≡ n
-laid_long old head item new n is long = omega (arith, ap length is, long, length-append (old ++ head) item, length-append old head, length-append head item)
 
 -- The segments are filled as they have to be.
 laid_filled : {D C : Type 0} (log : Log D C) (more : List ℕ) (r : Reserved) (to : ℕ) (line : List SegmentView) → line ≡ at_last (reserved_now more r) (line_of log) → r.state ≡ Open → r.from ≡ length (current_of log).parts.bytes → 0 < length more → to ≡ (current_of log).parts.site.place + length (current_of log).parts.bytes + length more
@@ -84,16 +71,6 @@ append-requires-clause-place g c = (has_room g c).reserved
 pub append-requires-clause-few : goal.append-requires-clause-few
 append-requires-clause-few g c = (has_room g c).few
 
--- what code makes of it
-module _ {D C : Type 0} (log : Log D C) (s : SegmentBuffer) (there : slice_get (open_segments log.segments) (length log.segments.behind.items) ≡ Some s) (new : IoBuf) (head item : List ℕ) (r : Reserved)
-    (bytes : new.bytes.items ≡ (s.buffer.bytes.items ++ head) ++ item) (reserved : new.reserved.items ≡ s.buffer.reserved.items ++ r ∷ []) (from : new.written_len ≡ s.buffer.written_len) (gone : new.gone ≡ s.buffer.gone) (filling : new.filled ≡ s.buffer.filled)
-    (sealed : new.sealed.items ≡ s.buffer.sealed.items) where
-  abbrev now : IoBufs
-  now = with_nth log.segments (length log.segments.behind.items) (record { site = s.site; buffer = new })
-
-  laid_line : line_in now ≡ at_last (reserved_now (head ++ item) r) (line_of log)
-  laid_line = line_with_last (reserved_now (head ++ item) r) log.segments s (record { site = s.site; buffer = new }) there (reserved_view s.site s.buffer new head item r bytes reserved from gone filling sealed)
-
 pub invariant_of-self : goal.invariant_of-self
 invariant_of-self g c =
     let log = c.args.self.now in
@@ -104,11 +81,12 @@ invariant_of-self g c =
     let made = c.append.ensures in
     let new : IoBuf = c.append.new.self in
     let bytes : length (current_of log).parts.bytes ≡ length s.buffer.bytes.items = ap (λ (v : SegmentView). length v.parts.bytes) (last_is log s there) in
-    let long : length (head ++ item) ≡ c.args.head.now.len + c.args.item_len = laid_long s.buffer.bytes.items head item new.bytes.items (c.args.head.now.len + c.args.item_len) made.bytes (omega (arith, made.len)) in
+    let all = ap (λ (v : SegmentView). length v.parts.bytes) (made.laid s.site) in
+    let long : length (head ++ item) ≡ c.args.head.now.len + c.args.item_len = omega (arith, all, made.len, length-append s.buffer.bytes.items (head ++ item)) in
     let fits = c.requires.place.record_fits in
     let size : ℕ = log.config.config.segment_size in
-    let lie = within_with size log.segments (length log.segments.behind.items) s (record { site = s.site; buffer = new }) there refl (omega (arith, made.len, bytes, fits)) (omega (arith, made.from)) log.lies in
-    let line = laid_line log s there new head item _ made.bytes made.reserved made.from made.gone made.filled made.sealed in
+    let lie = within_with size log.segments (length log.segments.behind.items) s (record { site = s.site; buffer = new }) there refl (omega (arith, made.len, bytes, fits)) (let from = ap (λ (v : SegmentView). v.parts.written_len) (made.laid s.site) in omega (arith, from)) log.lies in
+    let line = line_with_last (reserved_now (head ++ item) _) log.segments s (record { site = s.site; buffer = new }) there (made.laid s.site) in
     record {
       lies = lie;
       filled = laid_filled log (head ++ item) _ c.args.to _ line refl (sym bytes) (placeholder_some (take c.args.head.now.len c.args.head.now.bytes) item) (omega (arith, c.requires.end, long));
@@ -128,6 +106,6 @@ returns-clause-line g c =
     let head : List ℕ = placeholder_head (take c.args.head.now.len c.args.head.now.bytes) in
     let item : List ℕ = g.T.Serialize.short (g.T.Serialize.meaning c.args.item.now) in
     let made = c.append.ensures in
-    laid_line log s c.last_mut-s.ensures.value c.append.new.self head item _ made.bytes made.reserved made.from made.gone made.filled made.sealed
+    line_with_last (reserved_now (head ++ item) _) log.segments s (record { site = s.site; buffer = c.append.new.self }) c.last_mut-s.ensures.value (made.laid s.site)
     ∙ ap (λ (v : SegmentView). at_last (reserved_now (head ++ item) (reserved_for c.args.purpose.now (length v.parts.bytes) c.args.head.now.len c.args.item_len (g.C.Checksum.sum_of (item ++ drop 4 (take c.args.head.now.len c.args.head.now.bytes))))) (line_of log))
     (sym (last_is log s c.last_mut-s.ensures.value))

@@ -29,10 +29,10 @@ returns-in-Some-clause-at_most g c = performs_nothing _ _ _ refl
 
 pub returns-in-Some-clause-keeps : goal.returns-in-Some-clause-keeps
 returns-in-Some-clause-keeps g c = record {
-      preserves = kept_still g.D.Device.trace g.C.Checksum.sum_of c.args.self.now;
-      tickets = tickets_still c.args.self.now;
-      position = position_still c.args.self.now;
-    }
+  preserves = kept_still g.D.Device.trace g.C.Checksum.sum_of c.args.self.now;
+  tickets = tickets_still c.args.self.now;
+  position = position_still c.args.self.now;
+}
 
 pub returns-in-Some-clause-buffers : goal.returns-in-Some-clause-buffers
 returns-in-Some-clause-buffers g c =
@@ -47,10 +47,10 @@ returns-then-lsn-stable_offset-clause-at_most g c = performs_nothing _ _ _ refl
 
 pub returns-then-lsn-stable_offset-clause-keeps : goal.returns-then-lsn-stable_offset-clause-keeps
 returns-then-lsn-stable_offset-clause-keeps g c = record {
-      preserves = kept_still g.D.Device.trace g.C.Checksum.sum_of c.args.self.now;
-      tickets = tickets_still c.args.self.now;
-      position = position_still c.args.self.now;
-    }
+  preserves = kept_still g.D.Device.trace g.C.Checksum.sum_of c.args.self.now;
+  tickets = tickets_still c.args.self.now;
+  position = position_still c.args.self.now;
+}
 
 durable : (g : given.Over) (c : goal.Then-lsn-stable_offset g) → c.args.lsn <ℤ pos (stable_end c.args.self.now)
 durable g c = search rules
@@ -79,10 +79,10 @@ returns-then-lsn-self-clause-buffers g c =
 
 pub returns-then-lsn-self-clause-keeps : goal.returns-then-lsn-self-clause-keeps
 returns-then-lsn-self-clause-keeps g c = record {
-      preserves = kept_still g.D.Device.trace g.C.Checksum.sum_of c.args.self.now;
-      tickets = tickets_still c.args.self.now;
-      position = position_still c.args.self.now;
-    }
+  preserves = kept_still g.D.Device.trace g.C.Checksum.sum_of c.args.self.now;
+  tickets = tickets_still c.args.self.now;
+  position = position_still c.args.self.now;
+}
 
 pub returns-then-lsn-self-clause-answers : goal.returns-then-lsn-self-clause-answers
 returns-then-lsn-self-clause-answers g c =
@@ -224,10 +224,10 @@ no_fault kept e A none some = absurd (let bad : None ≡ Some e = sym none ∙ s
 
 pub returns-in_err-write_below-clause-keeps : goal.returns-in_err-write_below-clause-keeps
 returns-in_err-write_below-clause-keeps g c = record {
-      preserves = c.in_err-write_below.ensures.keeps.preserves;
-      tickets = c.in_err-write_below.ensures.keeps.tickets;
-      position = c.in_err-write_below.ensures.keeps.position;
-    }
+  preserves = c.in_err-write_below.ensures.keeps.preserves;
+  tickets = c.in_err-write_below.ensures.keeps.tickets;
+  position = c.in_err-write_below.ensures.keeps.position;
+}
 
 pub returns-in_err-write_below-clause-spares : goal.returns-in_err-write_below-clause-spares
 returns-in_err-write_below-clause-spares g c =
@@ -239,10 +239,10 @@ returns-in_err-write_below-clause-spares g c =
 
 pub returns-clause-keeps : goal.returns-clause-keeps
 returns-clause-keeps g c = record {
-      preserves = c.in_ok-write_below.ensures.keeps.preserves;
-      tickets = c.in_ok-write_below.ensures.keeps.tickets;
-      position = c.in_ok-write_below.ensures.keeps.position;
-    }
+  preserves = c.in_ok-write_below.ensures.keeps.preserves;
+  tickets = c.in_ok-write_below.ensures.keeps.tickets;
+  position = c.in_ok-write_below.ensures.keeps.position;
+}
 
 pub returns-clause-spares : goal.returns-clause-spares
 returns-clause-spares g c =

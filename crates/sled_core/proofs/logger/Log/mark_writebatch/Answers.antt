@@ -44,11 +44,11 @@ returns-clause-place g c = c.end_batch.ensures.place
 
 pub returns-clause-ends : goal.returns-clause-ends
 returns-clause-ends g c = record {
-      others = c.end_batch.ensures.ends.others;
-      opens = c.end_batch.ensures.ends.opens;
-      position = c.end_batch.ensures.ends.position;
-      buffers = c.end_batch.ensures.ends.buffers;
-    }
+  others = c.end_batch.ensures.ends.others;
+  opens = c.end_batch.ensures.ends.opens;
+  position = c.end_batch.ensures.ends.position;
+  buffers = c.end_batch.ensures.ends.buffers;
+}
 
 pub returns-clause-answers : goal.returns-clause-answers
 returns-clause-answers g c = c.end_batch.ensures.answers

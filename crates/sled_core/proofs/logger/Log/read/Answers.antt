@@ -281,10 +281,10 @@ returns-clause-corrupt g c =
 
 pub returns-clause-keeps : goal.returns-clause-keeps
 returns-clause-keeps g c = record {
-      preserves = kept_further g.D.Device.trace g.C.Checksum.sum_of c.args.self.now c.settle_at.new.self _ c.settle_at.ensures.keeps.preserves c.read_settled.ensures.keeps.preserves;
-      tickets = tickets_further c.args.self.now c.settle_at.new.self c.read_settled.new.self c.settle_at.ensures.keeps.tickets c.read_settled.ensures.keeps.tickets;
-      position = search rules;
-    }
+  preserves = kept_further g.D.Device.trace g.C.Checksum.sum_of c.args.self.now c.settle_at.new.self _ c.settle_at.ensures.keeps.preserves c.read_settled.ensures.keeps.preserves;
+  tickets = tickets_further c.args.self.now c.settle_at.new.self c.read_settled.new.self c.settle_at.ensures.keeps.tickets c.read_settled.ensures.keeps.tickets;
+  position = search rules;
+}
 
 -- the answer of the settling
 ok_at : (g : given.Over) (c : goal.After-read_settled g) → SettleAnswers {T = Unit {0}} (Ok tt) (place_read c.args.lsn c.args.ptr) (synced_end c.args.self.now) (reserved_end c.args.self.now) (held_at g.C.Checksum.sum_of c.args.self.now (place_read c.args.lsn c.args.ptr))

@@ -12,18 +12,18 @@ use Rattle.sled_core.proofs.logger.Log.read_settled.Goals as goal
 pub returns-clause-keeps : goal.returns-clause-keeps
 unfolding Holds Fits
 returns-clause-keeps g c = record {
-      preserves = (
-        let old = c.args.self.now in
-        let answer = c.read_pointer-answer.ensures in
-        let size = ap (λ (x : Config). x.segment_size) answer.reads.config in
-        record {
-          goes_on = goes_on_quietly g.D.Device.trace g.C.Checksum.sum_of old _ (record { config = answer.reads.config; checksum = answer.reads.checksum }) answer.reads.unwritten (omega arith) (λ none. c.requires.fault);
-          history = λ H holds. holds_with_kept g.C.Checksum.sum_of _ _ _ _ _ _ _ _ _ _ _ (logged H) size refl refl (ap state_of answer.reads.unwritten) (none_or_kept _ _ c.requires.fault) holds;
-          fits = λ H A f U fits. fits_with_kept g.C.Checksum.sum_of _ _ _ _ _ _ _ _ _ _ _ _ _ H A f U size refl refl refl (ap state_of answer.reads.unwritten) (none_or_kept _ _ c.requires.fault) fits;
-          noted = noted_still old;
-          kept = omega arith;
-        }
+  preserves = (
+      let old = c.args.self.now in
+      let answer = c.read_pointer-answer.ensures in
+      let size = ap (λ (x : Config). x.segment_size) answer.reads.config in
+      record {
+        goes_on = goes_on_quietly g.D.Device.trace g.C.Checksum.sum_of old _ (record { config = answer.reads.config; checksum = answer.reads.checksum }) answer.reads.unwritten (omega arith) (λ none. c.requires.fault);
+        history = λ H holds. holds_with_kept g.C.Checksum.sum_of _ _ _ _ _ _ _ _ _ _ _ (logged H) size refl refl (ap state_of answer.reads.unwritten) (none_or_kept _ _ c.requires.fault) holds;
+        fits = λ H A f U fits. fits_with_kept g.C.Checksum.sum_of _ _ _ _ _ _ _ _ _ _ _ _ _ H A f U size refl refl refl (ap state_of answer.reads.unwritten) (none_or_kept _ _ c.requires.fault) fits;
+        noted = noted_still old;
+        kept = omega arith;
+      }
       );
-      tickets = search rules;
-      position = search rules;
-    }
+  tickets = search rules;
+  position = search rules;
+}

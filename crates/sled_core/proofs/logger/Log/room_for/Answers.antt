@@ -7,6 +7,7 @@ use Rattle.sled_core.specs.Begun.{SegmentView, line_in, view_at}
 use Rattle.sled_core.specs.Buffers.{first_open_in, most_open, open_in}
 use Rattle.sled_core.specs.declared.iobuf.IoBuf.{IoBuf}
 use Rattle.sled_core.specs.declared.iobuf.Reserved.{Reserved}
+use Rattle.sled_core.specs.declared.iobuf.SegmentPosition.{SegmentPosition}
 use Rattle.sled_core.specs.declared.logger.Log.{Log}
 use Rattle.sled_core.specs.declared.logger.batches.NotedBatch.{NotedBatch}
 use Rattle.sled_core.specs.declared.logger.io_bufs.SegmentBuffer.{SegmentBuffer}
@@ -79,16 +80,19 @@ returns-clause-rest g c = record { config = refl; reserved = refl; fault = refl;
 
 -- The last segment is as it was, but for its room.
 module _ {D C : Type 0} (log : Log D C) (s : SegmentBuffer) (there : slice_get (open_segments log.segments) (length log.segments.behind.items) ≡ Some s) (new : IoBuf)
-    (bytes : new.bytes.items ≡ s.buffer.bytes.items) (from : new.written_len ≡ s.buffer.written_len) (reserved : new.reserved.items ≡ s.buffer.reserved.items) (gone : new.gone ≡ s.buffer.gone) (filling : new.filled ≡ s.buffer.filled) (sealed : new.sealed.items ≡ s.buffer.sealed.items) where
+    (view : (site : SegmentPosition) → view_at site new ≡ view_at site s.buffer) where
   abbrev now : SegmentBuffer
   now = record { site = s.site; buffer = new }
 
   same_line : line_in (with_nth log.segments (length log.segments.behind.items) now) ≡ line_of log
-  same_line = line_still log.segments (length log.segments.behind.items) s now there (λ j. record { parts = record { site = s.site; bytes = bytes j; written_len = from j; filled = filling j; sealed = sealed j; reserved = reserved j }; gone = gone j })
+  same_line = line_still log.segments (length log.segments.behind.items) s now there (view s.site)
 
   lie_now : LieWithin log.config.config.segment_size (with_nth log.segments (length log.segments.behind.items) now)
-  lie_now = within_with log.config.config.segment_size log.segments (length log.segments.behind.items) s now there refl
-      (let short = (nth_is log (length log.segments.behind.items) s there).short in omega (arith, short, ap length bytes)) (omega (arith, from)) log.lies
+  lie_now =
+      let bytes = ap (λ (v : SegmentView). length v.parts.bytes) (view s.site) in
+      let written = ap (λ (v : SegmentView). v.parts.written_len) (view s.site) in
+      let short = (nth_is log (length log.segments.behind.items) s there).short in
+      within_with log.config.config.segment_size log.segments (length log.segments.behind.items) s now there refl (omega (arith, short, bytes)) (omega (arith, written)) log.lies
 
 pub invariant_of-self-2 : goal.invariant_of-self-2
 invariant_of-self-2 g c =
@@ -97,8 +101,8 @@ invariant_of-self-2 g c =
     let there = c.last_mut.ensures.value in
     let made = c.make_room.ensures in
     let new : IoBuf = c.make_room.new.self in
-    let lie = lie_now log s there new made.bytes made.from made.reserved made.gone made.filled made.sealed in
-    let line = same_line log s there new made.bytes made.from made.reserved made.gone made.filled made.sealed in
+    let lie = lie_now log s there new made.same in
+    let line = same_line log s there new made.same in
     record {
       lies = lie;
       filled = subst (AreFilled log.config.config.segment_size log.reserved_to) (sym line) log.filled;
@@ -111,7 +115,7 @@ invariant_of-self-2 g c =
 pub returns-clause-line : goal.returns-clause-line
 returns-clause-line g c =
     let made = c.make_room.ensures in
-    same_line c.args.self.now c.last_mut.result.now c.last_mut.ensures.value c.make_room.new.self made.bytes made.from made.reserved made.gone made.filled made.sealed
+    same_line c.args.self.now c.last_mut.result.now c.last_mut.ensures.value c.make_room.new.self made.same
 
 pub returns-clause-room : goal.returns-clause-room
 returns-clause-room g c =
@@ -124,6 +128,6 @@ returns-clause-room g c =
     let not_full : open_in (drop (sealed_count b.sealed.items) b.reserved.items) ≢ most_open = λ full. let bad : false ≡ true = c.if-is_full_of_open.ensures.1 full in cc in
     let most : open_in (drop (sealed_count b.sealed.items) b.reserved.items) ≤ most_open = subst (λ (k : ℕ). open_in (drop k b.reserved.items) ≤ most_open) b.before (let counted = b.counted in let few = b.few in omega (arith, counted, few)) in
     let few : open_in (drop (sealed_count b.sealed.items) b.reserved.items) < most_open = omega (arith, most, not_full) in
-    let few_now : open_in (drop (sealed_count new.sealed.items) new.reserved.items) < most_open = subst (λ (n : ℕ). n < most_open) ((λ j. open_in (drop (sealed_count (is_last j).sealed.items) (is_last j).reserved.items)) ∙ sym (λ j. open_in (drop (sealed_count (made.sealed j)) (made.reserved j)))) few in
+    let few_now : open_in (drop (sealed_count new.sealed.items) new.reserved.items) < most_open = subst (λ (n : ℕ). n < most_open) ((λ j. open_in (drop (sealed_count (is_last j).sealed.items) (is_last j).reserved.items)) ∙ sym (ap (λ (v : SegmentView). open_in (drop (sealed_count v.parts.sealed) v.parts.reserved)) (made.same s.site))) few in
     subst (λ (x : IoBuf). OnOk c.make_room.result (HasRoomIn x c.args.len)) (sym (last_buffer_with log.segments s (record { site = s.site; buffer = new }) c.last_mut.ensures.value))
-    (on_both c.make_room.result _ _ (HasRoomIn new c.args.len) (λ room place. record { bytes = omega (arith, room, ap length made.bytes); reserved = place; few = few_now }) made.room made.place)
+    (on_both c.make_room.result _ _ (HasRoomIn new c.args.len) (λ room place. record { bytes = omega (arith, room, ap (λ (v : SegmentView). length v.parts.bytes) (made.same s.site)); reserved = place; few = few_now }) made.room made.place)

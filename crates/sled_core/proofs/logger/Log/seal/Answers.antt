@@ -56,29 +56,29 @@ returns-then-is_short-clause-marked g c =
 
 pub returns-then-is_short-clause-keeps : goal.returns-then-is_short-clause-keeps
 returns-then-is_short-clause-keeps g c = record {
-      preserves = (
-        let did = c.begin_next.ensures in
-        let old = c.args.self.now in
-        let new = c.begin_next.new.self in
-        either c.begin_next.result _ _ _ (λ keeps. keeps) (λ same. unchanged_keeps old new same g.D.Device.trace g.C.Checksum.sum_of)
-        (on_both c.begin_next.result _ _ _ (λ line machine. begins_keeps g.D.Device.trace g.C.Checksum.sum_of old new line machine did.rest) did.line did.machine) did.err
+  preserves = (
+      let did = c.begin_next.ensures in
+      let old = c.args.self.now in
+      let new = c.begin_next.new.self in
+      either c.begin_next.result _ _ _ (λ keeps. keeps) (λ same. unchanged_keeps old new same g.D.Device.trace g.C.Checksum.sum_of)
+      (on_both c.begin_next.result _ _ _ (λ line machine. begins_keeps g.D.Device.trace g.C.Checksum.sum_of old new line machine did.rest) did.line did.machine) did.err
       );
-      tickets = (
-        let did = c.begin_next.ensures in
-        let old = c.args.self.now in
-        let new = c.begin_next.new.self in
-        either c.begin_next.result _ _ _ (λ keeps. keeps) (λ same. unchanged_tickets old new same)
-        (on_both c.begin_next.result _ _ _ (λ line machine. begins_tickets g.D.Device.trace g.C.Checksum.sum_of old new line machine did.rest) did.line did.machine) did.err
+  tickets = (
+      let did = c.begin_next.ensures in
+      let old = c.args.self.now in
+      let new = c.begin_next.new.self in
+      either c.begin_next.result _ _ _ (λ keeps. keeps) (λ same. unchanged_tickets old new same)
+      (on_both c.begin_next.result _ _ _ (λ line machine. begins_tickets g.D.Device.trace g.C.Checksum.sum_of old new line machine did.rest) did.line did.machine) did.err
       );
-      position = (
-        let did = c.begin_next.ensures in
-        let old = c.args.self.now in
-        let new = c.begin_next.new.self in
-        let short = sym c.is_short.ensures ∙ c.if-is_short.true in
-        either c.begin_next.result _ _ _ (λ keeps. keeps) (λ same. unchanged_position old new same)
-        (on_both c.begin_next.result _ _ _ (λ line machine. turns_position g.D.Device.trace g.C.Checksum.sum_of old new line machine did.rest c.requires.some short did.reserved) did.line did.machine) did.err
+  position = (
+      let did = c.begin_next.ensures in
+      let old = c.args.self.now in
+      let new = c.begin_next.new.self in
+      let short = sym c.is_short.ensures ∙ c.if-is_short.true in
+      either c.begin_next.result _ _ _ (λ keeps. keeps) (λ same. unchanged_position old new same)
+      (on_both c.begin_next.result _ _ _ (λ line machine. turns_position g.D.Device.trace g.C.Checksum.sum_of old new line machine did.rest c.requires.some short did.reserved) did.line did.machine) did.err
       );
-    }
+}
 
 pub returns-then-is_short-clause-same : goal.returns-then-is_short-clause-same
 returns-then-is_short-clause-same g c =
@@ -130,26 +130,26 @@ returns-clause-marked g c =
 
 pub returns-clause-keeps : goal.returns-clause-keeps
 returns-clause-keeps g c = record {
-      preserves = (
-        let did = c.seal_unfilled.ensures in
-        let old = c.args.self.now in
-        let new = c.seal_unfilled.new.self in
-        either c.seal_unfilled.result _ _ _ (λ line. sealed_keeps g.D.Device.trace g.C.Checksum.sum_of old new did.rest line c.requires.some) (λ same. unchanged_keeps old new (left_alone old new same did.rest) g.D.Device.trace g.C.Checksum.sum_of) did.line
-        did.unsealed
+  preserves = (
+      let did = c.seal_unfilled.ensures in
+      let old = c.args.self.now in
+      let new = c.seal_unfilled.new.self in
+      either c.seal_unfilled.result _ _ _ (λ line. sealed_keeps g.D.Device.trace g.C.Checksum.sum_of old new did.rest line c.requires.some) (λ same. unchanged_keeps old new (left_alone old new same did.rest) g.D.Device.trace g.C.Checksum.sum_of) did.line
+      did.unsealed
       );
-      tickets = (
-        let did = c.seal_unfilled.ensures in
-        let old = c.args.self.now in
-        let new = c.seal_unfilled.new.self in
-        either c.seal_unfilled.result _ _ _ (λ line. sealed_tickets g.D.Device.trace g.C.Checksum.sum_of old new did.rest line c.requires.some) (λ same. unchanged_tickets old new (left_alone old new same did.rest)) did.line did.unsealed
+  tickets = (
+      let did = c.seal_unfilled.ensures in
+      let old = c.args.self.now in
+      let new = c.seal_unfilled.new.self in
+      either c.seal_unfilled.result _ _ _ (λ line. sealed_tickets g.D.Device.trace g.C.Checksum.sum_of old new did.rest line c.requires.some) (λ same. unchanged_tickets old new (left_alone old new same did.rest)) did.line did.unsealed
       );
-      position = (
-        let did = c.seal_unfilled.ensures in
-        let old = c.args.self.now in
-        let new = c.seal_unfilled.new.self in
-        either c.seal_unfilled.result _ _ _ (λ line. sealed_position g.D.Device.trace g.C.Checksum.sum_of old new did.rest line c.requires.some) (λ same. unchanged_position old new (left_alone old new same did.rest)) did.line did.unsealed
+  position = (
+      let did = c.seal_unfilled.ensures in
+      let old = c.args.self.now in
+      let new = c.seal_unfilled.new.self in
+      either c.seal_unfilled.result _ _ _ (λ line. sealed_position g.D.Device.trace g.C.Checksum.sum_of old new did.rest line c.requires.some) (λ same. unchanged_position old new (left_alone old new same did.rest)) did.line did.unsealed
       );
-    }
+}
 
 pub returns-clause-same : goal.returns-clause-same
 returns-clause-same g c =

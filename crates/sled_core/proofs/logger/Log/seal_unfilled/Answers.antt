@@ -1,11 +1,11 @@
 -- The current buffer is sealed, in the last segment.
-use Rattle.std.proofs.Common.{◌≡◌, ◌∙◌, sym, ap, refl, subst, arith, List, [], ◌∷◌, ◌++◌, length, map, drop, true, false, Some}
+use Rattle.std.proofs.Common.{◌≡◌, ◌∙◌, sym, ap, refl, subst, arith, List, [], ◌∷◌, length, map, true, false, Some, rules, length-append, deque_len}
 use Rattle.std.specs.List.{slice_get}
 use Rattle.std.proofs.lemmas.Bool.Decides.{nat_tests}
 use Rattle.sled_core.specs.inside.Begun.{AreFilled, LieWithin, open_segments, with_nth}
 use Rattle.sled_core.specs.Begun.{SegmentView, line_in, segment_view, view_at}
 use Rattle.sled_core.specs.declared.iobuf.IoBuf.{IoBuf}
-use Rattle.sled_core.specs.declared.iobuf.SegmentPosition.{SegmentPosition}
+use Rattle.sled_core.specs.declared.iobuf.Sealed.{Sealed}
 use Rattle.sled_core.specs.declared.logger.Log.{Log}
 use Rattle.sled_core.specs.declared.logger.io_bufs.IoBufs.{IoBufs}
 use Rattle.sled_core.specs.declared.logger.io_bufs.SegmentBuffer.{SegmentBuffer}
@@ -13,7 +13,6 @@ use Rattle.sled_core.specs.Fits.{current_of, line_of, segment_size_of}
 use Rattle.sled_core.specs.inside.OpenPlaces.{open_manifests}
 use Rattle.sled_core.specs.Positions.{is_short}
 use Rattle.sled_core.specs.inside.ReadyBuffers.{AreReady}
-use Rattle.sled_core.specs.SealedBuffers.{seal_at, sealed_count}
 use Rattle.sled_core.specs.Waiting.{at_last, holds_any, sealed_now}
 use Rattle.sled_core.proofs.Line.Entered.{filled_sealed}
 use Rattle.sled_core.proofs.Line.NthOpen.{last_is, line_still, line_with_last, nth_is, within_with}
@@ -22,15 +21,6 @@ use Rattle.sled_core.proofs.Line.Outcomes.{all_err}
 use Rattle.sled_core.proofs.Pending.Logs.{seals_now, seals_ready}
 use Rattle.sled_core.proofs.Pending.Segments.{still_ready}
 use Rattle.sled_core.proofs.logger.Log.seal_unfilled.Goals as goal
-
--- what code makes of a buffer
-sealed_view : (site : SegmentPosition) (old new : IoBuf) → new.sealed.items ≡ old.sealed.items ++ seal_at (length old.bytes.items) (drop (sealed_count old.sealed.items) old.reserved.items) ∷ [] → new.bytes.items ≡ old.bytes.items → new.written_len ≡ old.written_len
-    → new.reserved.items ≡ old.reserved.items → new.gone ≡ old.gone → new.filled ≡ old.filled → view_at site new ≡ sealed_now (view_at site old)
-sealed_view site old new sealed bytes from reserved gone filling = λ j. record { parts = record { site = site; bytes = bytes j; written_len = from j; filled = filling j; sealed = sealed j; reserved = reserved j }; gone = gone j }
-
-same_view : (site : SegmentPosition) (old new : IoBuf) → new.sealed.items ≡ old.sealed.items → new.bytes.items ≡ old.bytes.items → new.written_len ≡ old.written_len → new.reserved.items ≡ old.reserved.items → new.gone ≡ old.gone → new.filled ≡ old.filled
-    → view_at site new ≡ view_at site old
-same_view site old new sealed bytes from reserved gone filling = λ j. record { parts = record { site = site; bytes = bytes j; written_len = from j; filled = filling j; sealed = sealed j; reserved = reserved j }; gone = gone j }
 
 -- The segments are filled as they have to be, sealed or not.
 module _ {D C : Type 0} (log : Log D C) (room : is_short (segment_size_of log) (length (current_of log).parts.bytes) ≡ false) where
@@ -72,29 +62,40 @@ seal-requires g c =
     let some : holds_any (segment_view s) ≡ true = ap holds_any (sym (last_is c.args.self.now s c.last_mut-s.ensures.value)) ∙ c.requires.some in
     record { some = grind (arith, nat_tests, some) }
 
+pub note_sealed-requires-clause-some : goal.note_sealed-requires-clause-some
+note_sealed-requires-clause-some g c =
+    let s : SegmentBuffer = c.last_mut-s.result.now in
+    let new : IoBuf = c.seal.new.self in
+    let long : deque_len new.sealed ≡ length new.sealed.items = search rules in
+    let seals = seals_now (segment_view s) in
+    omega (arith, long, ap (λ (v : SegmentView). length v.parts.sealed) (c.in_ok-seal.ensures.sealed s.site), ap (λ (bs : List Sealed). length bs) seals.sealed, length-append s.buffer.sealed.items (seals.buffer ∷ []))
+
 pub note_sealed-requires-clause-place : goal.note_sealed-requires-clause-place
 note_sealed-requires-clause-place g c =
     let log = c.args.self.now in
     let is = nth_is log (length log.segments.behind.items) c.last_mut-s.result.now c.last_mut-s.ensures.value in
     let short = is.short in
     let small = is.place_small in
-    omega (arith, short, small, ap length c.in_ok-seal.ensures.bytes)
+    omega (arith, short, small, ap (λ (v : SegmentView). length v.parts.bytes) (c.in_ok-seal.ensures.sealed c.last_mut-s.result.now.site))
 
 -- what code makes of it
-module _ {D C : Type 0} (log : Log D C) (s : SegmentBuffer) (there : slice_get (open_segments log.segments) (length log.segments.behind.items) ≡ Some s) (new : IoBuf)
-    (bytes : new.bytes.items ≡ s.buffer.bytes.items) (from : new.written_len ≡ s.buffer.written_len) (reserved : new.reserved.items ≡ s.buffer.reserved.items) (gone : new.gone ≡ s.buffer.gone) (filling : new.filled ≡ s.buffer.filled) where
+module _ {D C : Type 0} (log : Log D C) (s : SegmentBuffer) (there : slice_get (open_segments log.segments) (length log.segments.behind.items) ≡ Some s) (new : IoBuf) where
   abbrev now : IoBufs
   now = with_nth log.segments (length log.segments.behind.items) (record { site = s.site; buffer = new })
 
-  lie_now : LieWithin (segment_size_of log) now
-  lie_now = within_with (segment_size_of log) log.segments (length log.segments.behind.items) s (record { site = s.site; buffer = new }) there refl
-      (let short = (nth_is log (length log.segments.behind.items) s there).short in omega (arith, short, ap length bytes)) (omega (arith, from)) log.lies
+  -- The buffer is sealed, or isn't: as many bytes of it are written, and are there.
+  lie_now : (f : SegmentView → SegmentView) → length (f (segment_view s)).parts.bytes ≡ length s.buffer.bytes.items → (f (segment_view s)).parts.written_len ≡ s.buffer.written_len → view_at s.site new ≡ f (segment_view s) → LieWithin (segment_size_of log) now
+  lie_now f bytes written view =
+      let long = ap (λ (v : SegmentView). length v.parts.bytes) view ∙ bytes in
+      let from = ap (λ (v : SegmentView). v.parts.written_len) view ∙ written in
+      let short = (nth_is log (length log.segments.behind.items) s there).short in
+      within_with (segment_size_of log) log.segments (length log.segments.behind.items) s (record { site = s.site; buffer = new }) there refl (omega (arith, short, long)) (omega (arith, from)) log.lies
 
-  sealed_line : new.sealed.items ≡ s.buffer.sealed.items ++ seal_at (length s.buffer.bytes.items) (drop (sealed_count s.buffer.sealed.items) s.buffer.reserved.items) ∷ [] → line_in now ≡ at_last sealed_now (line_of log)
-  sealed_line sealed = line_with_last sealed_now log.segments s (record { site = s.site; buffer = new }) there (sealed_view s.site s.buffer new sealed bytes from reserved gone filling)
+  sealed_line : view_at s.site new ≡ sealed_now (segment_view s) → line_in now ≡ at_last sealed_now (line_of log)
+  sealed_line view = line_with_last sealed_now log.segments s (record { site = s.site; buffer = new }) there view
 
-  same_line : new.sealed.items ≡ s.buffer.sealed.items → line_in now ≡ line_of log
-  same_line unsealed = line_still log.segments (length log.segments.behind.items) s (record { site = s.site; buffer = new }) there (same_view s.site s.buffer new unsealed bytes from reserved gone filling)
+  same_line : view_at s.site new ≡ segment_view s → line_in now ≡ line_of log
+  same_line view = line_still log.segments (length log.segments.behind.items) s (record { site = s.site; buffer = new }) there view
 
 pub invariant_of-self-2 : goal.invariant_of-self-2
 invariant_of-self-2 g c =
@@ -103,8 +104,8 @@ invariant_of-self-2 g c =
     let there = c.last_mut-s.ensures.value in
     let made = c.in_ok-seal.ensures in
     let new : IoBuf = c.seal.new.self in
-    let lie = lie_now log s there new made.bytes made.from made.reserved made.gone made.filled in
-    let same = sealed_line log s there new made.bytes made.from made.reserved made.gone made.filled made.sealed in
+    let lie = lie_now log s there new sealed_now refl refl (made.sealed s.site) in
+    let same = sealed_line log s there new (made.sealed s.site) in
     record {
       lies = lie;
       filled = sealed_filled log c.requires.room _ same;
@@ -112,7 +113,7 @@ invariant_of-self-2 g c =
       pegs = log.pegs;
       counted = sealed_counted log _ same;
       indexed = subst (λ (l : List SegmentView). AreReady l c.note_sealed.new.self) (sym same)
-          (seals_ready log sealed_now (seals_now (current_of log)) s.site new (sealed_view s.site s.buffer new made.sealed made.bytes made.from made.reserved made.gone made.filled ∙ ap sealed_now (sym (last_is log s there))) c.make_room.new.self c.note_sealed.new.self
+          (seals_ready log sealed_now (seals_now (current_of log)) s.site new (made.sealed s.site ∙ ap sealed_now (sym (last_is log s there))) c.make_room.new.self c.note_sealed.new.self
           c.make_room.ensures.places c.make_room.ensures.held c.note_sealed.ensures);
     }
 
@@ -122,10 +123,9 @@ invariant_of-self-in-Break-branch-2 g c =
     let log = c.args.self.now in
     let s : SegmentBuffer = c.last_mut-s.result.now in
     let there = c.last_mut-s.ensures.value in
-    let made = c.seal.ensures in
     let new : IoBuf = c.seal.new.self in
-    let lie = lie_now log s there new made.bytes made.from made.reserved made.gone made.filled in
-    let same = same_line log s there new made.bytes made.from made.reserved made.gone made.filled c.in_err-seal.ensures.unsealed in
+    let lie = lie_now log s there new (λ v. v) refl refl (c.in_err-seal.ensures.unsealed s.site) in
+    let same = same_line log s there new (c.in_err-seal.ensures.unsealed s.site) in
     record {
       lies = lie;
       filled = still_filled log c.requires.room _ same;
@@ -137,10 +137,8 @@ invariant_of-self-in-Break-branch-2 g c =
 
 pub returns-clause-line : goal.returns-clause-line
 returns-clause-line g c =
-    let made = c.in_ok-seal.ensures in
-    sealed_line c.args.self.now c.last_mut-s.result.now c.last_mut-s.ensures.value c.seal.new.self made.bytes made.from made.reserved made.gone made.filled made.sealed
+    sealed_line c.args.self.now c.last_mut-s.result.now c.last_mut-s.ensures.value c.seal.new.self (c.in_ok-seal.ensures.sealed c.last_mut-s.result.now.site)
 
 pub returns-in_err-seal-clause-unsealed : goal.returns-in_err-seal-clause-unsealed
 returns-in_err-seal-clause-unsealed g c =
-    let made = c.in_err-seal.ensures in
-    all_err c.from_residual-in_err-seal.result _ (same_line c.args.self.now c.last_mut-s.result.now c.last_mut-s.ensures.value c.seal.new.self made.bytes made.from made.reserved made.gone made.filled made.unsealed)
+    all_err c.from_residual-in_err-seal.result _ (same_line c.args.self.now c.last_mut-s.result.now c.last_mut-s.ensures.value c.seal.new.self (c.in_err-seal.ensures.unsealed c.last_mut-s.result.now.site))

@@ -73,10 +73,10 @@ returns-in_err-seal-clause-at_most g c = performs_nothing _ _ _ (ap (λ (x : Run
 
 pub returns-in_err-seal-clause-keeps : goal.returns-in_err-seal-clause-keeps
 returns-in_err-seal-clause-keeps g c = record {
-      preserves = c.in_err-seal.ensures.keeps.preserves;
-      tickets = search rules;
-      position = search rules;
-    }
+  preserves = c.in_err-seal.ensures.keeps.preserves;
+  tickets = search rules;
+  position = search rules;
+}
 
 pub returns-in_err-seal-clause-answers : goal.returns-in_err-seal-clause-answers
 returns-in_err-seal-clause-answers g c =
@@ -182,10 +182,10 @@ returns-clause-at_most g c =
 
 pub returns-clause-keeps : goal.returns-clause-keeps
 returns-clause-keeps g c = record {
-      preserves = kept_further g.D.Device.trace g.C.Checksum.sum_of c.args.self.now c.if-place-current_begin.self c.write_around.new.self (seals g c).keeps c.write_around.ensures.keeps.preserves;
-      tickets = tickets_further c.args.self.now c.if-place-current_begin.self c.write_around.new.self (seals g c).tickets c.write_around.ensures.keeps.tickets;
-      position = position_further c.args.self.now c.if-place-current_begin.self c.write_around.new.self (seals g c).position c.write_around.ensures.keeps.position;
-    }
+  preserves = kept_further g.D.Device.trace g.C.Checksum.sum_of c.args.self.now c.if-place-current_begin.self c.write_around.new.self (seals g c).keeps c.write_around.ensures.keeps.preserves;
+  tickets = tickets_further c.args.self.now c.if-place-current_begin.self c.write_around.new.self (seals g c).tickets c.write_around.ensures.keeps.tickets;
+  position = position_further c.args.self.now c.if-place-current_begin.self c.write_around.new.self (seals g c).position c.write_around.ensures.keeps.position;
+}
 
 pub returns-clause-answers : goal.returns-clause-answers
 returns-clause-answers g c =

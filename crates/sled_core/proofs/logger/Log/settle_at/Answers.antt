@@ -21,20 +21,20 @@ returns-then-place-lt0-clause-at_most g c = performs_nothing _ _ _ refl
 
 pub returns-then-place-lt0-clause-keeps : goal.returns-then-place-lt0-clause-keeps
 returns-then-place-lt0-clause-keeps g c = record {
-      preserves = kept_still g.D.Device.trace g.C.Checksum.sum_of c.args.self.now;
-      tickets = tickets_still c.args.self.now;
-      position = position_still c.args.self.now;
-    }
+  preserves = kept_still g.D.Device.trace g.C.Checksum.sum_of c.args.self.now;
+  tickets = tickets_still c.args.self.now;
+  position = position_still c.args.self.now;
+}
 
 pub returns-then-at-self-clause-at_most : goal.returns-then-at-self-clause-at_most
 returns-then-at-self-clause-at_most g c = performs_nothing _ _ _ refl
 
 pub returns-then-at-self-clause-keeps : goal.returns-then-at-self-clause-keeps
 returns-then-at-self-clause-keeps g c = record {
-      preserves = kept_still g.D.Device.trace g.C.Checksum.sum_of c.args.self.now;
-      tickets = tickets_still c.args.self.now;
-      position = position_still c.args.self.now;
-    }
+  preserves = kept_still g.D.Device.trace g.C.Checksum.sum_of c.args.self.now;
+  tickets = tickets_still c.args.self.now;
+  position = position_still c.args.self.now;
+}
 
 -- it is a place
 is_at : (g : given.Over) (c : goal.After-settle g) → pos c.unsigned_abs-at.result ≡ c.args.place
@@ -76,7 +76,7 @@ returns-then-at-self-clause-buffers g c =
 
 pub returns-clause-keeps : goal.returns-clause-keeps
 returns-clause-keeps g c = record {
-      preserves = c.settle.ensures.keeps.preserves;
-      tickets = c.settle.ensures.keeps.tickets;
-      position = c.settle.ensures.keeps.position;
-    }
+  preserves = c.settle.ensures.keeps.preserves;
+  tickets = c.settle.ensures.keeps.tickets;
+  position = c.settle.ensures.keeps.position;
+}

@@ -51,10 +51,10 @@ returns-clause-at_most g c = first_performs g.D.Device.trace g.C.Checksum.sum_of
 
 pub returns-clause-keeps : goal.returns-clause-keeps
 returns-clause-keeps g c = record {
-      preserves = kept_further g.D.Device.trace g.C.Checksum.sum_of c.args.self.now c.if-current_begin-to.self c.write_sealed_below.new.self (ready g c).keeps c.write_sealed_below.ensures.keeps.preserves;
-      tickets = first_tickets g.D.Device.trace g.C.Checksum.sum_of c.args.to c.args.self.now c.if-current_begin-to.self c.write_sealed_below.new.self (ready g c) c.write_sealed_below.ensures.keeps.tickets;
-      position = first_position g.D.Device.trace g.C.Checksum.sum_of c.args.to c.args.self.now c.if-current_begin-to.self c.write_sealed_below.new.self (ready g c) c.write_sealed_below.ensures.keeps.position;
-    }
+  preserves = kept_further g.D.Device.trace g.C.Checksum.sum_of c.args.self.now c.if-current_begin-to.self c.write_sealed_below.new.self (ready g c).keeps c.write_sealed_below.ensures.keeps.preserves;
+  tickets = first_tickets g.D.Device.trace g.C.Checksum.sum_of c.args.to c.args.self.now c.if-current_begin-to.self c.write_sealed_below.new.self (ready g c) c.write_sealed_below.ensures.keeps.tickets;
+  position = first_position g.D.Device.trace g.C.Checksum.sum_of c.args.to c.args.self.now c.if-current_begin-to.self c.write_sealed_below.new.self (ready g c) c.write_sealed_below.ensures.keeps.position;
+}
 
 pub returns-clause-answers : goal.returns-clause-answers
 returns-clause-answers g c =

@@ -36,7 +36,7 @@ use Rattle.sled_core.proofs.Holds.StoredItems.{items_same}
 use Rattle.sled_core.proofs.Line.Faulty.{fits_with_same, holds_with_same}
 use Rattle.sled_core.proofs.Line.LineEnds.{kept_same, noted_later, noted_same}
 use Rattle.sled_core.proofs.Line.LogWrites.{KeepsInvariants, crash_write, end_grows, fits_done, fits_failed, holds_done, holds_failed, keeps_invariants, line_after, line_left, names, noted_left, same_line, segments_written}
-use Rattle.sled_core.proofs.Line.Marks.{HasReady, marked_view, ready_at}
+use Rattle.sled_core.proofs.Line.Marks.{HasReady, ready_at}
 use Rattle.sled_core.proofs.Line.NthOpen.{nth_is, nth_there, nth_within}
 use Rattle.sled_core.proofs.Line.OpenManifests.{manifests_promoted, set_same}
 use Rattle.sled_core.proofs.Line.Outcomes.{all_err}
@@ -83,36 +83,36 @@ returns-in_err-write_bytes-clause-unwritten g c =
 pub returns-in_err-write_bytes-clause-keeps : goal.returns-in_err-write_bytes-clause-keeps
 unfolding Holds Fits
 returns-in_err-write_bytes-clause-keeps g c = record {
-      preserves = (
-        let old = c.args.self.now in
-        let mid = c.write_bytes.new.self in
-        let r = c.requires.ready in
-        let did = c.in_err-write_bytes.ensures in
-        let rest = did.rest in
-        let sizes : segment_size_of mid ≡ segment_size_of old = ap (λ (x : Config). x.segment_size) rest.config in
-        let slots = ap machine_of rest.accountant in
-        let items = noted_items old mid rest in
-        let kept_noted = noted_same old mid items (ap written_to (same_line old mid rest)) in
-        record {
-          goes_on = record {
-            config = record { config = rest.config; checksum = rest.checksum };
-            later = later_performed _ _ _ did.at_most;
-            stable = let same = ap written_to (same_line old mid rest) in omega (arith, same);
-            crash = λ H A f U fits. crash_write old c.args.n c.args.k r g.D.Device.trace g.C.Checksum.sum_of c.requires.fault (g.D.Device.trace mid.config.device) did.at_most H A f U fits;
-            sound = λ none. c.requires.fault;
-            items = λ none. items_same g.D.Device.trace g.C.Checksum.sum_of old _ (names old c.args.n c.args.k r g.D.Device.trace g.C.Checksum.sum_of c.requires.fault (g.D.Device.trace mid.config.device) did.at_most).0;
-          };
-          history = λ H holds. holds_with_same g.C.Checksum.sum_of _ _ _ _ _ _ _ _ _ _ (logged H) kept_noted sizes (same_line old mid rest) slots
-              (holds_failed old c.args.n c.args.k r g.D.Device.trace g.C.Checksum.sum_of c.requires.fault (g.D.Device.trace mid.config.device) did.at_most mid.fault.kept did.refused H holds);
-          fits = λ H A f U fits. fits_with_same g.C.Checksum.sum_of _ _ _ _ _ _ _ _ _ _ _ _ H A f U kept_noted sizes (same_line old mid rest) slots rest.pins
-              (fits_failed old c.args.n c.args.k r g.D.Device.trace g.C.Checksum.sum_of c.requires.fault (g.D.Device.trace mid.config.device) did.at_most mid.fault.kept did.refused H A f U fits);
-          noted = noted_later old mid items (let same = ap written_to (same_line old mid rest) in omega (arith, same));
-          kept = kept_same old mid items;
-        }
+  preserves = (
+      let old = c.args.self.now in
+      let mid = c.write_bytes.new.self in
+      let r = c.requires.ready in
+      let did = c.in_err-write_bytes.ensures in
+      let rest = did.rest in
+      let sizes : segment_size_of mid ≡ segment_size_of old = ap (λ (x : Config). x.segment_size) rest.config in
+      let slots = ap machine_of rest.accountant in
+      let items = noted_items old mid rest in
+      let kept_noted = noted_same old mid items (ap written_to (same_line old mid rest)) in
+      record {
+        goes_on = record {
+          config = record { config = rest.config; checksum = rest.checksum };
+          later = later_performed _ _ _ did.at_most;
+          stable = let same = ap written_to (same_line old mid rest) in omega (arith, same);
+          crash = λ H A f U fits. crash_write old c.args.n c.args.k r g.D.Device.trace g.C.Checksum.sum_of c.requires.fault (g.D.Device.trace mid.config.device) did.at_most H A f U fits;
+          sound = λ none. c.requires.fault;
+          items = λ none. items_same g.D.Device.trace g.C.Checksum.sum_of old _ (names old c.args.n c.args.k r g.D.Device.trace g.C.Checksum.sum_of c.requires.fault (g.D.Device.trace mid.config.device) did.at_most).0;
+        };
+        history = λ H holds. holds_with_same g.C.Checksum.sum_of _ _ _ _ _ _ _ _ _ _ (logged H) kept_noted sizes (same_line old mid rest) slots
+            (holds_failed old c.args.n c.args.k r g.D.Device.trace g.C.Checksum.sum_of c.requires.fault (g.D.Device.trace mid.config.device) did.at_most mid.fault.kept did.refused H holds);
+        fits = λ H A f U fits. fits_with_same g.C.Checksum.sum_of _ _ _ _ _ _ _ _ _ _ _ _ H A f U kept_noted sizes (same_line old mid rest) slots rest.pins
+            (fits_failed old c.args.n c.args.k r g.D.Device.trace g.C.Checksum.sum_of c.requires.fault (g.D.Device.trace mid.config.device) did.at_most mid.fault.kept did.refused H A f U fits);
+        noted = noted_later old mid items (let same = ap written_to (same_line old mid rest) in omega (arith, same));
+        kept = kept_same old mid items;
+      }
       );
-      tickets = search rules;
-      position = search rules;
-    }
+  tickets = search rules;
+  position = search rules;
+}
 
 -- The segments that are left keep what the type of a log asks.
 kept : {D C : Type 0} (old mid : Log D C) (n k : ℕ) (r : IsReadyIn (line_of old) n k) → ChangesDevice old mid → (s : SegmentBuffer) → slice_get (open_segments mid.segments) n ≡ Some s → (marked : SegmentBuffer) → segment_view marked ≡ written_now k (segment_view s)
@@ -170,9 +170,8 @@ pub invariant_of-self : goal.invariant_of-self
 invariant_of-self g c =
     let mid = c.write_bytes.new.self in
     let s : SegmentBuffer = c.segment_mut-s.result.now in
-    let is = c.mark_written.ensures in
     let found = kept c.args.self.now mid c.args.n c.args.k c.requires.ready c.in_ok-write_bytes.ensures.rest s c.segment_mut-s.ensures.value (record { site = s.site; buffer = c.mark_written.new.self })
-    (marked_view s.site s.buffer c.mark_written.new.self c.args.k is.sealed is.from is.reserved is.gone is.filled is.bytes) c.promote.new.self c.promote.ensures c.note_written.new.self c.note_written.ensures in
+    (c.mark_written.ensures s.site) c.promote.new.self c.promote.ensures c.note_written.new.self c.note_written.ensures in
     let lie = found.1.lie in
     record {
       lies = lie;
@@ -186,71 +185,69 @@ invariant_of-self g c =
 pub returns-clause-line : goal.returns-clause-line
 returns-clause-line g c = λ v among.
     let s : SegmentBuffer = c.segment_mut-s.result.now in
-    let is = c.mark_written.ensures in
     line_after c.args.self.now c.write_bytes.new.self c.args.n c.args.k v c.in_ok-write_bytes.ensures.rest among s c.segment_mut-s.ensures.value (record { site = s.site; buffer = c.mark_written.new.self })
-    (marked_view s.site s.buffer c.mark_written.new.self c.args.k is.sealed is.from is.reserved is.gone is.filled is.bytes) (line_in c.promote.new.self) c.promote.ensures
+    (c.mark_written.ensures s.site) (line_in c.promote.new.self) c.promote.ensures
 
 pub returns-clause-keeps : goal.returns-clause-keeps
 unfolding Holds Fits
 returns-clause-keeps g c = record {
-      preserves = (
-        let old = c.args.self.now in
-        let mid = c.write_bytes.new.self in
-        let r = c.requires.ready in
-        let did = c.in_ok-write_bytes.ensures in
-        let rest = did.rest in
-        let sizes : segment_size_of mid ≡ segment_size_of old = ap (λ (x : Config). x.segment_size) rest.config in
-        let slots = ap machine_of rest.accountant in
-        let line = returns-clause-line g c r.segment r.among in
-        record {
-          goes_on = record {
-            config = record { config = rest.config; checksum = rest.checksum };
-            later = later_performed _ _ _ did.at_most;
-            stable = let same = ap written_to line in let up = end_grows old c.args.n c.args.k r in omega (arith, same, up);
-            crash = λ H A f U fits. crash_write old c.args.n c.args.k r g.D.Device.trace g.C.Checksum.sum_of c.requires.fault (g.D.Device.trace mid.config.device) did.at_most H A f U fits;
-            sound = λ none. c.requires.fault;
-            items = λ none. items_same g.D.Device.trace g.C.Checksum.sum_of old _ (names old c.args.n c.args.k r g.D.Device.trace g.C.Checksum.sum_of c.requires.fault (g.D.Device.trace mid.config.device) did.at_most).0;
-          };
-          history = λ H holds. holds_with_same g.C.Checksum.sum_of _ _ _ _ _ _ _ _ _ _ (logged H) (noted_left_is old c.args.n c.args.k r (noted_items old mid rest) line) sizes line slots
-              (holds_done old c.args.n c.args.k r g.D.Device.trace g.C.Checksum.sum_of c.requires.fault (g.D.Device.trace mid.config.device) did.calls mid.fault.kept did.answers.1 H holds);
-          fits = λ H A f U fits. fits_with_same g.C.Checksum.sum_of _ _ _ _ _ _ _ _ _ _ _ _ H A f U (noted_left_is old c.args.n c.args.k r (noted_items old mid rest) line) sizes line slots rest.pins
-              (fits_done old c.args.n c.args.k r g.D.Device.trace g.C.Checksum.sum_of c.requires.fault (g.D.Device.trace mid.config.device) did.calls mid.fault.kept did.answers.1 H A f U fits);
-          noted = noted_left_is old c.args.n c.args.k r (noted_items old mid rest) line ∙ ap (λ e. not_whole e (noted_in old)) (sym (ap written_to line));
-          kept = kept_same old mid (noted_items old mid rest);
-        }
+  preserves = (
+      let old = c.args.self.now in
+      let mid = c.write_bytes.new.self in
+      let r = c.requires.ready in
+      let did = c.in_ok-write_bytes.ensures in
+      let rest = did.rest in
+      let sizes : segment_size_of mid ≡ segment_size_of old = ap (λ (x : Config). x.segment_size) rest.config in
+      let slots = ap machine_of rest.accountant in
+      let line = returns-clause-line g c r.segment r.among in
+      record {
+        goes_on = record {
+          config = record { config = rest.config; checksum = rest.checksum };
+          later = later_performed _ _ _ did.at_most;
+          stable = let same = ap written_to line in let up = end_grows old c.args.n c.args.k r in omega (arith, same, up);
+          crash = λ H A f U fits. crash_write old c.args.n c.args.k r g.D.Device.trace g.C.Checksum.sum_of c.requires.fault (g.D.Device.trace mid.config.device) did.at_most H A f U fits;
+          sound = λ none. c.requires.fault;
+          items = λ none. items_same g.D.Device.trace g.C.Checksum.sum_of old _ (names old c.args.n c.args.k r g.D.Device.trace g.C.Checksum.sum_of c.requires.fault (g.D.Device.trace mid.config.device) did.at_most).0;
+        };
+        history = λ H holds. holds_with_same g.C.Checksum.sum_of _ _ _ _ _ _ _ _ _ _ (logged H) (noted_left_is old c.args.n c.args.k r (noted_items old mid rest) line) sizes line slots
+            (holds_done old c.args.n c.args.k r g.D.Device.trace g.C.Checksum.sum_of c.requires.fault (g.D.Device.trace mid.config.device) did.calls mid.fault.kept did.answers.1 H holds);
+        fits = λ H A f U fits. fits_with_same g.C.Checksum.sum_of _ _ _ _ _ _ _ _ _ _ _ _ H A f U (noted_left_is old c.args.n c.args.k r (noted_items old mid rest) line) sizes line slots rest.pins
+            (fits_done old c.args.n c.args.k r g.D.Device.trace g.C.Checksum.sum_of c.requires.fault (g.D.Device.trace mid.config.device) did.calls mid.fault.kept did.answers.1 H A f U fits);
+        noted = noted_left_is old c.args.n c.args.k r (noted_items old mid rest) line ∙ ap (λ e. not_whole e (noted_in old)) (sym (ap written_to line));
+        kept = kept_same old mid (noted_items old mid rest);
+      }
       );
-      tickets = (
-        let old = c.args.self.now in
-        let r = c.requires.ready in
-        let line = returns-clause-line g c r.segment r.among in
-        let is = nth_segment (segment_size_of old) old.segments.first.site.place (line_of old) (line_segments old) c.args.n r.segment r.among in
-        record {
-          awaits = λ ticket m awaits.
-              subst (λ (l : List SegmentView). AwaitsIn l ticket (in_log m)) (sym line)
-              (awaits_promoted (segment_size_of old) old.segments.first.site.place (set (line_of old) c.args.n (written_now c.args.k r.segment)) ticket (in_log m) old.config.config.least (segments_written old c.args.n c.args.k r)
-              (awaits_written (line_of old) c.args.n c.args.k r.segment r.buffer r.among r.there r.ready is.are ticket (in_log m) awaits));
-          opens = ap open_places_along line
-              ∙ places_promoted (segment_size_of old) old.segments.first.site.place (set (line_of old) c.args.n (written_now c.args.k r.segment)) old.config.config.least (segments_written old c.args.n c.args.k r)
-              ∙ set_places (line_of old) c.args.n r.segment (written_now c.args.k r.segment) r.among (places_written (line_of old) c.args.n c.args.k r.segment r.buffer r.among r.there r.ready is.are);
-        }
+  tickets = (
+      let old = c.args.self.now in
+      let r = c.requires.ready in
+      let line = returns-clause-line g c r.segment r.among in
+      let is = nth_segment (segment_size_of old) old.segments.first.site.place (line_of old) (line_segments old) c.args.n r.segment r.among in
+      record {
+        awaits = λ ticket m awaits.
+            subst (λ (l : List SegmentView). AwaitsIn l ticket (in_log m)) (sym line)
+            (awaits_promoted (segment_size_of old) old.segments.first.site.place (set (line_of old) c.args.n (written_now c.args.k r.segment)) ticket (in_log m) old.config.config.least (segments_written old c.args.n c.args.k r)
+            (awaits_written (line_of old) c.args.n c.args.k r.segment r.buffer r.among r.there r.ready is.are ticket (in_log m) awaits));
+        opens = ap open_places_along line
+            ∙ places_promoted (segment_size_of old) old.segments.first.site.place (set (line_of old) c.args.n (written_now c.args.k r.segment)) old.config.config.least (segments_written old c.args.n c.args.k r)
+            ∙ set_places (line_of old) c.args.n r.segment (written_now c.args.k r.segment) r.among (places_written (line_of old) c.args.n c.args.k r.segment r.buffer r.among r.there r.ready is.are);
+      }
       );
-      position = (
-        let old = c.args.self.now in
-        let mid = c.write_bytes.new.self in
-        let r = c.requires.ready in
-        let rest = c.in_ok-write_bytes.ensures.rest in
-        let sizes : segment_size_of mid ≡ segment_size_of old = ap (λ (x : Config). x.segment_size) rest.config in
-        let slots = ap machine_of rest.accountant in
-        let line = returns-clause-line g c r.segment r.among in
-        let At : SegmentView → Position = λ v. position_in (segment_size_of old) v (machine_of old.accountant) in
-        record {
-          position = (λ i. position_in (sizes i) (last_of r.segment (line i)) (slots i))
-              ∙ ap At (last_promoted (segment_size_of old) r.segment (set (line_of old) c.args.n (written_now c.args.k r.segment)))
-              ∙ last_set At r.segment (line_of old) c.args.n r.segment (written_now c.args.k r.segment) r.among refl;
-          reserved = rest.reserved;
-          pins = rest.pins;
-          size = sizes;
-        }
+  position = (
+      let old = c.args.self.now in
+      let mid = c.write_bytes.new.self in
+      let r = c.requires.ready in
+      let rest = c.in_ok-write_bytes.ensures.rest in
+      let sizes : segment_size_of mid ≡ segment_size_of old = ap (λ (x : Config). x.segment_size) rest.config in
+      let slots = ap machine_of rest.accountant in
+      let line = returns-clause-line g c r.segment r.among in
+      let At : SegmentView → Position = λ v. position_in (segment_size_of old) v (machine_of old.accountant) in
+      record {
+        position = (λ i. position_in (sizes i) (last_of r.segment (line i)) (slots i))
+            ∙ ap At (last_promoted (segment_size_of old) r.segment (set (line_of old) c.args.n (written_now c.args.k r.segment)))
+            ∙ last_set At r.segment (line_of old) c.args.n r.segment (written_now c.args.k r.segment) r.among refl;
+        reserved = rest.reserved;
+        pins = rest.pins;
+        size = sizes;
+      }
       );
-    }
-
+}

@@ -48,10 +48,10 @@ returns-in_err-write_buffer-clause-at_most g c =
 
 pub returns-in_err-write_buffer-clause-keeps : goal.returns-in_err-write_buffer-clause-keeps
 returns-in_err-write_buffer-clause-keeps g c = record {
-      preserves = kept_further g.D.Device.trace g.C.Checksum.sum_of c.args.self.now c.loop-self.self c.write_buffer.new.self c.loop-self.invariant.advanced.keeps c.write_buffer.ensures.keeps.preserves;
-      tickets = failed_tickets g.D.Device.trace g.C.Checksum.sum_of g.D.Device.faults c.args.to c.args.self.now c.loop-self.self c.write_buffer.new.self c.loop-self.invariant.advanced c.write_buffer.ensures.keeps.tickets;
-      position = failed_position g.D.Device.trace g.C.Checksum.sum_of g.D.Device.faults c.args.to c.args.self.now c.loop-self.self c.write_buffer.new.self c.loop-self.invariant.advanced c.write_buffer.ensures.keeps.position;
-    }
+  preserves = kept_further g.D.Device.trace g.C.Checksum.sum_of c.args.self.now c.loop-self.self c.write_buffer.new.self c.loop-self.invariant.advanced.keeps c.write_buffer.ensures.keeps.preserves;
+  tickets = failed_tickets g.D.Device.trace g.C.Checksum.sum_of g.D.Device.faults c.args.to c.args.self.now c.loop-self.self c.write_buffer.new.self c.loop-self.invariant.advanced c.write_buffer.ensures.keeps.tickets;
+  position = failed_position g.D.Device.trace g.C.Checksum.sum_of g.D.Device.faults c.args.to c.args.self.now c.loop-self.self c.write_buffer.new.self c.loop-self.invariant.advanced c.write_buffer.ensures.keeps.position;
+}
 
 pub returns-in_err-write_buffer-clause-answers : goal.returns-in_err-write_buffer-clause-answers
 returns-in_err-write_buffer-clause-answers g c =
@@ -101,10 +101,10 @@ returns-then-synced_end-to-clause-at_most g c =
 
 pub returns-then-synced_end-to-clause-keeps : goal.returns-then-synced_end-to-clause-keeps
 returns-then-synced_end-to-clause-keeps g c = record {
-      preserves = c.loop-self.invariant.advanced.keeps;
-      tickets = c.loop-self.invariant.advanced.tickets;
-      position = c.loop-self.invariant.advanced.position;
-    }
+  preserves = c.loop-self.invariant.advanced.keeps;
+  tickets = c.loop-self.invariant.advanced.tickets;
+  position = c.loop-self.invariant.advanced.position;
+}
 
 pub returns-then-synced_end-to-clause-answers : goal.returns-then-synced_end-to-clause-answers
 returns-then-synced_end-to-clause-answers g c =
@@ -149,10 +149,10 @@ returns-clause-at_most g c =
 
 pub returns-clause-keeps : goal.returns-clause-keeps
 returns-clause-keeps g c = record {
-      preserves = c.loop-self.invariant.advanced.keeps;
-      tickets = c.loop-self.invariant.advanced.tickets;
-      position = c.loop-self.invariant.advanced.position;
-    }
+  preserves = c.loop-self.invariant.advanced.keeps;
+  tickets = c.loop-self.invariant.advanced.tickets;
+  position = c.loop-self.invariant.advanced.position;
+}
 
 pub returns-clause-answers : goal.returns-clause-answers
 returns-clause-answers g c =
