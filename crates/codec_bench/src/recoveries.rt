@@ -2,7 +2,6 @@
 ghost use Rattle.std.specs.Prelude.{◌<◌, ◌≤◌, ◌+◌, ◌^◌, length};
 
 use crate::figure::Shortest;
-use sled_codec::serialization::record::sum_in_place;
 use sled_codec::serialization::{
     MessageHeader, MessageKind, SegmentHeader, SegmentNumber, Serialize,
 };
@@ -10,6 +9,7 @@ use sled_log::config::{Config, RunningConfig};
 use sled_log::device::{Device, MemDevice, PlaceSum};
 use sled_log::logger::MAX_MSG_HEADER_LEN;
 use sled_log::snapshot::read_snapshot_or_default;
+use sled_oracle::record::sum_in_place;
 use std::alloc::Global;
 use std::io;
 use std::time::Instant;

@@ -3,9 +3,7 @@
 
 use crate::{batches, identifiers, laws, orders, sessions};
 use case_lines::tally::Tally;
-use sled_codec::history::{Message, entries_of_page};
 use sled_codec::serialization::bytes::copy_in;
-use sled_codec::serialization::record::{is_record, sum_in_place};
 use sled_log::config::{Config, RunningConfig};
 use sled_log::device::{Device, MemDevice, PlaceSum};
 use sled_log::logger::{
@@ -14,6 +12,8 @@ use sled_log::logger::{
 };
 use sled_log::result::{Error, Result};
 use sled_log::serialization::{MessageHeader, Serialize};
+use sled_oracle::history::{Message, entries_of_page};
+use sled_oracle::record::{is_record, sum_in_place};
 use sled_store::blob_io::{gc_blobs, read_blob, remove_blob, write_blob};
 use sled_store::header::{bump_offset, incr_writers, n_writers, offset};
 use sled_store::segment::accountant::{CacheInfo, SegmentAccountant};

@@ -4,8 +4,9 @@
 use case_lines::lines::{Fault, Words, asked_and_wanted};
 use case_lines::tally::Tally;
 use case_lines::texts::Text;
-use sled_log::iobuf::{StabilityIntervals, stable_end_of};
+use sled_log::iobuf::StabilityIntervals;
 use sled_log::logger::Lsn;
+use sled_oracle::intervals::stable_end_of;
 use std::alloc::Global;
 
 /// Runs the lines of a file.

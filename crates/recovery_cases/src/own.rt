@@ -4,9 +4,9 @@
 use case_lines::lines::{Words, bytes, number, signed};
 use case_lines::texts::Text;
 use sled_log::device::PlaceSum;
-use sled_log::own::{LeftFiles, Past, nothing_is_foreign};
-use sled_store::device::foreign::names::{NamedFile, NamesPast};
-use sled_store::device::foreign::{LogNote, LogPast, LogWrite};
+use sled_oracle::foreign::names::{NamedFile, NamesPast};
+use sled_oracle::foreign::{LogNote, LogPast, LogWrite};
+use sled_oracle::own::{LeftFiles, Past, nothing_is_foreign};
 use std::alloc::Global;
 
 /// Writes what came of a line.

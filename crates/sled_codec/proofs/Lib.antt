@@ -8,5 +8,4 @@ pub mod PointerFronts
 pub mod Records
 pub mod Segments
 pub mod Sequences
-pub mod Tables
 pub mod Weights

@@ -1,14 +1,12 @@
 -- What is written for a message is its record, and a text begins with one record at most.
-use Rattle.std.proofs.Common.{◌≡◌, ◌≢◌, ◌∙◌, sym, ap, ℕ, ◌+◌, ◌^◌, ◌<◌, ◌≤◌, List, ◌++◌, length, take, drop, ◌-◌, refl, arith, append_assoc, length-append, length-drop}
-use Rattle.std.proofs.lemmas.List.{take_at, drop_at, drop-append-le}
+use Rattle.std.proofs.Common.{◌≡◌, ◌≢◌, ◌∙◌, sym, ap, ℕ, ◌+◌, ◌^◌, ◌<◌, List, ◌++◌, length, refl, arith, append_assoc, length-append}
 use Rattle.sled_codec.specs.declared.serialization.message.MessageHeader.{MessageHeader}
 use Rattle.sled_codec.specs.declared.serialization.message.MessageKind.{MessageKind}
 use Rattle.sled_codec.specs.declared.serialization.message.MessageKind.TheVariants.{Corrupted}
-use Rattle.sled_codec.specs.Spelling.{low_bytes, SpellsMessageHeader, short_header_tail, short_message_header}
+use Rattle.sled_codec.specs.Spelling.{low_bytes, short_header_tail, short_message_header}
 use Rattle.sled_codec.specs.SpellingLaws.{same_fronts, same_rests}
-use Rattle.sled_codec.specs.HeaderLaws.{short_spells-header, one_value-header, no_front-header, same_header}
-use Rattle.sled_codec.specs.Record.{IsRecord, Announces, record_sum, short_record}
-use Rattle.sled_codec.specs.Sums.{flipped}
+use Rattle.sled_codec.specs.HeaderLaws.{short_spells-header, one_value-header, no_front-header}
+use Rattle.sled_codec.specs.Record.{IsRecord, record_sum, short_record}
 
 -- the header of the record that is written
 written_header : (List ℕ → ℕ) → MessageKind → ℕ → ℕ → List ℕ → MessageHeader
@@ -61,64 +59,3 @@ module _ (sum : List ℕ → ℕ) (a b x y : List ℕ) (kind kind' : MessageKind
   -- and the same texts
   pub one_record : a ≡ b
   one_record = p.is ∙ ap (λ (l : List ℕ). l ++ body) same_heads ∙ ap (λ (l : List ℕ). q.header ++ l) one_message.bodies ∙ sym q.is
-
-header_long : (front : List ℕ) (h : MessageHeader) → SpellsMessageHeader front h → 4 ≤ length front
-header_long front h spelled = omega (arith, spelled.summed.long, simp length-append at (ap length spelled.is))
-
--- A header was taken off a text, and this is left.
-module _ (sum : List ℕ → ℕ) (text front rest : List ℕ) (h : MessageHeader) (spelled : SpellsMessageHeader front h) (taken : text ≡ front ++ rest) (kind : MessageKind) (page number : ℕ) (body : List ℕ) where
-  same_front : (p : IsRecord sum text kind page number body) → front ≡ p.header
-  same_front p = no_front-header front p.header rest body _ _ spelled p.spelled (sym taken ∙ p.is)
-
-  -- where the text is a record the body is left
-  pub rest_of_record : IsRecord sum text kind page number body → rest ≡ body
-  rest_of_record p = same_rests front p.header rest body (same_front p) (sym taken ∙ p.is)
-
-  value_of_record : (p : IsRecord sum text kind page number body) → h ≡ record { crc32 = flipped (sum (body ++ drop 4 p.header)); kind = kind; segment_number = record { 0 = number }; pid = page; len = length body }
-  value_of_record p = one_value-header p.header _ _ (rw (same_front p) at spelled) p.spelled
-
-  -- the header announces the message
-  pub announced_by_record : IsRecord sum text kind page number body → Announces h kind page number (length body)
-  announced_by_record p =
-      let value = value_of_record p in
-      record {
-        valid = p.valid;
-        kinds = ap (λ (v : MessageHeader). v.kind) value;
-        pages = ap (λ (v : MessageHeader). v.pid) value;
-        numbers = ap (λ (v : MessageHeader). v.segment_number.0) value;
-        lens = ap (λ (v : MessageHeader). v.len) value;
-      }
-
-  -- and carries the sum
-  pub sum_of_record : IsRecord sum text kind page number body → h.crc32 ≡ flipped (sum (body ++ drop 4 front))
-  sum_of_record p =
-      ap (λ (v : MessageHeader). v.crc32) (value_of_record p)
-      ∙ ap (λ (l : List ℕ). flipped (sum (body ++ drop 4 l))) (sym (same_front p))
-
-  -- and where all three hold it is a record
-  pub is_record_by : Announces h kind page number (length body) → rest ≡ body → h.crc32 ≡ flipped (sum (body ++ drop 4 front)) → IsRecord sum text kind page number body
-  is_record_by a is value = record {
-    header = front;
-    spelled = rw (same_header h _ value a.kinds a.lens a.numbers a.pages) at spelled;
-    is = taken ∙ ap (λ (l : List ℕ). front ++ l) is;
-    valid = a.valid;
-  }
-
-  -- what follows the sum in the header
-  pub behind_its_sum : take (length text - length rest - 4) (drop 4 text) ≡ drop 4 front
-  behind_its_sum =
-      let four : 4 ≤ length front = header_long front h spelled in
-      let tail : length text - length rest - 4 ≡ length (drop 4 front) = omega (arith, ap length taken, length-append front rest, length-drop 4 front) in
-      ap (λ n. take n (drop 4 text)) tail
-      ∙ ap (λ (l : List ℕ). take (length (drop 4 front)) l) (ap (drop 4) taken ∙ drop-append-le 4 front rest four)
-      ∙ take_at (drop 4 front) rest (length (drop 4 front)) refl
-
--- turned behind four bytes, the rest of a header and a body are the body and the rest of the header
-pub turned : (x tail body : List ℕ) (head : ℕ) → length x ≡ 4 → head ≡ 4 + length tail → drop head (x ++ tail ++ body) ++ take (head - 4) (drop 4 (x ++ tail ++ body)) ≡ body ++ tail
-turned x tail body head long is =
-    let front : length (x ++ tail) ≡ head = omega (arith, length-append x tail) in
-    let behind : drop 4 (x ++ tail ++ body) ≡ tail ++ body = ap (drop 4) (append_assoc x tail body) ∙ drop_at x (tail ++ body) 4 long in
-    let n : length tail ≡ head - 4 = omega arith in
-    ap (λ (l : List ℕ). l ++ take (head - 4) (drop 4 (x ++ tail ++ body))) (drop_at (x ++ tail) body head front)
-    ∙ ap (λ (l : List ℕ). body ++ take (head - 4) l) behind
-    ∙ ap (λ (l : List ℕ). body ++ l) (take_at tail body (head - 4) n)

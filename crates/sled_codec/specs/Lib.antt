@@ -15,7 +15,6 @@ pub mod Places
 pub mod PointerLaws
 pub mod Pointers
 pub mod Record
-pub mod Seen
 pub mod SnapshotLaws
 pub mod Snapshots
 pub mod Spelling

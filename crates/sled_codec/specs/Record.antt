@@ -2,7 +2,6 @@
 use Rattle.std.specs.Prelude.{◌≡◌, ◌≢◌, ◌-◌, ◌^◌, ℕ, ℤ, List, ◌++◌, length, drop, FitsSigned}
 use Rattle.std.specs.Int.{w64, cast_unsigned}
 use Rattle.std.specs.Int.Bits.{bit_xor}
-use Rattle.sled_codec.specs.declared.serialization.message.MessageHeader.{MessageHeader}
 use Rattle.sled_codec.specs.declared.serialization.message.MessageKind.{MessageKind}
 use Rattle.sled_codec.specs.declared.serialization.message.MessageKind.TheVariants.{Corrupted}
 use Rattle.sled_codec.specs.Spelling.{low_bytes, SpellsMessageHeader, short_header_tail}
@@ -20,14 +19,6 @@ pub record IsRecord (sum : List ℕ → ℕ) (text : List ℕ) (kind : MessageKi
   })
   pub is : text ≡ header ++ body
   pub valid : kind ≢ Corrupted
-
--- a header announces a message with a body of this length
-pub record Announces (h : MessageHeader) (kind : MessageKind) (page number len : ℕ) : Type 0 where
-  pub valid : kind ≢ Corrupted
-  pub kinds : h.kind ≡ kind
-  pub pages : h.pid ≡ page
-  pub numbers : h.segment_number.0 ≡ number
-  pub lens : h.len ≡ len
 
 -- the sum that a record carries
 unfoldable pub record_sum : (List ℕ → ℕ) → MessageKind → ℕ → ℕ → List ℕ → ℕ

@@ -4,6 +4,5 @@
 //! against it both ways, so untrusted bytes end here.
 #![tactic(auto)]
 
-pub mod history;
 pub mod result;
 pub mod serialization;

@@ -17,7 +17,6 @@ pub mod meta;
 pub mod number;
 pub mod option;
 pub mod pointer;
-pub mod record;
 pub mod segment;
 pub mod snapshot;
 pub mod tuple;

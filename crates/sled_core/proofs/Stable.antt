@@ -3,6 +3,5 @@ pub mod KnownEnds
 pub mod Noted
 pub mod OfLog
 pub mod OneEnd
-pub mod SlowEnd
 pub mod TakenIn
 pub mod Waiting

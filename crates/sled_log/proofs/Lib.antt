@@ -4,7 +4,6 @@ pub mod Histories
 pub mod Iterates
 pub mod Moments
 pub mod Ordering
-pub mod OwnBlobs
 pub mod PageTable
 mod Passes
 pub mod PublicLaws

@@ -7,7 +7,6 @@ pub mod OpenSteps
 pub mod Openings
 pub mod Ordering
 pub mod Orderly
-pub mod OwnPast
 pub mod PageHistories
 pub mod Passes
 pub mod ReadSteps

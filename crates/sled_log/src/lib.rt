@@ -10,7 +10,6 @@ pub use sled_store::{blob_io as blob_io, header as header};
 
 pub mod iterator;
 pub mod laws;
-pub mod own;
 pub mod restart;
 pub mod session;
 pub mod snapshot;
@@ -36,10 +35,9 @@ pub mod device {
 /// The sizes that the bytes of a segment are laid out by, and which places of the log are durable.
 ///
 /// A segment begins with its header, and a message with one of its own. Intervals of places are synced in any order, and a
-/// batch counts only as a whole; `stable_end_of` is the slow way to the same end, for tests.
+/// batch counts only as a whole.
 pub mod iobuf {
     pub use sled_core::iobuf::intervals::StabilityIntervals;
-    pub use sled_core::iobuf::intervals::reference::stable_end_of;
     pub use sled_store::segment::{MAX_MSG_HEADER_LEN, SEG_HEADER_LEN};
 }
 

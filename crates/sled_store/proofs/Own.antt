@@ -1,12 +1,5 @@
-pub mod AnswerLemmas
-pub mod ElementLemmas
-pub mod FoundLemmas
-pub mod NameLemmas
-pub mod NoteLemmas
 pub mod ReachedLemmas
 pub mod SlotLemmas
-pub mod WalkLemmas
-pub mod ReadWalk
 pub mod ReaderLemmas
 pub mod RangeLemmas
 pub mod NoRecord

@@ -14,7 +14,6 @@ pub mod MemoryNames
 pub mod MemoryStops
 pub mod Moments
 pub mod Noted
-pub mod OwnNames
 pub mod OwnParts
 pub mod Readers
 pub mod Script

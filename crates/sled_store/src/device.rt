@@ -9,7 +9,6 @@ ghost use Rattle.sled_store.specs.Answers.{Counts, kind_in, Fails, FailsOr, Fail
 
 pub mod choice;
 pub mod crash_device;
-pub mod foreign;
 pub mod laws;
 pub mod memory;
 

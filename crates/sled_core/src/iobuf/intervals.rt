@@ -10,8 +10,6 @@ ghost use Rattle.std.proofs.Props.{props};
 ghost use Rattle.sled_core.specs.StableEnds.{IsContiguousEnd, IsStableEnd, IsOpenAround, AreApart, AreInOrder, Reaches, AreWaiting, HasPlaceBefore, end_before, turned};
 ghost use Rattle.sled_core.specs.inside.StableEnds.{lowest_first};
 
-pub mod reference;
-
 use sled_codec::result::{Error, Lsn, Result};
 use std::alloc::Global;
 use std::cmp::Reverse;

@@ -1,0 +1,5 @@
+mod OwnBlobs
+mod SlowEnd
+mod Tables
+mod TakenHeaders
+mod Walks

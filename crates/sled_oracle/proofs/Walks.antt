@@ -1,0 +1,8 @@
+pub mod AnswerLemmas
+pub mod ElementLemmas
+pub mod FoundLemmas
+pub mod NameLemmas
+pub mod NoteLemmas
+pub mod ReadWalk
+pub mod SlotLemmas
+pub mod WalkLemmas

@@ -1,6 +1,0 @@
--- What was noted of the past tells all that counts of it.
-use Rattle.sled_store.proofs.Own.AnswerLemmas.{of_noted}
-use Rattle.sled_store.proofs.device.foreign.is_log_own.Goals as goal
-
-pub returns-clause-own : goal.returns-clause-own
-returns-clause-own g c = of_noted g.C.Checksum.sum_of c.args.size c.args.past.now c.args.left.now c.slots_are_own.result c.slots_are_own.ensures.own
