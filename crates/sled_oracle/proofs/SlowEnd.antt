@@ -8,16 +8,6 @@ use Rattle.sled_core.specs.StableEnds.{LiesIn, Covers, IsContiguousEnd, IsHalfSy
 use Rattle.sled_oracle.specs.LowestHalf.{IsLowestHalf}
 use Rattle.sled_core.proofs.Stable.EndLemmas.{or_beyond, first, some_in}
 
--- a higher end is nearer to the greatest number
-pub nearer : (e e' top : ℤ) → e <ℤ e' → e' ≤ℤ top → int_gap e' top < int_gap e top
-nearer (pos a) (pos b) (pos c) lt le = omega (arith, ints)
-nearer (pos a) (negsuc b) top lt le = absurd (omega (arith, ints))
-nearer (negsuc a) (pos b) (pos c) lt le = omega (arith, ints)
-nearer (negsuc a) (negsuc b) (pos c) lt le = omega (arith, ints)
-nearer (negsuc a) (negsuc b) (negsuc c) lt le = omega (arith, ints)
-nearer (pos a) (pos b) (negsuc c) lt le = absurd (omega (arith, ints))
-nearer (negsuc a) (pos b) (negsuc c) lt le = absurd (omega (arith, ints))
-
 -- an interval that begins one place behind the end at most covers up to its own end
 pub covers_further : (s : ℤ) (is : List (ℤ × ℤ)) (e e' : ℤ) → Covers s is e → Any (λ i. (i.0 ≤ℤ (e +ℤ pos 1)) × (i.1 ≡ e')) is → Covers s is e'
 covers_further s is e e' covers (k, i, lt, at, here) p low high = by (or_beyond p e)

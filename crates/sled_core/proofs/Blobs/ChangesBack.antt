@@ -94,12 +94,6 @@ module _ (passes : List ℕ → Type 0) (s : NamesState) (p : ℤ) where
     own_by n bytes apart is true false other there firm = reads.own n bytes apart is there firm
     own_by n bytes apart is false false other there firm = reads.own n bytes apart is there firm
 
-  pub removed_own : (done : Bool) → ReadsOwn passes (int_eq p) s → ReadsOwn passes (int_eq p) (unnamed s p done)
-  removed_own done reads = by (is_some (s.file p)) where
-    by : (b : Bool) → ReadsOwn passes (int_eq p) (if b then renamed s p done (record { file = None; is_unsynced = false }) [] else s)
-    by true = renamed_own done (record { file = None; is_unsynced = false }) [] reads
-    by false = reads
-
   pub file_synced_own : ReadsOwn passes (int_eq p) s → ReadsOwn passes (int_eq p) (file_synced s p)
   file_synced_own reads = record {
     own = λ n bytes other is there firm. subst (λ (b : Bool). IsOwn (after_sync b) n bytes) (sym other) (reads.own n bytes other is there (ap (λ (b : Bool). not b && s.is_unsynced n) (sym other) ∙ firm));

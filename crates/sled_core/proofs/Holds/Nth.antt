@@ -41,11 +41,6 @@ map_get f [] n x there = cc
 map_get f (y ∷ ys) zero x there = let same : y ≡ x = cc in ap (λ z. Some (f z)) same
 map_get f (y ∷ ys) (suc n) x there = map_get f ys n x there
 
-pub get_map : {A B : Type 0} (f : A → B) (xs : List A) (n : ℕ) (y : B) → slice_get (map f xs) n ≡ Some y → (x : A) × (slice_get xs n ≡ Some x) × (f x ≡ y)
-get_map f [] n y there = cc
-get_map f (x ∷ xs) zero y there = (x, refl, cc)
-get_map f (x ∷ xs) (suc n) y there = get_map f xs n y there
-
 -- one behind the first
 pub get_behind : {T : Type 0} (x : T) (xs : List T) (n : ℕ) (y : T) → (n ≡ 0 → ⊥) → slice_get xs (n - 1) ≡ Some y → slice_get (x ∷ xs) n ≡ Some y
 get_behind x xs zero y some there = absurd (some refl)
@@ -61,10 +56,6 @@ at_last_set f v [] = refl
 at_last_set f v (w ∷ ws) = ap (λ l. v ∷ l) (at_last_set f w ws)
 
 -- What code has last.
-
--- the segment at an index behind the first one, and all of them
-pub behind_get : (ss : List SegmentBuffer) (n : ℕ) (s : SegmentBuffer) → slice_get ss n ≡ Some s → slice_get (map segment_view ss) n ≡ Some (segment_view s)
-behind_get ss n s there = map_get segment_view ss n s there
 
 -- the last of them, where there is one
 abbrev last_from : {T B : Type 0} → (T → B) → B → List T → B
@@ -84,18 +75,3 @@ last_mapped v (s ∷ ss) = last_mapped (segment_view s) ss
 
 pub last_behind : (v : SegmentView) (ss : List SegmentBuffer) (s : SegmentBuffer) (n : ℕ) → suc n ≡ length ss → slice_get ss n ≡ Some s → last_of v (map segment_view ss) ≡ segment_view s
 last_behind v ss s n at there = last_mapped v ss ∙ last_is segment_view v ss s n at there
-
-abbrev buffer_in : SegmentBuffer → IoBuf
-buffer_in s = s.buffer
-
-last_buffer_from : (b : IoBuf) (ss : List SegmentBuffer) → last_buffer b ss ≡ last_from buffer_in b ss
-last_buffer_from b [] = refl
-last_buffer_from b (s ∷ ss) = last_buffer_from s.buffer ss
-
--- and its buffer
-pub last_buffer_behind : (b : IoBuf) (ss : List SegmentBuffer) (s : SegmentBuffer) (n : ℕ) → suc n ≡ length ss → slice_get ss n ≡ Some s → last_buffer b ss ≡ s.buffer
-last_buffer_behind b ss s n at there = last_buffer_from b ss ∙ last_is buffer_in b ss s n at there
-
--- also where that one was put there
-pub last_buffer_set : (b : IoBuf) (ss : List SegmentBuffer) (n : ℕ) (s s' : SegmentBuffer) → suc n ≡ length ss → slice_get ss n ≡ Some s → last_buffer b (set ss n s') ≡ s'.buffer
-last_buffer_set b ss n s s' at there = last_buffer_behind b (set ss n s') s' n (at ∙ sym (length-set ss n s')) (set_get ss n s s' there)

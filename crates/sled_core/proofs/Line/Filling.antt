@@ -10,32 +10,9 @@ use Rattle.sled_core.specs.declared.logger.io_bufs.SegmentBuffer.{SegmentBuffer}
 use Rattle.sled_core.specs.Waiting.{at_last, last_of}
 use Rattle.sled_core.proofs.Line.Last.{at_last_still}
 
--- the last one of those behind the first, as code reads it
-pub read_last : (ss : List SegmentBuffer) (n : ℕ) (s : SegmentBuffer) → n ≡ length ss → (n ≡ 0 → ⊥) → s ≡ slice_index_or ss (n - 1) s → (suc (n - 1) ≡ length ss) × (slice_get ss (n - 1) ≡ Some s)
-read_last ss zero s is some there = absurd (some refl)
-read_last ss (suc n) s is some there = (omega (arith, is), slice_get_read ss (suc n) (suc n - 1) s is (omega arith) there)
-
--- Where there is none behind the first one, that is being filled.
-pub last_none : (v : SegmentView) (ss : List SegmentBuffer) → length ss ≡ 0 → last_of v (map segment_view ss) ≡ v
-last_none v [] none = refl
-last_none v (s ∷ ss) none = absurd (omega (arith, none))
-
 pub line_first : (f : SegmentView → SegmentView) (site : SegmentPosition) (b new : IoBuf) (ss : List SegmentBuffer) → length ss ≡ 0 → view_at site new ≡ f (view_at site b) → line_at site new ss ≡ at_last f (line_at site b ss)
 line_first f site b new [] none is = ap (λ (v : SegmentView). v ∷ []) is
 line_first f site b new (s ∷ ss) none is = absurd (omega (arith, none))
-
--- Else the last one is.
-pub line_last : (f : SegmentView → SegmentView) (v : SegmentView) (ss : List SegmentBuffer) (n : ℕ) (s s' : SegmentBuffer) → suc n ≡ length ss → slice_get ss n ≡ Some s → segment_view s' ≡ f (segment_view s)
-    → v ∷ map segment_view (set ss n s') ≡ at_last f (v ∷ map segment_view ss)
-line_last f v [] n s s' at there is = absurd (omega (arith, at))
-line_last f v (x ∷ []) zero s s' at there is = let same : x ≡ s = cc in ap (λ (w : SegmentView). v ∷ w ∷ []) (is ∙ ap (λ (y : SegmentBuffer). f (segment_view y)) (sym same))
-line_last f v (x ∷ []) (suc n) s s' at there is = absurd (omega (arith, at))
-line_last f v (x ∷ y ∷ ys) zero s s' at there is = absurd (omega (arith, at))
-line_last f v (x ∷ y ∷ ys) (suc n) s s' at there is = ap (λ (l : List SegmentView). v ∷ l) (line_last f (segment_view x) (y ∷ ys) n s s' (omega (arith, at)) there is)
-
--- The line is the same where that one is the same segment.
-pub line_kept : (v : SegmentView) (ss : List SegmentBuffer) (n : ℕ) (s s' : SegmentBuffer) → suc n ≡ length ss → slice_get ss n ≡ Some s → segment_view s' ≡ segment_view s → v ∷ map segment_view (set ss n s') ≡ v ∷ map segment_view ss
-line_kept v ss n s s' at there same = line_last (λ x. x) v ss n s s' at there same ∙ at_last_still v (map segment_view ss)
 
 -- They follow one another with another one in the place of one of them, at its place and within its size.
 pub follow_with : (size place : ℕ) (ss : List SegmentBuffer) (n : ℕ) (s s' : SegmentBuffer) → slice_get ss n ≡ Some s → s'.site ≡ s.site → length s'.buffer.bytes.items ≤ size → FollowOn size place ss → FollowOn size place (set ss n s')

@@ -138,9 +138,6 @@ module _ {D C : Type 0} (sum : List ℕ → ℕ) (to : ℕ) where
     pub leaves_above : IsLeft to (waiting_of old) (waiting_of new) → BeginFrom to (waiting_of new) → LeavesAbove sum to old new
     leaves_above left begin = record { left = left_above to (waiting_of old) (waiting_of new) left begin ∙ ap (not_below to) (sym for_is); start = start ∙ sym start_is }
 
-    pub leaves_some : IsLeft to (waiting_of old) (waiting_of new) → LeavesSome sum to old new
-    leaves_some left = inr (left.count, left.is ∙ ap (drop left.count) (sym for_is), start ∙ sym start_is)
-
   -- and where the current one is sealed first, which begins below the place
   module _ (old mid new : Log D C) (below : current_begin old < to) (sealed : to ≤ current_begin mid) (waiting : waiting_of mid ≡ buffers_of sum old) (start : start_of mid ≡ start_sealed old) where
     current : nat_lt (current_begin old) to ≡ true

@@ -37,10 +37,6 @@ module _ (H R : History) (same : logged H ≡ logged R) where
   pub alike_apart : LieApart H.messages → LieApart R.messages
   alike_apart apart = logged_apart R (subst (λ (x : History). LieApart x.messages) same (apart_logged H apart))
 
-  -- and ascend where they do
-  pub alike_ascends : Ascends H.messages → Ascends R.messages
-  alike_ascends order = logged_ascends R (subst (λ (x : History). Ascends x.messages) same (ascends_logged H order))
-
   -- and end below a place where they do
   pub alike_below : (place : ℕ) → EndBelow place H.messages → EndBelow place R.messages
   alike_below place below = logged_below place R (subst (λ (x : History). EndBelow place x.messages) same (below_logged place H below))

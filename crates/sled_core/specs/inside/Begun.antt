@@ -23,9 +23,6 @@ FollowOn-prop size place [] = λ p q. refl
 FollowOn-prop size place (s ∷ ss) =
     λ p q i. (ℕ_set _ _ p.0 q.0 i, le_prop p.1 q.1 i, le_prop p.2 q.2 i, le_prop p.3 q.3 i, FollowOn-prop size (place + size) ss p.4 q.4 i)
 
-abbrev pub segment_parts : SegmentBuffer → SegmentParts
-segment_parts s = parts_at s.site s.buffer
-
 -- the buffer of the last segment
 abbrev pub last_buffer : IoBuf → List SegmentBuffer → IoBuf
 last_buffer b [] = b

@@ -194,8 +194,3 @@ with_batch Padding b bs = bs
 abbrev pub batches_in : SegmentPosition → List ℕ → List Reserved → List Batch
 batches_in site bytes [] = []
 batches_in site bytes (r ∷ rs) = with_batch r.state (batch_in site bytes r) (batches_in site bytes rs)
-
--- the end of what was reserved: of all the bytes, where something was reserved since they were written
-abbrev pub end_reserved : ℕ → ℕ → List Reserved → ℕ
-end_reserved from end [] = from
-end_reserved from end (r ∷ rs) = end

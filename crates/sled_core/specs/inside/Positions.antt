@@ -2,7 +2,3 @@
 use Rattle.sled_codec.specs.declared.result.DiskPtr.{DiskPtr}
 use Rattle.sled_codec.specs.declared.result.DiskPtr.TheVariants.{Inline}
 use Rattle.sled_core.specs.Positions.{Position, lid_at}
-
--- its pointer, where its item is in its record
-abbrev pub pointer_at : Position → DiskPtr
-pointer_at q = Inline (lid_at q)

@@ -94,13 +94,6 @@ abbrev pub reserved_below : ℕ → ℕ → List Sealed → List Reserved → Li
 reserved_below to from [] rs = if nat_lt from to then rs else []
 reserved_below to from (b ∷ bs) rs = if nat_lt from to then take b.count rs ++ reserved_below to b.end bs (drop b.count rs) else []
 
--- the writes of those that aren't written, each of which is one write of a whole buffer, whenever it is made
-abbrev pub buffer_writes : ℕ → List ℕ → ℕ → List Sealed → List Event
-buffer_writes slot bytes from [] = []
-buffer_writes slot bytes from (b ∷ bs) =
-    if b.is_written then buffer_writes slot bytes b.end bs
-    else Wrote (slot + from) (bytes_between bytes from b.end) (bytes_between bytes from b.end) ∷ buffer_writes slot bytes b.end bs
-
 -- it has no open reservation and isn't written
 abbrev pub is_ready : Sealed → Bool
 is_ready b = if b.is_written then false else b.open_count == 0

@@ -8,8 +8,3 @@ use Rattle.sled_core.specs.Waiting.{BufferAt}
 abbrev pub begun_below : ℕ → List BufferAt → List BufferAt
 begun_below to [] = []
 begun_below to (b ∷ bs) = if nat_lt b.place to then b ∷ begun_below to bs else []
-
--- the calls that write all of them, and settle each
-abbrev pub all_writes : List BufferAt → List Event
-all_writes [] = []
-all_writes (b ∷ bs) = writing b.lid b.bytes (all_writes bs)

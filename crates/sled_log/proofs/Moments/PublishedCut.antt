@@ -51,7 +51,3 @@ module _ (sum : List ℕ → ℕ) (size : ℕ) (log : List ℕ) (some : 256 ≤ 
     -- The cut is the end of a segment, and no segment begins there.
     pub published_end : next.active ≡ cut.1 → cut.0 % size ≡ 0 → ((s : Segment) → Contains is.ordering s → s.place ≡ cut.0 → ⊥) → IsRecoverableLog sum size log H A next cut
     published_end active aligned none = from_end sum size log some H A cut of_cut next place active aligned (λ s there. none s (of_all s there))
-
-    -- The reading of its segment ends at the cut.
-    pub published_inside : CutFits H cut.0 → (z : Scanned) → EndsAtCut sum size log some is.scanned cut z → IsRecoverableLog sum size log H A next cut
-    published_inside fits z ends = from_inside sum size log some H A cut of_cut next place fits z (ends_too z ends)

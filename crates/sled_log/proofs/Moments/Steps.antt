@@ -39,12 +39,6 @@ module _ (sum : List ℕ → ℕ) (size : ℕ) (old : List ℕ) (some : 256 ≤ 
           ends_at_cut sum size old some H A first cut is fits slot has_slot its.0 its.1 its.2 its.3 at count from_cut to_end,
         )
 
-  -- A snapshot is published where the cut is the end of a segment.
-  pub published_full : cut.1 ≡ None → (next : SnapshotModel) → stable_place next.stable ≡ cut.0 → next.active ≡ cut.1 → IsRecoverableLog sum size old H A next cut
-  published_full no_slot next place as_cut =
-      let its = ends_segment sum size old some H A first cut is no_slot in
-      published_end sum size old some H A first cut is next place as_cut its.aligned its.none
-
   -- Zeros are written over a slot in which no segment below the cut lies, under a snapshot with the cut for its place, and a crash comes.
   module _ (next : SnapshotModel) (place : stable_place next.stable ≡ cut.0) (as_cut : next.active ≡ cut.1) (at count : ℕ) (now left : List ℕ) (no_more : length now ≤ length (replicate {A = ℕ} count 0))
       (leaves : LeavesLog (after_write old at (replicate count 0) now) left) {placed : List Placement} (only_own : NoForeignLog sum size (after_write old at (replicate count 0) now) placed left) (none : NoHeaderOfZeros sum)
@@ -53,10 +47,3 @@ module _ (sum : List ℕ → ℕ) (size : ℕ) (old : List ℕ) (some : 256 ≤ 
     pub unread_left : (z : Scanned) → EndsAtCut sum size old some is.scanned cut z → IsRecoverableLog sum size left H A next cut
     unread_left z ends =
         unread_inside sum size old some H A cut (of_cut sum size old some H A first cut is) at count now left no_more leaves only_own none fits slot slot_at begin end free next place z (ends_too sum size old some H A first cut is z ends)
-
-    -- where the cut is the end of a segment
-    pub unread_left_full : cut.1 ≡ None → IsRecoverableLog sum size left H A next cut
-    unread_left_full no_slot =
-        let its = ends_segment sum size old some H A first cut is no_slot in
-        unread_end sum size old some H A cut (of_cut sum size old some H A first cut is) at count now left no_more leaves only_own none fits slot slot_at begin end free next place as_cut its.aligned
-        (λ s there. its.none s (of_all sum size old some H A first cut is s there))

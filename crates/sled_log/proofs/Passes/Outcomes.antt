@@ -65,20 +65,6 @@ module _ (size : ℕ) (first : SnapshotModel) (end : ℕ) (unread : List ℕ) wh
       let stops : stops_in end s (open_at end s.met) ss ≡ at = cc in
       ap (λ (x : Segment × ℕ). concluded size first unread (given (stable_place first.stable) (passed_all end (s ∷ ss))) (cut_of size x)) stops
 
-  -- where there is no segment
-  pub outcome_none : (ss : List Scanned) → stop_of end None ss ≡ None → outcome_of size first end ss unread ≡ Recovered (unchanged first unread)
-  outcome_none [] is = refl
-  outcome_none (s ∷ ss) is = cc
-
-  pub passed_nothing : (ss : List Scanned) → stop_of end None ss ≡ None → passed_all end ss ≡ []
-  passed_nothing [] is = refl
-  passed_nothing (s ∷ ss) is = cc
-
-  -- where a message is of a page that no table has
-  pub outcome_bad : (ss : List Scanned) → has_no_table (given (stable_place first.stable) (passed_all end ss)) ≡ true → outcome_of size first end ss unread ≡ Damaged
-  outcome_bad [] bad = cc
-  outcome_bad (s ∷ ss) bad = no_table_damaged size first unread (given (stable_place first.stable) (passed_all end (s ∷ ss))) (cut_of size (stops_in end s (open_at end s.met) ss)) bad
-
 -- an active slot that is the one where a pass stops
 pub slot_fits : (o : Option ℕ) (slot size : ℕ) → IfSome o (λ n. n ≡ slot) → slot + size < 2 ^ 63 → IfSome o (λ n. n + size < 2 ^ 63)
 slot_fits None slot size is lt = tt

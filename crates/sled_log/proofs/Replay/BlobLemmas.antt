@@ -105,9 +105,6 @@ module _ (sum : List ℕ → ℕ) (blobs : ℤ → Option (List ℕ)) where
   none_bad none Skipped bad = bad
   none_bad none (BatchStart peg) bad = bad
 
-  pub meets_no_bad : ((n : ℤ) → blobs n ≡ None) → (ms : List ScannedRecord) → MeetsBadBlob sum blobs ms → ⊥
-  meets_no_bad none ms bad = none_bad none bad.0.what bad.2
-
   -- a record with its blob names none
   with_none_bad : (what : RecordContent) → HasBadBlob sum blobs (with_blob blobs what) → ⊥
   with_none_bad (Gives kind page pointer) bad = bad
@@ -155,12 +152,3 @@ module _ (sum : List ℕ → ℕ) (blobs : ℤ → Option (List ℕ)) where
         | inl here ↦ bad_first m ms here
         | inr later ↦ bad_behind m ms (rest later)
       ]
-
-  -- where there are no blobs none is bad in any segment
-  pub good_blobs : ((n : ℤ) → blobs n ≡ None) → (scanned : List Scanned) → HaveGoodBlobs sum blobs scanned
-  good_blobs none scanned s there = meets_no_bad none s.met
-
--- messages that hold their items stay as they are
-pub messages_resolved : (blobs : ℤ → Option (List ℕ)) (end : ℕ) (ms : List Message) → resolved_before blobs end (map met_of ms) ≡ map met_of ms
-messages_resolved blobs end [] = refl
-messages_resolved blobs end (m ∷ ms) = ap (λ (l : List ScannedRecord). met_of m ∷ l) (messages_resolved blobs end ms)

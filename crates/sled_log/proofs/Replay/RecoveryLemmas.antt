@@ -23,15 +23,6 @@ module _ (size : ℕ) (first : SnapshotModel) (unread : List ℕ) (end : ℕ) (s
   one_stop None = refl
   one_stop (Some place) = refl
 
-  one_passed : (o : Option ℕ) → open_at end s.met ≡ o → passed_in end s o [] ≡ before_open end s.met
-  one_passed None is = sym (before_none end s.met is)
-  one_passed (Some place) is = refl
-
-  pub one_outcome : outcome_of size first end (s ∷ []) unread ≡ concluded size first unread (given (stable_place first.stable) (before_open end s.met)) (cut_of size (s.segment, unwrap_or (open_at end s.met) (s.segment.place + s.stop)))
-  one_outcome =
-      ap (λ (ms : List ScannedRecord). concluded size first unread (given (stable_place first.stable) ms) (cut_of size (stops_in end s (open_at end s.met) []))) (one_passed (open_at end s.met) refl)
-      ∙ ap (λ (at : Segment × ℕ). concluded size first unread (given (stable_place first.stable) (before_open end s.met)) (cut_of size at)) (one_stop (open_at end s.met))
-
 -- When a pass gives a snapshot, and when the content is damaged.
 module _ (size : ℕ) (first : SnapshotModel) (unread : List ℕ) (messages : List Applied) (cut : ℕ × Option ℕ) where
   abbrev pub made : RecoveryResult

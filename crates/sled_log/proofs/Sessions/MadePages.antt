@@ -52,11 +52,6 @@ nothing_absent (b ∷ es) is = by (is_replace b.kind) is where
   by true same = cc
   by false same = refl
 
--- what is present is a Replace and the entries behind it
-pub present_gives : (es : List Message) → is_present es ≡ true → (b : Message) × (rest : List Message) × (es ≡ b ∷ rest) × (page_with es ≡ Present (entry_of b) (map entry_of rest))
-present_gives [] is = cc
-present_gives (b ∷ es) is = (b, es, refl, ap (λ (t : Bool). if t then Present (entry_of b) (map entry_of es) else Free (pos b.place) b.pointer) is)
-
 -- A page that is begun.
 
 -- it is present, with a Replace and the entries behind it, or was given back by a Free
@@ -103,14 +98,6 @@ page_begun H page made has =
 -- each is what the history says of it
 pub page_is : (H : History) (pages : List Page) → IsTable pages H top → (page : ℕ) → get_or pages page Uninitialized ≡ page_with (page_now H page)
 page_is H pages is page = is.states page
-
--- what is present is there
-pub present_within : (H : History) (pages : List Page) (page : ℕ) → IsTable pages H top → is_present (page_now H page) ≡ true → page < length pages
-present_within H pages page is present = ⊎_elim (λ lt. lt) beyond (cases_lt page (length pages)) where
-  beyond : length pages ≤ page → page < length pages
-  beyond le =
-      let absent : is_present (page_now H page) ≡ false = nothing_absent (page_now H page) (sym (is.states page) ∙ get_or_past pages page Uninitialized le) in
-      cc
 
 -- a page that is there is begun
 pub within_begun : (H : History) (pages : List Page) (page : ℕ) → IsMade H → IsTable pages H top → page < length pages → IsReplaced (page_now H page) ⊎ IsFree (page_now H page)

@@ -108,16 +108,6 @@ pub page_of_replace : (H : History) (page place : ℕ) → IsMade H → HasRepla
 page_of_replace H page place made has =
     has_page H top page has.message has.there has.of (All-contains (λ x. x.place < top) H.messages has.message made.low has.there) has.replaces
 
--- and where one is begun, one lies below any place above all messages
-pub replace_of_page : (H : History) (page place : ℕ) → HasPage H top page → All (λ m. m.place < place) H.messages → HasReplaceBelow H page place
-replace_of_page H page place has above =
-    let found = from_page H.messages top page has.message has.there in
-    record { message = has.message; there = found.0; of = found.1; replaces = has.replaces; below = All-contains (λ x. x.place < place) H.messages has.message above found.0 }
-
--- A page of the table has a Replace below any place above all messages.
-pub join_begun : (H : History) (pages : List Page) → IsTable pages H top → (page place : ℕ) → page < length pages → All (λ m. m.place < place) H.messages → HasReplaceBelow H page place
-join_begun H pages is page place lt above = replace_of_page H page place ((is.begun page).0 lt) above
-
 -- a message that may come is of a page of the table, or of the next one
 pub join_within : (H : History) (m : Message) (pages : List Page) → IsMade H → MayJoin H m → IsTable pages H top → m.page ≤ length pages
 join_within H m pages made may is = ⊎_elim higher (λ le. omega (arith, le)) (cases_lt 0 m.page) where

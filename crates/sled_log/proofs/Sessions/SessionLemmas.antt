@@ -24,11 +24,6 @@ module _ {D C : Type 0} (view : D → DeviceView) (sum : List ℕ → ℕ) (sess
   unfolding StandsAt
   stands_at phase is at = subst (λ (p : Option (Phase D C)). StandsAtPhase view sum p a) (sym is) at
 
-  -- It is always at one.
-  pub stands_nowhere : session.phase ≡ None → StandsAt view sum session a → ⊥
-  unfolding StandsAt
-  stands_nowhere gone at = subst (λ (p : Option (Phase D C)). StandsAtPhase view sum p a) gone at
-
   -- No log is open in it.
   pub stands_closed : (config : RunningConfig D C) → session.phase ≡ Some (Closed config) → StandsAt view sum session a → a.log ≡ None
   stands_closed config is at = let here = stands_in (Closed config) is at in ap (λ (x : RunState). x.log) here.1
