@@ -8,7 +8,8 @@ use Rattle.sled_codec.specs.History.{Message}
 use Rattle.sled_codec.specs.PageTables.{entry_of}
 use Rattle.sled_codec.specs.Snapshots.{Entry, Page, Present, Free, Uninitialized, SnapshotModel, stable_place}
 use Rattle.sled_store.specs.Device.{Content}
-use Rattle.sled_store.specs.SnapshotFiles.{BeginsFrom, IsDamagedSnapshot}
+use Rattle.sled_store.specs.SnapshotFiles.{BeginsFrom}
+use Rattle.sled_store.specs.inside.SnapshotFiles.{IsDamagedSnapshot}
 use Rattle.sled_core.specs.declared.iterator.scan.ScannedRecord.{ScannedRecord}
 use Rattle.sled_core.specs.declared.iterator.scan.RecordContent.{RecordContent}
 use Rattle.sled_core.specs.declared.iterator.scan.RecordContent.TheVariants.{Gives, NamesBlob, Skipped, BatchStart}

@@ -11,7 +11,7 @@ use Rattle.sled_oracle.specs.declared.foreign.LogNote.TheVariants.{Wrote, Settle
 use Rattle.sled_oracle.specs.declared.foreign.LogNote.{LogNote}
 use Rattle.sled_oracle.specs.declared.foreign.LogPast.{LogPast}
 use Rattle.sled_store.specs.Readers.{Reads}
-use Rattle.sled_store.specs.OwnParts.{BeginsAt}
+use Rattle.sled_store.specs.inside.OwnParts.{BeginsAt}
 use Rattle.sled_store.specs.Foreign.{Covers, IsWhole, IsReached, HeaderWasPlaced, RecordWasPlaced, first_record}
 
 -- a write laid down these bytes as a header: it begins at that offset with them

@@ -1,14 +1,13 @@
 -- What an accountant keeps, as the machine that it stands for, and how its indexes are tied to the slots.
-use Rattle.std.specs.Prelude.{◌≡◌, ◌⊎◌, ◌≤◌, ◌<◌, ◌+◌, ◌*◌, ◌^◌, ℕ, true, false, IsTrue, List, [], length, map, take, drop, vec_capacity, slice_index_or}
-use Rattle.std.specs.Prelude.{Result, Ok, Err}
+use Rattle.std.specs.Prelude.{◌≡◌, ◌≤◌, ◌<◌, ◌+◌, ◌*◌, ◌^◌, ℕ, true, false, List, [], length, map, take, drop, vec_capacity, slice_index_or, Result, Ok, Err}
 use Rattle.std.specs.List.{All}
 use Rattle.std.specs.List.Sorted.{IsStrictlySortedBy}
 use Rattle.std.specs.Map.{keys_of}
 use Rattle.std.specs.Ordering.{nat_cmp}
 use Rattle.sled_codec.specs.declared.result.Error.{Error}
 use Rattle.sled_codec.specs.declared.result.Error.TheVariants.{OutOfMemory, PlacesUsedUp}
-use Rattle.sled_store.specs.SegmentStates.{SlotState, Machine, is_free, is_draining, free_slot, slot_at, has_page, free_among, inactive_among, active_among}
-use Rattle.sled_store.specs.SegmentStates.{waiting_among, next_slot}
+use Rattle.sled_store.specs.SegmentStates.{SlotState, Machine, is_free, is_draining, free_slot, free_among, inactive_among, active_among, waiting_among}
+use Rattle.sled_store.specs.SegmentStates.{next_slot}
 use Rattle.sled_store.specs.declared.segment.slot.Slot.{Slot}
 use Rattle.sled_store.specs.declared.segment.cleaner.Entry.{Entry}
 use Rattle.sled_store.specs.declared.segment.cleaner.SegmentCleaner.{SegmentCleaner}
@@ -41,23 +40,6 @@ size_of a = a.size
 -- a slot that may be drained has room for the pages that it then gives to the cleaner
 abbrev pub HasRoomToDrain : Slot → Type 0
 HasRoomToDrain s = is_draining s.state ≡ false → length s.pages.0 ≤ vec_capacity s.left
-
--- a page may be linked without taking memory
-pub record HasRoomToLink (s : Slot) : Type 0 where
-  pub pages : length s.pages.0 < s.pages.1
-  pub left : length s.pages.0 + 1 ≤ vec_capacity s.left
-
--- a page may be noted as replaced without taking memory
-abbrev pub HasRoomForGone : ℕ → Slot → Type 0
-HasRoomForGone pid s = IsTrue (has_page s.gone.0 pid) ⊎ (length s.gone.0 < s.gone.1)
-
--- a page may be noted as replaced in a slot
-abbrev pub GoneFits : ℕ → SegmentAccountant → ℕ → Type 0
-GoneFits pid a k = (d : Slot) → HasRoomForGone pid (slice_index_or a.slots.items k d)
-
--- this many blobs may be noted without taking memory
-abbrev pub HasRoomForBlobs : ℕ → Slot → Type 0
-HasRoomForBlobs n s = length s.blobs.0 + n ≤ s.blobs.1
 
 -- each slot is there once, in ascending order, and below a number
 pub record AreEntries (count : ℕ) (es : List (ℕ × List ℕ)) : Type 0 where
@@ -100,11 +82,6 @@ pub record HasRooms (count : ℕ) (a : SegmentAccountant) : Type 0 where
   pub active : count ≤ a.active.1
   pub inactive : count ≤ a.inactive.1
   pub waiting : count ≤ a.waiting.1
-
--- a segment lies in a slot
-pub record IsUsed (m : Machine) (k : ℕ) : Type 0 where
-  pub within : k < length m.slots
-  pub used : is_free (slot_at m k).state ≡ false
 
 -- An accountant for segments of a size: each slot is in one state, its indexes are those of the slots, and what it may have to note has room.
 pub record IsAccountant (size : ℕ) (a : SegmentAccountant) : Type 0 where

@@ -1,6 +1,6 @@
 -- Items that lie beside the log, each in a file of its own under the place of its message.
-use Rattle.std.specs.Prelude.{◌≡◌, ◌⊎◌, ◌↔◌, ◌≤◌, ◌≤ℤ◌, ◌+◌, ◌%◌, ◌^◌, ◌<◌, ℕ, ℤ, true, List, [], ◌∷◌, ◌++◌, length, map, filter, int_le, Option, Some, None}
-use Rattle.std.specs.Prelude.{IsSome, IsTrue, Result, Ok, Err, Contains}
+use Rattle.std.specs.Prelude.{◌≡◌, ◌⊎◌, ◌↔◌, ◌≤◌, ◌≤ℤ◌, ◌+◌, ◌%◌, ◌^◌, ◌<◌, ℕ, ℤ, true, List, [], ◌∷◌, ◌++◌, length, map, Option, Some, None, IsSome, IsTrue}
+use Rattle.std.specs.Prelude.{Result, Ok, Err, Contains}
 use Rattle.std.specs.IoError.{error_kind}
 use Rattle.std.specs.List.Sorted.{IsStrictlySortedBy}
 use Rattle.std.specs.Ordering.{int_cmp}
@@ -62,10 +62,6 @@ removing_blobs places = map (λ p. BlobRemoved p true) places
 pub record AreFrom (file : ℤ → Option (List ℕ)) (least : ℤ) (places : List ℤ) : Type 0 where
   pub each : (p : ℤ) → Contains places p ↔ (IsSome (file p) × (least ≤ℤ p))
   pub ascending : IsStrictlySortedBy int_cmp places
-
--- those of a list from one on
-abbrev pub from_place : ℤ → List ℤ → List ℤ
-from_place least places = filter (λ p. int_le least p) places
 
 -- Places of blobs that may have been removed where a call failed: all from one on, or none where they could not be listed.
 abbrev pub MayGo : (ℤ → Option (List ℕ)) → ℤ → List ℤ → Type 0

@@ -9,12 +9,8 @@ pub mod Due
 pub mod Durable
 pub mod Foreign
 pub mod Marks
-pub mod Memory
-pub mod MemoryNames
-pub mod MemoryStops
 pub mod Moments
 pub mod Noted
-pub mod OwnParts
 pub mod Readers
 pub mod Script
 pub mod SegmentStates
@@ -25,6 +21,6 @@ pub mod SnapshotFiles
 pub mod Stabilizing
 pub mod StartCauses
 pub mod Started
-pub mod Starting
 pub mod Stops
 pub mod Words
+pub mod inside

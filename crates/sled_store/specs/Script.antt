@@ -1,6 +1,6 @@
 -- Lists of calls, one after another, up to the first that fails.
 use Rattle.std.specs.Prelude.{◌≡◌, ◌⊎◌, List, [], ◌∷◌}
-use Rattle.sled_store.specs.Device.{Event, Trace, State, step}
+use Rattle.sled_store.specs.Device.{Event, Trace}
 use Rattle.sled_store.specs.Answers.{Tears}
 
 -- a call that failed added nothing, or what a failure leaves of it
@@ -11,11 +11,6 @@ Stops event old new = (new ≡ old) ⊎ ((torn : Event) × Tears event torn × (
 unfoldable pub Performs : List Event → Trace → Trace → Type 0
 Performs [] old new = new ≡ old
 Performs (e ∷ es) old new = Stops e old new ⊎ Performs es (e ∷ old) new
-
--- P holds in each state on the way
-abbrev pub Along : (State → Type 0) → List Event → State → Type 0
-Along P [] s = P s
-Along P (e ∷ es) s = P s × ((torn : Event) → Tears e torn → P (step torn s)) × Along P es (step e s)
 
 -- the trace after all of these calls, made in order
 abbrev pub after_all : List Event → Trace → Trace

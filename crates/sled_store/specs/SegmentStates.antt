@@ -155,10 +155,6 @@ next_slot m = first_or m.tip (free_among (take m.tip m.slots))
 abbrev pub put_slot : ℕ → SlotState → List SlotState → List SlotState
 put_slot k s slots = if nat_lt k (length slots) then set slots k s else slots ++ s ∷ []
 
--- one more slot, behind all others, that no segment is in
-abbrev pub with_free_slot : Machine → Machine
-with_free_slot m = record { slots = m.slots ++ free_slot ∷ []; tip = m.tip; cleaner = m.cleaner }
-
 -- the segment at a place gets the next slot
 abbrev pub handed_out : ℕ → Machine → Machine
 handed_out lsn m = record { slots = put_slot (next_slot m) (taken_slot lsn) m.slots; tip = max m.tip (next_slot m + 1); cleaner = m.cleaner }

@@ -1,5 +1,5 @@
 -- What is known of the entries of a snapshot that were gone through.
-use Rattle.std.specs.Prelude.{◌≡◌, ◌==◌, ◌^◌, ◌<◌, ℕ, Bool, true, false, pos, if◌then◌else◌, List, [], ◌∷◌, Option, Some, None, option_map}
+use Rattle.std.specs.Prelude.{◌≡◌, ◌==◌, ◌^◌, ◌<◌, ℕ, pos, if◌then◌else◌, List, [], ◌∷◌, Option, Some, None, option_map}
 use Rattle.std.specs.List.{list_any}
 use Rattle.std.specs.Ordering.{nat_cmp}
 use Rattle.std.specs.BTreeMap.{get}
@@ -13,12 +13,6 @@ use Rattle.sled_store.specs.Begin.{slot_of, segment_number_of, sizes_in, AreApar
 abbrev pub number_in : ℕ → ℕ → List Entry → Option ℕ
 number_in size k [] = None
 number_in size k (e ∷ es) = if slot_of size e == k then Some (segment_number_of size e) else number_in size k es
-
--- what the entries in a slot sum up to, by what is known of the slot and of a segment, unless that segment can't lie there
-abbrev pub sum_in : Option (ℕ × ℕ) → Bool → ℕ → Option ℕ
-sum_in (Some v) known number = if v.0 == number then Some v.1 else None
-sum_in None true number = None
-sum_in None false number = Some 0
 
 -- entries may lie together in the slots of a file
 pub record AreFit (size : ℕ) (es : List Entry) : Type 0 where

@@ -5,7 +5,7 @@ use Rattle.sled_codec.specs.declared.result.Error.{Error}
 use Rattle.sled_codec.specs.Snapshots.{Entry, Page, SnapshotModel, stable_place}
 use Rattle.sled_store.specs.Begin.{entries_in, entries_of, slot_of, sizes_in, slots_of, is_active, unused, filling}
 use Rattle.sled_store.specs.StartCauses.{StartRefuses}
-use Rattle.sled_store.specs.SegmentStates.{SlotState, Machine, Step, free_slot, left_after}
+use Rattle.sled_store.specs.SegmentStates.{SlotState, Machine, Step, free_slot}
 use Rattle.sled_store.specs.SlotTables.{number_in, active_entry}
 use Rattle.sled_store.specs.Stabilizing.{cut_back}
 use Rattle.sled_store.specs.declared.segment.slot.State.{State}
@@ -41,10 +41,6 @@ found_slot size s k (Some n) = record {
 -- what a snapshot has in the slots of a file: those that it doesn't use are free
 abbrev pub found : ℕ → ℕ → SnapshotModel → Machine
 found size slots s = record { slots = map (λ k. found_slot size s k (number_in size k (all_entries s))) (range_with_len 0 slots); tip = slots; cleaner = [] }
-
--- how many slots are left of a file of this length once an accountant has started on it
-abbrev pub left_slots : ℕ → ℕ → SnapshotModel → ℕ
-left_slots size len s = left_after (slots_of size len) (found size (slots_of size len) s).slots
 
 -- An accountant starts on a file of this length: slots that the snapshot doesn't use are filled with zeros, and cut off at the end of the file while
 -- another one is free.

@@ -43,11 +43,6 @@ done_since (e ∷ h) = if is_done e then done_since h + 1 else done_since h
 abbrev pub left_to_do : Trace → Option ℕ
 left_to_do h = option_map (λ n. n - done_since h) (stop_asked h)
 
--- one call fewer is to be done
-abbrev pub one_fewer : Option ℕ → Option ℕ
-one_fewer None = None
-one_fewer (Some n) = Some (n - 1)
-
 -- the last event is a call that was done and changed something
 abbrev pub ends_in_change : Trace → Bool
 ends_in_change [] = false

@@ -6,7 +6,8 @@ ghost use Rattle.std.specs.Prelude.{◌≡◌, ◌≢◌, ◌⊎◌, ◌≤◌, 
 ghost use Rattle.sled_codec.specs.Kinds.{code_of};
 ghost use Rattle.sled_codec.specs.Spelling.{low_bytes};
 ghost use Rattle.sled_codec.specs.Errors.{IsCorruption};
-ghost use Rattle.sled_store.specs.Blobs.{blob_bytes, HoldsItem, IsDamagedBlob, KeepsBlob, IsItemOf, IsDamagedFor, IsMissing, making, removing_blobs, AreFrom, MayGo, from_place, MakeAnswers, UnlessFault, BlobAnswers, ItemAnswers, NamesBlobAt, OnDamage, RemoveAnswers};
+ghost use Rattle.sled_store.specs.Blobs.{blob_bytes, HoldsItem, IsDamagedBlob, KeepsBlob, IsItemOf, IsDamagedFor, IsMissing, making, removing_blobs, AreFrom, MayGo, MakeAnswers, UnlessFault, BlobAnswers, ItemAnswers, NamesBlobAt, OnDamage, RemoveAnswers};
+ghost use Rattle.sled_store.specs.inside.Blobs.{from_place};
 ghost use Rattle.sled_codec.specs.declared.serialization.message.MessageKind.TheVariants as kind;
 ghost use Rattle.sled_store.specs.Device.{state_of, BlobRemoved};
 ghost use Rattle.sled_store.specs.Script.{Performs, after_all};

@@ -5,7 +5,8 @@ use Rattle.sled_codec.specs.History.{Batch, Message, History}
 use Rattle.sled_store.specs.Blobs.{making, removing_blobs}
 use Rattle.sled_store.specs.Device.{State, Trace, state_of}
 use Rattle.sled_store.specs.Moments.{Throughout}
-use Rattle.sled_store.specs.Script.{Along, Performs}
+use Rattle.sled_store.specs.inside.Script.{Along}
+use Rattle.sled_store.specs.Script.{Performs}
 use Rattle.sled_store.specs.SegmentStates.{Machine}
 use Rattle.sled_store.proofs.Traces.ScriptLemmas.{performs_throughout}
 use Rattle.sled_core.specs.Begun.{SegmentView}

@@ -4,7 +4,7 @@ use Rattle.std.specs.Ordering.{int_eq}
 use Rattle.sled_store.specs.Answers.{Tears}
 use Rattle.sled_store.specs.Blobs.{making, removing_blobs}
 use Rattle.sled_store.specs.Device.{BlobMade, BlobSynced, BlobRemoved, NamesSynced, Event, NamesState, State, file_synced, names_synced, renamed, step, unnamed}
-use Rattle.sled_store.specs.Script.{Along}
+use Rattle.sled_store.specs.inside.Script.{Along}
 use Rattle.sled_core.specs.OwnNames.{IsAnyBlob, IsAnySnapshot, ReadsStayOwn, StayOwn}
 use Rattle.sled_core.proofs.Blobs.ChangesBack.{ReadsOwn, GoesBack, renamed_back, removed_back, file_synced_back, names_synced_back, renamed_own, file_synced_own}
 use Rattle.sled_core.proofs.Blobs.Leaves.{no_name, blob_not_empty, snapshot_not_empty, ChangesAt, with_names}

@@ -3,7 +3,7 @@ use Rattle.std.proofs.Common.{ℕ, List, ◌∷◌}
 use Rattle.sled_codec.specs.History.{History}
 use Rattle.sled_store.specs.Device.{Event, State, Content, step, Crashed, Left, content_of, content_left, log_left, blobs_left, snapshots_left}
 use Rattle.sled_store.specs.Answers.{Tears}
-use Rattle.sled_store.specs.Script.{Along}
+use Rattle.sled_store.specs.inside.Script.{Along}
 use Rattle.sled_store.proofs.Crashes.LeavesLemmas.{Asked, before_leaves, torn_leaves}
 use Rattle.sled_store.proofs.Crashes.ForeignLemmas.{Knows, own_log, own_names, before_knows, torn_knows, own_log_at_rest, own_names_at_rest}
 use Rattle.sled_store.proofs.Traces.ScriptLemmas.{along_first}

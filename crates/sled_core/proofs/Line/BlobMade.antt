@@ -7,7 +7,8 @@ use Rattle.sled_codec.specs.History.{Batch, Message, History}
 use Rattle.sled_store.specs.Blobs.{making}
 use Rattle.sled_store.specs.Device.{BlobMade, BlobSynced, Event, State, Trace, state_of, step}
 use Rattle.sled_store.specs.Moments.{LeavesOnly}
-use Rattle.sled_store.specs.Script.{Along, Performs, after_all}
+use Rattle.sled_store.specs.inside.Script.{Along}
+use Rattle.sled_store.specs.Script.{Performs, after_all}
 use Rattle.sled_store.specs.SegmentStates.{Machine}
 use Rattle.sled_store.proofs.Traces.MomentLemmas.{at_last}
 use Rattle.sled_store.proofs.Traces.ScriptLemmas.{later_performed, performs_throughout}

@@ -8,7 +8,8 @@ use Rattle.sled_codec.specs.History.{Batch, Message, History}
 use Rattle.sled_store.specs.Blobs.{RemoveAnswers, removing_blobs}
 use Rattle.sled_store.specs.Device.{BlobRemoved, Event, State, Trace, state_of, step}
 use Rattle.sled_store.specs.Moments.{LeavesOnly}
-use Rattle.sled_store.specs.Script.{Along, Performs, Stops}
+use Rattle.sled_store.specs.inside.Script.{Along}
+use Rattle.sled_store.specs.Script.{Performs, Stops}
 use Rattle.sled_store.specs.SegmentStates.{Machine}
 use Rattle.sled_store.specs.declared.config.RunningConfig.{RunningConfig}
 use Rattle.sled_store.proofs.Traces.MomentLemmas.{at_last}

@@ -3,7 +3,8 @@ use Rattle.std.proofs.Common.{◌≡◌, ◌⊎◌, ◌∙◌, ◌∷◌, inl, i
 use Rattle.std.specs.declared.io.Error.{Error as IoError}
 use Rattle.sled_codec.specs.History.{Batch, Message, History}
 use Rattle.sled_store.specs.Device.{Event, NamesState, State, Trace, Synced, Wrote, state_of, step}
-use Rattle.sled_store.specs.Script.{Along, Performs}
+use Rattle.sled_store.specs.inside.Script.{Along}
+use Rattle.sled_store.specs.Script.{Performs}
 use Rattle.sled_store.specs.SegmentStates.{Machine}
 use Rattle.sled_store.proofs.Traces.MomentLemmas.{at_last}
 use Rattle.sled_store.proofs.Traces.ScriptLemmas.{performs_throughout}

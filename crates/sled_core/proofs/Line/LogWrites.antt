@@ -7,7 +7,8 @@ use Rattle.sled_codec.specs.History.{Batch, Message, History}
 use Rattle.sled_store.specs.Accounts.{machine_of}
 use Rattle.sled_store.specs.Device.{Event, NamesState, State, Trace, state_of}
 use Rattle.sled_store.specs.Moments.{Throughout}
-use Rattle.sled_store.specs.Script.{Along, Performs, after_all}
+use Rattle.sled_store.specs.inside.Script.{Along}
+use Rattle.sled_store.specs.Script.{Performs, after_all}
 use Rattle.sled_store.specs.SegmentStates.{Machine}
 use Rattle.sled_store.proofs.Traces.MomentLemmas.{at_last, weaker}
 use Rattle.sled_store.proofs.Traces.ScriptLemmas.{performs_throughout}

@@ -7,7 +7,7 @@ use Rattle.std.proofs.lemmas.Bool.Decides.{nat_tests}
 use Rattle.std.proofs.lemmas.List.Elements.{All-set}
 use Rattle.sled_codec.specs.History.{Message, History}
 use Rattle.sled_store.specs.Device.{Event, State, Wrote, Synced, overwritten, step}
-use Rattle.sled_store.specs.Script.{Along}
+use Rattle.sled_store.specs.inside.Script.{Along}
 use Rattle.sled_store.specs.SegmentStates.{Machine, is_free, slot_at}
 use Rattle.sled_core.specs.inside.Begun.{AreFilled, line_end}
 use Rattle.sled_core.specs.Begun.{SegmentParts, SegmentView, begin_of, records_to}

@@ -10,7 +10,8 @@ use Rattle.sled_codec.specs.Pointers.{lid_of}
 use Rattle.sled_store.specs.Begin.{filling, slots_of}
 use Rattle.sled_store.specs.Device.{Event, Trace, LogState, State, state_of, step, at_rest, LeavesLog}
 use Rattle.sled_store.specs.Moments.{AllLeft}
-use Rattle.sled_store.specs.Script.{Along, after_all}
+use Rattle.sled_store.specs.inside.Script.{Along}
+use Rattle.sled_store.specs.Script.{after_all}
 use Rattle.sled_store.specs.SegmentStates.{SlotState, left_after, cutting}
 use Rattle.sled_store.proofs.LogFile.LogLemmas.{at_rest_left, part_cut}
 use Rattle.sled_store.proofs.Segments.FilledLemmas.{filled, filling-log, slot_before}

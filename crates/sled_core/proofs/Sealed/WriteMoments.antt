@@ -4,7 +4,7 @@ use Rattle.sled_codec.specs.History.{History}
 use Rattle.sled_codec.specs.Snapshots.{SnapshotModel}
 use Rattle.sled_store.specs.Device.{Event, LogState, State, Wrote, Synced, LeavesLog, at_rest, log_step, overwritten, step, Placement}
 use Rattle.sled_store.specs.Foreign.{NoForeignLog}
-use Rattle.sled_store.specs.Script.{Along}
+use Rattle.sled_store.specs.inside.Script.{Along}
 use Rattle.sled_store.proofs.Histories.Ascending.{Ascends}
 use Rattle.sled_core.specs.Logged.{logged}
 use Rattle.sled_core.specs.OpenBatches.{stable_below}

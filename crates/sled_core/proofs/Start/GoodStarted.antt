@@ -13,7 +13,8 @@ use Rattle.sled_codec.specs.History.{Message, History}
 use Rattle.sled_codec.specs.Snapshots.{SnapshotModel, stable_place}
 use Rattle.sled_store.specs.Begin.{slots_of, is_used, unused, fill, filling}
 use Rattle.sled_store.specs.Device.{Event, Trace, State, Wrote, Cut, Synced, state_of, step, content_of, overwritten}
-use Rattle.sled_store.specs.Script.{Performs, Along, after_all}
+use Rattle.sled_store.specs.Script.{Performs, after_all}
+use Rattle.sled_store.specs.inside.Script.{Along}
 use Rattle.sled_store.specs.SegmentStates.{SlotState, may_be_cut, left_after, cutting}
 use Rattle.sled_store.specs.Started.{found, started}
 use Rattle.sled_store.proofs.Accounts.StartNext.{left_below, used_left}

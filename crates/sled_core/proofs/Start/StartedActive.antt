@@ -8,8 +8,9 @@ use Rattle.sled_store.specs.Begin.{slots_of, unused}
 use Rattle.sled_store.specs.Device.{State, Content, Trace, state_of, at_rest}
 use Rattle.sled_store.specs.Foreign.{NoForeignLog}
 use Rattle.sled_store.specs.Moments.{AllLeft}
-use Rattle.sled_store.specs.Script.{Along}
-use Rattle.sled_store.specs.Started.{found, left_slots, started}
+use Rattle.sled_store.specs.inside.Script.{Along}
+use Rattle.sled_store.specs.Started.{found, started}
+use Rattle.sled_store.specs.inside.Started.{left_slots}
 use Rattle.sled_store.proofs.Accounts.StartNext.{used_left}
 use Rattle.sled_store.proofs.Segments.FilledLemmas.{filled}
 use Rattle.sled_store.proofs.Accounts.StartedFile.{started_file, started_covered, free_begin}

@@ -5,7 +5,8 @@ use Rattle.sled_codec.specs.Snapshots.{SnapshotModel, stable_place}
 use Rattle.sled_store.specs.Begin.{slots_of, unused, fill, filling}
 use Rattle.sled_store.specs.Device.{Event, Trace, LogState, NamesState, State, Content, Leaves, Cut, Synced, state_of, step, at_rest}
 use Rattle.sled_store.specs.Moments.{AllLeft, LeavesOnly}
-use Rattle.sled_store.specs.Script.{Performs, Along, after_all}
+use Rattle.sled_store.specs.Script.{Performs, after_all}
+use Rattle.sled_store.specs.inside.Script.{Along}
 use Rattle.sled_store.specs.SegmentStates.{SlotState, may_be_cut, cutting}
 use Rattle.sled_store.specs.Started.{found, started}
 use Rattle.sled_store.proofs.Traces.ScriptLemmas.{performs_throughout, along_last}

@@ -3,7 +3,7 @@ use Rattle.std.proofs.Common.{◌≡◌, ◌≤◌, ◌<◌, ◌*◌, ◌∙◌,
 use Rattle.std.proofs.Math.Nat.{mul-le-mul_right}
 use Rattle.std.proofs.lemmas.List.{take-take}
 use Rattle.sled_store.specs.Device.{Event, LogState, State, at_rest, log_step, step, Cut, Synced}
-use Rattle.sled_store.specs.Script.{Along}
+use Rattle.sled_store.specs.inside.Script.{Along}
 use Rattle.sled_store.specs.SegmentStates.{SlotState, may_be_cut, left_after, cutting}
 use Rattle.sled_store.proofs.Accounts.StartNext.{left_below}
 use Rattle.sled_core.proofs.Torn.CutSlots.{after_cut}

@@ -6,7 +6,7 @@ use Rattle.std.proofs.lemmas.List.Elements.{All-tail, All-contains_itself}
 use Rattle.sled_codec.specs.Snapshots.{SnapshotModel}
 use Rattle.sled_store.specs.Begin.{slots_of, is_used, unused, fill, filling}
 use Rattle.sled_store.specs.Device.{Event, LogState, State, at_rest, step, Wrote, Synced}
-use Rattle.sled_store.specs.Script.{Along}
+use Rattle.sled_store.specs.inside.Script.{Along}
 use Rattle.sled_store.proofs.Segments.FilledLemmas.{filled, begins_in, free_below}
 use Rattle.sled_core.proofs.Torn.FilledSlots.{IsFilling, filling_begins, filling_goes}
 

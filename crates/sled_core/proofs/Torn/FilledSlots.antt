@@ -8,7 +8,7 @@ use Rattle.sled_codec.specs.Places.{part}
 use Rattle.sled_codec.specs.Record.{IsHeader}
 use Rattle.sled_store.specs.Begin.{fill}
 use Rattle.sled_store.specs.Device.{LogState, log_step, at_rest, Wrote, LeavesLog, Placement}
-use Rattle.sled_store.specs.Durable.{IsDurable}
+use Rattle.sled_store.specs.inside.Durable.{IsDurable}
 use Rattle.sled_store.specs.Foreign.{Covers, IsWhole, NoForeignLog}
 use Rattle.sled_store.proofs.LogFile.LogLemmas.{same_part, durable_at_rest, durable_written, durable_there, durable_byte}
 use Rattle.sled_store.proofs.LogFile.LooseLemmas.{end_of-le, firm_written}

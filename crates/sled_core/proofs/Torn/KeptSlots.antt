@@ -12,7 +12,8 @@ use Rattle.sled_store.specs.Begin.{filling}
 use Rattle.sled_store.specs.Device.{Event, Trace, LogState, State, Content, state_of, at_rest, LeavesLog, Placement}
 use Rattle.sled_store.specs.Foreign.{NoForeignLog}
 use Rattle.sled_store.specs.Moments.{AllLeft}
-use Rattle.sled_store.specs.Script.{Along, after_all}
+use Rattle.sled_store.specs.inside.Script.{Along}
+use Rattle.sled_store.specs.Script.{after_all}
 use Rattle.sled_store.specs.SegmentStates.{SlotState, left_after, cutting}
 use Rattle.sled_store.proofs.LogFile.LogLemmas.{at_rest_left}
 use Rattle.sled_store.proofs.Segments.Elements.{in_first, in_rest}

@@ -9,7 +9,7 @@ use Rattle.sled_codec.specs.History.{Message, History}
 use Rattle.sled_codec.specs.Snapshots.{SnapshotModel, stable_place}
 use Rattle.sled_store.specs.Blobs.{removing_blobs}
 use Rattle.sled_store.specs.Device.{Event, Wrote, Synced, BlobRemoved, SnapshotRemoved, LogState, NamesState, Temporary, State, log_step, placed_step, step, renamed, unnamed, names_synced, Placement}
-use Rattle.sled_store.specs.Durable.{IsSettledName}
+use Rattle.sled_store.specs.inside.Durable.{IsSettledName}
 use Rattle.sled_store.proofs.Crashes.ForeignLemmas.{before_knows}
 use Rattle.sled_store.proofs.Crashes.LeavesLemmas.{remove_blob}
 use Rattle.sled_store.proofs.Segments.Elements.{in_first, in_rest}

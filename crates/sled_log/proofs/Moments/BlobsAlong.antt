@@ -9,7 +9,7 @@ use Rattle.sled_codec.specs.Snapshots.{stable_place}
 use Rattle.sled_store.specs.Blobs.{IsBlob, removing_blobs}
 use Rattle.sled_store.specs.Device.{BlobRemoved, NamesState, Temporary, State, at_rest, unnamed, renamed, settled_files, LeavesName, Placement}
 use Rattle.sled_store.specs.Foreign.{NoForeignNames}
-use Rattle.sled_store.specs.Script.{Along}
+use Rattle.sled_store.specs.inside.Script.{Along}
 use Rattle.sled_store.proofs.Crashes.ForeignLemmas.{NamesKnow, before_knows}
 use Rattle.sled_store.proofs.Crashes.LeavesLemmas.{remove_blob}
 use Rattle.sled_store.proofs.Crashes.SettledLemmas.{name_settled_left}

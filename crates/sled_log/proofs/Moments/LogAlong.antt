@@ -6,7 +6,7 @@ use Rattle.sled_codec.specs.Snapshots.{SnapshotModel, stable_place}
 use Rattle.sled_store.specs.Blobs.{IsBlob}
 use Rattle.sled_store.specs.Device.{Event, Wrote, Synced, LogState, NamesState, Temporary, State, Content, step, at_rest, overwritten, settled_again, LeavesLog, LeavesName, Placement}
 use Rattle.sled_store.specs.Foreign.{NoForeignLog, NoForeignNames}
-use Rattle.sled_store.specs.Script.{Along}
+use Rattle.sled_store.specs.inside.Script.{Along}
 use Rattle.sled_store.specs.SnapshotFiles.{IsSnapshotFile}
 use Rattle.sled_store.proofs.Crashes.ForeignLemmas.{Knows, own_log, own_names, before_knows, torn_knows}
 use Rattle.sled_store.proofs.Crashes.LeavesLemmas.{Asked, write, before_leaves, torn_leaves}

@@ -6,10 +6,10 @@ use Rattle.sled_codec.specs.History.{History, CutFits}
 use Rattle.sled_codec.specs.PageTables.{IsTable}
 use Rattle.sled_codec.specs.Snapshots.{SnapshotModel, stable_place}
 use Rattle.sled_store.specs.Device.{Event, State, Synced, NamesSynced, Content, Trace, state_of, content_of, step, names_synced, settled_again}
-use Rattle.sled_store.specs.Durable.{IsSettledName}
+use Rattle.sled_store.specs.inside.Durable.{IsSettledName}
 use Rattle.sled_store.specs.Blobs.{MayGo}
 use Rattle.sled_store.specs.Moments.{Throughout}
-use Rattle.sled_store.specs.Script.{Along}
+use Rattle.sled_store.specs.inside.Script.{Along}
 use Rattle.sled_store.specs.Foreign.{NoForeignLog}
 use Rattle.sled_store.proofs.Crashes.SettledLemmas.{before_sync}
 use Rattle.sled_store.proofs.Crashes.SyncedLemmas.{snapshots_firm}

@@ -7,7 +7,7 @@ use Rattle.sled_codec.specs.PageTables.{IsTable}
 use Rattle.sled_codec.specs.Snapshots.{SnapshotModel, FitsSnapshot, short_snapshot, stable_place}
 use Rattle.sled_codec.specs.SnapshotLaws.{short_spells-snapshot}
 use Rattle.sled_store.specs.Device.{NameState, NamesState, LeavesName, renamed, names_synced}
-use Rattle.sled_store.specs.Durable.{IsSettledName}
+use Rattle.sled_store.specs.inside.Durable.{IsSettledName}
 use Rattle.sled_store.proofs.Names.NamesLemmas.{settled_name_left, after_renamed}
 use Rattle.sled_core.specs.inside.Recoverable.{IsTableFile, AreRecoverableSnapshots, ActiveFits}
 use Rattle.sled_log.specs.WritesBack.{short_file}

@@ -6,8 +6,8 @@ use Rattle.std.proofs.lemmas.List.{append-nil, append_assoc}
 use Rattle.sled_codec.specs.History.{History, CutFits}
 use Rattle.sled_codec.specs.Snapshots.{SnapshotModel, stable_place}
 use Rattle.sled_store.specs.Device.{Event, SnapshotFilled, SnapshotPublished, SnapshotRemoved, NamesSynced, NamesState, Temporary, State, at_rest, unnamed, renamed, names_synced, Placement}
-use Rattle.sled_store.specs.Durable.{IsSettledName}
-use Rattle.sled_store.specs.Script.{Along}
+use Rattle.sled_store.specs.inside.Durable.{IsSettledName}
+use Rattle.sled_store.specs.inside.Script.{Along}
 use Rattle.sled_store.proofs.Crashes.LeavesLemmas.{fill, publish, remove_snapshot}
 use Rattle.sled_store.proofs.LogFile.LogLemmas.{at_rest_left}
 use Rattle.sled_store.proofs.Segments.Elements.{in_first, in_rest}

@@ -15,7 +15,8 @@ use Rattle.sled_store.specs.Chosen.{MayBeChosen, MayBeLeft}
 use Rattle.sled_store.specs.Device.{Event, Left, Trace, State, Content, Crashed, Settled, state_of, fresh, step, content_left, Leaves, names_at_rest}
 use Rattle.sled_store.specs.Moments.{IsLater}
 use Rattle.sled_store.specs.Noted.{left_of}
-use Rattle.sled_store.specs.Script.{Performs, Along}
+use Rattle.sled_store.specs.Script.{Performs}
+use Rattle.sled_store.specs.inside.Script.{Along}
 use Rattle.sled_store.specs.Stops.{KeepsToStop}
 use Rattle.sled_store.proofs.LogFile.LogLemmas.{at_rest_left}
 use Rattle.sled_store.proofs.Names.NamesLemmas.{settled_name_left, settled_name_at_rest}

@@ -7,7 +7,7 @@ use Rattle.std.specs.Cmp.{signed_Decides}
 use Rattle.sled_codec.specs.History.{History}
 use Rattle.sled_codec.specs.Snapshots.{SnapshotModel, stable_place}
 use Rattle.sled_store.specs.Device.{NamesState, LeavesName, renamed, unnamed, names_synced}
-use Rattle.sled_store.specs.Durable.{IsSettledName}
+use Rattle.sled_store.specs.inside.Durable.{IsSettledName}
 use Rattle.sled_store.proofs.Names.NamesLemmas.{settled_name_left, settled_name_synced, file_renamed, after_unnamed}
 use Rattle.sled_store.proofs.Crashes.SyncedLemmas.{firm_renamed}
 use Rattle.sled_core.specs.inside.Recoverable.{AreRecoverableSnapshots}

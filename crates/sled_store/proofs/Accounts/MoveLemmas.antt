@@ -10,7 +10,7 @@ use Rattle.std.specs.BTreeSet.{insert_key}
 use Rattle.std.specs.Set.{remove_key}
 use Rattle.std.proofs.lemmas.Cmp.{tied_itself}
 use Rattle.sled_store.specs.SegmentStates.{SlotState, slots_by, beside, by_place, waited_place, waiting_among, free_slot}
-use Rattle.sled_store.specs.Stabilizing.{not_beside}
+use Rattle.sled_store.specs.inside.Stabilizing.{not_beside}
 use Rattle.sled_store.proofs.Accounts.IndexLemmas.{apart, by_place_total, slots_by_was, slots_by_set, length_slots_by_less}
 
 -- a slot is not among these

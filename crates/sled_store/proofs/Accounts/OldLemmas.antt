@@ -8,7 +8,8 @@ use Rattle.sled_codec.specs.declared.result.DiskPtr.TheVariants.{Inline, Blob}
 use Rattle.sled_codec.specs.Pointers.{lid_of}
 use Rattle.sled_store.specs.declared.segment.slot.CacheInfo.{CacheInfo}
 use Rattle.sled_store.specs.SegmentStates.{SlotState, Machine, free_slot, slot_at, with_slot, is_free, is_sparse, drained, drained_slot, replaced_slot, replaced_one, replaced_all, outdated, all_outdated, LiesIn, linked, linked_slot, outdating}
-use Rattle.sled_store.specs.Accounts.{IsUsed, slot_state}
+use Rattle.sled_store.specs.inside.Accounts.{IsUsed}
+use Rattle.sled_store.specs.Accounts.{slot_state}
 use Rattle.sled_store.specs.declared.segment.slot.Slot.{Slot}
 use Rattle.sled_store.proofs.Accounts.SortedLemmas.{length_inserted}
 use Rattle.sled_store.proofs.Accounts.HandLemmas.{cases_eq}

@@ -14,7 +14,7 @@ use Rattle.std.proofs.lemmas.Bool.Decides.{nat_tests}
 use Rattle.std.proofs.lemmas.Map.Keys.{sorted_head, sorted_tail, Less-from_sorted}
 use Rattle.std.proofs.lemmas.List.Elements.{All-from_recursion, All-tail}
 use Rattle.sled_store.specs.SegmentStates.{by_place}
-use Rattle.sled_store.specs.Stabilizing.{slots_at}
+use Rattle.sled_store.specs.inside.Stabilizing.{slots_at}
 use Rattle.sled_store.proofs.Accounts.StabilIndex.{same_is}
 
 -- Where a key belongs.

@@ -7,7 +7,7 @@ use Rattle.std.specs.Set.{remove_key}
 use Rattle.sled_store.specs.declared.segment.slot.State.{State}
 use Rattle.sled_store.specs.declared.segment.slot.State.TheVariants.{Free, Active, Inactive, Draining}
 use Rattle.sled_store.specs.SegmentStates.{SlotState, is_free, is_active, is_inactive, is_draining, is_done, same_pages, slots_by, free_among, active_place, waited_place, free_slot, slot_at, inactive_slot, by_place}
-use Rattle.sled_store.specs.Stabilizing.{not_beside}
+use Rattle.sled_store.specs.inside.Stabilizing.{not_beside}
 use Rattle.sled_store.specs.declared.segment.slot.Slot.{Slot}
 use Rattle.sled_store.specs.declared.segment.accountant.SegmentAccountant.{SegmentAccountant}
 use Rattle.sled_store.specs.Accounts.{AreSlots, AreIndexes, slot_state, machine_of}

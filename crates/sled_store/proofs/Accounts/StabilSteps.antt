@@ -5,7 +5,7 @@ use Rattle.sled_store.specs.Answers.{Tears}
 use Rattle.sled_store.specs.Blobs.{removing_blobs}
 use Rattle.sled_store.specs.Device.{Event, Trace, BlobRemoved}
 use Rattle.sled_store.specs.Script.{Performs, after_all}
-use Rattle.sled_store.specs.Stabilizing.{MakesStep}
+use Rattle.sled_store.specs.inside.Stabilizing.{MakesStep}
 use Rattle.sled_store.specs.declared.segment.accountant.SegmentAccountant.{SegmentAccountant}
 use Rattle.sled_codec.specs.declared.result.Error.{Error}
 use Rattle.sled_store.specs.SegmentStates.{Machine, Step, followed_by, without_calls, in_turn}

@@ -5,7 +5,7 @@ use Rattle.std.specs.BTreeSet.{insert_key}
 use Rattle.sled_store.specs.SegmentStates.{SlotState, slots_where, slots_by, beside, by_place, is_free, is_inactive, is_active, active_place, active_among}
 use Rattle.sled_store.specs.declared.segment.slot.State.{State}
 use Rattle.sled_store.specs.declared.segment.slot.State.TheVariants.{Free, Active, Inactive, Draining}
-use Rattle.sled_store.specs.Starting.{AreNoted}
+use Rattle.sled_store.specs.inside.Starting.{AreNoted}
 use Rattle.sled_store.proofs.Accounts.IndexLemmas.{beside_commutes, slots_where_push, slots_by_push, length_slots_where, length_slots_by}
 use Rattle.sled_store.proofs.Accounts.StabilIndex.{greater_is}
 

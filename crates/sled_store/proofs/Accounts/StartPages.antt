@@ -15,7 +15,7 @@ use Rattle.sled_store.specs.SegmentStates.{SlotState, counted, linked_slot, free
 use Rattle.sled_store.specs.declared.segment.slot.Slot.{Slot}
 use Rattle.sled_store.specs.Accounts.{slot_state}
 use Rattle.sled_store.specs.Started.{pages_in}
-use Rattle.sled_store.specs.Starting.{entry_linked, entries_linked, pages_linked}
+use Rattle.sled_store.specs.inside.Starting.{entry_linked, entries_linked, pages_linked}
 use Rattle.sled_store.proofs.Accounts.AccountLemmas.{length_states}
 use Rattle.sled_store.proofs.Accounts.StabilIndex.{same_is, greater_is}
 

@@ -14,7 +14,7 @@ use Rattle.sled_store.specs.SlotTables.{number_in, active_entry, IsSlotTable}
 use Rattle.sled_store.specs.SegmentStates.{SlotState, free_slot, is_free, waited_place, waiting_among, slots_by, counted}
 use Rattle.sled_store.specs.Accounts.{AreSlots}
 use Rattle.sled_store.specs.Started.{pages_in, all_entries, used_state, found_slot, found}
-use Rattle.sled_store.specs.Starting.{begun_slot, pages_linked, FillsSlots}
+use Rattle.sled_store.specs.inside.Starting.{begun_slot, pages_linked, FillsSlots}
 use Rattle.sled_store.proofs.Segments.EntryLemmas.{no_sizes}
 use Rattle.sled_store.proofs.Accounts.StartPages.{pages_read, length_pages_linked}
 

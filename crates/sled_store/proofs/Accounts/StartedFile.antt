@@ -10,7 +10,8 @@ use Rattle.sled_store.specs.Begin.{slots_of, is_used, unused, filling}
 use Rattle.sled_store.specs.Device.{Trace, LogState, state_of, at_rest, Cut, Synced}
 use Rattle.sled_store.specs.Script.{after_all}
 use Rattle.sled_store.specs.SegmentStates.{SlotState, may_be_cut, left_after, cutting}
-use Rattle.sled_store.specs.Started.{found, left_slots, started}
+use Rattle.sled_store.specs.Started.{found, started}
+use Rattle.sled_store.specs.inside.Started.{left_slots}
 use Rattle.sled_store.proofs.Accounts.StartNext.{left_below, used_left}
 use Rattle.sled_store.proofs.LogFile.LogLemmas.{part_cut}
 use Rattle.sled_store.proofs.Segments.FilledLemmas.{filled, filling-log, filling-snapshots, filling-blobs, filled_grows, filled_covered, filled_part, filled_byte, filled_zero, free_below, slot_before, begins_in}

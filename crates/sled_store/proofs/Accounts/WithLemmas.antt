@@ -5,7 +5,8 @@ use Rattle.std.specs.List.{All}
 use Rattle.sled_store.specs.SegmentStates.{SlotState, Machine, free_slot, is_free, is_inactive, active_place, waited_place, with_slot, has_page}
 use Rattle.sled_store.specs.declared.segment.slot.Slot.{Slot}
 use Rattle.sled_store.specs.declared.segment.accountant.SegmentAccountant.{SegmentAccountant}
-use Rattle.sled_store.specs.Accounts.{slot_state, machine_of, AreSlots, AreIndexes, IsAccountant, HasRoomToDrain, HasRoomForGone, HasRoomForBlobs, GoneFits}
+use Rattle.sled_store.specs.Accounts.{slot_state, machine_of, AreSlots, AreIndexes, IsAccountant, HasRoomToDrain}
+use Rattle.sled_store.specs.inside.Accounts.{HasRoomForGone, HasRoomForBlobs, GoneFits}
 use Rattle.sled_store.proofs.Accounts.AccountLemmas.{state_at, states_set, length_states, updated_account}
 use Rattle.sled_store.proofs.Accounts.IndexLemmas.{set_again}
 use Rattle.sled_store.proofs.Accounts.ChangeLemmas.{changed_slots, changed_indexes}

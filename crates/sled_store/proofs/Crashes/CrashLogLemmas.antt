@@ -4,7 +4,7 @@ use Rattle.std.proofs.lemmas.Bool.Decides.{Decides-eqb, Decides-ltb, Decides-by_
 use Rattle.std.proofs.lemmas.List.{get_or-set_other}
 use Rattle.sled_store.specs.declared.device.memory.log_file.MemLog.{MemLog}
 use Rattle.sled_store.specs.Device.{LogState, LeavesLog, patched}
-use Rattle.sled_store.specs.Memory.{Stands, is_unsynced_at, are_in, are_kept}
+use Rattle.sled_store.specs.inside.Memory.{Stands, is_unsynced_at, are_in, are_kept}
 use Rattle.sled_store.proofs.LogFile.LooseLemmas.{either_false}
 
 pub length-patched : (bytes : List ℕ) (patch : List (ℕ × ℕ)) → length (patched bytes patch) ≡ length bytes

@@ -4,7 +4,7 @@ use Rattle.std.proofs.lemmas.Bool.Decides.{nat_tests}
 use Rattle.std.proofs.lemmas.List.{get_or-take, get_or-drop}
 use Rattle.std.proofs.lemmas.Grind.{same_number_lists}
 use Rattle.sled_store.specs.Device.{LogState, log_step, at_rest, overwritten, end_of, LeavesLog, Wrote, Cut}
-use Rattle.sled_store.specs.Durable.{IsDurable}
+use Rattle.sled_store.specs.inside.Durable.{IsDurable}
 use Rattle.sled_store.proofs.LogFile.OverwrittenLemmas.{length-overwritten, overwritten-below, overwritten-above}
 use Rattle.sled_store.proofs.LogFile.LooseLemmas.{end_of-le, firm_written, firm_cut}
 

@@ -3,7 +3,7 @@ use Rattle.std.proofs.Common.{◌≡◌, ◌⊎◌, ◌≤◌, ◌<◌, ◌+◌,
 use Rattle.std.proofs.lemmas.Bool.{cases_lt}
 use Rattle.sled_store.specs.declared.device.memory.log_file.MemLog.{MemLog}
 use Rattle.sled_store.specs.Device.{LogState, log_step, overwritten, end_of, Wrote}
-use Rattle.sled_store.specs.Memory.{Stands, is_within, is_unsynced_at}
+use Rattle.sled_store.specs.inside.Memory.{Stands, is_within, is_unsynced_at}
 use Rattle.sled_store.proofs.LogFile.LooseLemmas.{end_of-some, end_of-le, either_false, or-true, or-swap, inside, within_cut, unwritten}
 use Rattle.sled_store.proofs.LogFile.OverwrittenLemmas.{length-overwritten}
 

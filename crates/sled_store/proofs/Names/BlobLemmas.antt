@@ -8,7 +8,8 @@ use Rattle.std.specs.Ordering.{int_cmp}
 use Rattle.std.specs.List.Sorted.{IsStrictlySortedBy}
 use Rattle.std.proofs.lemmas.List.Elements.{filter-append, filter_more, filter_passes}
 use Rattle.std.proofs.lemmas.List.Kept.{IsStrictlySortedBy-filter}
-use Rattle.sled_store.specs.Blobs.{removing_blobs, from_place, AreFrom}
+use Rattle.sled_store.specs.Blobs.{removing_blobs, AreFrom}
+use Rattle.sled_store.specs.inside.Blobs.{from_place}
 use Rattle.sled_store.specs.Device.{Event, Trace, BlobRemoved}
 use Rattle.sled_store.specs.Script.{Performs, after_all}
 use Rattle.sled_store.proofs.Traces.ScriptLemmas.{after_joined, performs_behind, performs_more}

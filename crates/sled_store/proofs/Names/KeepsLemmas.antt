@@ -17,7 +17,7 @@ use Rattle.std.specs.List.{filter, AllByRecursion}
 use Rattle.sled_store.specs.declared.device.memory.named_files.version.FileVersion.{FileVersion}
 use Rattle.sled_store.specs.declared.device.memory.named_files.MemNames.{MemNames}
 use Rattle.sled_store.specs.Device.{NameState, NamesState, renamed, unnamed, file_synced, names_synced, names_at_rest, settled_files}
-use Rattle.sled_store.specs.MemoryNames.{absent, state_kept, states_of, latest, without_file, firm, firm_file, file_settled, files_found, files_under, IsNoted, Keeps}
+use Rattle.sled_store.specs.inside.MemoryNames.{absent, state_kept, states_of, latest, without_file, firm, firm_file, file_settled, files_found, files_under, IsNoted, Keeps}
 use Rattle.sled_store.proofs.Names.KeptLemmas.{states-push}
 
 abbrev pub KeptMap : Type 0

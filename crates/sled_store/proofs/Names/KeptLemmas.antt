@@ -3,7 +3,7 @@ use Rattle.std.proofs.Common.{◌≡◌, ◌<◌, ◌≤◌, ◌+◌, ℕ, suc, 
 use Rattle.std.proofs.lemmas.List.{take_more, take_all, drop_all, set_split}
 use Rattle.sled_store.specs.declared.device.memory.named_files.version.FileVersion.{FileVersion}
 use Rattle.sled_store.specs.Device.{NameState, settled_file}
-use Rattle.sled_store.specs.MemoryNames.{absent, state_kept, upon, history, states_of, latest, without_file, firm, firm_file, file_settled}
+use Rattle.sled_store.specs.inside.MemoryNames.{absent, state_kept, upon, history, states_of, latest, without_file, firm, firm_file, file_settled}
 
 -- one more file
 history-push : (was : List NameState) (xs : List FileVersion) (e : FileVersion) → history was (xs ++ e ∷ []) ≡ upon (history was xs) e

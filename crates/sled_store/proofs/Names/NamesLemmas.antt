@@ -2,7 +2,7 @@
 use Rattle.std.proofs.Common.{◌≡◌, ◌⊎◌, ◌&&◌, ℤ, ℕ, Bool, true, false, not, is_some, if◌then◌else◌, List, [], ◌∷◌, Option, Some, None, refl, ap, subst, inl, inr}
 use Rattle.std.specs.Ordering.{int_eq}
 use Rattle.sled_store.specs.Device.{NameState, NamesState, LeavesFile, LeavesOneOf, LeavesName, renamed, unnamed, names_synced, names_at_rest, file_synced}
-use Rattle.sled_store.specs.Durable.{IsSettledName}
+use Rattle.sled_store.specs.inside.Durable.{IsSettledName}
 
 firm_left : (file left : Option (List ℕ)) → LeavesFile file false left → left ≡ file
 firm_left None left is = is

@@ -12,7 +12,7 @@ use Rattle.sled_store.specs.declared.device.memory.named_files.MemNames.{MemName
 use Rattle.sled_store.specs.Device.{NameState, NamesState, LeavesFile, LeavesOneOf, LeavesName, file_named}
 use Rattle.sled_store.specs.Noted.{files_of}
 use Rattle.sled_store.specs.Chosen.{are_ascending}
-use Rattle.sled_store.specs.MemoryNames.{absent, states_of, files_found, files_under, leaves_file, leaves_any, Keeps}
+use Rattle.sled_store.specs.inside.MemoryNames.{absent, states_of, files_found, files_under, leaves_file, leaves_any, Keeps}
 use Rattle.sled_store.proofs.Names.KeepsLemmas.{at_same}
 use Rattle.sled_store.proofs.LogFile.LooseLemmas.{or-true}
 

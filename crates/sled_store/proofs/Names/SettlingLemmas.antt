@@ -5,7 +5,7 @@ use Rattle.std.proofs.lemmas.Bool.Decides.{Decides-int_eq}
 use Rattle.std.proofs.lemmas.List.Elements.{Contains-push_cases}
 use Rattle.sled_store.specs.declared.device.memory.named_files.MemNames.{MemNames}
 use Rattle.sled_store.specs.Device.{NameState, NamesState, names_synced}
-use Rattle.sled_store.specs.MemoryNames.{states_of, latest, files_under, IsNoted, Keeps}
+use Rattle.sled_store.specs.inside.MemoryNames.{states_of, latest, files_under, IsNoted, Keeps}
 use Rattle.sled_store.proofs.Names.KeepsLemmas.{KeptMap, states_at, latest-is}
 
 abbrev pub state_at : NamesState → ℤ → NameState

@@ -13,7 +13,8 @@ use Rattle.std.proofs.lemmas.List.Folds.{list_any-append}
 use Rattle.sled_codec.specs.Snapshots.{Entry}
 use Rattle.sled_store.specs.declared.segment.slot_table.SlotTable.{SlotTable}
 use Rattle.sled_store.specs.Begin.{slot_of, segment_number_of, sizes_in, AreApart}
-use Rattle.sled_store.specs.SlotTables.{number_in, sum_in, AreFit, IsSlotTable}
+use Rattle.sled_store.specs.SlotTables.{number_in, AreFit, IsSlotTable}
+use Rattle.sled_store.specs.inside.SlotTables.{sum_in}
 use Rattle.sled_store.proofs.Segments.EntryLemmas.{same_number, first_in, none_in, of_segment, none_of, sizes_push, no_sizes, or_else, number_push}
 
 -- A key of a map, and others.

@@ -3,7 +3,8 @@ use Rattle.std.proofs.Common.{◌≡◌, ◌⊎◌, List, [], ◌∷◌, ◌++�
 use Rattle.sled_store.specs.Device.{Event, Trace, State, state_of, step}
 use Rattle.sled_store.specs.Moments.{IsLater, Throughout}
 use Rattle.sled_store.specs.Answers.{Tears}
-use Rattle.sled_store.specs.Script.{Stops, Performs, Along, after_all}
+use Rattle.sled_store.specs.Script.{Stops, Performs, after_all}
+use Rattle.sled_store.specs.inside.Script.{Along}
 use Rattle.sled_store.proofs.Traces.MomentLemmas.{started, added, stays, joined}
 
 -- At an exit: no more calls were made.

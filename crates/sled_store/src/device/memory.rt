@@ -4,8 +4,8 @@
 //! alone. A ghost field ties the two, so that each answer is that of the trace.
 ghost use Rattle.std.specs.Prelude.{◌≡◌, ◌<◌, ◌+◌, ◌/◌, ◌⊎◌, [], ◌∷◌, None, false, length, take};
 ghost use Rattle.sled_store.specs.Device.{state_of, Wrote};
-ghost use Rattle.sled_store.specs.Memory.{Stands};
-ghost use Rattle.sled_store.specs.MemoryNames.{Keeps};
+ghost use Rattle.sled_store.specs.inside.Memory.{Stands};
+ghost use Rattle.sled_store.specs.inside.MemoryNames.{Keeps};
 
 mod crash;
 mod faults;
@@ -40,7 +40,7 @@ pub struct MemDevice {
 
 impl MemDevice {
     ghost use Rattle.sled_store.specs.Due.{Awaits, stops_in, is_stopped, trace_of};
-    ghost use Rattle.sled_store.specs.Memory.{has_room};
+    ghost use Rattle.sled_store.specs.inside.Memory.{has_room};
 
     /// An empty device. It takes no memory.
     pub fn new(alloc: Global) -> MemDevice
@@ -88,7 +88,7 @@ impl MemDevice {
 }
 
 impl Device for MemDevice {
-    ghost use Rattle.sled_store.specs.Due.{Obeys};
+    ghost use Rattle.sled_store.specs.inside.Due.{Obeys};
 
     ghost trace = { λ device. device.story.trace.events };
 

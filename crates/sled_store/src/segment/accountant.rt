@@ -7,9 +7,11 @@ ghost use Rattle.std.specs.Prelude.{◌≡◌, ◌↔◌, ◌≤ℤ◌, ◌≤�
 ghost use Rattle.std.specs.List.{All};
 ghost use Rattle.sled_codec.specs.Pointers.{lid_of};
 ghost use Rattle.sled_store.specs.declared.segment.slot.Slot.{Slot as SlotRecord};
-ghost use Rattle.sled_store.specs.SegmentStates.{LiesIn, MayMark, is_active, segment_in, slot_at, unused_machine, with_free_slot, next_slot, handed_out, linked, popped, first_page};
+ghost use Rattle.sled_store.specs.SegmentStates.{LiesIn, MayMark, is_active, segment_in, slot_at, unused_machine, next_slot, handed_out, linked, popped, first_page};
+ghost use Rattle.sled_store.specs.inside.SegmentStates.{with_free_slot};
 ghost use Rattle.sled_store.specs.Accounts.{IsAccountant, machine_of, size_of, MayHandOut, NextAnswers};
-ghost use Rattle.sled_store.specs.Accounts.{HasRooms, HasRoomToClean, HasRoomToLink, HasRoomForBlobs, GoneFits};
+ghost use Rattle.sled_store.specs.Accounts.{HasRooms, HasRoomToClean};
+ghost use Rattle.sled_store.specs.inside.Accounts.{HasRoomToLink, HasRoomForBlobs, GoneFits};
 
 mod freeing;
 mod replacing;

@@ -3,7 +3,8 @@ ghost use Rattle.std.specs.Prelude.{ℕ, ◌≡◌, ◌↔◌, false, [], ◌∷
 ghost use Rattle.std.specs.Ordering.{nat_cmp};
 ghost use Rattle.std.specs.BTreeSet.{insert_key};
 ghost use Rattle.sled_store.specs.SegmentStates.{inactive_slot, free_slot, taken_slot, linked_slot, replaced_slot, outdated, has_page, is_free, is_active, is_sparse, is_done, is_draining, waited_place, left_pages, drained_slot, segment_in};
-ghost use Rattle.sled_store.specs.Accounts.{slot_state, HasRoomToDrain, HasRoomForGone, HasRoomForBlobs, HasRoomToLink};
+ghost use Rattle.sled_store.specs.Accounts.{slot_state, HasRoomToDrain};
+ghost use Rattle.sled_store.specs.inside.Accounts.{HasRoomForGone, HasRoomForBlobs, HasRoomToLink};
 
 use crate::segment::sorted::SortedSet;
 use sled_codec::result::{DiskPtr, Lsn, PageId};

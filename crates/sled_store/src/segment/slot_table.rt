@@ -9,7 +9,8 @@ ghost use Rattle.std.specs.Ordering.{nat_cmp};
 ghost use Rattle.sled_codec.specs.Errors.{IsCorruption, IsDecodeError};
 ghost use Rattle.sled_codec.specs.Snapshots.{Entry, Uninitialized, page_of};
 ghost use Rattle.sled_store.specs.Begin.{entries_in, entries_of, IsPlacedIn, MayBeActive};
-ghost use Rattle.sled_store.specs.SlotTables.{IsSlotTable, AreFit, sum_in, active_entry};
+ghost use Rattle.sled_store.specs.SlotTables.{IsSlotTable, AreFit, active_entry};
+ghost use Rattle.sled_store.specs.inside.SlotTables.{sum_in};
 
 use crate::segment::{MAX_MSG_HEADER_LEN, may_begin};
 use sled_codec::result::{DiskPtr, Error, LogOffset, Result};

@@ -1,7 +1,8 @@
 use Rattle.std.proofs.Common.{◌≡◌, ℤ, List, [], refl, inl, inr, subst, Result, OnOk, Ok, Err}
 use Rattle.std.specs.Int.{w64, cast_signed, cast_unsigned}
 use Rattle.std.proofs.lemmas.Int.{to_z-of_z}
-use Rattle.sled_store.specs.Blobs.{removing_blobs, from_place}
+use Rattle.sled_store.specs.Blobs.{removing_blobs}
+use Rattle.sled_store.specs.inside.Blobs.{from_place}
 use Rattle.sled_store.specs.Device.{Trace, state_of}
 use Rattle.sled_store.specs.Script.{Performs, after_all}
 use Rattle.sled_store.proofs.Names.BlobLemmas.{are_from}

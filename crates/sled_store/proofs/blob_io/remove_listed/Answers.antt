@@ -2,7 +2,8 @@ use Rattle.std.proofs.Common.{◌≡◌, ◌∙◌, ℤ, List, subst, pos, take}
 use Rattle.std.proofs.lemmas.List.{take_all}
 use Rattle.std.specs.Int.{w64, cast_signed, cast_unsigned}
 use Rattle.std.proofs.lemmas.Int.{to_z-of_z}
-use Rattle.sled_store.specs.Blobs.{removing_blobs, from_place}
+use Rattle.sled_store.specs.Blobs.{removing_blobs}
+use Rattle.sled_store.specs.inside.Blobs.{from_place}
 use Rattle.sled_store.specs.Device.{Trace}
 use Rattle.sled_store.specs.Script.{Performs, after_all}
 use Rattle.sled_store.proofs.Names.BlobLemmas.{removed_more, removals_begun}

@@ -1,6 +1,7 @@
 -- So far: the blobs up to here were removed, from that place on, and nothing else was done.
 use Rattle.std.proofs.Common.{◌≡◌, take}
-use Rattle.sled_store.specs.Blobs.{removing_blobs, from_place}
+use Rattle.sled_store.specs.Blobs.{removing_blobs}
+use Rattle.sled_store.specs.inside.Blobs.{from_place}
 use Rattle.sled_store.specs.Script.{after_all}
 use Rattle.sled_store.proofs.blob_io.remove_listed.Given as goal
 

@@ -4,7 +4,7 @@ ghost use Rattle.std.specs.Prelude.{◌≡◌, ◌≢◌, ◌↔◌, ◌+◌, �
 ghost use Rattle.std.specs.IoError.{error_kind};
 ghost use Rattle.std.specs.declared.io.ErrorKind.TheVariants.{Other};
 ghost use Rattle.sled_store.specs.Answers.{Counts};
-ghost use Rattle.sled_store.specs.Stops.{one_fewer};
+ghost use Rattle.sled_store.specs.inside.Stops.{one_fewer};
 
 use std::io;
 

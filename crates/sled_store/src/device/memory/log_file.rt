@@ -1,10 +1,10 @@
 //! A log file in memory, with all that a crash may leave of it.
 //!
 //! It knows of no trace. Its clauses say that where it stands for a state, it stands for the next one
-//! after each call (`specs/Memory.antt`).
+//! after each call (`specs/inside/Memory.antt`).
 ghost use Rattle.std.specs.Prelude.{◌≡◌, ◌≤◌, ◌<◌, ◌+◌, ◌-◌, ◌^◌, ℕ, [], ◌∷◌, ◌++◌, length, take, drop, replicate, slice_index, vec_len, vec_capacity, IsOk, OnOk, OnErr, true, false, min};
 ghost use Rattle.sled_store.specs.Device.{LogState, at_rest, log_step, overwritten, Wrote, Cut, Synced};
-ghost use Rattle.sled_store.specs.Memory.{Stands, is_within, has_room};
+ghost use Rattle.sled_store.specs.inside.Memory.{Stands, is_within, has_room};
 
 use std::alloc::{AllocError, Global};
 

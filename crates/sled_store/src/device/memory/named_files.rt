@@ -2,14 +2,14 @@
 //!
 //! Under each name are the files that were made since names were last settled, so that a call is a look-up.
 //! Its clauses say that where it stands for a state, it stands for the next one after each call
-//! (`specs/MemoryNames.antt`).
+//! (`specs/inside/MemoryNames.antt`).
 ghost use Rattle.std.specs.Prelude.{◌≡◌, ◌↔◌, ℤ, ℕ, List, [], ◌∷◌, None, Some, IsSome, IfOk, OnOk, OnErr, MatchOption, Contains, true, false, is_some, IfErr};
 ghost use Rattle.std.specs.Ordering.{int_cmp, int_eq};
 ghost use Rattle.std.specs.List.Sorted.{IsStrictlySortedBy};
 ghost use Rattle.std.specs.declared.io.ErrorKind.TheVariants.{NotFound};
 ghost use Rattle.sled_store.specs.Answers.{is_fault, FailsWantsOrSays};
 ghost use Rattle.sled_store.specs.Device.{NamesState, names_at_rest, renamed, unnamed, file_synced, names_synced};
-ghost use Rattle.sled_store.specs.MemoryNames.{Keeps, IsNoted, files_under, states_of, latest};
+ghost use Rattle.sled_store.specs.inside.MemoryNames.{Keeps, IsNoted, files_under, states_of, latest};
 
 pub(crate) mod version;
 

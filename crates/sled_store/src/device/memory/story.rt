@@ -7,9 +7,10 @@ ghost use Rattle.std.specs.IoError.{error_kind};
 ghost use Rattle.std.specs.declared.io.ErrorKind.TheVariants.{Other};
 ghost use Rattle.sled_store.specs.Answers.{Counts};
 ghost use Rattle.sled_store.specs.Device.{Left, Wrote, StopAsked, Crashed};
-ghost use Rattle.sled_store.specs.MemoryStops.{FollowsStop};
-ghost use Rattle.sled_store.specs.Noted.{event_of};
-ghost use Rattle.sled_store.specs.Stops.{is_done, is_sync, left_to_do, one_fewer};
+ghost use Rattle.sled_store.specs.inside.MemoryStops.{FollowsStop};
+ghost use Rattle.sled_store.specs.inside.Noted.{event_of};
+ghost use Rattle.sled_store.specs.Stops.{is_done, is_sync, left_to_do};
+ghost use Rattle.sled_store.specs.inside.Stops.{one_fewer};
 
 use crate::device::memory::faults::Faults;
 use crate::device::memory::trace::{GhostTrace, Note};

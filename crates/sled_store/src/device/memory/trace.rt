@@ -75,7 +75,7 @@ pub(crate) enum Note<'a> {
 }
 
 impl GhostTrace {
-    ghost use Rattle.sled_store.specs.Noted.{event_of};
+    ghost use Rattle.sled_store.specs.inside.Noted.{event_of};
 
     // Nothing was asked yet.
     pub(crate) fn new() -> GhostTrace

@@ -8,7 +8,8 @@ ghost use Rattle.std.specs.Set.{remove_key};
 ghost use Rattle.sled_store.specs.Blobs.{RemoveAnswers, removing_blobs};
 ghost use Rattle.sled_store.specs.Script.{Performs, after_all};
 ghost use Rattle.sled_store.specs.SegmentStates.{slot_at, active_place, by_place, with_slot, inactive_slot, stabilized, deactivated, freed, tested, freed_if_done, is_done, is_active_place, is_wasteful, drained_if_sparse, drained_if_wasteful};
-ghost use Rattle.sled_store.specs.Stabilizing.{not_beside, slots_at, waiting_freed, emptied, cut_back, MayCut, shorter, cutting_last, MakesStep};
+ghost use Rattle.sled_store.specs.inside.Stabilizing.{not_beside, slots_at, waiting_freed, emptied, MayCut, shorter, cutting_last, MakesStep};
+ghost use Rattle.sled_store.specs.Stabilizing.{cut_back};
 ghost use Rattle.sled_store.specs.Accounts.{IsAccountant, machine_of, size_of};
 
 use crate::segment::accountant::SegmentAccountant;

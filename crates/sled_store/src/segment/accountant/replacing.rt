@@ -6,8 +6,9 @@ ghost use Rattle.std.specs.List.{All, list_any};
 ghost use Rattle.sled_codec.specs.Pointers.{lid_of};
 ghost use Rattle.sled_store.specs.declared.segment.slot.Slot.{Slot as SlotRecord};
 ghost use Rattle.sled_store.specs.SegmentStates.{MayMark, is_active, is_inactive, slot_at, with_slot, beside, by_place, replaced_slot, all_outdated, outdating, drained, replaced_one, replaced_all, replaced, is_sparse};
-ghost use Rattle.sled_store.specs.Stabilizing.{not_beside};
-ghost use Rattle.sled_store.specs.Accounts.{IsAccountant, machine_of, size_of, IsUsed, GoneFits, HasRoomToLink, HasRoomForBlobs};
+ghost use Rattle.sled_store.specs.inside.Stabilizing.{not_beside};
+ghost use Rattle.sled_store.specs.Accounts.{IsAccountant, machine_of, size_of};
+ghost use Rattle.sled_store.specs.inside.Accounts.{IsUsed, GoneFits, HasRoomToLink, HasRoomForBlobs};
 
 use crate::segment::accountant::SegmentAccountant;
 use crate::segment::queue::SortedQueue;

@@ -1,4 +1,4 @@
-//! An accountant on a log file that a recovery left (`specs/Started.antt`, `specs/Starting.antt`).
+//! An accountant on a log file that a recovery left (`specs/Started.antt`, `specs/inside/Starting.antt`).
 //!
 //! First the slots are made, each with the segment that lies there; then each page is linked to the slots of its
 //! entries; then the slots are noted in the indexes. The file is written once there is memory for all of it.
@@ -13,7 +13,7 @@ ghost use Rattle.sled_store.specs.Begin.{entries_in, entries_of, slot_of, is_act
 ghost use Rattle.sled_store.specs.SegmentStates.{unused_machine};
 ghost use Rattle.sled_store.specs.Accounts.{IsAccountant, machine_of, size_of, slot_state, HasRoomToDrain, HasRooms};
 ghost use Rattle.sled_store.specs.Started.{found, started, FoundOrRefuses};
-ghost use Rattle.sled_store.specs.Starting.{begun_slot, entry_linked, entries_linked, pages_linked, FillsSlots, AreNoted};
+ghost use Rattle.sled_store.specs.inside.Starting.{begun_slot, entry_linked, entries_linked, pages_linked, FillsSlots, AreNoted};
 
 use crate::segment::MAX_MSG_HEADER_LEN;
 use crate::segment::accountant::SegmentAccountant;

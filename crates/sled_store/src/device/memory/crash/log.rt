@@ -6,7 +6,7 @@ ghost use Rattle.std.specs.Prelude.{◌≡◌, ◌↔◌, ◌≤◌, ◌<◌, �
 ghost use Rattle.std.specs.Bool.{MatchBool};
 ghost use Rattle.std.specs.List.{All};
 ghost use Rattle.sled_store.specs.Device.{LogState, LeavesLog, at_rest, patched};
-ghost use Rattle.sled_store.specs.Memory.{Stands, is_within, is_unsynced_at, are_in, are_kept};
+ghost use Rattle.sled_store.specs.inside.Memory.{Stands, is_within, is_unsynced_at, are_in, are_kept};
 
 use crate::device::memory::log_file::{MemLog, append};
 

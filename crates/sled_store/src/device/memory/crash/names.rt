@@ -1,7 +1,7 @@
 //! What files under names in memory are once a crash came. It wants no memory.
 ghost use Rattle.std.specs.Prelude.{◌≡◌, ◌∷◌, [], if◌then◌else◌, true, false};
 ghost use Rattle.sled_store.specs.Device.{NamesState, names_at_rest, settled_files};
-ghost use Rattle.sled_store.specs.MemoryNames.{Keeps, states_of, latest, firm, file_settled};
+ghost use Rattle.sled_store.specs.inside.MemoryNames.{Keeps, states_of, latest, firm, file_settled};
 
 use crate::device::memory::named_files::MemNames;
 use crate::device::memory::named_files::version::{

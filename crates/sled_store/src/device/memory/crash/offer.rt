@@ -7,7 +7,7 @@ ghost use Rattle.std.specs.declared.alloc.Global.{Global};
 ghost use Rattle.sled_store.specs.Device.{NamesState, NameState, LeavesName, file_named};
 ghost use Rattle.sled_store.specs.Noted.{files_of};
 ghost use Rattle.sled_store.specs.Chosen.{are_ascending};
-ghost use Rattle.sled_store.specs.MemoryNames.{Keeps, states_of, upon, files_under, leaves_any};
+ghost use Rattle.sled_store.specs.inside.MemoryNames.{Keeps, states_of, upon, files_under, leaves_any};
 
 use crate::device::memory::named_files::MemNames;
 use crate::device::memory::named_files::version::FileVersion;

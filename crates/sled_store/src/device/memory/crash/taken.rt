@@ -4,7 +4,7 @@ ghost use Rattle.std.specs.Prelude.{◌≡◌, ◌<◌, ℤ, [], ◌∷◌, Some
 ghost use Rattle.std.specs.Ordering.{int_eq};
 ghost use Rattle.sled_store.specs.Device.{names_at_rest, file_named};
 ghost use Rattle.sled_store.specs.Noted.{files_of};
-ghost use Rattle.sled_store.specs.MemoryNames.{Keeps, states_of, firm, files_under};
+ghost use Rattle.sled_store.specs.inside.MemoryNames.{Keeps, states_of, firm, files_under};
 
 use crate::device::memory::crash::offer::offered;
 use crate::device::memory::named_files::MemNames;

@@ -1,9 +1,9 @@
 //! The files that were made under one name in memory since names were last settled, in their turn.
 //!
 //! A removal and a sync change the last one in place, and settling leaves it alone, so that none of them wants
-//! memory. The clauses say what becomes of the states that the files stand for (`specs/MemoryNames.antt`).
+//! memory. The clauses say what becomes of the states that the files stand for (`specs/inside/MemoryNames.antt`).
 ghost use Rattle.std.specs.Prelude.{◌≡◌, ◌<◌, [], ◌∷◌, None, Some, IsSome, MatchOption, if◌then◌else◌, is_some, vec_capacity};
-ghost use Rattle.sled_store.specs.MemoryNames.{states_of, latest, without_file, firm_file};
+ghost use Rattle.sled_store.specs.inside.MemoryNames.{states_of, latest, without_file, firm_file};
 
 // A file that was made under a name.
 #[derive(Drop)]

@@ -2,7 +2,7 @@
 use Rattle.std.proofs.Common.{ℕ, List, ap, arith, ◌≤◌, length}
 use Rattle.std.proofs.lemmas.List.{drop_all}
 use Rattle.std.proofs.lemmas.Grind.{same_number_lists}
-use Rattle.sled_store.specs.Memory.{is_within}
+use Rattle.sled_store.specs.inside.Memory.{is_within}
 use Rattle.sled_store.proofs.device.memory.log_file.follow.Goals as goal
 
 pub returns-clause-items : goal.returns-clause-items

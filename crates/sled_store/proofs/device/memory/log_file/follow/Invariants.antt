@@ -1,6 +1,6 @@
 -- So far: what lies outside the ranges still to come is the same in both contents.
 use Rattle.std.proofs.Common.{◌≡◌, ℕ, false, length, drop, get_or, vec_capacity}
-use Rattle.sled_store.specs.Memory.{is_within}
+use Rattle.sled_store.specs.inside.Memory.{is_within}
 use Rattle.sled_store.proofs.device.memory.log_file.follow.Given as goal
 
 abbrev pub invariant-loop-range : goal.invariant-loop-range

@@ -3,7 +3,8 @@ use Rattle.std.proofs.Common.{rules, ◌≡◌, ◌∙◌, ℕ, sym, subst}
 use Rattle.sled_store.specs.Device.{Trace}
 use Rattle.sled_store.specs.Script.{Performs, after_all}
 use Rattle.sled_store.specs.SegmentStates.{Machine, Step}
-use Rattle.sled_store.specs.Stabilizing.{MayCut, cut_back, shorter, cutting_last}
+use Rattle.sled_store.specs.inside.Stabilizing.{MayCut, shorter, cutting_last}
+use Rattle.sled_store.specs.Stabilizing.{cut_back}
 use Rattle.sled_store.specs.Accounts.{IsAccountant, machine_of}
 use Rattle.sled_store.proofs.Traces.ScriptLemmas.{performs_whole}
 use Rattle.sled_store.proofs.Accounts.StabilSteps.{IsMade, LeadsTo, leads_from, leads_next, leads_end, failed_first}

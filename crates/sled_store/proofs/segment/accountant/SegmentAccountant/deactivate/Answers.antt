@@ -4,7 +4,7 @@ use Rattle.sled_store.specs.Device.{Trace}
 use Rattle.sled_store.specs.Blobs.{removing_blobs}
 use Rattle.sled_store.specs.Script.{Performs, after_all}
 use Rattle.sled_store.specs.SegmentStates.{SlotState, Machine, Step, slot_at, with_slot, inactive_slot, followed_by, without_calls, deactivated, tested, drained_if_wasteful}
-use Rattle.sled_store.specs.Stabilizing.{waiting_freed}
+use Rattle.sled_store.specs.inside.Stabilizing.{waiting_freed}
 use Rattle.sled_store.specs.declared.segment.slot.Slot.{Slot}
 use Rattle.sled_store.specs.declared.segment.accountant.SegmentAccountant.{SegmentAccountant}
 use Rattle.sled_store.specs.Accounts.{IsAccountant, machine_of, size_of}

@@ -1,7 +1,7 @@
 -- The slot is free now, and no list has it but that of the free ones.
 use Rattle.std.proofs.Common.{◌≡◌, ◌∙◌, ℕ, List, length, refl, ap, arith}
 use Rattle.sled_store.specs.SegmentStates.{SlotState, Machine, free_slot}
-use Rattle.sled_store.specs.Stabilizing.{not_beside}
+use Rattle.sled_store.specs.inside.Stabilizing.{not_beside}
 use Rattle.sled_store.specs.declared.segment.accountant.SegmentAccountant.{SegmentAccountant}
 use Rattle.sled_store.specs.Accounts.{machine_of}
 use Rattle.sled_store.proofs.Accounts.AccountLemmas.{states_set, updated_account}

@@ -12,7 +12,7 @@ use Rattle.sled_store.specs.Begin.{entries_of, slot_of}
 use Rattle.sled_store.specs.SegmentStates.{Machine, SlotState, unused_machine, waiting_among, free_among}
 use Rattle.sled_store.specs.Accounts.{slot_state, machine_of, cleaner_of, IsAccountant, AreSlots, AreEntries, HasRooms, HasRoomToDrain, HasRoomToClean}
 use Rattle.sled_store.specs.Started.{found}
-use Rattle.sled_store.specs.Starting.{begun_slot, pages_linked, FillsSlots, AreNoted}
+use Rattle.sled_store.specs.inside.Starting.{begun_slot, pages_linked, FillsSlots, AreNoted}
 use Rattle.sled_store.proofs.Accounts.AccountLemmas.{more_entries, length_states}
 use Rattle.sled_store.proofs.Accounts.StartSlots.{table_in_reach, linked_found, found_slots, found_waiting}
 use Rattle.sled_store.proofs.segment.accountant.SegmentAccountant.find.Goals as goal

@@ -5,7 +5,7 @@ use Rattle.std.specs.BTreeMap.{is_at}
 use Rattle.std.specs.Set.{remove_key}
 use Rattle.sled_store.specs.Device.{Trace}
 use Rattle.sled_store.specs.SegmentStates.{Machine, free_slot, slot_at, waited_place, waiting_among, waiting_for, is_done, freed, by_place}
-use Rattle.sled_store.specs.Stabilizing.{slots_at, waiting_freed, not_beside}
+use Rattle.sled_store.specs.inside.Stabilizing.{slots_at, waiting_freed, not_beside}
 use Rattle.sled_store.specs.declared.segment.accountant.SegmentAccountant.{SegmentAccountant}
 use Rattle.sled_store.specs.Accounts.{IsAccountant, machine_of}
 use Rattle.sled_store.proofs.Traces.ScriptLemmas.{performs_whole}

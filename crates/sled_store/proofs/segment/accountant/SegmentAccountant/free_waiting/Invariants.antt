@@ -1,7 +1,7 @@
 -- What is left to be freed, from here on, ends where all of it does.
 use Rattle.std.proofs.Common.{◌≡◌, length}
 use Rattle.sled_store.specs.Accounts.{IsAccountant, machine_of, size_of}
-use Rattle.sled_store.specs.Stabilizing.{waiting_freed}
+use Rattle.sled_store.specs.inside.Stabilizing.{waiting_freed}
 use Rattle.sled_store.proofs.Accounts.StabilSteps.{LeadsTo}
 use Rattle.sled_store.proofs.segment.accountant.SegmentAccountant.free_waiting.Given as goal
 

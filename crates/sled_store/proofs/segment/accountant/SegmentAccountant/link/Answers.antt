@@ -4,7 +4,8 @@ use Rattle.std.specs.Vec.{with_item}
 use Rattle.sled_codec.specs.Pointers.{lid_of}
 use Rattle.sled_store.specs.SegmentStates.{SlotState, free_slot, linked_slot, with_slot, is_active, slot_at}
 use Rattle.sled_store.specs.declared.segment.accountant.SegmentAccountant.{SegmentAccountant}
-use Rattle.sled_store.specs.Accounts.{slot_state, machine_of, HasRoomForBlobs}
+use Rattle.sled_store.specs.Accounts.{slot_state, machine_of}
+use Rattle.sled_store.specs.inside.Accounts.{HasRoomForBlobs}
 use Rattle.sled_store.proofs.Accounts.ChangeLemmas.{active_used, active_not_draining, not_waited}
 use Rattle.sled_store.proofs.Accounts.WithLemmas.{read_state, with_machine, with_account, gone_kept, blobs_kept}
 use Rattle.sled_store.proofs.segment.accountant.SegmentAccountant.link.Goals as goal

@@ -6,7 +6,7 @@ use Rattle.sled_store.specs.declared.segment.slot.Slot.{Slot}
 use Rattle.sled_store.specs.declared.segment.slot.State.{State}
 use Rattle.sled_store.specs.declared.segment.slot.State.TheVariants.{Free, Active, Inactive, Draining}
 use Rattle.sled_store.specs.Accounts.{slot_state}
-use Rattle.sled_store.specs.Starting.{AreNoted}
+use Rattle.sled_store.specs.inside.Starting.{AreNoted}
 use Rattle.sled_store.proofs.Accounts.AccountLemmas.{state_at, length_states}
 use Rattle.sled_store.proofs.Accounts.StartIndex.{noted_as, noted_more, noted_within}
 use Rattle.sled_store.proofs.segment.accountant.SegmentAccountant.note.Goals as goal

@@ -1,7 +1,7 @@
 -- So far: the slots below this one are noted.
 use Rattle.std.proofs.Common.{◌≡◌, length, map, take}
 use Rattle.sled_store.specs.Accounts.{slot_state, HasRooms}
-use Rattle.sled_store.specs.Starting.{AreNoted}
+use Rattle.sled_store.specs.inside.Starting.{AreNoted}
 use Rattle.sled_store.proofs.segment.accountant.SegmentAccountant.note_all.Given as goal
 
 abbrev pub invariant-loop-slot : goal.invariant-loop-slot

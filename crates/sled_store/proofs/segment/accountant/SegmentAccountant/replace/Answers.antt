@@ -2,7 +2,8 @@
 use Rattle.std.proofs.Common.{◌∙◌, ◌/◌, ℕ, length, get_or, sym, subst}
 use Rattle.sled_codec.specs.Pointers.{lid_of}
 use Rattle.sled_store.specs.declared.segment.slot.CacheInfo.{CacheInfo}
-use Rattle.sled_store.specs.Accounts.{machine_of, size_of, IsUsed, GoneFits, HasRoomForBlobs}
+use Rattle.sled_store.specs.Accounts.{machine_of, size_of}
+use Rattle.sled_store.specs.inside.Accounts.{IsUsed, GoneFits, HasRoomForBlobs}
 use Rattle.sled_store.proofs.Accounts.OldLemmas.{used_after, lies_used}
 use Rattle.sled_store.proofs.segment.accountant.SegmentAccountant.replace.Goals as goal
 

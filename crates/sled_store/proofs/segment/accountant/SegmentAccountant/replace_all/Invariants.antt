@@ -3,7 +3,8 @@ use Rattle.std.proofs.Common.{◌≡◌, ◌/◌, take}
 use Rattle.std.specs.List.{All}
 use Rattle.sled_codec.specs.Pointers.{lid_of}
 use Rattle.sled_store.specs.SegmentStates.{replaced_all}
-use Rattle.sled_store.specs.Accounts.{IsAccountant, machine_of, size_of, IsUsed, GoneFits}
+use Rattle.sled_store.specs.Accounts.{IsAccountant, machine_of, size_of}
+use Rattle.sled_store.specs.inside.Accounts.{IsUsed, GoneFits}
 use Rattle.sled_store.proofs.segment.accountant.SegmentAccountant.replace_all.Given as goal
 
 abbrev pub invariant-loop-o : goal.invariant-loop-o

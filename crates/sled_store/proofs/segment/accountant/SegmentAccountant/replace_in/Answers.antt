@@ -2,7 +2,7 @@
 use Rattle.std.proofs.Common.{◌≡◌, ◌∙◌, ◌<◌, ℕ, List, Option, length, get_or, set, refl, sym, ap, arith}
 use Rattle.std.specs.Vec.{with_item}
 use Rattle.sled_store.specs.SegmentStates.{SlotState, free_slot, replaced_slot, waited_place, waiting_among, beside}
-use Rattle.sled_store.specs.Stabilizing.{not_beside}
+use Rattle.sled_store.specs.inside.Stabilizing.{not_beside}
 use Rattle.sled_store.specs.declared.segment.accountant.SegmentAccountant.{SegmentAccountant}
 use Rattle.sled_store.specs.Accounts.{slot_state, machine_of}
 use Rattle.sled_store.proofs.Accounts.AccountLemmas.{updated_account}

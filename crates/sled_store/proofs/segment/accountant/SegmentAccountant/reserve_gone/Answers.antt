@@ -3,7 +3,8 @@ use Rattle.std.proofs.Common.{◌∙◌, ◌/◌, ℕ, List, take_all, subst, ar
 use Rattle.std.specs.List.{All}
 use Rattle.sled_codec.specs.Pointers.{lid_of}
 use Rattle.sled_store.specs.declared.segment.slot.CacheInfo.{CacheInfo}
-use Rattle.sled_store.specs.Accounts.{IsAccountant, GoneFits}
+use Rattle.sled_store.specs.Accounts.{IsAccountant}
+use Rattle.sled_store.specs.inside.Accounts.{GoneFits}
 use Rattle.sled_store.proofs.Segments.FitLemmas.{all_one}
 use Rattle.sled_store.proofs.Accounts.OldLemmas.{item_same}
 use Rattle.sled_store.proofs.segment.accountant.SegmentAccountant.reserve_gone.Goals as goal

@@ -16,7 +16,7 @@ use Rattle.sled_store.specs.SegmentStates.{Machine}
 use Rattle.sled_store.specs.Stabilizing.{cut_back}
 use Rattle.sled_store.specs.Accounts.{IsAccountant, machine_of}
 use Rattle.sled_store.specs.Started.{found, started}
-use Rattle.sled_store.specs.Starting.{FillsSlots}
+use Rattle.sled_store.specs.inside.Starting.{FillsSlots}
 use Rattle.sled_store.proofs.Traces.ScriptLemmas.{after_joined, performs_nothing, performs_more, performs_behind, performs_whole}
 use Rattle.sled_store.proofs.Segments.FillLemmas.{same_below}
 use Rattle.sled_store.proofs.Accounts.StartSlots.{fills_slots}

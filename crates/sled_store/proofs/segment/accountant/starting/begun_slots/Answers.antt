@@ -9,7 +9,7 @@ use Rattle.std.specs.Ordering.{nat_cmp}
 use Rattle.sled_store.specs.SegmentStates.{SlotState}
 use Rattle.sled_store.specs.declared.segment.slot.Slot.{Slot}
 use Rattle.sled_store.specs.Accounts.{slot_state, HasRoomToDrain}
-use Rattle.sled_store.specs.Starting.{begun_slot}
+use Rattle.sled_store.specs.inside.Starting.{begun_slot}
 use Rattle.sled_store.proofs.segment.accountant.starting.begun_slots.Goals as goal
 
 one_begun : (f : ℕ → SlotState) (k : ℕ) (old new : List Slot) (s : Slot) → new ≡ old ++ s ∷ [] → slot_state s ≡ f k → map slot_state old ≡ map f (range_with_len 0 k) → map slot_state new ≡ map f (range_with_len 0 (k + 1))

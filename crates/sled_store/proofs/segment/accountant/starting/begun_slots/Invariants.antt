@@ -4,7 +4,7 @@ use Rattle.std.specs.BTreeMap.{get}
 use Rattle.std.specs.List.{All, range_with_len}
 use Rattle.std.specs.Ordering.{nat_cmp}
 use Rattle.sled_store.specs.Accounts.{slot_state, HasRoomToDrain}
-use Rattle.sled_store.specs.Starting.{begun_slot}
+use Rattle.sled_store.specs.inside.Starting.{begun_slot}
 use Rattle.sled_store.proofs.segment.accountant.starting.begun_slots.Given as goal
 
 abbrev pub invariant-loop-slot : goal.invariant-loop-slot

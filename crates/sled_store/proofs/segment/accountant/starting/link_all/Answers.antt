@@ -5,7 +5,7 @@ use Rattle.sled_codec.specs.Snapshots.{Entry}
 use Rattle.sled_store.specs.Begin.{slot_of}
 use Rattle.sled_store.specs.SegmentStates.{SlotState}
 use Rattle.sled_store.specs.Accounts.{slot_state}
-use Rattle.sled_store.specs.Starting.{entry_linked, entries_linked}
+use Rattle.sled_store.specs.inside.Starting.{entry_linked, entries_linked}
 use Rattle.sled_store.proofs.Accounts.StartPages.{count_kept}
 use Rattle.sled_store.proofs.segment.accountant.starting.link_all.Goals as goal
 

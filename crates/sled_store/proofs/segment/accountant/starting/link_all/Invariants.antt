@@ -2,7 +2,7 @@
 use Rattle.std.proofs.Common.{◌≡◌, length, map, drop}
 use Rattle.std.specs.List.{All}
 use Rattle.sled_store.specs.Accounts.{slot_state, HasRoomToDrain}
-use Rattle.sled_store.specs.Starting.{entries_linked}
+use Rattle.sled_store.specs.inside.Starting.{entries_linked}
 use Rattle.sled_store.proofs.segment.accountant.starting.link_all.Given as goal
 
 abbrev pub invariant-loop-entry : goal.invariant-loop-entry

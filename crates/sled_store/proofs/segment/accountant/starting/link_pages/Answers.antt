@@ -6,7 +6,7 @@ use Rattle.sled_codec.specs.Snapshots.{Page, page_of}
 use Rattle.sled_store.specs.Begin.{slot_of, entries_in}
 use Rattle.sled_store.specs.SegmentStates.{SlotState}
 use Rattle.sled_store.specs.Accounts.{slot_state}
-use Rattle.sled_store.specs.Starting.{entries_linked, pages_linked}
+use Rattle.sled_store.specs.inside.Starting.{entries_linked, pages_linked}
 use Rattle.sled_store.proofs.Segments.FitLemmas.{mapped, placed_page}
 use Rattle.sled_store.proofs.Accounts.StartPages.{count_kept, length_entries_linked}
 use Rattle.sled_store.proofs.segment.accountant.starting.link_pages.Goals as goal

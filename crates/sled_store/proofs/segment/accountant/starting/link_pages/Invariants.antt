@@ -3,7 +3,7 @@ use Rattle.std.proofs.Common.{◌≡◌, length, map, drop}
 use Rattle.std.specs.List.{All}
 use Rattle.sled_codec.specs.Snapshots.{page_of}
 use Rattle.sled_store.specs.Accounts.{slot_state, HasRoomToDrain}
-use Rattle.sled_store.specs.Starting.{pages_linked}
+use Rattle.sled_store.specs.inside.Starting.{pages_linked}
 use Rattle.sled_store.proofs.segment.accountant.starting.link_pages.Given as goal
 
 abbrev pub invariant-loop-pid : goal.invariant-loop-pid

@@ -1,6 +1,6 @@
 -- So far: each byte before this one is the one that is read, or may be lost.
 use Rattle.std.proofs.Common.{◌≡◌, ◌<◌, ◌||◌, ◌==◌, ℕ, true, get_or}
-use Rattle.sled_store.specs.Memory.{is_unsynced_at}
+use Rattle.sled_store.specs.inside.Memory.{is_unsynced_at}
 use Rattle.sled_store.proofs.device.memory.crash.log.are_firm.Given as goal
 
 abbrev pub invariant-loop-i : goal.invariant-loop-i

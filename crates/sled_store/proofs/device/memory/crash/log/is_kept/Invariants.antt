@@ -1,6 +1,6 @@
 -- So far: all bytes of the patch may be there where those from here on may.
 use Rattle.std.proofs.Common.{◌≡◌, drop, length, true}
-use Rattle.sled_store.specs.Memory.{are_in, are_kept}
+use Rattle.sled_store.specs.inside.Memory.{are_in, are_kept}
 use Rattle.sled_store.proofs.device.memory.crash.log.is_kept.Given as goal
 
 abbrev pub invariant-loop-p : goal.invariant-loop-p

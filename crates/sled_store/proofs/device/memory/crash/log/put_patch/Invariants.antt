@@ -1,7 +1,7 @@
 -- So far: the rest of the patch makes of these bytes what all of it makes of the first ones.
 use Rattle.std.proofs.Common.{◌≡◌, drop, length, vec_capacity, true}
 use Rattle.sled_store.specs.Device.{patched}
-use Rattle.sled_store.specs.Memory.{are_in}
+use Rattle.sled_store.specs.inside.Memory.{are_in}
 use Rattle.sled_store.proofs.device.memory.crash.log.put_patch.Given as goal
 
 abbrev pub invariant-loop-p : goal.invariant-loop-p

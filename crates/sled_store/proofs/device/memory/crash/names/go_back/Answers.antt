@@ -1,7 +1,7 @@
 -- The last file that was settled is the one that was, and those that were made since are lost.
 use Rattle.std.proofs.Common.{◌∙◌, ap, sym, List, ℕ, [], ◌∷◌, Some, Option}
 use Rattle.sled_store.specs.declared.device.memory.named_files.version.FileVersion.{FileVersion}
-use Rattle.sled_store.specs.MemoryNames.{states_of, firm}
+use Rattle.sled_store.specs.inside.MemoryNames.{states_of, firm}
 use Rattle.sled_store.proofs.Names.KeptLemmas.{popped_settled, popped_lost, states-restored}
 use Rattle.sled_store.proofs.device.memory.crash.names.go_back.Goals as goal
 

@@ -1,6 +1,6 @@
 -- So far: what is left has the file that was settled.
 use Rattle.std.proofs.Common.{◌≡◌, vec_len}
-use Rattle.sled_store.specs.MemoryNames.{states_of, file_settled}
+use Rattle.sled_store.specs.inside.MemoryNames.{states_of, file_settled}
 use Rattle.sled_store.proofs.device.memory.crash.names.go_back.Given as goal
 
 abbrev pub invariant-loop-one : goal.invariant-loop-one

@@ -2,7 +2,7 @@
 use Rattle.std.proofs.Common.{◌<◌, ◌∙◌, ap, sym, List, Some, take, length, rules, arith}
 use Rattle.sled_store.specs.declared.device.memory.named_files.version.FileVersion.{FileVersion}
 use Rattle.sled_store.specs.Device.{NameState}
-use Rattle.sled_store.specs.MemoryNames.{states_of, leaves_any}
+use Rattle.sled_store.specs.inside.MemoryNames.{states_of, leaves_any}
 use Rattle.sled_store.proofs.Names.KeptLemmas.{states-take}
 use Rattle.sled_store.proofs.device.memory.crash.offer.may_be_file.Goals as goal
 

@@ -1,6 +1,6 @@
 -- So far: whether the files up to here may leave none.
 use Rattle.std.proofs.Common.{◌≡◌, take, None}
-use Rattle.sled_store.specs.MemoryNames.{states_of, leaves_any}
+use Rattle.sled_store.specs.inside.MemoryNames.{states_of, leaves_any}
 use Rattle.sled_store.proofs.device.memory.crash.offer.may_be_missing.Given as goal
 
 abbrev pub invariant-loop-one : goal.invariant-loop-one

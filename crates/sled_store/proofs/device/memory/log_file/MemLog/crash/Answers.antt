@@ -2,7 +2,7 @@
 use Rattle.std.proofs.Common.{◌≡◌, ◌≤◌, ◌<◌, ◌∙◌, ◌↔◌, ◌&&◌, ap, sym, subst, ℕ, Bool, List, length, if◌then◌else◌, arith, vec_capacity, IsTrue, All}
 use Rattle.sled_store.specs.declared.device.memory.log_file.MemLog.{MemLog}
 use Rattle.sled_store.specs.Device.{patched, LeavesLog}
-use Rattle.sled_store.specs.Memory.{are_in, are_kept}
+use Rattle.sled_store.specs.inside.Memory.{are_in, are_kept}
 use Rattle.sled_store.proofs.Crashes.CrashLogLemmas.{base_of, taken-iff, rest_fits}
 use Rattle.sled_store.proofs.device.memory.log_file.MemLog.crash.Goals as goal
 

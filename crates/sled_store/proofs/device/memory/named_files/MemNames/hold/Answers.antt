@@ -1,7 +1,7 @@
 -- Of each name the latest file is left.
 use Rattle.std.proofs.Common.{List, [], ◌∷◌, refl, rules}
 use Rattle.sled_store.specs.Device.{NameState}
-use Rattle.sled_store.specs.MemoryNames.{firm, latest}
+use Rattle.sled_store.specs.inside.MemoryNames.{firm, latest}
 use Rattle.sled_store.proofs.Names.KeepsLemmas.{with_kept, states-retained, keeps_held}
 use Rattle.sled_store.proofs.device.memory.named_files.MemNames.hold.Goals as goal
 

@@ -9,7 +9,7 @@ use Rattle.std.proofs.lemmas.Map.Made.{filter_same_pairs}
 use Rattle.sled_store.specs.declared.device.memory.named_files.version.FileVersion.{FileVersion}
 use Rattle.sled_store.specs.Device.{file_named}
 use Rattle.sled_store.specs.Noted.{files_of}
-use Rattle.sled_store.specs.MemoryNames.{files_found}
+use Rattle.sled_store.specs.inside.MemoryNames.{files_found}
 use Rattle.sled_store.proofs.Names.KeepsLemmas.{at_same}
 use Rattle.sled_store.proofs.device.memory.named_files.MemNames.keep.Goals as goal
 

@@ -1,7 +1,7 @@
 -- Of each name the file that was settled is left.
 use Rattle.std.proofs.Common.{List, [], ◌∷◌, refl, rules}
 use Rattle.sled_store.specs.Device.{NameState}
-use Rattle.sled_store.specs.MemoryNames.{firm, file_settled}
+use Rattle.sled_store.specs.inside.MemoryNames.{firm, file_settled}
 use Rattle.sled_store.proofs.Names.KeepsLemmas.{with_kept, states-retained, keeps_lost}
 use Rattle.sled_store.proofs.device.memory.named_files.MemNames.lose.Goals as goal
 

@@ -1,7 +1,7 @@
 -- A file that was made is a new state of its name.
 use Rattle.std.proofs.Common.{◌≡◌, ◌∙◌, ◌++◌, ◌∷◌, [], ap, sym, subst, refl, rules, false, ℤ, List, Result, Ok, Err, to_z, of_z, w64}
 use Rattle.std.specs.Result.{OnErr}
-use Rattle.sled_store.specs.MemoryNames.{IsNoted}
+use Rattle.sled_store.specs.inside.MemoryNames.{IsNoted}
 use Rattle.sled_store.specs.declared.device.memory.named_files.version.FileVersion.{FileVersion}
 use Rattle.sled_store.proofs.Names.KeepsLemmas.{KeptMap, written, inserted, found_under, found_none, put_here, put_other, keeps_same, keeps_made}
 use Rattle.sled_store.proofs.device.memory.named_files.MemNames.make.Goals as goal

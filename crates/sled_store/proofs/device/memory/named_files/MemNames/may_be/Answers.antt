@@ -4,7 +4,7 @@ use Rattle.std.specs.declared.alloc.Global.{Global}
 use Rattle.sled_store.specs.declared.device.memory.named_files.version.FileVersion.{FileVersion}
 use Rattle.sled_store.specs.Device.{file_named}
 use Rattle.sled_store.specs.Noted.{files_of}
-use Rattle.sled_store.specs.MemoryNames.{states_of, files_under, leaves_any}
+use Rattle.sled_store.specs.inside.MemoryNames.{states_of, files_under, leaves_any}
 use Rattle.sled_store.proofs.device.memory.named_files.MemNames.may_be.Goals as goal
 
 pub returns-in-Some : goal.returns-in-Some

@@ -5,7 +5,7 @@ use Rattle.std.specs.Map.{lookup}
 use Rattle.std.specs.BTreeMap.{is_at}
 use Rattle.sled_store.specs.Device.{file_named}
 use Rattle.sled_store.specs.Noted.{files_of}
-use Rattle.sled_store.specs.MemoryNames.{states_of, files_under, leaves_any}
+use Rattle.sled_store.specs.inside.MemoryNames.{states_of, files_under, leaves_any}
 use Rattle.sled_store.proofs.device.memory.named_files.MemNames.may_have_kept.Given as goal
 
 abbrev pub invariant-loop-name : goal.invariant-loop-name

@@ -2,7 +2,7 @@
 use Rattle.std.proofs.Common.{take, ℤ, IsTrue, IsSome}
 use Rattle.sled_store.specs.Device.{file_named}
 use Rattle.sled_store.specs.Noted.{files_of}
-use Rattle.sled_store.specs.MemoryNames.{states_of, files_under, leaves_any}
+use Rattle.sled_store.specs.inside.MemoryNames.{states_of, files_under, leaves_any}
 use Rattle.sled_store.proofs.device.memory.named_files.MemNames.may_have_offered.Given as goal
 
 abbrev pub invariant-loop-file : goal.invariant-loop-file

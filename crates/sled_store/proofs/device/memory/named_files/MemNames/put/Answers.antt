@@ -3,7 +3,7 @@ use Rattle.std.proofs.Common.{◌≡◌, ◌<◌, ◌∙◌, ap, sym, subst, rul
 use Rattle.std.specs.Ordering.{int_cmp}
 use Rattle.std.specs.BTreeMap.{get}
 use Rattle.sled_store.specs.declared.device.memory.named_files.version.FileVersion.{FileVersion}
-use Rattle.sled_store.specs.MemoryNames.{states_of}
+use Rattle.sled_store.specs.inside.MemoryNames.{states_of}
 use Rattle.sled_store.proofs.Names.KeepsLemmas.{KeptMap, written, found_under, put_here, none_under}
 use Rattle.sled_store.proofs.device.memory.named_files.MemNames.put.Goals as goal
 

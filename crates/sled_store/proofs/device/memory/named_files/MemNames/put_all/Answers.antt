@@ -5,7 +5,7 @@ use Rattle.std.specs.Ordering.{int_eq}
 use Rattle.sled_store.specs.declared.device.memory.named_files.version.FileVersion.{FileVersion}
 use Rattle.sled_store.specs.Device.{file_named}
 use Rattle.sled_store.specs.Noted.{files_of}
-use Rattle.sled_store.specs.MemoryNames.{states_of, firm, files_under}
+use Rattle.sled_store.specs.inside.MemoryNames.{states_of, firm, files_under}
 use Rattle.sled_store.proofs.Names.TakenLemmas.{put_more, named-last}
 use Rattle.sled_store.proofs.device.memory.named_files.MemNames.put_all.Goals as goal
 

@@ -1,6 +1,6 @@
 -- A file that was removed is a new state of its name.
 use Rattle.std.proofs.Common.{◌≡◌, ◌∙◌, ap, sym, subst, rules, ℤ, List, IsSome, to_z, of_z, w64}
-use Rattle.sled_store.specs.MemoryNames.{IsNoted, states_of, without_file}
+use Rattle.sled_store.specs.inside.MemoryNames.{IsNoted, states_of, without_file}
 use Rattle.sled_store.specs.declared.device.memory.named_files.version.FileVersion.{FileVersion}
 use Rattle.sled_store.proofs.Names.KeepsLemmas.{KeptMap, written, found_under, put_here, put_other, keeps_removed}
 use Rattle.sled_store.proofs.device.memory.named_files.MemNames.remove.Goals as goal

@@ -1,7 +1,7 @@
 -- Of each name the latest state is left.
 use Rattle.std.proofs.Common.{false, List, [], ◌∷◌, refl, rules}
 use Rattle.sled_store.specs.Device.{NameState}
-use Rattle.sled_store.specs.MemoryNames.{latest}
+use Rattle.sled_store.specs.inside.MemoryNames.{latest}
 use Rattle.sled_store.proofs.Names.KeepsLemmas.{states-retained, keeps_settled}
 use Rattle.sled_store.proofs.device.memory.named_files.MemNames.settle_all.Goals as goal
 

@@ -2,7 +2,7 @@
 use Rattle.std.proofs.Common.{◌≡◌, ◌∙◌, ◌++◌, ◌∷◌, [], ap, sym, subst, rules, ℤ, Vec, to_z, of_z, w64}
 use Rattle.std.specs.Ordering.{int_eq}
 use Rattle.std.specs.declared.alloc.Global.{Global}
-use Rattle.sled_store.specs.MemoryNames.{states_of, latest, files_under}
+use Rattle.sled_store.specs.inside.MemoryNames.{states_of, latest, files_under}
 use Rattle.sled_store.specs.declared.device.memory.named_files.MemNames.{MemNames}
 use Rattle.sled_store.proofs.Names.KeepsLemmas.{KeptMap}
 use Rattle.sled_store.proofs.Names.SettlingLemmas.{settling_first, settling_next, settling_last}

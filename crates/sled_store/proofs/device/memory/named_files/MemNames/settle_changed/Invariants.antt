@@ -1,7 +1,7 @@
 -- So far: the names that are left on the list may have more than their latest state.
 use Rattle.std.proofs.Common.{vec_len}
 use Rattle.sled_store.specs.Device.{NamesState}
-use Rattle.sled_store.specs.MemoryNames.{Keeps}
+use Rattle.sled_store.specs.inside.MemoryNames.{Keeps}
 use Rattle.sled_store.proofs.Names.SettlingLemmas.{Settling}
 use Rattle.sled_store.proofs.device.memory.named_files.MemNames.settle_changed.Given as goal
 

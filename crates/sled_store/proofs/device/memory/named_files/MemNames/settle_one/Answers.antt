@@ -1,6 +1,6 @@
 -- Of the name the latest state is left, or nothing.
 use Rattle.std.proofs.Common.{◌≡◌, ◌∙◌, ◌∷◌, [], ap, sym, refl, subst, rules, ℤ, List, to_z, of_z, w64}
-use Rattle.sled_store.specs.MemoryNames.{states_of, latest, files_under}
+use Rattle.sled_store.specs.inside.MemoryNames.{states_of, latest, files_under}
 use Rattle.sled_store.specs.declared.device.memory.named_files.version.FileVersion.{FileVersion}
 use Rattle.sled_store.proofs.Names.KeepsLemmas.{KeptMap, written, found_under, found_none, put_here}
 use Rattle.sled_store.proofs.device.memory.named_files.MemNames.settle_one.Goals as goal

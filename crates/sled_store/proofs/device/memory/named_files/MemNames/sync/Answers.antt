@@ -1,6 +1,6 @@
 -- The bytes of the file that is there are settled, and other names stay.
 use Rattle.std.proofs.Common.{◌≡◌, ◌∙◌, ap, rules, is_some, ℤ, List, IsSome, to_z, of_z, w64}
-use Rattle.sled_store.specs.MemoryNames.{states_of, firm_file, latest}
+use Rattle.sled_store.specs.inside.MemoryNames.{states_of, firm_file, latest}
 use Rattle.sled_store.specs.declared.device.memory.named_files.version.FileVersion.{FileVersion}
 use Rattle.sled_store.proofs.Names.KeepsLemmas.{KeptMap, file-is, written, found_under, put_here, put_other, keeps_firmed}
 use Rattle.sled_store.proofs.device.memory.named_files.MemNames.sync.Goals as goal

@@ -4,7 +4,7 @@ use Rattle.std.specs.Ordering.{int_cmp}
 use Rattle.std.specs.BTreeMap.{get}
 use Rattle.std.specs.declared.alloc.Global.{Global}
 use Rattle.sled_store.specs.declared.device.memory.named_files.version.FileVersion.{FileVersion}
-use Rattle.sled_store.specs.MemoryNames.{files_found}
+use Rattle.sled_store.specs.inside.MemoryNames.{files_found}
 use Rattle.sled_store.proofs.device.memory.named_files.MemNames.under.Goals as goal
 
 pub returns-in-Some : goal.returns-in-Some

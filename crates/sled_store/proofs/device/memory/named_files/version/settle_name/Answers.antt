@@ -2,7 +2,7 @@
 use Rattle.std.proofs.Common.{◌∙◌, ap, sym, is_some, List, [], ◌∷◌, true, false}
 use Rattle.sled_store.specs.declared.device.memory.named_files.version.FileVersion.{FileVersion}
 use Rattle.sled_store.specs.Device.{NameState}
-use Rattle.sled_store.specs.MemoryNames.{states_of}
+use Rattle.sled_store.specs.inside.MemoryNames.{states_of}
 use Rattle.sled_store.proofs.Names.KeptLemmas.{latest-popped}
 use Rattle.sled_store.proofs.device.memory.named_files.version.settle_name.Goals as goal
 

@@ -28,7 +28,7 @@ use denote.Triple.Walked.{says, Stays, stay_dropped, walk_of, ends_at, walk_Meet
 use Rattle.sled_store.proofs.Traces.Walks.{bare, bare_made}
 use Rattle.sled_store.specs.contracts.device.memory.trace.GhostTrace as GhostTrace
 use Rattle.sled_store.specs.contracts.device.memory.trace.Note as Note
-use Rattle.sled_store.specs.Noted.{event_of}
+use Rattle.sled_store.specs.inside.Noted.{event_of}
 use Rattle.sled_store.specs.contracts.device.memory.trace.GhostTrace.then as F
 use Rattle.sled_store.specs.contracts.device.memory.trace.GhostTrace.then.Key.{name as #self}
 use Rattle.sled_store.proofs.device.memory.trace.GhostTrace.then.Statement as stated

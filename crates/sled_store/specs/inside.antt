@@ -1,0 +1,17 @@
+pub mod Accounts
+pub mod Blobs
+pub mod Due
+pub mod Durable
+pub mod Memory
+pub mod MemoryNames
+pub mod MemoryStops
+pub mod Noted
+pub mod OwnParts
+pub mod Script
+pub mod SegmentStates
+pub mod SlotTables
+pub mod SnapshotFiles
+pub mod Stabilizing
+pub mod Started
+pub mod Starting
+pub mod Stops
