@@ -8,7 +8,7 @@ use case_lines::lines::{Fault, Words, number, pointer, signed};
 use case_lines::noted::{Calls, Noted};
 use case_lines::tally::Tally;
 use case_lines::texts::Text;
-use sled_codec::result::{DiskPtr, Result};
+use sled_codec::result::{DiskPtr, Error, Result};
 use sled_codec::serialization::PlaceSum;
 use sled_codec::serialization::snapshot::Snapshot;
 use sled_store::config::{Config, RunningConfig};
@@ -119,10 +119,7 @@ impl Case {
         let _ = self.config.device.device.write_at(0, &zeros);
         match SegmentAccountant::start(&mut self.config, &snapshot) {
             Ok(accountant) => self.accountant = accountant,
-            Err(e) => {
-                out.push(" = ");
-                out.error(&e);
-            }
+            Err(e) => failed(&e, out),
         }
     }
 
@@ -154,7 +151,7 @@ impl Case {
                 out.push(" = ");
                 out.number(offset);
             }
-            Err(e) => out.error(&e),
+            Err(e) => failed(&e, out),
         }
     }
 
@@ -189,7 +186,7 @@ impl Case {
         ensures { IsAccountant self.new.config.config.segment_size self.new.accountant }
     {
         if let Err(e) = self.accountant.stabilize(&mut self.config, mark) {
-            out.error(&e);
+            failed(&e, out);
             self.accountant = SegmentAccountant::fresh(&self.config);
         }
     }
@@ -223,8 +220,14 @@ impl Case {
 // Writes an error, where there is one.
 fn told(answer: Result<()>, out: &mut Text) {
     if let Err(e) = answer {
-        out.error(&e);
+        failed(&e, out);
     }
+}
+
+// Writes the error of a call, behind an equals sign as any answer.
+fn failed(e: &Error, out: &mut Text) {
+    out.push(" = ");
+    out.error(e);
 }
 
 // A message: its place, where it lies and its length.
