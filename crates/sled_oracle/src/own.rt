@@ -9,13 +9,11 @@ ghost use Rattle.sled_store.specs.Device.{State};
 ghost use Rattle.sled_core.specs.Recoverable.{NoForeign, NoHeaderOfZeros};
 ghost use Rattle.sled_oracle.specs.OwnPast.{IsSomeBlob, IsSomeSnapshot, IsPast, content_of_files};
 
-mod snapshot_file;
-
 use crate::foreign::names::{FileKind, NamedFile, NamesPast, are_names_own};
 use crate::foreign::{LogPast, is_log_own};
-use crate::own::snapshot_file::decode_file;
 use sled_codec::result::{Error, Result};
 use sled_codec::serialization::{Checksum, MessageKind, SegmentHeader};
+use sled_store::snapshot_file::decode_file;
 use std::alloc::Global;
 
 /// What a test noted of the past of a device.

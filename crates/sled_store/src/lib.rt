@@ -11,6 +11,7 @@ pub mod device;
 pub mod header;
 pub mod laws;
 pub mod segment;
+pub mod snapshot_file;
 
 pub use config::{Config, RunningConfig};
 pub use device::Device;

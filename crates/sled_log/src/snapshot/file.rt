@@ -1,12 +1,11 @@
-//! The file of a snapshot on the device: its spelling, how long that is, and its sum
-//! (`docs/FORMATS.md`, "Snapshots").
+//! The snapshots on the device: reading the newest, publishing one, removing the others. The bytes
+//! of such a file are `sled_store::snapshot_file`'s.
 //!
 //! Recovery begins from the snapshot with the greatest number. A newer one is published before the
 //! others are removed, so that there is one at every moment.
-ghost use Rattle.std.specs.Prelude.{◌≡◌, ◌≢◌, ◌≤ℤ◌, ◌↔◌, ◌<◌, ◌+◌, ◌^◌, [], ◌∷◌, ◌++◌, ℕ, ℤ, List, length, IfOk, OnOk, IfErr, OnErr, IsOkUnless, IfSome, IfNone, MatchOption, IsSome, Some, None, Contains, true, false};
-ghost use Rattle.sled_codec.specs.Errors.{IsCorruption, IsDecodeError};
-ghost use Rattle.sled_codec.specs.Snapshots.{SnapshotModel, model_of, FitsSnapshot, short_snapshot, is_sound};
-ghost use Rattle.sled_codec.specs.Spelling.{low_bytes};
+ghost use Rattle.std.specs.Prelude.{◌≡◌, ◌≤ℤ◌, [], ◌∷◌, ℕ, ℤ, List, IfOk, OnOk, MatchOption, IsSome, Some, None, true, false};
+ghost use Rattle.sled_codec.specs.Errors.{IsCorruption};
+ghost use Rattle.sled_codec.specs.Snapshots.{SnapshotModel, model_of, is_sound};
 ghost use Rattle.sled_store.specs.Device.{state_of};
 ghost use Rattle.sled_store.specs.Script.{Performs, after_all};
 ghost use Rattle.sled_store.specs.Causes.{DeviceAnswers};
@@ -16,9 +15,9 @@ ghost use Rattle.sled_store.specs.inside.SnapshotFiles.{IsDamagedSnapshot};
 ghost use Rattle.sled_log.specs.WritesBack.{publishing_file, removing, others, AreOthers, MayBeRemoved};
 
 use sled_codec::result::{Error, Result};
-use sled_codec::serialization::{Checksum, Serialize, Snapshot};
+use sled_codec::serialization::{Checksum, Snapshot};
+use sled_store::snapshot_file::decode_file;
 use sled_store::{Device, RunningConfig};
-use std::alloc::Global;
 
 /// The greatest number that a snapshot has.
 pub(crate) fn newest_number<D: Device>(device: &mut D) -> Result<Option<i64>>
@@ -30,81 +29,6 @@ pub(crate) fn newest_number<D: Device>(device: &mut D) -> Result<Option<i64>>
 {
     let numbers = device.snapshots()?;
     Ok(numbers.last().copied())
-}
-
-/// How many bytes stand behind the spelling: its length and its sum.
-const TRAILER_LEN: usize = 12;
-
-/// What stands behind a spelling.
-fn trailer_of<C: Checksum>(checksum: &C, text: &[u8]) -> [u8; TRAILER_LEN]
-    ensures { result ≡ low_bytes 8 (length text.now) ++ low_bytes 4 (C.sum_of text.now) }
-{
-    let len = text.len() as u64;
-    let mut trailer = [0u8; TRAILER_LEN];
-    trailer[..8].copy_from_slice(&len.to_le_bytes());
-    trailer[8..].copy_from_slice(&checksum.sum(text).to_le_bytes());
-    trailer
-}
-
-/// The spelling in a file, where its length and its sum stand behind it.
-fn text_in<'a, C: Checksum>(checksum: &C, bytes: &'a [u8]) -> Option<&'a [u8]>
-    ensures found { IfSome result (λ text. bytes.now ≡ text.now ++ low_bytes 8 (length text.now) ++ low_bytes 4 (C.sum_of text.now)) }
-    ensures none { IfNone result ((text : List ℕ) → bytes.now ≡ text ++ low_bytes 8 (length text) ++ low_bytes 4 (C.sum_of text) → ⊥) }
-{
-    if bytes.len() < TRAILER_LEN {
-        return None;
-    }
-    let (text, trailer) = bytes.split_at(bytes.len() - TRAILER_LEN);
-    if trailer != trailer_of(checksum, text).as_slice() {
-        return None;
-    }
-    Some(text)
-}
-
-/// The snapshot whose file these bytes are. `Corruption` comes where they are none.
-pub(crate) fn decode_file<C: Checksum>(
-    alloc: Global,
-    checksum: &C,
-    bytes: &[u8],
-) -> Result<Snapshot>
-    ensures ok { IfOk result (λ s. IsSnapshotFile C.sum_of bytes.now (model_of s)) }
-    ensures corrupt { IsCorruption result → (s : SnapshotModel) → IsSnapshotFile C.sum_of bytes.now s → ⊥ }
-    ensures errors { IfErr result IsDecodeError }
-{
-    match text_in(checksum, bytes) {
-        Some(mut text) => Snapshot::deserialize(alloc, &mut text),
-        None => Err(Error::Corruption { at: None }),
-    }
-}
-
-/// The bytes of the file of a snapshot. Its one error is `OutOfMemory`.
-pub(crate) fn encode_file<C: Checksum>(
-    alloc: Global,
-    checksum: &C,
-    snapshot: &Snapshot,
-) -> Result<Vec<u8>>
-    requires fits { FitsSnapshot (model_of snapshot.now) }
-    requires small { length (short_snapshot (model_of snapshot.now)) + 12 < 2 ^ 63 }
-    ensures bytes { let text = short_snapshot (model_of snapshot.now) in
-        IfOk result (λ v. v.items ≡ text ++ low_bytes 8 (length text) ++ low_bytes 4 (C.sum_of text)) }
-    ensures err { IsOkUnless result Error.OutOfMemory }
-{
-    let len = snapshot.serialized_size() as usize;
-    let mut bytes = vec![in alloc; 0; len + TRAILER_LEN]?;
-    write_file(checksum, snapshot, &mut bytes);
-    Ok(bytes)
-}
-
-/// Writes the file of a snapshot over all of `bytes`.
-fn write_file<C: Checksum>(checksum: &C, snapshot: &Snapshot, bytes: &mut [u8])
-    requires fits { FitsSnapshot (model_of snapshot.now) }
-    requires room { length bytes.old ≡ length (short_snapshot (model_of snapshot.now)) + 12 }
-    ensures bytes { let text = short_snapshot (model_of snapshot.now) in
-        bytes.new ≡ text ++ low_bytes 8 (length text) ++ low_bytes 4 (C.sum_of text) }
-{
-    let len = snapshot.serialize_into(bytes, 0);
-    let trailer = trailer_of(checksum, &bytes[..len]);
-    bytes[len..].copy_from_slice(&trailer);
 }
 
 /// The snapshot that recovery begins from: the one with the greatest number, or that of a log that was

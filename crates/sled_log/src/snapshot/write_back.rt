@@ -13,12 +13,13 @@ ghost use Rattle.sled_core.specs.Keeps.{ConfigKept};
 ghost use Rattle.sled_log.specs.WritesBack.{result_of, range_of, shredding, zeroing, HasPublished, Publishes, HasCommitted, CommitsBehind};
 ghost use Rattle.sled_log.specs.WritesBack.{HasForgotten, Forgets, HasWrittenBack, WritesBack, IsWrittenBack, FitsIfNew};
 
-use crate::snapshot::file::{encode_file, publish, remove_others};
+use crate::snapshot::file::{publish, remove_others};
 use crate::snapshot::recovery::{Recovery, ShredRange};
 use sled_codec::result::{Error, LogOffset, Lsn, Result};
 use sled_codec::serialization::snapshot::Snapshot;
 use sled_codec::serialization::{Checksum, Serialize};
 use sled_store::blob_io::gc_blobs;
+use sled_store::snapshot_file::encode_file;
 use sled_store::{Device, RunningConfig};
 
 /// Writes what a recovery leaves to be written.

@@ -1,7 +1,7 @@
 use Rattle.std.proofs.Common.{◌≡◌, ◌∙◌, ℕ, List, [], refl, sym, subst, append-nil}
 use Rattle.sled_codec.specs.Snapshots.{SpellsSnapshot}
 use Rattle.sled_store.proofs.Names.Trailers.{one_file}
-use Rattle.sled_oracle.proofs.own.snapshot_file.decode_file.Goals as goal
+use Rattle.sled_store.proofs.snapshot_file.decode_file.Goals as goal
 
 pub returns-in-Some-clause-corrupt : goal.returns-in-Some-clause-corrupt
 returns-in-Some-clause-corrupt g c = λ corrupt s h.

@@ -1,7 +1,7 @@
 use Rattle.std.proofs.Common.{◌≡◌, ◌∙◌, ◌-◌, ◌++◌, ℕ, List, length, take, drop, refl, sym, ap, arith, Bool, true, false, not, length-drop, take-append-drop}
 use Rattle.std.specs.Cmp.Lexicographic.{same_text, other_text}
 use Rattle.sled_store.proofs.Names.Trailers.{trailer, with_trailer, split_file}
-use Rattle.sled_oracle.proofs.own.snapshot_file.text_in.Goals as goal
+use Rattle.sled_store.proofs.snapshot_file.text_in.Goals as goal
 
 whole : (n : ℕ) (bytes front back : List ℕ) → front ≡ take n bytes → back ≡ drop n bytes → bytes ≡ front ++ back
 whole n bytes front back is_front is_back = sym (take-append-drop n bytes) ∙ ap (λ (l : List ℕ). l ++ drop n bytes) (sym is_front) ∙ ap (λ (l : List ℕ). front ++ l) (sym is_back)

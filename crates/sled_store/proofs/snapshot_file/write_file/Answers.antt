@@ -1,7 +1,7 @@
 use Rattle.std.proofs.Common.{◌∙◌, arith}
 use Rattle.sled_codec.specs.Snapshots.{model_of, short_snapshot}
 use Rattle.sled_store.proofs.Names.Trailers.{laid_out}
-use Rattle.sled_log.proofs.snapshot.file.write_file.Goals as goal
+use Rattle.sled_store.proofs.snapshot_file.write_file.Goals as goal
 
 pub returns : goal.returns
 returns g c =
