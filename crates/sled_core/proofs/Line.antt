@@ -1,3 +1,4 @@
+pub mod Accounts
 pub mod Advanced
 pub mod Around
 pub mod BatchNoted
@@ -34,6 +35,8 @@ pub mod LogWrites
 pub mod LogWritten
 pub mod Lying
 pub mod MadeAnswers
+pub mod MarkCalls
+pub mod MarkedSlots
 pub mod Marks
 pub mod Moves
 pub mod Nexts

@@ -16,6 +16,7 @@ pub mod ReadyStarts
 pub mod Recoverable
 pub mod SegmentSizes
 pub mod StartFits
+pub mod StartedAccount
 pub mod StartedActive
 pub mod StartedMoments
 pub mod UsedEntries

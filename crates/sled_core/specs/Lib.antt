@@ -17,6 +17,7 @@ pub mod LogSegments
 pub mod Logged
 pub mod Manifests
 pub mod Marked
+pub mod Marking
 pub mod OnFile
 pub mod OpenBatches
 pub mod OpenPlaces
@@ -43,6 +44,7 @@ pub mod Starts
 pub mod Synced
 pub mod Tail
 pub mod Tickets
+pub mod Unmarked
 pub mod Waiting
 pub mod WholeBuffers
 pub mod inside

@@ -32,6 +32,7 @@ mod fault;
 pub(crate) mod io_bufs;
 mod iterating;
 mod mark_writebatch;
+mod marking;
 pub mod read_at;
 pub mod read_message;
 mod read_pointer;

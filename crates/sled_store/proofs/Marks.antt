@@ -1,3 +1,4 @@
+pub mod AccountSteps
 pub mod DeactivationSteps
 pub mod HeldLemmas
 pub mod MarkExample
@@ -5,6 +6,7 @@ pub mod MarkLaws
 pub mod MarkSteps
 pub mod MarkedLemmas
 pub mod ReplaceSteps
+pub mod SameSlots
 pub mod SlotLemmas
 pub mod StabilizeSteps
 pub mod StableSteps

@@ -3,7 +3,7 @@ use Rattle.std.proofs.Common.{◌∙◌, [], ◌++◌, refl, ap, sym, append_ass
 use Rattle.sled_store.specs.Device.{Trace, State, Content, state_of}
 use Rattle.sled_store.specs.Moments.{AllLeft, IsLater, LeavesOnly}
 -- truthful marks: what holds of an unused log and is kept by each step, and what follows from it
-pub use Rattle.sled_store.proofs.Marks.Tracked.{IsHeld, IsActiveAt, IsActiveOrBelow, IsTracked}
+pub use Rattle.sled_store.specs.Tracked.{IsHeld, IsActiveAt, IsActiveOrBelow, IsTracked}
 pub use Rattle.sled_store.proofs.Marks.MarkedLemmas.{IsTruthful, truthful, unused_truthful, handed_out_truthful, linked_truthful, replaced_truthful, batched_truthful, stabilized_truthful, popped_truthful}
 pub use Rattle.sled_store.proofs.Marks.MarkLaws.{linked_or_superseded, from_mark_linked, counted, none_in_done, above_mark_linked, none_in_free, next_is_free, needed_elsewhere, former_may, marked_linked}
 pub use Rattle.sled_store.proofs.Marks.HeldLemmas.{holds_standing, entry_counted}

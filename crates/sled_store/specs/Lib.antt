@@ -22,5 +22,6 @@ pub mod Stabilizing
 pub mod StartCauses
 pub mod Started
 pub mod Stops
+pub mod Tracked
 pub mod Words
 pub mod inside

@@ -2,6 +2,7 @@
 ghost use Rattle.std.specs.Prelude.{◌<◌, IfSome, vec_len, vec_capacity};
 ghost use Rattle.sled_core.specs.Fits.{IsOpen};
 
+use crate::marks;
 use crate::reads::push_messages;
 use crate::values::kind_of;
 use crate::world::Running;
@@ -51,6 +52,9 @@ impl Opened {
             "abort" => self.abort(words.number(), out),
             "mark_writebatch" => self.mark_writebatch(words.number(), words.signed(), out),
             "abandon" => self.abandon(words.number(), out),
+            "can_mark" | "mark_link" | "mark_replace" | "clean_pop" => {
+                marks::call(&mut self.log, alloc, name, words, out);
+            }
             _ => self.call_of_log(name, words, out),
         }
     }

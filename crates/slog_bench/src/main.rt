@@ -6,6 +6,7 @@
 
 mod calls;
 mod logs;
+mod marks;
 mod reads;
 mod runs;
 mod scripts;

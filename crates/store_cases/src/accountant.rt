@@ -230,8 +230,8 @@ fn failed(e: &Error, out: &mut Text) {
     out.error(e);
 }
 
-// A message: its place, where it lies and its length.
-fn info(words: &mut Words<'_>) -> CacheInfo {
+/// A message: its place, where it lies and its length.
+pub fn info(words: &mut Words<'_>) -> CacheInfo {
     CacheInfo {
         lsn: words.signed(),
         pointer: pointer_in(words),
@@ -251,8 +251,8 @@ fn pointer_in(words: &mut Words<'_>) -> DiskPtr {
         .unwrap_or(DiskPtr::Inline(0))
 }
 
-// The older messages, behind a colon: each in parentheses.
-fn infos(alloc: Global, words: &mut Words<'_>) -> Vec<CacheInfo> {
+/// The older messages, behind a colon: each in parentheses.
+pub fn infos(alloc: Global, words: &mut Words<'_>) -> Vec<CacheInfo> {
     let mut old = Vec::new(alloc);
     let _colon = words.word();
     for _ in 0..u64::MAX {

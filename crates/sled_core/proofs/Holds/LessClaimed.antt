@@ -91,4 +91,5 @@ module _ (sum : List ℕ → ℕ) (H : History) (A less f lower : ℕ) (U : List
     begun = fits.begun;
     own = fits.own;
     entries = fits.entries;
+    account = fits.account;
   }

@@ -108,9 +108,9 @@ module _ (sum : List ℕ → ℕ) (size : ℕ) (site : SegmentPosition) (device 
       fits-synced (max A (end_below (stable_below (site.place + from) noted) H))
       (let all = subst (λ n. end_below n (logged H) ≤ stable_below reach H.batches) stable passes in let same = end_logged (stable_below (site.place + from) noted) H in omega (arith, old, all, same))
 
-  -- Another count of pins fits, where one is out while a completed message is not marked.
-  pub fits-pinned : (pins' : ℕ) → (U ≢ [] → 0 < pins') → FitsIn sum (log_parts size site device fault bytes from bs rs) behind reach pins' H A f U
-  fits-pinned pins' pinned = record {
+  -- Other messages that aren't marked and another count of pins fit, where one is out while there are any.
+  pub fits-pinned : (pins' : ℕ) (V : List Message) → (V ≢ [] → 0 < pins') → FitsIn sum (log_parts size site device fault bytes from bs rs) behind reach pins' H A f V
+  fits-pinned pins' V pinned = record {
     holds = fits.holds;
     near = fits.near;
     ends = fits.ends;

@@ -8,7 +8,7 @@ use Rattle.std.proofs.lemmas.List.Elements.{Contains-append_cases, Contains-appe
 use Rattle.std.proofs.lemmas.List.Sums.{sum_by-cons, sum_by-append}
 use Rattle.std.proofs.lemmas.List.Sorted.{IsPermutation-sym, Contains-permutation, sum_by-IsPermutation}
 use Rattle.sled_store.specs.SegmentStates.{Machine, SlotState, is_free}
-use Rattle.sled_store.proofs.Marks.SlotLemmas.{at}
+use Rattle.sled_store.specs.Tracked.{at}
 use Rattle.sled_store.proofs.Segments.Elements.{in_first, in_cases, in_nothing}
 use Rattle.sled_core.specs.declared.iterator.Segment.{Segment}
 use Rattle.sled_core.specs.LogSegments.{segment_within, segments_among, AreSegments}

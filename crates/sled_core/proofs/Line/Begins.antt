@@ -35,7 +35,7 @@ use Rattle.sled_core.specs.inside.Recoverable.{IsMarkOf}
 use Rattle.sled_core.specs.OpenBatches.{stable_below}
 use Rattle.sled_core.specs.invariants.Running.{Fits}
 use Rattle.sled_core.specs.inside.Running.{FitsIn, FitsLine, FitsWith}
-use Rattle.sled_core.specs.inside.Slots.{AreBegun, HaveEntries}
+use Rattle.sled_core.specs.inside.Slots.{AreBegun, HaveEntries, HasAccount}
 use Rattle.sled_core.specs.inside.Turned.{ChangesSlots, begun_view, next_line}
 use Rattle.sled_core.specs.Waiting.{at_last, closed_now, filled_now, last_of}
 use Rattle.sled_core.proofs.Behind.Around.{behind_place, behind_place_is}
@@ -61,6 +61,8 @@ use Rattle.sled_core.proofs.Reserve.Ranges.{at_there}
 use Rattle.sled_core.proofs.Flush.Completed.{grows}
 use Rattle.sled_core.proofs.Line.Entered.{filled_last}
 use Rattle.sled_core.proofs.OwnLog.Calls.{own_next}
+use Rattle.sled_core.proofs.Line.Accounts.{account_handed}
+use Rattle.sled_store.specs.Marks.{IsNewPlace}
 
 -- the first of them is no longer than this
 abbrev FirstShort : ℕ → List SegmentView → Type 0
@@ -223,6 +225,20 @@ module _ (sum : List ℕ → ℕ) (size : ℕ) where
       entries_next : (H : History) → HoldsLine sum size device fault (v ∷ vs) H → HaveEntries sum size device.snapshots.file H m → HaveEntries sum size device.snapshots.file H (handed_out place m)
       entries_next H holds e = entries_handed sum size m (next_within m slots) place device.snapshots.file H e (let low = (newest_low sum size device fault (v ∷ vs) H holds e.first e.begins).0 in omega (arith, low, lies))
 
+      -- it lies behind those of all slots
+      is_new : HasSlots size (v ∷ vs) device.log.bytes fault m → IsNewPlace size place m
+      is_new has =
+          let first = All-head (HasSlot size m) v vs has.taken in
+          let begins : v.parts.site.place % size ≡ 0 = ap (λ n. n % size) (sym first.is) ∙ has.own.aligned first.number first.taken in
+          record {
+            aligned = ap (λ n. n % size) ends_there ∙ add-mul-mod_self_right v.parts.site.place (suc (length vs)) size ∙ begins;
+            above = λ k taken. let low = has.own.below k taken in omega (arith, low, ends_there, big);
+          }
+
+      account_next : (H : History) (U : List Message) → HasSlots size (v ∷ vs) device.log.bytes fault m → HasAccount sum size device.snapshots.file H U m
+          → HasAccount sum size device.snapshots.file H U (handed_out place m)
+      account_next H U has account = account_handed sum size device.snapshots.file H U m account place (is_new has)
+
       slots_next : HasSlots size (v ∷ vs) device.log.bytes fault m → HasSlots size next device.log.bytes fault (handed_out place m)
       slots_next has =
           let first = All-head (HasSlot size m) v vs has.taken in
@@ -271,6 +287,7 @@ module _ (sum : List ℕ → ℕ) (size : ℕ) where
         begun = λ none. begun_next (fits.begun none);
         own = λ none zeros. own_next sum size (HeaderWasPlaced device.placed) (RecordWasPlaced sum size device.placed) device.log.bytes m stable (v ∷ vs) (fits.own none zeros);
         entries = entries_next (logged H) (line_holds sum size device fault (v ∷ vs) fits.reach pins H A f U fits.parts) fits.entries;
+        account = account_next H U fits.slots fits.account;
       }
 
   -- Tickets are for what they were for,

@@ -45,6 +45,7 @@ use Rattle.sled_core.proofs.OwnLog.Calls.{own_ended}
 use Rattle.sled_core.proofs.Logged.Messages.{adds_logged, put_real}
 use Rattle.sled_core.proofs.Reserve.Ranges.{at_there, chain_within}
 use Rattle.sled_core.proofs.Sealed.Ended.{ends_up}
+use Rattle.sled_core.proofs.Line.Accounts.{account_completed}
 
 -- What the one that is set has as the one before it had it, each has as before.
 pub set_keeps : {T X : Type 0} (f : T → X) (xs : List T) (n : ℕ) (x y : T) → slice_get xs n ≡ Some x → f y ≡ f x → (k : ℕ) (a b : T) → slice_get xs k ≡ Some a → slice_get (set xs n y) k ≡ Some b → f b ≡ f a
@@ -225,6 +226,7 @@ module _ (sum : List ℕ → ℕ) (size : ℕ) (device : State) (fault : Option 
     begun = λ none. subst (λ p. AreBegun sum size device.log.bytes p machine) (sym (first_set line n v (ended_now i r (canceling sum v.parts.bytes r) Canceled v) there refl)) (fits.begun none);
     own = λ none zeros. own_ended sum size (HeaderWasPlaced device.placed) (RecordWasPlaced sum size device.placed) device.log.bytes line n v i r (canceling sum v.parts.bytes r) Canceled there (fits.own none zeros);
     entries = fits.entries;
+    account = fits.account;
   }
 
   -- The newest snapshot's stable place isn't above where it begins.
@@ -261,5 +263,6 @@ module _ (sum : List ℕ → ℕ) (size : ℕ) (device : State) (fault : Option 
           begun = λ none. subst (λ p. AreBegun sum size device.log.bytes p machine) (sym (first_set line n v (ended_now i r (completing r) Completed v) there refl)) (fits.begun none);
           own = λ none zeros. own_ended sum size (HeaderWasPlaced device.placed) (RecordWasPlaced sum size device.placed) device.log.bytes line n v i r (completing r) Completed there (fits.own none zeros);
           entries = entries_adds sum size device.snapshots.file (logged H) (logged done.0) (in_log x) machine put fits.entries past;
+          account = account_completed sum size device.snapshots.file H U machine fits.account done.0 x done.1;
         },
       )

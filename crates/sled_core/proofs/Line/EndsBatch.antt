@@ -36,6 +36,7 @@ use Rattle.sled_core.proofs.Line.Noted.{mark_fits, mark_holds, mark_placed}
 use Rattle.sled_core.proofs.Line.OlderSlots.{entries_noted}
 use Rattle.sled_core.proofs.OwnLog.Calls.{own_ended}
 use Rattle.sled_core.proofs.Reserve.Ranges.{at_there, chain_within}
+use Rattle.sled_core.proofs.Line.Accounts.{account_noted}
 
 -- one of these parts is of one of the segments
 parts_there : (vs : List SegmentView) (k : ℕ) (v : SegmentView) → slice_get vs k ≡ Some v → Contains (map parts_in vs) v.parts
@@ -170,4 +171,5 @@ module _ (sum : List ℕ → ℕ) (size : ℕ) (device : State) (fault : Option 
         begun = λ none. subst (λ p. AreBegun sum size device.log.bytes p machine) (sym (first_set line n v (ended_now i r (marking sum v.parts.bytes r peg) Manifest v) there (λ j. v.parts.site))) (fits.begun none);
         own = λ none zeros. own_ended sum size (HeaderWasPlaced device.placed) (RecordWasPlaced sum size device.placed) device.log.bytes line n v i r (marking sum v.parts.bytes r peg) Manifest there (fits.own none zeros);
         entries = entries_noted sum size device.snapshots.file (logged H) (noted_history (logged H) b) machine refl fits.entries;
+        account = account_noted sum size device.snapshots.file H U machine fits.account (noted_history H b) refl;
       }

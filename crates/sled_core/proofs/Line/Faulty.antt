@@ -15,7 +15,7 @@ use Rattle.sled_core.specs.Logged.{logged}
 use Rattle.sled_core.specs.OpenBatches.{stable_below}
 use Rattle.sled_core.specs.Recoverable.{LeavesRecoverable}
 use Rattle.sled_core.specs.inside.Running.{FitsLine, FitsWith}
-use Rattle.sled_core.specs.inside.Slots.{HaveEntries}
+use Rattle.sled_core.specs.inside.Slots.{HaveEntries, HasAccount}
 use Rattle.sled_core.proofs.Flush.FlushLemmas.{fault_or_none, holds-faulty}
 use Rattle.sled_core.proofs.Flush.SameFits.{fits_faulty}
 
@@ -87,6 +87,7 @@ fits_with_kept sum noted size size' device new fault now line line' m m' pins pi
     begun = λ none. cc;
     own = λ none zeros. cc;
     entries = subst (λ (s : State). HaveEntries sum size s.snapshots.file (logged H) m) (sym d) fits.entries;
+    account = subst (λ (s : State). HasAccount sum size s.snapshots.file H U m) (sym d) fits.account;
   }
 ])
 

@@ -203,6 +203,7 @@ module _ {D C : Type 0} (trace : D → Trace) (sum : List ℕ → ℕ) (old new 
           begun = λ none. subst (λ p. AreBegun sum its_size (state_of (trace (device_of old))).log.bytes p (machine_at old)) (sym (first_at_last (reserved_now more r) (λ _. refl) (line_of old))) (its.begun none);
           own = λ none zeros. own_reserved sum its_size (HeaderWasPlaced (state_of (trace (device_of old))).placed) (RecordWasPlaced sum its_size (state_of (trace (device_of old))).placed) (state_of (trace (device_of old))).log.bytes more r (line_of old) (its.own none zeros);
           entries = its.entries;
+          account = its.account;
         });
     noted = noted_later old new rest.noted (let same = reserves_synced in omega (arith, same));
     kept = kept_same old new rest.noted;

@@ -28,7 +28,7 @@ use Rattle.sled_core.specs.inside.Begun.{line_end}
 use Rattle.sled_core.specs.Recoverable.{LeavesRecoverable}
 use Rattle.sled_core.specs.invariants.Running.{Fits}
 use Rattle.sled_core.specs.inside.Running.{FitsLine, FitsWith}
-use Rattle.sled_core.specs.inside.Slots.{HaveEntries}
+use Rattle.sled_core.specs.inside.Slots.{HaveEntries, HasAccount}
 use Rattle.sled_core.specs.inside.Turned.{ChangesDevice, IsReadyIn, promoted, write_in, written_now}
 use Rattle.sled_core.proofs.Flush.FlushLemmas.{fault_or_none}
 use Rattle.sled_core.proofs.Flush.Settled.{leaves_less}
@@ -192,6 +192,7 @@ module _ {D C : Type 0} (log : Log D C) (n k : ℕ) (r : IsReadyIn (line_of log)
         begun = λ none. let never = some.1 in cc;
         own = λ none zeros. let never = some.1 in cc;
         entries = subst (λ (s : NamesState). HaveEntries sum size s.file (logged H) slots) (sym (names new came).1) fits.entries;
+        account = subst (λ (s : NamesState). HasAccount sum size s.file H U slots) (sym (names new came).1) fits.account;
       }
     ]
 
@@ -225,6 +226,7 @@ module _ {D C : Type 0} (log : Log D C) (n k : ℕ) (r : IsReadyIn (line_of log)
           own = λ none zeros. placed_left sum size log.config.config.least device log.fault.kept whole v k r.buffer r.there r.ready log.segments.first.site.place line (line_segments log) n r.among slots fits.slots (logged H)
               (line_holds sum size device log.fault.kept line fits.reach log.pins H A f U fits.parts) zeros (fits.own whole zeros);
           entries = fits.entries;
+          account = fits.account;
         }))
 
 -- A call that changed the device alone left the line as it was.

@@ -168,6 +168,7 @@ module _ {D C : Type 0} (trace : D → Trace) (sum : List ℕ → ℕ) (old new 
           begun = λ none. subst (λ p. AreBegun sum size (state_of (trace (device_of old))).log.bytes p (machine_at old)) (sym (first_at_last sealed_now (λ _. refl) (line_of old))) (fits.begun none);
           own = λ none zeros. own_sealed sum size (HeaderWasPlaced (state_of (trace (device_of old))).placed) (RecordWasPlaced sum size (state_of (trace (device_of old))).placed) (state_of (trace (device_of old))).log.bytes (line_of old) (fits.own none zeros);
           entries = fits.entries;
+          account = fits.account;
         });
     noted = noted_later old new rest.noted (let same = sealed_synced in omega (arith, same));
     kept = kept_same old new rest.noted;

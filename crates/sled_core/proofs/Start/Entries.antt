@@ -113,13 +113,13 @@ message_used size s H cut is page m there =
     ap (λ p. is_used size s (lid_of p / size)) (sym e.pointer) ∙ entry_used size s e.entry e.there
 
 -- where an element passes, there is one
-from_any : (test : Entry → Bool) (es : List Entry) → list_any test es ≡ true → (e : Entry) × Contains es e × (test e ≡ true)
+pub from_any : {X : Type 0} (test : X → Bool) (xs : List X) → list_any test xs ≡ true → (x : X) × Contains xs x × (test x ≡ true)
 from_any test [] is = absurd (cc)
-from_any test (x ∷ es) is = by (test x) refl is (from_any test es)
+from_any test (x ∷ xs) is = by (test x) refl is (from_any test xs)
   where
-    by : (b : Bool) → test x ≡ b → (b || list_any test es) ≡ true → (list_any test es ≡ true → (e : Entry) × Contains es e × (test e ≡ true)) → (e : Entry) × Contains (x ∷ es) e × (test e ≡ true)
-    by true passes is rest = (x, in_first x es, passes)
-    by false fails is rest = let found = rest is in (found.0, in_rest x found.0 es found.1, found.2)
+    by : (b : Bool) → test x ≡ b → (b || list_any test xs) ≡ true → (list_any test xs ≡ true → (y : _) × Contains xs y × (test y ≡ true)) → (y : _) × Contains (x ∷ xs) y × (test y ≡ true)
+    by true passes is rest = (x, in_first x xs, passes)
+    by false fails is rest = let found = rest is in (found.0, in_rest x found.0 xs found.1, found.2)
 
 -- Where no segment is active, a slot that is used has an entry.
 used_entry : (size : ℕ) (s : SnapshotModel) (k : ℕ) → s.active ≡ None → is_used size s k ≡ true → (e : Entry) × Contains (entries_of s.pages) e × (slot_of size e ≡ k)

@@ -127,7 +127,7 @@ module _ (size len : ℕ) (some : 0 < size) (s : SnapshotModel) where
   stable = stable_place s.stable
 
   -- It ends where the active segment ends at most; and where the log begins one, where that begins.
-  low_active : IsStartable size len s → (a : ℕ) → (e : Entry) → Contains (active_entry stable (Some a) ++ entries_of s.pages) e → segment_number_of size e * size + size ≤ stable / size * size + size
+  pub low_active : IsStartable size len s → (a : ℕ) → (e : Entry) → Contains (active_entry stable (Some a) ++ entries_of s.pages) e → segment_number_of size e * size + size ≤ stable / size * size + size
   low_active startable a e there = elim (in_cases (pos stable, Inline a, 0) e (entries_of s.pages) there) [
     | inl active ↦ (let same = ap (λ (x : Entry). segment_number_of size x * size) active in omega (arith, same))
     | inr among ↦ elim (cases_lt (stable / size * size) (segment_number_of size e * size)) [
@@ -140,7 +140,7 @@ module _ (size len : ℕ) (some : 0 < size) (s : SnapshotModel) where
     ]
   ]
 
-  low_raised : IsStartable size len s → (e : Entry) → Contains (entries_of s.pages) e → segment_number_of size e * size + size ≤ raised size stable
+  pub low_raised : IsStartable size len s → (e : Entry) → Contains (entries_of s.pages) e → segment_number_of size e * size + size ≤ raised size stable
   low_raised startable e among =
       let low = entry_low startable e among in
       let up : stable + (size - 1) < raised size stable + size = lt-div-mul-add some in
@@ -154,7 +154,7 @@ module _ (size len : ℕ) (some : 0 < size) (s : SnapshotModel) where
       sym (mul-div_cancel (segment_number_of size d.entry) some) ∙ ap (λ n. n / size) (sym d.is ∙ same ∙ e.is) ∙ mul-div_cancel (segment_number_of size e.entry) some in
       sym d.slot ∙ (fit.apart d.entry e.entry d.among e.among).1 number ∙ e.slot
 
-  own_started : IsStartable size len s → (end : ℕ) → ((e : Entry) → Contains (all_entries s) e → segment_number_of size e * size + size ≤ end) → HaveOwn size end start
+  pub own_started : IsStartable size len s → (end : ℕ) → ((e : Entry) → Contains (all_entries s) e → segment_number_of size e * size + size ≤ end) → HaveOwn size end start
   own_started startable end low = record {
     aligned = λ k taken. let e = found_taken k taken in ap (λ n. n % size) e.is ∙ mul-mod_left (segment_number_of size e.entry) size;
     below = λ k taken. let e = found_taken k taken in let is = e.is in let less = low e.entry e.among in omega (arith, is, less);

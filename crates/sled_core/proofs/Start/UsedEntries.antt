@@ -44,12 +44,19 @@ module _ (size k : ℕ) where
       | inr rest ↦ absurd (in_nothing m rest)
     ]
 
--- The slot of an entry's pointer is used by a snapshot of which the pages are the table.
-pub entry_used : (size : ℕ) (s : SnapshotModel) (H : History) (cut : ℕ) → IsTable s.pages H cut → (page : ℕ) (m : Message) → Contains (table H cut page) m → is_used size s (lid_of m.pointer / size) ≡ true
+-- A page of which an entry's pointer names a slot has an entry there, where the pages are the table,
+pub page_used : (size : ℕ) (pages : List Page) (H : History) (cut : ℕ) → IsTable pages H cut → (page : ℕ) (m : Message) → Contains (table H cut page) m
+    → list_any (λ e. slot_of size e == lid_of m.pointer / size) (entries_in (get_or pages page Uninitialized)) ≡ true
 unfolding table page_state
-entry_used size s H cut is page m there =
+page_used size pages H cut is page m there =
     let k : ℕ = lid_of m.pointer / size in
     let lies : (lid_of m.pointer / size == k) ≡ true = elim (eqb_tells k k) [ inl same ↦ same.0 | inr other ↦ absurd (other.1 refl) ] in
     let has = of_state size k m lies (last_beginning (of_page H.messages cut page)) (of_page H.messages cut page) there in
-    let found : list_any (λ e. slot_of size e == k) (entries_of s.pages) ≡ true = any_page (λ e. slot_of size e == k) s.pages page (ap (λ (p : Page). list_any (λ e. slot_of size e == k) (entries_in p)) (is.states page) ∙ has) in
+    ap (λ (p : Page). list_any (λ e. slot_of size e == k) (entries_in p)) (is.states page) ∙ has
+
+-- so the snapshot uses the slot.
+pub entry_used : (size : ℕ) (s : SnapshotModel) (H : History) (cut : ℕ) → IsTable s.pages H cut → (page : ℕ) (m : Message) → Contains (table H cut page) m → is_used size s (lid_of m.pointer / size) ≡ true
+entry_used size s H cut is page m there =
+    let k : ℕ = lid_of m.pointer / size in
+    let found : list_any (λ e. slot_of size e == k) (entries_of s.pages) ≡ true = any_page (λ e. slot_of size e == k) s.pages page (page_used size s.pages H cut is page m there) in
     ap (λ (b : Bool). is_active size s.active k || b) found ∙ or-true (is_active size s.active k)

@@ -22,7 +22,7 @@ use Rattle.sled_core.specs.Recoverable.{NoHeaderOfZeros, LeavesRecoverable}
 use Rattle.sled_core.specs.inside.Reached.{StandsAmong, StandsActive}
 use Rattle.sled_core.specs.inside.LogFile.{padded}
 use Rattle.sled_core.specs.Ready.{IsReady}
-use Rattle.sled_core.specs.inside.Slots.{AreBegun, HaveEntries}
+use Rattle.sled_core.specs.inside.Slots.{AreBegun, HasAccount, HaveEntries}
 use Rattle.sled_core.specs.Running.{KeepsItem}
 
 -- whatever snapshots a crash leaves of which only those pass that the log wrote, recovery begins from this one
@@ -96,6 +96,7 @@ pub record FitsWith (sum : List ℕ → ℕ) (noted : List Batch) (size : ℕ) (
   -- all that a reader reads in them was placed by the log
   pub own : fault ≡ None → NoHeaderOfZeros sum → HasPlacedFile sum size device line
   pub entries : HaveEntries sum size device.snapshots.file (logged H) m
+  pub account : HasAccount sum size device.snapshots.file H U m
 
 -- Snapshot and device are ready for a log that fits this history, the end of what was acknowledged and the floor. Log file and snapshots have records and
 -- tables, so they are ready for the history as the log has it; the blobs have the items of the history itself.

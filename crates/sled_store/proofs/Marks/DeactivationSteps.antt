@@ -3,13 +3,15 @@ use Rattle.std.proofs.Common.{if◌then◌else◌, ⊎_elim, ◌≡◌, ◌∙�
 use Rattle.std.specs.List.{Contains, list_any}
 use Rattle.std.proofs.lemmas.Bool.{true≢false, false≢true, and_parts, not-true, eqb-true}
 use Rattle.std.proofs.lemmas.List.Elements.{All-contains, All-map}
-use Rattle.sled_codec.specs.History.{History}
+use Rattle.sled_codec.specs.History.{Message, History}
+use Rattle.sled_store.specs.Marks.{IsSuperseded}
 use Rattle.sled_store.specs.SegmentStates.{SlotState, Machine, is_free, is_active, slot_at, active_place, active_among, is_done, waited_place, waiting_among, drained_if_sparse, freed, is_active_place, freed_if_done, tested, waiting_for}
 use Rattle.sled_store.specs.declared.segment.slot.State.{State}
 use Rattle.sled_store.specs.declared.segment.slot.State.TheVariants.{Free, Active, Inactive, Draining}
 use Rattle.sled_store.proofs.Segments.Elements.{in_cases, in_nothing, from_filter, all_from_in}
-use Rattle.sled_store.proofs.Marks.SlotLemmas.{at, taken_there, HasPlace, by_has, by_listed}
-use Rattle.sled_store.proofs.Marks.Tracked.{IsActiveAt, MayGo}
+use Rattle.sled_store.proofs.Marks.SlotLemmas.{taken_there, HasPlace, by_has, by_listed}
+use Rattle.sled_store.specs.Tracked.{at, IsActiveAt}
+use Rattle.sled_store.proofs.Marks.Tracked.{MayGo}
 use Rattle.sled_store.proofs.Marks.MarkSteps.{Tracks}
 use Rattle.sled_store.proofs.Marks.ReplaceSteps.{sparse_tracks}
 use Rattle.sled_store.proofs.Marks.StableSteps.{freed_tracks, done_goes}
@@ -55,9 +57,9 @@ active_found m l one =
       placed : active_place (at m.slots one.slot) ≡ Some l
       placed = ap (λ (b : Bool). if b then Some (at m.slots one.slot).lsn else None) one.active ∙ ap Some one.lsn
 
-module _ (size base : ℕ) (H : History) (some : 0 < size) where
+module _ (size base : ℕ) (H : History) (Spent : Message → Type 0) (some : 0 < size) (spends : (e : Message) → IsSuperseded size base H e → Spent e) where
   -- The slots whose free waited for a place below the base may go.
-  pub waiting_go : (m : Machine) (place : ℕ) → Tracks size base H m → place + size ≤ base → (k : ℕ) → Contains (waiting_for place m) k → MayGo size base H m.slots k
+  pub waiting_go : (m : Machine) (place : ℕ) → Tracks size base H Spent m → place + size ≤ base → (k : ℕ) → Contains (waiting_for place m) k → MayGo size base H Spent m.slots k
   waiting_go m place t below k there =
       let found = from_map (λ (w : ℕ × ℕ). w.1) (filter (λ (w : ℕ × ℕ). w.0 == place) (waiting_among m.slots)) k there in
       let w : ℕ × ℕ = found.0 in
@@ -67,24 +69,24 @@ module _ (size base : ℕ) (H : History) (some : 0 < size) where
       let is : has.index ≡ k = omega (arith, has.is, found.2) in
       let parts = waited_parts (at m.slots has.index) w.0 has.has in
       let latest : (at m.slots has.index).latest ≡ Some w.0 = parts.1 in
-      subst (MayGo size base H m.slots) is
-      (done_goes size base H m.slots m.tip has.index some t parts.0 (λ l noted. let same : w.0 ≡ l = cc (latest, noted) in omega (arith, same, first, below)))
+      subst (MayGo size base H Spent m.slots) is
+      (done_goes size base H Spent m.slots m.tip has.index some spends t parts.0 (λ l noted. let same : w.0 ≡ l = cc (latest, noted) in omega (arith, same, first, below)))
 
   -- A slot that is done and waits for no active segment may go.
-  pub due_goes : (m : Machine) (k : ℕ) → Tracks size base H m → is_done (slot_at m k) ≡ true → is_active_place m (slot_at m k).latest ≡ false
-      → MayGo size base H m.slots k
+  pub due_goes : (m : Machine) (k : ℕ) → Tracks size base H Spent m → is_done (slot_at m k) ≡ true → is_active_place m (slot_at m k).latest ≡ false
+      → MayGo size base H Spent m.slots k
   due_goes m k t done idle =
-      done_goes size base H m.slots m.tip k some t done
+      done_goes size base H Spent m.slots m.tip k some spends t done
       (λ l noted. ⊎_elim (λ active. absurd (true≢false (sym (active_found m l active) ∙ sym (ap (is_active_place m) noted) ∙ idle))) (λ below. below) (t.latest k l noted))
 
-  freed_if_done_tracks : (m : Machine) (k : ℕ) → Tracks size base H m → Tracks size base H (freed_if_done size k m).machine
+  freed_if_done_tracks : (m : Machine) (k : ℕ) → Tracks size base H Spent m → Tracks size base H Spent (freed_if_done size k m).machine
   freed_if_done_tracks m k t = by (is_done (slot_at m k) && not (is_active_place m (slot_at m k).latest)) refl where
     by : (b : Bool) → (is_done (slot_at m k) && not (is_active_place m (slot_at m k).latest)) ≡ b
-        → Tracks size base H (if b then freed size k m else record { machine = m; calls = [] }).machine
+        → Tracks size base H Spent (if b then freed size k m else record { machine = m; calls = [] }).machine
     by true due =
         let parts = and_parts (is_done (slot_at m k)) (not (is_active_place m (slot_at m k).latest)) due in
-        freed_tracks size base H m k t (due_goes m k t parts.0 (not-true (is_active_place m (slot_at m k).latest) parts.1))
+        freed_tracks size base H Spent m k t (due_goes m k t parts.0 (not-true (is_active_place m (slot_at m k).latest) parts.1))
     by false waits = t
 
-  pub tested_tracks : (m : Machine) (k : ℕ) → Tracks size base H m → Tracks size base H (tested size k m).machine
-  tested_tracks m k t = freed_if_done_tracks (drained_if_sparse size k m) k (sparse_tracks size base H m k t)
+  pub tested_tracks : (m : Machine) (k : ℕ) → Tracks size base H Spent m → Tracks size base H Spent (tested size k m).machine
+  tested_tracks m k t = freed_if_done_tracks (drained_if_sparse size k m) k (sparse_tracks size base H Spent m k t)

@@ -6,13 +6,14 @@ use Rattle.std.proofs.lemmas.List.{length-set, get_or-set_same, get_or-set_other
 use Rattle.std.proofs.lemmas.List.Sums.{sum_by-cons}
 use Rattle.sled_codec.specs.History.{Message, History, begins_page, table}
 use Rattle.sled_codec.specs.Pointers.{lid_of}
-use Rattle.sled_store.specs.Marks.{info_of, slot_with, IsPast, Completes, IsFormerState, greatest_mark, Marked, unused, hands_out, links, replaces, batches, stabilizes, pops, is_standing, standing_size}
+use Rattle.sled_store.specs.Marks.{info_of, slot_with, IsPast, Completes, IsFormerState, IsSuperseded, greatest_mark, Marked, unused, hands_out, links, replaces, batches, stabilizes, pops, is_standing, standing_size}
 use Rattle.sled_store.specs.SegmentStates.{SlotState, Machine, is_free, free_slot, taken_slot, slot_at, with_slot, next_slot, handed_out, linked_slot, linked, all_outdated, outdating, replaced_slot, is_sparse, drained, drained_slot, drained_if_sparse, replaced_one, replaced_all, replaced, stabilized}
 use Rattle.sled_store.specs.declared.segment.slot.CacheInfo.{CacheInfo}
 use Rattle.sled_store.proofs.Segments.TableEntries.{from_table}
-use Rattle.sled_store.proofs.Marks.SlotLemmas.{at, free_behind, taken_there, Changes, set_changes, push_changes, each_slot}
-use Rattle.sled_store.proofs.Marks.MarkSteps.{Tracks, next_free}
-use Rattle.sled_store.proofs.Marks.MarkedLemmas.{IsTruthful, truthful, stable_tracks, stable_holds}
+use Rattle.sled_store.specs.Tracked.{at}
+use Rattle.sled_store.proofs.Marks.SlotLemmas.{free_behind, taken_there, Changes, set_changes, push_changes, each_slot}
+use Rattle.sled_store.proofs.Marks.MarkSteps.{next_free}
+use Rattle.sled_store.proofs.Marks.MarkedLemmas.{IsTruthful, TracksAll, truthful, stable_tracks, stable_holds}
 use Rattle.sled_store.proofs.Marks.StandingSums.{Stands, share, share_within, standing_within, standing_none, one_within, total_more, standing_more, standing_replaced}
 use Rattle.sled_store.proofs.Marks.TableLemmas.{entry_above}
 
@@ -90,7 +91,7 @@ abbrev pub IsCountable : History → Type 0
 IsCountable H = sum_by (λ e. e.size) H.messages < 2 ^ 64
 
 -- no message stands in a free slot
-free_none : (size base : ℕ) (H : History) (m : Machine) (k : ℕ) → Tracks size base H m → is_free (slot_at m k).state ≡ true → standing_size size H k ≡ 0
+free_none : (size base : ℕ) (H : History) (m : Machine) (k : ℕ) → TracksAll size base H m → is_free (slot_at m k).state ≡ true → standing_size size H k ≡ 0
 free_none size base H m k t free =
     standing_none size H k (λ e there stands is.
     ⊎_elim (λ held. true≢false (sym free ∙ subst (λ (i : ℕ). is_free (slot_at m i).state ≡ false) is held.taken))
@@ -107,7 +108,7 @@ module _ (size mark : ℕ) (H : History) (m : Machine) (t : IsTruthful size mark
     by : (b : Bool) → nat_lt (next_slot m) (length m.slots) ≡ b → (j : ℕ)
         → standing_size size H j ≤ (at (if b then set m.slots (next_slot m) (taken_slot place) else m.slots ++ taken_slot place ∷ []) j).held
     by true lt =
-        put (next_slot m) (set m.slots (next_slot m) (taken_slot place)) (next_free size (mark / size * size) H m t.tracks)
+        put (next_slot m) (set m.slots (next_slot m) (taken_slot place)) (next_free size (mark / size * size) H (IsSuperseded size (mark / size * size) H) m t.tracks)
         (set_changes m.slots (next_slot m) (taken_slot place) (ltb-true (next_slot m) (length m.slots) lt))
     by false ge =
         put (length m.slots) (m.slots ++ taken_slot place ∷ []) (ap (λ (s : SlotState). is_free s.state) (free_behind m.slots (length m.slots) (omega arith))) (push_changes m.slots (taken_slot place))

@@ -10,7 +10,7 @@ use Rattle.sled_store.specs.SegmentStates.{Machine, LiesIn, MayMark, is_free, ne
 use Rattle.sled_store.specs.declared.segment.slot.CacheInfo.{CacheInfo}
 use Rattle.sled_store.proofs.Segments.Elements.{all_from_in}
 use Rattle.sled_store.proofs.Marks.SlotLemmas.{taken_there}
-use Rattle.sled_store.proofs.Marks.Tracked.{IsHeld}
+use Rattle.sled_store.specs.Tracked.{IsHeld}
 use Rattle.sled_store.proofs.Marks.MarkSteps.{next_free}
 use Rattle.sled_store.proofs.Marks.StableSteps.{segment_above}
 use Rattle.sled_store.proofs.Marks.DeactivationSteps.{from_map}
@@ -64,7 +64,7 @@ module _ (size mark : ℕ) (H : History) (m : Machine) (t : IsTruthful size mark
   none_in_free cut page k e le entry free is = true≢false (sym free ∙ subst (λ (i : ℕ). is_free (slot_at m i).state ≡ false) is (above_mark_linked cut page e le entry).lies.taken)
 
   pub next_is_free : is_free (slot_at m (next_slot m)).state ≡ true
-  next_is_free = next_free size (mark / size * size) H m t.tracks
+  next_is_free = next_free size (mark / size * size) H (IsSuperseded size (mark / size * size) H) m t.tracks
 
   -- a segment that is needed is in another slot than the next one
   pub needed_elsewhere : (cut place : ℕ) → mark / size * size ≤ cut → IsNeeded size H cut place → (k : ℕ) × IsIn m k place × (k ≢ next_slot m)

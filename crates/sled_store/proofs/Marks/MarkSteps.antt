@@ -4,7 +4,7 @@ use Rattle.std.specs.List.{Contains}
 use Rattle.std.specs.Ordering.{nat_cmp}
 use Rattle.std.proofs.lemmas.Bool.{false≢true, ltb-true, ltb-false}
 use Rattle.std.proofs.lemmas.List.{length-take, get_or-take}
-use Rattle.sled_codec.specs.History.{History}
+use Rattle.sled_codec.specs.History.{Message, History}
 use Rattle.sled_codec.specs.Pointers.{lid_of}
 use Rattle.sled_store.specs.Begin.{first_or}
 use Rattle.sled_store.specs.Marks.{IsNewPlace, HasReplacement}
@@ -13,18 +13,19 @@ use Rattle.sled_store.specs.declared.segment.slot.CacheInfo.{CacheInfo}
 use Rattle.sled_store.specs.declared.segment.slot.State.{State}
 use Rattle.sled_store.specs.declared.segment.slot.State.TheVariants.{Free, Active, Inactive, Draining}
 use Rattle.sled_store.proofs.Segments.Elements.{in_first}
-use Rattle.sled_store.proofs.Marks.SlotLemmas.{at, free_behind, taken_there, set_changes, push_changes, each_slot, in_insert, Passes, where_passes}
-use Rattle.sled_store.proofs.Marks.Tracked.{IsActiveAt, IsTracked, IsUpdate, updated, taken_out}
+use Rattle.sled_store.proofs.Marks.SlotLemmas.{free_behind, taken_there, set_changes, push_changes, each_slot, in_insert, Passes, where_passes}
+use Rattle.sled_store.specs.Tracked.{at, IsActiveAt, IsTracked}
+use Rattle.sled_store.proofs.Marks.Tracked.{IsUpdate, updated, taken_out}
 
 -- what the slots of a machine say of a history's messages
-abbrev pub Tracks : ℕ → ℕ → History → Machine → Type 0
-Tracks size base H m = IsTracked size base H m.slots m.tip
+abbrev pub Tracks : ℕ → ℕ → History → (Message → Type 0) → Machine → Type 0
+Tracks size base H Spent m = IsTracked size base H Spent m.slots m.tip
 
 -- Handing out.
 
 -- the slot that is handed out next is free
-pub next_free : (size base : ℕ) (H : History) (m : Machine) → Tracks size base H m → is_free (slot_at m (next_slot m)).state ≡ true
-next_free size base H m t = by (free_among (take m.tip m.slots)) (where_passes (λ s. is_free s.state) 0 (take m.tip m.slots)) where
+pub next_free : (size base : ℕ) (H : History) (Spent : Message → Type 0) (m : Machine) → Tracks size base H Spent m → is_free (slot_at m (next_slot m)).state ≡ true
+next_free size base H Spent m t = by (free_among (take m.tip m.slots)) (where_passes (λ s. is_free s.state) 0 (take m.tip m.slots)) where
   by : (ks : List ℕ) → ((k : ℕ) → Contains ks k → Passes (λ s. is_free s.state) 0 (take m.tip m.slots) k) → is_free (at m.slots (first_or m.tip ks)).state ≡ true
   by [] passes = t.cut_off m.tip (omega arith)
   by (k ∷ ks) passes =
@@ -34,18 +35,18 @@ next_free size base H m t = by (free_among (take m.tip m.slots)) (where_passes (
       let same : at (take m.tip m.slots) first.index ≡ at m.slots k = get_or-take m.tip m.slots first.index free_slot lt ∙ ap (at m.slots) (sym is) in
       ap (λ (s : SlotState). is_free s.state) (sym same) ∙ first.passes
 
-pub handed_out_tracks : (size base : ℕ) (H : History) (m : Machine) (place : ℕ) → Tracks size base H m → IsNewPlace size place m → Tracks size base H (handed_out place m)
-handed_out_tracks size base H m place t new_place = by (nat_lt k (length m.slots)) refl where
+pub handed_out_tracks : (size base : ℕ) (H : History) (Spent : Message → Type 0) (m : Machine) (place : ℕ) → Tracks size base H Spent m → IsNewPlace size place m → Tracks size base H Spent (handed_out place m)
+handed_out_tracks size base H Spent m place t new_place = by (nat_lt k (length m.slots)) refl where
   k : ℕ
   k = next_slot m
 
   by : (b : Bool) → nat_lt (next_slot m) (length m.slots) ≡ b
-      → IsTracked size base H (if b then set m.slots (next_slot m) (taken_slot place) else m.slots ++ taken_slot place ∷ []) (max m.tip (next_slot m + 1))
+      → IsTracked size base H Spent (if b then set m.slots (next_slot m) (taken_slot place) else m.slots ++ taken_slot place ∷ []) (max m.tip (next_slot m + 1))
   by true lt =
-      taken_out size base H m.slots m.tip t (next_slot m) place (set m.slots (next_slot m) (taken_slot place)) (max m.tip (next_slot m + 1))
-      (set_changes m.slots (next_slot m) (taken_slot place) (ltb-true (next_slot m) (length m.slots) lt)) (next_free size base H m t) (omega arith) (omega arith) new_place.aligned new_place.above
+      taken_out size base H Spent m.slots m.tip t (next_slot m) place (set m.slots (next_slot m) (taken_slot place)) (max m.tip (next_slot m + 1))
+      (set_changes m.slots (next_slot m) (taken_slot place) (ltb-true (next_slot m) (length m.slots) lt)) (next_free size base H Spent m t) (omega arith) (omega arith) new_place.aligned new_place.above
   by false ge =
-      taken_out size base H m.slots m.tip t (length m.slots) place (m.slots ++ taken_slot place ∷ []) (max m.tip (next_slot m + 1)) (push_changes m.slots (taken_slot place))
+      taken_out size base H Spent m.slots m.tip t (length m.slots) place (m.slots ++ taken_slot place ∷ []) (max m.tip (next_slot m + 1)) (push_changes m.slots (taken_slot place))
       (ap (λ (s : SlotState). is_free s.state) (free_behind m.slots (length m.slots) (omega arith))) (omega (arith, ltb-false (next_slot m) (length m.slots) ge)) (omega arith) new_place.aligned new_place.above
 
 -- One slot.
@@ -63,9 +64,9 @@ replacement_at size H s n page lsn latest by = record {
   within = by.within;
 }
 
-pub set_tracks : (size base : ℕ) (H : History) (ss : List SlotState) (tip k : ℕ) (s : SlotState) → IsTracked size base H ss tip
-    → is_free (at ss k).state ≡ false → IsUpdate size base H ss (at ss k) s → IsTracked size base H (set ss k s) tip
-set_tracks size base H ss tip k s t taken update = updated size base H ss tip t k s (set ss k s) (set_changes ss k s (taken_there ss k taken)) taken update
+pub set_tracks : (size base : ℕ) (H : History) (Spent : Message → Type 0) (ss : List SlotState) (tip k : ℕ) (s : SlotState) → IsTracked size base H Spent ss tip
+    → is_free (at ss k).state ≡ false → IsUpdate size base H ss (at ss k) s → IsTracked size base H Spent (set ss k s) tip
+set_tracks size base H Spent ss tip k s t taken update = updated size base H Spent ss tip t k s (set ss k s) (set_changes ss k s (taken_there ss k taken)) taken update
 
 -- The segment in a slot stays, and is as active as before.
 pub record IsSameSegment (old new : SlotState) : Type 0 where
@@ -91,12 +92,24 @@ active_same old new place same at_one = record { slot = at_one.slot; active = (s
 
 -- Links.
 
-module _ (size base : ℕ) (H : History) (m : Machine) (t : Tracks size base H m) (page : ℕ) (info : CacheInfo) (taken : is_free (slot_at m (lid_of info.pointer / size)).state ≡ false) where
-  pub linked_tracks : Tracks size base H (linked size page info m)
+module _ (size : ℕ) (m : Machine) (info : CacheInfo) (taken : is_free (slot_at m (lid_of info.pointer / size)).state ≡ false) where
+  pub linked_same : (page : ℕ) → SameSegments m.slots (linked size page info m).slots
+  linked_same page =
+      let k = lid_of info.pointer / size in
+      set_same m.slots k (linked_slot page info.log_size (slot_at m k)) (taken_there m.slots k taken)
+      (record { free = refl; active = refl; lsn = refl; pages = λ p there. in_insert nat_cmp (slot_at m k).pages page p there })
+
+  pub outdating_same : (old : List CacheInfo) → SameSegments m.slots (outdating size info old m).slots
+  outdating_same old =
+      let k = lid_of info.pointer / size in
+      set_same m.slots k (record (slot_at m k) { blobs = all_outdated info.pointer old (slot_at m k).blobs }) (taken_there m.slots k taken) (record { free = refl; active = refl; lsn = refl; pages = λ p there. there })
+
+module _ (size base : ℕ) (H : History) (Spent : Message → Type 0) (m : Machine) (t : Tracks size base H Spent m) (page : ℕ) (info : CacheInfo) (taken : is_free (slot_at m (lid_of info.pointer / size)).state ≡ false) where
+  pub linked_tracks : Tracks size base H Spent (linked size page info m)
   linked_tracks =
       let k = lid_of info.pointer / size in
       let s : SlotState = linked_slot page info.log_size (slot_at m k) in
-      set_tracks size base H m.slots m.tip k s t taken (record {
+      set_tracks size base H Spent m.slots m.tip k s t taken (record {
         taken = taken;
         lsn = refl;
         stable = λ none. t.stable k taken none;
@@ -106,17 +119,11 @@ module _ (size base : ℕ) (H : History) (m : Machine) (t : Tracks size base H m
         within = λ p there. in_insert nat_cmp (slot_at m k).pages page p (t.within k p there);
       })
 
-  pub linked_same : SameSegments m.slots (linked size page info m).slots
-  linked_same =
-      let k = lid_of info.pointer / size in
-      set_same m.slots k (linked_slot page info.log_size (slot_at m k)) (taken_there m.slots k taken)
-      (record { free = refl; active = refl; lsn = refl; pages = λ p there. in_insert nat_cmp (slot_at m k).pages page p there })
-
-  pub outdating_tracks : (old : List CacheInfo) → Tracks size base H (outdating size info old m)
+  pub outdating_tracks : (old : List CacheInfo) → Tracks size base H Spent (outdating size info old m)
   outdating_tracks old =
       let k = lid_of info.pointer / size in
       let s : SlotState = record (slot_at m k) { blobs = all_outdated info.pointer old (slot_at m k).blobs } in
-      set_tracks size base H m.slots m.tip k s t taken (record {
+      set_tracks size base H Spent m.slots m.tip k s t taken (record {
         taken = taken;
         lsn = refl;
         stable = λ none. t.stable k taken none;
@@ -125,11 +132,6 @@ module _ (size base : ℕ) (H : History) (m : Machine) (t : Tracks size base H m
         latest = t.latest k;
         within = t.within k;
       })
-
-  pub outdating_same : (old : List CacheInfo) → SameSegments m.slots (outdating size info old m).slots
-  outdating_same old =
-      let k = lid_of info.pointer / size in
-      set_same m.slots k (record (slot_at m k) { blobs = all_outdated info.pointer old (slot_at m k).blobs }) (taken_there m.slots k taken) (record { free = refl; active = refl; lsn = refl; pages = λ p there. there })
 
 -- Drains.
 
@@ -150,9 +152,9 @@ inactive_not_active s is = by s.state is where
   by Draining is = refl
 
 module _ (m : Machine) (k : ℕ) (inactive : is_inactive (slot_at m k).state ≡ true) where
-  pub drained_tracks : (size base : ℕ) (H : History) → Tracks size base H m → Tracks size base H (drained k m)
-  drained_tracks size base H t =
-      set_tracks size base H m.slots m.tip k (drained_slot (slot_at m k)) t (inactive_taken (slot_at m k) inactive) (record {
+  pub drained_tracks : (size base : ℕ) (H : History) (Spent : Message → Type 0) → Tracks size base H Spent m → Tracks size base H Spent (drained k m)
+  drained_tracks size base H Spent t =
+      set_tracks size base H Spent m.slots m.tip k (drained_slot (slot_at m k)) t (inactive_taken (slot_at m k) inactive) (record {
         taken = refl;
         lsn = refl;
         stable = λ none. t.stable k (inactive_taken (slot_at m k) inactive) (inactive_not_active (slot_at m k) inactive);

@@ -12,8 +12,8 @@ use Rattle.sled_store.specs.SegmentStates.{SlotState, Machine, is_free, free_slo
 use Rattle.sled_store.specs.declared.segment.slot.CacheInfo.{CacheInfo}
 use Rattle.sled_store.proofs.Segments.Elements.{in_nothing}
 use Rattle.sled_store.proofs.Segments.TableEntries.{from_table}
-use Rattle.sled_store.proofs.Marks.SlotLemmas.{at, free_behind, taken_there, inserted}
-use Rattle.sled_store.proofs.Marks.Tracked.{IsHeld, IsActiveAt, IsTracked}
+use Rattle.sled_store.proofs.Marks.SlotLemmas.{free_behind, taken_there, inserted}
+use Rattle.sled_store.specs.Tracked.{at, IsHeld, IsActiveAt, IsTracked}
 use Rattle.sled_store.proofs.Marks.MarkSteps.{Tracks, handed_out_tracks, SameSegments, same_then, active_same, linked_tracks, linked_same, outdating_tracks, outdating_same}
 use Rattle.sled_store.proofs.Marks.ReplaceSteps.{LiesBelow, below_same, replaced_all_tracks}
 use Rattle.sled_store.proofs.Marks.StableSteps.{NotesPlace, HoldsAsMuch, segment_mono}
@@ -21,11 +21,15 @@ use Rattle.sled_store.proofs.Marks.DeactivationSteps.{from_map}
 use Rattle.sled_store.proofs.Marks.StabilizeSteps.{stabilized_tracks, stabilized_waits, stabilized_holds}
 use Rattle.sled_store.proofs.Marks.TableLemmas.{Ascends, added_ascends, added_keeps, added_there, added_cases, entry_above}
 
+-- a machine tracks a history of which those messages are spent that are superseded
+abbrev pub TracksAll : ℕ → ℕ → History → Machine → Type 0
+TracksAll size base H m = Tracks size base H (IsSuperseded size base H) m
+
 -- a history whose messages ascend, and a machine that tracks it
 pub record IsTruthful (size mark : ℕ) (H : History) (m : Machine) : Type 0 where
   pub some : 0 < size
   pub ascends : Ascends H.messages
-  pub tracks : Tracks size (mark / size * size) H m
+  pub tracks : TracksAll size (mark / size * size) H m
 
 -- Entries.
 
@@ -38,13 +42,13 @@ not_superseded size place H cut page e some order entry le by =
     omega (arith, entry_above H cut page e order entry x by.there by.same_page by.begins lt, by.later)
 
 -- an entry of a table below a cut that isn't below the base lies in its segment
-pub entry_held : (size base : ℕ) (H : History) (m : Machine) (cut page : ℕ) (e : Message) → 0 < size → Ascends H.messages → Tracks size base H m
+pub entry_held : (size base : ℕ) (H : History) (m : Machine) (cut page : ℕ) (e : Message) → 0 < size → Ascends H.messages → TracksAll size base H m
     → base ≤ cut → Contains (table H cut page) e → IsHeld size (slot_at m (slot_with size e)) e
 entry_held size base H m cut page e some order t le entry =
     ⊎_elim (λ held. held) (λ superseded. absurd (not_superseded size base H cut page e some order entry le superseded)) (t.messages e (from_table H cut page e entry).0)
 
 -- an entry of the table of all messages lies in its segment
-pub last_held : (size base : ℕ) (H : History) (m : Machine) (cut page : ℕ) (e : Message) → Ascends H.messages → Tracks size base H m → IsPast H cut
+pub last_held : (size base : ℕ) (H : History) (m : Machine) (cut page : ℕ) (e : Message) → Ascends H.messages → TracksAll size base H m → IsPast H cut
     → Contains (table H cut page) e → IsHeld size (slot_at m (slot_with size e)) e
 last_held size base H m cut page e order t past entry =
     ⊎_elim (λ held. held) (λ by. absurd (omega (arith, entry_above H cut page e order entry by.message by.there by.same_page by.begins (past by.message by.there), by.later)))
@@ -77,12 +81,13 @@ superseded_more size base base' H H' e keeps le by = record {
 }
 
 -- Where each message that is new lies in its segment, and the base is raised at most, all is tracked.
-more_tracks : (size base base' : ℕ) (H H' : History) (m : Machine) → Tracks size base H m → base ≤ base'
+pub more_tracks : (size base base' : ℕ) (H H' : History) (Spent Later : Message → Type 0) (m : Machine) → Tracks size base H Spent m → base ≤ base'
     → ((x : Message) → Contains H.messages x → Contains H'.messages x)
-    → ((x : Message) → Contains H'.messages x → IsHeld size (slot_at m (slot_with size x)) x ⊎ Contains H.messages x) → Tracks size base' H' m
-more_tracks size base base' H H' m t le keeps new = record {
+    → ((x : Message) → Contains H'.messages x → IsHeld size (slot_at m (slot_with size x)) x ⊎ Contains H.messages x)
+    → ((x : Message) → Contains H.messages x → Spent x → Later x) → Tracks size base' H' Later m
+more_tracks size base base' H H' Spent Later m t le keeps new still = record {
   cut_off = t.cut_off;
-  messages = λ e there. ⊎_elim (λ held. inl held) (λ old. ⊎_elim (λ held. inl held) (λ by. inr (superseded_more size base base' H H' e keeps le by)) (t.messages e old)) (new e there);
+  messages = λ e there. ⊎_elim (λ held. inl held) (λ old. ⊎_elim (λ held. inl held) (λ by. inr (still e old by)) (t.messages e old)) (new e there);
   gone = λ k page there. replacement_more size H H' (at m.slots k) page keeps (t.gone k page there);
   latest = λ k place is. ⊎_elim (λ active. inl active) (λ below. inr (omega (arith, below, le))) (t.latest k place is);
   within = t.within;
@@ -94,8 +99,8 @@ more_tracks size base base' H H' m t le keeps new = record {
 all_free : (k : ℕ) → is_free (at [] k).state ≡ false → true ≡ false
 all_free k there = sym (ap (λ (s : SlotState). is_free s.state) (free_behind [] k (omega arith))) ∙ there
 
-unused_tracks : (size base : ℕ) → IsTracked size base no_history [] 0
-unused_tracks size base = record {
+pub unused_tracks : (size base : ℕ) (Spent : Message → Type 0) → IsTracked size base no_history Spent [] 0
+unused_tracks size base Spent = record {
   cut_off = λ k le. ap (λ (s : SlotState). is_free s.state) (free_behind [] k (omega arith));
   messages = λ e there. absurd (in_nothing e there);
   gone = λ k page there. absurd (in_nothing page (subst (λ (s : SlotState). Contains s.gone page) (free_behind [] k (omega arith)) there));
@@ -106,99 +111,126 @@ unused_tracks size base = record {
   apart = λ j k one two same. absurd (true≢false (all_free j one));
 }
 
-module _ (size mark : ℕ) (H : History) (m : Machine) (t : IsTruthful size mark H m) (x : Message) (H' : History) (completes : Completes H x H') (may : MayMark size m (info_of x) []) where
+module _ (size base : ℕ) (H : History) (m : Machine) (some : 0 < size) (Spent Later : Message → Type 0) (t : Tracks size base H Spent m) (x : Message) (H' : History)
+    (completes : Completes H x H') (may : MayMark size m (info_of x) []) (still : (e : Message) → Contains H.messages e → Spent e → Later e) where
   -- a message is completed, and linked
-  linked_message : Tracks size (mark / size * size) H' (linked size x.page (info_of x) m)
+  pub linked_message : Tracks size base H' Later (linked size x.page (info_of x) m)
   linked_message =
       let k = slot_with size x in
       let s : SlotState = linked_slot x.page x.size (slot_at m k) in
       let here : slot_at (linked size x.page (info_of x) m) k ≡ s = get_or-set_same m.slots k s free_slot (taken_there m.slots k may.lies.taken) in
       let held : IsHeld size (slot_at (linked size x.page (info_of x) m) k) x =
       subst (λ (n : SlotState). IsHeld size n x) (sym here) (record { taken = may.lies.taken; lsn = may.lies.lsn; page = inserted nat_cmp exact_unsigned (slot_at m k).pages x.page }) in
-      let base = mark / size * size in
-      more_tracks size base base H H' (linked size x.page (info_of x) m) (linked_tracks size base H m t.tracks x.page (info_of x) may.lies.taken) (omega arith) (added_keeps H x H' completes.adds)
-      (λ e there. ⊎_elim (λ is. inl (subst (λ (n : Message). IsHeld size (slot_at (linked size x.page (info_of x) m) (slot_with size n)) n) is held)) (λ old. inr old) (added_cases H x H' completes.adds e there))
+      more_tracks size base base H H' Spent Later (linked size x.page (info_of x) m) (linked_tracks size base H Spent m t x.page (info_of x) may.lies.taken) (omega arith) (added_keeps H x H' completes.adds)
+      (λ e there. ⊎_elim (λ is. inl (subst (λ (n : Message). IsHeld size (slot_at (linked size x.page (info_of x) m) (slot_with size n)) n) is held)) (λ old. inr old) (added_cases H x H' completes.adds e there)) still
 
-  -- Its old messages lie in segments at or below its own.
-  pub former_below : (old : List CacheInfo) → IsFormerState H x.page old → (o : CacheInfo) → Contains old o → LiesBelow size (x.place / size * size) x.page m.slots o
-  former_below old former o there =
-      let found = from_map info_of (table H former.cut x.page) o (subst (λ (os : List CacheInfo). Contains os o) former.is there) in
-      let e : Message = found.0 in
-      let held : IsHeld size (slot_at m (slot_with size e)) e = last_held size (mark / size * size) H m former.cut x.page e t.ascends t.tracks former.past found.1 in
-      let from = from_table H former.cut x.page e found.1 in
-      let lt : e.place < x.place = completes.newest e from.0 from.1 in
-      let below : e.place / size * size ≤ x.place / size * size = segment_mono size e.place x.place t.some (omega (arith, lt)) in
-      let has : Contains (slot_at m (slot_with size e)).pages x.page = subst (λ (n : ℕ). Contains (slot_at m (slot_with size e)).pages n) from.1 held.page in
-      subst (LiesBelow size (x.place / size * size) x.page m.slots) found.2 (record { taken = held.taken; below = omega (arith, held.lsn, below); has = has })
+  module _ (old : List CacheInfo) (former : IsFormerState H x.page old)
+      (held_there : (e : Message) → Contains (table H former.cut x.page) e → IsHeld size (slot_at m (slot_with size e)) e) where
+    -- Its old messages lie in segments at or below its own.
+    pub former_below : (o : CacheInfo) → Contains old o → LiesBelow size (x.place / size * size) x.page m.slots o
+    former_below o there =
+        let found = from_map info_of (table H former.cut x.page) o (subst (λ (os : List CacheInfo). Contains os o) former.is there) in
+        let e : Message = found.0 in
+        let held : IsHeld size (slot_at m (slot_with size e)) e = held_there e found.1 in
+        let from = from_table H former.cut x.page e found.1 in
+        let lt : e.place < x.place = completes.newest e from.0 from.1 in
+        let below : e.place / size * size ≤ x.place / size * size = segment_mono size e.place x.place some (omega (arith, lt)) in
+        let has : Contains (slot_at m (slot_with size e)).pages x.page = subst (λ (n : ℕ). Contains (slot_at m (slot_with size e)).pages n) from.1 held.page in
+        subst (LiesBelow size (x.place / size * size) x.page m.slots) found.2 (record { taken = held.taken; below = omega (arith, held.lsn, below); has = has })
 
-  replaced_message : (old : List CacheInfo) → begins_page x.kind ≡ true → IsFormerState H x.page old
-      → Tracks size (mark / size * size) H' (replaced size x.page (info_of x) old m)
-  replaced_message old begins former =
-      let base = mark / size * size in
-      let place = x.place / size * size in
-      let k = slot_with size x in
-      let n : Machine = linked size x.page (info_of x) m in
-      let taken_same : SameSegments m.slots n.slots = linked_same size base H m t.tracks x.page (info_of x) may.lies.taken in
-      let taken : is_free (slot_at n k).state ≡ false = (taken_same k).free ∙ may.lies.taken in
-      let t_n : Tracks size base H' n = linked_message in
-      let o : Machine = outdating size (info_of x) old n in
-      let t_o : Tracks size base H' o = outdating_tracks size base H' n t_n x.page (info_of x) taken old in
-      let same : SameSegments m.slots o.slots = same_then m.slots n.slots o.slots taken_same (outdating_same size base H' n t_n x.page (info_of x) taken old) in
-      let active : IsActiveAt m.slots place = record { slot = k; active = may.active; lsn = sym may.lies.lsn } in
-      replaced_all_tracks size base H' x (added_there H x H' completes.adds) begins old o t_o (λ p there. below_same size place x.page m.slots o.slots p same (former_below old former p there)) (active_same m.slots o.slots place same active)
+    -- It is marked in place of these.
+    pub replaced_message : begins_page x.kind ≡ true → Tracks size base H' Later (replaced size x.page (info_of x) old m)
+    replaced_message begins =
+        let place = x.place / size * size in
+        let k = slot_with size x in
+        let n : Machine = linked size x.page (info_of x) m in
+        let taken_same : SameSegments m.slots n.slots = linked_same size m (info_of x) may.lies.taken x.page in
+        let taken : is_free (slot_at n k).state ≡ false = (taken_same k).free ∙ may.lies.taken in
+        let t_n : Tracks size base H' Later n = linked_message in
+        let o : Machine = outdating size (info_of x) old n in
+        let t_o : Tracks size base H' Later o = outdating_tracks size base H' Later n t_n x.page (info_of x) taken old in
+        let same : SameSegments m.slots o.slots = same_then m.slots n.slots o.slots taken_same (outdating_same size n (info_of x) taken old) in
+        let active : IsActiveAt m.slots place = record { slot = k; active = may.active; lsn = sym may.lies.lsn } in
+        replaced_all_tracks size base H' Later x (added_there H x H' completes.adds) begins old o t_o (λ p there. below_same size place x.page m.slots o.slots p same (former_below p there)) (active_same m.slots o.slots place same active)
 
--- a mark that is given raises the greatest one
-module _ (size mark : ℕ) (H : History) (m : Machine) (t : IsTruthful size mark H m) where
-  raised_low : (next : ℤ) → mark / size * size ≤ greatest_mark mark next / size * size
-  raised_low (pos next) = segment_mono size mark (max mark next) t.some (omega arith)
-  raised_low (negsuc next) = omega arith
+-- A mark that is given raises the greatest one.
 
-  raised_due : (next : ℤ) (place : ℕ) → is_due size next place ≡ true → place + size ≤ greatest_mark mark next / size * size
-  raised_due (pos next) place due = omega (arith, leb-true (place + size) (next / size * size) due, segment_mono size next (max mark next) t.some (omega arith))
-  raised_due (negsuc next) place due = absurd (false≢true due)
+pub raised_low : (size mark : ℕ) → 0 < size → (next : ℤ) → mark / size * size ≤ greatest_mark mark next / size * size
+raised_low size mark some (pos next) = segment_mono size mark (max mark next) some (omega arith)
+raised_low size mark some (negsuc next) = omega arith
 
-  raised_tracks : (next : ℤ) → Tracks size (greatest_mark mark next / size * size) H m
-  raised_tracks next = more_tracks size (mark / size * size) (greatest_mark mark next / size * size) H H m t.tracks (raised_low next) (λ x there. there) (λ x there. inr there)
+pub raised_due : (size mark : ℕ) → 0 < size → (next : ℤ) (place : ℕ) → is_due size next place ≡ true → place + size ≤ greatest_mark mark next / size * size
+raised_due size mark some (pos next) place due = omega (arith, leb-true (place + size) (next / size * size) due, segment_mono size next (max mark next) some (omega arith))
+raised_due size mark some (negsuc next) place due = absurd (false≢true due)
 
-  pub stable_tracks : (next : ℤ) → Tracks size (greatest_mark mark next / size * size) H (stabilized size next m).machine
-  stable_tracks next = stabilized_tracks size (greatest_mark mark next / size * size) H t.some m next (raised_tracks next) (raised_due next)
+module _ (size mark : ℕ) (H : History) (m : Machine) (t : IsTruthful size mark H m) (next : ℤ) where
+  raised_tracks : TracksAll size (greatest_mark mark next / size * size) H m
+  raised_tracks =
+      more_tracks size (mark / size * size) (greatest_mark mark next / size * size) H H (IsSuperseded size (mark / size * size) H) (IsSuperseded size (greatest_mark mark next / size * size) H) m t.tracks
+      (raised_low size mark t.some next) (λ x there. there) (λ x there. inr there)
+      (λ x there by. superseded_more size (mark / size * size) (greatest_mark mark next / size * size) H H x (λ y found. found) (raised_low size mark t.some next) by)
+
+  pub stable_tracks : TracksAll size (greatest_mark mark next / size * size) H (stabilized size next m).machine
+  stable_tracks =
+      stabilized_tracks size (greatest_mark mark next / size * size) H (IsSuperseded size (greatest_mark mark next / size * size) H) t.some (λ e by. by) m next raised_tracks (raised_due size mark t.some next)
 
   -- A slot that is freed doesn't wait for a segment that is active.
-  pub stable_waits : (next : ℤ) (k place : ℕ) → NotesPlace (slot_at m k) place
+  pub stable_waits : (k place : ℕ) → NotesPlace (slot_at m k) place
       → NotesPlace (slot_at (stabilized size next m).machine k) place ⊎ (place + size ≤ greatest_mark mark next / size * size)
-  stable_waits next = stabilized_waits size (greatest_mark mark next / size * size) H t.some m next (raised_tracks next) (raised_due next)
+  stable_waits =
+      stabilized_waits size (greatest_mark mark next / size * size) H (IsSuperseded size (greatest_mark mark next / size * size) H) t.some (λ e by. by) m next raised_tracks (raised_due size mark t.some next)
 
-  pub stable_holds : (next : ℤ) (k : ℕ) → is_free (slot_at (stabilized size next m).machine k).state ≡ false
+  pub stable_holds : (k : ℕ) → is_free (slot_at (stabilized size next m).machine k).state ≡ false
       → HoldsAsMuch (slot_at m k) (slot_at (stabilized size next m).machine k)
-  stable_holds next = stabilized_holds size (greatest_mark mark next / size * size) H t.some m next (raised_tracks next) (raised_due next)
+  stable_holds =
+      stabilized_holds size (greatest_mark mark next / size * size) H (IsSuperseded size (greatest_mark mark next / size * size) H) t.some (λ e by. by) m next raised_tracks (raised_due size mark t.some next)
 
 -- Steps: each keeps it.
 
 pub unused_truthful : (size : ℕ) → 0 < size → IsTruthful size 0 no_history unused_machine
-unused_truthful size some = record { some = some; ascends = tt; tracks = unused_tracks size (0 / size * size) }
+unused_truthful size some = record { some = some; ascends = tt; tracks = unused_tracks size (0 / size * size) (IsSuperseded size (0 / size * size) no_history) }
 
 module _ (size mark : ℕ) (H : History) (m : Machine) (t : IsTruthful size mark H m) where
   pub handed_out_truthful : (place : ℕ) → IsNewPlace size place m → IsTruthful size mark H (handed_out place m)
-  handed_out_truthful place new_place = record { some = t.some; ascends = t.ascends; tracks = handed_out_tracks size (mark / size * size) H m place t.tracks new_place }
+  handed_out_truthful place new_place = record { some = t.some; ascends = t.ascends; tracks = handed_out_tracks size (mark / size * size) H (IsSuperseded size (mark / size * size) H) m place t.tracks new_place }
+
+  -- what was superseded still is, in a history with a message more
+  still_superseded : (x : Message) (H' : History) → Completes H x H' → (e : Message) → Contains H.messages e
+      → IsSuperseded size (mark / size * size) H e → IsSuperseded size (mark / size * size) H' e
+  still_superseded x H' completes e there by = superseded_more size (mark / size * size) (mark / size * size) H H' e (added_keeps H x H' completes.adds) (omega arith) by
 
   pub linked_truthful : (x : Message) (H' : History) → Completes H x H' → MayMark size m (info_of x) [] → IsTruthful size mark H' (linked size x.page (info_of x) m)
-  linked_truthful x H' completes may = record { some = t.some; ascends = added_ascends H x H' completes.adds t.ascends; tracks = linked_message size mark H m t x H' completes may }
+  linked_truthful x H' completes may =
+      let base = mark / size * size in
+      record {
+        some = t.some;
+        ascends = added_ascends H x H' completes.adds t.ascends;
+        tracks = linked_message size base H m t.some (IsSuperseded size base H) (IsSuperseded size base H') t.tracks x H' completes may (still_superseded x H' completes);
+      }
 
   pub replaced_truthful : (x : Message) (old : List CacheInfo) (H' : History) → Completes H x H' → begins_page x.kind ≡ true
       → IsFormerState H x.page old → MayMark size m (info_of x) []
       → IsTruthful size mark H' (replaced size x.page (info_of x) old m)
   replaced_truthful x old H' completes begins former may =
-      record { some = t.some; ascends = added_ascends H x H' completes.adds t.ascends; tracks = replaced_message size mark H m t x H' completes may old begins former }
+      let base = mark / size * size in
+      record {
+        some = t.some;
+        ascends = added_ascends H x H' completes.adds t.ascends;
+        tracks = replaced_message size base H m t.some (IsSuperseded size base H) (IsSuperseded size base H') t.tracks x H' completes may (still_superseded x H' completes) old former
+            (λ e entry. last_held size base H m former.cut x.page e t.ascends t.tracks former.past entry) begins;
+      }
 
   -- batches change no message
   pub batched_truthful : (b : Batch) (H' : History) → AddsBatch H b H' → IsTruthful size mark H' m
   batched_truthful b H' adds =
       let same = adds.messages in
       let base = mark / size * size in
+      let more : (x : Message) → Contains H.messages x → Contains H'.messages x = λ x there. subst (λ (ms : List Message). Contains ms x) (sym same) there in
       record {
         some = t.some;
         ascends = subst Ascends (sym same) t.ascends;
-        tracks = more_tracks size base base H H' m t.tracks (omega arith) (λ x there. subst (λ (ms : List Message). Contains ms x) (sym same) there) (λ x there. inr (subst (λ (ms : List Message). Contains ms x) same there));
+        tracks = more_tracks size base base H H' (IsSuperseded size base H) (IsSuperseded size base H') m t.tracks (omega arith) more
+            (λ x there. inr (subst (λ (ms : List Message). Contains ms x) same there)) (λ x there by. superseded_more size base base H H' x more (omega arith) by);
       }
 
   pub stabilized_truthful : (next : ℤ) → IsTruthful size (greatest_mark mark next) H (stabilized size next m).machine

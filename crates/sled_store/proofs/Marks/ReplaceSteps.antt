@@ -10,8 +10,8 @@ use Rattle.sled_store.specs.Marks.{HasReplacement}
 use Rattle.sled_store.specs.SegmentStates.{SlotState, Machine, is_free, is_inactive, slot_at, with_slot, later, replaced_slot, is_sparse, drained, drained_if_sparse, replaced_one, replaced_all}
 use Rattle.sled_store.specs.declared.segment.slot.CacheInfo.{CacheInfo}
 use Rattle.sled_store.proofs.Segments.Elements.{in_first, in_rest}
-use Rattle.sled_store.proofs.Marks.SlotLemmas.{at, taken_there, from_insert}
-use Rattle.sled_store.proofs.Marks.Tracked.{IsActiveAt, IsTracked}
+use Rattle.sled_store.proofs.Marks.SlotLemmas.{taken_there, from_insert}
+use Rattle.sled_store.specs.Tracked.{at, IsActiveAt, IsTracked}
 use Rattle.sled_store.proofs.Marks.MarkSteps.{Tracks, set_tracks, SameSegments, same_then, same_segment, set_same, active_same, drained_tracks, drained_same}
 
 -- the later of two places is one of them, and is above both
@@ -37,10 +37,10 @@ later_other place None n is = cc
 later_other place (Some x) n is = let same : x ≡ n = cc in record { latest = max place x; is = refl; above = omega (arith, same) }
 
 -- A sparse segment is drained.
-pub sparse_tracks : (size base : ℕ) (H : History) (m : Machine) (k : ℕ) → Tracks size base H m → Tracks size base H (drained_if_sparse size k m)
-sparse_tracks size base H m k t = by (is_sparse size (slot_at m k)) refl where
-  by : (b : Bool) → is_sparse size (slot_at m k) ≡ b → Tracks size base H (if b then drained k m else m)
-  by true sparse = drained_tracks m k (and_parts (is_inactive (slot_at m k).state) (nat_le ((slot_at m k).held * 100 / size) 50) sparse).0 size base H t
+pub sparse_tracks : (size base : ℕ) (H : History) (Spent : Message → Type 0) (m : Machine) (k : ℕ) → Tracks size base H Spent m → Tracks size base H Spent (drained_if_sparse size k m)
+sparse_tracks size base H Spent m k t = by (is_sparse size (slot_at m k)) refl where
+  by : (b : Bool) → is_sparse size (slot_at m k) ≡ b → Tracks size base H Spent (if b then drained k m else m)
+  by true sparse = drained_tracks m k (and_parts (is_inactive (slot_at m k).state) (nat_le ((slot_at m k).held * 100 / size) 50) sparse).0 size base H Spent t
   by false full = t
 
 pub sparse_same : (size : ℕ) (m : Machine) (k : ℕ) → SameSegments m.slots (drained_if_sparse size k m).slots
@@ -62,7 +62,7 @@ below_same size place page old new o same lies =
     let lsn : (at new (lid_of o.pointer / size)).lsn ≡ (at old (lid_of o.pointer / size)).lsn = one.lsn in
     record { taken = one.free ∙ lies.taken; below = omega (arith, lsn, lies.below); has = one.pages page lies.has }
 
-module _ (size base : ℕ) (H : History) (x : Message) (there : Contains H.messages x) (begins : begins_page x.kind ≡ true) where
+module _ (size base : ℕ) (H : History) (Spent : Message → Type 0) (x : Message) (there : Contains H.messages x) (begins : begins_page x.kind ≡ true) where
   -- a page is replaced in one segment
   replaced_gone : (len : ℕ) (s : SlotState) → s.lsn ≤ x.place / size * size → ((page : ℕ) → Contains s.gone page → HasReplacement size H s page)
       → (page : ℕ) → Contains (replaced_slot x.page len (x.place / size * size) s).gone page → HasReplacement size H (replaced_slot x.page len (x.place / size * size) s) page
@@ -91,13 +91,13 @@ module _ (size base : ℕ) (H : History) (x : Message) (there : Contains H.messa
     by true found = within page found
     by false found = ⊎_elim (λ is. subst (Contains s.pages) is own) (within page) (from_insert nat_cmp s.gone x.page page found)
 
-  module _ (m : Machine) (t : Tracks size base H m) (o : CacheInfo) (lies : LiesBelow size (x.place / size * size) x.page m.slots o) where
+  module _ (m : Machine) (t : Tracks size base H Spent m) (o : CacheInfo) (lies : LiesBelow size (x.place / size * size) x.page m.slots o) where
     with_replaced : IsActiveAt m.slots (x.place / size * size)
-        → IsTracked size base H (set m.slots (lid_of o.pointer / size) (replaced_slot x.page o.log_size (x.place / size * size) (slot_at m (lid_of o.pointer / size)))) m.tip
+        → IsTracked size base H Spent (set m.slots (lid_of o.pointer / size) (replaced_slot x.page o.log_size (x.place / size * size) (slot_at m (lid_of o.pointer / size)))) m.tip
     with_replaced active =
         let k = lid_of o.pointer / size in
         let s : SlotState = slot_at m k in
-        set_tracks size base H m.slots m.tip k (replaced_slot x.page o.log_size (x.place / size * size) s) t lies.taken (record {
+        set_tracks size base H Spent m.slots m.tip k (replaced_slot x.page o.log_size (x.place / size * size) s) t lies.taken (record {
           taken = lies.taken;
           lsn = refl;
           stable = λ none. t.stable k lies.taken none;
@@ -107,10 +107,10 @@ module _ (size base : ℕ) (H : History) (x : Message) (there : Contains H.messa
           within = replaced_within o.log_size s lies.has (t.within k);
         })
 
-    replaced_one_tracks : IsActiveAt m.slots (x.place / size * size) → Tracks size base H (replaced_one size x.page (x.place / size * size) o m)
+    replaced_one_tracks : IsActiveAt m.slots (x.place / size * size) → Tracks size base H Spent (replaced_one size x.page (x.place / size * size) o m)
     replaced_one_tracks active =
         let k = lid_of o.pointer / size in
-        sparse_tracks size base H (with_slot k (replaced_slot x.page o.log_size (x.place / size * size) (slot_at m k)) m) k (with_replaced active)
+        sparse_tracks size base H Spent (with_slot k (replaced_slot x.page o.log_size (x.place / size * size) (slot_at m k)) m) k (with_replaced active)
 
     replaced_one_same : SameSegments m.slots (replaced_one size x.page (x.place / size * size) o m).slots
     replaced_one_same =
@@ -119,9 +119,9 @@ module _ (size base : ℕ) (H : History) (x : Message) (there : Contains H.messa
         same_then m.slots (set m.slots k s) (replaced_one size x.page (x.place / size * size) o m).slots
         (set_same m.slots k s (taken_there m.slots k lies.taken) (record { free = refl; active = refl; lsn = refl; pages = λ p found. found })) (sparse_same size (with_slot k s m) k)
 
-  pub replaced_all_tracks : (os : List CacheInfo) (m : Machine) → Tracks size base H m
+  pub replaced_all_tracks : (os : List CacheInfo) (m : Machine) → Tracks size base H Spent m
       → ((o : CacheInfo) → Contains os o → LiesBelow size (x.place / size * size) x.page m.slots o) → IsActiveAt m.slots (x.place / size * size)
-      → Tracks size base H (replaced_all size x.page (x.place / size * size) os m)
+      → Tracks size base H Spent (replaced_all size x.page (x.place / size * size) os m)
   replaced_all_tracks [] m t lie active = t
   replaced_all_tracks (o ∷ os) m t lie active =
       let place = x.place / size * size in

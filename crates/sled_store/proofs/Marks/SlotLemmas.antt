@@ -1,5 +1,5 @@
 -- What is in which slot, where one of them has changed, and what the lists of slots have that are read off them.
-use Rattle.std.proofs.Common.{if◌then◌else◌, ⊎_elim, ◌≡◌, ◌≢◌, ◌∙◌, ◌⊎◌, ◌==◌, ◌+◌, ◌<◌, ◌≤◌, ℕ, zero, suc, Bool, true, false, List, [], ◌∷◌, ◌++◌, length, length-append, filter, set, get_or, Option, Some, None, refl, sym, ap, subst, arith, inl, inr}
+use Rattle.std.proofs.Common.{if◌then◌else◌, ⊎_elim, ◌≡◌, ◌≢◌, ◌∙◌, ◌⊎◌, ◌==◌, ◌+◌, ◌<◌, ◌≤◌, ℕ, zero, suc, Bool, true, false, List, [], ◌∷◌, ◌++◌, length, length-append, filter, set, Option, Some, None, refl, sym, ap, subst, arith, inl, inr}
 use Rattle.std.specs.List.{All, Contains}
 use Rattle.std.specs.BTreeSet.{insert_key}
 use Rattle.std.specs.declared.cmp.Ordering.{Ordering}
@@ -13,12 +13,10 @@ use Rattle.std.proofs.lemmas.Map.Views.{All-insert_key}
 use Rattle.std.proofs.Math.ListN.{get_or-eq_default}
 use Rattle.std.proofs.Math.Seq.{get_or-append_seam}
 use Rattle.sled_store.specs.SegmentStates.{SlotState, is_free, free_slot, slots_where, by_place, beside, slots_by, same_pages}
+use Rattle.sled_store.specs.Tracked.{at}
 use Rattle.sled_store.proofs.Segments.Elements.{in_first, in_rest, in_cases, in_nothing, from_filter, all_from_in}
 
 -- Slots.
-
-abbrev pub at : List SlotState → ℕ → SlotState
-at ss k = get_or ss k free_slot
 
 -- no segment is behind the last slot
 pub free_behind : (ss : List SlotState) (k : ℕ) → length ss ≤ k → at ss k ≡ free_slot

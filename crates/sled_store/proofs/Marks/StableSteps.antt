@@ -1,4 +1,4 @@
--- A slot whose segment is done may be freed: it has no message of its own that isn't superseded.
+-- A slot whose segment is done may be freed: each message of its own is spent, as one is that is superseded.
 use Rattle.std.proofs.Common.{⊎_elim, ◌≡◌, ◌≢◌, ◌∙◌, ◌⊎◌, ◌+◌, ◌*◌, ◌/◌, ◌<◌, ◌≤◌, ℕ, true, false, List, [], ◌∷◌, length, set, Some, refl, sym, ap, subst, arith, inl, inr}
 use Rattle.std.specs.List.{Contains}
 use Rattle.std.proofs.lemmas.Bool.{true≢false, false≢true, cases_lt, and_parts}
@@ -12,8 +12,9 @@ use Rattle.sled_store.specs.declared.segment.slot.State.{State}
 use Rattle.sled_store.specs.declared.segment.slot.State.TheVariants.{Free, Active, Inactive, Draining}
 use Rattle.sled_store.proofs.Accounts.StartNext.{cut_free}
 use Rattle.sled_store.proofs.Segments.Elements.{in_first, in_rest}
-use Rattle.sled_store.proofs.Marks.SlotLemmas.{at, taken_there, set_changes, each_slot, same_is}
-use Rattle.sled_store.proofs.Marks.Tracked.{IsHeld, IsTracked, MayGo, left_free}
+use Rattle.sled_store.proofs.Marks.SlotLemmas.{taken_there, set_changes, each_slot, same_is}
+use Rattle.sled_store.specs.Tracked.{at, IsHeld, IsTracked}
+use Rattle.sled_store.proofs.Marks.Tracked.{MayGo, left_free}
 use Rattle.sled_store.proofs.Marks.MarkSteps.{Tracks}
 
 -- Segments of places.
@@ -68,31 +69,31 @@ keeps_set size base but k old s lt why taken same as_much = record {
 
 -- Frees.
 
-module _ (size base : ℕ) (H : History) where
-  pub freed_tracks : (m : Machine) (k : ℕ) → Tracks size base H m → MayGo size base H m.slots k → Tracks size base H (freed size k m).machine
+module _ (size base : ℕ) (H : History) (Spent : Message → Type 0) where
+  pub freed_tracks : (m : Machine) (k : ℕ) → Tracks size base H Spent m → MayGo size base H Spent m.slots k → Tracks size base H Spent (freed size k m).machine
   freed_tracks m k t goes =
       let new : List SlotState = set m.slots k free_slot in
-      left_free size base H m.slots m.tip t k new (left_after m.tip new) (set_changes m.slots k free_slot goes.there) goes (λ j le lt. cut_free m.tip new j le lt)
+      left_free size base H Spent m.slots m.tip t k new (left_after m.tip new) (set_changes m.slots k free_slot goes.there) goes (λ j le lt. cut_free m.tip new j le lt)
 
-  goes_on : (m : Machine) (k j : ℕ) → k < length m.slots → MayGo size base H m.slots j → MayGo size base H (freed size k m).machine.slots j
+  goes_on : (m : Machine) (k j : ℕ) → k < length m.slots → MayGo size base H Spent m.slots j → MayGo size base H Spent (freed size k m).machine.slots j
   goes_on m k j lt goes = record {
     there = omega (arith, goes.there, length-set m.slots k free_slot);
     not_active = each_slot (λ i x. is_active (at m.slots i).state ≡ false → is_active x.state ≡ false) m.slots k free_slot (set m.slots k free_slot) (set_changes m.slots k free_slot lt) (λ none. refl) (λ i other none. none) j goes.not_active;
-    superseded = λ e there held. goes.superseded e there (was e j held);
+    spent = λ e there held. goes.spent e there (was e j held);
     waited = λ place. each_slot (λ i x. ((at m.slots i).latest ≡ Some place → place + size ≤ base) → x.latest ≡ Some place → place + size ≤ base) m.slots k free_slot (set m.slots k free_slot) (set_changes m.slots k free_slot lt)
         (λ before is. cc) (λ i other before. before) j (goes.waited place);
   } where
     was : (e : Message) (i : ℕ) → IsHeld size (at (set m.slots k free_slot) i) e → IsHeld size (at m.slots i) e
     was e = each_slot (λ i x. IsHeld size x e → IsHeld size (at m.slots i) e) m.slots k free_slot (set m.slots k free_slot) (set_changes m.slots k free_slot lt) (λ held. absurd (true≢false held.taken)) (λ i other held. held)
 
-  pub all_freed_track : (ks : List ℕ) (m : Machine) → Tracks size base H m → ((k : ℕ) → Contains ks k → MayGo size base H m.slots k)
-      → Tracks size base H (in_turn (freed size) ks m).machine
+  pub all_freed_track : (ks : List ℕ) (m : Machine) → Tracks size base H Spent m → ((k : ℕ) → Contains ks k → MayGo size base H Spent m.slots k)
+      → Tracks size base H Spent (in_turn (freed size) ks m).machine
   all_freed_track [] m t go = t
   all_freed_track (k ∷ ks) m t go =
-      let goes : MayGo size base H m.slots k = go k (in_first k ks) in
+      let goes : MayGo size base H Spent m.slots k = go k (in_first k ks) in
       all_freed_track ks (freed size k m).machine (freed_tracks m k t goes) (λ j there. goes_on m k j goes.there (go j (in_rest k j ks there)))
 
-  pub freed_keeps : (but : ℕ) (m : Machine) (k : ℕ) → (k ≡ but) ⊎ (is_active (at m.slots k).state ≡ false) → MayGo size base H m.slots k
+  pub freed_keeps : (but : ℕ) (m : Machine) (k : ℕ) → (k ≡ but) ⊎ (is_active (at m.slots k).state ≡ false) → MayGo size base H Spent m.slots k
       → KeepsSegments size base but m.slots (freed size k m).machine.slots
   freed_keeps but m k why goes = record {
     active = λ j other active. (set_changes m.slots k free_slot goes.there).others j (not_that but k m.slots why j other active);
@@ -101,21 +102,21 @@ module _ (size base : ℕ) (H : History) where
     held = each_slot (λ i x. is_free x.state ≡ false → HoldsAsMuch (at m.slots i) x) m.slots k free_slot (set m.slots k free_slot) (set_changes m.slots k free_slot goes.there) (λ there. absurd (true≢false there)) (λ i other there. (there, refl));
   }
 
-  pub all_freed_keep : (but : ℕ) (ks : List ℕ) (m : Machine) → ((k : ℕ) → Contains ks k → MayGo size base H m.slots k)
+  pub all_freed_keep : (but : ℕ) (ks : List ℕ) (m : Machine) → ((k : ℕ) → Contains ks k → MayGo size base H Spent m.slots k)
       → KeepsSegments size base but m.slots (in_turn (freed size) ks m).machine.slots
   all_freed_keep but [] m go = keeps_same size base but m.slots
   all_freed_keep but (k ∷ ks) m go =
-      let goes : MayGo size base H m.slots k = go k (in_first k ks) in
+      let goes : MayGo size base H Spent m.slots k = go k (in_first k ks) in
       keeps_then size base but m.slots (freed size k m).machine.slots (in_turn (freed size) ks (freed size k m).machine).machine.slots (freed_keeps but m k (inr goes.not_active) goes)
       (all_freed_keep but ks (freed size k m).machine (λ j there. goes_on m k j goes.there (go j (in_rest k j ks there))))
 
   -- A segment that is done, and whose latest replacement lies below the base, has no message of its own.
-  pub done_goes : (ss : List SlotState) (tip k : ℕ) → 0 < size → IsTracked size base H ss tip → is_done (at ss k) ≡ true
-      → ((place : ℕ) → (at ss k).latest ≡ Some place → place + size ≤ base) → MayGo size base H ss k
-  done_goes ss tip k some t done below = record {
+  pub done_goes : (ss : List SlotState) (tip k : ℕ) → 0 < size → ((e : Message) → IsSuperseded size base H e → Spent e) → IsTracked size base H Spent ss tip → is_done (at ss k) ≡ true
+      → ((place : ℕ) → (at ss k).latest ≡ Some place → place + size ≤ base) → MayGo size base H Spent ss k
+  done_goes ss tip k some spends t done below = record {
     there = taken_there ss k (draining_taken (at ss k).state parts.0);
     not_active = draining_not_active (at ss k).state parts.0;
-    superseded = superseded;
+    spent = λ e there held. spends e (superseded e there held);
     waited = below;
   } where
     parts : (is_draining (at ss k).state ≡ true) × (same_pages (at ss k).pages (at ss k).gone ≡ true)

@@ -1,41 +1,15 @@
 -- What the slots say of a history's messages while all of them are marked truthfully, and that a change of one slot keeps it.
-use Rattle.std.proofs.Common.{⊎_elim, ◌≡◌, ◌≢◌, ◌∙◌, ◌⊎◌, ◌+◌, ◌*◌, ◌/◌, ◌%◌, ◌<◌, ◌≤◌, ℕ, true, false, List, length, Some, refl, sym, ap, subst, arith, inl, inr}
+use Rattle.std.proofs.Common.{⊎_elim, ◌≡◌, ◌≢◌, ◌∙◌, ◌⊎◌, ◌+◌, ◌%◌, ◌<◌, ◌≤◌, ℕ, true, false, List, length, Some, refl, sym, ap, subst, arith, inl, inr}
 use Rattle.std.specs.List.{Contains}
 use Rattle.std.proofs.lemmas.Bool.{true≢false, false≢true, cases_lt, cases_eq, cases_Bool}
 use Rattle.sled_codec.specs.History.{Message, History}
-use Rattle.sled_store.specs.Marks.{HasReplacement, slot_with, IsSuperseded}
+use Rattle.sled_store.specs.Marks.{HasReplacement, slot_with}
+use Rattle.sled_store.specs.Tracked.{at, IsHeld, IsActiveAt, IsActiveOrBelow, IsTracked}
 use Rattle.sled_store.specs.SegmentStates.{SlotState, is_free, is_active, free_slot, taken_slot}
 use Rattle.sled_store.specs.declared.segment.slot.State.{State}
 use Rattle.sled_store.specs.declared.segment.slot.State.TheVariants.{Free, Active, Inactive, Draining}
 use Rattle.sled_store.proofs.Segments.Elements.{in_nothing}
-use Rattle.sled_store.proofs.Marks.SlotLemmas.{at, Changes, each_slot}
-
--- a segment holds a message, and has its page
-pub record IsHeld (size : ℕ) (s : SlotState) (e : Message) : Type 0 where
-  pub taken : is_free s.state ≡ false
-  pub lsn : e.place / size * size ≡ s.lsn
-  pub page : Contains s.pages e.page
-
--- a segment begins at a place, and is active
-pub record IsActiveAt (ss : List SlotState) (place : ℕ) : Type 0 where
-  pub slot : ℕ
-  pub active : is_active (at ss slot).state ≡ true
-  pub lsn : (at ss slot).lsn ≡ place
-
--- the segment at a place is active, or it ends at or below the base
-abbrev pub IsActiveOrBelow : ℕ → ℕ → List SlotState → ℕ → Type 0
-IsActiveOrBelow size base ss place = IsActiveAt ss place ⊎ (place + size ≤ base)
-
--- The invariant: slots behind the tip are free, each message lies in its segment or is superseded, and what replaced a page is noted.
-pub record IsTracked (size base : ℕ) (H : History) (ss : List SlotState) (tip : ℕ) : Type 0 where
-  pub cut_off : (k : ℕ) → tip ≤ k → is_free (at ss k).state ≡ true
-  pub messages : (e : Message) → Contains H.messages e → IsHeld size (at ss (slot_with size e)) e ⊎ IsSuperseded size base H e
-  pub gone : (k page : ℕ) → Contains (at ss k).gone page → HasReplacement size H (at ss k) page
-  pub latest : (k place : ℕ) → (at ss k).latest ≡ Some place → IsActiveOrBelow size base ss place
-  pub within : (k page : ℕ) → Contains (at ss k).gone page → Contains (at ss k).pages page
-  pub stable : (k : ℕ) → is_free (at ss k).state ≡ false → is_active (at ss k).state ≡ false → (at ss k).lsn + size ≤ base
-  pub aligned : (k : ℕ) → is_free (at ss k).state ≡ false → (at ss k).lsn % size ≡ 0
-  pub apart : (j k : ℕ) → is_free (at ss j).state ≡ false → is_free (at ss k).state ≡ false → (at ss j).lsn ≡ (at ss k).lsn → j ≡ k
+use Rattle.sled_store.proofs.Marks.SlotLemmas.{Changes, each_slot}
 
 -- a segment in another slot than the one that has changed is as active as before
 pub elsewhere : (ss : List SlotState) (k : ℕ) (s : SlotState) (new : List SlotState) → Changes ss k s new
@@ -64,13 +38,13 @@ pub record IsUpdate (size base : ℕ) (H : History) (ss : List SlotState) (old n
   pub within : (page : ℕ) → Contains new.gone page → Contains new.pages page
 
 -- a slot has no message of its own any more
-pub record MayGo (size base : ℕ) (H : History) (ss : List SlotState) (k : ℕ) : Type 0 where
+pub record MayGo (size base : ℕ) (H : History) (Spent : Message → Type 0) (ss : List SlotState) (k : ℕ) : Type 0 where
   pub there : k < length ss
   pub not_active : is_active (at ss k).state ≡ false
-  pub superseded : (e : Message) → Contains H.messages e → IsHeld size (at ss k) e → IsSuperseded size base H e
+  pub spent : (e : Message) → Contains H.messages e → IsHeld size (at ss k) e → Spent e
   pub waited : (place : ℕ) → (at ss k).latest ≡ Some place → place + size ≤ base
 
-module _ (size base : ℕ) (H : History) (ss : List SlotState) (tip : ℕ) (t : IsTracked size base H ss tip) where
+module _ (size base : ℕ) (H : History) (Spent : Message → Type 0) (ss : List SlotState) (tip : ℕ) (t : IsTracked size base H Spent ss tip) where
   -- A segment that stays keeps all of it.
   module _ (k : ℕ) (s : SlotState) (new : List SlotState) (changes : Changes ss k s new) (taken : is_free (at ss k).state ≡ false) (update : IsUpdate size base H ss (at ss k) s) where
     pub updated_active : (place : ℕ) → IsActiveOrBelow size base ss place → IsActiveOrBelow size base new place
@@ -91,10 +65,10 @@ module _ (size base : ℕ) (H : History) (ss : List SlotState) (tip : ℕ) (t : 
     updated_was : (j : ℕ) → is_free (at new j).state ≡ false → (is_free (at ss j).state ≡ false) × ((at new j).lsn ≡ (at ss j).lsn)
     updated_was = each_slot (λ j x. is_free x.state ≡ false → (is_free (at ss j).state ≡ false) × (x.lsn ≡ (at ss j).lsn)) ss k s new changes (λ there. (taken, update.lsn)) (λ j other there. (there, refl))
 
-    pub updated : IsTracked size base H new tip
+    pub updated : IsTracked size base H Spent new tip
     updated = record {
       cut_off = each_slot (λ j x. tip ≤ j → is_free x.state ≡ true) ss k s new changes (λ le. absurd (true≢false (sym (t.cut_off k le) ∙ taken))) (λ j other le. t.cut_off j le);
-      messages = λ e there. ⊎_elim (λ held. inl (updated_held e (slot_with size e) held)) (λ superseded. inr superseded) (t.messages e there);
+      messages = λ e there. ⊎_elim (λ held. inl (updated_held e (slot_with size e) held)) (λ spent. inr spent) (t.messages e there);
       gone = each_slot (λ j x. (page : ℕ) → Contains x.gone page → HasReplacement size H x page) ss k s new changes update.gone (λ j other. t.gone j);
       latest = each_slot (λ j x. (place : ℕ) → x.latest ≡ Some place → IsActiveOrBelow size base new place) ss k s new changes
           (λ place is. updated_active place (update.latest place is)) (λ j other place is. updated_active place (t.latest j place is));
@@ -126,10 +100,10 @@ module _ (size base : ℕ) (H : History) (ss : List SlotState) (tip : ℕ) (t : 
       by (inr x) (inl y) = absurd (omega (arith, same, x.1, y.1, above i x.0))
       by (inr x) (inr y) = t.apart i j x.0 y.0 (sym x.1 ∙ same ∙ y.1)
 
-    pub taken_out : IsTracked size base H new tip'
+    pub taken_out : IsTracked size base H Spent new tip'
     taken_out = record {
       cut_off = each_slot (λ j x. tip' ≤ j → is_free x.state ≡ true) ss k (taken_slot place) new changes (λ above. absurd (omega (arith, above, lt))) (λ j other above. t.cut_off j (omega (arith, above, le)));
-      messages = λ e there. ⊎_elim (λ held. inl (still_held e (slot_with size e) held)) (λ superseded. inr superseded) (t.messages e there);
+      messages = λ e there. ⊎_elim (λ held. inl (still_held e (slot_with size e) held)) (λ spent. inr spent) (t.messages e there);
       gone = each_slot (λ j x. (page : ℕ) → Contains x.gone page → HasReplacement size H x page) ss k (taken_slot place) new changes (λ page there. absurd (in_nothing page there)) (λ j other. t.gone j);
       latest = each_slot (λ j x. (l : ℕ) → x.latest ≡ Some l → IsActiveOrBelow size base new l) ss k (taken_slot place) new changes (λ l is. cc) (λ j other l is. other_active l (t.latest j l is));
       within = each_slot (λ j x. (page : ℕ) → Contains x.gone page → Contains x.pages page) ss k (taken_slot place) new changes (λ page there. there) (λ j other. t.within j);
@@ -141,23 +115,23 @@ module _ (size base : ℕ) (H : History) (ss : List SlotState) (tip : ℕ) (t : 
       still_held e = each_slot (λ j x. IsHeld size (at ss j) e → IsHeld size x e) ss k (taken_slot place) new changes (λ held. absurd (true≢false (sym free ∙ held.taken))) (λ j other held. held)
 
   -- A slot that has no message of its own any more is freed.
-  module _ (k : ℕ) (new : List SlotState) (tip' : ℕ) (changes : Changes ss k free_slot new) (goes : MayGo size base H ss k) (cut_off : (j : ℕ) → tip' ≤ j → j < tip → is_free (at new j).state ≡ true) where
+  module _ (k : ℕ) (new : List SlotState) (tip' : ℕ) (changes : Changes ss k free_slot new) (goes : MayGo size base H Spent ss k) (cut_off : (j : ℕ) → tip' ≤ j → j < tip → is_free (at new j).state ≡ true) where
     left_active : (l : ℕ) → IsActiveOrBelow size base ss l → IsActiveOrBelow size base new l
     left_active l (inr below) = inr below
     left_active l (inl at_one) =
         inl (elsewhere ss k free_slot new changes l at_one (λ is. true≢false (sym (subst (λ (i : ℕ). is_active (at ss i).state ≡ true) is at_one.active) ∙ goes.not_active)))
 
-    left_messages : (e : Message) → Contains H.messages e → (j : ℕ) → IsHeld size (at ss j) e → IsHeld size (at new j) e ⊎ IsSuperseded size base H e
-    left_messages e there = each_slot (λ j x. IsHeld size (at ss j) e → IsHeld size x e ⊎ IsSuperseded size base H e) ss k free_slot new changes (λ held. inr (goes.superseded e there held)) (λ j other held. inl held)
+    left_messages : (e : Message) → Contains H.messages e → (j : ℕ) → IsHeld size (at ss j) e → IsHeld size (at new j) e ⊎ Spent e
+    left_messages e there = each_slot (λ j x. IsHeld size (at ss j) e → IsHeld size x e ⊎ Spent e) ss k free_slot new changes (λ held. inr (goes.spent e there held)) (λ j other held. inl held)
 
     -- each segment was there before
     left_was : (j : ℕ) → is_free (at new j).state ≡ false → (is_free (at ss j).state ≡ false) × ((at new j).lsn ≡ (at ss j).lsn)
     left_was = each_slot (λ j x. is_free x.state ≡ false → (is_free (at ss j).state ≡ false) × (x.lsn ≡ (at ss j).lsn)) ss k free_slot new changes (λ there. absurd (true≢false there)) (λ j other there. (there, refl))
 
-    pub left_free : IsTracked size base H new tip'
+    pub left_free : IsTracked size base H Spent new tip'
     left_free = record {
       cut_off = λ j le. ⊎_elim (λ lt. cut_off j le lt) (λ above. each_slot (λ i x. tip ≤ i → is_free x.state ≡ true) ss k free_slot new changes (λ high. refl) (λ i other high. t.cut_off i high) j above) (cases_lt j tip);
-      messages = λ e there. ⊎_elim (λ held. left_messages e there (slot_with size e) held) (λ superseded. inr superseded) (t.messages e there);
+      messages = λ e there. ⊎_elim (λ held. left_messages e there (slot_with size e) held) (λ spent. inr spent) (t.messages e there);
       gone = each_slot (λ j x. (page : ℕ) → Contains x.gone page → HasReplacement size H x page) ss k free_slot new changes (λ page there. absurd (in_nothing page there)) (λ j other. t.gone j);
       latest = each_slot (λ j x. (l : ℕ) → x.latest ≡ Some l → IsActiveOrBelow size base new l) ss k free_slot new changes (λ l is. cc) (λ j other l is. left_active l (t.latest j l is));
       within = each_slot (λ j x. (page : ℕ) → Contains x.gone page → Contains x.pages page) ss k free_slot new changes (λ page there. there) (λ j other. t.within j);

@@ -1,5 +1,5 @@
 -- What proofs, and functions that no user calls, need beside `specs/SegmentStates.antt`. No public contract names it.
-use Rattle.std.specs.Prelude.{◌+◌, [], ◌∷◌, ◌++◌}
+use Rattle.std.specs.Prelude.{[], ◌∷◌, ◌++◌}
 use Rattle.sled_store.specs.SegmentStates.{Machine, free_slot}
 
 -- one more slot, behind all others, that no segment is in

@@ -4,10 +4,11 @@
 //! table below a cut that the mark's segment doesn't pass.
 ghost use Rattle.std.specs.Prelude.{◌≡◌, ◌≢◌, ◌⊎◌, ◌+◌, ◌*◌, ◌/◌, ◌%◌, ◌^◌, ◌<◌, ◌≤◌, ℕ, ℤ, pos, true, false, List, [], Some, Contains};
 ghost use Rattle.std.specs.List.{sum_by};
-ghost use Rattle.sled_codec.specs.History.{Message, History, table};
+ghost use Rattle.sled_codec.specs.History.{Message, History, begins_page, no_history, table};
 ghost use Rattle.sled_codec.specs.WellFormed.{LieApart};
-ghost use Rattle.sled_store.specs.Marks.{HasReplacement, IsCounted, IsFormerState, IsIn, IsLinked, IsNeeded, IsPast, IsSuperseded, Marked, greatest_mark, info_of, slot_with, standing_size};
-ghost use Rattle.sled_store.specs.SegmentStates.{Machine, MayMark, is_active, is_free, next_slot, slot_at, stabilized};
+ghost use Rattle.sled_store.specs.Marks.{Completes, HasReplacement, IsCounted, IsFormerState, IsIn, IsLinked, IsNeeded, IsNewPlace, IsPast, IsSuperseded, Marked, greatest_mark, info_of, slot_with, standing_size};
+ghost use Rattle.sled_store.specs.SegmentStates.{Machine, MayMark, handed_out, is_active, is_due, is_free, linked, next_slot, popped, replaced, segment_in, slot_at, stabilized, unused_machine};
+ghost use Rattle.sled_store.specs.Tracked.{IsAccountOf, IsHeld};
 ghost use Rattle.sled_store.specs.declared.segment.slot.CacheInfo.{CacheInfo};
 
 /// Each message is linked to the segment that its slot holds, or a later one has replaced its page, in a segment that
@@ -103,4 +104,39 @@ pub fn slots_hold_their_entries()
 pub fn marks_free_slots()
     ensures { (H : History) × (m : Machine) × Marked 256 0 H m × (is_free (slot_at m 0).state ≡ false)
         × (is_free (slot_at (stabilized 256 (pos 768) m).machine 0).state ≡ true) }
+{}
+
+/// The account of a history, whose tables count from a base on, goes on. Nothing was marked of an unused log. Handing out
+/// a slot and asking the cleaner for a page keep it; a message that is linked, or that is there in place of its page's
+/// former state, makes it that of the history with the message; and a mark that is made stable raises the base.
+pub fn accounts_go_on()
+    ensures unused { (size base : ℕ) → IsAccountOf size base no_history unused_machine }
+    ensures hands_out { (size base : ℕ) (H : History) (m : Machine) (place : ℕ) → IsAccountOf size base H m → IsNewPlace size place m
+        → IsAccountOf size base H (handed_out place m) }
+    ensures links { (size base : ℕ) (H : History) (m : Machine) (x : Message) (H' : History) → 0 < size → LieApart H.messages → IsAccountOf size base H m
+        → Completes H x H' → MayMark size m (info_of x) [] → IsAccountOf size base H' (linked size x.page (info_of x) m) }
+    ensures replaces { (size base : ℕ) (H : History) (m : Machine) (x : Message) (H' : History) (old : List CacheInfo) → 0 < size → LieApart H.messages
+        → IsAccountOf size base H m → Completes H x H' → MayMark size m (info_of x) [] → begins_page x.kind ≡ true → IsFormerState H x.page old
+        → IsAccountOf size base H' (replaced size x.page (info_of x) old m) }
+    ensures stabilizes { (size base : ℕ) (H : History) (m : Machine) (next : ℤ) (raised : ℕ) → 0 < size → LieApart H.messages → IsAccountOf size base H m
+        → base ≤ raised → ((place : ℕ) → is_due size next place ≡ true → place + size ≤ raised) → IsAccountOf size raised H (stabilized size next m).machine }
+    ensures pops { (size base : ℕ) (H : History) (m : Machine) → IsAccountOf size base H m
+        → IsAccountOf size base H (record m { cleaner = popped m.cleaner }) }
+{}
+
+/// What a table from the base of an account on has is in the slot of its segment, and so each segment that is needed
+/// there is in another slot than the one that is handed out next.
+pub fn accounts_have_what_tables_need()
+    ensures entries { (size base : ℕ) (H : History) (m : Machine) (cut page : ℕ) (e : Message) → IsAccountOf size base H m
+        → base ≤ cut → Contains (table H cut page) e → IsHeld size (slot_at m (slot_with size e)) e }
+    ensures needed { (size base : ℕ) (H : History) (m : Machine) (cut place : ℕ) → IsAccountOf size base H m
+        → base ≤ cut → IsNeeded size H cut place → (k : ℕ) × IsIn m k place × (k ≢ next_slot m) }
+{}
+
+/// Marks change no segment: each slot has the one that it had.
+pub fn marks_change_no_segment()
+    ensures links { (size pid : ℕ) (info : CacheInfo) (m : Machine) (k : ℕ) → MayMark size m info []
+        → segment_in (slot_at (linked size pid info m) k) ≡ segment_in (slot_at m k) }
+    ensures replaces { (size pid : ℕ) (info : CacheInfo) (old : List CacheInfo) (m : Machine) (k : ℕ) → MayMark size m info old
+        → segment_in (slot_at (replaced size pid info old m) k) ≡ segment_in (slot_at m k) }
 {}

@@ -53,6 +53,7 @@ use Rattle.sled_core.proofs.OwnLog.Started.{started_own}
 use Rattle.sled_core.proofs.OwnLog.StartedDevice.{started_placed}
 use Rattle.sled_core.proofs.Start.BegunSlots.{begun_slots}
 use Rattle.sled_core.proofs.Start.OlderStarted.{start_begun, start_entries}
+use Rattle.sled_core.proofs.Start.StartedAccount.{start_account}
 use Rattle.sled_core.proofs.Start.StartedMoments.{started_throughout}
 use Rattle.sled_core.proofs.Start.ReadyStarts.{ready_starts}
 use Rattle.sled_core.proofs.Start.StartFits.{start_fits}
@@ -227,6 +228,8 @@ returns-in-Ok-clause-fits g c = λ H A f ready.
           (started_own g.C.Checksum.sum_of size c.args.config.config.least zeros (state_of old) now s H A f ready c.in-Ok.ensures.answers.0 (ap (λ (l : LogState). l.bytes) log_now) behind (view_at site c.in-Ok.buffer)
           (ap (λ (x : Beginning). record { place = x.place; slot = x.slot }) c.in-Ok.ensures.beginning) (first.from ∙ offset) first.sealed)));
       entries = start_entries g.C.Checksum.sum_of size c.args.config.config.least (state_of old) s (logged H) ready.ready ready.alone c.in-Ok.ensures.answers.0 same now.snapshots.file
+          (ap (λ (t : Trace). (state_of t).snapshots.file) c.in-Ok.ensures.made ∙ ap (λ (n : NamesState). n.file) (started-snapshots size some (state_of old).log.bytes s old)) c.in-Ok.ensures.machine;
+      account = start_account g.C.Checksum.sum_of size some (state_of old) s H A f ready c.in-Ok.ensures.answers.0 same now.snapshots.file
           (ap (λ (t : Trace). (state_of t).snapshots.file) c.in-Ok.ensures.made ∙ ap (λ (n : NamesState). n.file) (started-snapshots size some (state_of old).log.bytes s old)) c.in-Ok.ensures.machine;
     }
 

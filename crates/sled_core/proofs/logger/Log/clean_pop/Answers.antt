@@ -1,0 +1,11 @@
+use Rattle.std.proofs.Common.{refl}
+use Rattle.sled_core.specs.Fits.{machine_at}
+use Rattle.sled_core.specs.invariants.Running.{Fits}
+use Rattle.sled_core.specs.inside.Slots.{HasAccount}
+use Rattle.sled_core.proofs.Line.MarkedSlots.{popped_keeps}
+use Rattle.sled_core.proofs.logger.Log.clean_pop.Goals as goal
+
+pub returns-clause-keeps : goal.returns-clause-keeps
+returns-clause-keeps g c =
+    popped_keeps g.D.Device.trace g.C.Checksum.sum_of c.args.self.now _ (record { config = refl; segments = refl; reserved = refl; fault = refl; pins = refl; batches = refl })
+    c.clean_pop.ensures.slots c.clean_pop.ensures.tip

@@ -1,0 +1,28 @@
+use Rattle.std.proofs.Common.{refl}
+use Rattle.sled_store.specs.SegmentStates.{linked}
+use Rattle.sled_store.proofs.Marks.MarkSteps.{linked_same}
+use Rattle.sled_core.specs.Fits.{machine_at, segment_size_of}
+use Rattle.sled_core.specs.Marking.{Marks}
+use Rattle.sled_core.proofs.Line.KeptCalls.{goes_on_still}
+use Rattle.sled_core.proofs.Line.MarkCalls.{link_account, marks_fit, marks_keep}
+use Rattle.sled_core.proofs.logger.Log.mark_link.Goals as goal
+
+-- The log keeps a failure.
+pub returns-in-Some-clause-keeps : goal.returns-in-Some-clause-keeps
+returns-in-Some-clause-keeps g c =
+    record { goes_on = goes_on_still g.D.Device.trace g.C.Checksum.sum_of c.args.self.now; history = λ H holds. holds; refused = λ H A f U fits. fits }
+
+pub returns-clause-keeps : goal.returns-clause-keeps
+returns-clause-keeps g c =
+    let log = c.args.self.now in
+    marks_keep g.D.Device.trace g.C.Checksum.sum_of log _ (linked (segment_size_of log) c.args.pid c.args.info)
+    (linked_same (segment_size_of log) (machine_at log) c.args.info c.requires.may.lies.taken c.args.pid) c.mark_link.result
+    (record { made = c.mark_link.ensures.done; refused = c.mark_link.ensures.unchanged; rest = record { config = c.mark_link.ensures.config; segments = refl; reserved = refl; fault = refl; pins = refl; batches = refl } })
+
+pub returns-clause-fits : goal.returns-clause-fits
+returns-clause-fits g c = λ H A f U V m fits takes of link.
+    let log = c.args.self.now in
+    marks_fit g.D.Device.trace g.C.Checksum.sum_of log _ (linked (segment_size_of log) c.args.pid c.args.info)
+    (linked_same (segment_size_of log) (machine_at log) c.args.info c.requires.may.lies.taken c.args.pid) c.mark_link.result
+    (record { made = c.mark_link.ensures.done; refused = c.mark_link.ensures.unchanged; rest = record { config = c.mark_link.ensures.config; segments = refl; reserved = refl; fault = refl; pins = refl; batches = refl } })
+    H A f U V m fits takes (link_account g.D.Device.trace g.C.Checksum.sum_of log H A f U V m fits takes c.args.pid c.args.info of link c.requires.may)
