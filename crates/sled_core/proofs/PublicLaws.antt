@@ -66,6 +66,7 @@ pub use Rattle.sled_core.proofs.Line.KeptCalls.{goes_on_still}
 pub use Rattle.sled_core.proofs.Holds.ReachLemmas.{fits_acknowledged}
 pub use Rattle.sled_core.proofs.Line.WithoutBlob.{alone_answers, alone_keeps, alone_same, without_further, without_none}
 pub use Rattle.sled_core.proofs.Line.ReservedInline.{ReservesInline, comes_inline, inline_keeps, inline_message, not_in_blob, refused_inline}
+pub use Rattle.sled_core.proofs.Line.Shows.{buffers_still as shows_empty, buffers_long as shows_long}
 
 -- As much is synced where the same buffers wait, and the current one begins where it did.
 first_same : (s s' begin begin' : ℕ) (bs bs' : List BufferAt) → FirstWaits s begin bs → FirstWaits s' begin' bs' → bs' ≡ bs → begin' ≡ begin → s' ≡ s
@@ -95,10 +96,6 @@ pub shows_current : {D C : Type 0} (sum : List ℕ → ℕ) (log : Log D C) → 
     → spans (buffers_of sum log) ≡ spans (waiting_of log) ++ record { place = current_begin log; end = sealing_end log; lid = (start_of log).lid } ∷ []
 shows_current sum log some = spans_added (waiting_of log) (buffers_of sum log) _ (buffers_add sum log some)
 
--- where it holds anything,
-pub shows_empty : {D C : Type 0} (sum : List ℕ → ℕ) (log : Log D C) → held_len log ≡ 0 → buffers_of sum log ≡ waiting_of log
-shows_empty sum log none = buffers_still sum log none
-
 -- and so it does where a reservation fills its segment;
 pub shows_behind : {D C : Type 0} (sum : List ℕ → ℕ) (log : Log D C) (page n : ℕ) → is_moved log page n ≡ true
     → spans (waiting_behind sum log page n) ≡ spans (waiting_of log) ++ record { place = current_begin log; end = (start_behind log page n).place; lid = (start_of log).lid } ∷ []
@@ -120,10 +117,6 @@ pub can_rewrite : {D C : Type 0} (trace : D → Trace) (sum : List ℕ → ℕ) 
 unfolding Fits
 can_rewrite trace sum log H A f U m lid blob fits entry replaces is =
     rewritten_stored trace sum log H A f U fits m entry replaces lid blob is (target_above log m.page 8 (let least = log.config.config.least in omega (arith, least)))
-
--- each has as many bytes as places,
-pub shows_long : {D C : Type 0} (sum : List ℕ → ℕ) (log : Log D C) → All HasLength (buffers_of sum log)
-shows_long sum log = buffers_long sum log
 
 -- and none is held up where no reservation is open.
 pub none_are_held : {D C : Type 0} (sum : List ℕ → ℕ) (log : Log D C) → NoneOpen log → All (λ b. b.held ≡ None) (buffers_of sum log)

@@ -28,6 +28,7 @@ pub use Rattle.sled_store.proofs.Histories.TableParts.{from_table}
 pub use Rattle.sled_log.proofs.Histories.Sizes.{has_size}
 pub use Rattle.sled_store.proofs.Histories.TableParts.{from_page}
 pub use Rattle.sled_store.proofs.Segments.Elements.{all_from_in, from_filter, in_cases, in_filter, in_first, in_nothing, in_one, in_rest, no_element, only_in}
+use Rattle.sled_log.proofs.Sessions.RunHistories.{no_links}
 
 -- What is left below a cut is what begins there.
 pub kept_below : (H : History) (cut : ℕ) (m : Message) → Contains (below H cut).messages m ↔ (Contains H.messages m × (m.place < cut))
@@ -74,12 +75,6 @@ ends_with m (n ∷ ms) replaces order =
 some_end : (ms : List Message) (x : Message) → Contains ms x → All (λ m. m.kind ≡ Replace) ms → Ascends ms → EndsWith ms
 some_end [] x there replaces order = absurd (in_nothing x there)
 some_end (m ∷ ms) x there replaces order = ends_with m ms replaces order
-
-no_links : (place : ℕ) (ms : List Message) → All (λ m. m.kind ≡ Replace) ms → links_behind place ms ≡ []
-no_links place [] replaces = refl
-no_links place (m ∷ ms) replaces =
-    ap (λ (k : LogKind). cond (is_link k && nat_lt place m.place) (m ∷ links_behind place ms) (links_behind place ms)) (All-head (λ x. x.kind ≡ Replace) m ms replaces)
-    ∙ no_links place ms (All-tail (λ x. x.kind ≡ Replace) m ms replaces)
 
 -- so what they make of their page is that one
 one_left : (ms : List Message) (e : EndsWith ms) → All (λ m. m.kind ≡ Replace) ms → page_state ms ≡ e.last ∷ []

@@ -10,7 +10,7 @@ use Rattle.sled_store.proofs.Traces.ScriptLemmas.{along_first}
 use Rattle.sled_core.specs.Recoverable.{NoForeign, LeavesRecoverable}
 
 -- A content in which only the log's own writes pass by one state is such a one by each that knows more.
-own_still : (sum : List ℕ → ℕ) (size : ℕ) (s t : State) (left : Content) → Knows s t → NoForeign sum size s left → NoForeign sum size t left
+pub own_still : (sum : List ℕ → ℕ) (size : ℕ) (s t : State) (left : Content) → Knows s t → NoForeign sum size s left → NoForeign sum size t left
 own_still sum size s t left knows own = record {
   log = own_log sum size s.log t.log s.placed t.placed left.log knows.log knows.placed own.log;
   blobs = own_names _ s.blobs t.blobs left.blobs knows.blobs own.blobs;

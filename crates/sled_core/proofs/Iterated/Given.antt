@@ -28,7 +28,7 @@ use Rattle.sled_core.proofs.Tail.OfHistory.{opened_of}
 use Rattle.sled_core.proofs.Tail.Rows.{Stand, stand_in}
 
 -- the kind of a message with a blob says what it does
-blob_kind_back : (does_it : LogKind) (page : ℕ) (k : MessageKind) → kind_written does_it page true ≡ Some k → log_kind_of k ≡ does_it
+pub blob_kind_back : (does_it : LogKind) (page : ℕ) (k : MessageKind) → kind_written does_it page true ≡ Some k → log_kind_of k ≡ does_it
 blob_kind_back does.Replace page k is = back_if (page == 1) (page == 0) _ _ _ k does.Replace refl refl refl is
 blob_kind_back does.Link page k is = let same : kind.BlobLink ≡ k = cc in sym (ap log_kind_of same)
 blob_kind_back does.Free page k is = cc

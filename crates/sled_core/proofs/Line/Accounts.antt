@@ -21,7 +21,7 @@ use Rattle.sled_core.specs.inside.Slots.{HasAccount}
 -- Lists.
 
 -- tests that agree on all of a list keep the same of it
-filter_alike : {X : Type 0} (p q : X → Bool) (xs : List X) → ((x : X) → Contains xs x → p x ≡ q x) → filter p xs ≡ filter q xs
+pub filter_alike : {X : Type 0} (p q : X → Bool) (xs : List X) → ((x : X) → Contains xs x → p x ≡ q x) → filter p xs ≡ filter q xs
 filter_alike p q [] alike = refl
 filter_alike p q (x ∷ xs) alike =
     let rest = filter_alike p q xs (λ y found. alike y (in_rest x y xs found)) in

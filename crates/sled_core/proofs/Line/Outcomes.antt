@@ -1,9 +1,10 @@
 -- What follows of a call that succeeded or failed, and of what it answered.
-use Rattle.std.proofs.Common.{◌≡◌, ◌∙◌, refl, sym, subst, ℕ, Option, None, Some, Result, Ok, Err, OnOk, OnErr}
+use Rattle.std.proofs.Common.{◌≡◌, ◌∙◌, refl, sym, subst, ℕ, Option, None, Some, Result, Ok, Err, IsErrAnd, OnOk, OnErr}
 use Rattle.std.specs.declared.io.Error.{Error as IoError}
 use Rattle.sled_codec.specs.declared.result.Error.{Error}
 use Rattle.sled_codec.specs.declared.result.Error.TheVariants.{Held, Io, OutOfMemory, PlacesUsedUp}
 use Rattle.sled_core.specs.Causes.{Answers, FaultOrMemory, HeldAnswers, IsHeld, OnDone}
+pub use Rattle.sled_store.proofs.Segments.FillLemmas.{after_err as all_err}
 
 -- Where it succeeded another thing follows of one that is so, or of two,
 pub on_ok : {T E : Type 0} (r : Result T E) (A B : Type 0) → (A → B) → OnOk r A → OnOk r B
@@ -18,10 +19,6 @@ on_both (Err e) A B P f a b = tt
 pub all_ok : {T E : Type 0} (r : Result T E) (P : Type 0) → P → OnOk r P
 all_ok (Ok x) P is = is
 all_ok (Err e) P is = tt
-
-pub all_err : {T E : Type 0} (r : Result T E) (P : Type 0) → P → OnErr r P
-all_err (Ok x) P is = tt
-all_err (Err e) P is = is
 
 -- It is the same where it failed,
 pub on_err : {T E : Type 0} (r : Result T E) (A B : Type 0) → (A → B) → OnErr r A → OnErr r B
@@ -96,3 +93,12 @@ module _ (T S : Type 0) (e : Error) (used : Type 0) (failed : FaultOrMemory {T =
     by_error : (e : Error) → FaultOrMemory {T = T} (Err e) used None → OnDone {T = S} (Err e) P
     by_error (Held at) is = absurd is
     by_error _ is = tt
+
+-- What is so where it was done isn't asked where it was refused,
+pub refused : {T E : Type 0} (Q : E → Type 0) (r : Result T E) (A : Type 0) → IsErrAnd r Q → OnOk r A
+refused Q (Ok x) A is = absurd is
+refused Q (Err e) A is = tt
+
+-- and a log that keeps no failure keeps none.
+pub no_fault : (kept : Option IoError) (e : IoError) (A : Type 0) → kept ≡ None → kept ≡ Some e → A
+no_fault kept e A none some = absurd (let bad : None ≡ Some e = sym none ∙ some in cc)

@@ -17,6 +17,7 @@ use Rattle.sled_core.proofs.Line.Entered.{filled_last}
 use Rattle.sled_core.proofs.Holds.Facts.{current_facts}
 use Rattle.sled_core.proofs.Line.LineEnds.{behind_still}
 use Rattle.sled_core.proofs.Reached.StableBelow.{stable_low}
+pub use Rattle.sled_core.proofs.Holds.ReachLemmas.{reserved_small as reserved_in_reach}
 
 not_less : (a b : ℤ) → b ≤ℤ a → int_lt a b ≡ false
 not_less a b le = grind (arith, ints)
@@ -37,15 +38,6 @@ above_read lsn got read last end same it is test = grind (arith, ints, same, it,
 
 pub inside_read : (lsn read last : ℤ) (end : ℕ) → read ≡ lsn → last ≡ pos end → le_z last read ≡ false → lsn <ℤ pos end
 inside_read lsn read last end same it test = grind (arith, ints, same, it, test)
-
--- What was reserved ends in reach.
-pub reserved_in_reach : {D C : Type 0} (log : Log D C) → reserved_end log < 2 ^ 63
-reserved_in_reach log =
-    let most = (filled_last log.config.config.segment_size log.reserved_to (segment_view log.segments.first) (map segment_view log.segments.behind.items) log.filled).1 in
-    let facts = current_facts log in
-    let short = facts.short in
-    let near = facts.place_small in
-    omega (arith, most, short, near)
 
 -- It ends within the segments.
 pub reserved_ends : {D C : Type 0} (log : Log D C) → reserved_end log ≤ line_end log.config.config.segment_size (line_of log)

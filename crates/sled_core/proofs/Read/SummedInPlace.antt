@@ -4,14 +4,7 @@ use Rattle.std.proofs.lemmas.List.{drop-drop, drop-take, take-take, take_at, dro
 use Rattle.sled_codec.specs.Places.{part}
 use Rattle.sled_codec.specs.Written.{written, drop-written}
 use Rattle.sled_core.proofs.Reserve.Parts.{mid_is}
-
--- a front of a list behind another one
-take_behind : (xs ys : List ℕ) (n k : ℕ) → n ≡ length xs + k → take n (xs ++ ys) ≡ xs ++ take k ys
-take_behind xs ys n k is =
-    sym (take-append-drop (length xs) (take n (xs ++ ys)))
-    ∙ ap (λ (l : List ℕ). l ++ drop (length xs) (take n (xs ++ ys))) (take-take (length xs) n (xs ++ ys) (omega (arith, is)) ∙ take_at xs ys (length xs) refl)
-    ∙ ap (λ m. xs ++ drop (length xs) (take m (xs ++ ys))) is
-    ∙ ap (λ (l : List ℕ). xs ++ l) (drop-take (length xs) k (xs ++ ys) ∙ ap (take k) (drop_at xs ys (length xs) refl))
+use Rattle.sled_core.proofs.Reserve.Placeholders.{take_behind}
 
 module _ (bytes : List ℕ) (end count : ℕ) (room : end + count ≤ length bytes) where
   pub part_long : (at : ℕ) → at ≤ end → length (part bytes at count) ≡ count

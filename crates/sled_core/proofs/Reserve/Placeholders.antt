@@ -6,7 +6,7 @@ use Rattle.sled_core.specs.inside.Buffers.{placeholder_head}
 use Rattle.sled_core.proofs.Reserve.Parts.{mid_is}
 
 -- what stands behind a first part, up to an end within it
-take_behind : (xs ys : List ℕ) (n k : ℕ) → n ≡ length xs + k → take n (xs ++ ys) ≡ xs ++ take k ys
+pub take_behind : (xs ys : List ℕ) (n k : ℕ) → n ≡ length xs + k → take n (xs ++ ys) ≡ xs ++ take k ys
 take_behind xs ys n k is =
     ap (λ m. take m (xs ++ ys)) is
     ∙ sym (take-append-drop (length xs) (take (length xs + k) (xs ++ ys)))

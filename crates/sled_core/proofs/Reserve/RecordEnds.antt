@@ -29,7 +29,7 @@ records_open (x ∷ xs) r end to low whole is = by (padding_state x.state) whole
   by true up rest = absurd (let here = low 0 x (omega arith) in omega (arith, up, here))
   by false up rest = rest up
 
-plain_state : (s : ReservationState) → s ≢ Padding → padding_state s ≡ false
+pub plain_state : (s : ReservationState) → s ≢ Padding → padding_state s ≡ false
 plain_state Open plain = refl
 plain_state Completed plain = refl
 plain_state Canceled plain = refl

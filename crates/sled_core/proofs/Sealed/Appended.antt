@@ -8,14 +8,11 @@ use Rattle.sled_core.specs.Buffers.{open_in}
 use Rattle.sled_core.specs.inside.SealedBuffers.{IsSealed, AreSealed, FirstUnwritten}
 use Rattle.sled_core.specs.SealedBuffers.{seal_at, sealed_count, sealed_end}
 use Rattle.sled_core.proofs.Sealed.Ended.{sealed_one}
+pub use Rattle.sled_core.proofs.Sealed.Progress.{end_last as end_one}
 
 pub first_one : (bs : List Sealed) (b : Sealed) → b.is_written ≡ false → FirstUnwritten bs → FirstUnwritten (bs ++ b ∷ [])
 first_one [] b fresh first = fresh
 first_one (x ∷ xs) b fresh first = first
-
-pub end_one : (from : ℕ) (bs : List Sealed) (b : Sealed) → sealed_end from (bs ++ b ∷ []) ≡ b.end
-end_one from [] b = refl
-end_one from (x ∷ xs) b = end_one x.end xs b
 
 pub count_one : (bs : List Sealed) (b : Sealed) → sealed_count (bs ++ b ∷ []) ≡ sealed_count bs + b.count
 count_one [] b = omega arith

@@ -8,6 +8,7 @@ use Rattle.sled_core.specs.inside.SealedBuffers.{AreSealed, FirstUnwritten, behi
 use Rattle.sled_core.specs.SealedBuffers.{sealed_count, sealed_end}
 use Rattle.sled_core.proofs.Reserve.Ranges.{there_split}
 use Rattle.sled_core.proofs.Sealed.OneWritten.{sealed_written}
+pub use Rattle.sled_core.proofs.Sealed.Progress.{run_counts as count_run}
 
 -- one that can be written has no open reservation
 pub ready_closed : (b : Sealed) → is_ready b ≡ true → b.open_count ≡ 0
@@ -47,13 +48,6 @@ end_written from zero (b ∷ bs) = refl
 end_written from (suc k) (b ∷ bs) = end_written b.end k bs
 
 -- Those at the front that are written, and the others.
-
-pub count_run : (bs : List Sealed) → sealed_count bs ≡ run_count bs + sealed_count (behind_run bs)
-count_run [] = refl
-count_run (b ∷ bs) = by_test b.is_written (count_run bs) where
-  by_test : (o : Bool) → sealed_count bs ≡ run_count bs + sealed_count (behind_run bs) → b.count + sealed_count bs ≡ (if o then b.count + run_count bs else 0) + sealed_count (if o then behind_run bs else b ∷ bs)
-  by_test true rest = omega (arith, rest)
-  by_test false rest = omega arith
 
 -- the first one counts, if it is written
 pub first_in_run : (bs : List Sealed) (b : Sealed) → slice_get bs 0 ≡ Some b → b.is_written ≡ true → run_count bs ≡ b.count + run_count (drop 1 bs)

@@ -16,6 +16,7 @@ use Rattle.sled_core.proofs.Reached.OpenTickets.{both_ended, by_first}
 use Rattle.sled_core.proofs.Reached.BufferPath.{ending_at}
 use Rattle.sled_core.proofs.Reserve.Entries.{reserved_in, padding_in, some_long}
 use Rattle.sled_core.proofs.Reserve.Ranges.{chain_grows}
+use Rattle.sled_core.proofs.Reserve.RecordEnds.{plain_state as state_plain}
 
 -- why the reading ends where these records end: for what fills the segment, or as behind any last record
 abbrev pub records_why : ℕ → List Reserved → ℕ → ScanEnd
@@ -31,13 +32,6 @@ padding_is Padding is = refl
 
 plain_is : (s : ReservationState) → padding_state s ≡ false → s ≢ Padding
 plain_is s is same = let both : padding_state Padding ≡ false = ap padding_state (sym same) ∙ is in cc
-
-state_plain : (s : ReservationState) → s ≢ Padding → padding_state s ≡ false
-state_plain Open plain = refl
-state_plain Completed plain = refl
-state_plain Canceled plain = refl
-state_plain Manifest plain = refl
-state_plain Padding plain = absurd (plain refl)
 
 -- no entry lies behind the end of a chain
 pub none_behind : (from : ℕ) (rs : List Reserved) (end : ℕ) → IsChain from rs end → end ≤ from → All (λ r. 0 < r.len) rs → rs ≡ []

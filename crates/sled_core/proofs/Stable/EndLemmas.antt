@@ -4,21 +4,12 @@ use Rattle.std.specs.List.{All, Any, Contains}
 use Rattle.std.proofs.lemmas.Int.{ints, by_lt_z}
 use Rattle.std.proofs.lemmas.List.Elements.{All-contains, Contains-get_or}
 use Rattle.sled_core.specs.StableEnds.{LiesIn, Covers, IsContiguousEnd}
+pub use Rattle.sled_store.proofs.Segments.Elements.{in_first as first, in_rest as later, in_cases as first_or_later}
 
 pub or_beyond : (a b : ℤ) → (a ≤ℤ b) ⊎ (b <ℤ a)
 or_beyond a b = by_lt_z b a (λ lt. inr lt) (λ le. inl le)
 
 -- What is in a list with one more in front.
-
-pub first : {X : Type 0} (x : X) (xs : List X) → Contains (x ∷ xs) x
-first x xs = (0, omega arith, refl)
-
-pub later : {X : Type 0} (x y : X) (xs : List X) → Contains xs y → Contains (x ∷ xs) y
-later x y xs (k, lt, at) = (suc k, omega arith, at)
-
-pub first_or_later : {X : Type 0} (x y : X) (xs : List X) → Contains (x ∷ xs) y → (x ≡ y) ⊎ Contains xs y
-first_or_later x y xs (zero, lt, at) = inl at
-first_or_later x y xs (suc k, lt, at) = inr (k, omega arith, at)
 
 pub some_in : {X : Type 0} (P : X → Type 0) (xs : List X) (x : X) → Contains xs x → P x → Any P xs
 some_in P xs x (k, lt, at) p = (k, x, lt, at, p)

@@ -13,6 +13,7 @@ use Rattle.sled_store.specs.Begin.{entries_in, entries_of, slot_of, is_active, i
 use Rattle.sled_store.proofs.Segments.Elements.{in_first, in_rest, in_cases, in_nothing}
 use Rattle.sled_store.proofs.Segments.EntryLemmas.{same_number}
 use Rattle.sled_store.proofs.Segments.SnapshotEntries.{IsEntryOf}
+pub use Rattle.sled_core.proofs.Start.UsedEntries.{entry_used as message_used}
 
 -- these entries have one with the place and the pointer of a message
 pub record HasEntry (es : List Entry) (m : Message) : Type 0 where
@@ -105,12 +106,6 @@ any_of test (x ∷ es) e there is = elim (in_cases x e es there) [
 pub entry_used : (size : ℕ) (s : SnapshotModel) (e : Entry) → Contains (entries_of s.pages) e → is_used size s (slot_of size e) ≡ true
 entry_used size s e there =
     ap (λ (b : Bool). is_active size s.active (slot_of size e) || b) (any_of (λ d. slot_of size d == slot_of size e) (entries_of s.pages) e there (same_number (slot_of size e))) ∙ or-true (is_active size s.active (slot_of size e))
-
--- So a snapshot uses the slot of each message of its table.
-pub message_used : (size : ℕ) (s : SnapshotModel) (H : History) (cut : ℕ) → IsTable s.pages H cut → (page : ℕ) (m : Message) → Contains (table H cut page) m → is_used size s (lid_of m.pointer / size) ≡ true
-message_used size s H cut is page m there =
-    let e = table_entry s.pages H cut is page m there in
-    ap (λ p. is_used size s (lid_of p / size)) (sym e.pointer) ∙ entry_used size s e.entry e.there
 
 -- where an element passes, there is one
 pub from_any : {X : Type 0} (test : X → Bool) (xs : List X) → list_any test xs ≡ true → (x : X) × Contains xs x × (test x ≡ true)

@@ -13,11 +13,7 @@ use Rattle.sled_store.specs.SlotTables.{number_in}
 use Rattle.sled_store.proofs.Segments.Elements.{in_first, in_rest, all_from_in}
 use Rattle.sled_store.proofs.Segments.EntryLemmas.{first_in, no_sizes}
 use Rattle.sled_store.proofs.Segments.TableWeights.{weight, table_counts}
-
--- a sum of no greater numbers is no greater
-less_sum : {X : Type 0} (f g : X → ℕ) (xs : List X) → ((x : X) → Contains xs x → f x ≤ g x) → sum_by f xs ≤ sum_by g xs
-less_sum f g [] each = omega arith
-less_sum f g (x ∷ xs) each = let here = each x (in_first x xs) in omega (arith, here, sum_by-cons f x xs, sum_by-cons g x xs, less_sum f g xs (λ y there. each y (in_rest x y xs there)))
+use Rattle.sled_store.proofs.Marks.StandingSums.{sum_less as less_sum}
 
 module _ (size n : ℕ) where
   -- what counts of an entry and of a message is what is of the segment

@@ -23,6 +23,7 @@ use Rattle.sled_log.specs.WritesBack.{shredding, zeroing, after_zeroing}
 use Rattle.sled_log.proofs.Moments.Shredded.{IsShredded, filled, full}
 use Rattle.sled_log.proofs.Moments.Steps.{zeros_left}
 use Rattle.sled_log.proofs.Moments.UnreadSlots.{AreFree, StopsAtCut, recoverable_at, zeroing_left, one_zeroed, still_free}
+use Rattle.sled_core.proofs.Holds.CallMoments.{own_still as own_later}
 
 -- The parts of a state. Recovery may begin from some snapshots alone.
 
@@ -39,15 +40,6 @@ LogStands sum size H A cut Allowed log placed =
 abbrev pub BlobsStand : (List ℕ → ℕ) → History → ℕ → NamesState → Type 0
 BlobsStand sum H cut blobs =
     (left : ℤ → Option (List ℕ)) → ((n : ℤ) → LeavesName blobs n (left n)) → NoForeignNames (λ bytes. (k : MessageKind) × (item : List ℕ) × IsBlob sum bytes k item) blobs left → AreRecoverableBlobs sum left H cut
-
--- what was the log's own by one state is so by each that knows more (as `own_still` of `sled_core`, which that keeps to itself)
-own_later : (sum : List ℕ → ℕ) (size : ℕ) (s t : State) (left : Content) → Knows s t → NoForeign sum size s left → NoForeign sum size t left
-own_later sum size s t left knows own = record {
-  log = own_log sum size s.log t.log s.placed t.placed left.log knows.log knows.placed own.log;
-  blobs = own_names _ s.blobs t.blobs left.blobs knows.blobs own.blobs;
-  snapshots = own_names _ s.snapshots t.snapshots left.snapshots knows.snapshots own.snapshots;
-  zeros = own.zeros;
-}
 
 module _ (sum : List ℕ → ℕ) (size : ℕ) (H : History) (A f : ℕ) where
   abbrev P : State → Type 0

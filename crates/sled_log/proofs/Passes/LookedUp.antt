@@ -14,13 +14,7 @@ use Rattle.sled_log.proofs.Passes.Blobs.{good_more}
 use Rattle.sled_log.proofs.Replay.BlobLemmas.{bad_before, bad_either, bad_left}
 use Rattle.sled_core.proofs.Iterates.Kinds.{scan_kinds}
 use Rattle.sled_log.proofs.Replay.LookLemmas.{kinds_with_blobs}
-
-pub in_map : {X Y : Type 0} (f : X → Y) (xs : List X) (x : X) → Contains xs x → Contains (map f xs) (f x)
-in_map f [] x there = absurd (in_nothing x there)
-in_map f (y ∷ ys) x there = elim (in_cases y x ys there) [
-  | inl same ↦ subst (λ z. Contains (f y ∷ map f ys) (f z)) same (in_first (f y) (map f ys))
-  | inr later ↦ in_rest (f y) (f x) (map f ys) (in_map f ys x later)
-]
+pub use Rattle.sled_core.proofs.Logged.Messages.{in_map}
 
 module _ (sum : List ℕ → ℕ) (blobs : ℤ → Option (List ℕ)) (end : ℕ) where
   bad_of_one : (ss : List Scanned) (s : Scanned) → Contains ss s → MeetsBadBlob sum blobs (before_open end s.met) → MeetsBadPass sum blobs end ss

@@ -27,14 +27,7 @@ use Rattle.sled_log.proofs.Moments.FromCut.{EndsAtCut}
 use Rattle.sled_log.proofs.Ready.ReadToPlace.{EndsThere}
 use Rattle.sled_log.proofs.Ready.SlotNamed.{uses_entry}
 use Rattle.sled_log.proofs.Recovers.PassCut.{whole}
-
--- A message that is reached in a segment lies behind its header, with room for a record.
-pub reached_begins : (sum : List ℕ → ℕ) (size : ℕ) (log : List ℕ) (s : Segment) (m : Message) → s.slot % size ≡ 0 → IsReachedIn sum size log s m → MayBegin size (lid_of m.pointer)
-reached_begins sum size log s m aligned is =
-    let long = stand_rises (s.place + 20) is.before (s.place + is.at) (path_stands sum size log s.slot s.place 20 is.before is.at is.path) in
-    let room = is.room in
-    let offset : lid_of m.pointer % size ≡ is.at = ap (λ n. n % size) is.lid ∙ aligned_offset s.slot is.at size aligned (omega (arith, room)) in
-    record { behind_header = omega (arith, offset, long); before_end = omega (arith, offset, room) }
+pub use Rattle.sled_core.proofs.Reached.MetWritten.{reached_begins}
 
 module _ (sum : List ℕ → ℕ) (size : ℕ) (log : List ℕ) (some : 256 ≤ size) (H : History) (A : ℕ) (next : SnapshotModel) (cut : ℕ × Option ℕ) (is : IsRecoverableLog sum size log H A next cut)
     (place : stable_place next.stable ≡ cut.0) (active : ActiveFits size (stable_place next.stable) next.active) (messages : (m : Message) → Contains H.messages m → m.place < cut.0) (ordered : Ascends H.messages)

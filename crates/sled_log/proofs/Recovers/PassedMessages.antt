@@ -20,14 +20,7 @@ use Rattle.sled_store.proofs.Segments.Elements.{in_first, in_rest, in_cases, in_
 use Rattle.sled_log.specs.Recovery.{Applied, applied, applied_of, given, resolved, with_blob}
 use Rattle.sled_store.proofs.Histories.Ascending.{IsSublist, Ascends, later_above, one_at_place}
 use Rattle.sled_core.proofs.Tail.Rows.{Stand, stand_in}
-
--- the kind of a message with a blob says what it does
-blob_kind_back : (does_it : LogKind) (page : ℕ) (k : MessageKind) → kind_written does_it page true ≡ Some k → log_kind_of k ≡ does_it
-blob_kind_back does.Replace page k is = back_if (page == 1) (page == 0) _ _ _ k does.Replace refl refl refl is
-blob_kind_back does.Link page k is = let same : kind.BlobLink ≡ k = cc in sym (ap log_kind_of same)
-blob_kind_back does.Free page k is = cc
-blob_kind_back does.Skip page k is = cc
-blob_kind_back does.Corrupted page k is = cc
+use Rattle.sled_core.proofs.Iterated.Given.{blob_kind_back}
 
 -- Messages by place that are a history's are a sublist of it.
 pub ascending_sublist : (xs ys : List Message) → Ascends xs → Ascends ys → ((m : Message) → Contains xs m → Contains ys m) → IsSublist xs ys

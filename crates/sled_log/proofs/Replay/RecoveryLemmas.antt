@@ -8,14 +8,7 @@ use Rattle.sled_codec.specs.Snapshots.{SnapshotModel, stable_place}
 use Rattle.sled_core.specs.declared.iterator.scan.ScannedRecord.{ScannedRecord}
 use Rattle.sled_core.specs.declared.iterator.Segment.{Segment}
 use Rattle.sled_log.specs.Recovery.{Scanned, Applied, Outcome, Recovered, Damaged, RecoveryResult, shred_range_of, is_beyond, opens, before_open, open_at, passed_in, stops_in, concluded, outcome_of, given, cut_of, has_no_table, are_whole, table_of}
-
--- where no batch is open, all that is met lies before one
-pub before_none : (end : ℕ) (ms : List ScannedRecord) → open_at end ms ≡ None → before_open end ms ≡ ms
-before_none end [] none = refl
-before_none end (m ∷ ms) none = by_test (opens end m.what) (before_none end ms) none where
-  by_test : (b : Bool) → (open_at end ms ≡ None → before_open end ms ≡ ms) → (if b then Some m.place else open_at end ms) ≡ None → (if b then [] else m ∷ before_open end ms) ≡ m ∷ ms
-  by_test true rest none = cc
-  by_test false rest none = ap (λ (l : List ScannedRecord). m ∷ l) (rest none)
+pub use Rattle.sled_core.proofs.Tail.Rows.{all_before_open as before_none}
 
 -- The outcome of a pass over one segment.
 module _ (size : ℕ) (first : SnapshotModel) (unread : List ℕ) (end : ℕ) (s : Scanned) where

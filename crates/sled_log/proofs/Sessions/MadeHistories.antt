@@ -18,15 +18,9 @@ use Rattle.sled_log.specs.PageHistories.{MayAdd}
 use Rattle.sled_log.specs.RunStates.{page_now, top}
 use Rattle.sled_log.proofs.Afterwards.OrderlyBelow.{orderly_below, table_of_page}
 use Rattle.sled_log.proofs.PageTable.TableCuts.{below_same}
+use Rattle.sled_core.proofs.Line.Accounts.{filter_alike as filter_same}
 
 -- Filters.
-
--- tests that agree on the elements of a list keep the same of it
-filter_same : {X : Type 0} (p q : X → Bool) (xs : List X) → ((x : X) → Contains xs x → p x ≡ q x) → filter p xs ≡ filter q xs
-filter_same p q [] same = refl
-filter_same p q (x ∷ xs) same =
-    ap (λ (b : Bool). cond b (x ∷ filter p xs) (filter p xs)) (same x (in_first x xs))
-    ∙ ap (λ l. cond (q x) (x ∷ l) l) (filter_same p q xs (λ y there. same y (in_rest x y xs there)))
 
 -- messages of a page that lie below two cuts are the same below both
 pub of_page_same : (ms : List Message) (c d page : ℕ) → ((x : Message) → Contains ms x → x.page ≡ page → (x.place < c) × (x.place < d)) → of_page ms c page ≡ of_page ms d page

@@ -19,6 +19,7 @@ use Rattle.sled_core.proofs.PublicLaws.{current_count, current_least, shows_behi
 use Rattle.sled_log.specs.RunPhases.{seen_log}
 use Rattle.sled_log.specs.RunStates.{EndsInReach, LogView, body_in, current_span, is_behind, next_start, start_with, target_in, waiting_with}
 use Rattle.sled_log.specs.TicketSteps.{IsFullOfOpen, opens_beside}
+use Rattle.sled_core.proofs.Holds.ReachLemmas.{position_past}
 
 -- a test that isn't one answer is the other
 only_true : (b : Bool) → (b ≡ false → ⊥) → b ≡ true
@@ -35,13 +36,6 @@ body_fits log n = by (in_blob (segment_size_of log) n) refl where
   by : (b : Bool) → in_blob (segment_size_of log) n ≡ b → FitsInline (segment_size_of log) (if b then 8 else n)
   by true is = let least = log.config.config.least in omega (arith, least)
   by false is = grind (arith, nat_tests, is)
-
--- the next place lies behind all bytes
-position_past : (size : ℕ) (v : SegmentView) (m : Machine) → length v.parts.bytes ≤ size → v.parts.site.place + length v.parts.bytes ≤ (position_in size v m).place
-position_past size v m inside = by (is_short size (length v.parts.bytes)) where
-  by : (b : Bool) → v.parts.site.place + length v.parts.bytes ≤ (if b then next_segment_at size v.parts.site.place m else record { place = v.parts.site.place + length v.parts.bytes; begins = v.parts.site.place; slot = v.parts.site.slot; machine = m }).place
-  by true = omega (arith, inside)
-  by false = omega arith
 
 -- What a reservation seals, and where its record is put.
 module _ {D C : Type 0} (log : Log D C) (begun : ℕ) (tickets : List (Option Message)) (sum : List ℕ → ℕ) (page n : ℕ) (inline : FitsInline (segment_size_of log) n) where

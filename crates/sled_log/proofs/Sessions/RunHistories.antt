@@ -16,7 +16,7 @@ use Rattle.sled_log.proofs.Sessions.MadeHistories.{lower_before, stays_in, came_
 -- A history of Replaces.
 
 -- Replaces have no Link among them
-no_links : (place : ℕ) (ms : List Message) → All (λ m. m.kind ≡ Replace) ms → links_behind place ms ≡ []
+pub no_links : (place : ℕ) (ms : List Message) → All (λ m. m.kind ≡ Replace) ms → links_behind place ms ≡ []
 no_links place [] replaces = refl
 no_links place (m ∷ ms) replaces =
     ap (λ (k : LogKind). cond (is_link k && nat_lt place m.place) (m ∷ links_behind place ms) (links_behind place ms)) (All-head (λ x. x.kind ≡ Replace) m ms replaces)

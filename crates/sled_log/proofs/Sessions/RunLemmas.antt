@@ -44,10 +44,9 @@ use Rattle.sled_log.specs.Runs.{Carries, IsOwn, IsStep, KeepsOwn, StaysRecoverab
 use Rattle.sled_log.specs.RunPhases.{AnswersIn, CarriesOut, Does, IsAt, IsClosedAt, IsOpenAt, RunsOn, StandsIn, Unstored, device_in, running, size_of, stands, traces}
 use Rattle.sled_log.proofs.Sessions.MadeHistories.{none_made}
 use Rattle.sled_log.proofs.Sessions.Within.{still_there, untouched}
-
--- a place as code holds it
-pub place_back : (z : ℤ) (n : ℕ) → z ≡ pos n → n < 2 ^ 63 → pos n ≡ cast_signed w64 (cast_unsigned w64 z)
-place_back z n is small = let fits : FitsSigned w64 (pos n) = search rules in sym (ap (λ (x : ℤ). cast_signed w64 (cast_unsigned w64 x)) is ∙ to_z-of_z w64 (pos n) fits)
+pub use Rattle.sled_core.proofs.PublicLaws.{place_back}
+pub use Rattle.sled_store.proofs.PublicLaws.{later_both}
+pub use Rattle.sled_store.proofs.Traces.ScriptLemmas.{later_performed}
 
 -- What holds of a call that succeeds holds where it doesn't fail, and what holds of one that fails where it does.
 module _ {T E : Type 0} (r : Result T E) (P : Type 0) where
@@ -73,17 +72,6 @@ later_is old new is = ([], is)
 
 pub later_one : (old new : Trace) (e : Event) → new ≡ e ∷ old → IsLater old new
 later_one old new e is = (e ∷ [], is)
-
-pub later_both : (old mid new : Trace) → IsLater old mid → IsLater mid new → IsLater old new
-later_both old mid new first second = (second.0 ++ first.0, second.1 ∙ ap (λ (t : Trace). second.0 ++ t) first.1 ∙ sym (append_assoc second.0 first.0 old))
-
--- what calls made is later
-pub later_performed : (es : List Event) (old new : Trace) → Performs es old new → IsLater old new
-later_performed es old new came = let run = performs_throughout (λ s. Unit {0}) es old new came (all_along es (state_of old)) in (run.events, run.follows)
-  where
-    all_along : (fs : List Event) (s : State) → Along (λ x. Unit {0}) fs s
-    all_along [] s = tt
-    all_along (f ∷ fs) s = (tt, λ torn tears. tt, all_along fs (step f s))
 
 -- one configuration runs on after another
 pub runs_on_both : {D C : Type 0} (trace : D → Trace) (old mid new : RunningConfig D C) → RunsOn trace old mid → RunsOn trace mid new → RunsOn trace old new

@@ -12,12 +12,7 @@ use Rattle.sled_core.proofs.Start.GoodStarted.{good_started}
 use Rattle.sled_core.proofs.Start.Places.{goes_on_at}
 use Rattle.sled_log.specs.RunStates.{ShowsActive}
 use Rattle.sled_log.specs.OpenSteps.{starting}
-
--- the higher the place, the more is acknowledged once all below it is durable
-pub end_rises : (low high : ℕ) (H : History) → low ≤ high → end_below low H ≤ end_below high H
-end_rises low high H le = acknowledged_least low (end_below high H) H
-    (λ m there below. message_acknowledged high H m there (omega (arith, below, le)))
-    (λ b there below. batch_acknowledged high H b there (omega (arith, below, le)))
+pub use Rattle.sled_core.proofs.Holds.LastEnds.{acknowledged_up as end_rises}
 
 -- Starts.
 

@@ -9,18 +9,9 @@ use Rattle.std.proofs.lemmas.List.Kept.{IsStrictlySortedBy-filter}
 use Rattle.sled_store.specs.Device.{Trace, SnapshotRemoved, NamesState, state_of, unnamed, renamed}
 use Rattle.sled_store.specs.Script.{after_all}
 use Rattle.sled_log.specs.WritesBack.{removing, others, is_other, AreOthers, MayBeRemoved}
+use Rattle.sled_store.proofs.Names.BlobLemmas.{contains_head, contains_more, contains_one_of}
 
 -- Elements of a list.
-
-contains_head : (x y : ℤ) (xs : List ℤ) → x ≡ y → Contains (x ∷ xs) y
-contains_head x y xs is = (0, omega arith, is)
-
-contains_more : (x y : ℤ) (xs : List ℤ) → Contains xs y → Contains (x ∷ xs) y
-contains_more x y xs (k, below, at) = (suc k, omega (arith, below), at)
-
-contains_one_of : (x y : ℤ) (xs : List ℤ) → Contains (x ∷ xs) y → (x ≡ y) ⊎ Contains xs y
-contains_one_of x y xs (zero, below, at) = inl at
-contains_one_of x y xs (suc k, below, at) = inr (k, omega (arith, below), at)
 
 contains_none : (y : ℤ) → Contains [] y → ⊥
 contains_none y (k, below, at) = omega (arith, below)

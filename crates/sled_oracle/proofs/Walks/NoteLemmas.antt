@@ -11,14 +11,12 @@ use Rattle.sled_store.specs.Foreign.{Covers, IsWhole, HeaderWasPlaced, RecordWas
 use Rattle.sled_oracle.specs.OwnParts.{KnownPast, Lays, LaysRecord, noted, all_noted, nothing_known, log_of}
 use Rattle.sled_store.proofs.Crashes.StoodLemmas.{StandsIn, header_settled, header_before, header_stands, record_settled, record_before, record_stands}
 use Rattle.sled_store.proofs.Segments.FitLemmas.{take_one}
+use Rattle.sled_store.proofs.Segments.Elements.{in_first}
 
 -- an element is the first one, or one of the others
 first_or_other : {X : Type 0} (x : X) (xs : List X) (y : X) → Contains (x ∷ xs) y → (x ≡ y) ⊎ Contains xs y
 first_or_other x xs y (zero, below, is) = inl is
 first_or_other x xs y (suc k, below, is) = inr (k, omega (arith, below), is)
-
-in_first : {X : Type 0} (x : X) (xs : List X) → Contains (x ∷ xs) x
-in_first x xs = (0, omega arith, refl)
 
 in_others : {X : Type 0} (x : X) (xs : List X) (y : X) → Contains xs y → Contains (x ∷ xs) y
 in_others x xs y (k, below, is) = (suc k, omega (arith, below), is)

@@ -1,5 +1,5 @@
 -- Ascending keys stay so when one is put in or taken out, and where a binary search ends says what becomes of them.
-use Rattle.std.proofs.Common.{◌≡◌, ◌∙◌, ℕ, zero, suc, ◌+◌, ◌<◌, ◌≤◌, Bool, true, false, cond, ◌||◌, List, [], ◌∷◌, length, get_or, refl, sym, ap, arith}
+use Rattle.std.proofs.Common.{◌≡◌, ◌∙◌, ℕ, zero, suc, ◌+◌, ◌<◌, ◌≤◌, Bool, true, false, cond, ◌||◌, List, [], ◌∷◌, length, get_or, refl, sym, ap, arith, ◌⊎◌, IsTrue, inl, inr}
 use Rattle.std.specs.declared.cmp.Ordering.{Ordering}
 use Rattle.std.specs.declared.cmp.Ordering.TheVariants.{Less, Equal, Greater}
 use Rattle.std.specs.Ordering.{ordering_reverse, ordering_index, match_ordering, is_eq, is_lt}
@@ -132,3 +132,8 @@ length_inserted R x (y ∷ ys) = by (R x y) (length_inserted R x ys)
     by Less h = omega arith
     by Equal h = omega arith
     by Greater h = omega arith
+
+-- a key that is missing has room
+pub room_left : (b : Bool) (n room : ℕ) → IsTrue b ⊎ (n < room) → b ≡ false → n < room
+room_left b n room (inl there) lacks = absurd (cc)
+room_left b n room (inr lt) lacks = lt

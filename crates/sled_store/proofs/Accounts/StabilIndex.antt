@@ -16,6 +16,7 @@ use Rattle.std.proofs.lemmas.Map.Views.{All-insert_key}
 use Rattle.sled_store.proofs.Accounts.SortedLemmas.{sorted_nil, sorted_insert}
 use Rattle.sled_store.proofs.Accounts.IndexLemmas.{by_place_total, slots_by_set, slots_by_was}
 use Rattle.sled_store.specs.SegmentStates.{SlotState, slots_where, slots_by, beside, by_place}
+pub use Rattle.sled_store.proofs.Accounts.IndexLemmas.{greater_is}
 
 all_of_none : {A : Type 0} (P : A → Type 0) → All P []
 all_of_none P k d lt = absurd (omega arith)
@@ -122,9 +123,6 @@ less_is n i lt = grind (arith, nat_tests)
 
 pub same_is : (n i : ℕ) → n ≡ i → nat_cmp n i ≡ Equal
 same_is n i same = grind (arith, nat_tests)
-
-pub greater_is : (n i : ℕ) → i < n → nat_cmp n i ≡ Greater
-greater_is n i gt = grind (arith, nat_tests)
 
 -- Slots that pass a test.
 

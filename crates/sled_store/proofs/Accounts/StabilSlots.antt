@@ -14,18 +14,14 @@ use Rattle.sled_store.specs.Accounts.{AreSlots, AreIndexes, slot_state, machine_
 use Rattle.sled_store.proofs.Accounts.AccountLemmas.{state_at, length_states}
 use Rattle.sled_store.proofs.Accounts.IndexLemmas.{slots_where_same, slots_by_same}
 use Rattle.sled_store.proofs.Accounts.StabilIndex.{slots_by_less, slots_where_more}
+use Rattle.sled_store.proofs.Accounts.ChangeLemmas.{not_waited as no_wait}
+pub use Rattle.sled_store.proofs.Accounts.HandLemmas.{take-set-lt as set_within}
 
 pub same_or_not : (n k : ℕ) → (n ≡ k) ⊎ (n ≢ k)
 same_or_not zero zero = inl refl
 same_or_not zero (suc k) = inr (omega arith)
 same_or_not (suc n) zero = inr (omega arith)
 same_or_not (suc n) (suc k) = elim (same_or_not n k) [ inl is ↦ inl (ap suc is) | inr differ ↦ inr (λ is. differ (omega arith)) ]
-
-pub set_within : {A : Type 0} (n : ℕ) (xs : List A) (k : ℕ) (x : A) → take n (set xs k x) ≡ set (take n xs) k x
-set_within zero xs k x = refl
-set_within (suc n) [] k x = refl
-set_within (suc n) (y ∷ ys) zero x = refl
-set_within (suc n) (y ∷ ys) (suc k) x = ap (λ l. y ∷ l) (set_within n ys k x)
 
 pub first_so : (a b : Bool) → (a && b) ≡ true → a ≡ true
 first_so true b is = refl
@@ -67,9 +63,6 @@ waits_at s p is = by (is_done s) refl is
 
 pub done_drains : (s : SlotState) → is_done s ≡ true → s.state ≡ Draining
 done_drains s is = draining_is s.state (first_so (is_draining s.state) (same_pages s.pages s.gone) is)
-
-no_wait : (s : SlotState) → is_draining s.state ≡ false → waited_place s ≡ None
-no_wait s is = ap (λ b. if b && same_pages s.pages s.gone then s.latest else None) is
 
 -- One slot is another one now.
 module _ (tip : ℕ) (xs : List SlotState) (k : ℕ) (lt : k < length xs) (slots : AreSlots tip xs) where

@@ -9,6 +9,7 @@ use Rattle.sled_store.specs.Answers.{Tears}
 use Rattle.sled_store.specs.Foreign.{IsWhole, HeaderWasPlaced, RecordWasPlaced, NoForeignLog, NoForeignNames}
 use Rattle.sled_store.proofs.Crashes.StoodLemmas.{header_settled, record_settled}
 use Rattle.sled_store.proofs.Crashes.LeavesLemmas.{Asked, write, cut, make_blob, remove_blob, fill, publish, remove_snapshot}
+use Rattle.sled_store.proofs.Names.KeptLemmas.{settled_on as settled_before}
 
 -- Two states of a part have the same settled content, and what was asked of the first was asked of the second.
 
@@ -69,11 +70,6 @@ log_same s = record { settled = refl; asked = λ w is. is }
 
 names_same : (s : NamesState) → NamesKnow s s
 names_same s = record { settled = λ n. refl; asked = λ n bytes is. is }
-
-settled_before : (file : Option (List ℕ)) (unsynced : Bool) (s : NameState) (earlier : List NameState) → settled_file file unsynced (s ∷ earlier) ≡ settled_file s.file s.is_unsynced earlier
-settled_before None unsynced s earlier = refl
-settled_before (Some bytes) true s earlier = refl
-settled_before (Some bytes) false s earlier = refl
 
 -- a change leaves the settled files, whether it was done or not
 settled_renamed : (s : NamesState) (name : ℤ) (done : Bool) (top : NameState) (asked : List (List ℕ)) (n : ℤ) → settled_files (renamed s name done top asked) n ≡ settled_files s n

@@ -14,7 +14,7 @@ use Rattle.sled_store.proofs.Marks.TableLemmas.{Ascends, added_keeps, added_ther
 
 -- Sums.
 
-sum_less : {X : Type 0} (f g : X → ℕ) (xs : List X) → ((x : X) → Contains xs x → f x ≤ g x) → sum_by f xs ≤ sum_by g xs
+pub sum_less : {X : Type 0} (f g : X → ℕ) (xs : List X) → ((x : X) → Contains xs x → f x ≤ g x) → sum_by f xs ≤ sum_by g xs
 sum_less f g [] le = omega arith
 sum_less f g (x ∷ xs) le = omega (arith, sum_by-cons f x xs, sum_by-cons g x xs, le x (in_first x xs), sum_less f g xs (λ y there. le y (in_rest x y xs there)))
 

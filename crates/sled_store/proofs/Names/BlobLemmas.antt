@@ -20,13 +20,13 @@ own_file b new old is = ap (λ (x : Bool). if x then new else old) is
 
 -- Elements of a filtered list.
 
-contains_head : (x y : ℤ) (xs : List ℤ) → x ≡ y → Contains (x ∷ xs) y
+pub contains_head : (x y : ℤ) (xs : List ℤ) → x ≡ y → Contains (x ∷ xs) y
 contains_head x y xs is = (0, omega arith, is)
 
-contains_more : (x y : ℤ) (xs : List ℤ) → Contains xs y → Contains (x ∷ xs) y
+pub contains_more : (x y : ℤ) (xs : List ℤ) → Contains xs y → Contains (x ∷ xs) y
 contains_more x y xs (k, below, at) = (suc k, omega (arith, below), at)
 
-contains_one_of : (x y : ℤ) (xs : List ℤ) → Contains (x ∷ xs) y → (x ≡ y) ⊎ Contains xs y
+pub contains_one_of : (x y : ℤ) (xs : List ℤ) → Contains (x ∷ xs) y → (x ≡ y) ⊎ Contains xs y
 contains_one_of x y xs (zero, below, at) = inl at
 contains_one_of x y xs (suc k, below, at) = inr (k, omega (arith, below), at)
 

@@ -73,7 +73,7 @@ pub latest-popped : (xs front : List FileVersion) (e : FileVersion) (b : Bool) �
 latest-popped xs front e b popped is = ap (λ (ys : List FileVersion). latest (states_of ys)) popped ∙ ap latest (states-push front e) ∙ latest_upon (states_of front) e b is
 
 -- The file that stood there when names were last settled: the last one that was settled.
-settled_on : (file : Option (List ℕ)) (unsynced : Bool) (s : NameState) (earlier : List NameState) → settled_file file unsynced (s ∷ earlier) ≡ settled_file s.file s.is_unsynced earlier
+pub settled_on : (file : Option (List ℕ)) (unsynced : Bool) (s : NameState) (earlier : List NameState) → settled_file file unsynced (s ∷ earlier) ≡ settled_file s.file s.is_unsynced earlier
 settled_on None unsynced s earlier = refl
 settled_on (Some bytes) true s earlier = refl
 settled_on (Some bytes) false s earlier = refl

@@ -28,7 +28,7 @@ use Rattle.sled_store.specs.Accounts.{IsAccountant, MayHandOut, machine_of}
 use Rattle.sled_store.specs.SegmentStates.{next_slot}
 use Rattle.sled_store.specs.declared.config.RunningConfig.{RunningConfig}
 use Rattle.sled_core.proofs.Line.Entered.{filled_last}
-use Rattle.sled_core.proofs.Line.Outcomes.{all_err}
+use Rattle.sled_core.proofs.Line.Outcomes.{all_err, refused}
 use Rattle.sled_core.proofs.Line.Unchanged.{left_alone, unchanged_still}
 use Rattle.sled_core.proofs.Line.NthOpen.{last_buffer_is, last_is, line_with_last, many_with, nth_is, room_with, site_with, within_with, written_with}
 use Rattle.sled_core.proofs.logger.Log.begin_next.Given.{Over}
@@ -211,10 +211,6 @@ module _ {D C : Type 0} (sum : List ℕ → ℕ) (old mid : Log D C) (line : lin
       }
 
 -- Where it was refused, what is so where it was done isn't asked, and the log is as it was.
-
-refused : {T E : Type 0} (Q : E → Type 0) (r : Result T E) (A : Type 0) → IsErrAnd r Q → OnOk r A
-refused Q (Ok x) A is = absurd is
-refused Q (Err e) A is = tt
 
 pub returns-in_err-buffer-clause-line : goal.returns-in_err-buffer-clause-line
 returns-in_err-buffer-clause-line g c = refused _ c.from_residual.result _ c.from_residual.ensures.1

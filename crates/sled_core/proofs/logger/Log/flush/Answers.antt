@@ -14,10 +14,7 @@ use Rattle.sled_core.proofs.Line.NoneLeft.{all_stable, all_written}
 use Rattle.sled_core.proofs.Line.SealFirst.{still_came, writes_err, writes_none, writes_ok}
 use Rattle.sled_core.proofs.logger.Log.flush.Given as given
 use Rattle.sled_core.proofs.logger.Log.flush.Goals as goal
-
--- Where it got that far no failure is kept.
-no_fault : (kept : Option IoError) (e : IoError) (A : Type 0) → kept ≡ None → kept ≡ Some e → A
-no_fault kept e A none some = absurd (let bad : None ≡ Some e = sym none ∙ some in cc)
+use Rattle.sled_core.proofs.Line.Outcomes.{no_fault}
 
 pub returns-in-Some-clause-spares : goal.returns-in-Some-clause-spares
 returns-in-Some-clause-spares g c = record { faulty = λ e is. refl; idle = λ none. refl }

@@ -23,6 +23,7 @@ use Rattle.sled_core.proofs.Line.SealFirst.{still_came, unused_already, writes_a
 use Rattle.sled_core.proofs.Line.Places.{above_read, behind_read, behind_stable, done_as, held_up, holds_none, inside_read, reserved_in_reach, stable_answers, wrote_for}
 use Rattle.sled_core.proofs.logger.Log.make_stable.Given as given
 use Rattle.sled_core.proofs.logger.Log.make_stable.Goals as goal
+use Rattle.sled_core.proofs.Line.Outcomes.{no_fault}
 
 pub returns-in-Some-clause-at_most : goal.returns-in-Some-clause-at_most
 returns-in-Some-clause-at_most g c = performs_nothing _ _ _ refl
@@ -216,9 +217,6 @@ returns-clause-target g c =
     let to = to_is old c.args.lsn _ _ c.behind_batch-to.ensures.is (behind_read c.args.lsn _ _ (to_z-of_z w64 c.args.lsn c.ranges.lsn) (above_done g c)) in
     let written = c.in_ok-write_below.ensures.written in
     below_behind c.args.lsn (stable_end old) (stable_end new) (above_done g c) (stable_reached old new (behind_place c.args.lsn) c.write_below.ensures.keeps.preserves.noted (omega (arith, to, written)))
-
-no_fault : (kept : Option IoError) (e : IoError) (A : Type 0) → kept ≡ None → kept ≡ Some e → A
-no_fault kept e A none some = absurd (let bad : None ≡ Some e = sym none ∙ some in cc)
 
 -- Where nothing was written its tickets and its position are as they were, and else as the writing leaves them.
 

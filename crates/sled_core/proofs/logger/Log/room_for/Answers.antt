@@ -16,7 +16,7 @@ use Rattle.sled_core.specs.inside.OpenPlaces.{open_manifests}
 use Rattle.sled_core.specs.SealedBuffers.{sealed_count}
 use Rattle.sled_core.specs.inside.Turned.{HasRoomIn}
 use Rattle.sled_core.proofs.Line.NthOpen.{last_buffer_is, last_buffer_with, line_still, nth_is, within_with}
-use Rattle.sled_core.proofs.Line.Outcomes.{on_both}
+use Rattle.sled_core.proofs.Line.Outcomes.{on_both, refused}
 use Rattle.sled_core.proofs.Reserve.OpenCounts.{first_there}
 use Rattle.sled_core.proofs.Pending.Segments.{still_ready}
 use Rattle.sled_core.proofs.logger.Log.room_for.Goals as goal
@@ -51,11 +51,6 @@ invariant_of-self g c =
       counted = log.counted ∙ sym c.make_room_for.ensures.manifests;
       indexed = log.indexed;
     }
-
--- What is so where it was done isn't asked where it was refused.
-refused : {T E : Type 0} (Q : E → Type 0) (r : Result T E) (A : Type 0) → IsErrAnd r Q → OnOk r A
-refused Q (Ok x) A is = absurd is
-refused Q (Err e) A is = tt
 
 pub returns-then-is_full_of_open-clause-line : goal.returns-then-is_full_of_open-clause-line
 returns-then-is_full_of_open-clause-line g c = refl

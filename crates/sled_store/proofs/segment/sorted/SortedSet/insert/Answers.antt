@@ -7,13 +7,8 @@ use Rattle.std.specs.List.{list_any, insert}
 use Rattle.std.specs.List.Sorted.{IsStrictlySortedBy, IsPartitionPoint}
 use Rattle.std.specs.BTreeMap.{is_at}
 use Rattle.std.specs.BTreeSet.{insert_key}
-use Rattle.sled_store.proofs.Accounts.SortedLemmas.{sorted_insert, searchable, found_insert, missing_any, missing_insert}
+use Rattle.sled_store.proofs.Accounts.SortedLemmas.{sorted_insert, searchable, found_insert, missing_any, missing_insert, room_left}
 use Rattle.sled_store.proofs.segment.sorted.SortedSet.insert.Goals as goal
-
--- a key that is missing has room
-room_left : (b : Bool) (n room : ℕ) → IsTrue b ⊎ (n < room) → b ≡ false → n < room
-room_left b n room (inl there) lacks = absurd (cc)
-room_left b n room (inr lt) lacks = lt
 
 module _ {K : Type 0} {R : K → K → Ordering} (o : IsTotalOrder R) (x : K) where
   put_in : (xs : List K) (at : ℕ) (r : Bool) (ys : List K) → IsStrictlySortedBy R xs → at ≤ length xs → IsPartitionPoint (λ y. R y x ≡ Less) (λ y. R y x ≡ Greater) xs at
