@@ -10,6 +10,7 @@ pub mod FreeSlots
 pub mod Full
 pub mod Iterators
 pub mod Lending
+pub mod LogFacts
 pub mod LogFile
 pub mod LogSegments
 pub mod Marked

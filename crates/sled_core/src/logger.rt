@@ -16,10 +16,7 @@ ghost use Rattle.sled_store.specs.Accounts.{IsAccountant};
 ghost use Rattle.sled_store.specs.Begin.{IsStartable, IsInReach};
 ghost use Rattle.sled_core.specs.Recoverable.{LeavesRecoverable, NoHeaderOfZeros, RecoverableIfOwn};
 ghost use Rattle.sled_core.specs.inside.AccountProps.{IsAccountant-prop};
-ghost use Rattle.sled_core.specs.inside.Begun.{LieWithin, LieWithin-prop, IsFilledLine, IsFilledLine-prop};
-ghost use Rattle.sled_core.specs.Begun.{line_in};
-ghost use Rattle.sled_core.specs.inside.OpenPlaces.{open_manifests};
-ghost use Rattle.sled_core.specs.inside.ReadyBuffers.{AreReady, AreReady-prop};
+ghost use Rattle.sled_core.specs.inside.LogFacts.{AreNotedBatches, AreNotedBatches-prop, AreOpenSegments, AreOpenSegments-prop};
 ghost use Rattle.sled_core.specs.Causes.{FaultAnswers};
 ghost use Rattle.sled_core.specs.inside.Causes.{RecordAnswers};
 
@@ -78,12 +75,9 @@ pub struct Log<D, C> {
     pins: u32,
     /// The batches that were noted, and the manifests that are open.
     batches: PendingBatches,
-    ghost lies: { LieWithin config.config.segment_size segments } by { LieWithin-prop _ _ },
-    ghost filled: { IsFilledLine config.config.segment_size reserved_to segments } by { IsFilledLine-prop _ _ segments },
+    ghost line: { AreOpenSegments config.config.segment_size reserved_to segments ready } by { AreOpenSegments-prop _ _ segments ready },
     ghost account: { IsAccountant config.config.segment_size accountant } by { IsAccountant-prop config.config.segment_size accountant },
-    ghost pegs: { All (λ b. b.peg < reserved_to) batches.noted.items },
-    ghost counted: { open_manifests (line_in segments) ≡ batches.manifests },
-    ghost indexed: { AreReady (line_in segments) ready } by { AreReady-prop (line_in segments) ready },
+    ghost noted: { AreNotedBatches reserved_to segments batches } by { AreNotedBatches-prop _ segments batches },
 }
 
 impl<D: Device, C: Checksum> Log<D, C> {

@@ -65,10 +65,10 @@ nth_facts log zero v there =
     let size : ℕ = log.config.config.segment_size in
     let same : segment_view log.segments.first ≡ v = cc in
     subst (λ (w : SegmentView). IsSegment size (log.segments.first.site.place + 0 * size) w) same
-    (subst (λ p. IsSegment size p (segment_view log.segments.first)) (omega arith) (segment_facts size log.segments.first.site log.segments.first.buffer log.lies.in_segment log.lies.place_in_reach log.lies.slot_in_reach))
+    (subst (λ p. IsSegment size p (segment_view log.segments.first)) (omega arith) (segment_facts size log.segments.first.site log.segments.first.buffer log.line.lies.in_segment log.line.lies.place_in_reach log.line.lies.slot_in_reach))
 nth_facts log (suc n) v there =
     let size : ℕ = log.config.config.segment_size in
-    subst (λ p. IsSegment size p v) (omega arith) (behind_facts size (log.segments.first.site.place + size) log.segments.behind.items log.lies.follow n v there)
+    subst (λ p. IsSegment size p v) (omega arith) (behind_facts size (log.segments.first.site.place + size) log.segments.behind.items log.line.lies.follow n v there)
 
 pub current_facts : {D C : Type 0} (log : Log D C) → IsSegment log.config.config.segment_size (log.segments.first.site.place + length log.segments.behind.items * log.config.config.segment_size) (current_of log)
 current_facts log =

@@ -156,7 +156,7 @@ unfolding Fits
 fits_reach trace sum log H A f U fits =
     let size : ℕ = log.config.config.segment_size in
     let past = position_past size (current_of log) (machine_of log.accountant) (current_facts log).short in
-    let low = line_below sum size _ log.fault.kept (segment_view log.segments.first) (map segment_view log.segments.behind.items) (logged H) log.lies.in_segment fits.parts.holds in
+    let low = line_below sum size _ log.fault.kept (segment_view log.segments.first) (map segment_view log.segments.behind.items) (logged H) log.line.lies.in_segment fits.parts.holds in
     let all = all_in_log (λ (m : Message). m.place < (current_of log).parts.site.place + length (current_of log).parts.bytes) H.messages low in
     λ k d lt. let below = all k d lt in omega (arith, below, past)
 
@@ -164,7 +164,7 @@ fits_reach trace sum log H A f U fits =
 pub fits_apart : {D C : Type 0} (trace : D → Trace) (sum : List ℕ → ℕ) (log : Log D C) (H : History) (A f : ℕ) (U : List Message) → Fits trace sum log H A f U → LieApart H.messages
 unfolding Fits
 fits_apart trace sum log H A f U fits =
-    logged_apart H (whole_apart sum log.config.config.segment_size log.segments.first.site _ log.fault.kept log.segments.first.buffer.bytes.items log.segments.first.buffer.written_len log.segments.first.buffer.sealed.items log.segments.first.buffer.reserved.items (logged H) fits.parts.holds log.lies.in_segment)
+    logged_apart H (whole_apart sum log.config.config.segment_size log.segments.first.site _ log.fault.kept log.segments.first.buffer.bytes.items log.segments.first.buffer.written_len log.segments.first.buffer.sealed.items log.segments.first.buffer.reserved.items (logged H) fits.parts.holds log.line.lies.in_segment)
 
 -- it holds the history
 pub fits_holds : {D C : Type 0} (trace : D → Trace) (sum : List ℕ → ℕ) (log : Log D C) (H : History) (A f : ℕ) (U : List Message) → Fits trace sum log H A f U → Holds trace sum log H
@@ -228,7 +228,7 @@ filled_end size to v (w ∷ []) filled = filled_end size to w [] filled.2
 filled_end size to v (w ∷ x ∷ xs) filled = filled_end size to w (x ∷ xs) filled.2
 
 pub reserved_inside : {D C : Type 0} (log : Log D C) → reserved_end log ≤ (current_of log).parts.site.place + length (current_of log).parts.bytes
-reserved_inside log = filled_end log.config.config.segment_size log.reserved_to (segment_view log.segments.first) (map segment_view log.segments.behind.items) log.filled
+reserved_inside log = filled_end log.config.config.segment_size log.reserved_to (segment_view log.segments.first) (map segment_view log.segments.behind.items) log.line.filled
 
 pub reserved_small : {D C : Type 0} (log : Log D C) → reserved_end log < 2 ^ 63
 reserved_small log = let low = reserved_inside log in let facts = current_facts log in let inside = facts.short in let reach = facts.place_small in omega (arith, low, inside, reach)

@@ -132,7 +132,7 @@ module _ {D C : Type 0} (trace : D → Trace) (sum : List ℕ → ℕ) (log : Lo
       | inr above ↦ (
           let aligned = fits.slots.own.aligned k taken in
           let begins = fits.parts.holds.own.place_begins in
-          let inside = log.lies.in_segment in
+          let inside = log.line.lies.in_segment in
           let held = written_behind log.segments.first.buffer in
           let at : (slot_at m k).lsn ≡ log.segments.first.site.place = elim (cases_lt log.segments.first.site.place (slot_at m k).lsn) [
             | inl over ↦ (let far = apart size (omega (arith, some)) log.segments.first.site.place (slot_at m k).lsn begins aligned over in absurd (omega (arith, far, low, end_low, inside, held)))
@@ -156,7 +156,7 @@ module _ {D C : Type 0} (trace : D → Trace) (sum : List ℕ → ℕ) (log : Lo
       entry = entry;
       fits = λ k taken.
           let below = fits.slots.own.below k taken in
-          let ends = follow_end size (log.segments.first.site.place + size) log.segments.behind.items log.lies.place_in_reach log.lies.follow in
+          let ends = follow_end size (log.segments.first.site.place + size) log.segments.behind.items log.line.lies.place_in_reach log.line.lies.follow in
           let all : length line * size ≡ suc (length log.segments.behind.items) * size = ap (λ n. suc n * size) (length-map log.segments.behind.items segment_view) in
           omega (arith, below, ends, all, suc-mul (length log.segments.behind.items) size);
     }
@@ -166,7 +166,7 @@ module _ {D C : Type 0} (trace : D → Trace) (sum : List ℕ → ℕ) (log : Lo
     good = (blobs_read sum state.blobs H (stable_below fits.reach H.batches) (fits.parts.blobs (firm_files sum state.blobs) (firm_leaves sum state.blobs) (firm_own sum state.blobs (fits.parts.own_names none).of_blobs))).named
 
     apart_messages : LieApart H.messages
-    apart_messages = logged_apart H (whole_apart sum size log.segments.first.site state log.fault.kept log.segments.first.buffer.bytes.items log.segments.first.buffer.written_len log.segments.first.buffer.sealed.items log.segments.first.buffer.reserved.items (logged H) fits.parts.holds log.lies.in_segment)
+    apart_messages = logged_apart H (whole_apart sum size log.segments.first.site state log.fault.kept log.segments.first.buffer.bytes.items log.segments.first.buffer.written_len log.segments.first.buffer.sealed.items log.segments.first.buffer.reserved.items (logged H) fits.parts.holds log.line.lies.in_segment)
 
     -- So an iterator that goes over the segments of the log gives its messages.
     pub gives_messages : (lsn : ℤ) (it : LogIter D C) → GoesOver trace sum log lsn it → GivesMessages trace sum log H lsn it

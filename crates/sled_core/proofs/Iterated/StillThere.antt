@@ -107,7 +107,7 @@ module _ {D C : Type 0} (trace : D → Trace) (sum : List ℕ → ℕ) (log : Lo
         let parts = put_down size m.place in
         let up = lower_multiple size some log.segments.first.site.place m.place above in
         let end : ℕ = (current_of log).parts.site.place + length (current_of log).parts.bytes in
-        let low : m.place < end = All-contains (λ (n : Message). n.place < end) (logged H).messages (in_log m) (line_below sum size state log.fault.kept (segment_view log.segments.first) (map segment_view log.segments.behind.items) (logged H) log.lies.in_segment fits.parts.holds) (logged_there H m there) in
+        let low : m.place < end = All-contains (λ (n : Message). n.place < end) (logged H).messages (in_log m) (line_below sum size state log.fault.kept (segment_view log.segments.first) (map segment_view log.segments.behind.items) (logged H) log.line.lies.in_segment fits.parts.holds) (logged_there H m there) in
         let current = current_facts log in
         let at = current.at in
         let short = current.short in
@@ -127,7 +127,7 @@ module _ {D C : Type 0} (trace : D → Trace) (sum : List ℕ → ℕ) (log : Lo
       reached =
           let near = fits.parts.near in
           let low = (fits.parts.ends (in_log m) (logged_there H m there) (omega (arith, below))).0 in
-          let lie = whole_apart sum size log.segments.first.site state log.fault.kept log.segments.first.buffer.bytes.items log.segments.first.buffer.written_len log.segments.first.buffer.sealed.items log.segments.first.buffer.reserved.items (logged H) fits.parts.holds log.lies.in_segment in
+          let lie = whole_apart sum size log.segments.first.site state log.fault.kept log.segments.first.buffer.bytes.items log.segments.first.buffer.written_len log.segments.first.buffer.sealed.items log.segments.first.buffer.reserved.items (logged H) fits.parts.holds log.line.lies.in_segment in
           entry_earlier H (apart_ascends H.messages (logged_apart H lie)) fits.reach cut m.page (omega (arith, near, far)) m low entry
 
       -- so its segment is found,

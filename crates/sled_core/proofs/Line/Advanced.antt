@@ -38,7 +38,7 @@ views_behind log = map segment_view log.segments.behind.items
 
 -- what a log keeps of whether its first segment is wholly on the device
 pub waits_behind : {D C : Type 0} (log : Log D C) → 0 < length (views_behind log) → log.segments.first.buffer.written_len < log.config.config.segment_size
-waits_behind log some = log.lies.waits (omega (arith, some, length-map log.segments.behind.items segment_view))
+waits_behind log some = log.line.lies.waits (omega (arith, some, length-map log.segments.behind.items segment_view))
 
 -- The first sealed buffer can be written.
 pub ready_in : {D C : Type 0} (log : Log D C) (to : ℕ) → ready_below (line_of log) to ≡ true → IsReadyIn (line_of log) 0 0
@@ -235,7 +235,7 @@ module _ {D C : Type 0} (trace : D → Trace) (sum : List ℕ → ℕ) (faults :
   pub stuck_left : (old now : Log D C) → to ≤ current_begin old → Advanced old now → synced_end now < to → ready_below (line_of now) to ≡ false → IsStuck to now.segments.first.site.place (waiting_of now) now.segments.first.buffer.reserved.items
   stuck_left old now sealed so_far below stuck =
       let current = so_far.current in
-      line_stuck now.config.config.segment_size now.segments.first.site.place to now.reserved_to (first_view now) (views_behind now) (line_segments now) now.filled (waits_behind now) below (omega (arith, current, sealed)) stuck
+      line_stuck now.config.config.segment_size now.segments.first.site.place to now.reserved_to (first_view now) (views_behind now) (line_segments now) now.line.filled (waits_behind now) below (omega (arith, current, sealed)) stuck
 
   -- one that was there at most isn't written then
   pub stuck_one : (old now : Log D C) → Advanced old now → IsStuck to now.segments.first.site.place (waiting_of now) now.segments.first.buffer.reserved.items → length (waiting_of old) ≤ 1 → synced_end now ≡ synced_end old

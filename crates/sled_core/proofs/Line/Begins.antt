@@ -406,7 +406,7 @@ module _ {D C : Type 0} (trace : D → Trace) (sum : List ℕ → ℕ) (old new 
   }
 
   closes : IsClosable its_size (current_of old)
-  closes = closable its_size _ (current_of old) facts (filled_last its_size old.reserved_to first behind old.filled).0
+  closes = closable its_size _ (current_of old) facts (filled_last its_size old.reserved_to first behind old.line.filled).0
 
   first_facts : IsSegment its_size (old.segments.first.site.place + 0 * its_size) first
   first_facts = nth_facts old 0 first refl

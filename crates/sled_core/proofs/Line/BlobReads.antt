@@ -174,7 +174,7 @@ module _ {D C : Type 0} (trace : D → Trace) (sum : List ℕ → ℕ) (log : Lo
     ]
 
     early : Contains (table H cut m.page) m
-    early = entry_earlier H (logged_ascends H (whole_ascends sum size log.segments.first.site state log.fault.kept log.segments.first.buffer.bytes.items log.segments.first.buffer.written_len log.segments.first.buffer.sealed.items log.segments.first.buffer.reserved.items (logged H) fits.parts.holds log.lies.in_segment)) cut (stable_end log) m.page cut_low m under_cut entry
+    early = entry_earlier H (logged_ascends H (whole_ascends sum size log.segments.first.site state log.fault.kept log.segments.first.buffer.bytes.items log.segments.first.buffer.written_len log.segments.first.buffer.sealed.items log.segments.first.buffer.reserved.items (logged H) fits.parts.holds log.line.lies.in_segment)) cut (stable_end log) m.page cut_low m under_cut entry
 
     -- so that its blob is there
     has_blob : HasItem sum state.blobs.file m m.pointer

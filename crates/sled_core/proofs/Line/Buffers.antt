@@ -205,8 +205,8 @@ unwritten_promoted size place vs are =
 
 -- All before the stable end is on the device, and what begins there isn't: the first of these buffers, or the current one.
 pub first_waits : {D C : Type 0} (log : Log D C) → FirstWaits (synced_end log) (current_begin log) (waiting_of log)
-first_waits log = by log.segments.first.buffer.sealed.items log.segments.first.buffer.head (map segment_view log.segments.behind.items) log.filled
-    (λ some. log.lies.waits (omega (arith, some, length-map log.segments.behind.items segment_view))) refl
+first_waits log = by log.segments.first.buffer.sealed.items log.segments.first.buffer.head (map segment_view log.segments.behind.items) log.line.filled
+    (λ some. log.line.lies.waits (omega (arith, some, length-map log.segments.behind.items segment_view))) refl
   where
     by : (bs : List Sealed) → FirstUnwritten bs → (ws : List SegmentView) → AreFilled log.config.config.segment_size log.reserved_to (segment_view log.segments.first ∷ ws) → (0 < length ws → log.segments.first.buffer.written_len < log.config.config.segment_size) → log.segments.first.buffer.sealed.items ≡ bs
         → FirstWaits (synced_end log) ((last_of (segment_view log.segments.first) ws).parts.site.place + begin_of (last_of (segment_view log.segments.first) ws)) (unwritten (segment_view log.segments.first ∷ ws))

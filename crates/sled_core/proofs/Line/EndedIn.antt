@@ -121,13 +121,13 @@ module _ {D C : Type 0} (log : Log D C) (n index : ℕ) (its : HasOpenIn (line_o
     -- they are filled as they were,
     ended_filled : (line : List SegmentView) → line ≡ now → AreFilled size log.reserved_to line
     ended_filled line is = subst (AreFilled size log.reserved_to) (sym is)
-        (filled_over size log.reserved_to (line_of log) n its.segment (index - its.segment.gone) its.reserved (how its.segment.parts.bytes its.reserved) state its.among (nth_facts log n its.segment its.among) its.there its.open_yet way.plain way.short log.filled)
+        (filled_over size log.reserved_to (line_of log) n its.segment (index - its.segment.gone) its.reserved (how its.segment.parts.bytes its.reserved) state its.among (nth_facts log n its.segment its.among) its.there its.open_yet way.plain way.short log.line.filled)
 
     -- and as many manifests are open, or one fewer.
     ended_counted : (line : List SegmentView) → line ≡ now → (manifest : Bool) (count : ℕ) → is_manifest its.reserved.log_kind its.reserved.page ≡ manifest → log.batches.manifests ≡ (if manifest then suc count else count) → open_manifests line ≡ count
     ended_counted line is manifest count kind less =
         let all = manifests_ended (line_of log) n its.segment (index - its.segment.gone) its.reserved (how its.segment.parts.bytes its.reserved) state manifest its.among its.there its.open_yet kind way.closed in
-        fewer_counted manifest (open_manifests (line_of log)) (open_manifests line) log.batches.manifests count (all ∙ (λ j. if manifest then suc (open_manifests (sym is j)) else open_manifests (sym is j))) less log.counted
+        fewer_counted manifest (open_manifests (line_of log)) (open_manifests line) log.batches.manifests count (all ∙ (λ j. if manifest then suc (open_manifests (sym is j)) else open_manifests (sym is j))) less log.noted.counted
 
     -- So it is where code ended it in its buffer.
     pub has_ended : (s : SegmentBuffer) → slice_get (open_segments log.segments) n ≡ Some s → (new : IoBuf) → EndsAs (index - s.buffer.gone) how state s.buffer new
@@ -141,7 +141,7 @@ module _ {D C : Type 0} (log : Log D C) (n index : ℕ) (its : HasOpenIn (line_o
         line_with log.segments n after ∙ ap (set (line_of log) n) (view ∙ (λ j. ended_now (index - (mine j).gone) its.reserved (how (mine j).parts.bytes its.reserved) state (mine j))) in
         record {
           line = ended_any (line_in (with_nth log.segments n after)) line;
-          lie = within_with size log.segments n s after here refl (let short = (nth_is log n s here).short in let long = did.long in omega (arith, long, short)) (let from = did.from in omega (arith, from)) log.lies;
+          lie = within_with size log.segments n s after here refl (let short = (nth_is log n s here).short in let long = did.long in omega (arith, long, short)) (let from = did.from in omega (arith, from)) log.line.lies;
           filled = ended_filled (line_in (with_nth log.segments n after)) line;
           counted = ended_counted (line_in (with_nth log.segments n after)) line;
         }

@@ -72,7 +72,7 @@ module _ {D C : Type 0} (log : Log D C) where
   size = segment_size_of log
 
   pub log_recorded : (n : ℕ) (v : SegmentView) → slice_get (line_of log) n ≡ Some v → records_to v.parts.filled (length v.parts.bytes) ≤ records_end v.parts.reserved (length v.parts.bytes)
-  log_recorded = recorded_nth size log.reserved_to log.segments.first.site.place (line_of log) (line_segments log) log.filled
+  log_recorded = recorded_nth size log.reserved_to log.segments.first.site.place (line_of log) (line_segments log) log.line.filled
 
   pub log_off : (peg : ℕ) → peg < reserved_end log → LiesInNoFilling size (line_of log) (pos peg) → (n : ℕ) (v : SegmentView) → slice_get (line_of log) n ≡ Some v → IsOff size peg v.parts
   log_off peg low lies n v there =
@@ -80,7 +80,7 @@ module _ {D C : Type 0} (log : Log D C) where
         | inl front ↦ inl (omega (arith, ints, front))
         | inr far ↦ inr (omega (arith, ints, far))
       ] in
-      record { off = line_off size log.reserved_to log.segments.first.site.place peg (line_of log) (line_segments log) log.filled low n v there its; filled = its; fresh = (nth_facts log n v there).fresh }
+      record { off = line_off size log.reserved_to log.segments.first.site.place peg (line_of log) (line_segments log) log.line.filled low n v there its; filled = its; fresh = (nth_facts log n v there).fresh }
 
   -- A place in one of the segments lies in nothing that fills one where it doesn't lie in what fills that one.
   pub one_filling : (place n : ℕ) (v : SegmentView) → slice_get (line_of log) n ≡ Some v → v.parts.site.place ≤ place → place < v.parts.site.place + size → place < v.parts.site.place + records_to v.parts.filled size → LiesInNoFilling size (line_of log) (pos place)
@@ -103,7 +103,7 @@ module _ {D C : Type 0} (log : Log D C) where
 
   -- The greatest place that was reserved lies so.
   pub end_off : LiesInNoFilling size (line_of log) (pos (reserved_end log) -ℤ pos 1)
-  end_off n v there = elim (end_nth size log.reserved_to log.segments.first.site.place (line_of log) (line_segments log) log.filled n v there) [
+  end_off n v there = elim (end_nth size log.reserved_to log.segments.first.site.place (line_of log) (line_segments log) log.line.filled n v there) [
     | inl front ↦ inl (omega (arith, ints, front))
     | inr far ↦ inr (omega (arith, ints, far))
   ]

@@ -104,7 +104,7 @@ module _ {D C : Type 0} (trace : D → Trace) (sum : List ℕ → ℕ) (log : Lo
             | inr behind ↦ behind
           ] in
           elim (Contains-append_cases holds.head holds.later (in_log m) (subst (λ (l : List Message). Contains l (in_log m)) holds.messages (logged_there H m there))) [
-            | inl mine ↦ (completed_behind sum size log.segments.first.site state log.fault.kept log.segments.first.buffer.bytes.items log.segments.first.buffer.written_len log.segments.first.buffer.sealed.items log.segments.first.buffer.reserved.items (record { messages = holds.head; batches = H.batches }) holds.own log.lies.in_segment (in_log m) mine past).begins
+            | inl mine ↦ (completed_behind sum size log.segments.first.site state log.fault.kept log.segments.first.buffer.bytes.items log.segments.first.buffer.written_len log.segments.first.buffer.sealed.items log.segments.first.buffer.reserved.items (record { messages = holds.head; batches = H.batches }) holds.own log.line.lies.in_segment (in_log m) mine past).begins
             | inr others ↦ behind_begins sum size log.config.config.least state log.fault.kept H (stable_below fits.reach H.batches) holds.begun.first fits.reach stands ascends m there (log.segments.first.site.place + size) (map parts_in (map segment_view log.segments.behind.items)) _ H.batches holds.later holds.others
                 (λ s behind. found.behind (begun_segment s) (in_map begun_segment (map parts_in (map segment_view log.segments.behind.items)) s behind)) others
           ]

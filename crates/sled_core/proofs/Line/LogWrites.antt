@@ -67,7 +67,7 @@ module _ {D C : Type 0} (log : Log D C) (n k : ℕ) (r : IsReadyIn (line_of log)
   segments_written = set_segment size log.segments.first.site.place line (line_segments log) n v (written_now k v) r.among (λ p is. written_segment k v r.buffer r.there r.ready size p is)
 
   pub filled_now : AreFilled size log.reserved_to line_written
-  filled_now = filled_written size log.reserved_to line n k v r.among (nth_facts log n v r.among) log.filled
+  filled_now = filled_written size log.reserved_to line n k v r.among (nth_facts log n v r.among) log.line.filled
 
   -- The stable end doesn't fall.
   pub end_grows : written_to line ≤ written_to line_left
@@ -131,7 +131,7 @@ module _ {D C : Type 0} (log : Log D C) (n k : ℕ) (r : IsReadyIn (line_of log)
   first_waits x y ys same =
       let one : segment_view log.segments.first ≡ x = cc in
       let long : length line ≡ suc (suc (length ys)) = ap length same in
-      let low = log.lies.waits (omega (arith, long, length-map log.segments.behind.items segment_view)) in
+      let low = log.line.lies.waits (omega (arith, long, length-map log.segments.behind.items segment_view)) in
       subst (λ (u : SegmentView). u.parts.written_len < size) one low
 
   module _ (trace : D → Trace) (sum : List ℕ → ℕ) (whole : fault_of log ≡ None) where

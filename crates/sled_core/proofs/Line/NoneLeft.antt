@@ -71,7 +71,7 @@ module _ (sum : List ℕ → ℕ) (size to : ℕ) (device : State) (fault : Opti
 
 -- Each batch that is noted ends below what is reserved.
 pub noted_pegs : {D C : Type 0} (log : Log D C) (b : Batch) → Contains (noted_in log) b → b.peg < reserved_end log
-noted_pegs log b there = among log.batches.noted.items log.pegs (whole_not (synced_end log) (map batch_of log.batches.noted.items) b there).0 where
+noted_pegs log b there = among log.batches.noted.items log.noted.pegs (whole_not (synced_end log) (map batch_of log.batches.noted.items) b there).0 where
   among : (xs : List NotedBatch) → All (λ (x : NotedBatch). x.peg < reserved_end log) xs → Contains (map batch_of xs) b → b.peg < reserved_end log
   among [] all known = absurd (in_nothing b known)
   among (x ∷ xs) all known = elim (in_cases (batch_of x) b (map batch_of xs) known) [
@@ -111,13 +111,13 @@ module _ {D C : Type 0} (trace : D → Trace) (sum : List ℕ → ℕ) (log : Lo
   behind = map segment_view log.segments.behind.items
 
   within : from ≤ its_size
-  within = let low = written_behind log.segments.first.buffer in let short = log.lies.in_segment in omega (arith, low, short)
+  within = let low = written_behind log.segments.first.buffer in let short = log.line.lies.in_segment in omega (arith, low, short)
 
   sealed_within : sealed_end from log.segments.first.buffer.sealed.items ≤ length bytes
   sealed_within = let at = log.segments.first.buffer.begins in let low = log.segments.first.buffer.behind in omega (arith, at, low)
 
   first : IsEntered log.reserved_to (segment_view log.segments.first) × IsUsed log.reserved_to log.segments.first.site.place (length bytes)
-  first = filled_first its_size log.reserved_to (segment_view log.segments.first) behind log.filled
+  first = filled_first its_size log.reserved_to (segment_view log.segments.first) behind log.line.filled
 
   fill : ArePadding its_size log.segments.first.buffer.reserved.items
   fill = entered_padding sum its_size (log.segments.first.site.place / its_size) log.reserved_to log.segments.first.site.place (max 20 from) (length bytes) bytes log.segments.first.buffer.reserved.items (omega (arith, all)) holds.holds.own.chain holds.holds.own.stand first.0
@@ -127,15 +127,15 @@ module _ {D C : Type 0} (trace : D → Trace) (sum : List ℕ → ℕ) (log : Lo
 
   clean : AreZeros its_device.log.bytes (log.segments.first.site.slot + from) (log.segments.first.site.slot + its_size)
   clean = rest_zeros its_device.log.bytes log.segments.first.site.slot its_size bytes from log.segments.first.buffer.sealed.items log.segments.first.buffer.reserved.items log.segments.first.buffer.head log.segments.first.buffer.are fill
-      (let low = sealed_within in let short = log.lies.in_segment in omega (arith, low, short)) begun (holds.holds.own.laid whole)
+      (let low = sealed_within in let short = log.line.lies.in_segment in omega (arith, low, short)) begun (holds.holds.own.laid whole)
 
   nothing_behind : holds.holds.later ≡ []
   nothing_behind = behind_nothing sum its_size log.reserved_to its_device (fault_of log) (log.segments.first.site.place + its_size) behind _ (logged H).batches holds.holds.later (let low = within in omega (arith, all, low))
-      (filled_rest its_size log.reserved_to (segment_view log.segments.first) behind log.filled) holds.holds.others
+      (filled_rest its_size log.reserved_to (segment_view log.segments.first) behind log.line.filled) holds.holds.others
 
   all_there : IsWritten trace sum log H
   all_there = all_kept sum its_size log.segments.first.site its_device (fault_of log) bytes from log.segments.first.buffer.sealed.items log.segments.first.buffer.reserved.items (logged H) holds.holds closed (padding_nothing its_size log.segments.first.site bytes log.segments.first.buffer.reserved.items fill).0
-      nothing_behind whole log.lies.place_in_reach within clean
+      nothing_behind whole log.line.lies.place_in_reach within clean
 
 -- So the device has all of what the log holds.
 pub all_written : {D C : Type 0} (trace : D → Trace) (sum : List ℕ → ℕ) (log : Log D C) → reserved_end log ≤ synced_end log → fault_of log ≡ None → (H : History) → Holds trace sum log H → IsWritten trace sum log H

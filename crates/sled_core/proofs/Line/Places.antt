@@ -42,7 +42,7 @@ inside_read lsn read last end same it test = grind (arith, ints, same, it, test)
 -- It ends within the segments.
 pub reserved_ends : {D C : Type 0} (log : Log D C) → reserved_end log ≤ line_end log.config.config.segment_size (line_of log)
 reserved_ends log =
-    let most = (filled_last log.config.config.segment_size log.reserved_to (segment_view log.segments.first) (map segment_view log.segments.behind.items) log.filled).1 in
+    let most = (filled_last log.config.config.segment_size log.reserved_to (segment_view log.segments.first) (map segment_view log.segments.behind.items) log.line.filled).1 in
     let facts = current_facts log in
     let short = facts.short in
     let at = facts.at in

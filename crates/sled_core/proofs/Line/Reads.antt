@@ -94,12 +94,12 @@ module _ {D C : Type 0} (sum : List ℕ → ℕ) (log : Log D C) (device : State
       → (log.segments.first.site.place ≤ m.place) ⊎ StaysFrom H (first_stable sum (segment_size_of log) device 0 log.segments.first.site.place (segment_view log.segments.first) (map segment_view log.segments.behind.items) (line_segments log) H holds) m
   has_record m there has = elim has [
     | inl above ↦ inl above
-    | inr (cut, far, entry) ↦ inr (entry_stays sum (segment_size_of log) device 0 log.segments.first.site.place (segment_view log.segments.first) (map segment_view log.segments.behind.items) (line_segments log) H holds log.lies.in_segment m there cut (let reached = holds.begun.reached in omega (arith, reached, far)) entry)
+    | inr (cut, far, entry) ↦ inr (entry_stays sum (segment_size_of log) device 0 log.segments.first.site.place (segment_view log.segments.first) (map segment_view log.segments.behind.items) (line_segments log) H holds log.line.lies.in_segment m there cut (let reached = holds.begun.reached in omega (arith, reached, far)) entry)
   ]
 
   its_record : (m : Message) → Contains H.messages m → (log.segments.first.site.place ≤ m.place) ⊎ StaysFrom H (stable_place holds.begun.first.stable) m → IsWrittenPlace log m.place → (lid : ℕ) → m.pointer ≡ Inline lid → IsHeldAt sum (segment_size_of log) device.log.bytes lid m
   its_record m there has written lid pointer =
-      line_record sum (segment_size_of log) device log.reserved_to log.segments.first.site.place (segment_view log.segments.first) (map segment_view log.segments.behind.items) (line_segments log) H holds log.filled m there has written.0
+      line_record sum (segment_size_of log) device log.reserved_to log.segments.first.site.place (segment_view log.segments.first) (map segment_view log.segments.behind.items) (line_segments log) H holds log.line.filled m there has written.0
       (none_is _ (sym (none_found m.place (waiting_of log)) ∙ written.1)) lid pointer
 
 -- A log has the record of a message with its item in it in what it has of the history, too.

@@ -33,7 +33,7 @@ module _ {D C : Type 0} (trace : D → Trace) (sum : List ℕ → ℕ) (log : Lo
 
   module _ (fits : FitsWith sum (noted_in log) size state log.fault.kept (line_of log) (machine_at log) log.pins H A f U) where
     pub ordered : Ascends (logged H).messages
-    ordered = whole_ascends sum size log.segments.first.site state log.fault.kept log.segments.first.buffer.bytes.items log.segments.first.buffer.written_len log.segments.first.buffer.sealed.items log.segments.first.buffer.reserved.items (logged H) fits.parts.holds log.lies.in_segment
+    ordered = whole_ascends sum size log.segments.first.site state log.fault.kept log.segments.first.buffer.bytes.items log.segments.first.buffer.written_len log.segments.first.buffer.sealed.items log.segments.first.buffer.reserved.items (logged H) fits.parts.holds log.line.lies.in_segment
 
     -- what is on the device ends before the next record
     pub synced_before : synced_end log ≤ next_place log

@@ -33,7 +33,7 @@ use Rattle.sled_core.proofs.Line.Segments.{line_segments}
 -- The current buffer holds something, where it begins below a place that was reserved.
 pub some_below : {D C : Type 0} (log : Log D C) (to : ℕ) → to ≤ reserved_end log → current_begin log < to → holds_any (current_of log) ≡ true
 some_below log to reserved below =
-    let last = filled_last log.config.config.segment_size log.reserved_to (segment_view log.segments.first) (map segment_view log.segments.behind.items) log.filled in
+    let last = filled_last log.config.config.segment_size log.reserved_to (segment_view log.segments.first) (map segment_view log.segments.behind.items) log.line.filled in
     let most = last.1 in
     grind (arith, nat_tests, reserved, below, most)
 
@@ -42,7 +42,7 @@ pub ends_behind : {D C : Type 0} (log : Log D C) → reserved_end log ≤ sealin
 ends_behind log =
     let size : ℕ = segment_size_of log in
     let v : SegmentView = current_of log in
-    let most = (filled_last log.config.config.segment_size log.reserved_to (segment_view log.segments.first) (map segment_view log.segments.behind.items) log.filled).1 in
+    let most = (filled_last log.config.config.segment_size log.reserved_to (segment_view log.segments.first) (map segment_view log.segments.behind.items) log.line.filled).1 in
     let short = (current_facts log).short in
     by_test size v short most (is_short size (length v.parts.bytes))
   where

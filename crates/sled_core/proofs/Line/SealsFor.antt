@@ -72,7 +72,7 @@ seals_still trace sum place log lower = record {
 pub holds_reserved : {D C : Type 0} (log : Log D C) (place : ℕ) → current_begin log ≤ place → place < log.reserved_to → (0 < held_len log) × (place < sealing_end log)
 holds_reserved log place above reserved =
     let v : SegmentView = current_of log in
-    let last = filled_last (segment_size_of log) log.reserved_to (segment_view log.segments.first) (map segment_view log.segments.behind.items) log.filled in
+    let last = filled_last (segment_size_of log) log.reserved_to (segment_view log.segments.first) (map segment_view log.segments.behind.items) log.line.filled in
     let raw : log.reserved_to ≤ v.parts.site.place + length v.parts.bytes = last.1 in
     let up = ends_behind log in
     (omega (arith, above, reserved, raw), omega (arith, reserved, up))

@@ -46,7 +46,7 @@ number_inside log place above lower =
 
 pub number_within : {D C : Type 0} (log : Log D C) (place : ℕ) → log.segments.first.site.place ≤ place → place < current_begin log → (place - log.segments.first.site.place) / segment_size_of log ≤ length log.segments.behind.items
 number_within log place above lower =
-    let last = filled_last (segment_size_of log) log.reserved_to (segment_view log.segments.first) (map segment_view log.segments.behind.items) log.filled in
+    let last = filled_last (segment_size_of log) log.reserved_to (segment_view log.segments.first) (map segment_view log.segments.behind.items) log.line.filled in
     number_inside log place above (omega (arith, last.0, lower))
 
 -- The place of that segment.
@@ -101,7 +101,7 @@ module _ {D C : Type 0} (log : Log D C) (place : ℕ) (looked : LooksAt log plac
 
   -- it lies in a buffer that is sealed, or written
   pub inside : place < v.parts.site.place + begin_of v
-  inside = begin_above size log.reserved_to place line n v log.filled looked.among looked.high looked.lower
+  inside = begin_above size log.reserved_to place line n v log.line.filled looked.among looked.high looked.lower
 
   waiting_found : found place (waiting_of log) ≡ found place (unwritten_of v.parts)
   waiting_found = found_there size log.segments.first.site.place place line n v (line_segments log) looked.among looked.low looked.high

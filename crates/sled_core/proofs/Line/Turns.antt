@@ -31,7 +31,7 @@ at_last_behind f (v ∷ x ∷ xs) w = ap (λ (l : List SegmentView). v ∷ l) (a
 pub turns_within : {D C : Type 0} (log : Log D C) → reserved_end log ≤ (current_of log).parts.site.place + segment_size_of log
 turns_within log =
     let here = current_facts log in
-    let last = filled_last (segment_size_of log) log.reserved_to (segment_view log.segments.first) (map segment_view log.segments.behind.items) log.filled in
+    let last = filled_last (segment_size_of log) log.reserved_to (segment_view log.segments.first) (map segment_view log.segments.behind.items) log.line.filled in
     let end = last.1 in
     let inside = here.short in
     omega (arith, end, inside)

@@ -177,7 +177,7 @@ module _ {D C : Type 0} (log : Log D C) (i p : ℕ) (few : i < pending_in (waiti
   its : Found size log.segments.first.site.place (line_of log) i p
   its =
       let many = pending_length size log.segments.first.site.place (line_of log) (line_segments log) in
-      subst (Found size log.segments.first.site.place (line_of log) i) (ap (λ (l : List ℕ). get_or l i p) (sym log.indexed.places) ∙ sym read) (found size log.segments.first.site.place (line_of log) i p (line_segments log) (omega (arith, few, many)))
+      subst (Found size log.segments.first.site.place (line_of log) i) (ap (λ (l : List ℕ). get_or l i p) (sym log.line.indexed.places) ∙ sym read) (found size log.segments.first.site.place (line_of log) i p (line_segments log) (omega (arith, few, many)))
 
   its_facts : IsSegment size (log.segments.first.site.place + its.n * size) its.segment
   its_facts = nth_facts log its.n its.segment its.among

@@ -51,7 +51,7 @@ module _ {D C : Type 0} (log : Log D C) where
 
   -- what code knows of the segment that is being filled
   pub current_own : HasOwn log.ready (current_of log).parts.site.place (current_of log).parts.written_len (current_of log).parts.sealed before [] others
-  current_own = last_ready log.config.config.segment_size log.segments.first.site.place (segment_view log.segments.first) (map segment_view log.segments.behind.items) log.ready (line_segments log) log.indexed
+  current_own = last_ready log.config.config.segment_size log.segments.first.site.place (segment_view log.segments.first) (map segment_view log.segments.behind.items) log.ready (line_segments log) log.line.indexed
 
   -- One more is sealed in it.
   pub seals_ready : (f : SegmentView → SegmentView) → SealsOne (current_of log) (f (current_of log)) → (site : SegmentPosition) (b : IoBuf) → view_at site b ≡ f (current_of log) → (old now : ReadyBuffers) → old.places.items ≡ log.ready.places.items → old.held ≡ log.ready.held
@@ -105,7 +105,7 @@ module _ {D C : Type 0} (log : Log D C) where
       ended_own : HasOwn log.ready site.place b.written_len v.parts.sealed (before_places n (line_of log)) (behind_places n (line_of log)) (other_held n (line_of log))
       ended_own =
           subst (λ (x : SegmentView). HasOwn log.ready x.parts.site.place x.parts.written_len v.parts.sealed (before_places n (line_of log)) (behind_places n (line_of log)) (other_held n (line_of log))) (sym view)
-          (own_ready log.config.config.segment_size log.segments.first.site.place (line_of log) n v log.ready (line_segments log) its.among log.indexed)
+          (own_ready log.config.config.segment_size log.segments.first.site.place (line_of log) n v log.ready (line_segments log) its.among log.line.indexed)
 
       -- what code asks of it
       pub ended_asks : (bs : List Sealed) × (rs : List Reserved) × (before : List ℕ) × (behind : List ℕ) × (others : ℕ) × EndedOne b j bs rs × HasOwn log.ready site.place b.written_len bs before behind others
@@ -129,7 +129,7 @@ module _ {D C : Type 0} (log : Log D C) where
     written_ready now noted =
         let both : Some r.segment ≡ Some (view_at site b) = sym r.among ∙ there in
         let same : r.segment ≡ view_at site b = cc in
-        let own = own_ready log.config.config.segment_size log.segments.first.site.place (line_of log) n (view_at site b) log.ready (line_segments log) there log.indexed in
+        let own = own_ready log.config.config.segment_size log.segments.first.site.place (line_of log) n (view_at site b) log.ready (line_segments log) there log.line.indexed in
         let known = noted r.buffer (before_places n (line_of log)) (behind_places n (line_of log)) (other_held n (line_of log)) (ap (λ (x : SegmentView). slice_get x.parts.sealed k) (sym same) ∙ r.there) r.ready own in
         let cs : List Sealed = written_at k b.sealed.items in
         let all : AreReady (set (line_of log) n (written_now k (view_at site b))) now =

@@ -94,8 +94,8 @@ around_front at (x ∷ xs) b far = ap (λ (o : Option ℕ). if has_place at x th
 -- A message of what a page is has its record.
 pub has_record : {D C : Type 0} (log : Log D C) (H : History) (end page : ℕ) (m : Message) → IsOfPage H end page m → HasRecordOf log H m
 has_record log H end page m of =
-    let low = log.lies.place_in_reach in
-    let inside = log.lies.in_segment in
+    let low = log.line.lies.place_in_reach in
+    let inside = log.line.lies.in_segment in
     let written = written_behind log.segments.first.buffer in
     inr (top, omega (arith, low, inside, written), of.entry)
 
@@ -106,7 +106,7 @@ module _ {D C : Type 0} (log : Log D C) (sum : List ℕ → ℕ) (at begun : ℕ
   -- what is reserved of the current buffer has bytes
   some_held : current_begin log ≤ at → 0 < held_len log
   some_held le =
-      let inside : reserved_end log ≤ (current_of log).parts.site.place + length (current_of log).parts.bytes = (filled_last (segment_size_of log) (reserved_end log) (segment_view log.segments.first) (map segment_view log.segments.behind.items) log.filled).1 in
+      let inside : reserved_end log ≤ (current_of log).parts.site.place + length (current_of log).parts.bytes = (filled_last (segment_size_of log) (reserved_end log) (segment_view log.segments.first) (map segment_view log.segments.behind.items) log.line.filled).1 in
       let low = (current_facts log).begins in
       omega (arith, le, below, inside, low)
 

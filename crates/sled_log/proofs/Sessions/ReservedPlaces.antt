@@ -56,7 +56,7 @@ module _ {D C : Type 0} (log : Log D C) (begun : ℕ) (tickets : List (Option Me
 
   -- the current buffer begins within its segment, and what was reserved ends with its bytes at most
   filled : (begin_of (current_of log) < size) × (reserved_end log ≤ (current_of log).parts.site.place + length (current_of log).parts.bytes)
-  filled = let is = filled_last size (reserved_end log) (segment_view log.segments.first) (map segment_view log.segments.behind.items) log.filled in (is.0, is.1)
+  filled = let is = filled_last size (reserved_end log) (segment_view log.segments.first) (map segment_view log.segments.behind.items) log.line.filled in (is.0, is.1)
 
   target : LiesHere size (current_of log) page n (position_of log) ⊎ LiesNext size (current_of log) machine page n (position_of log)
   target = lies size (current_of log) machine page n log.config.config.least (current_facts log).short inline

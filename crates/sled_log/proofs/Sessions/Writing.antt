@@ -183,7 +183,7 @@ module _ {D C : Type 0} (log : Log D C) (sum : List ℕ → ℕ) (begun : ℕ) (
 
   -- the current buffer begins within its segment, and what was reserved ends with its bytes at most
   pub filled : (begin_of (current_of log) < size) × (reserved_end log ≤ (current_of log).parts.site.place + length (current_of log).parts.bytes)
-  filled = let is = filled_last size (reserved_end log) (segment_view log.segments.first) (map segment_view log.segments.behind.items) log.filled in (is.0, is.1)
+  filled = let is = filled_last size (reserved_end log) (segment_view log.segments.first) (map segment_view log.segments.behind.items) log.line.filled in (is.0, is.1)
 
   pub begins : begin_of (current_of log) ≤ length (current_of log).parts.bytes
   begins = (current_facts log).begins

@@ -39,7 +39,7 @@ use Rattle.sled_core.proofs.logger.Log.begin_next.Goals as goal
 module _ {D C : Type 0} (mid : Log D C) (size : ℕ) (sizes : mid.config.config.segment_size ≡ size) (s : SegmentBuffer) (there : slice_get (open_segments mid.segments) (length mid.segments.behind.items) ≡ Some s) where
   its_begin : begin_of (segment_view s) < size
   its_begin =
-      let last = (filled_last mid.config.config.segment_size mid.reserved_to (segment_view mid.segments.first) (map segment_view mid.segments.behind.items) mid.filled).0 in
+      let last = (filled_last mid.config.config.segment_size mid.reserved_to (segment_view mid.segments.first) (map segment_view mid.segments.behind.items) mid.line.filled).0 in
       let same = ap begin_of (last_is mid s there) in
       omega (arith, last, same, sizes)
 
@@ -79,7 +79,7 @@ module _ {D C : Type 0} (sum : List ℕ → ℕ) (mid : Log D C) (site : Segment
   size = segment_size_of mid
 
   closes : IsClosable size (current_of mid)
-  closes = closable size _ (current_of mid) (current_facts mid) (filled_last size mid.reserved_to (segment_view mid.segments.first) (map segment_view mid.segments.behind.items) mid.filled).0
+  closes = closable size _ (current_of mid) (current_facts mid) (filled_last size mid.reserved_to (segment_view mid.segments.first) (map segment_view mid.segments.behind.items) mid.line.filled).0
 
   -- The first one isn't wholly on the device, also where it is the one that is being filled.
   first_waits : (s : SegmentBuffer) → slice_get (open_segments mid.segments) (length mid.segments.behind.items) ≡ Some s → mid.segments.first.buffer.written_len < size
@@ -92,7 +92,7 @@ module _ {D C : Type 0} (sum : List ℕ → ℕ) (mid : Log D C) (site : Segment
         let up = ends_up mid.segments.first.buffer.written_len mid.segments.first.buffer.reserved.items mid.segments.first.buffer.sealed.items (nth_facts mid 0 (segment_view mid.segments.first) refl).are in
         let begins = ap (λ (x : SegmentBuffer). begin_of (segment_view x)) same in
         omega (arith, up, some, begins)
-    by (suc n) more = mid.lies.waits (omega (arith, more))
+    by (suc n) more = mid.line.lies.waits (omega (arith, more))
 
   module _ (s : SegmentBuffer) (there : slice_get (open_segments mid.segments) (length mid.segments.behind.items) ≡ Some s) (is : view_at site new ≡ closed_now sum size (view_at site s.buffer)) where
     abbrev now : SegmentBuffer
@@ -111,7 +111,7 @@ module _ {D C : Type 0} (sum : List ℕ → ℕ) (mid : Log D C) (site : Segment
         let written : new.written_len ≡ s.buffer.written_len = ap (λ (v : SegmentView). v.parts.written_len) here ∙ filled_written sum size (segment_view s) in
         record {
           line = line_with_last (closed_now sum size) mid.segments s now there here;
-          lie = within_with size mid.segments (length mid.segments.behind.items) s now there refl (omega (arith, long)) (omega (arith, written)) mid.lies;
+          lie = within_with size mid.segments (length mid.segments.behind.items) s now there refl (omega (arith, long)) (omega (arith, written)) mid.line.lies;
           waits = (let low = first_waits s there in let same = written_with mid.segments (length mid.segments.behind.items) s now there written in omega (arith, low, same));
           place = ap (λ (p : SegmentPosition). p.place) (site_with mid.segments (length mid.segments.behind.items) s now there refl);
           count = many_with mid.segments (length mid.segments.behind.items) now;
@@ -173,7 +173,7 @@ module _ {D C : Type 0} (sum : List ℕ → ℕ) (old mid : Log D C) (line : lin
   begun_counted =
       let all = ap open_manifests next_is ∙ manifests_next sum its_size (machine_at old) (stable_end old) (line_of old) in
       let same = ap open_manifests line in
-      let counted = mid.counted in
+      let counted = mid.noted.counted in
       omega (arith, all, same, counted)
 
   -- its buffer is the last one
@@ -207,7 +207,7 @@ module _ {D C : Type 0} (sum : List ℕ → ℕ) (old mid : Log D C) (line : lin
         };
         filled = subst (λ to. AreFilled its_size to (line_in further)) (sym rest.reserved)
             (subst (AreFilled its_size old.reserved_to) (sym next_is)
-            (filled_next sum its_size old.reserved_to (machine_at old) (stable_end old) (segment_view old.segments.first) (map segment_view old.segments.behind.items) facts (omega (arith, big)) used old.filled));
+            (filled_next sum its_size old.reserved_to (machine_at old) (stable_end old) (segment_view old.segments.first) (map segment_view old.segments.behind.items) facts (omega (arith, big)) used old.line.filled));
       }
 
 -- Where it was refused, what is so where it was done isn't asked, and the log is as it was.
@@ -272,12 +272,16 @@ invariant_of-self g c =
     let mid = c.room_to_close.new.self in
     let sizes : c.next.new.config.config.segment_size ≡ segment_size_of mid = ap (λ x. x.config.segment_size) c.next.ensures.config in
     record {
-      lies = subst (λ n. LieWithin n mid.segments) (sym sizes) mid.lies;
-      filled = subst (λ n. AreFilled n mid.reserved_to (line_of mid)) (sym sizes) mid.filled;
+      line = record {
+        lies = subst (λ n. LieWithin n mid.segments) (sym sizes) mid.line.lies;
+        filled = subst (λ n. AreFilled n mid.reserved_to (line_of mid)) (sym sizes) mid.line.filled;
+        indexed = mid.line.indexed;
+      };
       account = subst (λ n. IsAccountant n c.next.new.self) (sym sizes) c.next.ensures.account;
-      pegs = mid.pegs;
-      counted = mid.counted;
-      indexed = mid.indexed;
+      noted = record {
+        pegs = mid.noted.pegs;
+        counted = mid.noted.counted;
+      };
     }
 
 -- What is left behind the closing, and the segment that is begun.
@@ -369,14 +373,18 @@ invariant_of-self-2 g c =
     subst (λ n. IsBegun n mid.reserved_to further) (sym (new_sizes ∙ sizes))
     (begun_next sum old mid line rest (closed_then g c) (is_closed g c) (next g c) (next_at g c) slot begun further c.begin.ensures.first c.begin.ensures.behind c.requires.used may) in
     record {
-      lies = are.lie;
-      filled = are.filled;
+      line = record {
+        lies = are.lie;
+        filled = are.filled;
+        indexed = still_ready (more sum old mid line rest (closed_then g c) (is_closed g c) (next g c) (next_at g c) slot begun further c.begin.ensures.first c.begin.ensures.behind) c.note_sealed.new.self c.note_sealed.new.self refl refl
+            (further_ready (line_in (closed_then g c)) (segment_view (next g c)) c.note_sealed.new.self (ap (λ (v : SegmentView). v.parts.sealed) begun.view)
+            (still_ready (is_closed g c).line c.note_sealed.new.self c.note_sealed.new.self refl refl (closed_ready g c)));
+      };
       account = subst (λ n. IsAccountant n c.next.new.self) (sym new_sizes) c.next.ensures.account;
-      pegs = mid.pegs;
-      counted = begun_counted sum old mid line rest (closed_then g c) (is_closed g c) (next g c) (next_at g c) slot begun further c.begin.ensures.first c.begin.ensures.behind;
-      indexed = still_ready (more sum old mid line rest (closed_then g c) (is_closed g c) (next g c) (next_at g c) slot begun further c.begin.ensures.first c.begin.ensures.behind) c.note_sealed.new.self c.note_sealed.new.self refl refl
-          (further_ready (line_in (closed_then g c)) (segment_view (next g c)) c.note_sealed.new.self (ap (λ (v : SegmentView). v.parts.sealed) begun.view)
-          (still_ready (is_closed g c).line c.note_sealed.new.self c.note_sealed.new.self refl refl (closed_ready g c)));
+      noted = record {
+        pegs = mid.noted.pegs;
+        counted = begun_counted sum old mid line rest (closed_then g c) (is_closed g c) (next g c) (next_at g c) slot begun further c.begin.ensures.first c.begin.ensures.behind;
+      };
     }
 
 pub returns-clause-rest : goal.returns-clause-rest

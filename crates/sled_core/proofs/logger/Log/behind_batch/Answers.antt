@@ -13,7 +13,7 @@ pub behind_last-requires : goal.behind_last-requires
 behind_last-requires g c =
     let log = c.args.self.now in
     let reach = reserved_in_reach log in
-    record { pegs = All-weaker (λ (b : NotedBatch). b.peg < reserved_end log) (λ (b : NotedBatch). b.peg < 2 ^ 63) (λ b less. omega (arith, less, reach)) log.batches.noted.items log.pegs }
+    record { pegs = All-weaker (λ (b : NotedBatch). b.peg < reserved_end log) (λ (b : NotedBatch). b.peg < 2 ^ 63) (λ b less. omega (arith, less, reach)) log.batches.noted.items log.noted.pegs }
 
 pub returns-clause-reserved : goal.returns-clause-reserved
 returns-clause-reserved g c =

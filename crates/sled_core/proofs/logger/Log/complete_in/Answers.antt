@@ -45,12 +45,16 @@ invariant_of-self g c =
     let did : Ended log c.args.n c.args.index its (λ bytes r. completing r) Completed s.site s.buffer c.complete.new.self =
     record { mine = its_view log c.args.n c.args.index its s there; did = c.complete.ensures } in
     record {
-      lies = now.lie;
-      filled = now.filled;
+      line = record {
+        lies = now.lie;
+        filled = now.filled;
+        indexed = indexed log c.args.n c.args.index its (λ bytes r. completing r) Completed s.site s.buffer c.complete.new.self did _ (now.line its.segment its.reserved its.among its.there) c.note_ended.new.self c.note_ended.ensures;
+      };
       account = log.account;
-      pegs = log.pegs;
-      counted = now.counted false log.batches.manifests (c.requires.message its.segment its.reserved its.among its.there) refl;
-      indexed = indexed log c.args.n c.args.index its (λ bytes r. completing r) Completed s.site s.buffer c.complete.new.self did _ (now.line its.segment its.reserved its.among its.there) c.note_ended.new.self c.note_ended.ensures;
+      noted = record {
+        pegs = log.noted.pegs;
+        counted = now.counted false log.batches.manifests (c.requires.message its.segment its.reserved its.among its.there) refl;
+      };
     }
 
 pub returns-clause-line : goal.returns-clause-line

@@ -135,7 +135,7 @@ returns-clause-canceled g c = λ H m holds awaits.
     let page_is : m.page ≡ r.page = ap (λ (x : Message). x.page) awaits.message in
     let record_is : canceled ≡ canceled_record sum c.abort_in.new.self.config.config.segment_size m body = λ j. short_record sum kind.Canceled (sym page_is j) (sym place_is j / sym now_size j) body in
     let long = canceled_long sum size v.parts.site.place v.parts.bytes r segment.place_begins stands.room inside stands.text in
-    let found = ended_stands sum size old.reserved_to (line_of old) c.segment_of-n.result v facts i r its awaits.own.open_yet (sum (body_in v.parts.bytes r ++ code_of kind.Canceled ∷ part v.parts.bytes (r.from + 5) (r.header_len - 5))) kind.Canceled Canceled canceled at old.filled its_text in
+    let found = ended_stands sum size old.reserved_to (line_of old) c.segment_of-n.result v facts i r its awaits.own.open_yet (sum (body_in v.parts.bytes r ++ code_of kind.Canceled ∷ part v.parts.bytes (r.from + 5) (r.header_len - 5))) kind.Canceled Canceled canceled at old.line.filled its_text in
     let list : buffers_in sum size (set (line_of old) c.segment_of-n.result (ended_now i r (canceling sum v.parts.bytes r) Canceled v)) ≡ buffers_in sum c.abort_in.new.self.config.config.segment_size (line_of c.abort_in.new.self) = λ j. buffers_in sum (sym now_size j) (sym line j) in
     record {
       buffer = found.buffer;

@@ -21,7 +21,7 @@ in_front log place low n v among = let at = (nth_facts log n v among).at in inl 
 pub returns-then-place-self : goal.returns-then-place-self
 returns-then-place-self g c =
     let log = c.args.self.now in
-    let small = log.lies.place_in_reach in
+    let small = log.line.lies.place_in_reach in
     let read = to_z-of_z w64 c.args.place c.ranges.place in
     let first = to_z_pos w64 log.segments.first.site.place (omega (arith, small)) in
     let test : int_lt c.args.place (pos log.segments.first.site.place) ≡ true = sym (λ i. int_lt (read i) (first i)) ∙ c.if-place-self.true in
@@ -31,7 +31,7 @@ returns-then-place-self g c =
 module _ {D C : Type 0} (log : Log D C) (place : ℤ) (at : ℕ) (is : place ≡ pos at) (lower : place <ℤ pos (reserved_end log)) (above : log.segments.first.site.place ≤ at) where
   pub inside : at < (current_of log).parts.site.place + segment_size_of log
   inside =
-      let last = filled_last (segment_size_of log) log.reserved_to (segment_view log.segments.first) (map segment_view log.segments.behind.items) log.filled in
+      let last = filled_last (segment_size_of log) log.reserved_to (segment_view log.segments.first) (map segment_view log.segments.behind.items) log.line.filled in
       let short = (current_facts log).short in
       omega (arith, ints, last.1, short, lower, is)
 
@@ -58,14 +58,14 @@ says log place abs read first is begins abs_is test =
 pub segment-requires : goal.segment-requires
 segment-requires g c =
     let log = c.args.self.now in
-    let small = log.lies.place_in_reach in
+    let small = log.line.lies.place_in_reach in
     let at = says log c.args.place c.unsigned_abs-place.result _ _ (to_z-of_z w64 c.args.place c.ranges.place) (to_z_pos w64 log.segments.first.site.place (omega (arith, small))) c.unsigned_abs-place.ensures.value c.if-place-self.false in
     subst (λ k. k ≤ length log.segments.behind.items) (sym c.segment_of.ensures) (number_inside log c.unsigned_abs-place.result at.1 (inside log c.args.place c.unsigned_abs-place.result at.0 c.requires at.1))
 
 pub overflow_sub-result : goal.overflow_sub-result
 overflow_sub-result g c =
     let log = c.args.self.now in
-    let small = log.lies.place_in_reach in
+    let small = log.line.lies.place_in_reach in
     let is = says log c.args.place c.unsigned_abs-place.result _ _ (to_z-of_z w64 c.args.place c.ranges.place) (to_z_pos w64 log.segments.first.site.place (omega (arith, small))) c.unsigned_abs-place.ensures.value c.if-place-self.false in
     (place_low log c.unsigned_abs-place.result c.segment_of.result c.segment.result.0.place is.1 c.segment_of.ensures c.segment.ensures.place).0
 
@@ -74,7 +74,7 @@ returns-in-Some g c =
     let log = c.args.self.now in
     let size : ℕ = segment_size_of log in
     let at : ℕ = c.unsigned_abs-place.result in
-    let small = log.lies.place_in_reach in
+    let small = log.line.lies.place_in_reach in
     let is = says log c.args.place c.unsigned_abs-place.result _ _ (to_z-of_z w64 c.args.place c.ranges.place) (to_z_pos w64 log.segments.first.site.place (omega (arith, small))) c.unsigned_abs-place.ensures.value c.if-place-self.false in
     let has = place_low log c.unsigned_abs-place.result c.segment_of.result c.segment.result.0.place is.1 c.segment_of.ensures c.segment.ensures.place in
     let v : SegmentView = view_at c.segment.result.0 c.segment.result.1.now in
@@ -87,7 +87,7 @@ pub returns-in-None : goal.returns-in-None
 returns-in-None g c =
     let log = c.args.self.now in
     let size : ℕ = segment_size_of log in
-    let small = log.lies.place_in_reach in
+    let small = log.line.lies.place_in_reach in
     let is = says log c.args.place c.unsigned_abs-place.result _ _ (to_z-of_z w64 c.args.place c.ranges.place) (to_z_pos w64 log.segments.first.site.place (omega (arith, small))) c.unsigned_abs-place.ensures.value c.if-place-self.false in
     let has = place_low log c.unsigned_abs-place.result c.segment_of.result c.segment.result.0.place is.1 c.segment_of.ensures c.segment.ensures.place in
     let v : SegmentView = view_at c.segment.result.0 c.segment.result.1.now in

@@ -34,24 +34,24 @@ laid_filled : {D C : Type 0} (log : Log D C) (more : List ℕ) (r : Reserved) (t
     → AreFilled log.config.config.segment_size to line
 laid_filled log more r to line is is_open begins some end =
     subst (AreFilled log.config.config.segment_size to) (sym is)
-    (filled_reserved (λ _. 0) log.config.config.segment_size more r log.reserved_to to log.segments.first.site.place (segment_view log.segments.first) (map segment_view log.segments.behind.items) (line_segments log) is_open begins some end log.filled).1
+    (filled_reserved (λ _. 0) log.config.config.segment_size more r log.reserved_to to log.segments.first.site.place (segment_view log.segments.first) (map segment_view log.segments.behind.items) (line_segments log) is_open begins some end log.line.filled).1
 
 -- What was noted lies below what is reserved then, and as many manifests are open as are counted.
 laid_pegs : {D C : Type 0} (log : Log D C) (to n : ℕ) → to ≡ (current_of log).parts.site.place + length (current_of log).parts.bytes + n → All (λ (b : NotedBatch). b.peg < to) log.batches.noted.items
 laid_pegs log to n end =
-    let low = (filled_last log.config.config.segment_size log.reserved_to (segment_view log.segments.first) (map segment_view log.segments.behind.items) log.filled).1 in
-    All-weaker (λ (b : NotedBatch). b.peg < log.reserved_to) (λ (b : NotedBatch). b.peg < to) (λ b less. omega (arith, less, low, end)) log.batches.noted.items log.pegs
+    let low = (filled_last log.config.config.segment_size log.reserved_to (segment_view log.segments.first) (map segment_view log.segments.behind.items) log.line.filled).1 in
+    All-weaker (λ (b : NotedBatch). b.peg < log.reserved_to) (λ (b : NotedBatch). b.peg < to) (λ b less. omega (arith, less, low, end)) log.batches.noted.items log.noted.pegs
 
 laid_counted : {D C : Type 0} (log : Log D C) (more : List ℕ) (r : Reserved) (manifest : Bool) (now : ℕ) (line : List SegmentView) → line ≡ at_last (reserved_now more r) (line_of log) → r.state ≡ Open → manifest ≡ is_manifest r.log_kind r.page
     → now ≡ (if manifest then suc log.batches.manifests else log.batches.manifests) → open_manifests line ≡ now
 laid_counted log more r manifest now line is opened kind more_is =
     more_counted manifest (open_manifests (line_of log)) (open_manifests line) log.batches.manifests now
     (ap open_manifests is ∙ manifests_reserved more r manifest (segment_view log.segments.first) (map segment_view log.segments.behind.items) opened (sym kind))
-    more_is log.counted
+    more_is log.noted.counted
 
 -- The same buffers can be written.
 laid_indexed : {D C : Type 0} (log : Log D C) (more : List ℕ) (r : Reserved) (line : List SegmentView) → line ≡ at_last (reserved_now more r) (line_of log) → AreReady line log.ready
-laid_indexed log more r line is = subst (λ (l : List SegmentView). AreReady l log.ready) (sym is) (at_last_same (reserved_now more r) (λ w. refl) (λ w. refl) (line_of log) log.ready log.indexed)
+laid_indexed log more r line is = subst (λ (l : List SegmentView). AreReady l log.ready) (sym is) (at_last_same (reserved_now more r) (λ w. refl) (λ w. refl) (line_of log) log.ready log.line.indexed)
 
 -- There is room for the batch of a manifest.
 pub begin_manifest-requires : goal.begin_manifest-requires
@@ -85,15 +85,19 @@ invariant_of-self g c =
     let long : length (head ++ item) ≡ c.args.head.now.len + c.args.item_len = omega (arith, all, made.len, length-append s.buffer.bytes.items (head ++ item)) in
     let fits = c.requires.place.record_fits in
     let size : ℕ = log.config.config.segment_size in
-    let lie = within_with size log.segments (length log.segments.behind.items) s (record { site = s.site; buffer = new }) there refl (omega (arith, made.len, bytes, fits)) (let from = ap (λ (v : SegmentView). v.parts.written_len) (made.laid s.site) in omega (arith, from)) log.lies in
+    let lie = within_with size log.segments (length log.segments.behind.items) s (record { site = s.site; buffer = new }) there refl (omega (arith, made.len, bytes, fits)) (let from = ap (λ (v : SegmentView). v.parts.written_len) (made.laid s.site) in omega (arith, from)) log.line.lies in
     let line = line_with_last (reserved_now (head ++ item) _) log.segments s (record { site = s.site; buffer = new }) there (made.laid s.site) in
     record {
-      lies = lie;
-      filled = laid_filled log (head ++ item) _ c.args.to _ line refl (sym bytes) (placeholder_some (take c.args.head.now.len c.args.head.now.bytes) item) (omega (arith, c.requires.end, long));
+      line = record {
+        lies = lie;
+        filled = laid_filled log (head ++ item) _ c.args.to _ line refl (sym bytes) (placeholder_some (take c.args.head.now.len c.args.head.now.bytes) item) (omega (arith, c.requires.end, long));
+        indexed = laid_indexed log (head ++ item) _ _ line;
+      };
       account = log.account;
-      pegs = subst (All (λ (b : NotedBatch). b.peg < c.args.to)) (sym c.begin_manifest.ensures.items) (laid_pegs log c.args.to (c.args.head.now.len + c.args.item_len) c.requires.end);
-      counted = laid_counted log (head ++ item) _ c.is_manifest-manifest.result c.begin_manifest.new.self.manifests _ line refl c.is_manifest-manifest.ensures c.begin_manifest.ensures.manifests;
-      indexed = laid_indexed log (head ++ item) _ _ line;
+      noted = record {
+        pegs = subst (All (λ (b : NotedBatch). b.peg < c.args.to)) (sym c.begin_manifest.ensures.items) (laid_pegs log c.args.to (c.args.head.now.len + c.args.item_len) c.requires.end);
+        counted = laid_counted log (head ++ item) _ c.is_manifest-manifest.result c.begin_manifest.new.self.manifests _ line refl c.is_manifest-manifest.ensures c.begin_manifest.ensures.manifests;
+      };
     }
 
 pub returns-clause-rest : goal.returns-clause-rest

@@ -22,7 +22,7 @@ end_manifest-requires g c =
     let i = c.args.index - its.segment.gone in
     let text = marking g.C.Checksum.sum_of its.segment.parts.bytes its.reserved c.args.peg in
     let ended = manifests_ended (line_of log) c.args.n its.segment i its.reserved text Manifest true its.among its.there its.open_yet (c.requires.kind its.segment its.reserved its.among its.there) refl in
-    some_counted true (open_manifests (line_of log)) (open_manifests (set (line_of log) c.args.n (ended_now i its.reserved text Manifest its.segment))) log.batches.manifests ended log.counted
+    some_counted true (open_manifests (line_of log)) (open_manifests (set (line_of log) c.args.n (ended_now i its.reserved text Manifest its.segment))) log.batches.manifests ended log.noted.counted
 
 -- Its segment has it, and it is open.
 
@@ -66,12 +66,16 @@ invariant_of-self g c =
     let did : Ended log c.args.n c.args.index its (λ bytes r. marking g.C.Checksum.sum_of bytes r c.args.peg) Manifest s.site s.buffer c.mark_batch.new.self =
     record { mine = its_view log c.args.n c.args.index its s there; did = c.mark_batch.ensures } in
     record {
-      lies = now.lie;
-      filled = now.filled;
+      line = record {
+        lies = now.lie;
+        filled = now.filled;
+        indexed = indexed log c.args.n c.args.index its (λ bytes r. marking g.C.Checksum.sum_of bytes r c.args.peg) Manifest s.site s.buffer c.mark_batch.new.self did _ (now.line its.segment its.reserved its.among its.there) c.note_ended.new.self c.note_ended.ensures;
+      };
       account = log.account;
-      pegs = subst (All (λ (b : NotedBatch). b.peg < log.reserved_to)) (sym c.end_manifest.ensures.items) log.pegs;
-      counted = now.counted true c.end_manifest.new.self.manifests (c.requires.kind its.segment its.reserved its.among its.there) c.end_manifest.ensures.manifests;
-      indexed = indexed log c.args.n c.args.index its (λ bytes r. marking g.C.Checksum.sum_of bytes r c.args.peg) Manifest s.site s.buffer c.mark_batch.new.self did _ (now.line its.segment its.reserved its.among its.there) c.note_ended.new.self c.note_ended.ensures;
+      noted = record {
+        pegs = subst (All (λ (b : NotedBatch). b.peg < log.reserved_to)) (sym c.end_manifest.ensures.items) log.noted.pegs;
+        counted = now.counted true c.end_manifest.new.self.manifests (c.requires.kind its.segment its.reserved its.among its.there) c.end_manifest.ensures.manifests;
+      };
     }
 
 pub returns-clause-line : goal.returns-clause-line

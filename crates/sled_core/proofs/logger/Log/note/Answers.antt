@@ -41,12 +41,16 @@ pub invariant_of-self : goal.invariant_of-self
 invariant_of-self g c =
     let log = c.args.self.now in
     record {
-      lies = log.lies;
-      filled = log.filled;
+      line = record {
+        lies = log.line.lies;
+        filled = log.line.filled;
+        indexed = log.line.indexed;
+      };
       account = log.account;
-      pegs = c.put_in.ensures.pegs log.reserved_to c.requires.within (c.drop_whole.ensures.pegs log.reserved_to log.pegs);
-      counted = log.counted ∙ sym (c.put_in.ensures.manifests ∙ c.drop_whole.ensures.manifests);
-      indexed = log.indexed;
+      noted = record {
+        pegs = c.put_in.ensures.pegs log.reserved_to c.requires.within (c.drop_whole.ensures.pegs log.reserved_to log.noted.pegs);
+        counted = log.noted.counted ∙ sym (c.put_in.ensures.manifests ∙ c.drop_whole.ensures.manifests);
+      };
     }
 
 pub returns-clause-noted : goal.returns-clause-noted

@@ -10,4 +10,4 @@ returns g c =
     let log = c.args.self.now in
     let long : deque_len log.ready.places ≡ length log.ready.places.items = search rules in
     let many = pending_length log.config.config.segment_size log.segments.first.site.place (line_of log) (line_segments log) in
-    omega (arith, long, c.len.ensures, many, ap length log.indexed.places)
+    omega (arith, long, c.len.ensures, many, ap length log.line.indexed.places)

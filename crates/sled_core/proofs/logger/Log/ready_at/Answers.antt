@@ -12,7 +12,7 @@ index-place-requires g c =
     let log = c.args.self.now in
     let long : deque_len log.ready.places ≡ length log.ready.places.items = search rules in
     let many = pending_length log.config.config.segment_size log.segments.first.site.place (line_of log) (line_segments log) in
-    omega (arith, long, many, c.requires, ap length log.indexed.places)
+    omega (arith, long, many, c.requires, ap length log.line.indexed.places)
 
 pub segment_of-n-requires : goal.segment_of-n-requires
 segment_of-n-requires g c = place_behind c.args.self.now c.args.i c.index-place.result.now c.requires c.index-place.ensures

@@ -44,12 +44,16 @@ pub invariant_of-self : goal.invariant_of-self
 invariant_of-self g c =
     let log = c.args.self.now in
     record {
-      lies = log.lies;
-      filled = log.filled;
+      line = record {
+        lies = log.line.lies;
+        filled = log.line.filled;
+        indexed = log.line.indexed;
+      };
       account = log.account;
-      pegs = subst (All (λ (b : NotedBatch). b.peg < log.reserved_to)) (sym c.make_room_for.ensures.items) log.pegs;
-      counted = log.counted ∙ sym c.make_room_for.ensures.manifests;
-      indexed = log.indexed;
+      noted = record {
+        pegs = subst (All (λ (b : NotedBatch). b.peg < log.reserved_to)) (sym c.make_room_for.ensures.items) log.noted.pegs;
+        counted = log.noted.counted ∙ sym c.make_room_for.ensures.manifests;
+      };
     }
 
 pub returns-then-is_full_of_open-clause-line : goal.returns-then-is_full_of_open-clause-line
@@ -87,7 +91,7 @@ module _ {D C : Type 0} (log : Log D C) (s : SegmentBuffer) (there : slice_get (
       let bytes = ap (λ (v : SegmentView). length v.parts.bytes) (view s.site) in
       let written = ap (λ (v : SegmentView). v.parts.written_len) (view s.site) in
       let short = (nth_is log (length log.segments.behind.items) s there).short in
-      within_with log.config.config.segment_size log.segments (length log.segments.behind.items) s now there refl (omega (arith, short, bytes)) (omega (arith, written)) log.lies
+      within_with log.config.config.segment_size log.segments (length log.segments.behind.items) s now there refl (omega (arith, short, bytes)) (omega (arith, written)) log.line.lies
 
 pub invariant_of-self-2 : goal.invariant_of-self-2
 invariant_of-self-2 g c =
@@ -99,12 +103,16 @@ invariant_of-self-2 g c =
     let lie = lie_now log s there new made.same in
     let line = same_line log s there new made.same in
     record {
-      lies = lie;
-      filled = subst (AreFilled log.config.config.segment_size log.reserved_to) (sym line) log.filled;
+      line = record {
+        lies = lie;
+        filled = subst (AreFilled log.config.config.segment_size log.reserved_to) (sym line) log.line.filled;
+        indexed = still_ready line log.ready log.ready refl refl log.line.indexed;
+      };
       account = log.account;
-      pegs = subst (All (λ (b : NotedBatch). b.peg < log.reserved_to)) (sym c.make_room_for.ensures.items) log.pegs;
-      counted = (let same = ap open_manifests line in let old = log.counted in let many = c.make_room_for.ensures.manifests in omega (arith, same, old, many));
-      indexed = still_ready line log.ready log.ready refl refl log.indexed;
+      noted = record {
+        pegs = subst (All (λ (b : NotedBatch). b.peg < log.reserved_to)) (sym c.make_room_for.ensures.items) log.noted.pegs;
+        counted = (let same = ap open_manifests line in let old = log.noted.counted in let many = c.make_room_for.ensures.manifests in omega (arith, same, old, many));
+      };
     }
 
 pub returns-clause-line : goal.returns-clause-line

@@ -19,7 +19,7 @@ use Rattle.sled_core.proofs.logger.Log.room_to_close.Goals as goal
 -- The segments are as they were, but for the room behind them, and that of the last one.
 module _ {D C : Type 0} (log : Log D C) (mid : IoBufs) (first : mid.first ≡ log.segments.first) (behind : mid.behind.items ≡ log.segments.behind.items) (s : SegmentBuffer) (there : slice_get (open_segments mid) (length mid.behind.items) ≡ Some s) where
   lie_mid : LieWithin log.config.config.segment_size mid
-  lie_mid = within_same log.config.config.segment_size log.segments mid first behind log.lies
+  lie_mid = within_same log.config.config.segment_size log.segments mid first behind log.line.lies
 
   its_inside : length s.buffer.bytes.items ≤ log.config.config.segment_size
   its_inside = short_in log.config.config.segment_size mid (length mid.behind.items) s there lie_mid
@@ -43,15 +43,19 @@ invariant_of-self-in-Break-branch-3 g c =
     let log = c.args.self.now in
     let made = c.make_room-2.ensures in
     let mid : IoBufs = c.make_room-2.new.self in
-    let lie = within_same log.config.config.segment_size log.segments mid made.first made.behind log.lies in
+    let lie = within_same log.config.config.segment_size log.segments mid made.first made.behind log.line.lies in
     let line = line_same log.segments mid made.first made.behind in
     record {
-      lies = lie;
-      filled = subst (AreFilled log.config.config.segment_size log.reserved_to) (sym line) log.filled;
+      line = record {
+        lies = lie;
+        filled = subst (AreFilled log.config.config.segment_size log.reserved_to) (sym line) log.line.filled;
+        indexed = still_ready line log.ready c.make_room.new.self c.in_ok-make_room.ensures.places c.in_ok-make_room.ensures.held log.line.indexed;
+      };
       account = log.account;
-      pegs = subst (All (λ (b : NotedBatch). b.peg < log.reserved_to)) (sym c.make_room_for.ensures.items) log.pegs;
-      counted = (let all = ap open_manifests line in let old = log.counted in let many = c.make_room_for.ensures.manifests in omega (arith, all, old, many));
-      indexed = still_ready line log.ready c.make_room.new.self c.in_ok-make_room.ensures.places c.in_ok-make_room.ensures.held log.indexed;
+      noted = record {
+        pegs = subst (All (λ (b : NotedBatch). b.peg < log.reserved_to)) (sym c.make_room_for.ensures.items) log.noted.pegs;
+        counted = (let all = ap open_manifests line in let old = log.noted.counted in let many = c.make_room_for.ensures.manifests in omega (arith, all, old, many));
+      };
     }
 
 pub room_to_close-requires : goal.room_to_close-requires
@@ -69,12 +73,16 @@ invariant_of-self-2 g c =
     let lie = lie_now log mid made.first made.behind s there c.room_to_close.new.self c.room_to_close.ensures.same in
     let line = same_line log mid made.first made.behind s there c.room_to_close.new.self c.room_to_close.ensures.same in
     record {
-      lies = lie;
-      filled = subst (AreFilled log.config.config.segment_size log.reserved_to) (sym line) log.filled;
+      line = record {
+        lies = lie;
+        filled = subst (AreFilled log.config.config.segment_size log.reserved_to) (sym line) log.line.filled;
+        indexed = still_ready line log.ready c.make_room.new.self c.in_ok-make_room.ensures.places c.in_ok-make_room.ensures.held log.line.indexed;
+      };
       account = log.account;
-      pegs = subst (All (λ (b : NotedBatch). b.peg < log.reserved_to)) (sym c.make_room_for.ensures.items) log.pegs;
-      counted = (let all = ap open_manifests line in let old = log.counted in let many = c.make_room_for.ensures.manifests in omega (arith, all, old, many));
-      indexed = still_ready line log.ready c.make_room.new.self c.in_ok-make_room.ensures.places c.in_ok-make_room.ensures.held log.indexed;
+      noted = record {
+        pegs = subst (All (λ (b : NotedBatch). b.peg < log.reserved_to)) (sym c.make_room_for.ensures.items) log.noted.pegs;
+        counted = (let all = ap open_manifests line in let old = log.noted.counted in let many = c.make_room_for.ensures.manifests in omega (arith, all, old, many));
+      };
     }
 
 pub returns-clause-line : goal.returns-clause-line

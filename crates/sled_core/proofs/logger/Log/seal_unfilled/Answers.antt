@@ -28,30 +28,34 @@ module _ {D C : Type 0} (log : Log D C) (room : is_short (segment_size_of log) (
   Filled line = AreFilled log.config.config.segment_size log.reserved_to line
 
   sealed_filled : (line : List SegmentView) → line ≡ at_last sealed_now (line_of log) → Filled line
-  sealed_filled line is = subst Filled (sym is) (filled_sealed log.config.config.segment_size log.reserved_to (segment_view log.segments.first) (map segment_view log.segments.behind.items) (grind (arith, nat_tests, room)) log.filled)
+  sealed_filled line is = subst Filled (sym is) (filled_sealed log.config.config.segment_size log.reserved_to (segment_view log.segments.first) (map segment_view log.segments.behind.items) (grind (arith, nat_tests, room)) log.line.filled)
 
   still_filled : (line : List SegmentView) → line ≡ line_of log → Filled line
-  still_filled line is = subst Filled (sym is) log.filled
+  still_filled line is = subst Filled (sym is) log.line.filled
 
 -- They have as many open manifests.
 module _ {D C : Type 0} (log : Log D C) where
   sealed_counted : (line : List SegmentView) → line ≡ at_last sealed_now (line_of log) → open_manifests line ≡ log.batches.manifests
-  sealed_counted line is = let same = ap open_manifests is ∙ manifests_sealed (line_of log) in let old = log.counted in omega (arith, same, old)
+  sealed_counted line is = let same = ap open_manifests is ∙ manifests_sealed (line_of log) in let old = log.noted.counted in omega (arith, same, old)
 
   still_counted : (line : List SegmentView) → line ≡ line_of log → open_manifests line ≡ log.batches.manifests
-  still_counted line is = let same = ap open_manifests is in let old = log.counted in omega (arith, same, old)
+  still_counted line is = let same = ap open_manifests is in let old = log.noted.counted in omega (arith, same, old)
 
 -- There was no memory for its place.
 pub invariant_of-self : goal.invariant_of-self
 invariant_of-self g c =
     let log = c.args.self.now in
     record {
-      lies = log.lies;
-      filled = log.filled;
+      line = record {
+        lies = log.line.lies;
+        filled = log.line.filled;
+        indexed = still_ready refl log.ready c.make_room.new.self c.make_room.ensures.places c.make_room.ensures.held log.line.indexed;
+      };
       account = log.account;
-      pegs = log.pegs;
-      counted = log.counted;
-      indexed = still_ready refl log.ready c.make_room.new.self c.make_room.ensures.places c.make_room.ensures.held log.indexed;
+      noted = record {
+        pegs = log.noted.pegs;
+        counted = log.noted.counted;
+      };
     }
 
 -- The last one is.
@@ -89,7 +93,7 @@ module _ {D C : Type 0} (log : Log D C) (s : SegmentBuffer) (there : slice_get (
       let long = ap (λ (v : SegmentView). length v.parts.bytes) view ∙ bytes in
       let from = ap (λ (v : SegmentView). v.parts.written_len) view ∙ written in
       let short = (nth_is log (length log.segments.behind.items) s there).short in
-      within_with (segment_size_of log) log.segments (length log.segments.behind.items) s (record { site = s.site; buffer = new }) there refl (omega (arith, short, long)) (omega (arith, from)) log.lies
+      within_with (segment_size_of log) log.segments (length log.segments.behind.items) s (record { site = s.site; buffer = new }) there refl (omega (arith, short, long)) (omega (arith, from)) log.line.lies
 
   sealed_line : view_at s.site new ≡ sealed_now (segment_view s) → line_in now ≡ at_last sealed_now (line_of log)
   sealed_line view = line_with_last sealed_now log.segments s (record { site = s.site; buffer = new }) there view
@@ -107,14 +111,18 @@ invariant_of-self-2 g c =
     let lie = lie_now log s there new sealed_now refl refl (made.sealed s.site) in
     let same = sealed_line log s there new (made.sealed s.site) in
     record {
-      lies = lie;
-      filled = sealed_filled log c.requires.room _ same;
+      line = record {
+        lies = lie;
+        filled = sealed_filled log c.requires.room _ same;
+        indexed = subst (λ (l : List SegmentView). AreReady l c.note_sealed.new.self) (sym same)
+            (seals_ready log sealed_now (seals_now (current_of log)) s.site new (made.sealed s.site ∙ ap sealed_now (sym (last_is log s there))) c.make_room.new.self c.note_sealed.new.self
+            c.make_room.ensures.places c.make_room.ensures.held c.note_sealed.ensures);
+      };
       account = log.account;
-      pegs = log.pegs;
-      counted = sealed_counted log _ same;
-      indexed = subst (λ (l : List SegmentView). AreReady l c.note_sealed.new.self) (sym same)
-          (seals_ready log sealed_now (seals_now (current_of log)) s.site new (made.sealed s.site ∙ ap sealed_now (sym (last_is log s there))) c.make_room.new.self c.note_sealed.new.self
-          c.make_room.ensures.places c.make_room.ensures.held c.note_sealed.ensures);
+      noted = record {
+        pegs = log.noted.pegs;
+        counted = sealed_counted log _ same;
+      };
     }
 
 -- There was no memory for it.
@@ -127,12 +135,16 @@ invariant_of-self-in-Break-branch-2 g c =
     let lie = lie_now log s there new (λ v. v) refl refl (c.in_err-seal.ensures.unsealed s.site) in
     let same = same_line log s there new (c.in_err-seal.ensures.unsealed s.site) in
     record {
-      lies = lie;
-      filled = still_filled log c.requires.room _ same;
+      line = record {
+        lies = lie;
+        filled = still_filled log c.requires.room _ same;
+        indexed = still_ready same log.ready c.make_room.new.self c.make_room.ensures.places c.make_room.ensures.held log.line.indexed;
+      };
       account = log.account;
-      pegs = log.pegs;
-      counted = still_counted log _ same;
-      indexed = still_ready same log.ready c.make_room.new.self c.make_room.ensures.places c.make_room.ensures.held log.indexed;
+      noted = record {
+        pegs = log.noted.pegs;
+        counted = still_counted log _ same;
+      };
     }
 
 pub returns-clause-line : goal.returns-clause-line

@@ -110,41 +110,45 @@ invariant_of-result g c =
     let place = place_in_reach c.args.config.config.segment_size len s c.in-Ok.beginning c.in-Ok.ensures.beginning c.in-Ok.ensures.answers.0 c.in-Ok.ensures.answers.1 in
     let slot = slot_in_reach c.args.config.config.segment_size len s c.in-Ok.beginning c.in-Ok.ensures.beginning c.in-Ok.ensures.answers.0 c.in-Ok.ensures.answers.1 in
     record {
-      lies = record {
-        in_segment = omega (arith, same, inside);
-        place_in_reach = omega (arith, same, place);
-        slot_in_reach = omega (arith, same, slot);
-        waits = λ some. absurd (let none = ap (λ (ss : List SegmentBuffer). length ss) c.no_segments.ensures in omega (arith, some, none));
-        follow = subst (λ (ss : List SegmentBuffer). FollowOn c.begin.new.config.config.segment_size (c.in-Ok.beginning.place + c.begin.new.config.config.segment_size) ss) (sym c.no_segments.ensures) _;
+      line = record {
+        lies = record {
+          in_segment = omega (arith, same, inside);
+          place_in_reach = omega (arith, same, place);
+          slot_in_reach = omega (arith, same, slot);
+          waits = λ some. absurd (let none = ap (λ (ss : List SegmentBuffer). length ss) c.no_segments.ensures in omega (arith, some, none));
+          follow = subst (λ (ss : List SegmentBuffer). FollowOn c.begin.new.config.config.segment_size (c.in-Ok.beginning.place + c.begin.new.config.config.segment_size) ss) (sym c.no_segments.ensures) _;
+        };
+        filled = (
+            let first = c.in-Ok.ensures.buffer in
+            let low = offset_low c.args.config.config.segment_size len s c.in-Ok.beginning c.in-Ok.ensures.beginning (omega (arith, long)) in
+            let at : begin_of (view_at (record { place = c.in-Ok.beginning.place; slot = c.in-Ok.beginning.slot }) c.in-Ok.buffer) ≡ c.in-Ok.beginning.offset = ap (λ (bs : List Sealed). sealed_end c.in-Ok.buffer.written_len bs) first.sealed ∙ first.from in
+            let behind = c.in-Ok.buffer.behind in
+            let begins = c.in-Ok.buffer.begins in
+            subst (λ (ss : List SegmentBuffer). AreFilled c.begin.new.config.config.segment_size (c.in-Ok.beginning.place + c.in-Ok.beginning.offset) (line_at (record { place = c.in-Ok.beginning.place; slot = c.in-Ok.beginning.slot }) c.in-Ok.buffer ss)) (sym c.no_segments.ensures) (
+              omega (arith, at, low, same),
+              omega (arith, at, behind, begins),
+              subst (AreEntered (c.in-Ok.beginning.place + c.in-Ok.beginning.offset) c.in-Ok.beginning.place) (sym first.reserved) tt,
+              subst IsUnfilled (sym first.filled) tt,
+              omega (arith, ap (λ (rs : List Reserved). records_end rs (length c.in-Ok.buffer.bytes.items)) first.reserved),
+              first_used g.C.Checksum.sum_of c.in-Ok.beginning.place c.in-Ok.beginning.offset c.in-Ok.buffer first,
+            ));
+        indexed = (
+            let here : SegmentPosition = record { place = c.in-Ok.beginning.place; slot = c.in-Ok.beginning.slot } in
+            let nothing : ready_places (line_at here c.in-Ok.buffer c.no_segments.result.items) ≡ [] =
+            ap (λ (ss : List SegmentBuffer). ready_places (line_at here c.in-Ok.buffer ss)) c.no_segments.ensures ∙ ap (λ (bs : List Sealed). ready_in here.place c.in-Ok.buffer.written_len bs ++ []) c.in-Ok.ensures.buffer.sealed in
+            let none : held_buffers (line_at here c.in-Ok.buffer c.no_segments.result.items) ≡ 0 =
+            ap (λ (ss : List SegmentBuffer). held_buffers (line_at here c.in-Ok.buffer ss)) c.no_segments.ensures ∙ ap (λ (bs : List Sealed). held_in bs + 0) c.in-Ok.ensures.buffer.sealed in
+            record { places = c.new.ensures.places ∙ sym nothing; held = c.new.ensures.held ∙ sym none });
       };
-      filled = (
-          let first = c.in-Ok.ensures.buffer in
-          let low = offset_low c.args.config.config.segment_size len s c.in-Ok.beginning c.in-Ok.ensures.beginning (omega (arith, long)) in
-          let at : begin_of (view_at (record { place = c.in-Ok.beginning.place; slot = c.in-Ok.beginning.slot }) c.in-Ok.buffer) ≡ c.in-Ok.beginning.offset = ap (λ (bs : List Sealed). sealed_end c.in-Ok.buffer.written_len bs) first.sealed ∙ first.from in
-          let behind = c.in-Ok.buffer.behind in
-          let begins = c.in-Ok.buffer.begins in
-          subst (λ (ss : List SegmentBuffer). AreFilled c.begin.new.config.config.segment_size (c.in-Ok.beginning.place + c.in-Ok.beginning.offset) (line_at (record { place = c.in-Ok.beginning.place; slot = c.in-Ok.beginning.slot }) c.in-Ok.buffer ss)) (sym c.no_segments.ensures) (
-            omega (arith, at, low, same),
-            omega (arith, at, behind, begins),
-            subst (AreEntered (c.in-Ok.beginning.place + c.in-Ok.beginning.offset) c.in-Ok.beginning.place) (sym first.reserved) tt,
-            subst IsUnfilled (sym first.filled) tt,
-            omega (arith, ap (λ (rs : List Reserved). records_end rs (length c.in-Ok.buffer.bytes.items)) first.reserved),
-            first_used g.C.Checksum.sum_of c.in-Ok.beginning.place c.in-Ok.beginning.offset c.in-Ok.buffer first,
-          ));
       account = subst (λ n. IsAccountant n c.in-Ok.accountant) (sym same) c.in-Ok.ensures.account;
-      pegs = subst (All (λ (b : NotedBatch). b.peg < c.in-Ok.beginning.place + c.in-Ok.beginning.offset)) (sym c.new-in-Ok.ensures.noted) (All-nil (λ (b : NotedBatch). b.peg < c.in-Ok.beginning.place + c.in-Ok.beginning.offset));
-      counted = (
-          let here : SegmentPosition = record { place = c.in-Ok.beginning.place; slot = c.in-Ok.beginning.slot } in
-          let none : open_manifests (line_at here c.in-Ok.buffer c.no_segments.result.items) ≡ 0 = ap (λ (ss : List SegmentBuffer). open_manifests (line_at here c.in-Ok.buffer ss)) c.no_segments.ensures ∙ ap (λ (rs : List Reserved). open_manifests_in rs + 0) c.in-Ok.ensures.buffer.reserved in
-          let zero = c.new-in-Ok.ensures.manifests in
-          omega (arith, none, zero));
-      indexed = (
-          let here : SegmentPosition = record { place = c.in-Ok.beginning.place; slot = c.in-Ok.beginning.slot } in
-          let nothing : ready_places (line_at here c.in-Ok.buffer c.no_segments.result.items) ≡ [] =
-          ap (λ (ss : List SegmentBuffer). ready_places (line_at here c.in-Ok.buffer ss)) c.no_segments.ensures ∙ ap (λ (bs : List Sealed). ready_in here.place c.in-Ok.buffer.written_len bs ++ []) c.in-Ok.ensures.buffer.sealed in
-          let none : held_buffers (line_at here c.in-Ok.buffer c.no_segments.result.items) ≡ 0 =
-          ap (λ (ss : List SegmentBuffer). held_buffers (line_at here c.in-Ok.buffer ss)) c.no_segments.ensures ∙ ap (λ (bs : List Sealed). held_in bs + 0) c.in-Ok.ensures.buffer.sealed in
-          record { places = c.new.ensures.places ∙ sym nothing; held = c.new.ensures.held ∙ sym none });
+      noted = record {
+        pegs = subst (All (λ (b : NotedBatch). b.peg < c.in-Ok.beginning.place + c.in-Ok.beginning.offset)) (sym c.new-in-Ok.ensures.noted) (All-nil (λ (b : NotedBatch). b.peg < c.in-Ok.beginning.place + c.in-Ok.beginning.offset));
+        counted = (
+            let here : SegmentPosition = record { place = c.in-Ok.beginning.place; slot = c.in-Ok.beginning.slot } in
+            let none : open_manifests (line_at here c.in-Ok.buffer c.no_segments.result.items) ≡ 0 = ap (λ (ss : List SegmentBuffer). open_manifests (line_at here c.in-Ok.buffer ss)) c.no_segments.ensures ∙ ap (λ (rs : List Reserved). open_manifests_in rs + 0) c.in-Ok.ensures.buffer.reserved in
+            let zero = c.new-in-Ok.ensures.manifests in
+            omega (arith, none, zero));
+      };
     }
 
 -- the log file, once the log is started

@@ -128,7 +128,7 @@ kept old mid n k r rest s there marked is_marked now is ready noted =
     let left = manifests_promoted mid.config.config.segment_size mid.segments.first.site.place (set (line_of mid) n (written_now k r'.segment)) mid.config.config.least (segments_written mid n k r') in
     let is_segment = nth_segment mid.config.config.segment_size mid.segments.first.site.place (line_of mid) (line_segments mid) n r'.segment r'.among in
     let written = set_same (line_of mid) n r'.segment (written_now k r'.segment) r'.among (manifests_written (line_of mid) n k r'.segment r'.buffer r'.among r'.there r'.ready is_segment.are) in
-    let old = mid.counted in (
+    let old = mid.noted.counted in (
       r',
       keeps_invariants mid n k r' now line,
       omega (arith, same, left, written, old),
@@ -174,12 +174,16 @@ invariant_of-self g c =
     (c.mark_written.ensures s.site) c.promote.new.self c.promote.ensures c.note_written.new.self c.note_written.ensures in
     let lie = found.1.lie in
     record {
-      lies = lie;
-      filled = found.1.filled;
+      line = record {
+        lies = lie;
+        filled = found.1.filled;
+        indexed = found.3;
+      };
       account = mid.account;
-      pegs = mid.pegs;
-      counted = found.2;
-      indexed = found.3;
+      noted = record {
+        pegs = mid.noted.pegs;
+        counted = found.2;
+      };
     }
 
 pub returns-clause-line : goal.returns-clause-line

@@ -32,24 +32,32 @@ pub invariant_of-self : goal.invariant_of-self
 invariant_of-self g c =
     let log = c.args.self.now in
     record {
-      lies = log.lies;
-      filled = log.filled;
+      line = record {
+        lies = log.line.lies;
+        filled = log.line.filled;
+        indexed = log.line.indexed;
+      };
       account = log.account;
-      pegs = log.pegs;
-      counted = log.counted;
-      indexed = log.indexed;
+      noted = record {
+        pegs = log.noted.pegs;
+        counted = log.noted.counted;
+      };
     }
 
 pub invariant_of-self-in_default : goal.invariant_of-self-in_default
 invariant_of-self-in_default g c =
     let log = c.args.self.now in
     record {
-      lies = log.lies;
-      filled = log.filled;
+      line = record {
+        lies = log.line.lies;
+        filled = log.line.filled;
+        indexed = log.line.indexed;
+      };
       account = log.account;
-      pegs = log.pegs;
-      counted = log.counted;
-      indexed = log.indexed;
+      noted = record {
+        pegs = log.noted.pegs;
+        counted = log.noted.counted;
+      };
     }
 
 -- The calls are those that write the buffer.
