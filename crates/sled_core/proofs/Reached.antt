@@ -15,6 +15,7 @@ pub mod OneWrite
 pub mod OpenBatch
 pub mod OpenTickets
 pub mod PutIn
+pub mod Raised
 pub mod ReachedCut
 pub mod ReachedEntries
 pub mod ReadOn

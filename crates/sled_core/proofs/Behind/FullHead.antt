@@ -112,7 +112,7 @@ module _ (sum : List ℕ → ℕ) (none : NoHeaderOfZeros sum) (size : ℕ) (som
           let goes : records_why size done stop ≢ Broken = elim run.records.last [ inl l ↦ absurd (let same = l.1 in let far = run.far in omega (arith, same, at, far, rise.0)) | inr f ↦ λ broken. never_broken size last (sym f.reason ∙ broken) ] in
           let among : StandsAmong sum size new site from others reach H first =
           gap_written sum size some file site from others reach H first alone site from asked within slot_begins there refl
-          (rest_stands sum size some file site from from asked within slot_begins (omega arith) left_over full reach H first alone.stands alone.here there) in
+          (rest_stands sum size some file site from from asked within slot_begins (omega arith) left_over full reach H first alone.stands alone.here alone.held there) in
           subst (λ n. StandsFull sum size new (site.place + size) others (site.place + n) H first) (sym at)
           (full_among sum size some new site place_begins from begun (omega (arith, left_over)) full H first low_enough (subst (λ n. StandsAmong sum size new site from others n H first) reached among)
           (subst (λ n. NoMessageBegins H (site.place + n) (site.place + size)) at nothing.0)

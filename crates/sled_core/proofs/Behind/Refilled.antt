@@ -30,6 +30,7 @@ refilled_stands : (sum : List ℕ → ℕ) (size : ℕ) (log : List ℕ) (site :
     → StandsAmong sum size log site from (pre ++ y ∷ post) reach H first → StandsAmong sum size log site from (pre ++ as_far y y.from o ∷ post) reach H first
 refilled_stands sum size log site from pre y post o reach H first less among = record {
   stands = among.stands;
+  held = among.held;
   reached = among.reached;
   led = among.led;
   here = among.here;

@@ -18,7 +18,7 @@ use Rattle.sled_core.proofs.Sealed.Padded.{padded_get}
 use Rattle.sled_core.proofs.Read.FoundLemmas.{found_there}
 use Rattle.sled_core.proofs.Reached.Higher.{known_in}
 use Rattle.sled_core.proofs.Reached.KeptStands.{kept_stands, scan_kept}
-use Rattle.sled_core.proofs.Reached.StandsTo.{StandsTo}
+use Rattle.sled_core.proofs.Reached.StandsTo.{StandsFrom, StandsTo}
 use Rattle.sled_core.proofs.Reserve.Ranges.{part-append}
 use Rattle.sled_core.proofs.Tail.Multiples.{apart}
 use Rattle.sled_core.proofs.Tail.OneTail.{segment_there}
@@ -77,10 +77,14 @@ module _ (sum : List ℕ → ℕ) (none : NoHeaderOfZeros sum) (size : ℕ) (som
     abbrev least : ℕ
     least = least_place size first
 
-    stands : StandsTo sum size log H (stable_below reach H.batches) first reach
-    stands = kept_stands sum size Used longer log keeps same_in H (stable_below reach H.batches) first reach among.stands
+    stands_from : StandsFrom sum size log H (stable_below reach H.batches) first reach among.stands.from
+    stands_from = kept_stands sum size Used longer log keeps same_in H (stable_below reach H.batches) first reach among.stands
         (λ s there. its_slot least s ((among.stands.numbers.found s).0 there))
         (λ cut low high page m entry. let of = (among.stands.needed cut low high page m entry).0 in its_slot 0 of.segment of.found)
+        some
+
+    stands : StandsTo sum size log H (stable_below reach H.batches) first reach
+    stands = stands_from.0
 
     stands_back : (x : SegmentPosition) (so_far : ℕ) {records : ℕ} → StandsIn sum size longer least among.stands.scanned x so_far records → StandsIn sum size log least stands.scanned x so_far records
     stands_back x so_far its = record {
@@ -114,8 +118,10 @@ module _ (sum : List ℕ → ℕ) (none : NoHeaderOfZeros sum) (size : ℕ) (som
     ]
 
     pub shorter_stands : StandsAmong sum size log site from others reach H first
+    unfolding stands
     shorter_stands = record {
       stands = stands;
+      held = stands_from.1 ∙ among.held;
       reached = among.reached;
       led = led_back;
       here = stands_back site from among.here;

@@ -2,7 +2,7 @@
 use Rattle.std.proofs.Common.{⊎_elim, ◌≡◌, ◌⊎◌, ◌+◌, ◌<◌, ◌<ℤ◌, ◌%◌, ◌≤◌, ℕ, pos, List, sym, ap, subst, arith, inl, inr}
 use Rattle.std.specs.List.{Contains}
 use Rattle.sled_codec.specs.History.{Message, Batch, History, AddsMessage, table}
-use Rattle.sled_codec.specs.Snapshots.{SnapshotModel, stable_place}
+use Rattle.sled_codec.specs.Snapshots.{SnapshotModel}
 use Rattle.sled_codec.proofs.Histories.{among}
 use Rattle.sled_core.specs.OpenBatches.{stable_below}
 use Rattle.sled_core.specs.declared.iobuf.SegmentPosition.{SegmentPosition}
@@ -87,7 +87,7 @@ module _ (sum : List ℕ → ℕ) (size : ℕ) (log : List ℕ) (some : 256 ≤ 
     full = λ under. reads_on of.segment of.found.slot (omega (arith, under, high)) (of.full under);
   }
 
-  needed_new : (cut : ℕ) → stable_place first.stable ≤ cut → cut ≤ reach → (page : ℕ) (n : Message) → Contains (table H' cut page) n → IsSegmentOf sum size log H' cut n × StandsInline sum size log n n.pointer
+  needed_new : (cut : ℕ) → is.from ≤ cut → cut ≤ reach → (page : ℕ) (n : Message) → Contains (table H' cut page) n → IsSegmentOf sum size log H' cut n × StandsInline sum size log n n.pointer
   needed_new cut low high page n entry =
       let had = is.needed cut low high page n (entry_stays H H' m adds cut page (omega (arith, high, above)) n entry) in
       (segment_of_new cut high n had.0, had.1)
@@ -108,6 +108,10 @@ module _ (sum : List ℕ → ℕ) (size : ℕ) (log : List ℕ) (some : 256 ≤ 
     placed = λ x there. ⊎_elim (is.placed x) (λ own. subst (LiesInSegment size) own lies) (was_or_added H H' m adds x there);
     batched = λ b there. let placed = is.batched b (batch_was b there) in record { begins = placed.begins; alone = λ c at. placed.alone c (batch_was c at); nested = λ c at. placed.nested c (batch_was c at) };
     closed = λ b there low. let under = is.closed b (batch_was b there) (omega (arith, low, same)) in omega (arith, under, same);
+    from = is.from;
+    from_low = is.from_low;
+    from_high = let high = is.from_high in omega (arith, high, same);
+    tail_from = is.tail_from;
     gapless = is.gapless;
     needed = needed_new;
   }
@@ -121,6 +125,7 @@ among-adds sum size log site from reach H H' first some m adds above lies had be
     let marks : (s : Segment) → Contains had.stands.ordering s → s.mark <ℤ pos m.place = λ s there. less_than s.mark (site.place + from) m.place above (had.below s ((had.stands.numbers.found s).0 there)) in
     record {
       stands = stands-adds sum size log some H H' (stable_below reach H.batches) first reach had.stands m beside marks adds (omega (arith, near, above)) lies (stable_below reach H'.batches) (ap (stable_below reach) adds.batches);
+      held = had.held;
       reached = reached_adds had.reached;
       led = had.led;
       here = had.here;

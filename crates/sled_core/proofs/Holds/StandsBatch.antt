@@ -3,7 +3,7 @@ use Rattle.std.proofs.lemmas.Bool.{cases_lt}
 use Rattle.std.proofs.Common.{◌≢◌, ⊎_elim, ◌≡◌, ◌⊎◌, ◌∙◌, ◌+◌, ◌<◌, ◌<ℤ◌, ◌%◌, ◌≤◌, ℕ, pos, List, sym, ap, subst, arith, inl, inr}
 use Rattle.std.specs.List.{Contains}
 use Rattle.sled_codec.specs.History.{AddsBatch, Batch, History, Message, table}
-use Rattle.sled_codec.specs.Snapshots.{SnapshotModel, stable_place}
+use Rattle.sled_codec.specs.Snapshots.{SnapshotModel}
 use Rattle.sled_codec.specs.Places.{part}
 use Rattle.sled_codec.specs.Record.{IsHeader}
 use Rattle.sled_core.specs.Begun.{records_to}
@@ -178,7 +178,7 @@ module _ (sum : List ℕ → ℕ) (size : ℕ) (log : List ℕ) (some : 256 ≤ 
     full = λ under. reads_on of.segment of.found.slot (omega (arith, under, high)) (of.full under);
   }
 
-  needed_new : (cut : ℕ) → stable_place first.stable ≤ cut → cut ≤ reach → (page : ℕ) (n : Message) → Contains (table H' cut page) n → IsSegmentOf sum size log H' cut n × StandsInline sum size log n n.pointer
+  needed_new : (cut : ℕ) → is.from ≤ cut → cut ≤ reach → (page : ℕ) (n : Message) → Contains (table H' cut page) n → IsSegmentOf sum size log H' cut n × StandsInline sum size log n n.pointer
   needed_new cut low high page n entry = let had = is.needed cut low high page n (entry_was H H' b adds cut page n entry) in (segment_of_new cut high n had.0, had.1)
 
   -- no other batch begins below the place than did
@@ -204,6 +204,10 @@ module _ (sum : List ℕ → ℕ) (size : ℕ) (log : List ℕ) (some : 256 ≤ 
     placed = λ x there. is.placed x (message_was H H' b adds x there);
     batched = placed;
     closed = λ c there low. let under = closed_new c there (omega (arith, low, same)) in omega (arith, under, same);
+    from = is.from;
+    from_low = is.from_low;
+    from_high = let high = is.from_high in omega (arith, high, same);
+    tail_from = is.tail_from;
     gapless = is.gapless;
     needed = needed_new;
   }
@@ -219,6 +223,7 @@ among-marks sum size log site from reach H H' first some b adds above placed lat
     let marks : (s : Segment) → Contains had.stands.ordering s → s.mark <ℤ pos b.low = λ s there. less_than s.mark (site.place + from) b.low above (had.below s ((had.stands.numbers.found s).0 there)) in
     record {
       stands = stands-marks sum size log some H H' (stable_below reach H.batches) first reach had.stands b beside marks adds past placed (peg_apart sum none size log some site from {others = others} reach H first had b.low b.peg above later beside offs) (stable_below reach H'.batches) (ap (stable_below reach) adds.batches ∙ stable_one_more reach H.batches b past);
+      held = had.held;
       reached = reached_marks had.reached;
       led = had.led;
       here = had.here;

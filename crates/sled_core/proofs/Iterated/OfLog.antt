@@ -171,6 +171,6 @@ module _ {D C : Type 0} (trace : D → Trace) (sum : List ℕ → ℕ) (log : Lo
     -- So an iterator that goes over the segments of the log gives its messages.
     pub gives_messages : (lsn : ℤ) (it : LogIter D C) → GoesOver trace sum log lsn it → GivesMessages trace sum log H lsn it
     gives_messages lsn it over =
-        let given = gives_on_file sum size state.log.bytes some H apart_messages (stable_below fits.reach H.batches) first fits.reach among.stands (stable_end log) is_end m slots state.blobs.file good (begins_from size lsn)
+        let given = gives_on_file sum size state.log.bytes some H apart_messages (stable_below fits.reach H.batches) first fits.reach among.stands among.held (stable_end log) is_end m slots state.blobs.file good (begins_from size lsn)
         (mul-mod_left (place_of_mark lsn / size) size) over.0 over.1 in
         (given.0, given.1, over.2 (map item_of given.0) None given.2)

@@ -235,7 +235,7 @@ pub record AreSlotsOf (sum : List ℕ → ℕ) (size : ℕ) (log : List ℕ) (H 
   pub fits : (k : ℕ) → IsTakenIn m k → (slot_at m k).lsn + size < 2 ^ 63
 
 module _ (sum : List ℕ → ℕ) (size : ℕ) (log : List ℕ) (some : 256 ≤ size) (H : History) (lie : LieApart H.messages) (A : ℕ) (first : SnapshotModel) (reach : ℕ) (stands : StandsTo sum size log H A first reach)
-    (end : ℕ) (is_end : IsEndOf H reach end) (m : Machine) (slots : AreSlotsOf sum size log H first reach end m)
+    (held : stands.from ≡ stable_place first.stable) (end : ℕ) (is_end : IsEndOf H reach end) (m : Machine) (slots : AreSlotsOf sum size log H first reach end m)
     (blobs : ℤ → Option (List ℕ)) (good : (n : Message) → Contains H.messages n → PassesIfThere sum blobs n n.pointer)
     (from : ℕ) (begins : from % size ≡ 0) (ss : List Segment) (are : AreSegments size m from end ss) where
   -- each segment of the list can be given
@@ -250,7 +250,7 @@ module _ (sum : List ℕ → ℕ) (size : ℕ) (log : List ℕ) (some : 256 ≤ 
       let near = slots.reached k of.taken low in
       let header = slots.begun k of.taken low in
       let aligned = slots.aligned k of.taken in
-      let reads = read_here sum size log some H (apart_ascends H.messages lie) A first reach stands end is_end.reached k (slot_at m k).lsn aligned near header.0 header.1 (slots.entry k of.taken) in
+      let reads = read_here sum size log some H (apart_ascends H.messages lie) A first reach stands held end is_end.reached k (slot_at m k).lsn aligned near header.0 header.1 (slots.entry k of.taken) in
       record {
         slot = ap (λ n. n % size) slot ∙ mul-mod_left k size;
         aligned = ap (λ n. n % size) place ∙ aligned;

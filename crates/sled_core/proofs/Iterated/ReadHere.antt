@@ -41,7 +41,7 @@ pub record IsReadHere (sum : List ℕ → ℕ) (size : ℕ) (log : List ℕ) (H 
   -- each message of it below the end is met
   pub has : (n : Message) → Contains H.messages n → n.place / size * size ≡ place → n.place < end → (x : ScannedRecord) × Contains met x × MeetsMessage x n
 
-module _ (sum : List ℕ → ℕ) (size : ℕ) (log : List ℕ) (some : 256 ≤ size) (H : History) (ordered : Ascends H.messages) (A : ℕ) (first : SnapshotModel) (reach : ℕ) (stands : StandsTo sum size log H A first reach) (end : ℕ)
+module _ (sum : List ℕ → ℕ) (size : ℕ) (log : List ℕ) (some : 256 ≤ size) (H : History) (ordered : Ascends H.messages) (A : ℕ) (first : SnapshotModel) (reach : ℕ) (stands : StandsTo sum size log H A first reach) (held : stands.from ≡ stable_place first.stable) (end : ℕ)
     (ends : (n : Message) → Contains H.messages n → n.place < end → n.place < reach) (k z : ℕ) (aligned : z % size ≡ 0) where
   abbrev least : ℕ
   least = least_place size first
@@ -84,7 +84,7 @@ module _ (sum : List ℕ → ℕ) (size : ℕ) (log : List ℕ) (some : 256 ≤ 
   -- it is read
   high : least ≤ z → z < reach → (mark : ℤ) → IsHeader sum (part log (k * size) 20) (pos z) mark → IsReadHere sum size log H reach end (k * size) z
   high low near mark header =
-      let g = stands.gapless z aligned low near in
+      let g = stands.gapless z aligned (subst (λ n. n / size * size ≤ z) (sym held) low) near in
       let t : Scanned = g.0 in
       let here : Segment = record { slot = k * size; place = z; mark = mark } in
       let found : IsFoundSegment sum size log least here = record { slot = mul-mod_left k size; header = header; not_below = low } in
@@ -108,7 +108,7 @@ module _ (sum : List ℕ → ℕ) (size : ℕ) (log : List ℕ) (some : 256 ≤ 
 
     -- the segment of the entry
     of : IsSegmentOf sum size log H stable e
-    of = let low = stands.not_below in let near = stands.passes in (stands.needed stable (omega arith) (omega (arith, low, near)) page e entry).0
+    of = let low = stands.not_below in let near = stands.passes in (stands.needed stable (omega (arith, held)) (omega (arith, low, near)) page e entry).0
 
     -- it lies in that slot
     in_slot : of.segment.slot ≡ k * size

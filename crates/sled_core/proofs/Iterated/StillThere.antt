@@ -133,9 +133,9 @@ module _ {D C : Type 0} (trace : D → Trace) (sum : List ℕ → ℕ) (log : Lo
       -- so its segment is found,
       of : IsSegmentOf sum size state.log.bytes H fits.reach m
       of =
-          let low = among.stands.not_below in
+          let high = among.stands.from_high in
           let passes = among.stands.passes in
-          (among.stands.needed fits.reach (omega (arith, low, passes)) (omega arith) m.page m reached).0
+          (among.stands.needed fits.reach (omega (arith, high, passes)) (omega arith) m.page m reached).0
 
       -- in this slot,
       abbrev k : ℕ

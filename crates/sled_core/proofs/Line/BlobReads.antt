@@ -185,7 +185,7 @@ module _ {D C : Type 0} (trace : D → Trace) (sum : List ℕ → ℕ) (log : Lo
       file_stands = (among fits none zeros).stands
 
       segment : IsSegmentOf sum size state.log.bytes H cut m
-      segment = (file_stands.needed cut file_stands.not_below file_stands.passes m.page m early).0
+      segment = (file_stands.needed cut file_stands.from_high file_stands.passes m.page m early).0
 
       begins : MayBegin size (lid_of m.pointer)
       begins = reached_begins sum size state.log.bytes segment.segment m segment.found.slot segment.reached

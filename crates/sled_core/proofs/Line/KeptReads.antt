@@ -90,9 +90,9 @@ module _ {D C : Type 0} (trace : D → Trace) (sum : List ℕ → ℕ) (log : Lo
           let near = fits.parts.near in
           let up = synced_before trace sum log H A f U fits in
           let early = entry_earlier H ascends fits.reach (next_place log) m.page (omega (arith, near, up)) m low entry in
-          let not_below = stands.not_below in
+          let high = stands.from_high in
           let passes = stands.passes in
-          let its = (stands.needed fits.reach (omega (arith, not_below, passes)) (omega arith) m.page m early).0 in
+          let its = (stands.needed fits.reach (omega (arith, high, passes)) (omega arith) m.page m early).0 in
           reached_begins sum size state.log.bytes its.segment m its.found.slot its.reached
 
       -- it begins behind all that is on the device without a gap

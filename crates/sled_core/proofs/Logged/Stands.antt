@@ -168,6 +168,10 @@ module _ (H R : History) (same : logged H ≡ logged R) where
       placed = placed_alike size stands.placed;
       batched = λ b there. placed_batch_alike size b (stands.batched b (alike_batch R H (sym same) b there));
       closed = λ b there low. subst (λ (a : ℕ). b.peg < a) at (stands.closed b (alike_batch R H (sym same) b there) (subst (λ (a : ℕ). b.low < a) (sym at) low));
+      from = stands.from;
+      from_low = stands.from_low;
+      from_high = subst (λ (a : ℕ). stands.from ≤ a) at stands.from_high;
+      tail_from = stands.tail_from;
       gapless = stands.gapless;
       needed = λ cut above below page m entry.
           let other = entry_alike R H (sym same) cut page m entry in
@@ -187,6 +191,7 @@ module _ (H R : History) (same : logged H ≡ logged R) where
     pub among_alike : (site : SegmentPosition) (from : ℕ) (others : List BegunSegment) (reach : ℕ) (first : SnapshotModel) → StandsAmong sum size log site from others reach H first → StandsAmong sum size log site from others reach R first
     among_alike site from others reach first among = record {
       stands = stands_alike_at (stable_below reach H.batches) (stable_below reach R.batches) first reach (stable_same reach) among.stands;
+      held = among.held;
       reached = reaches_in_alike size site.place from reach among.reached;
       led = among.led;
       here = among.here;

@@ -100,7 +100,7 @@ module _ (sum : List ℕ → ℕ) (size : ℕ) (Header : ℕ → List ℕ → Ty
   entry_slot : (slot : ℕ) (e : Entry) → Contains (entries_of s.pages) e → slot_of size e ≡ slot → ((a : ℕ) → s.active ≡ Some a → slot_of size e ≢ a / size) → HasOwnSlot sum size Header Own new slot
   entry_slot slot e there lies apart =
       let m = entry_message s.pages H stable is e there in
-      let of = (alone.stands.needed stable (omega arith) (omega arith) m.0 m.1 m.2).0 in
+      let of = (alone.stands.needed stable alone.stands.from_high (omega arith) m.0 m.1 m.2).0 in
       let in_slot : of.segment.slot / size ≡ slot = slot_needed sum size new H stable m.1 of ∙ ap (λ p. lid_of p / size) (sym m.3.pointer) ∙ lies in
       let begins : of.segment.slot ≡ slot * size = slot_found sum size new 0 of.segment of.found ∙ ap (λ n. n * size) in_slot in
       let number : segment_number_of size e * size ≡ m.1.place / size * size = ap (λ z. unsigned_abs z / size * size) m.3.place in

@@ -1,5 +1,5 @@
 -- A log file that stands up to a place stands up to a higher one, where the reading of one segment ends: that segment is led to, and nothing of the history begins before it. Its stable place is then raised to where no batch is open.
-use Rattle.std.proofs.Common.{◌≡◌, ◌≢◌, ◌⊎◌, ◌∙◌, ◌+◌, ◌*◌, ◌/◌, ◌%◌, ◌<◌, ◌≤◌, ℕ, List, sym, ap, subst, arith, inl, inr}
+use Rattle.std.proofs.Common.{◌≡◌, ◌≢◌, ◌⊎◌, ◌∙◌, ◌+◌, ◌*◌, ◌/◌, ◌%◌, ◌<◌, ◌≤◌, ℕ, List, refl, sym, ap, subst, arith, inl, inr}
 use Rattle.std.specs.List.{Contains}
 use Rattle.std.proofs.lemmas.Bool.{cases_lt, cases_order}
 use Rattle.sled_codec.specs.History.{Message, Batch, History, table}
@@ -17,14 +17,14 @@ use Rattle.sled_store.proofs.Histories.EarlierEntries.{entry_earlier}
 use Rattle.sled_core.proofs.Tail.OfHistory.{message_of}
 use Rattle.sled_core.proofs.Tail.OneTail.{rises_of, one_at_place, segment_there, reading_there}
 use Rattle.sled_core.proofs.Tail.Rows.{path_covers, stop_inside}
-use Rattle.sled_core.proofs.Tail.Multiples.{put_down, one_multiple}
+use Rattle.sled_core.proofs.Tail.Multiples.{put_down, one_multiple, lower_multiple}
 use Rattle.sled_core.proofs.Tail.Tails.{further, whole}
 use Rattle.sled_core.proofs.Reached.ReachedEntries.{reached_of}
 use Rattle.sled_core.proofs.Reached.ReadOn.{full_goes, read_on}
 use Rattle.sled_core.proofs.Reached.Marks.{mark_higher}
 use Rattle.sled_core.specs.OpenBatches.{stable_below}
 use Rattle.sled_core.proofs.Reached.StableBelow.{stable_closed, stable_low, stable_rises}
-use Rattle.sled_core.proofs.Reached.StandsTo.{StandsTo}
+use Rattle.sled_core.proofs.Reached.StandsTo.{StandsFrom, StandsTo}
 
 -- The segment before one at this place begins below what was reached, and leads on.
 pub record IsLedTo (size : ℕ) (scanned : List Scanned) (reach place : ℕ) : Type 0 where
@@ -43,26 +43,33 @@ pub known_in : (sum : List ℕ → ℕ) (size : ℕ) (log : List ℕ) (H : Histo
     → Contains is.scanned t
 known_in sum size log H A first reach is t found scan = reading_there sum size log is.ordering is.scanned is.reads t ((is.numbers.found t.segment).1 found) scan
 
--- The stable place is raised to one that was reached, at which no batch is open.
-pub stands_raised : (sum : List ℕ → ℕ) (size : ℕ) (log : List ℕ) → 256 ≤ size → (H : History) (A : ℕ) (first : SnapshotModel) (reach : ℕ) → StandsTo sum size log H A first reach → (to : ℕ) → A ≤ to → to ≤ reach
-    → ((b : Batch) → Contains H.batches b → b.low < to → b.peg < to) → StandsTo sum size log H to first reach
-stands_raised sum size log some H A first reach is to up within closed = record {
-  ordering = is.ordering;
-  numbers = is.numbers;
-  scanned = is.scanned;
-  reads = is.reads;
-  marks = is.marks;
-  truth = is.truth;
-  caps = is.caps;
-  not_below = let low = is.not_below in omega (arith, low, up);
-  passes = within;
-  marks_below = λ s there. mark_higher size some H A to up s.mark (is.marks_below s there);
-  placed = is.placed;
-  batched = is.batched;
-  closed = closed;
-  gapless = is.gapless;
-  needed = is.needed;
-}
+-- The stable place is raised to one that was reached, at which no batch is open. What is held counts from where it did.
+pub stands_raised : (sum : List ℕ → ℕ) (size : ℕ) (log : List ℕ) → 256 ≤ size → (H : History) (A : ℕ) (first : SnapshotModel) (reach : ℕ) → (is : StandsTo sum size log H A first reach) (to : ℕ) → A ≤ to → to ≤ reach
+    → ((b : Batch) → Contains H.batches b → b.low < to → b.peg < to) → StandsFrom sum size log H to first reach is.from
+stands_raised sum size log some H A first reach is to up within closed = (
+  record {
+    ordering = is.ordering;
+    numbers = is.numbers;
+    scanned = is.scanned;
+    reads = is.reads;
+    marks = is.marks;
+    truth = is.truth;
+    caps = is.caps;
+    not_below = let low = is.not_below in omega (arith, low, up);
+    passes = within;
+    marks_below = λ s there. mark_higher size some H A to up s.mark (is.marks_below s there);
+    placed = is.placed;
+    batched = is.batched;
+    closed = closed;
+    from = is.from;
+    from_low = is.from_low;
+    from_high = let high = is.from_high in omega (arith, high, up);
+    tail_from = is.tail_from;
+    gapless = is.gapless;
+    needed = is.needed;
+  },
+  refl,
+)
 
 -- what leads to a segment does so where it is read as before
 pub led_as_before : (size : ℕ) (xs ys : List Scanned) (least reach place : ℕ) → ((t : Scanned) → Contains xs t → t.why ≢ Broken → Contains ys t) → IsBegunOrLedTo size xs least reach place → IsBegunOrLedTo size ys least reach place
@@ -97,21 +104,28 @@ module _ (sum : List ℕ → ℕ) (size : ℕ) (log : List ℕ) (some : 256 ≤ 
   multiples : (a b : ℕ) → a % size ≡ 0 → b % size ≡ 0 → a < b → a + size ≤ b
   multiples = further sum size log some least is.ordering is.numbers is.scanned is.reads
 
+  -- where what is held begins, which isn't below the segment of the snapshot
+  abbrev held_begins : ℕ
+  held_begins = is.from / size * size
+
+  held_above : least ≤ held_begins
+  held_above = lower_multiple size some (stable_place first.stable) is.from is.from_low
+
   -- No gap.
 
   abbrev Goes : ℕ → Type 0
   Goes z = (t : Scanned) × Contains is.scanned t × (t.segment.place ≡ z) × ((high ≤ z + t.stop) ⊎ ((t.why ≢ Broken) × (u : Segment) × Contains is.ordering u × (u.place ≡ z + size)))
 
   -- a segment that ends below what was reached leads on
-  goes_on : (z : ℕ) → z % size ≡ 0 → least ≤ z → z + size < reach → Goes z
+  goes_on : (z : ℕ) → z % size ≡ 0 → held_begins ≤ z → z + size < reach → Goes z
   goes_on z at low under =
       let found = is.gapless z at low (omega (arith, under)) in
       let short = inside found.0 found.1 in
       (found.0, found.1, found.2, elim found.3 [ inl end ↦ absurd (omega (arith, end, short, under)) | inr leads ↦ inr leads ])
 
-  goes_to : (z : ℕ) → z % size ≡ 0 → least ≤ z → z < place → IsBegunOrLedTo size is.scanned least reach place → Goes z
+  goes_to : (z : ℕ) → z % size ≡ 0 → held_begins ≤ z → z < place → IsBegunOrLedTo size is.scanned least reach place → Goes z
   goes_to z at low under (inl begun) = let apart = multiples z place at aligned under in goes_on z at low (omega (arith, apart, begun))
-  goes_to z at low under (inr (inl first_one)) = absurd (omega (arith, low, under, first_one))
+  goes_to z at low under (inr (inl first_one)) = let begins = held_above in absurd (omega (arith, low, under, first_one, begins))
   goes_to z at low under (inr (inr last)) =
       let t : Scanned = last.scan in
       let next = last.next in
@@ -123,7 +137,7 @@ module _ (sum : List ℕ → ℕ) (size : ℕ) (log : List ℕ) (some : 256 ≤ 
         | inr (inr higher) ↦ (let apart = multiples t.segment.place z t_at at higher in absurd (omega (arith, apart, next, under)))
       ]
 
-  gapless : (z : ℕ) → z % size ≡ 0 → least ≤ z → z < high → Goes z
+  gapless : (z : ℕ) → z % size ≡ 0 → held_begins ≤ z → z < high → Goes z
   gapless z at low under = elim (cases_order z place) [
     | inl same ↦ (y, known, sym same, inl (omega (arith, same)))
     | inr (inl lower) ↦ goes_to z at low lower led
@@ -154,13 +168,26 @@ module _ (sum : List ℕ → ℕ) (size : ℕ) (log : List ℕ) (some : 256 ≤ 
       ]
 
   -- a segment that ends below the place is read to its end
-  read_on_here : (s : Segment) → IsFoundSegment sum size log 0 s → s.place % size ≡ 0 → least ≤ s.place → s.place + size ≤ high → IsReadOn sum size log H s
+  read_on_here : (s : Segment) → IsFoundSegment sum size log 0 s → s.place % size ≡ 0 → held_begins ≤ s.place → s.place + size ≤ high → IsReadOn sum size log H s
   read_on_here s found at low under =
       let g = gapless s.place at low (omega (arith, under, some)) in
-      read_on sum size log H least is.ordering is.numbers is.scanned is.reads is.truth s found low g.0 g.1 g.2 (elim g.3 [
+      let begins = held_above in
+      read_on sum size log H least is.ordering is.numbers is.scanned is.reads is.truth s found (omega (arith, low, begins)) g.0 g.1 g.2 (elim g.3 [
         | inl far ↦ full_goes sum size log some g.0 (whole sum size log some least is.ordering is.numbers is.scanned is.reads g.0 g.1) (omega (arith, far, under))
         | inr leads ↦ leads.0
       ])
+
+  -- a segment that ends above what was reached isn't below where that begins which is held
+  not_under : (z : ℕ) → z % size ≡ 0 → reach < z + size → held_begins ≤ z
+  not_under z at over = elim (cases_lt z held_begins) [
+    | inl under ↦ (
+        let low = put_down size is.from in
+        let far = multiples z held_begins at low.1 under in
+        let near = is.from_high in
+        let passes = is.passes in
+        absurd (omega (arith, far, low.0, near, passes, over)))
+    | inr le ↦ le
+  ]
 
   high_entry : (cut : ℕ) → cut ≤ high → (m : Message) → Contains H.messages m → reach ≤ m.place → m.place < cut → IsSegmentOf sum size log H cut m × StandsInline sum size log m m.pointer
   high_entry cut up m there above lower =
@@ -172,7 +199,7 @@ module _ (sum : List ℕ → ℕ) (size : ℕ) (log : List ℕ) (some : 256 ≤ 
           place = sym here.1;
           reached = its.0;
           whole = λ n at_n same under. (let own = put_down size n.place in (read_here n at_n (omega (arith, own.0, ap (λ k. k * size) same, here.1)) (omega (arith, under, up))).0);
-          full = λ under. read_on_here y.segment (record { slot = y_found.slot; header = y_found.header; not_below = omega arith }) aligned y_found.not_below (omega (arith, under, up));
+          full = λ under. read_on_here y.segment (record { slot = y_found.slot; header = y_found.header; not_below = omega arith }) aligned (let short = inside y known in not_under place aligned (omega (arith, above, lower, up, short))) (omega (arith, under, up));
         },
         its.1,
       )
@@ -187,18 +214,6 @@ module _ (sum : List ℕ → ℕ) (size : ℕ) (log : List ℕ) (some : 256 ≤ 
       let also = (is.numbers.found of.segment).1 (record { slot = its.slot; header = its.header; not_below = omega (arith, low, places) }) in
       let one : y.segment ≡ of.segment = one_at_place is.ordering (rises_of is.ordering is.numbers.ascending) y.segment of.segment y_known.0 also (sym places) in
       subst (λ (u : Segment). IsReachedIn sum size log u n) one (read_here n there here.0 lower).0
-
-  -- a segment that ends above what was reached isn't below that of the snapshot
-  not_under : (z : ℕ) → z % size ≡ 0 → reach < z + size → least ≤ z
-  not_under z at over = elim (cases_lt z least) [
-    | inl under ↦ (
-        let low = put_down size (stable_place first.stable) in
-        let far = multiples z least at low.1 under in
-        let near = is.not_below in
-        let passes = is.passes in
-        absurd (omega (arith, far, low.0, near, passes, over)))
-    | inr le ↦ le
-  ]
 
   low_entry : (cut : ℕ) → cut ≤ high → (m : Message) → IsSegmentOf sum size log H reach m → IsSegmentOf sum size log H cut m
   low_entry cut up m of = record {
@@ -221,18 +236,18 @@ module _ (sum : List ℕ → ℕ) (size : ℕ) (log : List ℕ) (some : 256 ≤ 
       let from_H = from_table H cut page m entry in
       elim (cases_lt m.place reach) [
         | inl low ↦ (
-            let low_place = is.not_below in
+            let low_place = is.from_high in
             let near = is.passes in
             let had = is.needed reach (omega (arith, low_place, near)) (omega arith) page m (entry_earlier H ordered reach cut page above m low entry) in
             (low_entry cut up m had.0, had.1))
         | inr behind ↦ high_entry cut up m from_H.0 behind from_H.2
       ]
 
-  needed : (cut : ℕ) → stable_place first.stable ≤ cut → cut ≤ high → (page : ℕ) (m : Message) → Contains (table H cut page) m → IsSegmentOf sum size log H cut m × StandsInline sum size log m m.pointer
+  needed : (cut : ℕ) → is.from ≤ cut → cut ≤ high → (page : ℕ) (m : Message) → Contains (table H cut page) m → IsSegmentOf sum size log H cut m × StandsInline sum size log m m.pointer
   needed cut low up = elim (cases_lt cut reach) [ inl under ↦ is.needed cut low (omega (arith, under)) | inr above ↦ needed_above cut above up ]
 
   -- What is read reaches further. A batch may be open in that.
-  pub stands_further : StandsTo sum size log H A first high
+  abbrev stands_further : StandsTo sum size log H A first high
   stands_further = record {
     ordering = is.ordering;
     numbers = is.numbers;
@@ -247,12 +262,16 @@ module _ (sum : List ℕ → ℕ) (size : ℕ) (log : List ℕ) (some : 256 ≤ 
     placed = is.placed;
     batched = is.batched;
     closed = is.closed;
+    from = is.from;
+    from_low = is.from_low;
+    from_high = is.from_high;
+    tail_from = is.tail_from;
     gapless = gapless;
     needed = needed;
   }
 
   -- And the stable place is that of what is read then.
-  pub stands_higher : A ≤ stable_below reach H.batches → StandsTo sum size log H (stable_below high H.batches) first high
+  pub stands_higher : A ≤ stable_below reach H.batches → StandsFrom sum size log H (stable_below high H.batches) first high is.from
   stands_higher low =
       let rises = stable_rises reach high far H.batches in
       stands_raised sum size log some H A first high stands_further (stable_below high H.batches) (omega (arith, low, rises)) (stable_low high H.batches) (stable_closed size H is.batched high)

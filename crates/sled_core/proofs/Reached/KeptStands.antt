@@ -8,7 +8,7 @@ use Rattle.sled_codec.specs.History.{Message, History, table}
 use Rattle.sled_codec.specs.Places.{part}
 use Rattle.sled_codec.specs.Pointers.{lid_of}
 use Rattle.sled_codec.specs.Record.{IsHeader}
-use Rattle.sled_codec.specs.Snapshots.{SnapshotModel, stable_place}
+use Rattle.sled_codec.specs.Snapshots.{SnapshotModel}
 use Rattle.sled_core.specs.declared.iterator.Segment.{Segment}
 use Rattle.sled_core.specs.declared.iterator.scan.ScannedRecord.{ScannedRecord}
 use Rattle.sled_core.specs.declared.iterator.scan.ScanEnd.{ScanEnd}
@@ -29,7 +29,7 @@ use Rattle.sled_core.proofs.Tail.Moved.{message_moved}
 use Rattle.sled_core.proofs.Tail.OneTail.{scan_there, segment_there}
 use Rattle.sled_core.proofs.Reached.LeftBeside.{truth_alike}
 use Rattle.sled_core.proofs.Reached.Reread.{IsReading, IsAsFar, stands_still}
-use Rattle.sled_core.proofs.Reached.StandsTo.{StandsTo}
+use Rattle.sled_core.proofs.Reached.StandsTo.{StandsFrom, StandsTo}
 
 -- what lay of these slots in one file is the same in another
 abbrev pub SameInUsed : ℕ → (ℕ → Type 0) → List ℕ → List ℕ → Type 0
@@ -165,7 +165,7 @@ module _ (sum : List ℕ → ℕ) (size : ℕ) (Used : ℕ → Type 0) (old left
 
   -- The log file stands up to the same place.
   module _ (H : History) (A : ℕ) (first : SnapshotModel) (reach : ℕ) (is : StandsTo sum size old H A first reach) (listed : (s : Segment) → Contains is.ordering s → Used (s.slot / size))
-      (entered : (cut : ℕ) (low : stable_place first.stable ≤ cut) (high : cut ≤ reach) (page : ℕ) (m : Message) (entry : Contains (table H cut page) m) → Used ((is.needed cut low high page m entry).0.segment.slot / size)) where
+      (entered : (cut : ℕ) (low : is.from ≤ cut) (high : cut ≤ reach) (page : ℕ) (m : Message) (entry : Contains (table H cut page) m) → Used ((is.needed cut low high page m entry).0.segment.slot / size)) where
     abbrev least : ℕ
     least = least_place size first
 
@@ -213,8 +213,8 @@ module _ (sum : List ℕ → ℕ) (size : ℕ) (Used : ℕ → Type 0) (old left
       leads = λ goes. goes;
     }
 
-    needed : (cut : ℕ) → stable_place first.stable ≤ cut → cut ≤ reach → (page : ℕ) (m : Message) → Contains (table H cut page) m → IsSegmentOf sum size left H cut m × StandsInline sum size left m m.pointer
+    needed : (cut : ℕ) → is.from ≤ cut → cut ≤ reach → (page : ℕ) (m : Message) → Contains (table H cut page) m → IsSegmentOf sum size left H cut m × StandsInline sum size left m m.pointer
     needed cut low high page m entry = let had = is.needed cut low high page m entry in needed_kept H cut m had.0 (entered cut low high page m entry) had.1
 
-    pub kept_stands : StandsTo sum size left H A first reach
-    kept_stands = stands_still sum size old left H A first reach is is.ordering numbers each is.marks as_far is.marks_below needed
+    pub kept_stands : 256 ≤ size → StandsFrom sum size left H A first reach is.from
+    kept_stands some = stands_still sum size old left H A first reach is is.ordering numbers each is.marks as_far some is.marks_below needed

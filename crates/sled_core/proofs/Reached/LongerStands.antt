@@ -3,7 +3,7 @@ use Rattle.std.proofs.Common.{◌≡◌, ◌+◌, ◌≤◌, ℕ, List, ◌++◌
 use Rattle.std.specs.List.{Contains}
 use Rattle.sled_codec.specs.History.{Message, History, table}
 use Rattle.sled_codec.specs.Places.{part}
-use Rattle.sled_codec.specs.Snapshots.{SnapshotModel, stable_place}
+use Rattle.sled_codec.specs.Snapshots.{SnapshotModel}
 use Rattle.sled_core.specs.declared.iterator.Segment.{Segment}
 use Rattle.sled_core.specs.inside.Recoverable.{IsSegmentOf, StandsInline}
 use Rattle.sled_core.specs.inside.Scan.{IsFoundSegment}
@@ -14,7 +14,7 @@ use Rattle.sled_core.proofs.Read.FoundLemmas.{found_there}
 use Rattle.sled_core.proofs.Reached.KeptStands.{alike_kept, item_kept, reached_kept, read_on_kept}
 use Rattle.sled_core.proofs.Reached.LeftBeside.{truth_alike}
 use Rattle.sled_core.proofs.Reached.Reread.{IsAsFar, IsReading, stands_still}
-use Rattle.sled_core.proofs.Reached.StandsTo.{StandsTo}
+use Rattle.sled_core.proofs.Reached.StandsTo.{StandsFrom, StandsTo}
 use Rattle.sled_core.proofs.Reserve.Ranges.{part-append}
 use Rattle.sled_core.proofs.Tail.OneTail.{scan_there, segment_there}
 use Rattle.sled_core.proofs.Torn.WrittenBeside.{found_moved}
@@ -66,7 +66,7 @@ module _ (sum : List ℕ → ℕ) (size : ℕ) (log more : List ℕ) (H : Histor
   as_far : (t : Scanned) → Contains is.scanned t → IsAsFar sum size left is.ordering t
   as_far t there = record { scan = t; segment = refl; there = (known t there).0; read = again t there; far = omega arith; leads = λ goes. goes }
 
-  needed : (cut : ℕ) → stable_place first.stable ≤ cut → cut ≤ reach → (page : ℕ) (m : Message) → Contains (table H cut page) m → IsSegmentOf sum size left H cut m × StandsInline sum size left m m.pointer
+  needed : (cut : ℕ) → is.from ≤ cut → cut ≤ reach → (page : ℕ) (m : Message) → Contains (table H cut page) m → IsSegmentOf sum size left H cut m × StandsInline sum size left m m.pointer
   needed cut low high page m entry =
       let had = is.needed cut low high page m entry in
       let of = had.0 in
@@ -83,5 +83,5 @@ module _ (sum : List ℕ → ℕ) (size : ℕ) (log more : List ℕ) (H : Histor
         item_kept sum size log left u.slot found.slot (same u.slot) u refl m of.reached had.1,
       )
 
-  pub longer_stands : StandsTo sum size left H A first reach
-  longer_stands = stands_still sum size log left H A first reach is is.ordering numbers each is.marks as_far is.marks_below needed
+  pub longer_stands : 256 ≤ size → StandsFrom sum size left H A first reach is.from
+  longer_stands some = stands_still sum size log left H A first reach is is.ordering numbers each is.marks as_far some is.marks_below needed

@@ -5,7 +5,7 @@ use Rattle.std.proofs.lemmas.List.Elements.{Contains-append_cases, Contains-appe
 use Rattle.sled_codec.specs.Places.{part}
 use Rattle.sled_codec.specs.Record.{IsHeader}
 use Rattle.sled_codec.specs.History.{History}
-use Rattle.sled_codec.specs.Snapshots.{SnapshotModel}
+use Rattle.sled_codec.specs.Snapshots.{SnapshotModel, stable_place}
 use Rattle.sled_store.proofs.Histories.Ascending.{Ascends}
 use Rattle.sled_store.proofs.Segments.Elements.{in_cases, in_first, in_nothing, in_rest}
 use Rattle.sled_core.specs.Begun.{records_to}
@@ -23,7 +23,7 @@ use Rattle.sled_core.specs.Tail.{Scanned}
 use Rattle.sled_core.specs.inside.Tail.{least_place}
 use Rattle.sled_core.proofs.Reached.Higher.{IsBegunOrLedTo, known_in, stands_higher}
 use Rattle.sled_core.proofs.Reached.Marks.{less_than}
-use Rattle.sled_core.proofs.Reached.StandsTo.{StandsTo}
+use Rattle.sled_core.proofs.Reached.StandsTo.{StandsFrom, StandsTo}
 use Rattle.sled_core.proofs.Tail.OneTail.{segment_there}
 use Rattle.sled_core.proofs.Torn.WrittenBegun.{none_in_zeros}
 
@@ -58,6 +58,7 @@ pub begins_alone : (sum : List ℕ → ℕ) (none : NoHeaderOfZeros sum) (size :
     → StandsFull sum size log place [] reach H first → StandsAlone sum size log (record { place = place; slot = slot }) 0 reach H first
 begins_alone sum none size log place reach H first slot zeros full = record {
   stands = full.stands;
+  held = full.held;
   reached = inr (refl, full.near);
   led = inr (inr full.leads);
   here = new_stands sum none size log (least_place size first) full.stands.scanned (record { place = place; slot = slot }) (λ s found same. let low = low_all s found in omega (arith, low, same)) zeros;
@@ -76,6 +77,7 @@ pub begins_behind : (sum : List ℕ → ℕ) (none : NoHeaderOfZeros sum) (size 
     → StandsAmong sum size log site from others reach H first → StandsAmong sum size log site from (others ++ record { site = new; from = 0; filled = None } ∷ []) reach H first
 begins_behind sum none size log site from others reach H first new above above_all apart zeros among = record {
   stands = among.stands;
+  held = among.held;
   reached = among.reached;
   led = among.led;
   here = among.here;
@@ -118,6 +120,7 @@ module _ (sum : List ℕ → ℕ) (size : ℕ) (some : 256 ≤ size) (log : List
   pub next_begins : y.from ≡ 0 → StandsAmong sum size log y.site 0 ys reach H first
   next_begins none = record {
     stands = full.stands;
+    held = full.held;
     reached = inr (refl, full.near);
     led = inr (inr full.leads);
     here = unmarked sum size log least full.stands.scanned y.site 0 (subst (λ n. StandsIn sum size log least full.stands.scanned y.site n (records_to y.filled size)) none its);
@@ -140,16 +143,23 @@ module _ (sum : List ℕ → ℕ) (size : ℕ) (some : 256 ≤ size) (log : List
         let l = full.leads in
         inr (inr (record { scan = l.scan; there = known_in sum size log H (stable_below reach H.batches) first reach full.stands l.scan l.found l.read; next = l.next; goes = l.goes; below = l.below }))
 
-    pub further : StandsTo sum size log H (stable_below (y.site.place + stop) H.batches) first (y.site.place + stop)
-    further =
+    further_from : StandsFrom sum size log H (stable_below (y.site.place + stop) H.batches) first (y.site.place + stop) full.stands.from
+    further_from =
         let is = read.2 in
         let at = is.at_place in
         let ended = is.ended in
         let near = full.near.above in
         let same : is.scan.segment.place + is.scan.stop ≡ y.site.place + stop = omega (arith, at, ended) in
-        subst (λ n. StandsTo sum size log H (stable_below n H.batches) first n) same
+        subst (λ n. StandsFrom sum size log H (stable_below n H.batches) first n full.stands.from) same
         (stands_higher sum size log some H (stable_below reach H.batches) first reach full.stands ordered is.scan is.there (omega (arith, same, near)) (subst (IsBegunOrLedTo size full.stands.scanned least reach) (sym at) led) (subst (NoMessageBegins H reach) (sym at) full.near.no_message)
         (omega arith))
+
+    pub further : StandsTo sum size log H (stable_below (y.site.place + stop) H.batches) first (y.site.place + stop)
+    further = further_from.0
+
+    held : further.from ≡ stable_place first.stable
+    unfolding further
+    held = further_from.1 ∙ full.held
 
     anew : (site : SegmentPosition) (from : ℕ) {records : ℕ} → StandsIn sum size log least full.stands.scanned site from records → StandsIn sum size log least further.scanned site from records
     anew site from = stands_anew sum size log H (stable_below reach H.batches) reach (stable_below (y.site.place + stop) H.batches) (y.site.place + stop) first full.stands further site from
@@ -158,6 +168,7 @@ module _ (sum : List ℕ → ℕ) (size : ℕ) (some : 256 ≤ size) (log : List
     pub next_goes : stop ≡ y.from → StandsAmong sum size log y.site y.from ys (y.site.place + stop) H first
     next_goes at = record {
       stands = further;
+      held = held;
       reached = inl (ap (λ n. y.site.place + n) at);
       led = inl (omega (arith, at, later));
       here = unmarked sum size log least further.scanned y.site y.from (anew y.site y.from its);
@@ -171,6 +182,7 @@ module _ (sum : List ℕ → ℕ) (size : ℕ) (some : 256 ≤ size) (log : List
     pub next_full : read.1 ≢ Broken → 0 < stop → BeginsNext size H (y.site.place + stop) (y.site.place + size) → StandsFull sum size log (y.site.place + size) ys (y.site.place + stop) H first
     next_full goes begun near = record {
       stands = further;
+      held = held;
       leads = (
           let is = read.2 in
           let at = is.at_place in

@@ -21,7 +21,7 @@ use Rattle.sled_core.specs.inside.Tail.{least_place}
 use Rattle.sled_store.proofs.Histories.Ascending.{Ascends}
 use Rattle.sled_core.proofs.Tail.OneTail.{segment_there}
 use Rattle.sled_core.proofs.Reached.Higher.{IsBegunOrLedTo}
-use Rattle.sled_core.proofs.Reached.StandsTo.{StandsTo}
+use Rattle.sled_core.proofs.Reached.StandsTo.{StandsFrom, StandsTo}
 pub use Rattle.sled_core.specs.inside.Reached.{GoesOnIn}
 use Rattle.sled_core.proofs.Reached.TornBegun.{torn_begun}
 use Rattle.sled_core.proofs.Reached.TornBehind.{torn_behind}
@@ -90,10 +90,10 @@ module _ (sum : List ℕ → ℕ) (none : NoHeaderOfZeros sum) (size : ℕ) (som
 
   -- All of it.
   pub written_stands : Ascends H.messages → slot * size ≤ length old → least_place size first ≤ place → A ≤ stable_below reach H.batches → reach ≤ place + stop → IsBegunOrLedTo size is.scanned (least_place size first) reach place
-      → NoMessageBegins H reach place → StandsTo sum size new H (stable_below (place + stop) H.batches) first (place + stop)
+      → NoMessageBegins H reach place → StandsFrom sum size new H (stable_below (place + stop) H.batches) first (place + stop) is.from
   written_stands ordered there low stable far led between = elim how [
     | inl g ↦ subst
-        (λ n. reach ≤ n + stop → IsBegunOrLedTo size is.scanned (least_place size first) reach n → NoMessageBegins H reach n → StandsTo sum size new H (stable_below (n + stop) H.batches) first (n + stop))
+        (λ n. reach ≤ n + stop → IsBegunOrLedTo size is.scanned (least_place size first) reach n → NoMessageBegins H reach n → StandsFrom sum size new H (stable_below (n + stop) H.batches) first (n + stop) is.from)
         g.at_place (written_behind sum size some old slot from asked inside H ordered A first reach is g.scan g.there g.in_slot g.ended g.broken more stop why (path_on g) (end_on g) truth (caps_on g) stable) far led between
     | inr b ↦ written_begun sum size some old slot from asked inside H ordered A first reach is none there b.begins until covers clean place b.mark b.header low b.whole b.fits b.its_mark b.mark_below b.alone more stop why
         (path_first b.begins) end truth caps stable far led between

@@ -190,7 +190,7 @@ module _ (sum : List ℕ → ℕ) (size : ℕ) (log : List ℕ) (some : 256 ≤ 
       let from_H = from_table H cut page m entry in
       elim (cases_lt m.place reach) [
         | inl low ↦ (
-            let had = is.needed reach is.not_below (omega arith) page m (entry_earlier H ordered reach cut page far m low entry) in
+            let had = is.needed reach is.from_high (omega arith) page m (entry_earlier H ordered reach cut page far m low entry) in
             (low_entry m had.0, had.1))
         | inr high ↦ high_entry m from_H.0 high from_H.2
       ]

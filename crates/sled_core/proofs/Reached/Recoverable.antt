@@ -31,6 +31,10 @@ stands_stable sum size log H A first reach is =
       placed = is.placed;
       batched = is.batched;
       closed = is.closed;
+      from = is.from;
+      from_low = is.from_low;
+      from_high = is.from_high;
+      tail_from = is.tail_from;
       gapless = λ z aligned low under.
           let found = is.gapless z aligned low (omega (arith, under, near)) in
           (found.0, found.1, found.2, ⊎_elim (λ far. inl (omega (arith, far, near))) (λ leads. inr leads) found.3);
@@ -83,7 +87,7 @@ module _ (sum : List ℕ → ℕ) (size : ℕ) (log : List ℕ) (some : 256 ≤ 
     (stable_place first.stable, first.active),
     omega (arith, place),
     recoverable tail is_tail (inr (at ∙ sym place)) (stable_place first.stable, first.active) (sym (ap (cut_from size first is.scanned) none)) (omega (arith, place))
-        (λ page m entry. subst (λ n. IsSegmentOf sum size log H n m × StandsInline sum size log m m.pointer) (sym place) (is.needed reach is.not_below (omega arith) page m (subst (λ n. Contains (table H n page) m) place entry))),
+        (λ page m entry. subst (λ n. IsSegmentOf sum size log H n m × StandsInline sum size log m m.pointer) (sym place) (is.needed reach is.from_high (omega arith) page m (subst (λ n. Contains (table H n page) m) place entry))),
   )
   by_tail tail is_tail (inr (end, ends, far)) =
       let read = some_read sum size log some H first reach is tail is_tail end ends far in

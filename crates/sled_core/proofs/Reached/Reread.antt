@@ -1,8 +1,8 @@
 -- A log file is read anew behind a write: where each segment of before is read at least as far, and what is met is of the history, it stands up to the same place.
-use Rattle.std.proofs.Common.{◌≡◌, ◌≢◌, ◌⊎◌, ◌∙◌, ◌+◌, ◌%◌, ◌<◌, ◌≤◌, ℕ, List, [], ◌∷◌, sym, ap, subst, arith, inl, inr}
+use Rattle.std.proofs.Common.{◌≡◌, ◌≢◌, ◌⊎◌, ◌∙◌, ◌+◌, ◌*◌, ◌/◌, ◌%◌, ◌<◌, ◌≤◌, ℕ, List, [], ◌∷◌, refl, sym, ap, subst, arith, inl, inr}
 use Rattle.std.specs.List.{Contains}
 use Rattle.sled_codec.specs.History.{Message, History, table}
-use Rattle.sled_codec.specs.Snapshots.{SnapshotModel, stable_place}
+use Rattle.sled_codec.specs.Snapshots.{SnapshotModel}
 use Rattle.sled_store.proofs.Segments.Elements.{in_first, in_rest}
 use Rattle.sled_core.specs.declared.iterator.Segment.{Segment}
 use Rattle.sled_core.specs.declared.iterator.scan.ScannedRecord.{ScannedRecord}
@@ -12,7 +12,8 @@ use Rattle.sled_core.specs.Tail.{Scanned, IsScanned}
 use Rattle.sled_core.specs.inside.Tail.{IsOrdering, AreScanned, least_place}
 use Rattle.sled_core.proofs.Tail.OneReading.{one_scan}
 use Rattle.sled_core.proofs.Tail.OneTail.{scan_there, segment_there, reading_there}
-use Rattle.sled_core.proofs.Reached.StandsTo.{StandsTo}
+use Rattle.sled_core.proofs.Tail.SegmentsFrom.{tail_grows}
+use Rattle.sled_core.proofs.Reached.StandsTo.{StandsFrom, StandsTo}
 
 -- What is met in a segment, all of it of the history. Behind a Cap nothing of that begins in the segment.
 pub record IsReading (sum : List ℕ → ℕ) (size : ℕ) (log : List ℕ) (H : History) (s : Segment) : Type 0 where
@@ -71,7 +72,7 @@ module _ (sum : List ℕ → ℕ) (size : ℕ) (old log : List ℕ) (H : History
         subst (Contains ordering) (u.segment ∙ t.2) u.there
 
     -- What led on up to the place does so.
-    gapless_still : (z : ℕ) → z % size ≡ 0 → least_place size first ≤ z → z < reach
+    gapless_still : (z : ℕ) → z % size ≡ 0 → is.from / size * size ≤ z → z < reach
         → (t : Scanned) × Contains readings.0 t × (t.segment.place ≡ z) × ((reach ≤ z + t.stop) ⊎ ((t.why ≢ Broken) × (u : Segment) × Contains ordering u × (u.place ≡ z + size)))
     gapless_still z aligned low under =
         let found = is.gapless z aligned low under in
@@ -86,23 +87,30 @@ module _ (sum : List ℕ → ℕ) (size : ℕ) (old log : List ℕ) (H : History
           ],
         )
 
-    -- Up to the same place.
-    pub stands_still : ((s : Segment) → Contains ordering s → IsMarkBelow size H A s.mark)
-        → ((cut : ℕ) → stable_place first.stable ≤ cut → cut ≤ reach → (page : ℕ) (m : Message) → Contains (table H cut page) m → IsSegmentOf sum size log H cut m × StandsInline sum size log m m.pointer) → StandsTo sum size log H A first reach
-    stands_still marks_below needed = record {
-      ordering = ordering;
-      numbers = numbers;
-      scanned = readings.0;
-      reads = readings.1;
-      marks = marks;
-      truth = read_truth sum size log H ordering each readings.0 readings.1;
-      caps = read_caps sum size log H ordering each readings.0 readings.1;
-      not_below = is.not_below;
-      passes = is.passes;
-      marks_below = marks_below;
-      placed = is.placed;
-      batched = is.batched;
-      closed = is.closed;
-      gapless = gapless_still;
-      needed = needed;
-    }
+    -- Up to the same place, and what is held counts from where it did.
+    pub stands_still : 256 ≤ size → ((s : Segment) → Contains ordering s → IsMarkBelow size H A s.mark)
+        → ((cut : ℕ) → is.from ≤ cut → cut ≤ reach → (page : ℕ) (m : Message) → Contains (table H cut page) m → IsSegmentOf sum size log H cut m × StandsInline sum size log m m.pointer) → StandsFrom sum size log H A first reach is.from
+    stands_still some marks_below needed = (
+      record {
+        ordering = ordering;
+        numbers = numbers;
+        scanned = readings.0;
+        reads = readings.1;
+        marks = marks;
+        truth = read_truth sum size log H ordering each readings.0 readings.1;
+        caps = read_caps sum size log H ordering each readings.0 readings.1;
+        not_below = is.not_below;
+        passes = is.passes;
+        marks_below = marks_below;
+        placed = is.placed;
+        batched = is.batched;
+        closed = is.closed;
+        from = is.from;
+        from_low = is.from_low;
+        from_high = is.from_high;
+        tail_from = let low = is.tail_from in let grows = tail_grows size some (least_place size first) is.ordering ordering still_found in omega (arith, low, grows);
+        gapless = gapless_still;
+        needed = needed;
+      },
+      refl,
+    )

@@ -18,6 +18,10 @@ use Rattle.sled_core.proofs.Tail.Tails.{known, one_reading, tail_some, tail_ther
 use Rattle.sled_core.proofs.Tail.SegmentsFrom.{greatest_above, tail_low}
 pub use Rattle.sled_core.specs.inside.Reached.{StandsTo}
 
+-- It stands so, and what is held counts from here.
+abbrev pub StandsFrom : (List ℕ → ℕ) → ℕ → List ℕ → History → ℕ → SnapshotModel → ℕ → ℕ → Type 0
+StandsFrom sum size log H A first reach from = (is : StandsTo sum size log H A first reach) × (is.from ≡ from)
+
 module _ (sum : List ℕ → ℕ) (size : ℕ) (log : List ℕ) (some : 256 ≤ size) (H : History) (first : SnapshotModel) (reach : ℕ) (is : StandsTo sum size log H reach first reach) where
   abbrev pub least : ℕ
   least = least_place size first
@@ -32,7 +36,7 @@ module _ (sum : List ℕ → ℕ) (size : ℕ) (log : List ℕ) (some : 256 ≤ 
   Reaches : List Scanned → Type 0
   Reaches tail = (end : ℕ) × (tail_end tail ≡ Some end) × (reach ≤ end)
 
-  tail_reaches : (z : ℕ) (tail : List Scanned) → IsTail sum size log is.ordering z tail → z % size ≡ 0 → least ≤ z → z < reach → Reaches tail
+  tail_reaches : (z : ℕ) (tail : List Scanned) → IsTail sum size log is.ordering z tail → z % size ≡ 0 → is.from / size * size ≤ z → z < reach → Reaches tail
   unfolding Reaches
   tail_reaches z [] tail aligned low under =
       let found = is.gapless z aligned low under in
@@ -52,7 +56,7 @@ module _ (sum : List ℕ → ℕ) (size : ℕ) (log : List ℕ) (some : 256 ≤ 
       no_end Capped none other u there at = none u there at
   tail_reaches z (x ∷ y ∷ ys) tail aligned low under = by x.why tail.3 (tail_reaches (z + size) (y ∷ ys)) where
     Rest : Type 0
-    Rest = IsTail sum size log is.ordering (z + size) (y ∷ ys) → (z + size) % size ≡ 0 → least ≤ z + size → z + size < reach → Reaches (y ∷ ys)
+    Rest = IsTail sum size log is.ordering (z + size) (y ∷ ys) → (z + size) % size ≡ 0 → is.from / size * size ≤ z + size → z + size < reach → Reaches (y ∷ ys)
 
     next : IsTail sum size log is.ordering (z + size) (y ∷ ys) → Rest → Reaches (x ∷ y ∷ ys)
     next on rest = elim (cases_lt (z + size) reach) [
@@ -116,7 +120,7 @@ module _ (sum : List ℕ → ℕ) (size : ℕ) (log : List ℕ) (some : 256 ≤ 
   pub tail_ends : (tail : List Scanned) → IsTail sum size log is.ordering begins tail → ((tail_end tail ≡ None) × (begins ≡ reach) × (place ≡ reach)) ⊎ ((end : ℕ) × (tail_end tail ≡ Some end) × (reach ≤ end))
   unfolding Reaches
   tail_ends tail is_tail = elim (cases_lt begins reach) [
-    | inl under ↦ inr (tail_reaches begins tail is_tail aligned begins_above under)
+    | inl under ↦ inr (tail_reaches begins tail is_tail aligned is.tail_from under)
     | inr le ↦ (
         let parts = put_down size reach in
         let low = begins_below in

@@ -6,7 +6,7 @@ use Rattle.std.proofs.lemmas.Bool.{cases_eq, cases_lt}
 use Rattle.sled_codec.specs.History.{Message, History, table}
 use Rattle.sled_codec.specs.Places.{part}
 use Rattle.sled_codec.specs.Record.{IsHeader}
-use Rattle.sled_codec.specs.Snapshots.{SnapshotModel, stable_place}
+use Rattle.sled_codec.specs.Snapshots.{SnapshotModel}
 use Rattle.sled_codec.proofs.Segments.{one_header}
 use Rattle.sled_store.specs.Device.{overwritten, LeavesLog, Placement}
 use Rattle.sled_store.specs.Foreign.{NoForeignLog}
@@ -28,7 +28,7 @@ use Rattle.sled_core.proofs.Reached.KeptStands.{read_on_kept}
 use Rattle.sled_core.proofs.Reached.LeftBeside.{IsSameBeside, truth_alike, beside, bytes_beside, segment_left, found_beside, same_beside, reading_beside}
 use Rattle.sled_core.proofs.Reached.PutIn.{put_in, others_there, put_cases, ordering_with}
 use Rattle.sled_core.proofs.Reached.Reread.{IsReading, IsAsFar, stands_still}
-use Rattle.sled_core.proofs.Reached.StandsTo.{StandsTo}
+use Rattle.sled_core.proofs.Reached.StandsTo.{StandsFrom, StandsTo}
 use Rattle.sled_core.proofs.Reached.TornBehind.{in_taken, caps_met}
 
 -- a segment is the one that its place, its slot and its mark say
@@ -88,12 +88,12 @@ module _ (sum : List ℕ → ℕ) (size : ℕ) (some : 256 ≤ size) (old : List
   reads_on : (s : Segment) → IsFoundSegment sum size old 0 s → IsReadOn sum size old H s → IsReadOn sum size left H s
   reads_on s found on = read_on_kept sum size old left s.slot found.slot (bytes_beside sum size some old slot from asked now left inside no_more leaves s.slot found.slot (other_slot 0 s found)) H s refl on
 
-  needed : (cut : ℕ) → stable_place first.stable ≤ cut → cut ≤ reach → (page : ℕ) (m : Message) → Contains (table H cut page) m → IsSegmentOf sum size left H cut m × StandsInline sum size left m m.pointer
+  needed : (cut : ℕ) → is.from ≤ cut → cut ≤ reach → (page : ℕ) (m : Message) → Contains (table H cut page) m → IsSegmentOf sum size left H cut m × StandsInline sum size left m m.pointer
   needed cut below high page m entry = segment_left sum size some old slot from asked now left inside no_more leaves H cut (all_found 0) lies reads_on m (is.needed cut below high page m entry)
 
   -- Its header didn't come, or lies below the segments that are asked for.
-  pub stands_without : ((s : Segment) → IsFoundSegment sum size left least s → s.slot ≢ slot * size) → StandsTo sum size left H A first reach
-  stands_without missing = stands_still sum size old left H A first reach is is.ordering numbers each is.marks (as_far is.ordering (λ s there. there)) is.marks_below needed where
+  pub stands_without : ((s : Segment) → IsFoundSegment sum size left least s → s.slot ≢ slot * size) → StandsFrom sum size left H A first reach is.from
+  stands_without missing = stands_still sum size old left H A first reach is is.ordering numbers each is.marks (as_far is.ordering (λ s there. there)) some is.marks_below needed where
     numbers : IsOrdering sum size left least is.ordering
     numbers = record {
       ascending = is.numbers.ascending;
@@ -142,11 +142,11 @@ module _ (sum : List ℕ → ℕ) (size : ℕ) (some : 256 ≤ size) (old : List
       caps = caps_met sum size new left H (slot * size) place 20 more stop why w caps;
     }
 
-    pub stands_with : StandsTo sum size left H A first reach
+    pub stands_with : StandsFrom sum size left H A first reach is.from
     stands_with = stands_still sum size old left H A first reach is ordering numbers
         (λ s there. elim (put_cases seg is.ordering s there) [ inl one ↦ subst (IsReading sum size left H) one reading | inr had ↦ each s had ])
         (λ s there. elim (put_cases seg is.ordering s there) [ inl one ↦ subst (IsMarkOf H) one its_mark | inr had ↦ is.marks s had ])
-        (as_far ordering (others_there seg is.ordering))
+        (as_far ordering (others_there seg is.ordering)) some
         (λ s there. elim (put_cases seg is.ordering s there) [ inl one ↦ subst (λ (x : Segment). IsMarkBelow size H A x.mark) one mark_below | inr had ↦ is.marks_below s had ])
         needed
 
@@ -168,7 +168,7 @@ module _ (sum : List ℕ → ℕ) (none : NoHeaderOfZeros sum) (size : ℕ) (som
   free = none_stood sum size old slot from asked now left inside no_more leaves until covers clean none begins place mark begun
 
   without : ((s : Segment) → IsFoundSegment sum size left (least_place size first) s → s.slot ≢ slot * size) → StandsTo sum size left H A first reach
-  without = stands_without sum size some old slot from asked now left inside no_more leaves same free H A first reach is
+  without missing = (stands_without sum size some old slot from asked now left inside no_more leaves same free H A first reach is missing).0
 
   header_of : (s : Segment) → IsFoundSegment sum size left (least_place size first) s → s.slot ≡ slot * size → IsHeader sum (part left (slot * size) 20) (pos s.place) s.mark
   header_of s found here = subst (λ n. IsHeader sum (part left n 20) (pos s.place) s.mark) here found.header
@@ -183,7 +183,7 @@ module _ (sum : List ℕ → ℕ) (none : NoHeaderOfZeros sum) (size : ℕ) (som
           omega (arith, low, under, pos_injective s.place place one.0)))
       | inr le ↦ (
           let w = meets_begun sum size old slot from asked now left inside no_more leaves until covers clean none begins place mark begun only_own header more stop why clear (path, end) in
-          stands_with sum size some old slot from asked now left inside no_more leaves same free H A first reach is place mark header le whole fits its_mark mark_below alone more stop why truth caps w)
+          (stands_with sum size some old slot from asked now left inside no_more leaves same free H A first reach is place mark header le whole fits its_mark mark_below alone more stop why truth caps w).0)
     ]
     | inr no_header ↦ without (λ s found here. no_header (pos s.place) s.mark (header_of s found here))
   ]

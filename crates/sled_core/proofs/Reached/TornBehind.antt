@@ -32,7 +32,7 @@ use Rattle.sled_core.proofs.Tail.Moved.{one_in_slot}
 use Rattle.sled_core.proofs.Reached.KeptStands.{read_on_kept}
 use Rattle.sled_core.proofs.Reached.LeftBeside.{IsSameBeside, truth_alike, alike_apart, beside, bytes_beside, segment_left, found_beside, same_beside, reading_beside}
 use Rattle.sled_core.proofs.Reached.Reread.{IsReading, IsAsFar, stands_still}
-use Rattle.sled_core.proofs.Reached.StandsTo.{StandsTo}
+use Rattle.sled_core.proofs.Reached.StandsTo.{StandsFrom, StandsTo}
 
 -- one of the first elements is an element
 pub in_taken : {X : Type 0} (n : ℕ) (xs : List X) (x : X) → Contains (take n xs) x → Contains xs x
@@ -214,8 +214,8 @@ module _ (sum : List ℕ → ℕ) (size : ℕ) (some : 256 ≤ size) (old : List
           })
     ]
 
-    pub stands_behind : StandsTo sum size left H A first reach
-    stands_behind = stands_still sum size old left H A first reach is is.ordering numbers each is.marks as_far is.marks_below
+    pub stands_behind : StandsFrom sum size left H A first reach is.from
+    stands_behind = stands_still sum size old left H A first reach is is.ordering numbers each is.marks as_far some is.marks_below
         (λ cut low high page m entry. segment_left sum size some old slot from asked now left inside no_more leaves H cut (all_found 0) lies reads_on m (is.needed cut low high page m entry))
 
 -- Where only what the log wrote passes as its own, a crash leaves the first of the records that were written.
@@ -233,4 +233,4 @@ torn_behind sum size some old slot from asked now left inside no_more leaves unt
     let its = header sum size some old slot from asked now left inside no_more leaves same H A first reach is z known in_slot from (omega arith) ended in
     let met = stood sum size some old slot from asked now left inside no_more leaves same H A first reach is z known in_slot from (omega arith) ended in
     let w = meets_on sum size old slot from asked now left no_more leaves far only_own until covers clean z.segment.place z.segment.mark its z.met met more stop why clear path end in
-    stands_behind sum size some old slot from asked now left inside no_more leaves same H A first reach is z known in_slot from (omega arith) ended more stop why truth caps w (λ other. absurd (other broken))
+    (stands_behind sum size some old slot from asked now left inside no_more leaves same H A first reach is z known in_slot from (omega arith) ended more stop why truth caps w (λ other. absurd (other broken))).0

@@ -29,7 +29,7 @@ module _ (sum : List ℕ → ℕ) (none : NoHeaderOfZeros sum) (size : ℕ) (som
   new = overwritten old (slot * size + from) asked
 
   -- The file stands as far as before, and the segment is read up to where its records end.
-  pub unreached_write : (now : StandsTo sum size new H A first reach) × IsReadTo now.scanned (slot * size) place stop why
+  pub unreached_write : (now : StandsTo sum size new H A first reach) × IsReadTo now.scanned (slot * size) place stop why × (now.from ≡ is.from)
   unreached_write = elim how [
     | inl g ↦ (
         let path_g = one.path_on sum none size some old slot from asked inside until covers clean H A first reach is place (inl g) more stop why clear path end truth caps g in
@@ -44,6 +44,7 @@ module _ (sum : List ℕ → ℕ) (none : NoHeaderOfZeros sum) (size : ℕ) (som
             ended = refl;
             ends = refl;
           },
+          behind.stands_from sum size some old slot from asked inside H ordered A first reach is g.scan g.there g.in_slot g.ended g.broken more stop why path_g end_g truth caps_g,
         ))
     | inr b ↦ (
         let path_b = one.path_first sum none size some old slot from asked inside until covers clean H A first reach is place (inr b) more stop why clear path end truth caps b.begins in (
@@ -56,5 +57,6 @@ module _ (sum : List ℕ → ℕ) (none : NoHeaderOfZeros sum) (size : ℕ) (som
             ended = refl;
             ends = refl;
           },
+          begun.stands_from sum size some old slot from asked inside H ordered A first reach is none there b.begins until covers clean place b.mark b.header low b.whole b.fits b.its_mark b.mark_below b.alone more stop why path_b end truth caps,
         ))
   ]

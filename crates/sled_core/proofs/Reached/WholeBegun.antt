@@ -1,5 +1,5 @@
 -- All of a write that begins a segment in a slot of zeros is written and synced: the log file stands up to where the reading of that segment ends.
-use Rattle.std.proofs.Common.{◌≡◌, ◌≢◌, ◌+◌, ◌*◌, ◌%◌, ◌^◌, ◌<◌, ◌≤◌, ℕ, ℤ, pos, List, length, take, get_or}
+use Rattle.std.proofs.Common.{◌≡◌, ◌≢◌, ◌∙◌, ◌+◌, ◌*◌, ◌%◌, ◌^◌, ◌<◌, ◌≤◌, ℕ, ℤ, pos, List, length, take, get_or}
 use Rattle.std.specs.List.{Contains}
 use Rattle.std.proofs.Math.Nat.{mul-mod_left}
 use Rattle.sled_codec.specs.History.{History}
@@ -22,7 +22,7 @@ use Rattle.sled_core.specs.inside.Tail.{least_place}
 use Rattle.sled_store.proofs.Histories.Ascending.{Ascends}
 use Rattle.sled_core.proofs.Reached.Higher.{IsBegunOrLedTo, known_in, led_as_before, stands_higher}
 use Rattle.sled_core.proofs.Reached.LeftBeside.{IsSameBeside}
-use Rattle.sled_core.proofs.Reached.StandsTo.{StandsTo}
+use Rattle.sled_core.proofs.Reached.StandsTo.{StandsFrom, StandsTo}
 use Rattle.sled_core.proofs.Reached.TornBegun as begun
 use Rattle.sled_core.proofs.Reached.WrittenWhole.{all_done, leaves_new, meets_whole, same_whole}
 
@@ -55,10 +55,18 @@ module _ (sum : List ℕ → ℕ) (size : ℕ) (some : 256 ≤ size) (old : List
     came : IsHeader sum (part new (slot * size) 20) (pos place) mark
     came = header_new sum size old slot from asked asked new inside done leaves until covers clean none begins place mark header
 
+    both : StandsFrom sum size new H A first reach is.from
+    both = begun.stands_with sum size some old slot from asked asked new inside done leaves same free H A first reach is place mark came low whole fits its_mark mark_below alone more stop why truth caps
+        (meets_whole sum size new (slot * size) place 20 more stop why path end)
+
     -- All is read up to the same place as before, and the new segment up to where the path ends.
     pub stands : StandsTo sum size new H A first reach
-    stands = begun.stands_with sum size some old slot from asked asked new inside done leaves same free H A first reach is place mark came low whole fits its_mark mark_below alone more stop why truth caps
-        (meets_whole sum size new (slot * size) place 20 more stop why path end)
+    stands = both.0
+
+    -- What is held counts from where it did.
+    pub stands_from : stands.from ≡ is.from
+    unfolding stands
+    stands_from = both.1
 
     abbrev pub y : Scanned
     y = record { segment = record { place = place; slot = slot * size; mark = mark }; met = more; stop = stop; why = why }
@@ -74,6 +82,7 @@ module _ (sum : List ℕ → ℕ) (size : ℕ) (some : 256 ≤ size) (old : List
         (begun.still_read sum size some old slot from asked asked new inside done leaves same free H A first reach is t at_t)
 
     pub written_begun : A ≤ stable_below reach H.batches → reach ≤ place + stop → IsBegunOrLedTo size is.scanned least reach place → NoMessageBegins H reach place
-        → StandsTo sum size new H (stable_below (place + stop) H.batches) first (place + stop)
+        → StandsFrom sum size new H (stable_below (place + stop) H.batches) first (place + stop) is.from
     written_begun stable far led between =
-        stands_higher sum size new some H A first reach stands ordered y y_known far (led_as_before size is.scanned stands.scanned least reach place stays led) between stable
+        let higher = stands_higher sum size new some H A first reach stands ordered y y_known far (led_as_before size is.scanned stands.scanned least reach place stays led) between stable in
+        (higher.0, higher.1 ∙ stands_from)

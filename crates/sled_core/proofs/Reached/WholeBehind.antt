@@ -21,7 +21,7 @@ use Rattle.sled_store.proofs.Histories.Ascending.{Ascends}
 use Rattle.sled_core.proofs.Tail.OneTail.{segment_there}
 use Rattle.sled_core.proofs.Reached.Higher.{IsBegunOrLedTo, known_in, led_as_before, stands_higher}
 use Rattle.sled_core.proofs.Reached.LeftBeside.{IsSameBeside}
-use Rattle.sled_core.proofs.Reached.StandsTo.{StandsTo}
+use Rattle.sled_core.proofs.Reached.StandsTo.{StandsFrom, StandsTo}
 use Rattle.sled_core.proofs.Reached.TornBehind as behind
 use Rattle.sled_core.proofs.Reached.WrittenWhole.{all_done, leaves_new, meets_whole, same_whole}
 
@@ -53,10 +53,18 @@ module _ (sum : List ℕ → ℕ) (size : ℕ) (some : 256 ≤ size) (old : List
     same : IsSameBeside sum size old new (slot * size)
     same = same_whole sum size some old slot from asked inside there
 
+    both : StandsFrom sum size new H A first reach is.from
+    both = behind.stands_behind sum size some old slot from asked asked new inside done leaves same H A first reach is z known in_slot from (omega arith) ended more stop why truth caps
+        (meets_whole sum size new (slot * size) z.segment.place from more stop why path end) (λ other. absurd (other broken))
+
     -- All is read up to the same place as before, and this segment up to where the path ends.
     pub stands : StandsTo sum size new H A first reach
-    stands = behind.stands_behind sum size some old slot from asked asked new inside done leaves same H A first reach is z known in_slot from (omega arith) ended more stop why truth caps
-        (meets_whole sum size new (slot * size) z.segment.place from more stop why path end) (λ other. absurd (other broken))
+    stands = both.0
+
+    -- What is held counts from where it did.
+    pub stands_from : stands.from ≡ is.from
+    unfolding stands
+    stands_from = both.1
 
     all_found : (s : Segment) → IsFoundSegment sum size old least s → IsFoundSegment sum size new least s
     all_found = behind.all_found sum size some old slot from asked asked new inside done leaves same H A first reach is z known in_slot from (omega arith) ended least
@@ -84,7 +92,7 @@ module _ (sum : List ℕ → ℕ) (size : ℕ) (some : 256 ≤ size) (old : List
     ]
 
     pub written_behind : A ≤ stable_below reach H.batches → reach ≤ z.segment.place + stop → IsBegunOrLedTo size is.scanned least reach z.segment.place → NoMessageBegins H reach z.segment.place
-        → StandsTo sum size new H (stable_below (z.segment.place + stop) H.batches) first (z.segment.place + stop)
+        → StandsFrom sum size new H (stable_below (z.segment.place + stop) H.batches) first (z.segment.place + stop) is.from
     written_behind stable far led between =
-        stands_higher sum size new some H A first reach stands ordered y y_known far
-        (led_as_before size is.scanned stands.scanned least reach z.segment.place stays led) between stable
+        let higher = stands_higher sum size new some H A first reach stands ordered y y_known far (led_as_before size is.scanned stands.scanned least reach z.segment.place stays led) between stable in
+        (higher.0, higher.1 ∙ stands_from)

@@ -28,7 +28,7 @@ use Rattle.sled_core.proofs.Torn.WrittenBehind.{header_left, header_stood}
 use Rattle.sled_core.proofs.Torn.WrittenParts.{all_there, in_this_file, comes_along, record_where}
 use Rattle.sled_core.proofs.Torn.WrittenRecords.{MeetsFirst}
 use Rattle.sled_core.proofs.Reached.LeftBeside.{IsSameBeside, same_beside}
-use Rattle.sled_core.proofs.Reached.StandsTo.{StandsTo}
+use Rattle.sled_core.proofs.Reached.StandsTo.{StandsFrom, StandsTo}
 use Rattle.sled_core.proofs.Reached.TornBehind as behind
 use Rattle.sled_core.proofs.Reached.TornBegun.{stands_without}
 use Rattle.sled_core.proofs.Reached.WrittenWhole.{all_done, leaves_new, same_whole}
@@ -70,7 +70,7 @@ module _ (sum : List ℕ → ℕ) (size : ℕ) (some : 256 ≤ size) (old : List
     -- where it still ends there, all stands as before
     module _ (now left : List ℕ) (no_more : length now ≤ length asked) (leaves : LeavesLog (after_write old (slot * size + from) asked now) left) (same : IsSameBeside sum size old left (slot * size))
         (ends : IsEnd sum size left (slot * size) place z.stop Broken) where
-      stands_unread : StandsTo sum size left H A first reach
+      stands_unread : StandsFrom sum size left H A first reach is.from
       stands_unread =
           behind.stands_behind sum size some old slot from asked now left inside no_more leaves same H A first reach is z known in_slot z.stop (omega (arith, before)) refl
           [] z.stop Broken (λ x none. absurd (in_nothing x none)) ((λ capped. absurd (let never : Broken ≡ Capped = capped in cc)), (λ goes. absurd (goes refl))) (none_met new left sum size (slot * size) place z.stop Broken ends) (λ other. absurd (other broken))
@@ -87,7 +87,7 @@ module _ (sum : List ℕ → ℕ) (size : ℕ) (some : 256 ≤ size) (old : List
         let path = behind.before_left sum size some old slot from asked now left inside no_more leaves same H A first reach is z known in_slot z.stop low refl in
         let comes = comes_along sum size left (slot * size) (mul-mod_left slot size) place 20 z.met z.stop path at_start in
         let room = ends_old.0 in
-        stands_unread now left no_more leaves same (
+        (stands_unread now left no_more leaves same (
           room,
           λ h body len s.
               elim (record_where sum size old (slot * size + from) asked now left no_more leaves {placed = placed} own slot place z.segment.mark
@@ -99,10 +99,10 @@ module _ (sum : List ℕ → ℕ) (size : ℕ) (some : 256 ≤ size) (old : List
                     ends_old.1 h body len (record_moved sum size left old (slot * size + z.stop) (place / size) h body len stood there s))
                 | inr write ↦ (let begins = write.begins in absurd (omega (arith, begins, before)))
               ],
-        )
+        )).0
 
     -- All of it, where the gap has zeros.
-    pub written_unread : slot * size ≤ length old → z.stop + 5 ≤ from → get_or old (slot * size + z.stop + 4) 0 ≡ 0 → StandsTo sum size new H A first reach
+    pub written_unread : slot * size ≤ length old → z.stop + 5 ≤ from → get_or old (slot * size + z.stop + 4) 0 ≡ 0 → StandsFrom sum size new H A first reach is.from
     unfolding EndsThere
     written_unread there gap zero =
         stands_unread asked new (all_done sum size some old slot from asked inside there) (leaves_new sum size some old slot from asked inside there) (same_whole sum size some old slot from asked inside there) (
@@ -118,7 +118,7 @@ module _ (sum : List ℕ → ℕ) (size : ℕ) (some : 256 ≤ size) (old : List
         let end : IsEnd sum size old z.segment.slot z.segment.place z.stop Broken = subst (λ w. IsEnd sum size old z.segment.slot z.segment.place z.stop w) broken (segment_there sum size old is.ordering is.scanned is.reads z known).1.1 in
         absurd (let room = end.0 in omega (arith, room, full))
 
-    stands_full : (now left : List ℕ) → length now ≤ length asked → LeavesLog (after_write old (slot * size + from) asked now) left → IsSameBeside sum size old left (slot * size) → StandsTo sum size left H A first reach
+    stands_full : (now left : List ℕ) → length now ≤ length asked → LeavesLog (after_write old (slot * size + from) asked now) left → IsSameBeside sum size old left (slot * size) → StandsFrom sum size left H A first reach is.from
     stands_full now left no_more leaves same =
         behind.stands_behind sum size some old slot from asked now left inside no_more leaves same H A first reach is z known in_slot z.stop before refl
         [] z.stop Full (λ x none. absurd (in_nothing x none)) ((λ capped. absurd (let never : Full ≡ Capped = capped in cc)), (λ goes. (is.caps z known).1 ended)) (none_met new left sum size (slot * size) z.segment.place z.stop Full full) (λ goes broken. cc)
@@ -126,10 +126,10 @@ module _ (sum : List ℕ → ℕ) (size : ℕ) (some : 256 ≤ size) (old : List
     -- What a crash leaves of it.
     pub torn_full : (now left : List ℕ) → length now ≤ length asked → LeavesLog (after_write old (slot * size + from) asked now) left → {placed : List Placement}
         → NoForeignLog sum size (after_write old (slot * size + from) asked now) placed left → StandsTo sum size left H A first reach
-    torn_full now left no_more leaves {placed} own = stands_full now left no_more leaves (same_beside sum size some old slot from asked now left inside no_more leaves {placed = placed} own)
+    torn_full now left no_more leaves {placed} own = (stands_full now left no_more leaves (same_beside sum size some old slot from asked now left inside no_more leaves {placed = placed} own)).0
 
     -- All of it.
-    pub written_full : slot * size ≤ length old → StandsTo sum size new H A first reach
+    pub written_full : slot * size ≤ length old → StandsFrom sum size new H A first reach is.from
     written_full there =
         stands_full asked new (all_done sum size some old slot from asked inside there) (leaves_new sum size some old slot from asked inside there) (same_whole sum size some old slot from asked inside there)
 
@@ -142,14 +142,14 @@ module _ (sum : List ℕ → ℕ) (size : ℕ) (some : 256 ≤ size) (old : List
     pub torn_headless : (now left : List ℕ) → length now ≤ length asked → LeavesLog (after_write old (slot * size + from) asked now) left → {placed : List Placement}
         → NoForeignLog sum size (after_write old (slot * size + from) asked now) placed left → StandsTo sum size left H A first reach
     torn_headless now left no_more leaves {placed} own =
-        stands_without sum size some old slot from asked now left inside no_more leaves (same_beside sum size some old slot from asked now left inside no_more leaves {placed = placed} own) free H A first reach is
+        (stands_without sum size some old slot from asked now left inside no_more leaves (same_beside sum size some old slot from asked now left inside no_more leaves {placed = placed} own) free H A first reach is
         (λ s found here. (
         let header = subst (λ n. IsHeader sum (part left n 20) (pos s.place) s.mark) here found.header in
         let stood = header_stood sum size old slot from asked now left no_more leaves far {placed = placed} own (pos s.place) s.mark header in
-        free (pos s.place) s.mark (subst (λ (l : List ℕ). IsHeader sum l (pos s.place) s.mark) (sym stood) header)))
+        free (pos s.place) s.mark (subst (λ (l : List ℕ). IsHeader sum l (pos s.place) s.mark) (sym stood) header)))).0
 
     -- All of it.
-    pub written_headless : slot * size ≤ length old → StandsTo sum size new H A first reach
+    pub written_headless : slot * size ≤ length old → StandsFrom sum size new H A first reach is.from
     written_headless there =
         stands_without sum size some old slot from asked asked new inside (all_done sum size some old slot from asked inside there) (leaves_new sum size some old slot from asked inside there)
         (same_whole sum size some old slot from asked inside there) free H A first reach is

@@ -15,6 +15,7 @@ use Rattle.sled_core.specs.inside.Full.{StandsFull}
 use Rattle.sled_core.proofs.Reached.Marks.{less_than}
 use Rattle.sled_core.proofs.Tail.Multiples.{next_multiple, one_multiple}
 use Rattle.sled_core.proofs.Tail.OneTail.{segment_there}
+use Rattle.sled_core.proofs.Tail.SegmentsFrom.{tail_within}
 
 -- where no header has room, that is why the reading ends
 pub full_why : (sum : List ℕ → ℕ) (size : ℕ) (log : List ℕ) (slot place at : ℕ) (why : ScanEnd) → size < at + 32 → IsEnd sum size log slot place at why → why ≡ Full
@@ -29,7 +30,10 @@ module _ (sum : List ℕ → ℕ) (size : ℕ) (some : 256 ≤ size) (log : List
   leads : LeadsTo sum size log (least_place size first) (site.place + from) (site.place + size)
   unfolding IsScan
   leads =
-      let g = among.stands.gapless site.place place_begins low (omega (arith, begun)) in
+      let is = among.stands in
+      let begins = tail_within size some (least_place size first) site.place place_begins low is.ordering
+      (λ s there. less_than s.mark (site.place + from) (site.place + size) (omega (arith, within)) (among.below s ((is.numbers.found s).0 there))) in
+      let g = is.gapless site.place place_begins (omega (arith, begins, is.tail_from)) (omega (arith, begun)) in
       let t : Scanned = g.0 in
       let known = segment_there sum size log among.stands.ordering among.stands.scanned among.stands.reads t g.1 in
       let at : t.segment.place ≡ site.place = g.2 in
@@ -53,6 +57,7 @@ module _ (sum : List ℕ → ℕ) (size : ℕ) (some : 256 ≤ size) (log : List
       → StandsFull sum size log (site.place + size) others (site.place + from) H first
   full_among no_message no_batch no_end = record {
     stands = among.stands;
+    held = among.held;
     leads = leads;
     near = record { above = omega (arith, within); next = omega (arith, further); no_message = no_message; no_batch = no_batch; no_end = no_end };
     behind = among.behind;

@@ -5,7 +5,7 @@ use Rattle.std.proofs.lemmas.Bool.{cases_eq, cases_lt}
 use Rattle.std.specs.List.{Contains}
 use Rattle.sled_codec.specs.Record.{IsHeader}
 use Rattle.sled_codec.specs.History.{History}
-use Rattle.sled_codec.specs.Snapshots.{SnapshotModel}
+use Rattle.sled_codec.specs.Snapshots.{SnapshotModel, stable_place}
 use Rattle.sled_store.specs.Device.{overwritten, LeavesLog, Placement}
 use Rattle.sled_store.specs.Foreign.{NoForeignLog}
 use Rattle.sled_core.specs.Begun.{records_to}
@@ -24,7 +24,7 @@ use Rattle.sled_codec.specs.Places.{part}
 use Rattle.sled_core.proofs.Torn.WrittenBegun.{none_in_zeros}
 use Rattle.sled_core.proofs.Reached.LeftBeside.{IsSameBeside}
 use Rattle.sled_core.proofs.Reached.SegmentsBeside.{follows, going_in, one_place, one_slot, segment_stays, still_found}
-use Rattle.sled_core.proofs.Reached.StandsTo.{StandsTo}
+use Rattle.sled_core.proofs.Reached.StandsTo.{StandsFrom, StandsTo}
 use Rattle.sled_core.proofs.Reached.WrittenUnread.{torn_headless, torn_unread, written_headless, written_unread, zero_below}
 use Rattle.sled_core.proofs.Reached.WrittenWhole.{same_whole}
 use Rattle.sled_core.proofs.Sealed.BehindRead.{StandsAfter, only, stands_after}
@@ -69,7 +69,7 @@ module _ (sum : List ℕ → ℕ) (none : NoHeaderOfZeros sum) (size : ℕ) (som
       ]
 
   -- All of it, where the file reaches up to the slot.
-  module _ (there : site.slot ≤ length old) where
+  module _ (held : is.from ≡ stable_place first.stable) (there : site.slot ≤ length old) where
     there_too : slot * size ≤ length old
     there_too = omega (arith, its_slot, there)
 
@@ -84,11 +84,12 @@ module _ (sum : List ℕ → ℕ) (none : NoHeaderOfZeros sum) (size : ℕ) (som
         let written = written_headless sum size some old slot at asked inside H (stable_below reach H.batches) first reach is none (far begins) (begins_clean begins) there_too in
         let zeros : (i : ℕ) → site.slot ≤ i → i < site.slot + 20 → get_or new i 0 ≡ 0 =
         λ i above under. zero_below old (site.slot + at) asked i (omega (arith, below_slot, under)) (begins_clean begins i (omega (arith, its_slot, above)) (omega (arith, its_slot, under))) in
-        let stands = subst (λ n. StandsTo sum size (overwritten old (n + at) asked) H (stable_below reach H.batches) first reach) its_slot written in
+        let stands = subst (λ n. StandsFrom sum size (overwritten old (n + at) asked) H (stable_below reach H.batches) first reach is.from) its_slot written in
         let none_here : (s : Segment) → IsFoundSegment sum size new (least_place size first) s → s.slot ≡ site.slot → ⊥ =
         λ s found here. none_in_zeros sum 20 none (omega arith) new site.slot zeros (pos s.place) s.mark (subst (λ n. IsHeader sum (part new n 20) (pos s.place) s.mark) here found.header) in
         record {
-          stands = stands;
+          stands = stands.0;
+          held = stands.1 ∙ held;
           here = record { only = only sum size some old site from at asked inside slot_begins there reach H first is its; own = λ s found here. absurd (none_here s found here); read = λ later. absurd (omega (arith, begins, later)) };
           marks = λ s found here. absurd (none_here s found here);
         }
@@ -98,10 +99,10 @@ module _ (sum : List ℕ → ℕ) (none : NoHeaderOfZeros sum) (size : ℕ) (som
       abbrev g : GoesOnIn is.scanned site.slot from site.place
       g = going_in sum size old (least_place size first) is.scanned site from its later has_room
 
-      stands : StandsTo sum size new H (stable_below reach H.batches) first reach
+      stands : StandsFrom sum size new H (stable_below reach H.batches) first reach is.from
       stands =
           let ended = g.ended in
-          subst (λ n. StandsTo sum size (overwritten old (n + at) asked) H (stable_below reach H.batches) first reach) its_slot
+          subst (λ n. StandsFrom sum size (overwritten old (n + at) asked) H (stable_below reach H.batches) first reach is.from) its_slot
           (written_unread sum size some old slot at asked inside H (stable_below reach H.batches) first reach is g.scan g.there (g.in_slot ∙ sym its_slot) (omega (arith, ended, gap, before)) g.broken there_too (omega (arith, ended, gap, before))
           (clean (slot * size + g.scan.stop + 4) (omega (arith, its_slot, ended)) (omega (arith, its_slot, ended, gap))))
 
@@ -121,7 +122,7 @@ module _ (sum : List ℕ → ℕ) (none : NoHeaderOfZeros sum) (size : ℕ) (som
       behind : GapStands
       behind =
           let ended = g.ended in
-          stands_after sum size some old site from at asked inside slot_begins there reach H first is its g.scan g.there g.in_slot g.at_place (omega (arith, ended, gap, before)) (inl (ended, λ room. g.broken)) (omega (arith, has_room)) stands
+          stands_after sum size some old site from at asked inside slot_begins there reach H first is its g.scan g.there g.in_slot g.at_place (omega (arith, ended, gap, before)) (inl (ended, λ room. g.broken)) (omega (arith, has_room)) stands.0 (stands.1 ∙ held)
           (subst (λ w. IsEnd sum size new g.scan.segment.slot g.scan.segment.place g.scan.stop w) (sym g.broken) ends)
 
     pub gap_stands : GapStands
@@ -178,6 +179,7 @@ module _ (sum : List ℕ → ℕ) (size : ℕ) (some : 256 ≤ size) (old : List
       let at_slot : its.slot ≡ site.slot = ap (λ (x : SegmentPosition). x.slot) same in
       record {
         stands = after.stands;
+        held = after.held;
         reached = among.reached;
         led = leads_on from 0 after (omega (arith, at_place)) (λ s found here. among.here.own s found (here ∙ at_slot) ∙ sym at_place);
         here = subst (λ (x : SegmentPosition). StandsIn sum size fresh least after.stands.scanned x from 0) same after.here;
@@ -198,6 +200,7 @@ module _ (sum : List ℕ → ℕ) (size : ℕ) (some : 256 ≤ size) (old : List
       let stands_its : StandsIn sum size fresh least after.stands.scanned y.site y.from (records_to y.filled size) = subst (λ (x : SegmentPosition). StandsIn sum size fresh least after.stands.scanned x y.from (records_to y.filled size)) same after.here in
       record {
         stands = after.stands;
+        held = after.held;
         reached = among.reached;
         led = leads_on y.from (records_to y.filled size) after (omega (arith, at_place, behind_first)) (λ s found here. (among.behind y known).own s found (here ∙ at_slot) ∙ sym at_place);
         here = other_stays y.from (records_to y.filled size) after site from (λ here. f.1 (sym (here ∙ at_slot))) (λ here. omega (arith, here, at_place, behind_first)) among.here;

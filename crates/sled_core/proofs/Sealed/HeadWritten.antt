@@ -1,12 +1,12 @@
 -- The write of the first sealed buffer, where no other segment that is found has the number of the current one: what a crash leaves of it stands up to what was written before, and all of it up to where the reading of the segment ends. That may be behind later buffers, which were written before it.
-use Rattle.std.proofs.Common.{◌≡◌, ◌≢◌, ◌⊎◌, ◌≤◌, ◌<◌, ◌<ℤ◌, ◌-◌, ◌+◌, ◌*◌, ◌/◌, ◌%◌, ◌^◌, ℕ, ℤ, pos, negsuc, lt→ltb, max, List, [], ◌++◌, length, get_or, refl, sym, subst, arith, inl, inr}
+use Rattle.std.proofs.Common.{◌≡◌, ◌≢◌, ◌⊎◌, ◌∙◌, ◌≤◌, ◌<◌, ◌<ℤ◌, ◌-◌, ◌+◌, ◌*◌, ◌/◌, ◌%◌, ◌^◌, ℕ, ℤ, pos, negsuc, lt→ltb, max, List, [], ◌++◌, length, get_or, refl, sym, subst, arith, inl, inr}
 use Rattle.std.specs.List.{Contains}
 use Rattle.std.proofs.Math.Nat.{mod-add-div'}
 use Rattle.std.proofs.lemmas.Bool.{cases_eq, cases_lt}
 use Rattle.sled_codec.specs.Places.{part}
 use Rattle.sled_codec.specs.Record.{IsHeader}
 use Rattle.sled_codec.specs.History.{History}
-use Rattle.sled_codec.specs.Snapshots.{SnapshotModel}
+use Rattle.sled_codec.specs.Snapshots.{SnapshotModel, stable_place}
 use Rattle.sled_store.specs.Device.{overwritten, LeavesLog, Placement}
 use Rattle.sled_store.specs.Foreign.{NoForeignLog}
 use Rattle.sled_store.proofs.Histories.Ascending.{Ascends}
@@ -34,7 +34,7 @@ use Rattle.sled_core.proofs.Reached.OneWrite.{BeginsSegment, torn_stands, writte
 use Rattle.sled_core.proofs.Reached.Marks.{less_than, mark_stable}
 use Rattle.sled_core.specs.inside.Full.{StandsFull}
 use Rattle.sled_core.proofs.Reached.SegmentsBeside.{follows, going_in, its_header, its_place_now, segment_grown, segment_stays}
-use Rattle.sled_core.proofs.Reached.StandsTo.{StandsTo}
+use Rattle.sled_core.proofs.Reached.StandsTo.{StandsFrom, StandsTo}
 use Rattle.sled_core.proofs.Reached.WrittenWhole.{same_whole}
 use Rattle.sled_codec.specs.Coords.{raised}
 use Rattle.sled_core.proofs.Tail.Multiples.{next_multiple, one_multiple}
@@ -169,11 +169,18 @@ module _ (sum : List ℕ → ℕ) (none : NoHeaderOfZeros sum) (size : ℕ) (som
       | inr next ↦ next.1.no_message
     ]
 
-    stands : StandsTo sum size new H (stable_below (site.place + stop) H.batches) first (site.place + stop)
-    stands =
-        subst (λ n. StandsTo sum size (overwritten old (n + from) asked) H (stable_below (site.place + stop) H.batches) first (site.place + stop)) its_slot
+    stands_from : StandsFrom sum size new H (stable_below (site.place + stop) H.batches) first (site.place + stop) alone.stands.from
+    stands_from =
+        subst (λ n. StandsFrom sum size (overwritten old (n + from) asked) H (stable_below (site.place + stop) H.batches) first (site.place + stop) alone.stands.from) its_slot
         (written_stands sum none size some old slot from asked inside until covers clean_there H (stable_below reach H.batches) first reach alone.stands site.place goes_on more stop why clear path_there end_there truth_there caps
         ordered (omega (arith, its_slot, there)) low (omega arith) (omega (arith, rises, near)) (led_in sum size old site from reach H first alone) between)
+
+    stands : StandsTo sum size new H (stable_below (site.place + stop) H.batches) first (site.place + stop)
+    stands = stands_from.0
+
+    held : stands.from ≡ stable_place first.stable
+    unfolding stands
+    held = stands_from.1 ∙ alone.held
 
     -- It is read to where the path ends.
 
@@ -227,6 +234,7 @@ module _ (sum : List ℕ → ℕ) (none : NoHeaderOfZeros sum) (size : ℕ) (som
     pub head_written : (stop + 32 ≤ size → why ≡ Broken) → StandsAmong sum size new site stop others (site.place + stop) H first
     head_written broken = record {
       stands = stands;
+      held = held;
       reached = inl refl;
       led = inl (omega (arith, rises));
       here = grown stop (inl (refl, broken));
@@ -241,6 +249,7 @@ module _ (sum : List ℕ → ℕ) (none : NoHeaderOfZeros sum) (size : ℕ) (som
         → StandsFull sum size new (site.place + size) others (site.place + stop) H first
     head_filled goes within no_message no_batch no_end = record {
       stands = stands;
+      held = held;
       leads = record { scan = y; found = y_found; read = y_scan; next = refl; goes = goes; below = omega (arith, rises) };
       near = record { above = omega (arith, within); next = omega (arith, further); no_message = no_message; no_batch = no_batch; no_end = no_end };
       behind = others_stay;

@@ -42,4 +42,4 @@ module _ (sum : List ℕ → ℕ) (none : NoHeaderOfZeros sum) (size : ℕ) (som
   other_behind_written there =
       let fits : at + length asked ≤ size = (let l = long file y.site.slot bytes y.from (x ∷ xs) b rest size rise inside in let up = (rises_at x.end xs b rest size rise.1).2 in omega (arith, l, up)) in
       other_gap sum size some file site from others reach H first among y.site at asked fits slot_begins there y known refl
-      (stands_in_gap sum none size some file y.site slot_begins bytes y.from begins rs x xs b rest fresh are rise inside number stand reach H first file laid among.stands (among.behind y known) there)
+      (stands_in_gap sum none size some file y.site slot_begins bytes y.from begins rs x xs b rest fresh are rise inside number stand reach H first file laid among.stands (among.behind y known) among.held there)

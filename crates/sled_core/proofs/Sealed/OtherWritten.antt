@@ -1,5 +1,5 @@
 -- A buffer is written to a segment behind the first one, at its beginning or behind what is written of it: what a crash leaves of it stands as before, and all of it too, with that segment up to where its records end now.
-use Rattle.std.proofs.Common.{◌≡◌, ◌≢◌, ◌⊎◌, ◌≤◌, ◌<◌, ◌<ℤ◌, ◌+◌, ◌*◌, ◌/◌, ◌%◌, ◌^◌, ℕ, ℤ, pos, max, List, ◌∷◌, ◌++◌, length, get_or, refl, sym, subst, arith, inl, inr}
+use Rattle.std.proofs.Common.{◌≡◌, ◌≢◌, ◌⊎◌, ◌≤◌, ◌<◌, ◌<ℤ◌, ◌+◌, ◌*◌, ◌/◌, ◌%◌, ◌^◌, ℕ, ℤ, pos, max, List, ◌∷◌, ◌++◌, length, get_or, refl, sym, ◌∙◌, subst, arith, inl, inr}
 use Rattle.std.specs.List.{Contains}
 use Rattle.std.proofs.Math.Nat.{mod-add-div'}
 use Rattle.std.proofs.lemmas.Bool.{cases_eq, cases_lt}
@@ -119,8 +119,8 @@ module _ (sum : List ℕ → ℕ) (none : NoHeaderOfZeros sum) (size : ℕ) (som
 
   -- All of it, where the file reaches up to the slot, and the mark of its header lies below the stable end.
   module _ (ordered : Ascends H.messages) (there : y.site.slot ≤ length old) (low : least_place size first ≤ y.site.place) (has : HasHeader sum new y.site) (marked : has.mark <ℤ pos (site.place + from)) where
-    both : (now : StandsTo sum size new H (stable_below reach H.batches) first reach) × IsReadTo now.scanned y.site.slot y.site.place stop why
-    both = subst (λ n. (now : StandsTo sum size (overwritten old (n + y.from) asked) H (stable_below reach H.batches) first reach) × IsReadTo now.scanned n y.site.place stop why) its_slot
+    both : (now : StandsTo sum size new H (stable_below reach H.batches) first reach) × IsReadTo now.scanned y.site.slot y.site.place stop why × (now.from ≡ among.stands.from)
+    both = subst (λ n. (now : StandsTo sum size (overwritten old (n + y.from) asked) H (stable_below reach H.batches) first reach) × IsReadTo now.scanned n y.site.place stop why × (now.from ≡ among.stands.from)) its_slot
         (unreached_write sum none size some old slot y.from asked inside (omega (arith, its_slot, there)) until covers clean_there H ordered (stable_below reach H.batches) first reach among.stands y.site.place low goes_on more stop why clear path_there end_there truth_there caps)
 
     stands : StandsTo sum size new H (stable_below reach H.batches) first reach
@@ -175,6 +175,7 @@ module _ (sum : List ℕ → ℕ) (none : NoHeaderOfZeros sum) (size : ℕ) (som
     unfolding stands
     other_written so_far far up_to = record {
       stands = stands;
+      held = both.2 ∙ among.held;
       reached = among.reached;
       led = led_on;
       here = stays site from (λ same. apart_first.1 (sym same)) (λ same. let behind = apart_first.0 in omega (arith, same, behind)) among.here;

@@ -4,7 +4,7 @@ use Rattle.std.specs.List.{Contains}
 use Rattle.std.proofs.Math.Nat.{mod-add-div'}
 use Rattle.std.proofs.lemmas.List.Elements.{Contains-append_right}
 use Rattle.sled_codec.specs.History.{History}
-use Rattle.sled_codec.specs.Snapshots.{SnapshotModel}
+use Rattle.sled_codec.specs.Snapshots.{SnapshotModel, stable_place}
 use Rattle.sled_store.specs.Device.{overwritten, LeavesLog, Placement}
 use Rattle.sled_store.specs.Foreign.{NoForeignLog}
 use Rattle.sled_store.proofs.Segments.Elements.{in_first}
@@ -18,7 +18,7 @@ use Rattle.sled_core.specs.Scan.{IsEnd, IsScan}
 use Rattle.sled_core.specs.Tail.{Scanned}
 use Rattle.sled_core.specs.inside.Tail.{least_place}
 use Rattle.sled_core.proofs.Reached.SegmentsBeside.{begins_still, follow_still, grown_one, was_other}
-use Rattle.sled_core.proofs.Reached.StandsTo.{StandsTo}
+use Rattle.sled_core.proofs.Reached.StandsTo.{StandsFrom, StandsTo}
 use Rattle.sled_core.proofs.Reached.WrittenUnread.{torn_full, written_full}
 use Rattle.sled_core.proofs.Sealed.BehindRead.{StandsAfter, stands_after}
 use Rattle.sled_core.proofs.Sealed.FullSegment.{full_why}
@@ -57,9 +57,9 @@ module _ (sum : List ℕ → ℕ) (size : ℕ) (some : 256 ≤ size) (old : List
       (subst (λ n. NoForeignLog sum size (after_write old (n + at) asked now) placed left) (sym its_slot) only_own)
 
   -- All of it, where the file reaches up to the slot.
-  module _ (there : site.slot ≤ length old) where
-    stands : StandsTo sum size new H (stable_below reach H.batches) first reach
-    stands = subst (λ n. StandsTo sum size (overwritten old (n + at) asked) H (stable_below reach H.batches) first reach) its_slot
+  module _ (held : is.from ≡ stable_place first.stable) (there : site.slot ≤ length old) where
+    stands : StandsFrom sum size new H (stable_below reach H.batches) first reach is.from
+    stands = subst (λ n. StandsFrom sum size (overwritten old (n + at) asked) H (stable_below reach H.batches) first reach is.from) its_slot
         (written_full sum size some old slot at asked inside H (stable_below reach H.batches) first reach is z read.2.there (read.2.in_slot ∙ sym its_slot) (omega (arith, stops, behind)) (omega (arith, stops, full)) (omega (arith, its_slot, there)))
 
     its_why : z.why ≡ Full
@@ -71,7 +71,7 @@ module _ (sum : List ℕ → ℕ) (size : ℕ) (some : 256 ≤ size) (old : List
 
     pub rest_stands : StandsAfter sum size old new site from records reach H first
     rest_stands = stands_after sum size some old site from at asked inside slot_begins there reach H first is its z read.2.there read.2.in_slot read.2.at_place (omega (arith, stops, behind))
-        (inl (stops, λ room. absurd (omega (arith, room, full)))) left_over stands (subst (λ (w : ScanEnd). IsEnd sum size new z.segment.slot z.segment.place z.stop w) (sym its_why) ends)
+        (inl (stops, λ room. absurd (omega (arith, room, full)))) left_over stands.0 (stands.1 ∙ held) (subst (λ (w : ScanEnd). IsEnd sum size new z.segment.slot z.segment.place z.stop w) (sym its_why) ends)
 
 -- A segment behind the first one in which no header has room any more is full, whether something is left of it or not.
 module _ (sum : List ℕ → ℕ) (size : ℕ) (some : 256 ≤ size) (log : List ℕ) (site : SegmentPosition) (from : ℕ) (pre : List BegunSegment) (y : BegunSegment) (post : List BegunSegment) (full : size < y.from + 32) (up_to : records_to y.filled size ≤ y.from)
@@ -107,6 +107,7 @@ module _ (sum : List ℕ → ℕ) (size : ℕ) (some : 256 ≤ size) (log : List
   pub other_full : StandsAmong sum size log site from (pre ++ grown_one y size ∷ post) reach H first
   other_full = record {
     stands = among.stands;
+    held = among.held;
     reached = among.reached;
     led = among.led;
     here = among.here;
@@ -127,4 +128,4 @@ other_rest_written sum size some old site from pre y post at asked inside slot_b
     let its : Contains (pre ++ y ∷ post) y = Contains-append_right pre (y ∷ post) y (in_first y post) in
     other_full sum size some (overwritten old (y.site.slot + at) asked) site from pre y post full up_to reach H first
     (other_gap sum size some old site from (pre ++ y ∷ post) reach H first among y.site at asked inside slot_begins there y its refl
-    (rest_stands sum size some old y.site y.from at asked inside slot_begins behind left_over full reach H first among.stands (among.behind y its) there))
+    (rest_stands sum size some old y.site y.from at asked inside slot_begins behind left_over full reach H first among.stands (among.behind y its) among.held there))

@@ -60,6 +60,10 @@ module _ (sum : List ℕ → ℕ) (size : ℕ) where
     placed = λ m there. absurd (in_nothing m there);
     batched = λ b there. absurd (in_nothing b there);
     closed = λ b there. absurd (in_nothing b there);
+    from = 0;
+    from_low = omega arith;
+    from_high = omega arith;
+    tail_from = omega arith;
     gapless = λ z aligned low under. absurd (omega (arith, under));
     needed = λ cut low high page m there. absurd (no_entry cut page m there);
   }

@@ -41,16 +41,17 @@ module _ (sum : List ℕ → ℕ) (size : ℕ) (long : 20 ≤ size) (log : List 
   listed_used x there = found_used x ((alone.stands.numbers.found x).0 there)
 
   -- and so is that of each entry
-  pub entry_slot_used : (cut : ℕ) (low : stable ≤ cut) (high : cut ≤ stable) (page : ℕ) (m : Message) (entry : Contains (table H cut page) m) → Uses ((alone.stands.needed cut low high page m entry).0.segment.slot / size)
+  pub entry_slot_used : (cut : ℕ) (low : alone.stands.from ≤ cut) (high : cut ≤ stable) (page : ℕ) (m : Message) (entry : Contains (table H cut page) m) → Uses ((alone.stands.needed cut low high page m entry).0.segment.slot / size)
   entry_slot_used cut low high page m entry =
       let of = (alone.stands.needed cut low high page m entry).0 in
-      let here : cut ≡ stable = omega (arith, low, high) in
+      let begins = alone.stands.from_low in
+      let here : cut ≡ stable = omega (arith, low, high, begins) in
       let at_stable = subst (λ n. Contains (table H n page) m) here entry in
       (subst (λ k. is_used size s k ≡ true) (sym (slot_needed sum size log H cut m of)) (message_used size s H stable is page m at_stable), found_inside sum size log 0 of.segment long of.found)
 
-  module _ (left : List ℕ) (keeps : KeepsSlots sum size Uses log left) (same : SameInUsed size Uses log left) where
+  module _ (some : 256 ≤ size) (left : List ℕ) (keeps : KeepsSlots sum size Uses log left) (same : SameInUsed size Uses log left) where
     pub stands_left : StandsTo sum size left H stable s stable
-    stands_left = kept_stands sum size Uses log left keeps same H stable s stable alone.stands listed_used entry_slot_used
+    stands_left = (kept_stands sum size Uses log left keeps same H stable s stable alone.stands listed_used entry_slot_used some).0
 
     -- where a write goes on, it still does
     goes_left : (slot from place : ℕ) → GoesOnIn alone.stands.scanned slot from place → GoesOnIn stands_left.scanned slot from place
@@ -94,6 +95,7 @@ begins_alone sum size log s first H site from same end begins own behind alone =
     one_in_slot sum size log (least_place size s) (least_place size s) x z.scan.segment found ((alone.stands.numbers.found z.scan.segment).0 known.0) (sym z.in_slot) ∙ z.at_place ∙ sym begins) in
     record {
       stands = on.0;
+      held = let low = on.0.from_low in let high = on.0.from_high in omega (arith, low, high, open_none, same);
       reached = inl refl;
       led = inr (inl (omega (arith, begins, least)));
       here = record {

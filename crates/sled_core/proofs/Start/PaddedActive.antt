@@ -85,7 +85,7 @@ module _ (sum : List ℕ → ℕ) (size : ℕ) (long : 256 ≤ size) (zeros : No
         omega (arith, there, begins))
     | inr e ↦ (
         let m = entry_message s.pages H (stable_place s.stable) is e.0 e.1 in
-        let of = (before.stands.needed (stable_place s.stable) (omega arith) (omega arith) m.0 m.1 m.2).0 in
+        let of = (before.stands.needed (stable_place s.stable) before.stands.from_high (omega arith) m.0 m.1 m.2).0 in
         let there = found_there sum size log 0 of.segment of.found in
         let in_slot : of.segment.slot / size ≡ k = slot_needed sum size log H (stable_place s.stable) m.1 of ∙ ap (λ p. lid_of p / size) (sym m.3.pointer) ∙ e.2 in
         let begins : of.segment.slot ≡ k * size = slot_found sum size log 0 of.segment of.found ∙ ap (λ n. n * size) in_slot in
@@ -140,7 +140,7 @@ module _ (sum : List ℕ → ℕ) (size : ℕ) (long : 256 ≤ size) (zeros : No
     whole_active : StandsActive sum size (whole n) s H
     whole_active =
         let st = alone.stands in
-        let stands = longer_stands sum size new (replicate n 0) H (stable_place s.stable) s (stable_place s.stable) st again old_one in
+        let stands = (longer_stands sum size new (replicate n 0) H (stable_place s.stable) s (stable_place s.stable) st again old_one long).0 in
         record {
           stands = stands;
           only = λ x found. alone.only x (old_one x found);

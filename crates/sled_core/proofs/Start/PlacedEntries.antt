@@ -52,7 +52,7 @@ module _ (sum : List ℕ → ℕ) (size : ℕ) (log : List ℕ) (s : SnapshotMod
         message = m.1;
         entry = m.2;
         of = m.3;
-        segment = (alone.stands.needed stable (omega arith) (omega arith) m.0 m.1 m.2).0;
+        segment = (alone.stands.needed stable alone.stands.from_high (omega arith) m.0 m.1 m.2).0;
         lies = alone.stands.placed m.1 from.0;
         below = from.2;
       }

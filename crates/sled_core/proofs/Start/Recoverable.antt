@@ -1,5 +1,5 @@
 -- What stands up to a place can be recovered, where all of the history ends below it; and it stands so for each snapshot that ends at the same place.
-use Rattle.std.proofs.Common.{⊎_elim, ◌≡◌, ◌*◌, ◌/◌, ◌≤◌, ◌<◌, ◌+◌, ℕ, ℤ, List, Option, refl, sym, ap, subst, arith, inl, inr}
+use Rattle.std.proofs.Common.{⊎_elim, ◌≡◌, ◌*◌, ◌/◌, ◌≤◌, ◌<◌, ◌+◌, ℕ, ℤ, List, Option, refl, sym, subst, arith, inl, inr}
 use Rattle.std.proofs.lemmas.List.Elements.{All-contains}
 use Rattle.sled_codec.specs.History.{Message, History}
 use Rattle.sled_codec.specs.Snapshots.{SnapshotModel, stable_place}
@@ -15,7 +15,7 @@ use Rattle.sled_core.specs.invariants.Recoverable.{Recoverable}
 use Rattle.sled_core.specs.Recoverable.{LeavesRecoverable, NoHeaderOfZeros}
 use Rattle.sled_core.specs.inside.Recoverable.{IsMarkBelow, AreRecoverableSnapshots, AreRecoverableBlobs}
 use Rattle.sled_core.specs.inside.Running.{BlobsFit, NamesFit}
-use Rattle.sled_core.specs.inside.Tail.{IsOrdering}
+use Rattle.sled_core.specs.inside.Tail.{IsOrdering, tail_begins}
 use Rattle.sled_core.proofs.Flush.Settled.{recoverable_less}
 use Rattle.sled_core.proofs.Logged.Messages.{logged_apart, logged_below, logged_twice}
 use Rattle.sled_core.proofs.Logged.Names.{snapshots_alike}
@@ -41,10 +41,14 @@ same_place sum size log H first other reach at A same here all is = (
     placed = is.placed;
     batched = is.batched;
     closed = λ b there low. let under = is.closed b there (omega (arith, low, all)) in omega (arith, under, all);
+    from = is.from;
+    from_low = let low = is.from_low in omega (arith, low, same);
+    from_high = let high = is.from_high in omega (arith, high, all);
+    tail_from = subst (λ n. is.from / size * size ≤ tail_begins size (n / size * size) is.ordering) (sym same) is.tail_from;
     gapless = λ z aligned low under.
-        let found = is.gapless z aligned (let least = ap (λ n. n / size * size) same in omega (arith, low, least)) (omega (arith, under, here)) in
+        let found = is.gapless z aligned low (omega (arith, under, here)) in
         (found.0, found.1, found.2, ⊎_elim (λ far. inl (omega (arith, far, here))) (λ leads. inr leads) found.3);
-    needed = λ cut low high. is.needed cut (omega (arith, low, same)) (omega (arith, high, here));
+    needed = λ cut low high. is.needed cut low (omega (arith, high, here));
   },
   refl,
 )

@@ -60,13 +60,13 @@ module _ (sum : List ℕ → ℕ) (size : ℕ) (long : 256 ≤ size) (zeros : No
   same j used = same_then size log (filled size log free) (started_file size log s) j (filled_same sum size log free twenty (free_begin size some log s) j (apart j used)) (cut_same size (filled size log free) left j (below j used))
 
   pub started_active : StandsActive sum size (started_file size log s) s H
-  started_active = active_left sum size twenty log s H is alone (started_file size log s) keeps same
+  started_active = active_left sum size twenty log s H is alone long (started_file size log s) keeps same
 
   -- and each file that a crash leaves during it
   pub starting_active : (t : Trace) → (state_of t).log ≡ at_rest log → Along (AllLeft (ActiveIfOwn sum size s H)) (started size (length log) s).calls (state_of t)
   starting_active t rest =
       both_along (AllLeft (KeepsIfOwn sum size Used log)) (AllLeft (λ past left. SameInUsed size Used log left.log)) (AllLeft (ActiveIfOwn sum size s H))
-      (λ x kept has left leaves own. active_left sum size twenty log s H is alone left.log (kept left leaves own) (has left leaves))
+      (λ x kept has left leaves own. active_left sum size twenty log s H is alone long left.log (kept left leaves own) (has left leaves))
       (started size (length log) s).calls (state_of t)
       (starting_along sum size Used twenty zeros log free (found size slots s).slots slots (free_begin size some log s) (started_covered size some log s) apart below t rest)
       (starting_has sum size Used twenty log free (found size slots s).slots slots (free_begin size some log s) (started_covered size some log s) apart below t rest)

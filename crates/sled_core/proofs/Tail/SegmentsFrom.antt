@@ -1,15 +1,15 @@
 -- The segments of a log file that begin no lower than a place: their order, what is met in them, and where the tail begins.
-use Rattle.std.proofs.Common.{⊎_elim, ◌≡◌, ◌⊎◌, ◌∙◌, ◌+◌, ◌*◌, ◌/◌, ◌%◌, ◌<◌, ◌≤◌, ℕ, pos, Bool, true, false, ◌&&◌, nat_le, cond, List, [], ◌∷◌, refl, sym, ap, subst, arith, inl, inr, lt-ltb}
+use Rattle.std.proofs.Common.{⊎_elim, ◌≡◌, ◌⊎◌, ◌∙◌, ◌+◌, ◌*◌, ◌/◌, ◌%◌, ◌<◌, ◌≤◌, ◌<ℤ◌, ℕ, pos, Bool, true, false, ◌&&◌, nat_le, cond, List, [], ◌∷◌, refl, sym, ap, subst, arith, inl, inr, lt-ltb}
 use Rattle.std.specs.List.{Contains, filter}
 use Rattle.std.proofs.lemmas.Bool.{cases_lt, leb-true, le-leb}
 use Rattle.sled_codec.specs.History.{History}
-use Rattle.sled_store.proofs.Segments.Elements.{in_first, in_filter, from_filter}
+use Rattle.sled_store.proofs.Segments.Elements.{in_first, in_rest, in_cases, in_nothing, in_filter, from_filter}
 use Rattle.sled_core.specs.declared.iterator.Segment.{Segment}
 use Rattle.sled_core.specs.inside.Recoverable.{IsMarkBelow}
 use Rattle.sled_core.proofs.Read.FoundLemmas.{pos_injective}
 use Rattle.sled_core.specs.inside.Tail.{is_ascending, IsOrdering, AreScanned, greatest_mark, tail_begins}
-use Rattle.sled_core.specs.Tail.{Scanned}
-use Rattle.sled_core.proofs.Tail.Multiples.{apart, put_down, one_multiple, raised_within}
+use Rattle.sled_core.specs.Tail.{Scanned, place_of_mark}
+use Rattle.sled_core.proofs.Tail.Multiples.{apart, put_down, one_multiple, raised_within, lower_multiple}
 use Rattle.sled_core.proofs.Tail.GreatestMark.{greatest_is, mark_below}
 use Rattle.sled_core.proofs.Tail.OneTail.{Rises, rises_of}
 
@@ -77,7 +77,41 @@ pub greatest_above : (least : ℕ) (ss : List Segment) → least ≤ greatest_ma
 greatest_above least [] = omega arith
 greatest_above least (s ∷ ss) = let rest = greatest_above least ss in omega (arith, rest)
 
+-- no mark is greater than the greatest
+mark_within : (least : ℕ) (ss : List Segment) (s : Segment) → Contains ss s → place_of_mark s.mark ≤ greatest_mark least ss
+mark_within least [] s there = absurd (in_nothing s there)
+mark_within least (t ∷ ss) s there = elim (in_cases t s ss there) [
+  | inl same ↦ omega (arith, ap (λ (u : Segment). place_of_mark u.mark) same)
+  | inr later ↦ (let rest = mark_within least ss s later in omega (arith, rest))
+]
+
+-- and with more segments that is no less
+greatest_grows : (least : ℕ) (ss ts : List Segment) → ((s : Segment) → Contains ss s → Contains ts s) → greatest_mark least ss ≤ greatest_mark least ts
+greatest_grows least [] ts among = greatest_above least ts
+greatest_grows least (s ∷ ss) ts among =
+    let first = mark_within least ts s (among s (in_first s ss)) in
+    let rest = greatest_grows least ss ts (λ t there. among t (in_rest s t ss there)) in
+    omega (arith, first, rest)
+
 module _ (size : ℕ) (some : 256 ≤ size) where
+  -- With more segments the tail begins no lower.
+  pub tail_grows : (least : ℕ) (ss ts : List Segment) → ((s : Segment) → Contains ss s → Contains ts s) → tail_begins size least ss ≤ tail_begins size least ts
+  tail_grows least ss ts among = lower_multiple size some (greatest_mark least ss) (greatest_mark least ts) (greatest_grows least ss ts among)
+
+  -- Where each mark lies before the end of a segment, it begins with that or below it.
+  pub tail_within : (least place : ℕ) → place % size ≡ 0 → least ≤ place → (ss : List Segment) → ((s : Segment) → Contains ss s → s.mark <ℤ pos (place + size)) → tail_begins size least ss ≤ place
+  tail_within least place aligned low ss marks =
+      let parts = put_down size (greatest_mark least ss) in
+      let under = by (greatest_is least ss) in
+      elim (cases_lt place (greatest_mark least ss / size * size)) [
+        | inl over ↦ (let far = apart size (omega (arith, some)) place (greatest_mark least ss / size * size) aligned parts.1 over in absurd (omega (arith, far, parts.0, under)))
+        | inr le ↦ le
+      ]
+    where
+      by : (greatest_mark least ss ≡ least) ⊎ ((s : Segment) × Contains ss s × (s.mark ≡ pos (greatest_mark least ss))) → greatest_mark least ss < place + size
+      by (inl at) = omega (arith, at, some, low)
+      by (inr (s, there, mark)) = mark_below s.mark (greatest_mark least ss) (place + size) mark (marks s there)
+
   -- Where each mark lies below the cut, or in its segment, so does the greatest one.
   module _ (H : History) (cut : ℕ) (ss : List Segment) (marks : (s : Segment) → Contains ss s → IsMarkBelow size H cut s.mark) where
     abbrev z : ℕ

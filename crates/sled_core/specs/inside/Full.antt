@@ -3,7 +3,7 @@
 use Rattle.std.specs.Prelude.{◌≡◌, ◌≢◌, ◌⊎◌, ◌+◌, ◌≤◌, ◌<◌, ◌<ℤ◌, ℕ, pos, List, [], map, Option, None, Contains}
 use Rattle.std.specs.declared.io.Error.{Error as IoError}
 use Rattle.sled_codec.specs.History.{Message, History}
-use Rattle.sled_codec.specs.Snapshots.{SnapshotModel}
+use Rattle.sled_codec.specs.Snapshots.{SnapshotModel, stable_place}
 use Rattle.sled_store.specs.Device.{State}
 use Rattle.sled_core.specs.declared.iobuf.SegmentPosition.{SegmentPosition}
 use Rattle.sled_core.specs.declared.iterator.Segment.{Segment}
@@ -24,6 +24,8 @@ use Rattle.sled_core.specs.inside.Tail.{least_place}
 pub record StandsFull (sum : List ℕ → ℕ) (size : ℕ) (log : List ℕ) (place : ℕ) (others : List BegunSegment) (reach : ℕ) (H : History)
     (first : SnapshotModel) : Type 0 where
   pub stands : StandsTo sum size log H (stable_below reach H.batches) first reach
+  -- as yet all counts from the snapshot's place
+  pub held : stands.from ≡ stable_place first.stable
   pub leads : LeadsTo sum size log (least_place size first) reach place
   pub near : BeginsNext size H reach place
   pub behind : (x : BegunSegment) → Contains others x → StandsIn sum size log (least_place size first) stands.scanned x.site x.from (records_to x.filled size)

@@ -11,14 +11,17 @@ use Rattle.sled_core.specs.declared.iterator.scan.ScanEnd.TheVariants.{Broken}
 use Rattle.sled_core.specs.Begun.{records_to}
 use Rattle.sled_core.specs.OpenBatches.{stable_below}
 use Rattle.sled_core.specs.inside.Scan.{IsFoundSegment}
-use Rattle.sled_core.specs.inside.Tail.{IsOrdering, AreScanned, least_place}
+use Rattle.sled_core.specs.inside.Tail.{IsOrdering, AreScanned, least_place, tail_begins}
 use Rattle.sled_core.specs.Tail.{IsScanned, Scanned}
 use Rattle.sled_core.specs.inside.Recoverable.{NothingBehind, NoMessageBegins, NoBatchBegins, NoBatchEnds, StandsInline, IsOfHistory, IsSegmentOf, IsMarkOf}
 use Rattle.sled_core.specs.inside.Recoverable.{IsMarkBelow, LiesInSegment, IsPlacedBatch}
 
--- The segments that are found from that of the snapshot on are of the history, and up to a place that the log has reached they are read without a gap. What
--- is found beyond is of the history too, however much of it there is.
+-- The segments that are found from that of the snapshot on are of the history, and from a place that is held up to one that the log has reached they are read
+-- without a gap. What is found beyond is of the history too, however much of it there is.
 -- A is the stable place: the log has reached it, and no batch is open there. Behind it one may be.
+-- What is held counts from `from`, which may lie above the snapshot's place: in front of its segment there may be gaps. A recovery begins its tail at the
+-- segment of the greatest mark of a header that it finds, or at the snapshot's, and that isn't below the segment of `from`: so all that it reads is held. The
+-- entries of tables are held at each cut from `from` on, in whatever segment they lie.
 pub record StandsTo (sum : List ℕ → ℕ) (size : ℕ) (log : List ℕ) (H : History) (A : ℕ) (first : SnapshotModel) (reach : ℕ) : Type 0 where
   pub ordering : List Segment
   pub numbers : IsOrdering sum size log (least_place size first) ordering
@@ -33,12 +36,18 @@ pub record StandsTo (sum : List ℕ → ℕ) (size : ℕ) (log : List ℕ) (H : 
   pub placed : (m : Message) → Contains H.messages m → LiesInSegment size m
   pub batched : (b : Batch) → Contains H.batches b → IsPlacedBatch size H b
   pub closed : (b : Batch) → Contains H.batches b → b.low < A → b.peg < A
-  -- each segment that begins below the place that was reached is there, and is read up to it or leads to the next one
-  pub gapless : (z : ℕ) → z % size ≡ 0 → least_place size first ≤ z → z < reach
+  -- what is held counts from here
+  pub from : ℕ
+  pub from_low : stable_place first.stable ≤ from
+  pub from_high : from ≤ A
+  -- the tail begins there or above: so that is all a recovery needs
+  pub tail_from : from / size * size ≤ tail_begins size (least_place size first) ordering
+  -- each segment from there on that begins below the place that was reached is there, and is read up to it or leads to the next one
+  pub gapless : (z : ℕ) → z % size ≡ 0 → from / size * size ≤ z → z < reach
       → (t : Scanned) × Contains scanned t × (t.segment.place ≡ z)
       × ((reach ≤ z + t.stop) ⊎ ((t.why ≢ Broken) × (u : Segment) × Contains ordering u × (u.place ≡ z + size)))
-  -- the entries of the table are there, at each cut from the place of the snapshot up to the one that was reached
-  pub needed : (cut : ℕ) → stable_place first.stable ≤ cut → cut ≤ reach → (page : ℕ) (m : Message) → Contains (table H cut page) m
+  -- the entries of the table are there, at each cut from there up to the place that was reached
+  pub needed : (cut : ℕ) → from ≤ cut → cut ≤ reach → (page : ℕ) (m : Message) → Contains (table H cut page) m
       → IsSegmentOf sum size log H cut m × StandsInline sum size log m m.pointer
 
 -- A segment that was read to an offset, in this slot and with this place, and why reading ended there.
@@ -118,6 +127,8 @@ BeginsOne others place = (x : BegunSegment) × Contains others x × (x.site.plac
 pub record StandsAmong (sum : List ℕ → ℕ) (size : ℕ) (log : List ℕ) (site : SegmentPosition) (from : ℕ) (others : List BegunSegment) (reach : ℕ) (H : History)
     (first : SnapshotModel) : Type 0 where
   pub stands : StandsTo sum size log H (stable_below reach H.batches) first reach
+  -- as yet all counts from the snapshot's place, and iterators read from there on
+  pub held : stands.from ≡ stable_place first.stable
   pub reached : ReachesIn size H site.place from reach
   pub led : IsLed sum size log (least_place size first) reach site.place
   pub here : StandsIn sum size log (least_place size first) stands.scanned site from 0

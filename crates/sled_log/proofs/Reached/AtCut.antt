@@ -6,7 +6,9 @@ use Rattle.sled_codec.specs.History.{Message, Batch, History, CutFits, table}
 use Rattle.sled_codec.specs.Snapshots.{SnapshotModel, stable_place}
 use Rattle.sled_core.specs.inside.Recoverable.{ActiveFits, IsRecoverableLog, IsSegmentOf, StandsInline}
 use Rattle.sled_log.specs.Recovery.{Scanned, least_place}
-use Rattle.sled_core.proofs.Tail.Multiples.{put_down}
+use Rattle.sled_core.specs.inside.Tail.{greatest_mark}
+use Rattle.sled_core.proofs.Tail.Multiples.{put_down, lower_multiple}
+use Rattle.sled_core.proofs.Tail.SegmentsFrom.{greatest_above}
 use Rattle.sled_core.proofs.Tail.Tails.{further}
 use Rattle.sled_log.proofs.Moments.CutSegment.{cut_segment, ends_segment}
 use Rattle.sled_core.proofs.Reached.StandsTo.{StandsTo}
@@ -59,9 +61,16 @@ module _ (sum : List ℕ → ℕ) (size : ℕ) (log : List ℕ) (some : 256 ≤ 
     placed = λ m there. is.placed m there (messages m there);
     batched = λ b there. is.batched b there (batches b there);
     closed = λ b there low. fits.batches b there low;
-    gapless = λ z aligned low under.
+    from = cut.0;
+    from_low = omega (arith, place);
+    from_high = omega arith;
+    tail_from =
         let least : least_place size next ≡ begins = ap (λ n. n / size * size) place in
-        let at : z ≡ begins = only_here z aligned (omega (arith, low, least)) under in
+        let whole = put_down size begins in
+        let above = lower_multiple size some (least_place size next) (greatest_mark (least_place size next) is.ordering) (greatest_above (least_place size next) is.ordering) in
+        omega (arith, least, above, whole.0, parts.1, ap (λ n. n / size * size) least);
+    gapless = λ z aligned low under.
+        let at : z ≡ begins = only_here z aligned low under in
         ⊎_elim
         (λ ends. absurd (omega (arith, ends, at, under)))
         (λ found. (found.0, found.1, found.2 ∙ sym at, inl (omega (arith, found.3, at))))
