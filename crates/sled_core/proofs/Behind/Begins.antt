@@ -113,8 +113,8 @@ module _ (sum : List ℕ → ℕ) (size : ℕ) (site : SegmentPosition) (device 
   pub next_apart : FollowApart site (map begun_segment behind ++ begun_segment (begun_with next text) ∷ [])
   next_apart = let up = far in follow_one site (map begun_segment behind) (begun_segment (begun_with next text)) holds.apart (omega (arith, up, big)) other (λ y among. (next_above y among, others y among))
 
-  file : fault ≡ None → IsLogFile sum size device.log.bytes site from holds.own.earlier (StaysFrom H stable)
-  file whole = on_file sum size device.log site from holds.own.earlier (StaysFrom H stable) (holds.own.written whole)
+  file : fault ≡ None → IsLogFile sum size device.log.bytes site from holds.own.records.earlier (StaysFrom H stable)
+  file whole = on_file sum size device.log site from holds.own.records.earlier (StaysFrom H stable) (holds.own.written whole)
 
   -- It holds nothing.
   pub next_holds : HoldsNext sum size device fault (behind_place size (site.place + size) behind) (begun_with next text) stays H.batches []
@@ -125,17 +125,19 @@ module _ (sum : List ℕ → ℕ) (size : ℕ) (site : SegmentPosition) (device 
     held = omega arith;
     behind = omega arith;
     segment = record {
-      earlier = [];
-      messages = refl;
-      below = All-nil (λ (m : Message). (m.place < next.place + 0) × (m.place + m.size ≤ next.place + 0));
-      apart = tt;
-      batched = none_batched size next 0 H.batches (subst (λ n. CloseBelow n H.batches) (let same : next.place ≡ next.place + 0 = omega arith in same) closed);
-      no_end = λ b there. inl (let all = All-contains (λ (x : Batch). (x.low < next.place) × (x.peg < next.place)) H.batches b closed there in omega (arith, all.1));
-      place_begins = subst (λ n. n % size ≡ 0) (sym at) (place_aligned size (site.place + size) behind (next_multiple size site.place holds.own.place_begins));
-      slot_begins = aligned;
-      header = λ _. record { mark = mark.mark; is = mark.is; of_history = mark_same H none (record { place = next.place; slot = next.slot; mark = mark.mark }) refl mark.of_history };
-      chain = sym header_long;
-      stand = All-nil _;
+      records = record {
+        earlier = [];
+        messages = refl;
+        below = All-nil (λ (m : Message). (m.place < next.place + 0) × (m.place + m.size ≤ next.place + 0));
+        apart = tt;
+        batched = none_batched size next 0 H.batches (subst (λ n. CloseBelow n H.batches) (let same : next.place ≡ next.place + 0 = omega arith in same) closed);
+        no_end = λ b there. inl (let all = All-contains (λ (x : Batch). (x.low < next.place) × (x.peg < next.place)) H.batches b closed there in omega (arith, all.1));
+        place_begins = subst (λ n. n % size ≡ 0) (sym at) (place_aligned size (site.place + size) behind (next_multiple size site.place holds.own.records.place_begins));
+        slot_begins = aligned;
+        header = λ _. record { mark = mark.mark; is = mark.is; of_history = mark_same H none (record { place = next.place; slot = next.slot; mark = mark.mark }) refl mark.of_history };
+        chain = sym header_long;
+        stand = All-nil _;
+      };
       written = λ whole. record {
         log = device.log.bytes;
         settled = (let on = holds.own.written whole in rests device.log on.log on.settled);

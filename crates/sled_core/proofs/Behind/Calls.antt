@@ -57,17 +57,19 @@ segment-filled sum size site device fault bytes from bs rs H less small rise {st
     let its : Reserved = padding_at size (length bytes) in
     let begun = grows sum size site device fault bytes from bs rs H holds in
     record {
-      earlier = holds.earlier;
-      messages = holds.messages ∙ ap (λ (ms : List Message). holds.earlier ++ ms) (sym (filled_messages sum size number bytes (max 20 from) rs small less holds.chain holds.stand site));
-      below = holds.below;
-      apart = holds.apart;
-      batched = same_batched size site from (batches_in site bytes rs) (batches_in site (bytes ++ more) (rs ++ its ∷ [])) H.batches H.batches (filled_batches sum size number bytes (max 20 from) rs small less holds.chain holds.stand site) refl holds.batched;
-      no_end = no_end_up H site.place (records_end rs (length bytes)) (records_end (rs ++ its ∷ []) (length (bytes ++ more))) (site.place + size) (records_more rs its (length bytes) (length (bytes ++ more)) (omega (arith, length-append bytes more)) (omega arith)) holds.no_end;
-      place_begins = holds.place_begins;
-      slot_begins = holds.slot_begins;
-      header = λ first. let m = holds.header first in record { mark = m.mark; is = take-append-le 20 bytes more (omega (arith, begun)) ∙ m.is; of_history = m.of_history };
-      chain = subst (λ n. IsChain (max 20 from) (rs ++ its ∷ []) n) (sym (filled_long sum size number bytes (max 20 from) rs small less holds.chain holds.stand)) (filled_chain sum size number bytes (max 20 from) rs small less holds.chain holds.stand);
-      stand = filled_stand sum size number bytes (max 20 from) rs small less holds.chain holds.stand;
+      records = record {
+        earlier = holds.records.earlier;
+        messages = holds.records.messages ∙ ap (λ (ms : List Message). holds.records.earlier ++ ms) (sym (filled_messages sum size number bytes (max 20 from) rs small less holds.records.chain holds.records.stand site));
+        below = holds.records.below;
+        apart = holds.records.apart;
+        batched = same_batched size site from (batches_in site bytes rs) (batches_in site (bytes ++ more) (rs ++ its ∷ [])) H.batches H.batches (filled_batches sum size number bytes (max 20 from) rs small less holds.records.chain holds.records.stand site) refl holds.records.batched;
+        no_end = no_end_up H site.place (records_end rs (length bytes)) (records_end (rs ++ its ∷ []) (length (bytes ++ more))) (site.place + size) (records_more rs its (length bytes) (length (bytes ++ more)) (omega (arith, length-append bytes more)) (omega arith)) holds.records.no_end;
+        place_begins = holds.records.place_begins;
+        slot_begins = holds.records.slot_begins;
+        header = λ first. let m = holds.records.header first in record { mark = m.mark; is = take-append-le 20 bytes more (omega (arith, begun)) ∙ m.is; of_history = m.of_history };
+        chain = subst (λ n. IsChain (max 20 from) (rs ++ its ∷ []) n) (sym (filled_long sum size number bytes (max 20 from) rs small less holds.records.chain holds.records.stand)) (filled_chain sum size number bytes (max 20 from) rs small less holds.records.chain holds.records.stand);
+        stand = filled_stand sum size number bytes (max 20 from) rs small less holds.records.chain holds.records.stand;
+      };
       written = holds.written;
       laid = λ ok. laid_append device.log.bytes site.slot bytes more from bs size rise (holds.laid ok);
     }
@@ -83,14 +85,14 @@ module _ (sum : List ℕ → ℕ) (size : ℕ) (device : State) (fault : Option 
     (i : ℕ) (r : Reserved) (there : slice_get s.reserved i ≡ Some r) (is_open : r.state ≡ Open) where
   pub ended_long : (word : ℕ) (k : MessageKind) → length (written s.bytes r.from (ending word k)) ≡ length s.bytes
   ended_long word k =
-      let text : HasText sum (s.site.place / size) s.bytes r = (reserved_in sum size (s.site.place / size) s.bytes r (open_plain r.state is_open) (at_there (Stands sum size (s.site.place / size) s.bytes) s.reserved i r there segment.stand)).text in
-      let inside = at_there (λ z. (max 20 s.written_len ≤ z.from) × (z.from + z.len ≤ length s.bytes)) s.reserved i r there (chain_within (max 20 s.written_len) (length s.bytes) s.reserved segment.chain) in
+      let text : HasText sum (s.site.place / size) s.bytes r = (reserved_in sum size (s.site.place / size) s.bytes r (open_plain r.state is_open) (at_there (Stands sum size (s.site.place / size) s.bytes) s.reserved i r there segment.records.stand)).text in
+      let inside = at_there (λ z. (max 20 s.written_len ≤ z.from) × (z.from + z.len ≤ length s.bytes)) s.reserved i r there (chain_within (max 20 s.written_len) (length s.bytes) s.reserved segment.records.chain) in
       length-written s.bytes (ending word k) r.from (fits sum (s.site.place / size) s.bytes r inside.1 text word k)
 
   pub ended_head : (word : ℕ) (k : MessageKind) → take 20 (written s.bytes r.from (ending word k)) ≡ take 20 s.bytes
   ended_head word k =
-      let text : HasText sum (s.site.place / size) s.bytes r = (reserved_in sum size (s.site.place / size) s.bytes r (open_plain r.state is_open) (at_there (Stands sum size (s.site.place / size) s.bytes) s.reserved i r there segment.stand)).text in
-      let inside = at_there (λ z. (max 20 s.written_len ≤ z.from) × (z.from + z.len ≤ length s.bytes)) s.reserved i r there (chain_within (max 20 s.written_len) (length s.bytes) s.reserved segment.chain) in
+      let text : HasText sum (s.site.place / size) s.bytes r = (reserved_in sum size (s.site.place / size) s.bytes r (open_plain r.state is_open) (at_there (Stands sum size (s.site.place / size) s.bytes) s.reserved i r there segment.records.stand)).text in
+      let inside = at_there (λ z. (max 20 s.written_len ≤ z.from) × (z.from + z.len ≤ length s.bytes)) s.reserved i r there (chain_within (max 20 s.written_len) (length s.bytes) s.reserved segment.records.chain) in
       let behind = inside.0 in
       part-written_before s.bytes (ending word k) r.from 0 20 (omega (arith, behind)) (fits sum (s.site.place / size) s.bytes r inside.1 text word k)
 
@@ -128,7 +130,7 @@ module _ (sum : List ℕ → ℕ) (size : ℕ) (site : SegmentPosition) (device 
       let rest : List Reserved = drop (sealed_count s.sealed) s.reserved in
       next_with sum size device fault begins s stays H.batches own held_here device fault s.bytes s.written_len sealed_now s.reserved held_here.inside
       (seal_are s.written_len s.reserved s.sealed (sealed_end s.written_len s.sealed) (sealed_count s.sealed) (length s.bytes) held_here.are refl refl some
-      (chain_current s.written_len s.reserved s.sealed (length s.bytes) held_here.are held_here.segment.chain))
+      (chain_current s.written_len s.reserved s.sealed (length s.bytes) held_here.are held_here.segment.records.chain))
       (let at = end_one s.written_len s.sealed (seal_at (length s.bytes) rest) in omega (arith, at)) held_here.behind
       (segment-sealed sum size s.site device fault s.bytes s.written_len s.sealed s.reserved rest own_history held_here.inside held_here.held held_here.segment)
 
@@ -145,7 +147,7 @@ module _ (sum : List ℕ → ℕ) (size : ℕ) (site : SegmentPosition) (device 
       next_with sum size device fault begins s stays H.batches own held_here device fault (s.bytes ++ more) s.written_len s.sealed (s.reserved ++ r ∷ []) inside
       (sealed_more s.written_len s.reserved s.sealed (r ∷ []) held_here.are) (omega (arith, held, length-append s.bytes more)) (omega (arith, behind, length-append s.bytes more))
       (segment-append sum size s.site device fault s.bytes s.written_len s.sealed s.reserved own_history held_here.segment more r (omega (arith, begun))
-      (λ k d lt. (chain_within (max 20 s.written_len) (length s.bytes) s.reserved held_here.segment.chain k d lt).1) at long is_open has_room its_rise text)
+      (λ k d lt. (chain_within (max 20 s.written_len) (length s.bytes) s.reserved held_here.segment.records.chain k d lt).1) at long is_open has_room its_rise text)
 
   abbrev pub behind-append : (more : List ℕ) (r : Reserved) → r.from ≡ length s.bytes → r.len ≡ length more → r.state ≡ Open → r.from + 32 ≤ size → HasText sum (s.site.place / size) (s.bytes ++ more) r → length (s.bytes ++ more) ≤ size
       → HoldsIn sum (log_parts size site device fault bytes from bs rs) (pre ++ now_with s (s.bytes ++ more) s.written_len s.sealed (s.reserved ++ r ∷ []) ∷ post) H
@@ -164,7 +166,7 @@ module _ (sum : List ℕ → ℕ) (size : ℕ) (site : SegmentPosition) (device 
   pad_next less small =
       let held = held_here.held in
       let behind = held_here.behind in
-      let long = filled_long sum size (s.site.place / size) s.bytes (max 20 s.written_len) s.reserved small less held_here.segment.chain held_here.segment.stand in
+      let long = filled_long sum size (s.site.place / size) s.bytes (max 20 s.written_len) s.reserved small less held_here.segment.records.chain held_here.segment.records.stand in
       next_with sum size device fault begins s stays H.batches own held_here device fault filled_bytes s.written_len s.sealed with_padding (omega (arith, long))
       (sealed_more s.written_len s.reserved s.sealed (padding_at size (length s.bytes) ∷ []) held_here.are) (omega (arith, held, long, less)) (omega (arith, behind, long, less))
       (segment-filled sum size s.site device fault s.bytes s.written_len s.sealed s.reserved own_history less small its_rise held_here.segment)

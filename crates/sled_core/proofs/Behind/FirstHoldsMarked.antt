@@ -55,7 +55,7 @@ next-with sum size device fault place s stays batches own b apart off small mark
   held = here.held;
   behind = here.behind;
   segment = segment-with sum size s.site device fault s.bytes s.written_len s.sealed s.reserved own batches b apart off here.segment
-      (λ none. let m = here.segment.header none in marked s (in_first s []) none m.mark (buffer_header sum s.site s.bytes (record { messages = own; batches = batches }) m small));
+      (λ none. let m = here.segment.records.header none in marked s (in_first s []) none m.mark (buffer_header sum s.site s.bytes (record { messages = own; batches = batches }) m small));
   above = here.above;
 }
 

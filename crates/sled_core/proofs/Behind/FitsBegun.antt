@@ -56,18 +56,11 @@ module _ (sum : List ℕ → ℕ) (size : ℕ) (site : SegmentPosition) (device 
   pub behind-fits-begun : FitsIn sum (log_parts size site device fault bytes from bs rs) (behind ++ begun ∷ []) reach pins H A f U
   behind-fits-begun = record {
     holds = holds_begun;
-    near = fits.near;
-    ends = fits.ends;
-    no_batch = fits.no_batch;
-    no_end = fits.no_end;
+    reached = fits.reached;
     among = λ ok none. stands_begun none device.log.bytes (zeros ok) (fits.among ok none);
     beyond = λ to far ok none. stands_begun none (padded to device.log.bytes) (λ i low high. padded_get to device.log.bytes i ∙ zeros ok i low high) (fits.beyond to far ok none);
-    blobs = fits.blobs;
-    stored = fits.stored;
-    entries = fits.entries;
-    below = fits.below;
-    names = fits.names;
-    own_names = fits.own_names;
+    items = fits.items;
+    named = fits.named;
     passes = fits.passes;
     pinned = fits.pinned;
     left = fits.left;

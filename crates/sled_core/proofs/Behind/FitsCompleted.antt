@@ -124,7 +124,7 @@ module _ (sum : List ℕ → ℕ) (size : ℕ) (site : SegmentPosition) (device 
       omega (arith, up, grown, short, above)
 
   reached : reach ≤ m.place
-  reached = let near = fits.near in let at = past in omega (arith, near, at)
+  reached = let near = fits.reached.near in let at = past in omega (arith, near, at)
 
   -- where nothing was written of its segment, the beginning of the slot has zeros
   clean : s.written_len ≡ 0 → AreZeros device.log.bytes s.site.slot (s.site.slot + 20)
@@ -139,7 +139,7 @@ module _ (sum : List ℕ → ℕ) (size : ℕ) (site : SegmentPosition) (device 
   -- A reader finds the same of a file that has these zeros.
   stands_new : NoHeaderOfZeros sum → (log : List ℕ) → (s.written_len ≡ 0 → AreZeros log s.site.slot (s.site.slot + 20)) → StandsAmong sum size log site from others reach (logged H) first → StandsAmong sum size log site from others' reach (logged H') first
   stands_new none log zeros among = subst (λ (l : List BegunSegment). StandsAmong sum size log site from l reach (logged H') first) (sym (begun_same pre s s' post its_site so_far filling))
-      (other_adds sum size log site from reach (logged H) (logged H') first least none (begun_segment s) among_others had.segment.place_begins zeros (in_log m) put above inside room (lies.lies (below_in_log m below)) among)
+      (other_adds sum size log site from reach (logged H) (logged H') first least none (begun_segment s) among_others had.segment.records.place_begins zeros (in_log m) put above inside room (lies.lies (below_in_log m below)) among)
 
   alone_new : NoHeaderOfZeros sum → StandsAmong sum size device.log.bytes site from others' reach (logged H') first
   alone_new none = stands_new none device.log.bytes clean (fits.among ok none)
@@ -148,7 +148,7 @@ module _ (sum : List ℕ → ℕ) (size : ℕ) (site : SegmentPosition) (device 
   beyond_new to far none = stands_new none (padded to device.log.bytes) (λ first_one i low high. padded_get to device.log.bytes i ∙ clean first_one i low high) (fits.beyond to far ok none)
 
   names_new : NamesFit sum size device.snapshots (logged H') f first
-  names_new = let begun = fits.holds.begun.reached in let at = past in names-adds (logged H) (logged H') (in_log m) put sum size device.snapshots f first (omega (arith, begun, at)) fits.names
+  names_new = let begun = fits.holds.begun.reached in let at = past in names-adds (logged H) (logged H') (in_log m) put sum size device.snapshots f first (omega (arith, begun, at)) fits.named.names
 
   -- no batch is added, so the stable place is the same
   same_stable : stable_below reach H'.batches ≡ stable_below reach H.batches
@@ -156,27 +156,27 @@ module _ (sum : List ℕ → ℕ) (size : ℕ) (site : SegmentPosition) (device 
 
   blobs_new : BlobsFit sum device.blobs H' (stable_below reach H'.batches)
   blobs_new = subst (λ n. BlobsFit sum device.blobs H' n) (sym same_stable)
-      (let low = stable_low reach H.batches in let at = reached in blobs-adds H H' m adds sum device.blobs (stable_below reach H.batches) (omega (arith, low, at)) stored fits.blobs)
+      (let low = stable_low reach H.batches in let at = reached in blobs-adds H H' m adds sum device.blobs (stable_below reach H.batches) (omega (arith, low, at)) stored fits.items.blobs)
 
   entries_new : KeepsEntries sum device.blobs H' (stable_below reach H'.batches)
   entries_new = subst (KeepsEntries sum device.blobs H') (sym same_stable)
-      (let low = stable_low reach H.batches in let at = reached in entries-adds H H' m adds sum device.blobs (stable_below reach H.batches) (omega (arith, low, at)) fits.entries)
+      (let low = stable_low reach H.batches in let at = reached in entries-adds H H' m adds sum device.blobs (stable_below reach H.batches) (omega (arith, low, at)) fits.items.entries)
 
   -- what is written still ends there
   ends_new : (x : Message) → Contains (logged H').messages x → x.place < site.place + from → (x.place < reach) × (x.place + x.size ≤ reach)
   ends_new x there below = elim (was_or_added (logged H) (logged H') (in_log m) put x there) [
-    | inl was ↦ fits.ends x was below
+    | inl was ↦ fits.reached.ends x was below
     | inr added ↦ absurd (let same = ap (λ (y : Message). y.place) added in let at = past in omega (arith, same, at, below))
   ]
 
   stored_behind : KeepsItems sum device.blobs H' (stable_below reach H'.batches)
   stored_behind x there beyond = elim (was_or_added H H' m adds x there) [
-    | inl was ↦ (let same = same_stable in fits.stored x was (omega (arith, beyond, same)))
+    | inl was ↦ (let same = same_stable in fits.items.stored x was (omega (arith, beyond, same)))
     | inr own ↦ subst (λ (y : Message). KeepsItem sum device.blobs y y.pointer) own stored
   ]
 
   below_new : BlobsAreBelow H'
-  below_new x there = elim (was_or_added H H' m adds x there) [ inl was ↦ fits.below x was | inr own ↦ subst (λ (y : Message). BlobIsBelow y y.pointer) own below ]
+  below_new x there = elim (was_or_added H H' m adds x there) [ inl was ↦ fits.items.below x was | inr own ↦ subst (λ (y : Message). BlobIsBelow y y.pointer) own below ]
 
   left_new : LeavesRecoverable sum size H' (stable_below reach H'.batches) f device
   left_new =
@@ -189,18 +189,24 @@ module _ (sum : List ℕ → ℕ) (size : ℕ) (site : SegmentPosition) (device 
       let same : first ≡ holds.begun.first = one_begin sum device.snapshots.file first holds.begun.first fits.holds.begun.begins holds.begun.begins in
       record {
         holds = holds;
-        near = fits.near;
-        ends = ends_new;
-        no_batch = λ b there. fits.no_batch b (subst (λ (l : List Batch). Contains l b) adds.batches there);
-        no_end = λ b there. fits.no_end b (subst (λ (l : List Batch). Contains l b) adds.batches there);
+        reached = record {
+          near = fits.reached.near;
+          ends = ends_new;
+          no_batch = λ b there. fits.reached.no_batch b (subst (λ (l : List Batch). Contains l b) adds.batches there);
+          no_end = λ b there. fits.reached.no_end b (subst (λ (l : List Batch). Contains l b) adds.batches there);
+        };
         among = λ fine none. subst (λ (z : SnapshotModel). StandsAmong sum size device.log.bytes site from others' reach (logged H') z) same (alone_new none);
         beyond = λ to far fine none. subst (λ (z : SnapshotModel). StandsAmong sum size (padded to device.log.bytes) site from others' reach (logged H') z) same (beyond_new to far none);
-        blobs = blobs_new;
-        stored = stored_behind;
-        entries = entries_new;
-        below = below_new;
-        names = subst (λ (z : SnapshotModel). NamesFit sum size device.snapshots (logged H') f z) same names_new;
-        own_names = fits.own_names;
+        items = record {
+          blobs = blobs_new;
+          stored = stored_behind;
+          entries = entries_new;
+          below = below_new;
+        };
+        named = record {
+          names = subst (λ (z : SnapshotModel). NamesFit sum size device.snapshots (logged H') f z) same names_new;
+          own_names = fits.named.own_names;
+        };
         passes = let passes = fits.passes in let same = same_stable in omega (arith, passes, same);
         pinned = λ some. out;
         left = left_new;

@@ -69,7 +69,7 @@ module _ (sum : List ℕ → ℕ) (size : ℕ) (site : SegmentPosition) (device 
       omega (arith, up, grown, short, above)
 
   reached : reach ≤ b.low
-  reached = let near = fits.near in let at = past in omega (arith, near, at)
+  reached = let near = fits.reached.near in let at = past in omega (arith, near, at)
 
   -- where nothing was written of its segment, the beginning of the slot has zeros
   clean : s.written_len ≡ 0 → AreZeros device.log.bytes s.site.slot (s.site.slot + 20)
@@ -86,7 +86,7 @@ module _ (sum : List ℕ → ℕ) (size : ℕ) (site : SegmentPosition) (device 
   stands_new : NoHeaderOfZeros sum → (log : List ℕ) → (s.written_len ≡ 0 → AreZeros log s.site.slot (s.site.slot + 20)) → ((x : BegunSegment) → Contains others x → LiesBesideFilling size log b.peg x) → StandsAmong sum size log site from others reach (logged H) first
       → StandsAmong sum size log site from others' reach (logged H') first
   stands_new none log zeros lies among = subst (λ (l : List BegunSegment). StandsAmong sum size log site from l reach (logged H') first) (sym (begun_same pre s s' post its_site so_far filling))
-      (other-marks sum size log site from reach (logged H) (logged H') first least none (begun_segment s) among_others had.segment.place_begins zeros b put above inside (placing among.stands.batched) later lies among)
+      (other-marks sum size log site from reach (logged H) (logged H') first least none (begun_segment s) among_others had.segment.records.place_begins zeros b put above inside (placing among.stands.batched) later lies among)
 
   alone_new : NoHeaderOfZeros sum → StandsAmong sum size device.log.bytes site from others' reach (logged H') first
   alone_new none = stands_new none device.log.bytes clean beside (fits.among ok none)
@@ -95,20 +95,20 @@ module _ (sum : List ℕ → ℕ) (size : ℕ) (site : SegmentPosition) (device 
   beyond_new to far none = stands_new none (padded to device.log.bytes) (λ first_one i low high. padded_get to device.log.bytes i ∙ clean first_one i low high) (λ x known. beside_padded size to device.log.bytes b.peg x (beside x known)) (fits.beyond to far ok none)
 
   names_new : NamesFit sum size device.snapshots (logged H') f first
-  names_new = let begun = fits.holds.begun.reached in let at = past in names-marks (logged H) (logged H') b put sum size device.snapshots f first (omega (arith, begun, at)) fits.names
+  names_new = let begun = fits.holds.begun.reached in let at = past in names-marks (logged H) (logged H') b put sum size device.snapshots f first (omega (arith, begun, at)) fits.named.names
 
   -- the batch begins behind what is read, so the stable place is the same
   same_stable : stable_below reach H'.batches ≡ stable_below reach H.batches
   same_stable = ap (stable_below reach) adds.batches ∙ stable_one_more reach H.batches b reached
 
   blobs_new : BlobsFit sum device.blobs H' (stable_below reach H'.batches)
-  blobs_new = subst (λ n. BlobsFit sum device.blobs H' n) (sym same_stable) (blobs-marks H H' b adds sum device.blobs (stable_below reach H.batches) fits.blobs)
+  blobs_new = subst (λ n. BlobsFit sum device.blobs H' n) (sym same_stable) (blobs-marks H H' b adds sum device.blobs (stable_below reach H.batches) fits.items.blobs)
 
   stored_behind : KeepsItems sum device.blobs H' (stable_below reach H'.batches)
-  stored_behind x there beyond = let same = same_stable in fits.stored x (message_was H H' b adds x there) (omega (arith, beyond, same))
+  stored_behind x there beyond = let same = same_stable in fits.items.stored x (message_was H H' b adds x there) (omega (arith, beyond, same))
 
   entries_new : KeepsEntries sum device.blobs H' (stable_below reach H'.batches)
-  entries_new = subst (KeepsEntries sum device.blobs H') (sym same_stable) (entries-marks H H' b adds sum device.blobs (stable_below reach H.batches) fits.entries)
+  entries_new = subst (KeepsEntries sum device.blobs H') (sym same_stable) (entries-marks H H' b adds sum device.blobs (stable_below reach H.batches) fits.items.entries)
 
   left_new : LeavesRecoverable sum size H' (stable_below reach H'.batches) f device
   left_new =
@@ -121,18 +121,24 @@ module _ (sum : List ℕ → ℕ) (size : ℕ) (site : SegmentPosition) (device 
       let same : first ≡ holds.begun.first = one_begin sum device.snapshots.file first holds.begun.first fits.holds.begun.begins holds.begun.begins in
       record {
         holds = holds;
-        near = fits.near;
-        ends = λ x there below. fits.ends x (message_was (logged H) (logged H') b put x there) below;
-        no_batch = no_batch (logged H) (logged H') b put reach (site.place + from) (inr past) fits.no_batch;
-        no_end = no_end (logged H) (logged H') b put reach (site.place + from) past fits.no_end;
+        reached = record {
+          near = fits.reached.near;
+          ends = λ x there below. fits.reached.ends x (message_was (logged H) (logged H') b put x there) below;
+          no_batch = no_batch (logged H) (logged H') b put reach (site.place + from) (inr past) fits.reached.no_batch;
+          no_end = no_end (logged H) (logged H') b put reach (site.place + from) past fits.reached.no_end;
+        };
         among = λ fine none. subst (λ (z : SnapshotModel). StandsAmong sum size device.log.bytes site from others' reach (logged H') z) same (alone_new none);
         beyond = λ to far fine none. subst (λ (z : SnapshotModel). StandsAmong sum size (padded to device.log.bytes) site from others' reach (logged H') z) same (beyond_new to far none);
-        blobs = blobs_new;
-        stored = stored_behind;
-        entries = entries_new;
-        below = λ x there. fits.below x (message_was H H' b adds x there);
-        names = subst (λ (z : SnapshotModel). NamesFit sum size device.snapshots (logged H') f z) same names_new;
-        own_names = fits.own_names;
+        items = record {
+          blobs = blobs_new;
+          stored = stored_behind;
+          entries = entries_new;
+          below = λ x there. fits.items.below x (message_was H H' b adds x there);
+        };
+        named = record {
+          names = subst (λ (z : SnapshotModel). NamesFit sum size device.snapshots (logged H') f z) same names_new;
+          own_names = fits.named.own_names;
+        };
         passes = let passes = fits.passes in let same = same_stable in omega (arith, passes, same);
         pinned = fits.pinned;
         left = left_new;

@@ -60,19 +60,15 @@ module _ (sum : List ℕ → ℕ) (size : ℕ) (site : SegmentPosition) (device 
       let lie : others ≡ others' = sym (begun_same pre s s' post its_site so_far filling) in
       record {
         holds = holds;
-        near = fits.near;
-        ends = fits.ends;
-        no_batch = fits.no_batch;
-        no_end = fits.no_end;
+        reached = fits.reached;
         among = λ ok none. subst (λ (first : SnapshotModel). StandsAmong sum size device.log.bytes site from others' reach (logged H) first) same (subst (λ (l : List BegunSegment). StandsAmong sum size device.log.bytes site from l reach (logged H) fits.holds.begun.first) lie (fits.among ok none));
         beyond = λ to far ok none. subst (λ (first : SnapshotModel). StandsAmong sum size (padded to device.log.bytes) site from others' reach (logged H) first) same
             (subst (λ (l : List BegunSegment). StandsAmong sum size (padded to device.log.bytes) site from l reach (logged H) fits.holds.begun.first) lie (fits.beyond to far ok none));
-        blobs = fits.blobs;
-        stored = fits.stored;
-        entries = fits.entries;
-        below = fits.below;
-        names = subst (λ (first : SnapshotModel). NamesFit sum size device.snapshots (logged H) f first) same fits.names;
-        own_names = fits.own_names;
+        items = fits.items;
+        named = record {
+          names = subst (λ (first : SnapshotModel). NamesFit sum size device.snapshots (logged H) f first) same fits.named.names;
+          own_names = fits.named.own_names;
+        };
         passes = fits.passes;
         pinned = fits.pinned;
         left = fits.left;

@@ -90,7 +90,7 @@ module _ (sum : List ℕ → ℕ) (size : ℕ) (site : SegmentPosition) (device 
   split = there_split s.sealed k b there
 
   slot_begins : s.site.slot % size ≡ 0
-  slot_begins = (held_here sum size site device fault bytes from bs rs (logged H) pre s post fits.holds).segment.slot_begins
+  slot_begins = (held_here sum size site device fault bytes from bs rs (logged H) pre s post fits.holds).segment.records.slot_begins
 
   its_reach : s.site.slot ≤ length new
   its_reach = reaches sum size site device fault bytes from bs rs (logged H) pre s post fits.holds big whole short place_small slot_small fresh b rest closed recorded (take k s.sealed) split
@@ -150,7 +150,7 @@ module _ (sum : List ℕ → ℕ) (size : ℕ) (site : SegmentPosition) (device 
 
   -- At each moment of the write, and of the sync, a crash leaves what can be recovered.
   pub behind-along : Along (LeavesRecoverable sum size H (stable_below reach H.batches) f) (Wrote (s.site.slot + at) asked asked ∷ Synced ∷ []) device
-  behind-along = moments.write_along sum size big device rest_now H f first reach reach (omega arith) ordered fits.stored fits.names fits.blobs fits.left (s.site.slot + at) asked torn stands_new
+  behind-along = moments.write_along sum size big device rest_now H f first reach reach (omega arith) ordered fits.items.stored fits.named.names fits.items.blobs fits.left (s.site.slot + at) asked torn stands_new
 
   holds_new : HoldsIn sum (log_parts size site after_sync fault bytes from bs rs) (pre ++ grown ∷ post) (logged H)
   holds_new = behind-written sum size site device fault bytes from bs rs (logged H) pre s post fits.holds big whole short are held place_small slot_small fresh k b there ready after_sync refl refl
@@ -160,19 +160,15 @@ module _ (sum : List ℕ → ℕ) (size : ℕ) (site : SegmentPosition) (device 
   unfolding holds_new
   behind-fits-written = record {
     holds = holds_new;
-    near = fits.near;
-    ends = fits.ends;
-    no_batch = fits.no_batch;
-    no_end = fits.no_end;
+    reached = fits.reached;
     among = λ ok none. among_new none;
     beyond = λ to far ok none. beyond_new none to far;
-    blobs = fits.blobs;
-    stored = fits.stored;
-    entries = fits.entries;
-    below = fits.below;
-    names = fits.names;
-    own_names = λ none. own_same sum device after_sync refl refl (fits.own_names none);
+    items = fits.items;
+    named = record {
+      names = fits.named.names;
+      own_names = λ none. own_same sum device after_sync refl refl (fits.named.own_names none);
+    };
     passes = fits.passes;
     pinned = fits.pinned;
-    left = moments.synced_leaves sum size big device rest_now H f first reach reach (omega arith) ordered fits.stored fits.names fits.blobs fits.left (s.site.slot + at) asked torn stands_new;
+    left = moments.synced_leaves sum size big device rest_now H f first reach reach (omega arith) ordered fits.items.stored fits.named.names fits.items.blobs fits.left (s.site.slot + at) asked torn stands_new;
   }

@@ -71,13 +71,13 @@ module _ (sum : List ℕ → ℕ) (size : ℕ) (device : State) (fault : Option 
     rises = stable_rises reach reach' up H.batches
 
     stored_now : KeepsItems sum device.blobs H stable
-    stored_now m there past = let up = rises in fits.stored m there (omega (arith, up, past))
+    stored_now m there past = let up = rises in fits.items.stored m there (omega (arith, up, past))
 
     entries_now : KeepsEntries sum device.blobs H stable
-    entries_now = entries_higher sum device.blobs H (stable_below reach H.batches) stable ascends rises fits.stored fits.entries
+    entries_now = entries_higher sum device.blobs H (stable_below reach H.batches) stable ascends rises fits.items.stored fits.items.entries
 
     blobs_now : BlobsFit sum device.blobs H stable
-    blobs_now = blobs_higher sum device.blobs H (stable_below reach H.batches) stable ascends rises fits.stored fits.blobs
+    blobs_now = blobs_higher sum device.blobs H (stable_below reach H.batches) stable ascends rises fits.items.stored fits.items.blobs
 
     fits_further : FitsFull sum size device fault (s.site.place + size) ss reach' pins H A f U
     fits_further = record {
@@ -85,20 +85,23 @@ module _ (sum : List ℕ → ℕ) (size : ℕ) (device : State) (fault : Option 
       bytes = s.bytes;
       next = refl;
       holds = holds_full;
-      near = near';
-      ends = ends';
-      no_batch = no_batch';
-      no_end = no_end';
+      reached = record {
+        near = near';
+        ends = ends';
+        no_batch = no_batch';
+        no_end = no_end';
+      };
       beyond = λ to none zeros. stands to zeros;
-      blobs = blobs_now;
-      stored = stored_now;
-      entries = entries_now;
-      below = fits.below;
-      names = fits.names;
-      own_names = fits.own_names;
+      items = record {
+        blobs = blobs_now;
+        stored = stored_now;
+        entries = entries_now;
+        below = fits.items.below;
+      };
+      named = fits.named;
       passes = let passes = fits.passes in let up = rises in omega (arith, passes, up);
       pinned = fits.pinned;
-      left = settled_recoverable sum size big device H stable f fits.holds.begun.first reach' ascends stored_now (rest sum size device fault place s ss fits big whole) fits.names blobs_now
+      left = settled_recoverable sum size big device H stable f fits.holds.begun.first reach' ascends stored_now (rest sum size device fault place s ss fits big whole) fits.named.names blobs_now
           (λ zeros. (subst (λ (l : List ℕ). StandsFull sum size l (s.site.place + size) (map begun_segment ss) reach' (logged H) fits.holds.begun.first) (padded_none 0 device.log.bytes (omega arith)) (stands 0 zeros)).stands);
     }
 
@@ -151,7 +154,7 @@ module _ (sum : List ℕ → ℕ) (size : ℕ) (device : State) (fault : Option 
     -- a message of the segment ends below where the reading does
     ends_here : (m : Message) → Contains (logged H).messages m → m.place < s.site.place + size → (m.place < s.site.place + stop) × (m.place + m.size ≤ s.site.place + stop)
     ends_here m there under = elim (cases_lt m.place place) [
-      | inl before ↦ (let low = fits.ends m there before in let near = fits.near in let at = begins in (omega (arith, low.0, near, at), omega (arith, low.1, near, at)))
+      | inl before ↦ (let low = fits.reached.ends m there before in let near = fits.reached.near in let at = begins in (omega (arith, low.0, near, at), omega (arith, low.1, near, at)))
       | inr behind ↦ (
           let r = its_read.2 in
           let at = r.at_place in
@@ -170,7 +173,7 @@ module _ (sum : List ℕ → ℕ) (size : ℕ) (device : State) (fault : Option 
         let short = within in
         let b = begins in
         let further : raised size (s.site.place + stop) ≡ s.site.place + size =
-        one_multiple size big (s.site.place + size) (s.site.place + stop + (size - 1)) (next_multiple size s.site.place holds_full.own.place_begins) (omega (arith, header, big)) (omega (arith, short, big)) in
+        one_multiple size big (s.site.place + size) (s.site.place + stop + (size - 1)) (next_multiple size s.site.place holds_full.own.records.place_begins) (omega (arith, header, big)) (omega (arith, short, big)) in
         record {
           above = omega (arith, short);
           next = omega (arith, further);
@@ -189,7 +192,7 @@ module _ (sum : List ℕ → ℕ) (size : ℕ) (device : State) (fault : Option 
       let here_file = full_file sum size device fault place s ss fits big whole zeros in
       let a = its_scan device.log.bytes here_file in
       let b = its_scan (padded to device.log.bytes) (fits.beyond to whole zeros) in
-      same_stop sum size device.log.bytes (replicate (to - length device.log.bytes) 0) s.site.slot s.site.place holds_full.own.slot_begins a.0 (its_read device.log.bytes here_file).0 (its_read device.log.bytes here_file).1 (goes device.log.bytes here_file) a.1
+      same_stop sum size device.log.bytes (replicate (to - length device.log.bytes) 0) s.site.slot s.site.place holds_full.own.records.slot_begins a.0 (its_read device.log.bytes here_file).0 (its_read device.log.bytes here_file).1 (goes device.log.bytes here_file) a.1
       b.0 (its_read (padded to device.log.bytes) (fits.beyond to whole zeros)).0 (its_read (padded to device.log.bytes) (fits.beyond to whole zeros)).1 b.1
 
   -- all messages of the segments so far end below the next place
@@ -208,7 +211,7 @@ module _ (sum : List ℕ → ℕ) (size : ℕ) (device : State) (fault : Option 
   full_further = subst (λ n. (now : ℕ) × FitsFull sum size device fault (n + size) ss now pins H A f U) begins (elim (zeros_or_not sum) [
     | inl zeros ↦ (
         let here_file = full_file sum size device fault place s ss fits big whole zeros in
-        let near = fits.near in
+        let near = fits.reached.near in
         let at = begins in
         let short = within device.log.bytes here_file in (
           s.site.place + stop device.log.bytes here_file,
@@ -217,7 +220,7 @@ module _ (sum : List ℕ → ℕ) (size : ℕ) (device : State) (fault : Option 
               (λ to none. subst (λ n. StandsFull sum size (padded to device.log.bytes) (s.site.place + size) (map begun_segment ss) (s.site.place + n) (logged H) fits.holds.begun.first) (same_end zeros to)
               (stands_further (padded to device.log.bytes) (fits.beyond to whole zeros))),
         ))
-    | inr never ↦ (let near = fits.near in let at = begins in (
+    | inr never ↦ (let near = fits.reached.near in let at = begins in (
       s.site.place + size,
       fits_further (s.site.place + size) (omega (arith, near, at)) (omega arith) ends_all
           (λ b there. cases_lt b.low (s.site.place + size)) (λ b there. cases_lt b.peg (s.site.place + size)) (λ to none. absurd (never none)),

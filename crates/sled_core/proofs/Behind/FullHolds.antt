@@ -32,7 +32,7 @@ rise_behind from (b ∷ bs) to rise = by_test b.is_written (rise_behind b.end bs
 -- nothing is reserved behind what is written
 pub none_reserved : (sum : List ℕ → ℕ) (size : ℕ) (site : SegmentPosition) (device : State) (fault : Option IoError) (bytes : List ℕ) (from : ℕ) (bs : List Sealed) (rs : List Reserved) (H : History) {stays : Message → Type 0}
     → HoldsSegment sum (log_parts size site device fault bytes from bs rs) stays H → length bytes ≤ from → rs ≡ []
-none_reserved sum size site device fault bytes from bs rs H holds low = none_behind (max 20 from) rs (length bytes) holds.chain (omega (arith, low)) (some_long sum size (site.place / size) bytes rs holds.stand)
+none_reserved sum size site device fault bytes from bs rs H holds low = none_behind (max 20 from) rs (length bytes) holds.records.chain (omega (arith, low)) (some_long sum size (site.place / size) bytes rs holds.records.stand)
 
 -- The log holds the same where that is said of its first segment.
 abbrev pub emptied : (sum : List ℕ → ℕ) (size : ℕ) (site : SegmentPosition) (device : State) (fault : Option IoError) (bytes : List ℕ) (from : ℕ) (bs : List Sealed) (rs : List Reserved) (behind : List SegmentParts) (H : History)

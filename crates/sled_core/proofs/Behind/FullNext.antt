@@ -67,38 +67,41 @@ module _ (sum : List ℕ → ℕ) (size : ℕ) (device : State) (fault : Option 
     rises = stable_rises reach reach' up H.batches
 
     stored_now : KeepsItems sum device.blobs H stable
-    stored_now m there past = let up = rises in fits.stored m there (omega (arith, up, past))
+    stored_now m there past = let up = rises in fits.items.stored m there (omega (arith, up, past))
 
     entries_now : KeepsEntries sum device.blobs H stable
-    entries_now = entries_higher sum device.blobs H (stable_below reach H.batches) stable ordered rises fits.stored fits.entries
+    entries_now = entries_higher sum device.blobs H (stable_below reach H.batches) stable ordered rises fits.items.stored fits.items.entries
 
     blobs_now : BlobsFit sum device.blobs H stable
-    blobs_now = blobs_higher sum device.blobs H (stable_below reach H.batches) stable ordered rises fits.stored fits.blobs
+    blobs_now = blobs_higher sum device.blobs H (stable_below reach H.batches) stable ordered rises fits.items.stored fits.items.blobs
 
     fits_now : FitsIn sum (log_parts size s.site device fault s.bytes s.written_len s.sealed s.reserved) ss reach' pins H A f U
     fits_now = record {
       holds = holds_now;
-      near = near';
-      ends = ends';
-      no_batch = no_batch';
-      no_end = no_end';
+      reached = record {
+        near = near';
+        ends = ends';
+        no_batch = no_batch';
+        no_end = no_end';
+      };
       among = λ none zeros. stands device.log.bytes (full_file zeros);
       beyond = λ to far none zeros. stands (padded to device.log.bytes) (fits.beyond to none zeros);
-      blobs = blobs_now;
-      stored = stored_now;
-      entries = entries_now;
-      below = fits.below;
-      names = fits.names;
-      own_names = fits.own_names;
+      items = record {
+        blobs = blobs_now;
+        stored = stored_now;
+        entries = entries_now;
+        below = fits.items.below;
+      };
+      named = fits.named;
       passes = let passes = fits.passes in let up = rises in omega (arith, passes, up);
       pinned = fits.pinned;
-      left = settled_recoverable sum size big device H stable f first reach' ordered stored_now rest fits.names blobs_now (λ zeros. (stands device.log.bytes (full_file zeros)).stands);
+      left = settled_recoverable sum size big device H stable f first reach' ordered stored_now rest fits.named.names blobs_now (λ zeros. (stands device.log.bytes (full_file zeros)).stands);
     }
 
   -- The messages below what is written of it end there.
   ends_written : s.written_len < size → (m : Message) → Contains (logged H).messages m → m.place < s.site.place + s.written_len → (m.place < s.site.place + s.written_len) × (m.place + m.size ≤ s.site.place + s.written_len)
   ends_written left_over m there below = elim (which_part sum size s.site device fault s.bytes s.written_len s.sealed s.reserved (logged H) holds_now m there) [
-    | inl mine ↦ All-contains (λ (x : Message). (x.place < s.site.place + s.written_len) × (x.place + x.size ≤ s.site.place + s.written_len)) holds_now.own.earlier m holds_now.own.below
+    | inl mine ↦ All-contains (λ (x : Message). (x.place < s.site.place + s.written_len) × (x.place + x.size ≤ s.site.place + s.written_len)) holds_now.own.records.earlier m holds_now.own.records.below
         (written_before sum size s.site device fault s.bytes s.written_len s.sealed s.reserved (of_first sum size s.site device fault s.bytes s.written_len s.sealed s.reserved (logged H) holds_now) holds_now.own m mine below)
     | inr later ↦ absurd (
         let far = All-contains (λ (x : Message). s.site.place + size ≤ x.place) holds_now.later m (later_above sum size s.site device fault s.bytes s.written_len s.sealed s.reserved (logged H) holds_now) later in
@@ -123,16 +126,16 @@ module _ (sum : List ℕ → ℕ) (size : ℕ) (device : State) (fault : Option 
   full_next left_over = elim (cases_lt 0 s.written_len) [
     | inl some ↦ (
       s.site.place + s.written_len,
-      fits_now (s.site.place + s.written_len) (let near = fits.near in let at = at_place in omega (arith, near, at)) (omega arith) (ends_written left_over)
+      fits_now (s.site.place + s.written_len) (let near = fits.reached.near in let at = at_place in omega (arith, near, at)) (omega arith) (ends_written left_over)
           (λ b there. cases_lt b.low (s.site.place + s.written_len)) (λ b there. cases_lt b.peg (s.site.place + s.written_len)) (goes_on some left_over),
     )
     | inr first_one ↦ (
         let none : s.written_len ≡ 0 = omega (arith, first_one) in
         let at = at_place in (
           reach,
-          fits_now reach (omega arith) (let near = fits.near in omega (arith, near, at)) (λ m there below. fits.ends m there (omega (arith, below, none, at)))
-              (λ b there. elim (fits.no_batch b there) [ inl low ↦ inl low | inr far ↦ inr (omega (arith, far, none, at)) ])
-              (λ b there. elim (fits.no_end b there) [ inl low ↦ inl low | inr far ↦ inr (omega (arith, far, none, at)) ])
+          fits_now reach (omega arith) (let near = fits.reached.near in omega (arith, near, at)) (λ m there below. fits.reached.ends m there (omega (arith, below, none, at)))
+              (λ b there. elim (fits.reached.no_batch b there) [ inl low ↦ inl low | inr far ↦ inr (omega (arith, far, none, at)) ])
+              (λ b there. elim (fits.reached.no_end b there) [ inl low ↦ inl low | inr far ↦ inr (omega (arith, far, none, at)) ])
               (λ log full. subst (λ n. StandsAmong sum size log s.site n (map begun_segment ss) reach (logged H) first) (sym none)
               (next_begins sum size big log (begun_segment s) (map begun_segment ss) reach (logged H) first (full_here log full) follow none)),
         ))

@@ -50,7 +50,7 @@ module _ (sum : List ℕ → ℕ) (size : ℕ) (site : SegmentPosition) (device 
       segment_first sum size site device fault bytes from b rest rs (record { messages = fits.holds.head; batches = H.batches }) fits.holds.own short big place_small slot_small are fresh closed rise whole (after []) refl in (
         site.place + last_whole sum size site device fault bytes from b rest rs (logged H) fits.holds short big place_small slot_small are fresh closed rise whole,
         fits_filled sum size site device fault bytes from (b ∷ rest) rs pins H A f U fits short big whole (run_end b.end rest) above (site.place + last_whole sum size site device fault bytes from b rest rs (logged H) fits.holds short big place_small slot_small are fresh closed rise whole)
-            (let near = fits.near in omega (arith, near, up)) (let low = last_low sum size site device fault bytes from b rest rs (logged H) fits.holds short big place_small slot_small are fresh closed rise whole in omega (arith, low))
+            (let near = fits.reached.near in omega (arith, near, up)) (let low = last_low sum size site device fault bytes from b rest rs (logged H) fits.holds short big place_small slot_small are fresh closed rise whole in omega (arith, low))
             (ends_full sum size site device fault bytes from b rest rs (logged H) fits.holds short big place_small slot_small are fresh closed rise whole filled)
             (rest_batches sum size site device fault bytes from b rest rs (logged H) fits.holds short big place_small slot_small are fresh closed rise whole filled)
             (site.slot + from) (asked []) (λ zeros. torn_first sum size site device fault bytes from b rest rs (logged H) fits.holds short big place_small slot_small are fresh closed rise whole reach zeros)
@@ -94,7 +94,7 @@ module _ (sum : List ℕ → ℕ) (size : ℕ) (site : SegmentPosition) (device 
   pub written_plain : run_end from now_one < size → All NoPadding (take (run_count now_one) rs)
   written_plain below =
       plain_run sum size (site.place / size) bytes (max 20 from) (max 20 (run_end from now_one)) (take (run_count now_one) rs) (run_of from rs now_one (written_are from rs bs k b there (ready_closed b ready) are)).chain (omega (arith, below, big))
-      (All-take (Stands sum size (site.place / size) bytes) (run_count now_one) rs fits.holds.own.stand)
+      (All-take (Stands sum size (site.place / size) bytes) (run_count now_one) rs fits.holds.own.records.stand)
 
   -- Where it ends with the segment, all of that is on the device.
   pub fits_written_full : run_end from now_one ≡ size → (now : ℕ) × FitsFull sum size (step Synced (step (Wrote (site.slot + at_one) asked_one asked_one) device)) None (site.place + size) behind now pins H A f U

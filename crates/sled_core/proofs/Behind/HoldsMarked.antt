@@ -183,7 +183,7 @@ module _ (sum : List ℕ → ℕ) (size : ℕ) (site : SegmentPosition) (device 
   first_marked =
       segment-fewer sum size site device fault bytes from bs rs (record { messages = holds.head; batches = now.batches }) (StaysFrom H stable) (StaysFrom now stable) (λ x under its. stays-marks H now b adds stable x its)
       (segment-with sum size site device fault bytes from bs rs holds.head H.batches b (inr behind_first) off_first holds.own
-      (λ none. let m = holds.own.header none in let far = behind_first in less_than m.mark site.place b.low (omega (arith, far)) m.of_history.below))
+      (λ none. let m = holds.own.records.header none in let far = behind_first in less_than m.mark site.place b.low (omega (arith, far)) m.of_history.below))
 
   -- The log holds the history with the batch, begun from the same snapshot.
   pub behind-holds-marked : HoldsIn sum (log_parts size site device fault bytes from bs rs) (pre ++ marked_now ∷ post) now

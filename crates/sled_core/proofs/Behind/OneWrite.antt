@@ -89,13 +89,13 @@ module _ (sum : List ℕ → ℕ) (size : ℕ) (site : SegmentPosition) (device 
 
   header : s.written_len ≡ 0 → (m : HasMark sum s.site s.bytes H) × (m.mark <ℤ pos (site.place + from))
   header none =
-      let m = here.segment.header none in (
+      let m = here.segment.records.header none in (
         record { mark = m.mark; is = m.is; of_history = mark_same own_history H (record { place = s.site.place; slot = s.site.slot; mark = m.mark }) refl m.of_history },
         holds.marked s (Contains-append_right pre (s ∷ post) s (in_first s post)) none m.mark (buffer_header sum s.site s.bytes own_history m (omega (arith, place_small))),
       )
 
   begins : (s.written_len ≡ 0) ⊎ (20 ≤ s.written_len)
-  begins = none_or_begun sum size old s.site s.written_len here.segment.earlier stays (on_file sum size device.log s.site s.written_len here.segment.earlier stays (here.segment.written whole))
+  begins = none_or_begun sum size old s.site s.written_len here.segment.records.earlier stays (on_file sum size device.log s.site s.written_len here.segment.records.earlier stays (here.segment.written whole))
 
   rise_all : EndsRise s.written_len s.sealed (length s.bytes)
   rise_all = ends_rise s.written_len s.reserved s.sealed (length s.bytes) here.are here.behind here.held
@@ -156,11 +156,11 @@ module _ (sum : List ℕ → ℕ) (size : ℕ) (site : SegmentPosition) (device 
       let are = are_split [] split in
       let count : ℕ = b.count + run_count rest in
       let chain : IsChain (run_end b.end rest) (drop count s.reserved) (length s.bytes) =
-      chain_rest (max 20 s.written_len) (length s.bytes) s.reserved count (run_end b.end rest) here.segment.chain (chain_done s.written_len s.reserved b rest closed are) in
+      chain_rest (max 20 s.written_len) (length s.bytes) s.reserved count (run_end b.end rest) here.segment.records.chain (chain_done s.written_len s.reserved b rest closed are) in
       let low = run_below b.end rest size (rise_split [] split).1 in
       own_only (completed_in s.site s.bytes (take count s.reserved)) (batches_in s.site s.bytes (take count s.reserved)) (s.site.place + max 20 s.written_len) (s.site.place + run_end b.end rest) (omega arith) (omega (arith, low))
       (front_only s.site s.bytes own_history s.reserved count (s.site.place + max 20 s.written_len) (run_end b.end rest) (length s.bytes) chain
-      (All-drop (λ (r : Reserved). 0 < r.len) count s.reserved (some_long sum size (s.site.place / size) s.bytes s.reserved here.segment.stand))
+      (All-drop (λ (r : Reserved). 0 < r.len) count s.reserved (some_long sum size (s.site.place / size) s.bytes s.reserved here.segment.records.stand))
       (has_only sum size s.site device fault s.bytes s.written_len s.sealed s.reserved own_history here.segment here.inside))
 
   -- and where the reading ends there, but for want of a record, no batch ends behind that
@@ -172,7 +172,7 @@ module _ (sum : List ℕ → ℕ) (size : ℕ) (site : SegmentPosition) (device 
       let chain = chain_done s.written_len s.reserved b rest closed are in
       no_end_up H s.site.place (records_end s.reserved (length s.bytes)) (records_end (take count s.reserved) (run_end b.end rest)) (s.site.place + size)
       (records_covered sum size (s.site.place / size) s.bytes (max 20 s.written_len) s.reserved count (run_end b.end rest) (length s.bytes) chain
-      (chain_rest (max 20 s.written_len) (length s.bytes) s.reserved count (run_end b.end rest) here.segment.chain chain) here.segment.stand goes) here.segment.no_end
+      (chain_rest (max 20 s.written_len) (length s.bytes) s.reserved count (run_end b.end rest) here.segment.records.chain chain) here.segment.records.stand goes) here.segment.records.no_end
 
   -- Where the segment is full then, it is read behind its records.
   up_to_first : s.sealed ≡ b ∷ rest → run_end b.end rest ≡ size → records_to s.filled size ≤ records_end (take (b.count + run_count rest) s.reserved) (run_end b.end rest)
@@ -180,31 +180,31 @@ module _ (sum : List ℕ → ℕ) (size : ℕ) (site : SegmentPosition) (device 
       let are = are_split [] split in
       let count : ℕ = b.count + run_count rest in
       let chain = chain_done s.written_len s.reserved b rest closed are in
-      let others = chain_rest (max 20 s.written_len) (length s.bytes) s.reserved count (run_end b.end rest) here.segment.chain chain in
+      let others = chain_rest (max 20 s.written_len) (length s.bytes) s.reserved count (run_end b.end rest) here.segment.records.chain chain in
       let inside = here.inside in
       let far = chain_grows (run_end b.end rest) (length s.bytes) (drop count s.reserved) others in
       let long : length s.bytes ≡ size = omega (arith, inside, far, whole) in
       let up = subst (λ n. records_to s.filled n ≤ records_end s.reserved n) long recorded in
-      let less = records_taken sum size (s.site.place / size) s.bytes (max 20 s.written_len) s.reserved count (run_end b.end rest) (length s.bytes) chain others here.segment.stand (omega (arith, whole, big)) in
+      let less = records_taken sum size (s.site.place / size) s.bytes (max 20 s.written_len) s.reserved count (run_end b.end rest) (length s.bytes) chain others here.segment.records.stand (omega (arith, whole, big)) in
       omega (arith, up, less, ap (records_end s.reserved) long)
 
   -- What a crash leaves of the write.
   pub torn_one : (front : List Sealed) → s.sealed ≡ front ++ b ∷ rest → NoHeaderOfZeros sum → (reach : ℕ) (first : SnapshotModel) → StandsAmong sum size old site from (before ++ y ∷ after) reach H first → (now left : List ℕ) → length now ≤ length (asked front)
       → LeavesLog (after_write old (s.site.slot + at front) (asked front) now) left → (placed : List Placement) → NoForeignLog sum size (after_write old (s.site.slot + at front) (asked front) now) placed left → StandsTo sum size left H (stable_below reach H.batches) first reach
   torn_one [] split none reach first among now left no_more leaves placed only_own =
-      torn_other_sealed sum none size big old site from before y after here.segment.place_begins here.segment.slot_begins place_small slot_small s.bytes begins s.reserved b rest (fresh_split [] split) closed (are_split [] split) (rise_split [] split)
-      (lies [] split).2 here.segment.stand header (laid_old [] split) reach first among (has_first split) (no_end_first split) now left no_more leaves {placed = placed} only_own
+      torn_other_sealed sum none size big old site from before y after here.segment.records.place_begins here.segment.records.slot_begins place_small slot_small s.bytes begins s.reserved b rest (fresh_split [] split) closed (are_split [] split) (rise_split [] split)
+      (lies [] split).2 here.segment.records.stand header (laid_old [] split) reach first among (has_first split) (no_end_first split) now left no_more leaves {placed = placed} only_own
   torn_one (x ∷ xs) split none reach first among now left no_more leaves placed only_own =
-      torn_other_behind sum none size big old site from (before ++ y ∷ after) y (Contains-append_right before (y ∷ after) y (in_first y after)) here.segment.slot_begins s.bytes begins s.reserved x xs b rest (fresh_split (x ∷ xs) split)
-      (are_split (x ∷ xs) split) (rise_split (x ∷ xs) split) (lies (x ∷ xs) split).2 (s.site.place / size) here.segment.stand (laid_old (x ∷ xs) split) reach H first among now left no_more leaves {placed = placed} only_own
+      torn_other_behind sum none size big old site from (before ++ y ∷ after) y (Contains-append_right before (y ∷ after) y (in_first y after)) here.segment.records.slot_begins s.bytes begins s.reserved x xs b rest (fresh_split (x ∷ xs) split)
+      (are_split (x ∷ xs) split) (rise_split (x ∷ xs) split) (lies (x ∷ xs) split).2 (s.site.place / size) here.segment.records.stand (laid_old (x ∷ xs) split) reach H first among now left no_more leaves {placed = placed} only_own
 
   -- All of it, with zeros behind the end of the file, where this reaches its slot.
   pub whole_one : (front : List Sealed) → s.sealed ≡ front ++ b ∷ rest → NoHeaderOfZeros sum → (reach : ℕ) (first : SnapshotModel) → least_place size first ≤ site.place → (to : ℕ) → s.site.slot ≤ length (padded to old)
       → StandsAmong sum size (padded to old) site from (before ++ y ∷ after) reach H first
       → StandsAmong sum size (overwritten (padded to old) (s.site.slot + at front) (asked front)) site from (before ++ grown_one y (stop front) ∷ after) reach H first
   whole_one [] split none reach first least to there among =
-      other_sealed_written sum none size big (padded to old) site from before y after here.segment.place_begins here.segment.slot_begins place_small slot_small s.bytes begins s.reserved b rest (fresh_split [] split) closed (are_split [] split) (rise_split [] split)
-      (lies [] split).2 here.segment.stand header (laid_split [] split to) reach first among (has_first split) (no_end_first split) (whole_ascends sum size site device fault bytes from bs rs H holds short) there
+      other_sealed_written sum none size big (padded to old) site from before y after here.segment.records.place_begins here.segment.records.slot_begins place_small slot_small s.bytes begins s.reserved b rest (fresh_split [] split) closed (are_split [] split) (rise_split [] split)
+      (lies [] split).2 here.segment.records.stand header (laid_split [] split to) reach first among (has_first split) (no_end_first split) (whole_ascends sum size site device fault bytes from bs rs H holds short) there
       (let up = (front_low sum size site device fault bytes from bs rs H pre s post holds short).0 in omega (arith, least, up)) (up_to_first split)
   whole_one (x ∷ xs) split none reach first least to there among =
       by x.is_written (fresh_split (x ∷ xs) split)
@@ -212,5 +212,5 @@ module _ (sum : List ℕ → ℕ) (size : ℕ) (site : SegmentPosition) (device 
       by : (o : Bool) → o ≡ false → StandsAmong sum size (overwritten (padded to old) (s.site.slot + at (x ∷ xs)) (asked (x ∷ xs))) site from (before ++ grown_one y (if o then run_end x.end (xs ++ now_written b ∷ rest) else s.written_len) ∷ after) reach H first
       by true is = absurd (let never : ⊥ = cc in never)
       by false is =
-          other_behind_written sum none size big (padded to old) site from (before ++ y ∷ after) y (Contains-append_right before (y ∷ after) y (in_first y after)) here.segment.slot_begins s.bytes begins s.reserved x xs b rest (fresh_split (x ∷ xs) split)
-          (are_split (x ∷ xs) split) (rise_split (x ∷ xs) split) (lies (x ∷ xs) split).2 (s.site.place / size) here.segment.stand (laid_split (x ∷ xs) split to) reach H first among there
+          other_behind_written sum none size big (padded to old) site from (before ++ y ∷ after) y (Contains-append_right before (y ∷ after) y (in_first y after)) here.segment.records.slot_begins s.bytes begins s.reserved x xs b rest (fresh_split (x ∷ xs) split)
+          (are_split (x ∷ xs) split) (rise_split (x ∷ xs) split) (lies (x ∷ xs) split).2 (s.site.place / size) here.segment.records.stand (laid_split (x ∷ xs) split to) reach H first among there

@@ -48,16 +48,16 @@ module _ (sum : List ℕ → ℕ) (size : ℕ) (site : SegmentPosition) (device 
   -- the first one has no more bytes
   long : length bytes ≡ size
   long =
-      let chain : IsChain (max 20 from) [] (length bytes) = subst (λ (l : List Reserved). IsChain (max 20 from) l (length bytes)) none_left holds.own.chain in
+      let chain : IsChain (max 20 from) [] (length bytes) = subst (λ (l : List Reserved). IsChain (max 20 from) l (length bytes)) none_left holds.own.records.chain in
       omega (arith, chain, full, big)
 
   first_below : EndBelow (site.place + length bytes) holds.head
   first_below = all_below sum size site device fault bytes from bs rs first holds.own
 
   -- its messages were all written
-  all_written : (m : Message) → Contains holds.head m → Contains holds.own.earlier m
+  all_written : (m : Message) → Contains holds.head m → Contains holds.own.records.earlier m
   all_written m among =
-      let all : holds.head ≡ holds.own.earlier = holds.own.messages ∙ ap (λ (l : List Reserved). holds.own.earlier ++ completed_in site bytes l) none_left ∙ append-nil holds.own.earlier in
+      let all : holds.head ≡ holds.own.records.earlier = holds.own.records.messages ∙ ap (λ (l : List Reserved). holds.own.records.earlier ++ completed_in site bytes l) none_left ∙ append-nil holds.own.records.earlier in
       subst (λ (l : List Message). Contains l m) all among
 
   -- One that stays and lies below the next segment stays as before, or is one of the first segment's, and stands in its slot.
@@ -70,8 +70,8 @@ module _ (sum : List ℕ → ℕ) (size : ℕ) (site : SegmentPosition) (device 
         let among : Contains (holds.head ++ holds.later) m = subst (λ (l : List Message). Contains l m) holds.messages (stays_among H stable m its) in
         elim (Contains-append_cases holds.head holds.later m among) [
           | inl mine ↦ (
-              let file : IsLogFile sum size device.log.bytes site from holds.own.earlier (StaysFrom H stable) = on_file sum size device.log site from holds.own.earlier (StaysFrom H stable) (holds.own.written whole) in
-              elsewhere_of sum size (omega (arith, big)) device.log.bytes site other holds.own.slot_begins aligned apart from lid m (omega (arith, full)) (file.own m (all_written m mine) over lid inline))
+              let file : IsLogFile sum size device.log.bytes site from holds.own.records.earlier (StaysFrom H stable) = on_file sum size device.log site from holds.own.records.earlier (StaysFrom H stable) (holds.own.written whole) in
+              elsewhere_of sum size (omega (arith, big)) device.log.bytes site other holds.own.records.slot_begins aligned apart from lid m (omega (arith, full)) (file.own m (all_written m mine) over lid inline))
           | inr behind ↦ (
               let far = All-contains (λ (x : Message). site.place + size ≤ x.place) holds.later m (behind_above sum size device fault (site.place + size) (s ∷ ss) (StaysBelow H stable site.place) H.batches holds.later holds.others) behind in
               absurd (omega (arith, far, low, next)))
@@ -91,7 +91,7 @@ module _ (sum : List ℕ → ℕ) (size : ℕ) (site : SegmentPosition) (device 
       let below : EndBelow s.site.place holds.head = λ k d lt. let b = first_below k d lt in (omega (arith, b.0, next, whole), omega (arith, b.1, next, whole)) in
       segment-earlier sum size s.site device fault s.bytes s.written_len s.sealed s.reserved holds.head own H.batches below (all_apart sum size site device fault bytes from bs rs first holds.own) over
       (segment-stays sum size s.site device fault s.bytes s.written_len s.sealed s.reserved (record { messages = own; batches = H.batches }) (StaysBelow H stable site.place) (StaysFrom H stable)
-      (λ none m its low lid inline. stays_or_stands s.site here.segment.slot_begins (other_slot (begun_segment s) (in_first (begun_segment s) (map begun_segment ss))) none m its low lid inline) here.segment)
+      (λ none m its low lid inline. stays_or_stands s.site here.segment.records.slot_begins (other_slot (begun_segment s) (in_first (begun_segment s) (map begun_segment ss))) none m its low lid inline) here.segment)
 
   -- and those behind it, beside the messages of the first one.
   pub promoted_others : HoldBehind sum size device fault (s.site.place + size) ss (StaysBelow H stable s.site.place) H.batches later

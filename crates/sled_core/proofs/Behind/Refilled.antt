@@ -73,18 +73,11 @@ module _ (sum : List ℕ → ℕ) (size : ℕ) (site : SegmentPosition) (device 
       → FitsIn sum (log_parts size site device fault bytes from bs rs) (pre ++ filled_at o s ∷ post) reach pins H A f U
   fits-refilled reach pins A f U less fits = record {
     holds = holds-refilled sum size site device fault bytes from bs rs (logged H) pre s post o fits.holds;
-    near = fits.near;
-    ends = fits.ends;
-    no_batch = fits.no_batch;
-    no_end = fits.no_end;
+    reached = fits.reached;
     among = λ ok none. stands device.log.bytes (fits.among ok none);
     beyond = λ to far ok none. stands (padded to device.log.bytes) (fits.beyond to far ok none);
-    blobs = fits.blobs;
-    stored = fits.stored;
-    entries = fits.entries;
-    below = fits.below;
-    names = fits.names;
-    own_names = fits.own_names;
+    items = fits.items;
+    named = fits.named;
     passes = fits.passes;
     pinned = fits.pinned;
     left = fits.left;

@@ -74,27 +74,17 @@ module _ (sum : List ℕ → ℕ) (size : ℕ) (site : SegmentPosition) (device 
   covers : at + length asked_later ≤ size
   covers = let l = long old_later site.slot bytes from (x ∷ xs) b rest size rise_later lies.2 in let in_text = lies.2 in omega (arith, l, in_text, short)
 
-  file_later : IsLogFile sum size old_later site from holds.earlier stays
-  file_later = on_file sum size device.log site from holds.earlier stays (holds.written whole)
+  file_later : IsLogFile sum size old_later site from holds.records.earlier stays
+  file_later = on_file sum size device.log site from holds.records.earlier stays (holds.written whole)
 
   later_begins : (from ≡ 0) ⊎ (20 ≤ from)
-  later_begins = none_or_begun sum size old_later site from holds.earlier stays file_later
+  later_begins = none_or_begun sum size old_later site from holds.records.earlier stays file_later
 
   -- Once it is synced the segment holds the same.
   segment_later : (new : State) → new.log ≡ at_rest new_later → HoldsSegment sum (log_parts size site new fault bytes from (x ∷ xs ++ now_written b ∷ rest) rs) stays H
   segment_later new is = record {
-    earlier = holds.earlier;
-    messages = holds.messages;
-    below = holds.below;
-    apart = holds.apart;
-    batched = holds.batched;
-    no_end = holds.no_end;
-    place_begins = holds.place_begins;
-    slot_begins = holds.slot_begins;
-    header = holds.header;
-    chain = holds.chain;
-    stand = holds.stand;
-    written = λ none. record { log = new_later; settled = is; file = file_beside sum size site old_later at asked_later from holds.earlier stays file_later lies.0 covers };
+    records = holds.records;
+    written = λ none. record { log = new_later; settled = is; file = file_beside sum size site old_later at asked_later from holds.records.earlier stays file_later lies.0 covers };
     laid = λ none. subst (λ (s : LogState). Laid s.bytes site.slot bytes from (x ∷ xs ++ now_written b ∷ rest) size) (sym is)
         (laid_new old_later site.slot bytes from (x ∷ xs) b rest size rise_later lies.2 (holds.laid whole));
   }
@@ -104,13 +94,13 @@ module _ (sum : List ℕ → ℕ) (size : ℕ) (site : SegmentPosition) (device 
       → LeavesLog (after_write old_later (site.slot + at) asked_later now) left → (placed : List Placement) → NoForeignLog sum size (after_write old_later (site.slot + at) asked_later now) placed left
       → StandsTo sum size left W (stable_below reach W.batches) first reach
   torn_later fresh W first reach zeros alone now left no_more leaves placed only_own =
-      torn_behind_unwritten sum zeros size big old_later site holds.slot_begins bytes from later_begins rs x xs b rest fresh are rise_later lies.2 (site.place / size) holds.stand reach W first old_later (holds.laid whole)
+      torn_behind_unwritten sum zeros size big old_later site holds.records.slot_begins bytes from later_begins rs x xs b rest fresh are rise_later lies.2 (site.place / size) holds.records.stand reach W first old_later (holds.laid whole)
       alone now left no_more leaves {placed = placed} only_own
 
   -- All of it.
   alone_later : x.is_written ≡ false → (W : History) (first : SnapshotModel) (reach : ℕ) → NoHeaderOfZeros sum → (end : ℕ) → site.slot ≤ end → {others : List BegunSegment} → StandsAmong sum size (padded end old_later) site from others reach W first
       → StandsAmong sum size (padded end new_later) site from others reach W first
-  alone_later fresh W first reach zeros = later_alone sum size big old_later site holds.place_begins holds.slot_begins place_small slot_small bytes from later_begins rs x xs b rest fresh are rise_later lies.2 (site.place / size) holds.stand (holds.laid whole)
+  alone_later fresh W first reach zeros = later_alone sum size big old_later site holds.records.place_begins holds.records.slot_begins place_small slot_small bytes from later_begins rs x xs b rest fresh are rise_later lies.2 (site.place / size) holds.records.stand (holds.laid whole)
       zeros reach W first
 
   -- so the file reaches its slot
@@ -151,7 +141,7 @@ module _ (sum : List ℕ → ℕ) (size : ℕ) (site : SegmentPosition) (device 
   along_around : (front : List Sealed) (fits : FitsIn sum (log_parts size site device fault bytes from (front ++ b ∷ rest) rs) behind reach pins H A f U) → AreSealed from rs (front ++ b ∷ rest) → FirstUnwritten (front ++ b ∷ rest) → EndsRise from (front ++ b ∷ rest) (length bytes)
       → Along (LeavesRecoverable sum size H (stable_below reach H.batches) f) (Wrote (site.slot + sealed_end from front) (asked_behind front) (asked_behind front) ∷ Synced ∷ []) device
   along_around [] fits are fresh rise = elim (cases_lt (run_end b.end rest) size) [
-    | inl below ↦ along_behind sum size site device fault bytes from (b ∷ rest) rs pins H A f U fits short big whole (run_end b.end rest) (stop_up from rs b rest closed are).0 (site.place + run_end b.end rest) (let near = fits.near in let above = (stop_up from rs b rest closed are).0 in omega (arith, near, above)) (omega arith)
+    | inl below ↦ along_behind sum size site device fault bytes from (b ∷ rest) rs pins H A f U fits short big whole (run_end b.end rest) (stop_up from rs b rest closed are).0 (site.place + run_end b.end rest) (let near = fits.reached.near in let above = (stop_up from rs b rest closed are).0 in omega (arith, near, above)) (omega arith)
         (ends_first sum size site device fault bytes from b rest rs (logged H) fits.holds short big place_small slot_small are fresh closed rise whole)
         (none_between (logged H) (site.place + run_end b.end rest))
         (site.slot + from) (asked_behind []) (λ zeros. torn_first sum size site device fault bytes from b rest rs (logged H) fits.holds short big place_small slot_small are fresh closed rise whole reach zeros)
@@ -163,7 +153,7 @@ module _ (sum : List ℕ → ℕ) (size : ℕ) (site : SegmentPosition) (device 
         let filled : run_end b.end rest ≡ size = let low = run_below b.end rest (length bytes) rise.1 in omega (arith, above, low, short) in
         let from_up = last_up sum size site device fault bytes from b rest rs (logged H) fits.holds short big place_small slot_small are fresh closed rise whole in
         along_behind sum size site device fault bytes from (b ∷ rest) rs pins H A f U fits short big whole (run_end b.end rest) (stop_up from rs b rest closed are).0
-        (site.place + last_whole sum size site device fault bytes from b rest rs (logged H) fits.holds short big place_small slot_small are fresh closed rise whole) (let near = fits.near in omega (arith, near, from_up))
+        (site.place + last_whole sum size site device fault bytes from b rest rs (logged H) fits.holds short big place_small slot_small are fresh closed rise whole) (let near = fits.reached.near in omega (arith, near, from_up))
         (let low = last_low sum size site device fault bytes from b rest rs (logged H) fits.holds short big place_small slot_small are fresh closed rise whole in omega (arith, low))
         (ends_full sum size site device fault bytes from b rest rs (logged H) fits.holds short big place_small slot_small are fresh closed rise whole filled)
         (rest_batches sum size site device fault bytes from b rest rs (logged H) fits.holds short big place_small slot_small are fresh closed rise whole filled)
@@ -174,7 +164,7 @@ module _ (sum : List ℕ → ℕ) (size : ℕ) (site : SegmentPosition) (device 
         (reaches_first sum size site device fault bytes from b rest rs (logged H) fits.holds short big place_small slot_small are fresh closed rise whole))
   ]
   along_around (x ∷ xs) fits are fresh rise =
-      along_behind sum size site device fault bytes from (x ∷ xs ++ b ∷ rest) rs pins H A f U fits short big whole from (omega arith) reach (omega arith) fits.near fits.ends (fits.no_batch, fits.no_end)
+      along_behind sum size site device fault bytes from (x ∷ xs ++ b ∷ rest) rs pins H A f U fits short big whole from (omega arith) reach (omega arith) fits.reached.near fits.reached.ends (fits.reached.no_batch, fits.reached.no_end)
       (site.slot + sealed_end x.end xs) (asked_behind (x ∷ xs))
       (λ zeros. torn_later sum size site device fault bytes from x xs b rest rs (own_of fits.holds.head) fits.holds.own short big place_small slot_small are rise whole fresh (logged H) fits.holds.begun.first reach zeros)
       (λ (l : List ℕ) (is : StandsAmong sum size l site from (map begun_segment behind) reach (logged H) fits.holds.begun.first). is.stands)
@@ -190,7 +180,7 @@ module _ (sum : List ℕ → ℕ) (size : ℕ) (site : SegmentPosition) (device 
   fits_around [] fits are fresh rise plain =
       let range = asked_range [] are rise in (
         site.place + run_end b.end rest,
-        fits_behind sum size site device fault bytes from (b ∷ rest) rs pins H A f U fits short big whole (run_end b.end rest) (stop_up from rs b rest closed are).0 (site.place + run_end b.end rest) (let near = fits.near in let above = (stop_up from rs b rest closed are).0 in omega (arith, near, above)) (omega arith)
+        fits_behind sum size site device fault bytes from (b ∷ rest) rs pins H A f U fits short big whole (run_end b.end rest) (stop_up from rs b rest closed are).0 (site.place + run_end b.end rest) (let near = fits.reached.near in let above = (stop_up from rs b rest closed are).0 in omega (arith, near, above)) (omega arith)
             (ends_first sum size site device fault bytes from b rest rs (logged H) fits.holds short big place_small slot_small are fresh closed rise whole)
             (none_between (logged H) (site.place + run_end b.end rest))
             (site.slot + from) (asked_behind []) (λ zeros. torn_first sum size site device fault bytes from b rest rs (logged H) fits.holds short big place_small slot_small are fresh closed rise whole reach zeros)
@@ -205,7 +195,7 @@ module _ (sum : List ℕ → ℕ) (size : ℕ) (site : SegmentPosition) (device 
       let range = asked_range (x ∷ xs) are rise in
       no_run (λ n cs others. (now : ℕ) × FitsIn sum (log_parts size site (after_behind (x ∷ xs)) fault bytes n cs others) behind now pins H A f U) from x (xs ++ now_written b ∷ rest) rs fresh (
         reach,
-        fits_behind sum size site device fault bytes from (x ∷ xs ++ b ∷ rest) rs pins H A f U fits short big whole from (omega arith) reach (omega arith) fits.near fits.ends (fits.no_batch, fits.no_end)
+        fits_behind sum size site device fault bytes from (x ∷ xs ++ b ∷ rest) rs pins H A f U fits short big whole from (omega arith) reach (omega arith) fits.reached.near fits.reached.ends (fits.reached.no_batch, fits.reached.no_end)
             (site.slot + sealed_end x.end xs) (asked_behind (x ∷ xs))
             (λ zeros. torn_later sum size site device fault bytes from x xs b rest rs (own_of fits.holds.head) fits.holds.own short big place_small slot_small are rise whole fresh (logged H) fits.holds.begun.first reach zeros)
             (λ (l : List ℕ) (is : StandsAmong sum size l site from (map begun_segment behind) reach (logged H) fits.holds.begun.first). is.stands)

@@ -52,20 +52,10 @@ module _ (sum : List ℕ → ℕ) (size : ℕ) (site : SegmentPosition) (device 
   pub segment-stays : (H : History) (stays stays' : Message → Type 0) → (fault ≡ None → StayOrStand sum size device site stays stays') → HoldsSegment sum (log_parts size site device fault bytes from bs rs) stays H
       → HoldsSegment sum (log_parts size site device fault bytes from bs rs) stays' H
   segment-stays H stays stays' others holds = record {
-    earlier = holds.earlier;
-    messages = holds.messages;
-    below = holds.below;
-    apart = holds.apart;
-    batched = holds.batched;
-    no_end = holds.no_end;
-    place_begins = holds.place_begins;
-    slot_begins = holds.slot_begins;
-    header = holds.header;
-    chain = holds.chain;
-    stand = holds.stand;
+    records = holds.records;
     written = λ none. (
         let on = holds.written none in
-        let file : IsLogFile sum size device.log.bytes site from holds.earlier stays = on_file sum size device.log site from holds.earlier stays on in
+        let file : IsLogFile sum size device.log.bytes site from holds.records.earlier stays = on_file sum size device.log site from holds.records.earlier stays on in
         record {
           log = device.log.bytes;
           settled = rests device.log on.log on.settled;
@@ -84,27 +74,29 @@ module _ (sum : List ℕ → ℕ) (size : ℕ) (site : SegmentPosition) (device 
       → HoldsSegment sum (log_parts size site device fault bytes from bs rs) stays (record { messages = own; batches = batches }) → HoldsSegment sum (log_parts size site device fault bytes from bs rs) stays (record { messages = ms ++ own; batches = batches })
   segment-earlier ms own batches below apart above {stays} holds =
       let Below : Message → Type 0 = λ m. (m.place < site.place + from) × (m.place + m.size ≤ site.place + from) in
-      let over : All (λ m. site.place ≤ m.place) holds.earlier = all_front (λ (m : Message). site.place ≤ m.place) holds.earlier _ (subst (All (λ (m : Message). site.place ≤ m.place)) holds.messages above) in
+      let over : All (λ m. site.place ≤ m.place) holds.records.earlier = all_front (λ (m : Message). site.place ≤ m.place) holds.records.earlier _ (subst (All (λ (m : Message). site.place ≤ m.place)) holds.records.messages above) in
       record {
-        earlier = ms ++ holds.earlier;
-        messages = ap (λ (l : List Message). ms ++ l) holds.messages ∙ sym (append_assoc ms holds.earlier _);
-        below = All-append Below ms holds.earlier (λ k d lt. let b = below k d lt in (omega (arith, b.0), omega (arith, b.1))) holds.below;
-        apart = apart_both site.place ms holds.earlier apart holds.apart (λ k d lt. (below k d lt).1) over;
-        batched = holds.batched;
-        no_end = holds.no_end;
-        place_begins = holds.place_begins;
-        slot_begins = holds.slot_begins;
-        header = λ first. let m = holds.header first in
-            record { mark = m.mark; is = m.is; of_history = mark_same (record { messages = own; batches = batches }) (record { messages = ms ++ own; batches = batches }) (record { place = site.place; slot = site.slot; mark = m.mark }) refl m.of_history };
-        chain = holds.chain;
-        stand = holds.stand;
+        records = record {
+          earlier = ms ++ holds.records.earlier;
+          messages = ap (λ (l : List Message). ms ++ l) holds.records.messages ∙ sym (append_assoc ms holds.records.earlier _);
+          below = All-append Below ms holds.records.earlier (λ k d lt. let b = below k d lt in (omega (arith, b.0), omega (arith, b.1))) holds.records.below;
+          apart = apart_both site.place ms holds.records.earlier apart holds.records.apart (λ k d lt. (below k d lt).1) over;
+          batched = holds.records.batched;
+          no_end = holds.records.no_end;
+          place_begins = holds.records.place_begins;
+          slot_begins = holds.records.slot_begins;
+          header = λ first. let m = holds.records.header first in
+              record { mark = m.mark; is = m.is; of_history = mark_same (record { messages = own; batches = batches }) (record { messages = ms ++ own; batches = batches }) (record { place = site.place; slot = site.slot; mark = m.mark }) refl m.of_history };
+          chain = holds.records.chain;
+          stand = holds.records.stand;
+        };
         written = λ none. (
             let on = holds.written none in
             record {
               log = on.log;
               settled = on.settled;
               file = record {
-                own = λ m among up lid inline. elim (Contains-append_cases ms holds.earlier m among) [
+                own = λ m among up lid inline. elim (Contains-append_cases ms holds.records.earlier m among) [
                   | inl early ↦ (let b = All-contains (λ (x : Message). (x.place < site.place) × (x.place + x.size ≤ site.place)) ms m below early in absurd (omega (arith, b.0, up)))
                   | inr mine ↦ on.file.own m mine up lid inline
                 ];
@@ -131,7 +123,7 @@ behind_stays sum size device fault place (s ∷ ss) stays stays' batches ms othe
     are = here.are;
     held = here.held;
     behind = here.behind;
-    segment = segment-stays sum size s.site device fault s.bytes s.written_len s.sealed s.reserved (record { messages = own; batches = batches }) stays stays' (others (begun_segment s) (in_first (begun_segment s) (map begun_segment ss)) here.segment.slot_begins) here.segment;
+    segment = segment-stays sum size s.site device fault s.bytes s.written_len s.sealed s.reserved (record { messages = own; batches = batches }) stays stays' (others (begun_segment s) (in_first (begun_segment s) (map begun_segment ss)) here.segment.records.slot_begins) here.segment;
     above = here.above;
   },
   behind_stays sum size device fault (place + size) ss stays stays' batches later (λ y among. others y (in_rest (begun_segment s) y (map begun_segment ss) among)) rest,

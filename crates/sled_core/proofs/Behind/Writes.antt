@@ -84,8 +84,8 @@ module _ (sum : List ℕ → ℕ) (size : ℕ) (site : SegmentPosition) (device 
   above : site.place + size ≤ s.site.place
   above = let far = (behind_below sum size device fault (site.place + size) pre stays H.batches parts.before parts.front).0 in let next = here.next in omega (arith, far, next)
 
-  file : IsLogFile sum size device.log.bytes s.site s.written_len here.segment.earlier stays
-  file = on_file sum size device.log s.site s.written_len here.segment.earlier stays (here.segment.written whole)
+  file : IsLogFile sum size device.log.bytes s.site s.written_len here.segment.records.earlier stays
+  file = on_file sum size device.log s.site s.written_len here.segment.records.earlier stays (here.segment.written whole)
 
   -- what stays of the segments before the first one stands there still
   stands_still : (other : SegmentPosition) (m : Message) → stays m → (lid : ℕ) → m.pointer ≡ Inline lid → StandsElsewhere sum size device.log.bytes other lid m → StandsElsewhere sum size new_log other lid m
@@ -110,7 +110,7 @@ module _ (sum : List ℕ → ℕ) (size : ℕ) (site : SegmentPosition) (device 
   beside =
       let reach = range.1 in
       let other = (follows site (begun_pre ++ begun_segment s ∷ begun_post) follow (begun_segment s) (Contains-append_right begun_pre (begun_segment s ∷ begun_post) (begun_segment s) (in_first (begun_segment s) begun_post))).1 in
-      elim (slots_apart size (omega (arith, big)) s.site.slot site.slot here.segment.slot_begins holds.own.slot_begins other) [
+      elim (slots_apart size (omega (arith, big)) s.site.slot site.slot here.segment.records.slot_begins holds.own.records.slot_begins other) [
         | inl before ↦ inl (omega (arith, before, reach))
         | inr behind ↦ inr (omega (arith, behind))
       ]
@@ -131,13 +131,13 @@ module _ (sum : List ℕ → ℕ) (size : ℕ) (site : SegmentPosition) (device 
     pub front_written : HoldBehind sum size new fault (site.place + size) pre stays H.batches parts.before
     front_written =
         let reach = range.1 in
-        behind_beside sum size (omega (arith, big)) s.site here.segment.slot_begins device fault whole (s.site.slot + at) asked range.0 (omega arith) (omega (arith, reach)) new is stays stands_still
+        behind_beside sum size (omega (arith, big)) s.site here.segment.records.slot_begins device fault whole (s.site.slot + at) asked range.0 (omega arith) (omega (arith, reach)) new is stays stands_still
         (site.place + size) pre H.batches parts.before (apart_before site begun_pre (begun_segment s) begun_post follow) parts.front
 
     pub rest_written : HoldBehind sum size new fault (begins + size) post stays H.batches parts.after
     rest_written =
         let reach = range.1 in
-        behind_beside sum size (omega (arith, big)) s.site here.segment.slot_begins device fault whole (s.site.slot + at) asked range.0 (omega arith) (omega (arith, reach)) new is stays stands_still
+        behind_beside sum size (omega (arith, big)) s.site here.segment.records.slot_begins device fault whole (s.site.slot + at) asked range.0 (omega arith) (omega (arith, reach)) new is stays stands_still
         (begins + size) post H.batches parts.after (apart_behind site begun_pre (begun_segment s) begun_post follow) parts.rest
 
     -- and this one with its buffers at the front gone that are written.

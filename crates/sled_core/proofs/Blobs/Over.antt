@@ -28,17 +28,7 @@ module _ (sum : List ℕ → ℕ) (size : ℕ) (device : State) (blobs snapshots
   segment_over : (site : SegmentPosition) (bytes : List ℕ) (from : ℕ) (bs : List Sealed) (rs : List Reserved) (stays : Message → Type 0) (H : History)
       → HoldsSegment sum (log_parts size site device fault bytes from bs rs) stays H → HoldsSegment sum (log_parts size site new fault bytes from bs rs) stays H
   segment_over site bytes from bs rs stays H holds = record {
-    earlier = holds.earlier;
-    messages = holds.messages;
-    below = holds.below;
-    apart = holds.apart;
-    batched = holds.batched;
-    no_end = holds.no_end;
-    place_begins = holds.place_begins;
-    slot_begins = holds.slot_begins;
-    header = holds.header;
-    chain = holds.chain;
-    stand = holds.stand;
+    records = holds.records;
     written = holds.written;
     laid = holds.laid;
   }
@@ -84,18 +74,19 @@ module _ (sum : List ℕ → ℕ) (size : ℕ) (device : State) (blobs snapshots
     unfolding in_over
     fits_in_over site bytes from bs rs behind reach pins fits = record {
       holds = in_over changes.same_files site bytes from bs rs behind (logged H) fits.holds;
-      near = fits.near;
-      ends = fits.ends;
-      no_batch = fits.no_batch;
-      no_end = fits.no_end;
+      reached = fits.reached;
       among = fits.among;
       beyond = fits.beyond;
-      blobs = blobs_fit_beside sum p device blobs snapshots changes H unnamed (stable_below reach H.batches) fits.blobs;
-      stored = stored_beside sum p device blobs snapshots changes H unnamed (stable_below reach H.batches) fits.stored;
-      entries = entries_beside sum p device blobs snapshots changes H unnamed (stable_below reach H.batches) fits.entries;
-      below = fits.below;
-      names = names_fit_beside sum p device blobs snapshots changes (logged H) size f fits.holds.begun.first fits.names;
-      own_names = λ none. changes.stay_own (fits.own_names none);
+      items = record {
+        blobs = blobs_fit_beside sum p device blobs snapshots changes H unnamed (stable_below reach H.batches) fits.items.blobs;
+        stored = stored_beside sum p device blobs snapshots changes H unnamed (stable_below reach H.batches) fits.items.stored;
+        entries = entries_beside sum p device blobs snapshots changes H unnamed (stable_below reach H.batches) fits.items.entries;
+        below = fits.items.below;
+      };
+      named = record {
+        names = names_fit_beside sum p device blobs snapshots changes (logged H) size f fits.holds.begun.first fits.named.names;
+        own_names = λ none. changes.stay_own (fits.named.own_names none);
+      };
       passes = fits.passes;
       pinned = fits.pinned;
       left = leaves_beside sum p device blobs snapshots changes H unnamed size (stable_below reach H.batches) f fits.left;

@@ -45,46 +45,46 @@ module _ (sum : List ℕ → ℕ) (size : ℕ) (site : SegmentPosition) (device 
   done = completed_in site bytes rs
 
   long : All (λ r. 0 < r.len) rs
-  long = some_long sum size (site.place / size) bytes rs holds.stand
+  long = some_long sum size (site.place / size) bytes rs holds.records.stand
 
   -- the bytes reach as far as what was written
   pub grows : max 20 from ≤ length bytes
-  grows = chain_grows (max 20 from) (length bytes) rs holds.chain
+  grows = chain_grows (max 20 from) (length bytes) rs holds.records.chain
 
   between : All (λ m. (site.place + max 20 from ≤ m.place) × (m.place < site.place + length bytes) × (m.place + m.size ≤ site.place + length bytes)) done
-  between = completed_between site bytes (max 20 from) (length bytes) rs holds.chain long
+  between = completed_between site bytes (max 20 from) (length bytes) rs holds.records.chain long
 
-  below_in : (m : Message) → Contains holds.earlier m → (m.place < site.place + from) × (m.place + m.size ≤ site.place + from)
-  below_in m there = All-contains (λ x. (x.place < site.place + from) × (x.place + x.size ≤ site.place + from)) holds.earlier m holds.below there
+  below_in : (m : Message) → Contains holds.records.earlier m → (m.place < site.place + from) × (m.place + m.size ≤ site.place + from)
+  below_in m there = All-contains (λ x. (x.place < site.place + from) × (x.place + x.size ≤ site.place + from)) holds.records.earlier m holds.records.below there
 
   -- a message was written, or was completed since
-  pub which : (m : Message) → Contains H.messages m → Contains holds.earlier m ⊎ Contains done m
-  which m there = Contains-append_cases holds.earlier done m (subst (λ (ms : List Message). Contains ms m) holds.messages there)
+  pub which : (m : Message) → Contains H.messages m → Contains holds.records.earlier m ⊎ Contains done m
+  which m there = Contains-append_cases holds.records.earlier done m (subst (λ (ms : List Message). Contains ms m) holds.records.messages there)
 
   -- All messages end below the next place.
   pub all_below : EndBelow (site.place + length bytes) H.messages
   all_below =
       let Below : Message → Type 0 = λ m. (m.place < site.place + length bytes) × (m.place + m.size ≤ site.place + length bytes) in
       let far = grows in
-      let early : All Below holds.earlier = λ k d lt. let b = holds.below k d lt in (omega (arith, b.0, far), omega (arith, b.1, far)) in
+      let early : All Below holds.records.earlier = λ k d lt. let b = holds.records.below k d lt in (omega (arith, b.0, far), omega (arith, b.1, far)) in
       let late : All Below done = λ k d lt. let b = between k d lt in (b.1, b.2) in
-      subst (λ (ms : List Message). All Below ms) (sym holds.messages) (All-append Below holds.earlier done early late)
+      subst (λ (ms : List Message). All Below ms) (sym holds.records.messages) (All-append Below holds.records.earlier done early late)
 
   -- They lie one behind another.
   pub all_apart : LieApart H.messages
-  all_apart = subst LieApart (sym holds.messages)
-      (apart_both (site.place + from) holds.earlier done holds.apart (completed_apart site bytes (max 20 from) (length bytes) rs holds.chain long) (λ k d lt. (holds.below k d lt).1) (λ k d lt. let b = between k d lt in omega (arith, b.0)))
+  all_apart = subst LieApart (sym holds.records.messages)
+      (apart_both (site.place + from) holds.records.earlier done holds.records.apart (completed_apart site bytes (max 20 from) (length bytes) rs holds.records.chain long) (λ k d lt. (holds.records.below k d lt).1) (λ k d lt. let b = between k d lt in omega (arith, b.0)))
 
   -- Of the history they, and the batches of the manifests that have ended, are all that begins in the buffer.
   pub has_only : length bytes ≤ size → HasOnly H done (batches_in site bytes rs) (site.place + max 20 from) (site.place + length bytes)
   has_only inside = record {
-    there = λ m late. subst (λ (ms : List Message). Contains ms m) (sym holds.messages) (Contains-append_right holds.earlier done m late);
+    there = λ m late. subst (λ (ms : List Message). Contains ms m) (sym holds.records.messages) (Contains-append_right holds.records.earlier done m late);
     only = λ m there. elim (which m there) [
       | inl early ↦ (let b = below_in m early in inr (inl (omega (arith, b.0))))
       | inr late ↦ inl late
     ];
-    noted = holds.batched.noted;
-    begun = λ b there. elim (holds.batched.begun b there) [ inl among ↦ inl among | inr (inl before) ↦ inr (inl (omega (arith, before))) | inr (inr after) ↦ inr (inr (omega (arith, after, inside))) ];
+    noted = holds.records.batched.noted;
+    begun = λ b there. elim (holds.records.batched.begun b there) [ inl among ↦ inl among | inr (inl before) ↦ inr (inl (omega (arith, before))) | inr (inr after) ↦ inr (inr (omega (arith, after, inside))) ];
   }
 
 -- Of what begins in a buffer the messages of the reservations at its front are all that begins in their part of it.

@@ -51,22 +51,12 @@ module _ (sum : List ℕ → ℕ) (size : ℕ) (site : SegmentPosition) (device 
     {stays : Message → Type 0} (holds : HoldsSegment sum (log_parts size site device fault bytes from bs rs) stays H) where
   -- Something was reserved, so there is something to write.
   pub grown : 0 < length rs → from < length bytes
-  grown some = chain_some sum size (site.place / size) bytes from (length bytes) rs some holds.stand holds.chain
+  grown some = chain_some sum size (site.place / size) bytes from (length bytes) rs some holds.records.stand holds.records.chain
 
   -- In a log that keeps a failure of its device it holds what it held, whatever the log file is now.
   pub segment-faulty : (new : State) (e : IoError) (now : Option IoError) → now ≡ Some e → HoldsSegment sum (log_parts size site new now bytes from bs rs) stays H
   segment-faulty new e now is = record {
-    earlier = holds.earlier;
-    messages = holds.messages;
-    below = holds.below;
-    apart = holds.apart;
-    batched = holds.batched;
-    no_end = holds.no_end;
-    place_begins = holds.place_begins;
-    slot_begins = holds.slot_begins;
-    header = holds.header;
-    chain = holds.chain;
-    stand = holds.stand;
+    records = holds.records;
     written = λ none. cc;
     laid = λ none. cc;
   }
@@ -123,15 +113,15 @@ module _ (sum : List ℕ → ℕ) (size : ℕ) (site : SegmentPosition) (device 
   pub all_kept : CloseBelow (site.place + from) H.batches → completed_in site bytes rs ≡ [] → holds.later ≡ [] → fault ≡ None → site.place + size < 2 ^ 63 → from ≤ size → AreZeros device.log.bytes (site.slot + from) (site.slot + size) → IsKept sum size site from device H
   all_kept closed none last whole in_reach inside clean =
       let own = holds.own in
-      let all : H.messages ≡ own.earlier =
+      let all : H.messages ≡ own.records.earlier =
       holds.messages ∙ ap (λ (ms : List Message). holds.head ++ ms) last ∙ append-nil holds.head
-      ∙ own.messages ∙ ap (λ (ms : List Message). own.earlier ++ ms) none ∙ append-nil own.earlier in
+      ∙ own.records.messages ∙ ap (λ (ms : List Message). own.records.earlier ++ ms) none ∙ append-nil own.records.earlier in
       record {
-        below = subst (λ (ms : List Message). EndBelow (site.place + from) ms) (sym all) own.below;
-        apart = subst LieApart (sym all) own.apart;
+        below = subst (λ (ms : List Message). EndBelow (site.place + from) ms) (sym all) own.records.below;
+        apart = subst LieApart (sym all) own.records.apart;
         batches = closed;
-        place_begins = own.place_begins;
-        slot_begins = own.slot_begins;
+        place_begins = own.records.place_begins;
+        slot_begins = own.records.slot_begins;
         in_reach = in_reach;
         inside = inside;
         begun = holds.begun;

@@ -21,19 +21,20 @@ module _ (sum : List ℕ → ℕ) (size : ℕ) (site : SegmentPosition) (device 
       → FitsIn sum (log_parts size site new now bytes from bs rs) behind reach pins H A f U
   unfolding holds-faulty
   fits_faulty new e now is blobs snapshots left = record {
-    near = fits.near;
-    ends = fits.ends;
-    no_batch = fits.no_batch;
-    no_end = fits.no_end;
+    reached = fits.reached;
     holds = holds-faulty sum size site device fault bytes from bs rs (logged H) fits.holds new e now is (ap (λ (s : NamesState). s.file) snapshots);
     among = λ none. cc;
     beyond = λ to far none. cc;
-    blobs = subst (λ (s : NamesState). BlobsFit sum s H (stable_below reach H.batches)) (sym blobs) fits.blobs;
-    stored = subst (λ (s : NamesState). KeepsItems sum s H (stable_below reach H.batches)) (sym blobs) fits.stored;
-    entries = subst (λ (s : NamesState). KeepsEntries sum s H (stable_below reach H.batches)) (sym blobs) fits.entries;
-    below = fits.below;
-    names = subst (λ (s : NamesState). NamesFit sum size s (logged H) f fits.holds.begun.first) (sym snapshots) fits.names;
-    own_names = λ none. cc;
+    items = record {
+      blobs = subst (λ (s : NamesState). BlobsFit sum s H (stable_below reach H.batches)) (sym blobs) fits.items.blobs;
+      stored = subst (λ (s : NamesState). KeepsItems sum s H (stable_below reach H.batches)) (sym blobs) fits.items.stored;
+      entries = subst (λ (s : NamesState). KeepsEntries sum s H (stable_below reach H.batches)) (sym blobs) fits.items.entries;
+      below = fits.items.below;
+    };
+    named = record {
+      names = subst (λ (s : NamesState). NamesFit sum size s (logged H) f fits.holds.begun.first) (sym snapshots) fits.named.names;
+      own_names = λ none. cc;
+    };
     passes = fits.passes;
     pinned = fits.pinned;
     left = left;

@@ -97,21 +97,11 @@ pub segment_beside : (sum : List ℕ → ℕ) (size : ℕ) (site : SegmentPositi
     → ((m : Message) → stays m → (lid : ℕ) → m.pointer ≡ Inline lid → StandsElsewhere sum size device.log.bytes site lid m → StandsElsewhere sum size (overwritten device.log.bytes at xs) site lid m)
     → HoldsSegment sum (log_parts size site new fault bytes from bs rs) stays H
 segment_beside sum size site device fault bytes from bs rs H {stays} holds are low high whole at xs some beside new is others = record {
-  earlier = holds.earlier;
-  messages = holds.messages;
-  below = holds.below;
-  apart = holds.apart;
-  batched = holds.batched;
-  no_end = holds.no_end;
-  place_begins = holds.place_begins;
-  slot_begins = holds.slot_begins;
-  header = holds.header;
-  chain = holds.chain;
-  stand = holds.stand;
+  records = holds.records;
   written = λ none. record {
     log = overwritten device.log.bytes at xs;
     settled = is;
-    file = file_beside sum size device.log.bytes at xs some site beside from holds.earlier stays low (on_file sum size device.log site from holds.earlier stays (holds.written whole)) others;
+    file = file_beside sum size device.log.bytes at xs some site beside from holds.records.earlier stays low (on_file sum size device.log site from holds.records.earlier stays (holds.written whole)) others;
   };
   laid = λ none. subst (λ (l : LogState). Laid l.bytes site.slot bytes from bs size) (sym is) (laid_beside sum size device.log.bytes at xs some site beside bytes from bs rs are low high (holds.laid whole));
 }
@@ -145,7 +135,7 @@ behind_beside sum size some site slot_begins device fault whole at xs long low h
         let inside = here.inside in
         let held = here.held in
         let begun = here.behind in
-        let beside : (at + length xs ≤ s.site.slot) ⊎ (s.site.slot + size ≤ at) = elim (slots_apart size some s.site.slot site.slot here.segment.slot_begins slot_begins (other (begun_segment s) (in_first (begun_segment s) (map begun_segment ss)))) [
+        let beside : (at + length xs ≤ s.site.slot) ⊎ (s.site.slot + size ≤ at) = elim (slots_apart size some s.site.slot site.slot here.segment.records.slot_begins slot_begins (other (begun_segment s) (in_first (begun_segment s) (map begun_segment ss)))) [
           | inl before ↦ inr (omega (arith, before, low))
           | inr behind ↦ inl (omega (arith, behind, high))
         ] in
@@ -162,8 +152,8 @@ pub others_written : (sum : List ℕ → ℕ) (size : ℕ) (site : SegmentPositi
     → HoldBehind sum size new fault (site.place + size) behind (StaysBelow H (stable_place holds.begun.first.stable) site.place) H.batches holds.later
 others_written sum size site device fault bytes from bs rs H {behind} holds some whole at xs long low high new is =
     let stays : Message → Type 0 = StaysFrom H (stable_place holds.begun.first.stable) in
-    let file : IsLogFile sum size device.log.bytes site from holds.own.earlier stays = on_file sum size device.log site from holds.own.earlier stays (holds.own.written whole) in
-    behind_beside sum size some site holds.own.slot_begins device fault whole at xs long low high new is (StaysBelow H (stable_place holds.begun.first.stable) site.place)
+    let file : IsLogFile sum size device.log.bytes site from holds.own.records.earlier stays = on_file sum size device.log site from holds.own.records.earlier stays (holds.own.written whole) in
+    behind_beside sum size some site holds.own.records.slot_begins device fault whole at xs long low high new is (StaysBelow H (stable_place holds.begun.first.stable) site.place)
     (λ other m its lid inline stands.
     let kept = elsewhere_kept sum size device.log.bytes at xs site lid m low high (file.elsewhere m its.0 its.1 lid inline) in
     record { begins = stands.begins; stands = kept.stands; apart = stands.apart })

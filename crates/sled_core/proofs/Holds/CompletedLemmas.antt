@@ -41,13 +41,13 @@ module _ (sum : List ℕ → ℕ) (size : ℕ) (site : SegmentPosition) (device 
   number = site.place / size
 
   stand_all : All (Stands sum size number bytes) xs × Stands sum size number bytes r × All (Stands sum size number bytes) ys
-  stand_all = all_split (Stands sum size number bytes) xs ys r holds.stand
+  stand_all = all_split (Stands sum size number bytes) xs ys r holds.records.stand
 
   its : StandsReserved sum size number bytes r
   its = reserved_in sum size number bytes r (open_plain r.state is_open) stand_all.1
 
   chains : IsChain (max 20 from) xs r.from × IsChain (r.from + r.len) ys (length bytes)
-  chains = chain-split (max 20 from) (length bytes) xs ys r holds.chain
+  chains = chain-split (max 20 from) (length bytes) xs ys r holds.records.chain
 
   in_front : All (λ x. (max 20 from ≤ x.from) × (x.from + x.len ≤ r.from)) xs
   in_front = chain_within (max 20 from) r.from xs chains.0
@@ -61,10 +61,10 @@ module _ (sum : List ℕ → ℕ) (size : ℕ) (site : SegmentPosition) (device 
   ends : r.from + r.len ≤ length bytes
   ends = chain_grows (r.from + r.len) (length bytes) ys chains.1
 
-  old_messages : H.messages ≡ holds.earlier ++ (completed_in site bytes xs ++ completed_in site bytes ys)
+  old_messages : H.messages ≡ holds.records.earlier ++ (completed_in site bytes xs ++ completed_in site bytes ys)
   old_messages =
-      holds.messages
-      ∙ ap (λ (ms : List Message). holds.earlier ++ ms) (completed-append site bytes xs (r ∷ ys) ∙ ap (λ (ms : List Message). completed_in site bytes xs ++ ms) (completed_open site bytes r ys is_open))
+      holds.records.messages
+      ∙ ap (λ (ms : List Message). holds.records.earlier ++ ms) (completed-append site bytes xs (r ∷ ys) ∙ ap (λ (ms : List Message). completed_in site bytes xs ++ ms) (completed_open site bytes r ys is_open))
 
   -- It has ended with a sum and a kind.
   module _ (word : ℕ) (k : MessageKind) (state : ReservationState) (plain : state ≢ Padding) (own : HasText sum number (written bytes r.from (ending word k)) (ended state r)) where
@@ -94,27 +94,29 @@ module _ (sum : List ℕ → ℕ) (size : ℕ) (site : SegmentPosition) (device 
         completed-append site new xs (ended state r ∷ ys) ∙ (λ i. front i ++ with_own state (own_is i) (back i))
 
     -- A history is held that has them, and its own message where it was completed.
-    holds_new : (bs' : List Sealed) (H' : History) → H'.messages ≡ holds.earlier ++ (completed_in site bytes xs ++ with_own state (message_in site bytes r) (completed_in site bytes ys)) → H'.batches ≡ H.batches → (state ≡ Manifest → ⊥)
-        → {stays' : Message → Type 0} → (fault ≡ None → IsOnDevice sum size device.log site from holds.earlier stays')
+    holds_new : (bs' : List Sealed) (H' : History) → H'.messages ≡ holds.records.earlier ++ (completed_in site bytes xs ++ with_own state (message_in site bytes r) (completed_in site bytes ys)) → H'.batches ≡ H.batches → (state ≡ Manifest → ⊥)
+        → {stays' : Message → Type 0} → (fault ≡ None → IsOnDevice sum size device.log site from holds.records.earlier stays')
         → (fault ≡ None → Laid device.log.bytes site.slot new from bs' size) → HoldsSegment sum (log_parts size site device fault new from bs' (xs ++ ended state r ∷ ys)) stays' H'
     holds_new bs' H' messages same no_batch on_device laid =
         let fit = fits sum number bytes r ends its.text word k in
         let long : length new ≡ length bytes = length-written bytes (ending word k) r.from fit in
         let short_end : length (ending word k) ≤ r.len = (let h = its.text.headed in let l = its.text.long in omega (arith, h, l)) in
         record {
-          earlier = holds.earlier;
-          messages = messages ∙ ap (λ (ms : List Message). holds.earlier ++ ms) (sym messages_new);
-          below = holds.below;
-          apart = holds.apart;
-          batched = same_batched size site from (batches_in site bytes (xs ++ r ∷ ys)) (batches_in site new (xs ++ ended state r ∷ ys)) H.batches H'.batches
-              (batches_ended sum number bytes (ending word k) r short_end ends size (max 20 from) (length bytes) xs ys holds.chain holds.stand site state (λ was. let both : Open ≡ Manifest = sym is_open ∙ was in cc) no_batch) same holds.batched;
-          no_end = no_end_in H H' (site.place + records_end (xs ++ ended state r ∷ ys) (length new)) (site.place + size) same
-              (subst (λ n. NoBatchEnds H (site.place + n) (site.place + size)) (sym (ap (records_end (xs ++ ended state r ∷ ys)) long ∙ records_ended xs ys r state (length bytes) is_open plain)) holds.no_end);
-          place_begins = holds.place_begins;
-          slot_begins = holds.slot_begins;
-          header = λ first. let m = holds.header first in record { mark = m.mark; is = part-written_before bytes (ending word k) r.from 0 20 (omega (arith, begins)) fit ∙ m.is; of_history = mark_same H H' (record { place = site.place; slot = site.slot; mark = m.mark }) same m.of_history };
-          chain = subst (λ n. IsChain (max 20 from) (xs ++ ended state r ∷ ys) n) (sym long) (chain-joined (max 20 from) (length bytes) xs ys (ended state r) chains.0 chains.1);
-          stand = stand_new;
+          records = record {
+            earlier = holds.records.earlier;
+            messages = messages ∙ ap (λ (ms : List Message). holds.records.earlier ++ ms) (sym messages_new);
+            below = holds.records.below;
+            apart = holds.records.apart;
+            batched = same_batched size site from (batches_in site bytes (xs ++ r ∷ ys)) (batches_in site new (xs ++ ended state r ∷ ys)) H.batches H'.batches
+                (batches_ended sum number bytes (ending word k) r short_end ends size (max 20 from) (length bytes) xs ys holds.records.chain holds.records.stand site state (λ was. let both : Open ≡ Manifest = sym is_open ∙ was in cc) no_batch) same holds.records.batched;
+            no_end = no_end_in H H' (site.place + records_end (xs ++ ended state r ∷ ys) (length new)) (site.place + size) same
+                (subst (λ n. NoBatchEnds H (site.place + n) (site.place + size)) (sym (ap (records_end (xs ++ ended state r ∷ ys)) long ∙ records_ended xs ys r state (length bytes) is_open plain)) holds.records.no_end);
+            place_begins = holds.records.place_begins;
+            slot_begins = holds.records.slot_begins;
+            header = λ first. let m = holds.records.header first in record { mark = m.mark; is = part-written_before bytes (ending word k) r.from 0 20 (omega (arith, begins)) fit ∙ m.is; of_history = mark_same H H' (record { place = site.place; slot = site.slot; mark = m.mark }) same m.of_history };
+            chain = subst (λ n. IsChain (max 20 from) (xs ++ ended state r ∷ ys) n) (sym long) (chain-joined (max 20 from) (length bytes) xs ys (ended state r) chains.0 chains.1);
+            stand = stand_new;
+          };
           written = on_device;
           laid = laid;
         }
@@ -122,11 +124,11 @@ module _ (sum : List ℕ → ℕ) (size : ℕ) (site : SegmentPosition) (device 
   -- Completed, its message is added.
 
   abbrev history : History
-  history = record { messages = (holds.earlier ++ completed_in site bytes xs) ++ message_in site bytes r ∷ completed_in site bytes ys; batches = H.batches }
+  history = record { messages = (holds.records.earlier ++ completed_in site bytes xs) ++ message_in site bytes r ∷ completed_in site bytes ys; batches = H.batches }
 
-  lower : (x : Message) → Contains (holds.earlier ++ completed_in site bytes xs) x → x.place < site.place + r.from
-  lower x there = elim (Contains-append_cases holds.earlier (completed_in site bytes xs) x there) [
-    | inl early ↦ (let b = All-contains (λ m. (m.place < site.place + from) × (m.place + m.size ≤ site.place + from)) holds.earlier x holds.below early in omega (arith, b.0, begins))
+  lower : (x : Message) → Contains (holds.records.earlier ++ completed_in site bytes xs) x → x.place < site.place + r.from
+  lower x there = elim (Contains-append_cases holds.records.earlier (completed_in site bytes xs) x there) [
+    | inl early ↦ (let b = All-contains (λ m. (m.place < site.place + from) × (m.place + m.size ≤ site.place + from)) holds.records.earlier x holds.records.below early in omega (arith, b.0, begins))
     | inr late ↦ (All-contains (λ m. (site.place + max 20 from ≤ m.place) × (m.place < site.place + r.from) × (m.place + m.size ≤ site.place + r.from)) (completed_in site bytes xs) x (completed_between site bytes (max 20 from) r.from xs chains.0 (some_long sum size number bytes xs stand_all.0)) late).1
   ]
 
@@ -139,9 +141,9 @@ module _ (sum : List ℕ → ℕ) (size : ℕ) (site : SegmentPosition) (device 
   adds : is_manifest r.log_kind r.page ≡ false → AddsMessage H (message_in site bytes r) history
   adds none = record {
     changes = changes_page r.log_kind r.page (is_some r.blob) r.kind (kind_of_message r.log_kind r.page (is_some r.blob) (length (body_in bytes r)) r.kind its.text.known none);
-    before = holds.earlier ++ completed_in site bytes xs;
+    before = holds.records.earlier ++ completed_in site bytes xs;
     after = completed_in site bytes ys;
-    old = old_messages ∙ sym (append_assoc holds.earlier (completed_in site bytes xs) (completed_in site bytes ys));
+    old = old_messages ∙ sym (append_assoc holds.records.earlier (completed_in site bytes xs) (completed_in site bytes ys));
     new = refl;
     lower = lower;
     higher = higher;
@@ -149,10 +151,10 @@ module _ (sum : List ℕ → ℕ) (size : ℕ) (site : SegmentPosition) (device 
   }
 
   holds_completed : is_manifest r.log_kind r.page ≡ false → (bs' : List Sealed) → (fault ≡ None → Laid device.log.bytes site.slot (written bytes r.from (completing r)) from bs' size)
-      → (stays' : Message → Type 0) → (fault ≡ None → IsOnDevice sum size device.log site from holds.earlier stays')
+      → (stays' : Message → Type 0) → (fault ≡ None → IsOnDevice sum size device.log site from holds.records.earlier stays')
       → HoldsSegment sum (log_parts size site device fault (written bytes r.from (completing r)) from bs' (xs ++ ended Completed r ∷ ys)) stays' history
   holds_completed none bs' laid stays' on = holds_new r.sum r.kind Completed (λ same. cc) (completed_stands sum number bytes r ends its.text is_open none) bs' history
-      (append_assoc holds.earlier (completed_in site bytes xs) (message_in site bytes r ∷ completed_in site bytes ys)) refl (λ is. cc) on laid
+      (append_assoc holds.records.earlier (completed_in site bytes xs) (message_in site bytes r ∷ completed_in site bytes ys)) refl (λ is. cc) on laid
 
   -- Aborted, nothing is.
 
@@ -176,18 +178,8 @@ fewer_stay sum size device site from earlier stays stays' fewer on = record {
 pub segment-fewer : (sum : List ℕ → ℕ) (size : ℕ) (site : SegmentPosition) (device : State) (fault : Option IoError) (bytes : List ℕ) (from : ℕ) (bs : List Sealed) (rs : List Reserved) (H : History) (stays stays' : Message → Type 0)
     → ((x : Message) → x.place < site.place → stays' x → stays x) → HoldsSegment sum (log_parts size site device fault bytes from bs rs) stays H → HoldsSegment sum (log_parts size site device fault bytes from bs rs) stays' H
 segment-fewer sum size site device fault bytes from bs rs H stays stays' fewer holds = record {
-  earlier = holds.earlier;
-  messages = holds.messages;
-  below = holds.below;
-  apart = holds.apart;
-  batched = holds.batched;
-  no_end = holds.no_end;
-  place_begins = holds.place_begins;
-  slot_begins = holds.slot_begins;
-  header = holds.header;
-  chain = holds.chain;
-  stand = holds.stand;
-  written = λ ok. fewer_stay sum size device.log site from holds.earlier stays stays' fewer (holds.written ok);
+  records = holds.records;
+  written = λ ok. fewer_stay sum size device.log site from holds.records.earlier stays stays' fewer (holds.written ok);
   laid = holds.laid;
 }
 
@@ -196,31 +188,31 @@ laid_ends : (sum : List ℕ → ℕ) (size : ℕ) (site : SegmentPosition) (devi
     → {stays : Message → Type 0} → HoldsSegment sum (log_parts size site device fault bytes from bs rs) stays H → slice_get rs i ≡ Some r → r.state ≡ Open → AreSealed from rs bs → (word : ℕ) (k : MessageKind) (state : ReservationState) → open_state state ≡ false
     → Laid device.log.bytes site.slot bytes from bs size → Laid device.log.bytes site.slot (written bytes r.from (ending word k)) from (one_ended i bs) size
 laid_ends sum size site device fault bytes from bs rs i r H holds there is_open are word k state closed laid =
-    let stands : HasText sum (site.place / size) bytes r = (reserved_in sum size (site.place / size) bytes r (open_plain r.state is_open) (at_there (Stands sum size (site.place / size) bytes) rs i r there holds.stand)).text in
-    let inside = at_there (λ z. (max 20 from ≤ z.from) × (z.from + z.len ≤ length bytes)) rs i r there (chain_within (max 20 from) (length bytes) rs holds.chain) in
+    let stands : HasText sum (site.place / size) bytes r = (reserved_in sum size (site.place / size) bytes r (open_plain r.state is_open) (at_there (Stands sum size (site.place / size) bytes) rs i r there holds.records.stand)).text in
+    let inside = at_there (λ z. (max 20 from ≤ z.from) × (z.from + z.len ≤ length bytes)) rs i r there (chain_within (max 20 from) (length bytes) rs holds.records.chain) in
     let headed = stands.headed in let long = stands.long in
-    laid_over device.log.bytes site.slot bytes from bs size rs i r (ending word k) state closed there is_open (omega (arith, headed, long)) inside.1 holds.chain are laid
+    laid_over device.log.bytes site.slot bytes from bs size rs i r (ending word k) state closed there is_open (omega (arith, headed, long)) inside.1 holds.records.chain are laid
 
 -- The message of a reservation lies behind what was written.
 pub behind_written : (sum : List ℕ → ℕ) (size : ℕ) (site : SegmentPosition) (device : State) (fault : Option IoError) (bytes : List ℕ) (from : ℕ) (bs : List Sealed) (rs : List Reserved) (i : ℕ) (r : Reserved) (H : History)
     → {stays : Message → Type 0} → HoldsSegment sum (log_parts size site device fault bytes from bs rs) stays H → slice_get rs i ≡ Some r → site.place + from ≤ (message_in site bytes r).place
 behind_written sum size site device fault bytes from bs rs i r H holds there =
-    let inside = at_there (λ z. (max 20 from ≤ z.from) × (z.from + z.len ≤ length bytes)) rs i r there (chain_within (max 20 from) (length bytes) rs holds.chain) in
+    let inside = at_there (λ z. (max 20 from ≤ z.from) × (z.from + z.len ≤ length bytes)) rs i r there (chain_within (max 20 from) (length bytes) rs holds.records.chain) in
     omega (arith, inside.0)
 
 -- It lies behind the header of its segment.
 pub behind_head : (sum : List ℕ → ℕ) (size : ℕ) (site : SegmentPosition) (device : State) (fault : Option IoError) (bytes : List ℕ) (from : ℕ) (bs : List Sealed) (rs : List Reserved) (i : ℕ) (r : Reserved) (H : History)
     → {stays : Message → Type 0} → HoldsSegment sum (log_parts size site device fault bytes from bs rs) stays H → slice_get rs i ≡ Some r → site.place + 20 ≤ (message_in site bytes r).place
 behind_head sum size site device fault bytes from bs rs i r H holds there =
-    let inside = at_there (λ z. (max 20 from ≤ z.from) × (z.from + z.len ≤ length bytes)) rs i r there (chain_within (max 20 from) (length bytes) rs holds.chain) in
+    let inside = at_there (λ z. (max 20 from ≤ z.from) × (z.from + z.len ≤ length bytes)) rs i r there (chain_within (max 20 from) (length bytes) rs holds.records.chain) in
     omega (arith, inside.0)
 
 -- And it begins in front of the end of the bytes.
 pub ends_within : (sum : List ℕ → ℕ) (size : ℕ) (site : SegmentPosition) (device : State) (fault : Option IoError) (bytes : List ℕ) (from : ℕ) (bs : List Sealed) (rs : List Reserved) (i : ℕ) (r : Reserved) (H : History)
     → {stays : Message → Type 0} → HoldsSegment sum (log_parts size site device fault bytes from bs rs) stays H → slice_get rs i ≡ Some r → r.state ≡ Open → (message_in site bytes r).place < site.place + length bytes
 ends_within sum size site device fault bytes from bs rs i r H holds there is_open =
-    let inside = at_there (λ z. (max 20 from ≤ z.from) × (z.from + z.len ≤ length bytes)) rs i r there (chain_within (max 20 from) (length bytes) rs holds.chain) in
-    let stands : HasText sum (site.place / size) bytes r = (reserved_in sum size (site.place / size) bytes r (open_plain r.state is_open) (at_there (Stands sum size (site.place / size) bytes) rs i r there holds.stand)).text in
+    let inside = at_there (λ z. (max 20 from ≤ z.from) × (z.from + z.len ≤ length bytes)) rs i r there (chain_within (max 20 from) (length bytes) rs holds.records.chain) in
+    let stands : HasText sum (site.place / size) bytes r = (reserved_in sum size (site.place / size) bytes r (open_plain r.state is_open) (at_there (Stands sum size (site.place / size) bytes) rs i r there holds.records.stand)).text in
     let headed = stands.headed in let long = stands.long in
     omega (arith, inside.1, headed, long)
 
@@ -240,7 +232,7 @@ segment-complete sum size site device fault bytes from bs rs i r H {stays} holds
       λ stays' fewer. subst (λ (l : List Reserved). HoldsSegment sum (log_parts size site device fault (written bytes r.from (completing r)) from (one_ended i bs) l) stays' (history sum size site device fault bytes from bs xs ys r H holds' is_open behind)) (sym set_is)
           (holds_completed sum size site device fault bytes from bs xs ys r H holds' is_open behind none (one_ended i bs)
           (λ ok. laid_ends sum size site device fault bytes from bs rs i r H holds there is_open are r.sum r.kind Completed refl (holds.laid ok))
-          stays' (λ ok. fewer_stay sum size device.log site from holds'.earlier stays stays' fewer (holds'.written ok))),
+          stays' (λ ok. fewer_stay sum size device.log site from holds'.records.earlier stays stays' fewer (holds'.written ok))),
     )
 
 -- An open reservation that is aborted leaves the history as it was, and the segment holds that.
@@ -262,10 +254,10 @@ pub others_stay : (sum : List ℕ → ℕ) (size : ℕ) (site : SegmentPosition)
     → (slice_get (set rs i (ended state r)) j ≡ Some x) × (message_in site (written bytes r.from text) x ≡ message_in site bytes x)
 others_stay sum size site device fault bytes from bs rs i j r x H text state short holds at_i is_open at_j x_open apart =
     let number : ℕ = site.place / size in
-    let at_x : HasText sum number bytes x = (reserved_in sum size number bytes x (open_plain x.state x_open) (at_there (Stands sum size number bytes) rs j x at_j holds.stand)).text in
-    let inside = at_there (λ z. (max 20 from ≤ z.from) × (z.from + z.len ≤ length bytes)) rs i r at_i (chain_within (max 20 from) (length bytes) rs holds.chain) in
+    let at_x : HasText sum number bytes x = (reserved_in sum size number bytes x (open_plain x.state x_open) (at_there (Stands sum size number bytes) rs j x at_j holds.records.stand)).text in
+    let inside = at_there (λ z. (max 20 from ≤ z.from) × (z.from + z.len ≤ length bytes)) rs i r at_i (chain_within (max 20 from) (length bytes) rs holds.records.chain) in
     let body : body_in (written bytes r.from text) x ≡ body_in bytes x =
-    elim (chain_apart (max 20 from) (length bytes) rs i j r x holds.chain at_i at_j apart) [
+    elim (chain_apart (max 20 from) (length bytes) rs i j r x holds.records.chain at_i at_j apart) [
       | inl before ↦ over.body_before sum number bytes text r short inside.1 x before at_x.long
       | inr behind ↦ over.body_behind sum number bytes text r short inside.1 x behind
     ] in (

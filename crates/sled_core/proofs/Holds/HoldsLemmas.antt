@@ -73,20 +73,22 @@ module _ (sum : List ℕ → ℕ) (size : ℕ) (site : SegmentPosition) (device 
       let none : completed_in site new (r ∷ []) ≡ [] = completed_open site new r [] is_open in
       let end : length bytes + r.len ≡ length new = omega (arith, length-append bytes more) in
       record {
-        earlier = holds.earlier;
-        messages = holds.messages ∙ ap (λ (ms : List Message). holds.earlier ++ ms) (sym (
-            completed-append site new rs (r ∷ []) ∙ ap (λ (ms : List Message). completed_in site new rs ++ ms) none ∙ append-nil (completed_in site new rs) ∙ completed-behind sum size number site bytes more rs within holds.stand));
-        below = holds.below;
-        apart = holds.apart;
-        batched = same_batched size site from (batches_in site bytes rs) (batches_in site new (rs ++ r ∷ [])) H.batches H.batches
-            (batches-append site new rs (r ∷ []) ∙ ap (λ (l : List Batch). batches_in site new rs ++ l) (batches_open site new r [] is_open) ∙ append-nil (batches_in site new rs) ∙ batches-behind sum size number site bytes more rs within holds.stand) refl holds.batched;
-        no_end = no_end_up H site.place (records_end rs (length bytes)) (records_end (rs ++ r ∷ []) (length new)) (site.place + size) (records_more rs r (length bytes) (length new) (omega (arith, end)) (behind_open r (length bytes) (length new) is_open (omega (arith, end)))) holds.no_end;
-        place_begins = holds.place_begins;
-        slot_begins = holds.slot_begins;
-        header = λ first. let m = holds.header first in record { mark = m.mark; is = take-append-le 20 bytes more begun ∙ m.is; of_history = m.of_history };
-        chain = subst (λ (n : ℕ). IsChain (max 20 from) (rs ++ r ∷ []) n) end (chain-append (max 20 from) (length bytes) rs r holds.chain at);
-        stand = All-append (Stands sum size number new) rs (r ∷ []) (λ k d lt. stands-append sum size number bytes more (get_or rs k d) (within k d lt) (holds.stand k d lt))
-            (one (Stands sum size number new) r (in_reserved sum size number new r (open_plain r.state is_open) (record { room = has_room; text = stands })));
+        records = record {
+          earlier = holds.records.earlier;
+          messages = holds.records.messages ∙ ap (λ (ms : List Message). holds.records.earlier ++ ms) (sym (
+              completed-append site new rs (r ∷ []) ∙ ap (λ (ms : List Message). completed_in site new rs ++ ms) none ∙ append-nil (completed_in site new rs) ∙ completed-behind sum size number site bytes more rs within holds.records.stand));
+          below = holds.records.below;
+          apart = holds.records.apart;
+          batched = same_batched size site from (batches_in site bytes rs) (batches_in site new (rs ++ r ∷ [])) H.batches H.batches
+              (batches-append site new rs (r ∷ []) ∙ ap (λ (l : List Batch). batches_in site new rs ++ l) (batches_open site new r [] is_open) ∙ append-nil (batches_in site new rs) ∙ batches-behind sum size number site bytes more rs within holds.records.stand) refl holds.records.batched;
+          no_end = no_end_up H site.place (records_end rs (length bytes)) (records_end (rs ++ r ∷ []) (length new)) (site.place + size) (records_more rs r (length bytes) (length new) (omega (arith, end)) (behind_open r (length bytes) (length new) is_open (omega (arith, end)))) holds.records.no_end;
+          place_begins = holds.records.place_begins;
+          slot_begins = holds.records.slot_begins;
+          header = λ first. let m = holds.records.header first in record { mark = m.mark; is = take-append-le 20 bytes more begun ∙ m.is; of_history = m.of_history };
+          chain = subst (λ (n : ℕ). IsChain (max 20 from) (rs ++ r ∷ []) n) end (chain-append (max 20 from) (length bytes) rs r holds.records.chain at);
+          stand = All-append (Stands sum size number new) rs (r ∷ []) (λ k d lt. stands-append sum size number bytes more (get_or rs k d) (within k d lt) (holds.records.stand k d lt))
+              (one (Stands sum size number new) r (in_reserved sum size number new r (open_plain r.state is_open) (record { room = has_room; text = stands })));
+        };
         written = holds.written;
         laid = λ ok. laid_append device.log.bytes site.slot bytes more from bs size rise (holds.laid ok);
       }

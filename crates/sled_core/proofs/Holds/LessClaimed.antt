@@ -59,18 +59,14 @@ module _ (sum : List ℕ → ℕ) (H : History) (A less f lower : ℕ) (U : List
   fits_in_claimed : (parts : LogParts) (behind : List SegmentParts) (reach pins : ℕ) → FitsIn sum parts behind reach pins H A f U → FitsIn sum parts behind reach pins H less lower U
   fits_in_claimed parts behind reach pins fits = record {
     holds = fits.holds;
-    near = fits.near;
-    ends = fits.ends;
-    no_batch = fits.no_batch;
-    no_end = fits.no_end;
+    reached = fits.reached;
     among = fits.among;
     beyond = fits.beyond;
-    blobs = fits.blobs;
-    stored = fits.stored;
-    entries = fits.entries;
-    below = fits.below;
-    names = names_low sum parts.size f lower low (logged H) parts.device.snapshots fits.holds.begun.first fits.names;
-    own_names = fits.own_names;
+    items = fits.items;
+    named = record {
+      names = names_low sum parts.size f lower low (logged H) parts.device.snapshots fits.holds.begun.first fits.named.names;
+      own_names = fits.named.own_names;
+    };
     passes = (let passes = fits.passes in omega (arith, le, passes));
     pinned = fits.pinned;
     left = (let stable = stable_below reach H.batches in leaves_claimed sum parts.size f lower low H stable stable (omega arith) parts.device fits.left);

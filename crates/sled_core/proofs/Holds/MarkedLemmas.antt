@@ -52,34 +52,34 @@ module _ (sum : List ℕ → ℕ) (size : ℕ) (site : SegmentPosition) (device 
   beside = behind_beside sum size least device fault ok b.peg (site.place + size) behind (StaysBelow (logged H) (stable_place first.stable) site.place) H.batches fits.holds.later fits.holds.others offs
 
   reached : reach ≤ b.low
-  reached = let near = fits.near in omega (arith, near, above)
+  reached = let near = fits.reached.near in omega (arith, near, above)
 
   -- where nothing was written of the segment, the beginning of its slot has zeros
   clean : from ≡ 0 → AreZeros device.log.bytes site.slot (site.slot + 20)
   clean none = begin_zeros device.log.bytes site.slot bytes from bs rs size fresh are (omega (arith, least)) (fits.holds.own.laid ok) none
 
   alone_new : NoHeaderOfZeros sum → StandsAmong sum size device.log.bytes site from others reach (logged H') first
-  alone_new none = alone-marks sum size device.log.bytes site from reach (logged H) (logged H') first least none holds.own.place_begins clean b put above inside (placing (fits.among ok none).stands.batched) later beside (fits.among ok none)
+  alone_new none = alone-marks sum size device.log.bytes site from reach (logged H) (logged H') first least none holds.own.records.place_begins clean b put above inside (placing (fits.among ok none).stands.batched) later beside (fits.among ok none)
 
   beyond_new : (to : ℕ) → site.slot ≤ to → NoHeaderOfZeros sum → StandsAmong sum size (padded to device.log.bytes) site from others reach (logged H') first
-  beyond_new to far none = alone-marks sum size (padded to device.log.bytes) site from reach (logged H) (logged H') first least none holds.own.place_begins (λ first_one i low high. padded_get to device.log.bytes i ∙ clean first_one i low high) b put above inside
+  beyond_new to far none = alone-marks sum size (padded to device.log.bytes) site from reach (logged H) (logged H') first least none holds.own.records.place_begins (λ first_one i low high. padded_get to device.log.bytes i ∙ clean first_one i low high) b put above inside
       (placing (fits.beyond to far ok none).stands.batched) later (λ x known. beside_padded size to device.log.bytes b.peg x (beside x known)) (fits.beyond to far ok none)
 
   names_new : NamesFit sum size device.snapshots (logged H') f first
-  names_new = let begun = fits.holds.begun.reached in names-marks (logged H) (logged H') b put sum size device.snapshots f first (omega (arith, begun, above)) fits.names
+  names_new = let begun = fits.holds.begun.reached in names-marks (logged H) (logged H') b put sum size device.snapshots f first (omega (arith, begun, above)) fits.named.names
 
   -- the batch begins behind what is read, so the stable place is the same
   same_stable : stable_below reach H'.batches ≡ stable_below reach H.batches
   same_stable = ap (stable_below reach) adds.batches ∙ stable_one_more reach H.batches b reached
 
   blobs_new : BlobsFit sum device.blobs H' (stable_below reach H'.batches)
-  blobs_new = subst (λ n. BlobsFit sum device.blobs H' n) (sym same_stable) (blobs-marks H H' b adds sum device.blobs (stable_below reach H.batches) fits.blobs)
+  blobs_new = subst (λ n. BlobsFit sum device.blobs H' n) (sym same_stable) (blobs-marks H H' b adds sum device.blobs (stable_below reach H.batches) fits.items.blobs)
 
   stored_behind : KeepsItems sum device.blobs H' (stable_below reach H'.batches)
-  stored_behind x there past = let same = same_stable in fits.stored x (message_was H H' b adds x there) (omega (arith, past, same))
+  stored_behind x there past = let same = same_stable in fits.items.stored x (message_was H H' b adds x there) (omega (arith, past, same))
 
   entries_new : KeepsEntries sum device.blobs H' (stable_below reach H'.batches)
-  entries_new = subst (KeepsEntries sum device.blobs H') (sym same_stable) (entries-marks H H' b adds sum device.blobs (stable_below reach H.batches) fits.entries)
+  entries_new = subst (KeepsEntries sum device.blobs H') (sym same_stable) (entries-marks H H' b adds sum device.blobs (stable_below reach H.batches) fits.items.entries)
 
   left_new : LeavesRecoverable sum size H' (stable_below reach H'.batches) f device
   left_new =
@@ -92,19 +92,25 @@ module _ (sum : List ℕ → ℕ) (size : ℕ) (site : SegmentPosition) (device 
       let same : first ≡ holds.begun.first = one_begin sum device.snapshots.file first holds.begun.first fits.holds.begun.begins holds.begun.begins in
       record {
         holds = holds;
-        near = let near = fits.near in omega (arith, near, is);
-        ends = λ x there below. fits.ends x (message_was (logged H) (logged H') b put x there) (omega (arith, below, is));
-        no_batch = subst (λ n. NoBatchBegins (logged H') reach (site.place + n)) (sym is) (no_batch (logged H) (logged H') b put reach (site.place + from) (inr above) fits.no_batch);
-        no_end = subst (λ n. NoBatchEnds (logged H') reach (site.place + n)) (sym is) (no_end (logged H) (logged H') b put reach (site.place + from) above fits.no_end);
+        reached = record {
+          near = let near = fits.reached.near in omega (arith, near, is);
+          ends = λ x there below. fits.reached.ends x (message_was (logged H) (logged H') b put x there) (omega (arith, below, is));
+          no_batch = subst (λ n. NoBatchBegins (logged H') reach (site.place + n)) (sym is) (no_batch (logged H) (logged H') b put reach (site.place + from) (inr above) fits.reached.no_batch);
+          no_end = subst (λ n. NoBatchEnds (logged H') reach (site.place + n)) (sym is) (no_end (logged H) (logged H') b put reach (site.place + from) above fits.reached.no_end);
+        };
         among = λ fine none. subst (λ (s : SnapshotModel). StandsAmong sum size device.log.bytes site from' others reach (logged H') s) same (subst (λ n. StandsAmong sum size device.log.bytes site n others reach (logged H') first) (sym is) (alone_new none));
         beyond = λ to far fine none. subst (λ (s : SnapshotModel). StandsAmong sum size (padded to device.log.bytes) site from' others reach (logged H') s) same
             (subst (λ n. StandsAmong sum size (padded to device.log.bytes) site n others reach (logged H') first) (sym is) (beyond_new to far none));
-        blobs = blobs_new;
-        stored = stored_behind;
-        entries = entries_new;
-        below = λ x there. fits.below x (message_was H H' b adds x there);
-        names = subst (λ (s : SnapshotModel). NamesFit sum size device.snapshots (logged H') f s) same names_new;
-        own_names = fits.own_names;
+        items = record {
+          blobs = blobs_new;
+          stored = stored_behind;
+          entries = entries_new;
+          below = λ x there. fits.items.below x (message_was H H' b adds x there);
+        };
+        named = record {
+          names = subst (λ (s : SnapshotModel). NamesFit sum size device.snapshots (logged H') f s) same names_new;
+          own_names = fits.named.own_names;
+        };
         passes = let passes = fits.passes in let same = same_stable in omega (arith, passes, same);
         pinned = fits.pinned;
         left = left_new;

@@ -63,19 +63,21 @@ module _ (sum : List ℕ → ℕ) (size : ℕ) (site : SegmentPosition) (device 
   }
 
   pub segment-with : {stays : Message → Type 0} (holds : HoldsSegment sum (log_parts size site device fault bytes from bs rs) stays (record { messages = ms; batches = batches }))
-      → ((none : from ≡ 0) → (holds.header none).mark <ℤ pos b.low) → HoldsSegment sum (log_parts size site device fault bytes from bs rs) stays (record { messages = ms; batches = and_batch batches b })
+      → ((none : from ≡ 0) → (holds.records.header none).mark <ℤ pos b.low) → HoldsSegment sum (log_parts size site device fault bytes from bs rs) stays (record { messages = ms; batches = and_batch batches b })
   segment-with holds below = record {
-    earlier = holds.earlier;
-    messages = holds.messages;
-    below = holds.below;
-    apart = holds.apart;
-    batched = batched_with holds.batched;
-    no_end = no_end_with ms batches b (site.place + records_end rs (length bytes)) (site.place + size) pegged holds.no_end;
-    place_begins = holds.place_begins;
-    slot_begins = holds.slot_begins;
-    header = λ none. let m = holds.header none in record { mark = m.mark; is = m.is; of_history = mark_with ms ms batches b (record { place = site.place; slot = site.slot; mark = m.mark }) (below none) m.of_history };
-    chain = holds.chain;
-    stand = holds.stand;
+    records = record {
+      earlier = holds.records.earlier;
+      messages = holds.records.messages;
+      below = holds.records.below;
+      apart = holds.records.apart;
+      batched = batched_with holds.records.batched;
+      no_end = no_end_with ms batches b (site.place + records_end rs (length bytes)) (site.place + size) pegged holds.records.no_end;
+      place_begins = holds.records.place_begins;
+      slot_begins = holds.records.slot_begins;
+      header = λ none. let m = holds.records.header none in record { mark = m.mark; is = m.is; of_history = mark_with ms ms batches b (record { place = site.place; slot = site.slot; mark = m.mark }) (below none) m.of_history };
+      chain = holds.records.chain;
+      stand = holds.records.stand;
+    };
     written = holds.written;
     laid = holds.laid;
   }
@@ -110,16 +112,16 @@ module _ (sum : List ℕ → ℕ) (size : ℕ) (site : SegmentPosition) (device 
   set_is = set_split rs i (ended Manifest r) (slice_get_within rs i r there)
 
   chain : IsChain (max 20 from) (xs ++ r ∷ ys) (length bytes)
-  chain = subst (λ (l : List Reserved). IsChain (max 20 from) l (length bytes)) around holds.chain
+  chain = subst (λ (l : List Reserved). IsChain (max 20 from) l (length bytes)) around holds.records.chain
 
   stand : All (Stands sum size number bytes) (xs ++ r ∷ ys)
-  stand = subst (All (Stands sum size number bytes)) around holds.stand
+  stand = subst (All (Stands sum size number bytes)) around holds.records.stand
 
   its : StandsReserved sum size number bytes r
-  its = reserved_in sum size number bytes r (open_plain r.state is_open) (at_there (Stands sum size number bytes) rs i r there holds.stand)
+  its = reserved_in sum size number bytes r (open_plain r.state is_open) (at_there (Stands sum size number bytes) rs i r there holds.records.stand)
 
   lies : (max 20 from ≤ r.from) × (r.from + r.len ≤ length bytes)
-  lies = at_there (λ z. (max 20 from ≤ z.from) × (z.from + z.len ≤ length bytes)) rs i r there (chain_within (max 20 from) (length bytes) rs holds.chain)
+  lies = at_there (λ z. (max 20 from ≤ z.from) × (z.from + z.len ≤ length bytes)) rs i r there (chain_within (max 20 from) (length bytes) rs holds.records.chain)
 
   short : length (marking sum bytes r peg) ≤ r.len
   short =
@@ -143,17 +145,17 @@ module _ (sum : List ℕ → ℕ) (size : ℕ) (site : SegmentPosition) (device 
   pub marks_head : take 20 new ≡ take 20 bytes
   marks_head = let at = lies.0 in let within = short in let high = lies.1 in part-written_before bytes (marking sum bytes r peg) r.from 0 20 (omega (arith, at)) (omega (arith, within, high))
 
-  messages_new : ms ≡ holds.earlier ++ completed_in site new now
+  messages_new : ms ≡ holds.records.earlier ++ completed_in site new now
   messages_new =
-      holds.messages
-      ∙ ap (λ (l : List Message). holds.earlier ++ l) (ap (completed_in site bytes) around ∙ sym (completed_marked sum number bytes r lies.1 its.text is_open manifest peg size (max 20 from) (length bytes) xs ys chain stand site))
+      holds.records.messages
+      ∙ ap (λ (l : List Message). holds.records.earlier ++ l) (ap (completed_in site bytes) around ∙ sym (completed_marked sum number bytes r lies.1 its.text is_open manifest peg size (max 20 from) (length bytes) xs ys chain stand site))
 
   all_old : batches_in site bytes rs ≡ batches_in site bytes xs ++ batches_in site bytes ys
   all_old = ap (batches_in site bytes) around ∙ batches_unmarked sum number bytes r lies.1 its.text is_open manifest peg size (max 20 from) (length bytes) xs ys chain stand site
 
   -- No batch begins where it does.
   pub marks_alone : length bytes ≤ size → (c : Batch) → Contains batches c → c.low ≡ b.low → ⊥
-  marks_alone inside c among same = elim (holds.batched.begun c among) [
+  marks_alone inside c among same = elim (holds.records.batched.begun c among) [
     | inl own ↦ elim (Contains-append_cases (batches_in site bytes xs) (batches_in site bytes ys) c (subst (λ (l : List Batch). Contains l c) all_old own)) [
       | inl before ↦ (let z = batches_between site bytes (max 20 from) r.from xs chains.0 (some_long sum size number bytes xs stands.0) c before in omega (arith, z.1, same))
       | inr after ↦ (
@@ -181,7 +183,7 @@ module _ (sum : List ℕ → ℕ) (size : ℕ) (site : SegmentPosition) (device 
       ]
     ];
     begun = λ c among. elim (was_or_this batches b c among) [
-      | inl was ↦ elim (holds.batched.begun c was) [
+      | inl was ↦ elim (holds.records.batched.begun c was) [
         | inl own ↦ inl (still c (subst (λ (l : List Batch). Contains l c) all_old own))
         | inr other ↦ inr other
       ]
@@ -193,7 +195,7 @@ module _ (sum : List ℕ → ℕ) (size : ℕ) (site : SegmentPosition) (device 
       all_new = batches_marked sum number bytes r lies.1 its.text is_open manifest peg size (max 20 from) (length bytes) xs ys chain stand site (omega (arith, small))
 
       had : (c : Batch) → Contains (batches_in site bytes xs ++ batches_in site bytes ys) c → Contains (and_batch batches b) c
-      had c own = Contains-append_left batches (b ∷ []) c (holds.batched.noted c (subst (λ (l : List Batch). Contains l c) (sym all_old) own))
+      had c own = Contains-append_left batches (b ∷ []) c (holds.records.batched.noted c (subst (λ (l : List Batch). Contains l c) (sym all_old) own))
 
       still : (c : Batch) → Contains (batches_in site bytes xs ++ batches_in site bytes ys) c → Contains (batches_in site new now) c
       still c own = subst (λ (l : List Batch). Contains l c) (sym all_new) (elim (Contains-append_cases (batches_in site bytes xs) (batches_in site bytes ys) c own) [
@@ -207,25 +209,27 @@ module _ (sum : List ℕ → ℕ) (size : ℕ) (site : SegmentPosition) (device 
   -- It holds the history with the batch.
   pub segment-marked : HoldsSegment sum (log_parts size site device fault new from (one_ended i bs) (set rs i (ended Manifest r))) stays (record { messages = ms; batches = and_batch batches b })
   segment-marked = subst (λ (l : List Reserved). HoldsSegment sum (log_parts size site device fault new from (one_ended i bs) l) stays (record { messages = ms; batches = and_batch batches b })) (sym set_is) (record {
-    earlier = holds.earlier;
-    messages = messages_new;
-    below = holds.below;
-    apart = holds.apart;
-    batched = batched_new;
-    no_end = subst (λ n. NoBatchEnds (record { messages = ms; batches = and_batch batches b }) (site.place + n) (site.place + size)) (sym ends_same)
-        (no_end_with ms batches b (site.place + records_end rs (length bytes)) (site.place + size) pegged holds.no_end);
-    place_begins = holds.place_begins;
-    slot_begins = holds.slot_begins;
-    header = λ none.
-        let m = holds.header none in
-        let low = m.of_history.below in
-        record {
-          mark = m.mark;
-          is = marks_head ∙ m.is;
-          of_history = mark_with ms ms batches b (record { place = site.place; slot = site.slot; mark = m.mark }) (less_than m.mark site.place b.low (omega arith) low) m.of_history;
-        };
-    chain = subst (λ n. IsChain (max 20 from) now n) (sym marks_long) (let parts = chain-split (max 20 from) (length bytes) xs ys r chain in chain-joined (max 20 from) (length bytes) xs ys (ended Manifest r) parts.0 parts.1);
-    stand = stand_marked sum number bytes r lies.1 its.text is_open manifest peg size (max 20 from) (length bytes) xs ys chain stand small;
+    records = record {
+      earlier = holds.records.earlier;
+      messages = messages_new;
+      below = holds.records.below;
+      apart = holds.records.apart;
+      batched = batched_new;
+      no_end = subst (λ n. NoBatchEnds (record { messages = ms; batches = and_batch batches b }) (site.place + n) (site.place + size)) (sym ends_same)
+          (no_end_with ms batches b (site.place + records_end rs (length bytes)) (site.place + size) pegged holds.records.no_end);
+      place_begins = holds.records.place_begins;
+      slot_begins = holds.records.slot_begins;
+      header = λ none.
+          let m = holds.records.header none in
+          let low = m.of_history.below in
+          record {
+            mark = m.mark;
+            is = marks_head ∙ m.is;
+            of_history = mark_with ms ms batches b (record { place = site.place; slot = site.slot; mark = m.mark }) (less_than m.mark site.place b.low (omega arith) low) m.of_history;
+          };
+      chain = subst (λ n. IsChain (max 20 from) now n) (sym marks_long) (let parts = chain-split (max 20 from) (length bytes) xs ys r chain in chain-joined (max 20 from) (length bytes) xs ys (ended Manifest r) parts.0 parts.1);
+      stand = stand_marked sum number bytes r lies.1 its.text is_open manifest peg size (max 20 from) (length bytes) xs ys chain stand small;
+    };
     written = holds.written;
-    laid = λ ok. laid_over device.log.bytes site.slot bytes from bs size rs i r (marking sum bytes r peg) Manifest refl there is_open short lies.1 holds.chain are (holds.laid ok);
+    laid = λ ok. laid_over device.log.bytes site.slot bytes from bs size rs i r (marking sum bytes r peg) Manifest refl there is_open short lies.1 holds.records.chain are (holds.laid ok);
   })

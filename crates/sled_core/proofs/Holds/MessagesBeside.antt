@@ -29,10 +29,10 @@ module _ (sum : List ℕ → ℕ) (size : ℕ) (site : SegmentPosition) (device 
   split = there_split rs i r there
 
   chains : IsChain (max 20 from) front r.from × IsChain (r.from + r.len) behind (length bytes)
-  chains = chain-split (max 20 from) (length bytes) front behind r (subst (λ (l : List Reserved). IsChain (max 20 from) l (length bytes)) split holds.chain)
+  chains = chain-split (max 20 from) (length bytes) front behind r (subst (λ (l : List Reserved). IsChain (max 20 from) l (length bytes)) split holds.records.chain)
 
   stand : All (Stands sum size (site.place / size) bytes) front × Stands sum size (site.place / size) bytes r × All (Stands sum size (site.place / size) bytes) behind
-  stand = all_split (Stands sum size (site.place / size) bytes) front behind r (subst (λ (l : List Reserved). All (Stands sum size (site.place / size) bytes) l) split holds.stand)
+  stand = all_split (Stands sum size (site.place / size) bytes) front behind r (subst (λ (l : List Reserved). All (Stands sum size (site.place / size) bytes) l) split holds.records.stand)
 
   not_completed : r.state ≡ Completed → ⊥
   not_completed is = let both : Open ≡ Completed = sym is_open ∙ is in cc
@@ -59,9 +59,9 @@ module _ (sum : List ℕ → ℕ) (size : ℕ) (site : SegmentPosition) (device 
   ]
 
   pub message_before : (m : Message) → Contains H.messages m → m.place < site.place + r.from → m.place + m.size ≤ site.place + r.from
-  message_before m among low = elim (Contains-append_cases holds.earlier (completed_in site bytes rs) m (subst (λ (l : List Message). Contains l m) holds.messages among)) [
+  message_before m among low = elim (Contains-append_cases holds.records.earlier (completed_in site bytes rs) m (subst (λ (l : List Message). Contains l m) holds.records.messages among)) [
     | inl was ↦ (
-        let ends = (All-contains (λ (x : Message). (x.place < site.place + from) × (x.place + x.size ≤ site.place + from)) holds.earlier m holds.below was).1 in
+        let ends = (All-contains (λ (x : Message). (x.place < site.place + from) × (x.place + x.size ≤ site.place + from)) holds.records.earlier m holds.records.below was).1 in
         let grows = chain_grows (max 20 from) r.from front chains.0 in
         omega (arith, ends, grows))
     | inr own ↦ own_before m own low
@@ -79,7 +79,7 @@ module _ (sum : List ℕ → ℕ) (size : ℕ) (site : SegmentPosition) (device 
       ]
 
   pub batch_beside : length bytes ≤ size → (b : Batch) → Contains H.batches b → (b.low ≤ site.place + r.from) ⊎ (site.place + r.from + r.len ≤ b.low)
-  batch_beside short b among = elim (holds.batched.begun b among) [
+  batch_beside short b among = elim (holds.records.batched.begun b among) [
     | inl own ↦ own_batch b own
     | inr (inl before) ↦ (let grows = chain_grows (max 20 from) r.from front chains.0 in inl (omega (arith, before, grows)))
     | inr (inr after) ↦ (let within = chain_grows (r.from + r.len) (length bytes) behind chains.1 in inr (omega (arith, after, within, short)))

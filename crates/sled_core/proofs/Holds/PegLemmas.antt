@@ -44,7 +44,7 @@ module _ (sum : List ℕ → ℕ) (size : ℕ) (some : 256 ≤ size) (device : S
   next_beside place s stays batches own here off = record { filled = off.filled; short = short; clean = clean } where
     short : size < s.written_len + 32 → (peg < s.site.place + s.written_len) ⊎ (s.site.place + size ≤ peg)
     short full =
-        let low = covered_behind sum size (s.site.place / size) s.bytes s.reserved (max 20 s.written_len) (length s.bytes) here.segment.chain here.segment.stand (omega (arith, full)) in
+        let low = covered_behind sum size (s.site.place / size) s.bytes s.reserved (max 20 s.written_len) (length s.bytes) here.segment.records.chain here.segment.records.stand (omega (arith, full)) in
         elim off.off [ inl front ↦ inl (omega (arith, front, low, full, some)) | inr far ↦ inr far ]
 
     clean : s.written_len ≡ 0 → AreZeros device.log.bytes s.site.slot (s.site.slot + 20)

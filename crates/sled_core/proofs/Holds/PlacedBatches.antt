@@ -50,7 +50,7 @@ module _ (size : ℕ) (H H' : History) (b : Batch) (adds : AddsBatch H b H') (pl
 pub begins_there : (sum : List ℕ → ℕ) (size : ℕ) (site : SegmentPosition) (device : State) (fault : Option IoError) (bytes : List ℕ) (from : ℕ) (bs : List Sealed) (rs : List Reserved) (H : History) {stays : Message → Type 0}
     → HoldsSegment sum (log_parts size site device fault bytes from bs rs) stays H → (i : ℕ) (r : Reserved) → slice_get rs i ≡ Some r → r.state ≡ Open → BeginsInSegment size (site.place + r.from)
 begins_there sum size site device fault bytes from bs rs H holds i r there is_open =
-    let lies = at_there (λ z. (max 20 from ≤ z.from) × (z.from + z.len ≤ length bytes)) rs i r there (chain_within (max 20 from) (length bytes) rs holds.chain) in
-    let room = (reserved_in sum size (site.place / size) bytes r (open_plain r.state is_open) (at_there (Stands sum size (site.place / size) bytes) rs i r there holds.stand)).room in
-    let offset : (site.place + r.from) % size ≡ r.from = aligned_offset site.place r.from size holds.place_begins (omega (arith, room)) in
+    let lies = at_there (λ z. (max 20 from ≤ z.from) × (z.from + z.len ≤ length bytes)) rs i r there (chain_within (max 20 from) (length bytes) rs holds.records.chain) in
+    let room = (reserved_in sum size (site.place / size) bytes r (open_plain r.state is_open) (at_there (Stands sum size (site.place / size) bytes) rs i r there holds.records.stand)).room in
+    let offset : (site.place + r.from) % size ≡ r.from = aligned_offset site.place r.from size holds.records.place_begins (omega (arith, room)) in
     record { behind = omega (arith, offset, lies.0); room = omega (arith, offset, room) }

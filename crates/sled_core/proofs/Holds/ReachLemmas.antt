@@ -84,13 +84,13 @@ module _ (sum : List ℕ → ℕ) (size : ℕ) (site : SegmentPosition) (device 
   done = completed_in site bytes rs
 
   long : All (λ r. 0 < r.len) rs
-  long = some_long sum size (site.place / size) bytes rs holds.stand
+  long = some_long sum size (site.place / size) bytes rs holds.records.stand
 
   between : All (λ m. (site.place + max 20 from ≤ m.place) × (m.place < site.place + length bytes) × (m.place + m.size ≤ site.place + length bytes)) done
-  between = completed_between site bytes (max 20 from) (length bytes) rs holds.chain long
+  between = completed_between site bytes (max 20 from) (length bytes) rs holds.records.chain long
 
   -- one that begins below the written end was written
-  pub written_before : (m : Message) → Contains H.messages m → m.place < site.place + from → Contains holds.earlier m
+  pub written_before : (m : Message) → Contains H.messages m → m.place < site.place + from → Contains holds.records.earlier m
   written_before m there written = elim (which sum size site device fault bytes from bs rs H holds m there) [
     | inl first ↦ first
     | inr later ↦ (let b = All-contains (λ x. (site.place + max 20 from ≤ x.place) × (x.place < site.place + length bytes) × (x.place + x.size ≤ site.place + length bytes)) done m between later in absurd (omega (arith, b.0, written)))
@@ -99,8 +99,8 @@ module _ (sum : List ℕ → ℕ) (size : ℕ) (site : SegmentPosition) (device 
   -- one that doesn't lies in the buffer
   pub completed_behind : length bytes ≤ size → (m : Message) → Contains H.messages m → site.place + from ≤ m.place → LiesBehind size site m
   completed_behind inside m there above = elim (which sum size site device fault bytes from bs rs H holds m there) [
-    | inl early ↦ (let b = All-contains (λ x. (x.place < site.place + from) × (x.place + x.size ≤ site.place + from)) holds.earlier m holds.below early in absurd (omega (arith, b.0, above)))
-    | inr later ↦ All-contains (LiesBehind size site) done m (completed_lie size site holds.place_begins holds.slot_begins sum (site.place / size) bytes (max 20 from) (length bytes) rs (omega arith) inside holds.chain holds.stand) later
+    | inl early ↦ (let b = All-contains (λ x. (x.place < site.place + from) × (x.place + x.size ≤ site.place + from)) holds.records.earlier m holds.records.below early in absurd (omega (arith, b.0, above)))
+    | inr later ↦ All-contains (LiesBehind size site) done m (completed_lie size site holds.records.place_begins holds.records.slot_begins sum (site.place / size) bytes (max 20 from) (length bytes) rs (omega arith) inside holds.records.chain holds.records.stand) later
   ]
 
 -- Where all of a history is on the device, it ends at the stable end.
@@ -174,14 +174,14 @@ fits_holds trace sum log H A f U fits = record { holds = fits.parts.holds; batch
 -- what was acknowledged is written
 pub fits_acknowledged : {D C : Type 0} (trace : D → Trace) (sum : List ℕ → ℕ) (log : Log D C) (H : History) (A f : ℕ) (U : List Message) → Fits trace sum log H A f U → A ≤ synced_end log
 unfolding Fits
-fits_acknowledged trace sum log H A f U fits = let passes = fits.parts.passes in let low = stable_low fits.reach H.batches in let near = fits.parts.near in omega (arith, passes, low, near)
+fits_acknowledged trace sum log H A f U fits = let passes = fits.parts.passes in let low = stable_low fits.reach H.batches in let near = fits.parts.reached.near in omega (arith, passes, low, near)
 
 -- It lies below the stable end, too.
 pub fits_stable : {D C : Type 0} (trace : D → Trace) (sum : List ℕ → ℕ) (log : Log D C) (H : History) (A f : ℕ) (U : List Message) → Fits trace sum log H A f U → A ≤ stable_end log
 unfolding Fits
 fits_stable trace sum log H A f U fits =
     let passes = fits.parts.passes in
-    let near = fits.parts.near in
+    let near = fits.parts.reached.near in
     let up = stable_rises fits.reach (synced_end log) near H.batches in
     let same = stable_noted (synced_end log) (line_end log.config.config.segment_size (line_of log)) (noted_in log) (logged H) fits.batches in
     omega (arith, passes, up, same)

@@ -56,19 +56,20 @@ module _ (sum : List ℕ → ℕ) (size : ℕ) (site : SegmentPosition) (device 
       let same : first ≡ holds.begun.first = first_same bytes' from' bs' rs' (logged H) holds in
       record {
         holds = holds;
-        near = let near = fits.near in omega (arith, near, is);
-        ends = λ m there below. fits.ends m there (omega (arith, below, is));
-        no_batch = subst (λ n. NoBatchBegins (logged H) reach (site.place + n)) (sym is) fits.no_batch;
-        no_end = subst (λ n. NoBatchEnds (logged H) reach (site.place + n)) (sym is) fits.no_end;
+        reached = record {
+          near = let near = fits.reached.near in omega (arith, near, is);
+          ends = λ m there below. fits.reached.ends m there (omega (arith, below, is));
+          no_batch = subst (λ n. NoBatchBegins (logged H) reach (site.place + n)) (sym is) fits.reached.no_batch;
+          no_end = subst (λ n. NoBatchEnds (logged H) reach (site.place + n)) (sym is) fits.reached.no_end;
+        };
         among = λ ok none. subst (λ (s : SnapshotModel). StandsAmong sum size device.log.bytes site from' others reach (logged H) s) same (subst (λ n. StandsAmong sum size device.log.bytes site n others reach (logged H) first) (sym is) (fits.among ok none));
         beyond = λ to far ok none. subst (λ (s : SnapshotModel). StandsAmong sum size (padded to device.log.bytes) site from' others reach (logged H) s) same
             (subst (λ n. StandsAmong sum size (padded to device.log.bytes) site n others reach (logged H) first) (sym is) (fits.beyond to far ok none));
-        blobs = fits.blobs;
-        stored = fits.stored;
-        entries = fits.entries;
-        below = fits.below;
-        names = subst (λ (s : SnapshotModel). NamesFit sum size device.snapshots (logged H) f s) same fits.names;
-        own_names = fits.own_names;
+        items = fits.items;
+        named = record {
+          names = subst (λ (s : SnapshotModel). NamesFit sum size device.snapshots (logged H) f s) same fits.named.names;
+          own_names = fits.named.own_names;
+        };
         passes = fits.passes;
         pinned = fits.pinned;
         left = fits.left;
@@ -82,18 +83,11 @@ module _ (sum : List ℕ → ℕ) (size : ℕ) (site : SegmentPosition) (device 
   pub fits-synced : (end : ℕ) → end ≤ stable_below reach H.batches → FitsIn sum (log_parts size site device fault bytes from bs rs) behind reach pins H end f U
   fits-synced end passes = record {
     holds = fits.holds;
-    near = fits.near;
-    ends = fits.ends;
-    no_batch = fits.no_batch;
-    no_end = fits.no_end;
+    reached = fits.reached;
     among = fits.among;
     beyond = fits.beyond;
-    blobs = fits.blobs;
-    stored = fits.stored;
-    entries = fits.entries;
-    below = fits.below;
-    names = fits.names;
-    own_names = fits.own_names;
+    items = fits.items;
+    named = fits.named;
     passes = passes;
     pinned = fits.pinned;
     left = fits.left;
@@ -104,7 +98,7 @@ module _ (sum : List ℕ → ℕ) (size : ℕ) (site : SegmentPosition) (device 
   fits-acknowledged last noted batches =
       let old = fits.passes in
       let stable = stable_noted (site.place + from) last noted (logged H) batches in
-      let passes = acknowledged_stable (logged H) reach (site.place + from) fits.near (λ m there low. (fits.ends m there low).1) fits.no_batch fits.no_end batches.apart batches.before in
+      let passes = acknowledged_stable (logged H) reach (site.place + from) fits.reached.near (λ m there low. (fits.reached.ends m there low).1) fits.reached.no_batch fits.reached.no_end batches.apart batches.before in
       fits-synced (max A (end_below (stable_below (site.place + from) noted) H))
       (let all = subst (λ n. end_below n (logged H) ≤ stable_below reach H.batches) stable passes in let same = end_logged (stable_below (site.place + from) noted) H in omega (arith, old, all, same))
 
@@ -112,18 +106,11 @@ module _ (sum : List ℕ → ℕ) (size : ℕ) (site : SegmentPosition) (device 
   pub fits-pinned : (pins' : ℕ) (V : List Message) → (V ≢ [] → 0 < pins') → FitsIn sum (log_parts size site device fault bytes from bs rs) behind reach pins' H A f V
   fits-pinned pins' V pinned = record {
     holds = fits.holds;
-    near = fits.near;
-    ends = fits.ends;
-    no_batch = fits.no_batch;
-    no_end = fits.no_end;
+    reached = fits.reached;
     among = fits.among;
     beyond = fits.beyond;
-    blobs = fits.blobs;
-    stored = fits.stored;
-    entries = fits.entries;
-    below = fits.below;
-    names = fits.names;
-    own_names = fits.own_names;
+    items = fits.items;
+    named = fits.named;
     passes = fits.passes;
     pinned = pinned;
     left = fits.left;
@@ -134,7 +121,7 @@ module _ (sum : List ℕ → ℕ) (size : ℕ) (site : SegmentPosition) (device 
       (holds : HoldsIn sum (log_parts size site device fault bytes' from' bs' rs') behind (logged H')) (adds : AddsMessage H m H') (of_head : Contains holds.head (in_log m)) (above : site.place + from ≤ m.place) (fresh : FirstUnwritten bs) (are : AreSealed from rs bs)
       (below : BlobIsBelow m m.pointer) (stored : KeepsItem sum device.blobs m m.pointer) where
     reached : reach ≤ m.place
-    reached = let near = fits.near in omega (arith, near, above)
+    reached = let near = fits.reached.near in omega (arith, near, above)
 
     lies : LiesBehind size site (in_log m)
     lies = completed_behind sum size site device fault bytes' from' bs' rs' (of_first sum size site device fault bytes' from' bs' rs' (logged H') holds) holds.own in_segment (in_log m) of_head (omega (arith, is, above))
@@ -153,14 +140,14 @@ module _ (sum : List ℕ → ℕ) (size : ℕ) (site : SegmentPosition) (device 
     inside_segment = let inside = lies.room in omega (arith, inside)
 
     alone_new : NoHeaderOfZeros sum → StandsAmong sum size device.log.bytes site from others reach (logged H') first
-    alone_new none = alone-adds sum size device.log.bytes site from reach (logged H) (logged H') first least none holds.own.place_begins clean (in_log m) put above inside_segment room (lies.lies (below_in_log m below)) (fits.among ok none)
+    alone_new none = alone-adds sum size device.log.bytes site from reach (logged H) (logged H') first least none holds.own.records.place_begins clean (in_log m) put above inside_segment room (lies.lies (below_in_log m below)) (fits.among ok none)
 
     beyond_new : (to : ℕ) → site.slot ≤ to → NoHeaderOfZeros sum → StandsAmong sum size (padded to device.log.bytes) site from others reach (logged H') first
-    beyond_new to far none = alone-adds sum size (padded to device.log.bytes) site from reach (logged H) (logged H') first least none holds.own.place_begins (λ first_one i low high. padded_get to device.log.bytes i ∙ clean first_one i low high) (in_log m) put above inside_segment room (lies.lies (below_in_log m below))
+    beyond_new to far none = alone-adds sum size (padded to device.log.bytes) site from reach (logged H) (logged H') first least none holds.own.records.place_begins (λ first_one i low high. padded_get to device.log.bytes i ∙ clean first_one i low high) (in_log m) put above inside_segment room (lies.lies (below_in_log m below))
         (fits.beyond to far ok none)
 
     names_new : NamesFit sum size device.snapshots (logged H') f first
-    names_new = let begun = fits.holds.begun.reached in names-adds (logged H) (logged H') (in_log m) put sum size device.snapshots f first (omega (arith, begun, above)) fits.names
+    names_new = let begun = fits.holds.begun.reached in names-adds (logged H) (logged H') (in_log m) put sum size device.snapshots f first (omega (arith, begun, above)) fits.named.names
 
     -- no batch is added, so the stable place is the same
     same_stable : stable_below reach H'.batches ≡ stable_below reach H.batches
@@ -168,27 +155,27 @@ module _ (sum : List ℕ → ℕ) (size : ℕ) (site : SegmentPosition) (device 
 
     blobs_new : BlobsFit sum device.blobs H' (stable_below reach H'.batches)
     blobs_new = subst (λ n. BlobsFit sum device.blobs H' n) (sym same_stable)
-        (let low = stable_low reach H.batches in let at = reached in blobs-adds H H' m adds sum device.blobs (stable_below reach H.batches) (omega (arith, low, at)) stored fits.blobs)
+        (let low = stable_low reach H.batches in let at = reached in blobs-adds H H' m adds sum device.blobs (stable_below reach H.batches) (omega (arith, low, at)) stored fits.items.blobs)
 
     entries_new : KeepsEntries sum device.blobs H' (stable_below reach H'.batches)
     entries_new = subst (KeepsEntries sum device.blobs H') (sym same_stable)
-        (let low = stable_low reach H.batches in let at = reached in entries-adds H H' m adds sum device.blobs (stable_below reach H.batches) (omega (arith, low, at)) fits.entries)
+        (let low = stable_low reach H.batches in let at = reached in entries-adds H H' m adds sum device.blobs (stable_below reach H.batches) (omega (arith, low, at)) fits.items.entries)
 
     -- what is written still ends there
     ends_new : (x : Message) → Contains (logged H').messages x → x.place < site.place + from → (x.place < reach) × (x.place + x.size ≤ reach)
     ends_new x there below = elim (was_or_added (logged H) (logged H') (in_log m) put x there) [
-      | inl was ↦ fits.ends x was below
+      | inl was ↦ fits.reached.ends x was below
       | inr own ↦ absurd (let same = ap (λ (y : Message). y.place) own in omega (arith, same, above, below))
     ]
 
     stored_behind : KeepsItems sum device.blobs H' (stable_below reach H'.batches)
     stored_behind x there past = elim (was_or_added H H' m adds x there) [
-      | inl was ↦ (let same = same_stable in fits.stored x was (omega (arith, past, same)))
+      | inl was ↦ (let same = same_stable in fits.items.stored x was (omega (arith, past, same)))
       | inr own ↦ subst (λ (y : Message). KeepsItem sum device.blobs y y.pointer) own stored
     ]
 
     below_new : BlobsAreBelow H'
-    below_new x there = elim (was_or_added H H' m adds x there) [ inl was ↦ fits.below x was | inr own ↦ subst (λ (y : Message). BlobIsBelow y y.pointer) own below ]
+    below_new x there = elim (was_or_added H H' m adds x there) [ inl was ↦ fits.items.below x was | inr own ↦ subst (λ (y : Message). BlobIsBelow y y.pointer) own below ]
 
     left_new : LeavesRecoverable sum size H' (stable_below reach H'.batches) f device
     left_new =
@@ -200,19 +187,25 @@ module _ (sum : List ℕ → ℕ) (size : ℕ) (site : SegmentPosition) (device 
         let same : first ≡ holds.begun.first = first_same bytes' from' bs' rs' (logged H') holds in
         record {
           holds = holds;
-          near = let near = fits.near in omega (arith, near, is);
-          ends = λ x there below. ends_new x there (omega (arith, below, is));
-          no_batch = λ b there. subst (λ n. (b.low < reach) ⊎ (site.place + n ≤ b.low)) (sym is) (fits.no_batch b (subst (λ (l : List Batch). Contains l b) adds.batches there));
-          no_end = λ b there. subst (λ n. (b.peg < reach) ⊎ (site.place + n ≤ b.peg)) (sym is) (fits.no_end b (subst (λ (l : List Batch). Contains l b) adds.batches there));
+          reached = record {
+            near = let near = fits.reached.near in omega (arith, near, is);
+            ends = λ x there below. ends_new x there (omega (arith, below, is));
+            no_batch = λ b there. subst (λ n. (b.low < reach) ⊎ (site.place + n ≤ b.low)) (sym is) (fits.reached.no_batch b (subst (λ (l : List Batch). Contains l b) adds.batches there));
+            no_end = λ b there. subst (λ n. (b.peg < reach) ⊎ (site.place + n ≤ b.peg)) (sym is) (fits.reached.no_end b (subst (λ (l : List Batch). Contains l b) adds.batches there));
+          };
           among = λ fine none. subst (λ (s : SnapshotModel). StandsAmong sum size device.log.bytes site from' others reach (logged H') s) same (subst (λ n. StandsAmong sum size device.log.bytes site n others reach (logged H') first) (sym is) (alone_new none));
           beyond = λ to far fine none. subst (λ (s : SnapshotModel). StandsAmong sum size (padded to device.log.bytes) site from' others reach (logged H') s) same
               (subst (λ n. StandsAmong sum size (padded to device.log.bytes) site n others reach (logged H') first) (sym is) (beyond_new to far none));
-          blobs = blobs_new;
-          stored = stored_behind;
-          entries = entries_new;
-          below = below_new;
-          names = subst (λ (s : SnapshotModel). NamesFit sum size device.snapshots (logged H') f s) same names_new;
-          own_names = fits.own_names;
+          items = record {
+            blobs = blobs_new;
+            stored = stored_behind;
+            entries = entries_new;
+            below = below_new;
+          };
+          named = record {
+            names = subst (λ (s : SnapshotModel). NamesFit sum size device.snapshots (logged H') f s) same names_new;
+            own_names = fits.named.own_names;
+          };
           passes = let passes = fits.passes in let same = same_stable in omega (arith, passes, same);
           pinned = λ some. out;
           left = left_new;

@@ -16,17 +16,7 @@ pub segment-sealed : (sum : List ℕ → ℕ) (size : ℕ) (site : SegmentPositi
     → length bytes ≤ size → sealed_end from bs ≤ length bytes
     → {stays : Message → Type 0} → HoldsSegment sum (log_parts size site device fault bytes from bs rs) stays H → HoldsSegment sum (log_parts size site device fault bytes from (bs ++ seal_at (length bytes) own ∷ []) rs) stays H
 segment-sealed sum size site device fault bytes from bs rs own H short inside holds = record {
-  earlier = holds.earlier;
-  messages = holds.messages;
-  below = holds.below;
-  apart = holds.apart;
-  batched = holds.batched;
-  no_end = holds.no_end;
-  place_begins = holds.place_begins;
-  slot_begins = holds.slot_begins;
-  header = holds.header;
-  chain = holds.chain;
-  stand = holds.stand;
+  records = holds.records;
   written = holds.written;
   laid = λ ok. laid_sealed device.log.bytes site.slot bytes from bs (seal_at (length bytes) own) size refl short inside (holds.laid ok);
 }

@@ -64,7 +64,7 @@ module _ (sum : List ℕ → ℕ) (size : ℕ) (site : SegmentPosition) (device 
   stands_now zeros = standing (overwritten device.log.bytes at asked) (alone_now zeros)
 
   pub along_behind : Along (LeavesRecoverable sum size H (stable_below reach H.batches) f) (Wrote at asked asked ∷ Synced ∷ []) device
-  along_behind = moments.write_along sum size big device rest_now H f fits.holds.begun.first reach reach' up ordered fits.stored fits.names fits.blobs fits.left at asked torn_now stands_now
+  along_behind = moments.write_along sum size big device rest_now H f fits.holds.begun.first reach reach' up ordered fits.items.stored fits.named.names fits.items.blobs fits.left at asked torn_now stands_now
 
   -- With zeros behind its end the file stands too, any number of them.
   padded_now : NoHeaderOfZeros sum → (end : ℕ) → Standing (padded end (overwritten device.log.bytes at asked))
@@ -74,16 +74,16 @@ module _ (sum : List ℕ → ℕ) (size : ℕ) (site : SegmentPosition) (device 
   ]
 
   blobs_now : BlobsFit sum device.blobs H (stable_below reach' H.batches)
-  blobs_now = moments.blobs_up sum size big device rest_now H f fits.holds.begun.first reach reach' up ordered fits.stored fits.names fits.blobs fits.left at asked torn_now stands_now
+  blobs_now = moments.blobs_up sum size big device rest_now H f fits.holds.begun.first reach reach' up ordered fits.items.stored fits.named.names fits.items.blobs fits.left at asked torn_now stands_now
 
   stored_now : KeepsItems sum device.blobs H (stable_below reach' H.batches)
-  stored_now = moments.stored_up sum size big device rest_now H f fits.holds.begun.first reach reach' up ordered fits.stored fits.names fits.blobs fits.left at asked torn_now stands_now
+  stored_now = moments.stored_up sum size big device rest_now H f fits.holds.begun.first reach reach' up ordered fits.items.stored fits.named.names fits.items.blobs fits.left at asked torn_now stands_now
 
   entries_now : KeepsEntries sum device.blobs H (stable_below reach' H.batches)
-  entries_now = entries_higher sum device.blobs H (stable_below reach H.batches) (stable_below reach' H.batches) ordered (stable_rises reach reach' up H.batches) fits.stored fits.entries
+  entries_now = entries_higher sum device.blobs H (stable_below reach H.batches) (stable_below reach' H.batches) ordered (stable_rises reach reach' up H.batches) fits.items.stored fits.items.entries
 
   left_now : LeavesRecoverable sum size H (stable_below reach' H.batches) f after_sync
-  left_now = moments.synced_leaves sum size big device rest_now H f fits.holds.begun.first reach reach' up ordered fits.stored fits.names fits.blobs fits.left at asked torn_now stands_now
+  left_now = moments.synced_leaves sum size big device rest_now H f fits.holds.begun.first reach reach' up ordered fits.items.stored fits.named.names fits.items.blobs fits.left at asked torn_now stands_now
 
   -- Where it stands up to there in the first segment.
   pub fits_behind : (cs : List Sealed) (others : List Reserved) (holds : HoldsIn sum (log_parts size site after_sync fault bytes to cs others) behind (logged H))
@@ -91,18 +91,24 @@ module _ (sum : List ℕ → ℕ) (size : ℕ) (site : SegmentPosition) (device 
       → FitsIn sum (log_parts size site after_sync fault bytes to cs others) behind reach' pins H A f U
   fits_behind cs others holds same among = record {
     holds = holds;
-    near = near';
-    ends = ends';
-    no_batch = beside'.0;
-    no_end = beside'.1;
+    reached = record {
+      near = near';
+      ends = ends';
+      no_batch = beside'.0;
+      no_end = beside'.1;
+    };
     among = λ none zeros. subst (λ (s : SnapshotModel). StandsAmong sum size (overwritten device.log.bytes at asked) site to (map begun_segment behind) reach' (logged H) s) (sym same) (among (overwritten device.log.bytes at asked) (alone_now zeros));
     beyond = λ end far none zeros. subst (λ (s : SnapshotModel). StandsAmong sum size (padded end (overwritten device.log.bytes at asked)) site to (map begun_segment behind) reach' (logged H) s) (sym same) (among (padded end (overwritten device.log.bytes at asked)) (padded_now zeros end));
-    blobs = blobs_now;
-    stored = stored_now;
-    entries = entries_now;
-    below = fits.below;
-    names = subst (λ (s : SnapshotModel). NamesFit sum size device.snapshots (logged H) f s) (sym same) fits.names;
-    own_names = λ none. own_same sum device after_sync refl refl (fits.own_names none);
+    items = record {
+      blobs = blobs_now;
+      stored = stored_now;
+      entries = entries_now;
+      below = fits.items.below;
+    };
+    named = record {
+      names = subst (λ (s : SnapshotModel). NamesFit sum size device.snapshots (logged H) f s) (sym same) fits.named.names;
+      own_names = λ none. own_same sum device after_sync refl refl (fits.named.own_names none);
+    };
     passes = let old = fits.passes in let rises = stable_rises reach reach' up H.batches in omega (arith, old, rises);
     pinned = fits.pinned;
     left = left_now;
@@ -117,17 +123,23 @@ module _ (sum : List ℕ → ℕ) (size : ℕ) (site : SegmentPosition) (device 
     bytes = bytes;
     next = refl;
     holds = holds;
-    near = omega (arith, near', filled);
-    ends = λ m there under. ends' m there (omega (arith, under, filled));
-    no_batch = subst (λ n. NoBatchBegins (logged H) reach' (site.place + n)) filled beside'.0;
-    no_end = subst (λ n. NoBatchEnds (logged H) reach' (site.place + n)) filled beside'.1;
+    reached = record {
+      near = omega (arith, near', filled);
+      ends = λ m there under. ends' m there (omega (arith, under, filled));
+      no_batch = subst (λ n. NoBatchBegins (logged H) reach' (site.place + n)) filled beside'.0;
+      no_end = subst (λ n. NoBatchEnds (logged H) reach' (site.place + n)) filled beside'.1;
+    };
     beyond = λ end none zeros. subst (λ (s : SnapshotModel). StandsFull sum size (padded end (overwritten device.log.bytes at asked)) (site.place + size) (map begun_segment behind) reach' (logged H) s) (sym same) (full (padded end (overwritten device.log.bytes at asked)) (padded_now zeros end));
-    blobs = blobs_now;
-    stored = stored_now;
-    entries = entries_now;
-    below = fits.below;
-    names = subst (λ (s : SnapshotModel). NamesFit sum size device.snapshots (logged H) f s) (sym same) fits.names;
-    own_names = λ none. own_same sum device after_sync refl refl (fits.own_names none);
+    items = record {
+      blobs = blobs_now;
+      stored = stored_now;
+      entries = entries_now;
+      below = fits.items.below;
+    };
+    named = record {
+      names = subst (λ (s : SnapshotModel). NamesFit sum size device.snapshots (logged H) f s) (sym same) fits.named.names;
+      own_names = λ none. own_same sum device after_sync refl refl (fits.named.own_names none);
+    };
     passes = let old = fits.passes in let rises = stable_rises reach reach' up H.batches in omega (arith, old, rises);
     pinned = fits.pinned;
     left = left_now;

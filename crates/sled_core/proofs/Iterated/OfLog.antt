@@ -109,7 +109,7 @@ module _ {D C : Type 0} (trace : D → Trace) (sum : List ℕ → ℕ) (log : Lo
 
     is_end : IsEndOf H fits.reach (stable_end log)
     is_end = record {
-      reached = λ n there low. (fits.parts.ends (in_log n) (logged_there H n there) (omega (arith, low, end_low))).0;
+      reached = λ n there low. (fits.parts.reached.ends (in_log n) (logged_there H n there) (omega (arith, low, end_low))).0;
       closed = λ b there low.
           let under = stable_closed size H among.stands.batched (synced_end log) b there (omega (arith, low, same_end)) in
           omega (arith, under, same_end);
@@ -131,7 +131,7 @@ module _ {D C : Type 0} (trace : D → Trace) (sum : List ℕ → ℕ) (log : Lo
       | inl lower ↦ fits.begun none k taken lower
       | inr above ↦ (
           let aligned = fits.slots.own.aligned k taken in
-          let begins = fits.parts.holds.own.place_begins in
+          let begins = fits.parts.holds.own.records.place_begins in
           let inside = log.line.lies.in_segment in
           let held = written_behind log.segments.first.buffer in
           let at : (slot_at m k).lsn ≡ log.segments.first.site.place = elim (cases_lt log.segments.first.site.place (slot_at m k).lsn) [
@@ -163,7 +163,7 @@ module _ {D C : Type 0} (trace : D → Trace) (sum : List ℕ → ℕ) (log : Lo
 
     -- each blob that is there passes for its message
     good : (n : Message) → Contains H.messages n → PassesIfThere sum state.blobs.file n n.pointer
-    good = (blobs_read sum state.blobs H (stable_below fits.reach H.batches) (fits.parts.blobs (firm_files sum state.blobs) (firm_leaves sum state.blobs) (firm_own sum state.blobs (fits.parts.own_names none).of_blobs))).named
+    good = (blobs_read sum state.blobs H (stable_below fits.reach H.batches) (fits.parts.items.blobs (firm_files sum state.blobs) (firm_leaves sum state.blobs) (firm_own sum state.blobs (fits.parts.named.own_names none).of_blobs))).named
 
     apart_messages : LieApart H.messages
     apart_messages = logged_apart H (whole_apart sum size log.segments.first.site state log.fault.kept log.segments.first.buffer.bytes.items log.segments.first.buffer.written_len log.segments.first.buffer.sealed.items log.segments.first.buffer.reserved.items (logged H) fits.parts.holds log.line.lies.in_segment)

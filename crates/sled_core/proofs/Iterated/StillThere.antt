@@ -97,12 +97,12 @@ module _ {D C : Type 0} (trace : D → Trace) (sum : List ℕ → ℕ) (log : Lo
 
     -- and lie one behind another:
     begins_at : (z : ℕ) → z % size ≡ 0 → log.segments.first.site.place ≤ z → z < log.segments.first.site.place + length line * size → BeginsAt line z
-    begins_at z aligned low high = segment_at size (omega (arith, some)) log.segments.first.site.place line (line_segments log) fits.parts.holds.own.place_begins z aligned low high
+    begins_at z aligned low high = segment_at size (omega (arith, some)) log.segments.first.site.place line (line_segments log) fits.parts.holds.own.records.place_begins z aligned low high
 
     -- so the log has the segment of a message that isn't of an earlier one.
     of_line : (m : Message) → Contains H.messages m → log.segments.first.site.place ≤ m.place → HasSegment machine (m.place / size * size)
     of_line m there above =
-        let begins = fits.parts.holds.own.place_begins in
+        let begins = fits.parts.holds.own.records.place_begins in
         let whole = put_down size log.segments.first.site.place in
         let parts = put_down size m.place in
         let up = lower_multiple size some log.segments.first.site.place m.place above in
@@ -125,8 +125,8 @@ module _ {D C : Type 0} (trace : D → Trace) (sum : List ℕ → ℕ) (log : Lo
       -- it is an entry of the table of what a reader comes to, too,
       reached : Contains (table H fits.reach m.page) m
       reached =
-          let near = fits.parts.near in
-          let low = (fits.parts.ends (in_log m) (logged_there H m there) (omega (arith, below))).0 in
+          let near = fits.parts.reached.near in
+          let low = (fits.parts.reached.ends (in_log m) (logged_there H m there) (omega (arith, below))).0 in
           let lie = whole_apart sum size log.segments.first.site state log.fault.kept log.segments.first.buffer.bytes.items log.segments.first.buffer.written_len log.segments.first.buffer.sealed.items log.segments.first.buffer.reserved.items (logged H) fits.parts.holds log.line.lies.in_segment in
           entry_earlier H (apart_ascends H.messages (logged_apart H lie)) fits.reach cut m.page (omega (arith, near, far)) m low entry
 

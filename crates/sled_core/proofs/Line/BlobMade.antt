@@ -65,13 +65,13 @@ module _ {D C : Type 0} (trace : D → Trace) (sum : List ℕ → ℕ) (old new 
   unfolding Fits
   unnamed H A f U fits m there lid q is same =
       let low : m.place < next_place old = All-contains (λ (x : Message). x.place < next_place old) H.messages m (fits_reach trace sum old H A f U fits) there in
-      let below : q ≤ℤ pos m.place = subst (BlobIsBelow m) is (fits.parts.below m there) in
+      let below : q ≤ℤ pos m.place = subst (BlobIsBelow m) is (fits.parts.items.below m there) in
       let high : pos (next_place old) ≤ℤ pos m.place = subst (λ (z : ℤ). z ≤ℤ pos m.place) same below in
       omega (arith, ints, low, high)
 
   reads : (H : History) (A f : ℕ) (U : List Message) → Fits trace sum old H A f U → ReadsNames sum p before
   unfolding Fits
-  reads H A f U fits = own_reads sum p before (fits.parts.own_names none)
+  reads H A f U fits = own_reads sum p before (fits.parts.named.own_names none)
 
   leaves : (H : History) (A f : ℕ) (U : List Message) → Fits trace sum old H A f U → LeavesOnly (RecoverableIfOwn sum (segment_size_of old) H A f) (trace (device_of old)) (trace (device_of new))
   leaves H A f U fits =

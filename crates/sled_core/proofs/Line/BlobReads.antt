@@ -152,13 +152,13 @@ module _ {D C : Type 0} (trace : D → Trace) (sum : List ℕ → ℕ) (log : Lo
     -- nothing of the history begins between where a reader stops and the stable end
     under_cut : m.place < cut
     under_cut = elim (stable_is fits.reach H.batches) [
-      | inl all ↦ (let low = (fits.parts.ends (in_log m) (logged_there H m there) stable).0 in omega (arith, all, low))
+      | inl all ↦ (let low = (fits.parts.reached.ends (in_log m) (logged_there H m there) stable).0 in omega (arith, all, low))
       | inr (b, known, at, is_open) ↦ (
-          let near = fits.parts.near in
+          let near = fits.parts.reached.near in
           let low = is_open.0 in
           let high = is_open.1 in
           let under = (from_table H (stable_end log) m.page m entry).2 in
-          elim (fits.parts.no_end b known) [
+          elim (fits.parts.reached.no_end b known) [
             | inl ended ↦ absurd (omega (arith, ended, high))
             | inr beyond ↦ (let at_most = stable_open (synced_end log) H.batches b known (omega (arith, low, near), beyond) in omega (arith, at_most, same_end, under, at))
           ])
@@ -166,9 +166,9 @@ module _ {D C : Type 0} (trace : D → Trace) (sum : List ℕ → ℕ) (log : Lo
 
     cut_low : cut ≤ stable_end log
     cut_low = elim (stable_is (synced_end log) H.batches) [
-      | inl all ↦ (let low = stable_low fits.reach H.batches in let near = fits.parts.near in omega (arith, all, low, near, same_end))
+      | inl all ↦ (let low = stable_low fits.reach H.batches in let near = fits.parts.reached.near in omega (arith, all, low, near, same_end))
       | inr (b, known, at, is_open) ↦ elim (cases_lt b.low fits.reach) [
-        | inl lower ↦ (let near = fits.parts.near in let high = is_open.1 in let at_most = stable_open fits.reach H.batches b known (lower, omega (arith, near, high)) in omega (arith, at_most, at, same_end))
+        | inl lower ↦ (let near = fits.parts.reached.near in let high = is_open.1 in let at_most = stable_open fits.reach H.batches b known (lower, omega (arith, near, high)) in omega (arith, at_most, at, same_end))
         | inr above ↦ (let low = stable_low fits.reach H.batches in omega (arith, low, above, at, same_end))
       ]
     ]
@@ -178,7 +178,7 @@ module _ {D C : Type 0} (trace : D → Trace) (sum : List ℕ → ℕ) (log : Lo
 
     -- so that its blob is there
     has_blob : HasItem sum state.blobs.file m m.pointer
-    has_blob = item_read sum state.blobs m m.pointer (fits.parts.entries m.page m early)
+    has_blob = item_read sum state.blobs m m.pointer (fits.parts.items.entries m.page m early)
 
     module _ (none : log.fault.kept ≡ None) (zeros : NoHeaderOfZeros sum) where
       file_stands : StandsTo sum size state.log.bytes H cut fits.parts.holds.begun.first fits.reach

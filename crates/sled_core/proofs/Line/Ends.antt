@@ -235,7 +235,7 @@ module _ (sum : List ℕ → ℕ) (size : ℕ) (device : State) (fault : Option 
       let low = (newest_low sum size device fault line H holds first begins).1 in
       let least = written_least size place line facts n v there in
       let behind : max 20 v.parts.written_len ≤ r.from = with_part sum size device fault line n v H holds there (λ stays own segment.
-      (at_there (λ (z : Reserved). (max 20 v.parts.written_len ≤ z.from) × (z.from + z.len ≤ length v.parts.bytes)) v.parts.reserved i r at (chain_within (max 20 v.parts.written_len) (length v.parts.bytes) v.parts.reserved segment.chain)).0) in
+      (at_there (λ (z : Reserved). (max 20 v.parts.written_len ≤ z.from) × (z.from + z.len ≤ length v.parts.bytes)) v.parts.reserved i r at (chain_within (max 20 v.parts.written_len) (length v.parts.bytes) v.parts.reserved segment.records.chain)).0) in
       omega (arith, low, least, behind)
 
   pub holds_completed : is_manifest r.log_kind r.page ≡ false → (H : History) → HoldsWith sum noted size device fault line machine H

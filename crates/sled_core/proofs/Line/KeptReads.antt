@@ -87,7 +87,7 @@ module _ {D C : Type 0} (trace : D → Trace) (sum : List ℕ → ℕ) (log : Lo
       -- a reader comes to it
       begins_before : m.place < fits.reach → MayBegin size (lid_of m.pointer)
       begins_before low =
-          let near = fits.parts.near in
+          let near = fits.parts.reached.near in
           let up = synced_before trace sum log H A f U fits in
           let early = entry_earlier H ascends fits.reach (next_place log) m.page (omega (arith, near, up)) m low entry in
           let high = stands.from_high in
@@ -100,7 +100,7 @@ module _ {D C : Type 0} (trace : D → Trace) (sum : List ℕ → ℕ) (log : Lo
       begins_behind high =
           let holds = fits.parts.holds in
           let past : synced_end log ≤ m.place = elim (cases_lt m.place (synced_end log)) [
-            | inl lower ↦ absurd (let low = (fits.parts.ends (in_log m) (logged_there H m there) lower).0 in omega (arith, low, high))
+            | inl lower ↦ absurd (let low = (fits.parts.reached.ends (in_log m) (logged_there H m there) lower).0 in omega (arith, low, high))
             | inr behind ↦ behind
           ] in
           elim (Contains-append_cases holds.head holds.later (in_log m) (subst (λ (l : List Message). Contains l (in_log m)) holds.messages (logged_there H m there))) [

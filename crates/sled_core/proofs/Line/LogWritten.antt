@@ -162,8 +162,8 @@ module _ (sum : List ℕ → ℕ) (size : ℕ) (big : 256 ≤ size) (device : St
   begun =
       let e = ends in
       with_part sum size device fault line n v H holds among (λ stays own segment. (
-      let up = behind_header sum size v.parts.site device.log.bytes v.parts.bytes v.parts.written_len v.parts.reserved (take k v.parts.sealed) b (drop (suc k) v.parts.sealed) segment.place_begins segment.slot_begins is.place_small is.slot_small
-      are_split rise_split inside (ready_closed b ready) segment.stand in
+      let up = behind_header sum size v.parts.site device.log.bytes v.parts.bytes v.parts.written_len v.parts.reserved (take k v.parts.sealed) b (drop (suc k) v.parts.sealed) segment.records.place_begins segment.records.slot_begins is.place_small is.slot_small
+      are_split rise_split inside (ready_closed b ready) segment.records.stand in
       omega (arith, up, e)))
 
   module _ (headers : HeadersStay sum size Header Header' Own Own' device.log.bytes (v.parts.site.slot + begin) asked some_bytes twenty) (records : RecordsStay sum size Header Header' Own Own' device.log.bytes (v.parts.site.slot + begin) asked some_bytes twenty)
@@ -175,8 +175,8 @@ module _ (sum : List ℕ → ℕ) (size : ℕ) (big : 256 ≤ size) (device : St
         let e = ends in
         with_part sum size device fault line n v H holds among (λ stays own segment.
         subst (λ j. ReadsTo sum size (v.parts.site.place / size) (part new v.parts.site.slot size) (max 20 begin) j) e
-        (reads_all sum size v.parts.site device.log.bytes v.parts.bytes v.parts.written_len v.parts.reserved (take k v.parts.sealed) b (drop (suc k) v.parts.sealed) segment.place_begins segment.slot_begins is.place_small is.slot_small
-        are_split rise_split inside (ready_closed b ready) segment.stand (omega (arith, e, low))))
+        (reads_all sum size v.parts.site device.log.bytes v.parts.bytes v.parts.written_len v.parts.reserved (take k v.parts.sealed) b (drop (suc k) v.parts.sealed) segment.records.place_begins segment.records.slot_begins is.place_small is.slot_small
+        are_split rise_split inside (ready_closed b ready) segment.records.stand (omega (arith, e, low))))
 
     pub own_written : IsOwnFile sum size Header Own device.log.bytes line → IsOwnFile sum size Header' Own' new (set line n now)
     own_written was =

@@ -41,21 +41,21 @@ module _ (sum : List ℕ → ℕ) (size to : ℕ) (device : State) (fault : Opti
   -- A segment that lies behind the place holds no message,
   next_nothing : (place : ℕ) (w : SegmentView) (stays : Message → Type 0) (batches : List Batch) (own : List Message) → to ≤ place → IsEntered to w → IsUsed to w.parts.site.place (length w.parts.bytes)
       → HoldsNext sum size device fault place w.parts stays batches own → own ≡ []
-  next_nothing place w stays batches own past entered used here = by own here.above here.segment.messages where
+  next_nothing place w stays batches own past entered used here = by own here.above here.segment.records.messages where
     at : w.parts.site.place ≡ place
     at = here.next
 
     fill : ArePadding size w.parts.reserved
-    fill = entered_padding sum size (w.parts.site.place / size) to w.parts.site.place (max 20 w.parts.written_len) (length w.parts.bytes) w.parts.bytes w.parts.reserved (omega (arith, past, at)) here.segment.chain here.segment.stand entered
+    fill = entered_padding sum size (w.parts.site.place / size) to w.parts.site.place (max 20 w.parts.written_len) (length w.parts.bytes) w.parts.bytes w.parts.reserved (omega (arith, past, at)) here.segment.records.chain here.segment.records.stand entered
 
     bare : length w.parts.bytes ≤ 20
     bare = elim (cases_lt 20 (length w.parts.bytes)) [ inl more ↦ absurd (let low = used more in omega (arith, low, past, at)) | inr le ↦ le ]
 
-    by : (ms : List Message) → All (λ (m : Message). place + 20 ≤ m.place) ms → ms ≡ here.segment.earlier ++ completed_in w.parts.site w.parts.bytes w.parts.reserved → ms ≡ []
+    by : (ms : List Message) → All (λ (m : Message). place + 20 ≤ m.place) ms → ms ≡ here.segment.records.earlier ++ completed_in w.parts.site w.parts.bytes w.parts.reserved → ms ≡ []
     by [] above is = refl
     by (m ∷ ms) above is =
-        let early : m ∷ ms ≡ here.segment.earlier = is ∙ ap (λ (l : List Message). here.segment.earlier ++ l) (padding_nothing size w.parts.site w.parts.bytes w.parts.reserved fill).0 ∙ append-nil here.segment.earlier in
-        let low = All-contains (λ (x : Message). (x.place < w.parts.site.place + w.parts.written_len) × (x.place + x.size ≤ w.parts.site.place + w.parts.written_len)) here.segment.earlier m here.segment.below (subst (λ (l : List Message). Contains l m) early (in_first m ms)) in
+        let early : m ∷ ms ≡ here.segment.records.earlier = is ∙ ap (λ (l : List Message). here.segment.records.earlier ++ l) (padding_nothing size w.parts.site w.parts.bytes w.parts.reserved fill).0 ∙ append-nil here.segment.records.earlier in
+        let low = All-contains (λ (x : Message). (x.place < w.parts.site.place + w.parts.written_len) × (x.place + x.size ≤ w.parts.site.place + w.parts.written_len)) here.segment.records.earlier m here.segment.records.below (subst (λ (l : List Message). Contains l m) early (in_first m ms)) in
         let up = All-head (λ (x : Message). place + 20 ≤ x.place) m ms above in
         let within = here.behind in
         let short = bare in
@@ -120,7 +120,7 @@ module _ {D C : Type 0} (trace : D → Trace) (sum : List ℕ → ℕ) (log : Lo
   first = filled_first its_size log.reserved_to (segment_view log.segments.first) behind log.line.filled
 
   fill : ArePadding its_size log.segments.first.buffer.reserved.items
-  fill = entered_padding sum its_size (log.segments.first.site.place / its_size) log.reserved_to log.segments.first.site.place (max 20 from) (length bytes) bytes log.segments.first.buffer.reserved.items (omega (arith, all)) holds.holds.own.chain holds.holds.own.stand first.0
+  fill = entered_padding sum its_size (log.segments.first.site.place / its_size) log.reserved_to log.segments.first.site.place (max 20 from) (length bytes) bytes log.segments.first.buffer.reserved.items (omega (arith, all)) holds.holds.own.records.chain holds.holds.own.records.stand first.0
 
   begun : 20 < sealed_end from log.segments.first.buffer.sealed.items → 20 ≤ from
   begun some = let low = sealed_within in let used = first.1 (omega (arith, some, low)) in omega (arith, used, all)

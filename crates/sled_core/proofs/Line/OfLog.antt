@@ -60,7 +60,7 @@ module _ {D C : Type 0} (trace : D → Trace) (sum : List ℕ → ℕ) (log : Lo
         let least = log.config.config.least in
         with_part sum size state log.fault.kept line n v (logged H) holds there (λ stays its segment.
         slot_of_segment sum size Header Own zeros (omega (arith, least)) state.log.bytes v.parts.site slot v.parts.written_len v.parts.reserved v.parts.sealed v.parts.bytes lies is.fresh is.are
-        (all_long sum size (v.parts.site.place / size) v.parts.bytes v.parts.reserved segment.stand) (segment.laid none) (λ some. headers_line sum size state log.fault.kept none line n v (logged H) holds there some)
+        (all_long sum size (v.parts.site.place / size) v.parts.bytes v.parts.reserved segment.records.stand) (segment.laid none) (λ some. headers_line sum size state log.fault.kept none line n v (logged H) holds there some)
         (at_there (λ (u : SegmentView). IsOwnSegment sum size Header Own state.log.bytes u.parts.site u.parts.written_len u.parts.sealed) line n v there (fits.own none zeros).segments))
 
     -- Each slot.
@@ -81,7 +81,7 @@ module _ {D C : Type 0} (trace : D → Trace) (sum : List ℕ → ℕ) (log : Lo
     none_in_log = subst (λ (l : LogState). NoForeignLog sum size l state.placed state.log.bytes) (sym settled) (none_foreign sum size state.placed state.log.bytes reads_placed)
 
     reads_own : ReadsOnlyOwn sum size state
-    reads_own = record { log = none_in_log; names = fits.parts.own_names none; zeros = zeros }
+    reads_own = record { log = none_in_log; names = fits.parts.named.own_names none; zeros = zeros }
 
   pub fits_reads_own : Fits trace sum log H A f U → fault_of log ≡ None → NoHeaderOfZeros sum → ReadsOnlyOwn sum (segment_size_of log) (state_of (trace (device_of log)))
   unfolding Fits

@@ -86,7 +86,7 @@ module _ (sum : List ℕ → ℕ) (size : ℕ) (big : 256 ≤ size) (device : St
   begins = let facts = nth_segment size place line are n v among in begins_so v.parts.written_len v.parts.reserved v.parts.sealed facts.are written_so k
 
   aligned : slot % size ≡ 0
-  aligned = with_part sum size device fault line n v H holds among (λ stays its segment. segment.slot_begins)
+  aligned = with_part sum size device fault line n v H holds among (λ stays its segment. segment.records.slot_begins)
 
   pub placed_left : HasPlacedFile sum size after (promoted size (set line n (written_now k v)))
   placed_left =

@@ -130,7 +130,7 @@ module _ (sum : List ℕ → ℕ) (size : ℕ) (site : SegmentPosition) (log byt
 
 -- Of one segment: a message that it holds is in what was written without a gap, or in a sealed buffer, which is written where none that isn't has it.
 module _ (sum : List ℕ → ℕ) (size : ℕ) (site : SegmentPosition) (device : State) (bytes : List ℕ) (from : ℕ) (bs : List Sealed) (rs : List Reserved) (H : History) {stays : Message → Type 0} (holds : HoldsSegment sum (log_parts size site device None bytes from bs rs) stays H) where
-  on_device : (m : Message) → Contains holds.earlier m → site.place ≤ m.place → (lid : ℕ) → m.pointer ≡ Inline lid → IsHeldAt sum size device.log.bytes lid m
+  on_device : (m : Message) → Contains holds.records.earlier m → site.place ≤ m.place → (lid : ℕ) → m.pointer ≡ Inline lid → IsHeldAt sum size device.log.bytes lid m
   on_device m early above lid pointer =
       let on = holds.written refl in
       let same : on.log ≡ device.log.bytes = sym (ap (λ (s : LogState). s.bytes) on.settled) in
@@ -143,11 +143,11 @@ module _ (sum : List ℕ → ℕ) (size : ℕ) (site : SegmentPosition) (device 
     | inl early ↦ on_device m early above lid pointer
     | inr late ↦ (
         let lies = All-contains (λ x. (site.place + max 20 from ≤ x.place) × (x.place < site.place + length bytes) × (x.place + x.size ≤ site.place + length bytes)) (completed_in site bytes rs) m
-        (completed_between site bytes (max 20 from) (length bytes) rs holds.chain (some_long sum size (site.place / size) bytes rs holds.stand)) late in
+        (completed_between site bytes (max 20 from) (length bytes) rs holds.records.chain (some_long sum size (site.place / size) bytes rs holds.records.stand)) late in
         let upper : m.place < site.place + sealed_end from bs = inside (omega (arith, lies.1, short)) in
         let off : m.place ≡ site.place + (m.place - site.place) = omega (arith, above) in
         let around = around_written site bytes (m.place - site.place) from bs rs (omega (arith, lies.0)) (omega (arith, above, upper)) (ap (λ p. found p (unwritten_in site bytes from bs rs)) (sym off) ∙ none) in
-        let s = written_one sum size site device.log.bytes bytes holds.place_begins holds.slot_begins place_small slot_small from rs bs (length bytes) size are holds.chain holds.stand (ends_rise from rs bs (length bytes) are low high) short (holds.laid refl) m late around lid pointer in
+        let s = written_one sum size site device.log.bytes bytes holds.records.place_begins holds.records.slot_begins place_small slot_small from rs bs (length bytes) size are holds.records.chain holds.records.stand (ends_rise from rs bs (length bytes) are low high) short (holds.laid refl) m late around lid pointer in
         record { begins = s.begins; stands = s.stands })
   ]
 
@@ -158,7 +158,7 @@ module _ (sum : List ℕ → ℕ) (size : ℕ) (site : SegmentPosition) (device 
       | inl early ↦ (on_device m early above lid pointer).begins
       | inr late ↦ (
           let lies = All-contains (λ x. (site.place + max 20 from ≤ x.place) × (x.place < site.place + length bytes) × (x.place + x.size ≤ site.place + length bytes)) (completed_in site bytes rs) m
-          (completed_between site bytes (max 20 from) (length bytes) rs holds.chain (some_long sum size (site.place / size) bytes rs holds.stand)) late in
+          (completed_between site bytes (max 20 from) (length bytes) rs holds.records.chain (some_long sum size (site.place / size) bytes rs holds.records.stand)) late in
           absurd (omega (arith, lies.0, written)))
     ]
     | inr later ↦ (

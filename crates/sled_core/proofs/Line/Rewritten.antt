@@ -48,15 +48,15 @@ module _ {D C : Type 0} (trace : D → Trace) (sum : List ℕ → ℕ) (log : Lo
     pub kept : KeepsEntries sum state.blobs H (next_place log)
     kept =
         let low = stable_low fits.reach H.batches in
-        let near = fits.parts.near in
+        let near = fits.parts.reached.near in
         let up = synced_before in
-        entries_higher sum state.blobs H (stable_below fits.reach H.batches) (next_place log) ordered (omega (arith, low, near, up)) fits.parts.stored fits.parts.entries
+        entries_higher sum state.blobs H (stable_below fits.reach H.batches) (next_place log) ordered (omega (arith, low, near, up)) fits.parts.items.stored fits.parts.items.entries
 
     module _ (m : Message) (entry : Contains (table H (next_place log) m.page) m) (replaces : m.kind ≡ Replace) (lid : ℕ) (blob : ℤ) (is : m.pointer ≡ Blob lid blob) (above : next_place log ≤ (target_of log m.page 8).place) where
       older : blob ≤ℤ pos (target_of log m.page 8).place
       older =
           let from = from_table H (next_place log) m.page m entry in
-          let old : blob ≤ℤ pos m.place = subst (BlobIsBelow m) is (fits.parts.below m from.0) in
+          let old : blob ≤ℤ pos m.place = subst (BlobIsBelow m) is (fits.parts.items.below m from.0) in
           let under = from.2 in
           omega (arith, ints, old, under, above)
 

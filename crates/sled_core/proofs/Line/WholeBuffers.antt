@@ -296,14 +296,14 @@ module _ {D C : Type 0} (trace : D → Trace) (sum : List ℕ → ℕ) (log : Lo
       with_part sum size device log.fault.kept (line_of log) n v (logged H) holds there (λ stays own segment.
       let on = segment.written none in
       record {
-        aligned = segment.place_begins;
+        aligned = segment.records.place_begins;
         begun = is.begun;
-        stand = segment.stand;
+        stand = segment.records.stand;
         begins = elim (cases_lt 0 v.parts.written_len) [
           | inl some ↦ inl (on.file.begun some)
           | inr none ↦ (
               let first : v.parts.written_len ≡ 0 = omega (arith, none) in
-              let head = segment.header first in
+              let head = segment.records.header first in
               inr (first, head.mark, head.of_history.below, head.is))
         ];
       })

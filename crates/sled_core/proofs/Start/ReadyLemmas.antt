@@ -87,26 +87,28 @@ module _ (sum : List ℕ → ℕ) (size : ℕ) (device now : State) (s : Snapsho
       apart = tt;
       marked = λ x there. absurd (in_nothing x there);
       own = record {
-        earlier = H.messages;
-        messages = sym (append-nil H.messages);
-        below = subst (λ n. EndBelow n H.messages) (sym end) ready.below;
-        apart = ready.apart;
-        batched = none_batched size site from H.batches (subst (λ n. CloseBelow n H.batches) (sym end) ready.batches);
-        no_end = λ b there. inl (let all = All-contains (λ (x : Batch). (x.low < stable) × (x.peg < stable)) H.batches b ready.batches there in let far : from ≤ length bytes = elim (cases_lt 0 from) [ inl begun ↦ (let count = more begun in omega (arith, count)) | inr start ↦ omega (arith, start) ] in omega (arith, all.1, end, far));
-        place_begins = place_begins;
-        slot_begins = slot_begins;
-        header = λ is.
-            let header = first is in
-            record {
-              mark = pos site.place -ℤ pos 1;
-              is = take_all 20 bytes (omega (arith, ap length header, length-short_header sum (pos site.place) (pos site.place -ℤ pos 1))) ∙ header;
-              of_history = buffer_mark H site.slot site.place (λ b there low. let all = All-contains (λ (x : Batch). (x.low < stable) × (x.peg < stable)) H.batches b ready.batches there in omega (arith, all.1, end, is));
-            };
-        chain = elim (cases_lt 0 from) [
-          | inl begun ↦ (let count = more begun in let least = behind begun in omega (arith, count, least))
-          | inr start ↦ (let is : from ≡ 0 = omega (arith, start) in let header = first is in omega (arith, is, ap length header, length-short_header sum (pos site.place) (pos site.place -ℤ pos 1)))
-        ];
-        stand = λ k d lt. absurd (omega (arith, lt));
+        records = record {
+          earlier = H.messages;
+          messages = sym (append-nil H.messages);
+          below = subst (λ n. EndBelow n H.messages) (sym end) ready.below;
+          apart = ready.apart;
+          batched = none_batched size site from H.batches (subst (λ n. CloseBelow n H.batches) (sym end) ready.batches);
+          no_end = λ b there. inl (let all = All-contains (λ (x : Batch). (x.low < stable) × (x.peg < stable)) H.batches b ready.batches there in let far : from ≤ length bytes = elim (cases_lt 0 from) [ inl begun ↦ (let count = more begun in omega (arith, count)) | inr start ↦ omega (arith, start) ] in omega (arith, all.1, end, far));
+          place_begins = place_begins;
+          slot_begins = slot_begins;
+          header = λ is.
+              let header = first is in
+              record {
+                mark = pos site.place -ℤ pos 1;
+                is = take_all 20 bytes (omega (arith, ap length header, length-short_header sum (pos site.place) (pos site.place -ℤ pos 1))) ∙ header;
+                of_history = buffer_mark H site.slot site.place (λ b there low. let all = All-contains (λ (x : Batch). (x.low < stable) × (x.peg < stable)) H.batches b ready.batches there in omega (arith, all.1, end, is));
+              };
+          chain = elim (cases_lt 0 from) [
+            | inl begun ↦ (let count = more begun in let least = behind begun in omega (arith, count, least))
+            | inr start ↦ (let is : from ≡ 0 = omega (arith, start) in let header = first is in omega (arith, is, ap length header, length-short_header sum (pos site.place) (pos site.place -ℤ pos 1)))
+          ];
+          stand = λ k d lt. absurd (omega (arith, lt));
+        };
         written = λ none. record { log = now_log; settled = started_now; file = subst (λ n. IsLogFile sum size now_log site from H.messages (StaysFrom H n)) (sym same_stable) file };
         laid = λ none. subst (λ (l : LogState). AreZeros l.bytes (site.slot + from) (site.slot + size)) (sym started_now) clean;
       };

@@ -79,19 +79,25 @@ module _ (sum : List ℕ → ℕ) (size : ℕ) (device now : State) (s : Snapsho
         let clean : AreZeros new (site.slot + from) (site.slot + size) = subst (λ (l : List ℕ). AreZeros l (site.slot + from) (site.slot + size)) bytes_now (holds.own.laid refl) in
         record {
           holds = holds;
-          near = omega arith;
-          ends = λ m there below. let low = All-contains (λ (x : Message). (x.place < stable) × (x.place + x.size ≤ stable)) (logged H).messages m ready.ready.below there in (omega (arith, low.0, end), omega (arith, low.1, end));
-          no_batch = λ b there. cases_lt b.low (site.place + from);
-          no_end = λ b there. cases_lt b.peg (site.place + from);
+          reached = record {
+            near = omega arith;
+            ends = λ m there below. let low = All-contains (λ (x : Message). (x.place < stable) × (x.place + x.size ≤ stable)) (logged H).messages m ready.ready.below there in (omega (arith, low.0, end), omega (arith, low.1, end));
+            no_batch = λ b there. cases_lt b.low (site.place + from);
+            no_end = λ b there. cases_lt b.peg (site.place + from);
+          };
           among = λ none zeros. subst (λ (l : List ℕ). StandsAlone sum size l site from (site.place + from) (logged H) holds.begun.first) (sym bytes_now) (begins_alone sum size new s holds.begun.first (logged H) site from same end begins own behind (active_now zeros));
           beyond = λ to far none zeros. subst (λ (l : List ℕ). StandsAlone sum size (padded to l) site from (site.place + from) (logged H) holds.begun.first) (sym bytes_now)
               (begins_alone sum size (padded to new) s holds.begun.first (logged H) site from same end begins own behind (beyond clean to zeros));
-          blobs = subst (λ (n : NamesState). BlobsFit sum n H (stable_below (site.place + from) H.batches)) (sym same_blobs) (subst (BlobsFit sum device.blobs H) (sym open_none) ready.blobs);
-          stored = λ m there past. absurd (let low = All-contains (λ (x : Message). (x.place < stable) × (x.place + x.size ≤ stable)) (logged H).messages (in_log m) ready.ready.below (logged_there H m there) in omega (arith, low.0, past, open_none));
-          entries = subst (λ (n : NamesState). KeepsEntries sum n H (stable_below (site.place + from) H.batches)) (sym same_blobs) (subst (KeepsEntries sum device.blobs H) (sym open_none) ready.entries);
-          below = ready.below;
-          names = subst (λ (n : NamesState). NamesFit sum size n (logged H) f holds.begun.first) (sym same_names) (subst (NamesFit sum size device.snapshots (logged H) f) (sym first) ready.names);
-          own_names = λ none. own_same sum device now same_blobs same_names ready.own_names;
+          items = record {
+            blobs = subst (λ (n : NamesState). BlobsFit sum n H (stable_below (site.place + from) H.batches)) (sym same_blobs) (subst (BlobsFit sum device.blobs H) (sym open_none) ready.blobs);
+            stored = λ m there past. absurd (let low = All-contains (λ (x : Message). (x.place < stable) × (x.place + x.size ≤ stable)) (logged H).messages (in_log m) ready.ready.below (logged_there H m there) in omega (arith, low.0, past, open_none));
+            entries = subst (λ (n : NamesState). KeepsEntries sum n H (stable_below (site.place + from) H.batches)) (sym same_blobs) (subst (KeepsEntries sum device.blobs H) (sym open_none) ready.entries);
+            below = ready.below;
+          };
+          named = record {
+            names = subst (λ (n : NamesState). NamesFit sum size n (logged H) f holds.begun.first) (sym same_names) (subst (NamesFit sum size device.snapshots (logged H) f) (sym first) ready.names);
+            own_names = λ none. own_same sum device now same_blobs same_names ready.own_names;
+          };
           passes = let passes = ready.passes in omega (arith, passes, open_none);
           pinned = λ some. absurd (some refl);
           left = subst (λ n. LeavesRecoverable sum size H n f now) (sym open_none) left_now;

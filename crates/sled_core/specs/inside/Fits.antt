@@ -65,23 +65,28 @@ pub record HasMark (sum : List ℕ → ℕ) (site : SegmentPosition) (bytes : Li
   pub is : take 20 bytes ≡ short_header sum (pos site.place) mark
   pub of_history : IsMarkOf H (record { place = site.place; slot = site.slot; mark = mark })
 
--- A history, and the bytes and reservations of a segment of a log over a device: what was written is settled there, with those messages of earlier segments
--- that stay, and what was completed since stands in the buffer.
-pub record HoldsSegment (sum : List ℕ → ℕ) (parts : LogParts) (stays : Message → Type 0) (H : History) : Type 0 where
+-- A history, and the bytes and reservations of a segment: the messages that were written, and those that were completed since, which stand in the buffer.
+-- Nothing of it is about the device.
+pub record HoldsRecords (sum : List ℕ → ℕ) (size : ℕ) (site : SegmentPosition) (bytes : List ℕ) (written_len : ℕ) (reserved : List Reserved) (H : History)
+    : Type 0 where
   -- the messages that were written
   pub earlier : List Message
-  pub messages : H.messages ≡ earlier ++ completed_in parts.site parts.bytes parts.reserved
-  pub below : EndBelow (parts.site.place + parts.written_len) earlier
+  pub messages : H.messages ≡ earlier ++ completed_in site bytes reserved
+  pub below : EndBelow (site.place + written_len) earlier
   pub apart : LieApart earlier
-  pub batched : HasBatches parts.size parts.site parts.written_len (batches_in parts.site parts.bytes parts.reserved) H.batches
+  pub batched : HasBatches size site written_len (batches_in site bytes reserved) H.batches
   -- none ends in what fills the segment, and none behind what is reserved of it
-  pub no_end : NoBatchEnds H (parts.site.place + records_end parts.reserved (length parts.bytes)) (parts.site.place + parts.size)
-  pub place_begins : parts.site.place % parts.size ≡ 0
-  pub slot_begins : parts.site.slot % parts.size ≡ 0
-  pub header : parts.written_len ≡ 0 → HasMark sum parts.site parts.bytes H
-  pub chain : IsChain (max 20 parts.written_len) parts.reserved (length parts.bytes)
-  pub stand : All (Stands sum parts.size (parts.site.place / parts.size) parts.bytes) parts.reserved
-  pub written : parts.fault ≡ None → IsOnDevice sum parts.size parts.device.log parts.site parts.written_len earlier stays
+  pub no_end : NoBatchEnds H (site.place + records_end reserved (length bytes)) (site.place + size)
+  pub place_begins : site.place % size ≡ 0
+  pub slot_begins : site.slot % size ≡ 0
+  pub header : written_len ≡ 0 → HasMark sum site bytes H
+  pub chain : IsChain (max 20 written_len) reserved (length bytes)
+  pub stand : All (Stands sum size (site.place / size) bytes) reserved
+
+-- The same over a device: what was written is settled there, with those messages of earlier segments that stay.
+pub record HoldsSegment (sum : List ℕ → ℕ) (parts : LogParts) (stays : Message → Type 0) (H : History) : Type 0 where
+  pub records : HoldsRecords sum parts.size parts.site parts.bytes parts.written_len parts.reserved H
+  pub written : parts.fault ≡ None → IsOnDevice sum parts.size parts.device.log parts.site parts.written_len records.earlier stays
   -- what the log file has of the sealed buffers, and zeros behind them
   pub laid : parts.fault ≡ None → Laid parts.device.log.bytes parts.site.slot parts.bytes parts.written_len parts.sealed parts.size
 

@@ -13,10 +13,9 @@ use Rattle.sled_core.specs.inside.LogFile.{padded}
 use Rattle.sled_core.specs.Logged.{logged}
 use Rattle.sled_core.specs.inside.Reached.{BeginsNext, BeginsOne, BegunSegment, LeadsTo, StandsIn, StandsTo}
 use Rattle.sled_core.specs.OpenBatches.{stable_below}
-use Rattle.sled_core.specs.OwnNames.{ReadsStayOwn}
 use Rattle.sled_core.specs.Recoverable.{LeavesRecoverable, NoHeaderOfZeros}
-use Rattle.sled_core.specs.inside.Recoverable.{NoBatchBegins, NoBatchEnds, BlobsAreBelow}
-use Rattle.sled_core.specs.inside.Running.{BlobsFit, KeepsEntries, KeepsItems, NamesFit}
+
+use Rattle.sled_core.specs.inside.Running.{HaveItems, HaveNames, ReachesTo}
 use Rattle.sled_core.specs.inside.Scan.{IsFoundSegment}
 use Rattle.sled_core.specs.inside.Tail.{least_place}
 
@@ -43,24 +42,12 @@ pub record FitsFull (sum : List ℕ → ℕ) (size : ℕ) (device : State) (faul
   pub next : site.place + size ≡ place
   -- it holds all messages before the place, and those behind it the later ones
   pub holds : HoldsIn sum (log_parts size site device fault bytes size [] []) behind (logged H)
-  -- a reader comes up to there, behind all messages before the place
-  pub near : reach ≤ place
-  pub ends : (m : Message) → Contains (logged H).messages m → m.place < place → (m.place < reach) × (m.place + m.size ≤ reach)
-  -- no batch begins or ends between
-  pub no_batch : NoBatchBegins (logged H) reach place
-  pub no_end : NoBatchEnds (logged H) reach place
+  pub reached : ReachesTo (logged H) reach place
   -- so stands the file, with any number of zeros behind its end
   pub beyond : (to : ℕ) → fault ≡ None → NoHeaderOfZeros sum
       → StandsFull sum size (padded to device.log.bytes) place (map begun_segment behind) reach (logged H) holds.begun.first
-  pub blobs : BlobsFit sum device.blobs H (stable_below reach H.batches)
-  -- no crash takes the item of a message that isn't stable yet, nor that of an entry of the table of what is stable
-  pub stored : KeepsItems sum device.blobs H (stable_below reach H.batches)
-  pub entries : KeepsEntries sum device.blobs H (stable_below reach H.batches)
-  -- the blob of each message lies no higher than it
-  pub below : BlobsAreBelow H
-  pub names : NamesFit sum size device.snapshots (logged H) f holds.begun.first
-  -- what is read under names is the log's own, so that a sync of names makes nothing own that was foreign
-  pub own_names : fault ≡ None → ReadsStayOwn sum device
+  pub items : HaveItems sum device.blobs H (stable_below reach H.batches)
+  pub named : HaveNames sum size device fault (logged H) f holds.begun.first
   -- all that was acknowledged is stable
   pub passes : A ≤ stable_below reach H.batches
   -- a pin is out while a completed message is not marked

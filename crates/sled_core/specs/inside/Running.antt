@@ -45,32 +45,42 @@ KeepsItems sum blobs H place = (m : Message) → Contains H.messages m → place
 abbrev pub KeepsEntries : (List ℕ → ℕ) → NamesState → History → ℕ → Type 0
 KeepsEntries sum blobs H place = (page : ℕ) (m : Message) → Contains (table H place page) m → KeepsItem sum blobs m m.pointer
 
+-- A reader comes up to a place, behind all messages that begin below where what is written ends, and no batch begins or ends between the two.
+pub record ReachesTo (H : History) (reach end : ℕ) : Type 0 where
+  pub near : reach ≤ end
+  pub ends : (m : Message) → Contains H.messages m → m.place < end → (m.place < reach) × (m.place + m.size ≤ reach)
+  pub no_batch : NoBatchBegins H reach end
+  pub no_end : NoBatchEnds H reach end
+
+-- The blobs have the items of a history that is stable up to a place.
+pub record HaveItems (sum : List ℕ → ℕ) (names : NamesState) (H : History) (stable : ℕ) : Type 0 where
+  pub blobs : BlobsFit sum names H stable
+  -- No crash takes the item of a message that isn't stable yet, nor that of an entry of the table of what is stable: so a page's pointer can be written again.
+  pub stored : KeepsItems sum names H stable
+  pub entries : KeepsEntries sum names H stable
+  -- the blob of each message lies no higher than it
+  pub below : BlobsAreBelow H
+
+-- The files under names are those of the history.
+pub record HaveNames (sum : List ℕ → ℕ) (size : ℕ) (device : State) (fault : Option IoError) (H : History) (f : ℕ) (first : SnapshotModel) : Type 0 where
+  pub names : NamesFit sum size device.snapshots H f first
+  -- what is read under names is the log's own, so that a sync of names makes nothing own that was foreign
+  pub own_names : fault ≡ None → ReadsStayOwn sum device
+
 -- What a log of these bytes and reservations over a device, with these segments behind, has to do with a history, the end of what was acknowledged, the
 -- floor and the messages that were not marked yet.
 -- The log has records: what it holds, what a reader finds of it, and the tables of its snapshots are of the history as the log has it, without the items
 -- that blobs have. The blobs have those, so what is said of them, and of what a crash leaves, is of the history itself.
 pub record FitsIn (sum : List ℕ → ℕ) (parts : LogParts) (behind : List SegmentParts) (reach pins : ℕ) (H : History) (A f : ℕ) (U : List Message) : Type 0 where
   pub holds : HoldsIn sum parts behind (logged H)
-  -- a reader comes up to there in what is written, behind all messages that are
-  pub near : reach ≤ parts.site.place + parts.written_len
-  pub ends : (m : Message) → Contains (logged H).messages m → m.place < parts.site.place + parts.written_len → (m.place < reach) × (m.place + m.size ≤ reach)
-  -- no batch begins or ends between
-  pub no_batch : NoBatchBegins (logged H) reach (parts.site.place + parts.written_len)
-  pub no_end : NoBatchEnds (logged H) reach (parts.site.place + parts.written_len)
+  pub reached : ReachesTo (logged H) reach (parts.site.place + parts.written_len)
   pub among : parts.fault ≡ None → NoHeaderOfZeros sum
       → StandsAmong sum parts.size parts.device.log.bytes parts.site parts.written_len (map begun_segment behind) reach (logged H) holds.begun.first
   -- and so does the file with zeros behind its end, as a write there makes it
   pub beyond : (to : ℕ) → parts.site.slot ≤ to → parts.fault ≡ None → NoHeaderOfZeros sum
       → StandsAmong sum parts.size (padded to parts.device.log.bytes) parts.site parts.written_len (map begun_segment behind) reach (logged H) holds.begun.first
-  pub blobs : BlobsFit sum parts.device.blobs H (stable_below reach H.batches)
-  -- No crash takes the item of a message that isn't stable yet, nor that of an entry of the table of what is stable: so a page's pointer can be written again.
-  pub stored : KeepsItems sum parts.device.blobs H (stable_below reach H.batches)
-  pub entries : KeepsEntries sum parts.device.blobs H (stable_below reach H.batches)
-  -- the blob of each message lies no higher than it
-  pub below : BlobsAreBelow H
-  pub names : NamesFit sum parts.size parts.device.snapshots (logged H) f holds.begun.first
-  -- what is read under names is the log's own, so that a sync of names makes nothing own that was foreign
-  pub own_names : parts.fault ≡ None → ReadsStayOwn sum parts.device
+  pub items : HaveItems sum parts.device.blobs H (stable_below reach H.batches)
+  pub named : HaveNames sum parts.size parts.device parts.fault (logged H) f holds.begun.first
   -- all that was acknowledged is stable
   pub passes : A ≤ stable_below reach H.batches
   -- a pin is out while a completed message is not marked

@@ -126,15 +126,15 @@ returns-clause-canceled g c = λ H m holds awaits.
     let place_is : m.place ≡ v.parts.site.place + r.from = ap (λ (x : Message). x.place) awaits.message in
     let size_is : m.size ≡ r.len = ap (λ (x : Message). x.size) awaits.message in
     with_segment sum size (state_of (g.D.Device.trace old.config.device)) old.fault.kept (line_of old) c.segment_of-n.result v (logged H) holds.holds at (λ stays own segment.
-    let stands = reserved_in sum size (v.parts.site.place / size) v.parts.bytes r (open_plain r.state awaits.own.open_yet) (at_there (Stands sum size (v.parts.site.place / size) v.parts.bytes) v.parts.reserved i r its segment.stand) in
-    let its_text = canceled_there sum size v.parts.site.place v.parts.bytes r segment.place_begins stands.room inside stands.text awaits.own.open_yet in
+    let stands = reserved_in sum size (v.parts.site.place / size) v.parts.bytes r (open_plain r.state awaits.own.open_yet) (at_there (Stands sum size (v.parts.site.place / size) v.parts.bytes) v.parts.reserved i r its segment.records.stand) in
+    let its_text = canceled_there sum size v.parts.site.place v.parts.bytes r segment.records.place_begins stands.room inside stands.text awaits.own.open_yet in
     let body : List ℕ = body_in v.parts.bytes r in
     let canceled : List ℕ = short_record sum kind.Canceled r.page ((v.parts.site.place + r.from) / size) body in
     let pointer : m.pointer ≡ pointer_as r.blob (v.parts.site.slot + r.from) = ap (λ (x : Message). x.pointer) awaits.message in
     let lid : lid_of m.pointer ≡ v.parts.site.slot + r.from = ap lid_of pointer ∙ lid_as r.blob (v.parts.site.slot + r.from) in
     let page_is : m.page ≡ r.page = ap (λ (x : Message). x.page) awaits.message in
     let record_is : canceled ≡ canceled_record sum c.abort_in.new.self.config.config.segment_size m body = λ j. short_record sum kind.Canceled (sym page_is j) (sym place_is j / sym now_size j) body in
-    let long = canceled_long sum size v.parts.site.place v.parts.bytes r segment.place_begins stands.room inside stands.text in
+    let long = canceled_long sum size v.parts.site.place v.parts.bytes r segment.records.place_begins stands.room inside stands.text in
     let found = ended_stands sum size old.reserved_to (line_of old) c.segment_of-n.result v facts i r its awaits.own.open_yet (sum (body_in v.parts.bytes r ++ code_of kind.Canceled ∷ part v.parts.bytes (r.from + 5) (r.header_len - 5))) kind.Canceled Canceled canceled at old.line.filled its_text in
     let list : buffers_in sum size (set (line_of old) c.segment_of-n.result (ended_now i r (canceling sum v.parts.bytes r) Canceled v)) ≡ buffers_in sum c.abort_in.new.self.config.config.segment_size (line_of c.abort_in.new.self) = λ j. buffers_in sum (sym now_size j) (sym line j) in
     record {
