@@ -102,7 +102,7 @@ fails_now e old new before now none fault = elim fault [
 pub read_still : {D C : Type 0} (trace : D → Trace) (sum : List ℕ → ℕ) (log : Log D C) → OnlyRead trace sum log log
 read_still trace sum log = record {
   keeps = kept_still trace sum log;
-  tickets = record { awaits = λ ticket m awaits. awaits; opens = refl };
+  tickets = record { awaits = λ ticket m awaits. awaits; opens = refl; given_up = λ m there. there };
   position = record { position = refl; reserved = refl; pins = refl; size = refl };
 }
 

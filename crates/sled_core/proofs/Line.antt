@@ -24,6 +24,7 @@ pub mod Entered
 pub mod Faulty
 pub mod Filling
 pub mod Fillings
+pub mod GivenUp
 pub mod HeaderMarks
 pub mod KeptCalls
 pub mod KeptReads

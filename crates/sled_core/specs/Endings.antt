@@ -1,11 +1,14 @@
 -- What a call leaves that ends a reservation, whose ticket it takes.
-use Rattle.std.specs.Prelude.{ℕ, List, Result}
+use Rattle.std.specs.Prelude.{ℕ, List, ◌∷◌, Result}
 use Rattle.sled_codec.specs.declared.result.Error.{Error}
+use Rattle.sled_codec.specs.History.{Message}
 use Rattle.sled_store.specs.Device.{Trace}
 use Rattle.sled_core.specs.declared.logger.Log.{Log}
 use Rattle.sled_core.specs.declared.reservation.Reservation.{Reservation}
-use Rattle.sled_core.specs.Fits.{KeepsBuffers, open_places}
+use Rattle.sled_core.specs.Fits.{Awaits, KeepsBuffers, given_up_of, open_places}
+use Rattle.sled_core.specs.GivenUp.{AreAmong}
 use Rattle.sled_core.specs.Keeps.{KeepsOthers, SamePosition}
+use Rattle.sled_core.specs.Logged.{in_log}
 use Rattle.sled_core.specs.OpenPlaces.{TakesOutPlaceOf}
 
 -- The other tickets stay what they were for; at Ok its place isn't open any more; the next record begins where it would have begun; and as many buffers wait,
@@ -16,3 +19,7 @@ pub record EndsTicket {T D C : Type 0} (trace : D → Trace) (sum : List ℕ →
   pub opens : TakesOutPlaceOf result ticket (open_places old) (open_places new)
   pub position : SamePosition old new
   pub buffers : KeepsBuffers old new
+
+-- The message that a ticket awaits is given up: what counts as given up then is that message, as the log has it, and what was given up before.
+abbrev pub GivesUp : {D C : Type 0} → Reservation → Log D C → Log D C → Type 0
+GivesUp ticket old new = (m : Message) → Awaits old ticket m → AreAmong (given_up_of new) (in_log m ∷ given_up_of old)

@@ -21,6 +21,7 @@ use Rattle.sled_core.specs.declared.logger.Log.{Log}
 use Rattle.sled_store.specs.declared.config.RunningConfig.{RunningConfig}
 use Rattle.sled_core.specs.Begun.{SegmentView, begin_of, line_in, segment_view}
 use Rattle.sled_core.specs.Buffers.{pointer_as, message_in, none_open, open_in, first_open_in}
+use Rattle.sled_core.specs.GivenUp.{AreAmong, given_up_along}
 use Rattle.sled_core.specs.LogFile.{IsLogFile, StaysFrom}
 use Rattle.sled_core.specs.Logged.{in_log, logged}
 use Rattle.sled_core.specs.OpenBatches.{batch_of, not_whole, stable_below}
@@ -232,6 +233,10 @@ NoneOpen log = NoneOpenIn (line_of log)
 abbrev pub open_places : {D C : Type 0} → Log D C → List ℕ
 open_places log = open_places_along (line_of log)
 
+-- the messages that were given up, as the log has them, of those whose reservations it has in memory
+abbrev pub given_up_of : {D C : Type 0} → Log D C → List Message
+given_up_of log = given_up_along (line_of log)
+
 -- The log file has these messages, and those that stay of earlier segments, and all of it is settled, so that a crash leaves just that.
 pub record IsOnDevice (sum : List ℕ → ℕ) (size : ℕ) (device : LogState) (site : SegmentPosition) (from : ℕ) (messages : List Message)
     (stays : Message → Type 0) : Type 0 where
@@ -315,10 +320,11 @@ sealing_end log = (current_of log).parts.site.place
     + (if is_short log.config.config.segment_size (length (current_of log).parts.bytes) then log.config.config.segment_size
     else length (current_of log).parts.bytes)
 
--- tickets are for what they were for, and the same reservations are open
+-- tickets are for what they were for, the same reservations are open, and what counts as given up was given up before
 pub record KeepsTickets {D C : Type 0} (old new : Log D C) : Type 0 where
   pub awaits : (ticket : Reservation) (m : Message) → Awaits old ticket m → Awaits new ticket m
   pub opens : open_places new ≡ open_places old
+  pub given_up : AreAmong (given_up_of new) (given_up_of old)
 
 -- nothing that a caller sees of the log is another
 pub record IsUnchanged {D C : Type 0} (old new : Log D C) : Type 0 where

@@ -8,6 +8,7 @@ pub mod Endings
 pub mod Fits
 pub mod FreeSlots
 pub mod Fronts
+pub mod GivenUp
 pub mod Good
 pub mod Iterates
 pub mod Iterators

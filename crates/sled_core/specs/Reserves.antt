@@ -10,8 +10,9 @@ use Rattle.sled_store.specs.Device.{Trace, state_of}
 use Rattle.sled_store.specs.Script.{Performs, after_all}
 use Rattle.sled_core.specs.declared.logger.Log.{Log}
 use Rattle.sled_core.specs.Causes.{ReserveAnswers, ReserveCauses}
-use Rattle.sled_core.specs.Fits.{Awaits, IsLeastOpen, IsUnchanged, IsUsedUpFor, blob_at, config_of, device_of, fault_of, message_as, open_for, open_places}
+use Rattle.sled_core.specs.Fits.{Awaits, IsLeastOpen, IsUnchanged, IsUsedUpFor, blob_at, config_of, device_of, fault_of, given_up_of, message_as, open_for, open_places}
 use Rattle.sled_core.specs.Fits.{position_behind, position_of, reserved_end, size_for, start_behind, start_of, target_of, waiting_behind, waiting_of}
+use Rattle.sled_core.specs.GivenUp.{AreAmong}
 use Rattle.sled_core.specs.Keeps.{KeepsSeen, Preserves}
 use Rattle.sled_core.specs.Manifests.{is_manifest, kind_for}
 use Rattle.sled_core.specs.Marked.{BeginsMarked}
@@ -58,12 +59,13 @@ reserve_causes trace faults kind page blob n old new = record {
 }
 
 -- A log has a reservation of a page's record with a body of n bytes, behind all that it had: what is reserved ends with that record, whose place comes last
--- among the open ones. Where it had no room in the current segment, that is sealed, and a further one begins with it, whose header has the last stable
--- place for its mark.
+-- among the open ones; what counts as given up was given up before. Where it had no room in the current segment, that is sealed, and a further one begins
+-- with it, whose header has the last stable place for its mark.
 pub record StandsBehind {D C : Type 0} (sum : List ℕ → ℕ) (old new : Log D C) (page n : ℕ) : Type 0 where
   pub position : position_of new ≡ position_behind old page n
   pub reserved : reserved_end new ≡ (target_of old page n).place + size_for old page n
   pub opens : open_places new ≡ open_places old ++ (target_of old page n).place ∷ []
+  pub given_up : AreAmong (given_up_of new) (given_up_of old)
   pub waiting : waiting_of new ≡ waiting_behind sum old page n
   pub start : start_of new ≡ start_behind old page n
   pub marked : BeginsMarked sum old new

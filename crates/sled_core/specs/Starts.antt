@@ -10,7 +10,7 @@ use Rattle.sled_store.specs.StartCauses.{StartRefuses}
 use Rattle.sled_store.specs.Device.{Trace, state_of}
 use Rattle.sled_store.specs.Script.{Performs, after_all}
 use Rattle.sled_store.specs.Started.{started}
-use Rattle.sled_core.specs.Fits.{NoneOpen, NoneSealed, config_of, fault_of, kept_batches, noted_in, pins_of, position_of, reserved_end, segment_size_of}
+use Rattle.sled_core.specs.Fits.{NoneOpen, NoneSealed, config_of, fault_of, given_up_of, kept_batches, noted_in, pins_of, position_of, reserved_end, segment_size_of}
 use Rattle.sled_core.specs.Fits.{start_of, synced_end}
 use Rattle.sled_core.specs.FreeSlots.{begun_machine}
 use Rattle.sled_core.specs.Positions.{Position, is_short, next_segment_at}
@@ -44,7 +44,7 @@ start_from size len s =
     let offset = offset_at size (stable_place s.stable) s.active in
     record { place = (site_from size len s).place + offset; lid = (site_from size len s).slot + offset }
 
--- The log begins behind what the snapshot has: nothing is reserved in it, no batch is noted, no pin is out, and it keeps no failure.
+-- The log begins behind what the snapshot has: nothing is reserved in it, nor was given up, no batch is noted, no pin is out, and it keeps no failure.
 pub record BeginsBehind {D C : Type 0} (size len : ℕ) (s : SnapshotModel) (log : Log D C) : Type 0 where
   pub synced : synced_end log ≡ place_at size (stable_place s.stable) s.active + offset_at size (stable_place s.stable) s.active
   -- behind the header of its segment at least
@@ -54,6 +54,7 @@ pub record BeginsBehind {D C : Type 0} (size len : ℕ) (s : SnapshotModel) (log
   pub kept : kept_batches log ≡ 0
   pub start : start_of log ≡ start_from size len s
   pub ended : NoneOpen log
+  pub given_up : given_up_of log ≡ []
   pub unsealed : NoneSealed log
   pub pins : pins_of log ≡ 0
   pub fault : fault_of log ≡ None

@@ -1,8 +1,11 @@
--- What the bytes of a buffer are that a log writes: the header of its segment, where it begins with that; whole records, each with its sum; and what fills
--- the segment.
-use Rattle.std.specs.Prelude.{◌≡◌, ◌⊎◌, ◌+◌, ◌/◌, ◌%◌, ◌≤◌, ◌<ℤ◌, ◌∷◌, ◌++◌, ℕ, ℤ, pos, List, [], length}
+-- What the bytes of a buffer are that a log writes: the header of its segment, where it begins with that; whole records, each with its sum, and those of
+-- messages that were given up with the bodies of these; and what fills the segment.
+use Rattle.std.specs.Prelude.{◌≡◌, ◌⊎◌, ◌+◌, ◌/◌, ◌%◌, ◌≤◌, ◌<ℤ◌, ◌∷◌, ◌++◌, ℕ, ℤ, pos, List, [], length, Contains}
 use Rattle.sled_codec.specs.declared.serialization.message.MessageKind.{MessageKind}
+use Rattle.sled_codec.specs.declared.serialization.message.MessageKind.TheVariants as kind
+use Rattle.sled_codec.specs.History.{Message}
 use Rattle.sled_codec.specs.Record.{short_header, short_record}
+use Rattle.sled_core.specs.Canceled.{IsBodyOf}
 use Rattle.sled_core.specs.invariants.Caps.{segment_rest}
 use Rattle.sled_core.specs.Waiting.{BufferAt}
 
@@ -17,6 +20,17 @@ abbrev pub records_text : (List ℕ → ℕ) → ℕ → List RecordParts → Li
 records_text sum number [] = []
 records_text sum number (r ∷ rs) = short_record sum r.kind r.page number r.body ++ records_text sum number rs
 
+-- A record at a place is of one of these messages: of its page and with its body, where it was to lie.
+abbrev pub IsOfOne : List Message → ℕ → RecordParts → Type 0
+IsOfOne messages place r = (m : Message) × Contains messages m × (m.place ≡ place) × (m.page ≡ r.page) × IsBodyOf m r.body
+
+-- So is each one of kind `Canceled` of such records, where the first of them stands at a place.
+abbrev pub CanceledAreOf : (List ℕ → ℕ) → ℕ → List Message → ℕ → List RecordParts → Type 0
+CanceledAreOf sum number messages place [] = Unit {0}
+CanceledAreOf sum number messages place (r ∷ rs) =
+    (r.kind ≡ kind.Canceled → IsOfOne messages place r)
+    × CanceledAreOf sum number messages (place + length (short_record sum r.kind r.page number r.body)) rs
+
 -- What stands in front of the first record of a buffer that begins at a place, which lies at an offset of its segment: where it begins with the segment the
 -- segment's header, with a mark below it; else nothing.
 abbrev pub IsHead : (List ℕ → ℕ) → ℕ → ℕ → List ℕ → Type 0
@@ -26,15 +40,17 @@ IsHead sum place from head = ((from ≡ 0) × (mark : ℤ) × (mark <ℤ pos pla
 abbrev pub IsFilling : (List ℕ → ℕ) → ℕ → ℕ → ℕ → List ℕ → Type 0
 IsFilling sum size number from rest = (rest ≡ []) ⊎ ((from + length rest ≡ size) × (rest ≡ segment_rest sum size number from))
 
--- The bytes of a buffer that begins at a place, and so at an offset of a segment of a number: no record is written in parts, and none without its sum.
-pub record IsWholeText (sum : List ℕ → ℕ) (size number place from : ℕ) (bytes : List ℕ) : Type 0 where
+-- The bytes of a buffer that begins at a place, and so at an offset of a segment of a number: no record is written in parts, and none without its sum; and
+-- one that every reader passes over is of one of these messages, those that were given up.
+pub record IsWholeText (sum : List ℕ → ℕ) (size : ℕ) (given_up : List Message) (number place from : ℕ) (bytes : List ℕ) : Type 0 where
   pub head : List ℕ
   pub records : List RecordParts
   pub rest : List ℕ
   pub is : bytes ≡ head ++ records_text sum number records ++ rest
   pub headed : IsHead sum place from head
+  pub canceled : CanceledAreOf sum number given_up (place + length head) records
   pub filled : IsFilling sum size number (from + length head + length (records_text sum number records)) rest
 
--- So are those of a buffer of a log with segments of a size.
-abbrev pub IsWholeBuffer : (List ℕ → ℕ) → ℕ → BufferAt → Type 0
-IsWholeBuffer sum size b = IsWholeText sum size (b.place / size) b.place (b.place % size) b.bytes
+-- So are those of a buffer of a log with segments of a size, where these were given up.
+abbrev pub IsWholeBuffer : (List ℕ → ℕ) → ℕ → List Message → BufferAt → Type 0
+IsWholeBuffer sum size given_up b = IsWholeText sum size given_up (b.place / size) b.place (b.place % size) b.bytes

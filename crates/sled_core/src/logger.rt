@@ -82,7 +82,8 @@ pub struct Log<D, C> {
 
 impl<D: Device, C: Checksum> Log<D, C> {
     ghost use Rattle.sled_core.specs.invariants.Fits.{Holds};
-    ghost use Rattle.sled_core.specs.Fits.{Awaits, IsOpen, FitsInline, fault_of, synced_end, reserved_end, pins_of, config_of, device_of, HasRecordOf, line_of, segment_size_of, waiting_of, current_begin, FirstWaits, stable_end, KeepsAll};
+    ghost use Rattle.sled_core.specs.GivenUp.{AreAmong};
+    ghost use Rattle.sled_core.specs.Fits.{Awaits, IsOpen, FitsInline, fault_of, given_up_of, synced_end, reserved_end, pins_of, config_of, device_of, HasRecordOf, line_of, segment_size_of, waiting_of, current_begin, FirstWaits, stable_end, KeepsAll};
     ghost use Rattle.sled_core.specs.Fronts.{CameAround};
     ghost use Rattle.sled_core.specs.Endings.{EndsTicket};
     ghost use Rattle.sled_core.specs.Keeps.{KeepsLog, ConfigKept, GoesOn, Preserves};
@@ -223,6 +224,7 @@ impl<D: Device, C: Checksum> Log<D, C> {
         ensures history { (H : History) (m : Message) → Holds D.trace C.sum_of self.old H → Awaits self.old ticket m
             → OnOk result ((H' : History) × Step H (Completed m) H' × Holds D.trace C.sum_of self.new H') }
         ensures ends { EndsTicket D.trace C.sum_of result ticket self.old self.new }
+        ensures given_up { AreAmong (given_up_of self.new) (given_up_of self.old) }
         ensures answers { FaultAnswers result (fault_of self.old) }
         ensures fits { (H : History) (A f : ℕ) (U : List Message) (m : Message)
             → Fits D.trace C.sum_of self.old H A f U → Awaits self.old ticket m → IsStored D.trace C.sum_of self.old m → 0 < pins_of self.old

@@ -11,14 +11,14 @@ use Rattle.sled_log.specs.RunPhases.{IsAt, IsRecoveredAt, Unstored, device_in, l
 use Rattle.sled_log.specs.RunStates.{DeviceView, length_of}
 use Rattle.sled_log.specs.OpenSteps.{SaysWhy, log_opened}
 
--- nothing is reserved
+-- nothing is reserved, nor was given up
 abbrev pub unreserved : History → ℕ → ℕ → Unstored
-unreserved H A f = record { history = H; acknowledged = A; floor = f; tickets = [] }
+unreserved H A f = record { history = H; acknowledged = A; floor = f; tickets = []; given_up = [] }
 
 -- What a start makes of a table that was recovered.
 pub record HasStartedAt {D C : Type 0} (view : D → DeviceView) (sum : List ℕ → ℕ) (config : RunningConfig D C) (s : SnapshotModel) (result : Phase D C × Reply)
     (k : Unstored) : Type 0 where
-  pub log : log_in result.0 [] ≡ log_opened config.config.segment_size (length_of (view config.device)) s result.1
+  pub log : log_in result.0 [] [] ≡ log_opened config.config.segment_size (length_of (view config.device)) s result.1
   pub at : IsAt (traces view) sum result.0 k
   pub crash : LeavesOnly (RecoverableIfOwn sum config.config.segment_size k.history k.acknowledged k.floor) (view config.device).trace
       (device_in view result.0).trace

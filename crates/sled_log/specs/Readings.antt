@@ -9,7 +9,8 @@ use Rattle.sled_codec.specs.PageTables.{entry_of}
 use Rattle.sled_codec.specs.Snapshots.{Entry}
 use Rattle.sled_store.specs.Device.{Trace}
 use Rattle.sled_core.specs.declared.logger.Log.{Log}
-use Rattle.sled_core.specs.Fits.{KeepsTickets, device_of, fault_of, reserved_end, segment_size_of}
+use Rattle.sled_core.specs.Fits.{KeepsTickets, device_of, fault_of, given_up_of, reserved_end, segment_size_of}
+use Rattle.sled_core.specs.GivenUp.{AreAmong}
 use Rattle.sled_core.specs.Keeps.{Preserves, SamePosition}
 use Rattle.sled_core.specs.ReadPointer.{place_read}
 use Rattle.sled_core.specs.Recoverable.{NoHeaderOfZeros}
@@ -21,12 +22,13 @@ use Rattle.sled_log.specs.RunPhases.{Unstored, seen_log, traces}
 use Rattle.sled_log.specs.RunStates.{DeviceView, LogView, RunState, is_present, top, with_log}
 use Rattle.sled_log.specs.ReadSteps.{FailsAt, ReadStep, ReadsAt, read_around, read_at}
 
--- A log fits what a session keeps in mind, and zeros pass as no header.
+-- A log fits what a session keeps in mind, what it counts as given up was, and zeros pass as no header.
 pub record IsRead {D C : Type 0} (trace : D → Trace) (sum : List ℕ → ℕ) (log : Log D C) (k : Unstored) : Type 0 where
   pub made : IsMade k.history
   pub zeros : NoHeaderOfZeros sum
   pub unmarked : List Message
   pub fits : Fits trace sum log k.history k.acknowledged k.floor unmarked
+  pub given_up : AreAmong (given_up_of log) k.given_up
 
 -- A message of what a page is, that was reserved, as the place was that a read of it brings to the device.
 pub record IsOfPage (H : History) (end page : ℕ) (m : Message) : Type 0 where
@@ -60,7 +62,7 @@ pub record ReadsItem {D C : Type 0} (view : D → DeviceView) (sum : List ℕ �
   pub only : KeepsOpen (traces view) sum old new
   pub item : (k : Unstored) (m : Message) (begun : ℕ) → IsRead (traces view) sum old k → IsOfPage k.history (reserved_end old) page m
       → pos m.place ≡ place → m.pointer ≡ pointer
-      → IsItem view sum old (seen_log old begun k.tickets) m new (seen_log new begun k.tickets) result
+      → IsItem view sum old (seen_log old begun k.tickets k.given_up) m new (seen_log new begun k.tickets k.given_up) result
 
 -- what is told of the messages of a page that were read
 abbrev pub page_told : Result (Vec (Vec ℕ Global) Global) Error → Reply
@@ -73,6 +75,6 @@ pub record ReadsEntries {D C : Type 0} (view : D → DeviceView) (sum : List ℕ
   pub only : KeepsOpen (traces view) sum old new
   pub step : (k : Unstored) (ms : List Message) (begun : ℕ) (a : RunState) → IsRead (traces view) sum old k
       → All (IsOfPage k.history (reserved_end old) page) ms → map entry_of ms ≡ entries → is_present ms ≡ true
-      → a.device ≡ view (device_of old) → a.log ≡ Some (seen_log old begun k.tickets)
-      → ReadStep sum (segment_size_of old) a (seen_log old begun k.tickets) ms (page_told result) (view (device_of new))
-      (with_log a (view (device_of new)) (Some (seen_log new begun k.tickets)))
+      → a.device ≡ view (device_of old) → a.log ≡ Some (seen_log old begun k.tickets k.given_up)
+      → ReadStep sum (segment_size_of old) a (seen_log old begun k.tickets k.given_up) ms (page_told result) (view (device_of new))
+      (with_log a (view (device_of new)) (Some (seen_log new begun k.tickets k.given_up)))

@@ -9,7 +9,8 @@ use Rattle.sled_store.specs.Device.{Trace, state_of}
 use Rattle.sled_store.specs.Moments.{IsLater}
 use Rattle.sled_store.specs.declared.config.RunningConfig.{RunningConfig}
 use Rattle.sled_core.specs.declared.logger.Log.{Log}
-use Rattle.sled_core.specs.Fits.{Awaits, config_of, fault_of, noted_in, open_places, pins_of, position_of, reserved_end, start_of, synced_end, waiting_of}
+use Rattle.sled_core.specs.Fits.{Awaits, config_of, fault_of, given_up_of, noted_in, open_places, pins_of, position_of, reserved_end, start_of, synced_end, waiting_of}
+use Rattle.sled_core.specs.GivenUp.{AreAmong}
 use Rattle.sled_core.specs.Manifests.{manifest_page}
 use Rattle.sled_core.specs.Waiting.{spans}
 use Rattle.sled_core.specs.Keeps.{ConfigKept}
@@ -41,9 +42,9 @@ view_by trace faults stopped device = record { trace = trace device; failures = 
 abbrev pub traces : {D : Type 0} → (D → DeviceView) → D → Trace
 traces view device = (view device).trace
 
--- what is seen of a log, with so many pages begun and with the messages of its tickets
-abbrev pub seen_log : {D C : Type 0} → Log D C → ℕ → List (Option Message) → LogView
-seen_log log begun tickets =
+-- what is seen of a log, with so many pages begun, with the messages of its tickets and with those that were given up
+abbrev pub seen_log : {D C : Type 0} → Log D C → ℕ → List (Option Message) → List Message → LogView
+seen_log log begun tickets given_up =
     record {
       position = position_of log;
       synced = synced_end log;
@@ -55,11 +56,12 @@ seen_log log begun tickets =
       fault = fault_of log;
       outstanding = open_places log;
       tickets = tickets;
+      given_up = given_up;
     }
 
 -- the same of one that is open in a session
-abbrev pub seen : {D C : Type 0} → Opened D C → List (Option Message) → LogView
-seen opened tickets = seen_log opened.log (length opened.pages.items) tickets
+abbrev pub seen : {D C : Type 0} → Opened D C → List (Option Message) → List Message → LogView
+seen opened tickets given_up = seen_log opened.log (length opened.pages.items) tickets given_up
 
 -- What a session keeps in mind that its code doesn't store.
 pub record Unstored : Type 0 where
@@ -67,11 +69,12 @@ pub record Unstored : Type 0 where
   pub acknowledged : ℕ
   pub floor : ℕ
   pub tickets : List (Option Message)
+  pub given_up : List Message
 
 -- the log in a phase
-abbrev pub log_in : {D C : Type 0} → Phase D C → List (Option Message) → Option LogView
-log_in (Closed config) tickets = None
-log_in (Open opened) tickets = Some (seen opened tickets)
+abbrev pub log_in : {D C : Type 0} → Phase D C → List (Option Message) → List Message → Option LogView
+log_in (Closed config) tickets given_up = None
+log_in (Open opened) tickets given_up = Some (seen opened tickets given_up)
 
 -- what a phase runs on
 abbrev pub running : {D C : Type 0} → Phase D C → RunningConfig D C
@@ -85,7 +88,13 @@ device_in view phase = view (running phase).device
 -- where a run stands in a phase
 abbrev pub stands : {D C : Type 0} → (D → DeviceView) → Phase D C → Unstored → RunState
 stands view phase k =
-    record { device = device_in view phase; history = k.history; acknowledged = k.acknowledged; floor = k.floor; log = log_in phase k.tickets }
+    record {
+      device = device_in view phase;
+      history = k.history;
+      acknowledged = k.acknowledged;
+      floor = k.floor;
+      log = log_in phase k.tickets k.given_up;
+    }
 
 -- the size of its segments
 abbrev pub size_of : {D C : Type 0} → Phase D C → ℕ
@@ -145,7 +154,8 @@ pub record HasTickets {D C : Type 0} (trace : D → Trace) (sum : List ℕ → �
   pub busy : (page : ℕ) → page ≢ manifest_page → get_or opened.busy.items page false ≡ has_page page (open_messages tickets)
   pub batch : HasBatch tickets opened.batch
 
--- A log is open that fits the history, with a pin out, and with the table of it. Zeros pass as no header, as where its recovery read nothing foreign.
+-- A log is open that fits the history, with a pin out, and with the table of it; what it counts as given up was. Zeros pass as no header, as where its
+-- recovery read nothing foreign.
 pub record IsOpenAt {D C : Type 0} (trace : D → Trace) (sum : List ℕ → ℕ) (opened : Opened D C) (k : Unstored) : Type 0 where
   pub made : IsMade k.history
   pub unmarked : List Message
@@ -154,6 +164,7 @@ pub record IsOpenAt {D C : Type 0} (trace : D → Trace) (sum : List ℕ → ℕ
   pub pinned : 0 < pins_of opened.log
   pub table : IsTable (map page_of opened.pages.items) k.history top
   pub tickets : HasTickets trace sum opened k.history k.tickets
+  pub given_up : AreAmong (given_up_of opened.log) k.given_up
   pub ends : All (λ m. m.place + m.size ≤ reserved_end opened.log) k.history.messages
 
 -- What holds in a phase.

@@ -53,6 +53,8 @@ pub record LogView : Type 0 where
   pub outstanding : List ℕ
   -- the messages of those that have a ticket, by number: each of them, but for a ticket that was spent while the log kept a failure
   pub tickets : List (Option Message)
+  -- the messages that were given up since the log was started, as the log has them, the last one first
+  pub given_up : List Message
 
 -- the place behind the stable end, which lies in front of a batch that goes on behind what is on the device
 abbrev pub stable_of : LogView → ℕ
@@ -93,6 +95,7 @@ started_on size len s = record {
   fault = None;
   outstanding = [];
   tickets = [];
+  given_up = [];
 }
 
 -- how long the body of the record of an item of n bytes is: it is the item, or the place of its blob

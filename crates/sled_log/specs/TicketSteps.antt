@@ -13,6 +13,7 @@ use Rattle.sled_codec.specs.History.{Batch, Batched, Completed, History, Message
 use Rattle.sled_store.specs.Device.{state_of}
 use Rattle.sled_core.specs.Buffers.{most_open}
 use Rattle.sled_core.specs.Fits.{in_blob}
+use Rattle.sled_core.specs.Logged.{in_log}
 use Rattle.sled_core.specs.Manifests.{manifest_page}
 use Rattle.sled_core.specs.OpenBatches.{with_batch}
 use Rattle.sled_core.specs.OpenPlaces.{places_from}
@@ -135,13 +136,17 @@ CompleteStep a l t (reply.Failed (Io e)) new b = (l.fault ≡ Some e) × (b ≡ 
 CompleteStep a l t (reply.Failed OutOfMemory) new b = (l.fault ≡ None) × (b ≡ a)
 CompleteStep a l t _ new b = ⊥
 
+-- the log once this message was given up
+abbrev pub giving_up : Message → LogView → LogView
+giving_up m l = record l { given_up = in_log m ∷ l.given_up }
+
 -- The message of an open reservation is given up.
 pub record HasAborted (a : RunState) (l : LogView) (t : ℕ) (place : ℤ) (pointer : DiskPtr) (new : DeviceView) (b : RunState) : Type 0 where
   pub message : Message
   pub reserved : slice_get l.tickets t ≡ Some (Some message)
   pub fault : l.fault ≡ None
   pub answer : IsAnswerFor message place pointer
-  pub leads : b ≡ with_log a new (Some (spent l t (places_without message.place (opens l)) l.begun))
+  pub leads : b ≡ with_log a new (Some (giving_up message (spent l t (places_without message.place (opens l)) l.begun)))
 
 -- the blob that the reservation of a session's message made, which lies at a place: its name is that place, while the item of a rewritten one stays in the
 -- blob of an earlier message

@@ -2,6 +2,7 @@
 use Rattle.std.specs.Prelude.{◌≡◌, ◌⊎◌, ◌+◌, ◌≤◌, ◌≤ℤ◌, ◌<ℤ◌, ◌<◌, ◌%◌, ◌^◌, ◌∷◌, ℕ, ℤ, pos, max, IsTrue, List, [], drop, Option, None, Some}
 use Rattle.std.specs.List.{All}
 use Rattle.std.specs.declared.io.Error.{Error as IoError}
+use Rattle.sled_codec.specs.History.{Message}
 use Rattle.sled_codec.specs.declared.result.Error.{Error}
 use Rattle.sled_codec.specs.declared.result.Error.TheVariants.{Held, Io, NotReserved, OutOfMemory, PlacesUsedUp}
 use Rattle.sled_store.specs.Device.{Event, state_of}
@@ -53,17 +54,18 @@ IfHeld _ P = Unit {0}
 -- Writing.
 
 -- These buffers of a log, with its open reservations at these places, are seen so: each as a whole, and what holds it up. What isn't held up is whole records,
--- each with its sum: so nothing is written that is no log's own but by its sum.
-pub record ShowsBuffers (sum : List ℕ → ℕ) (size : ℕ) (places : List ℕ) (ss : List Span) (bs : List BufferAt) : Type 0 where
+-- each with its sum, and of these one that every reader passes over is of one of the messages that were given up: so nothing is written that is no log's own
+-- but by its sum, nor anything of such a message but what its caller gave.
+pub record ShowsBuffers (sum : List ℕ → ℕ) (size : ℕ) (places : List ℕ) (given_up : List Message) (ss : List Span) (bs : List BufferAt) : Type 0 where
   pub are : spans bs ≡ ss
   pub long : All HasLength bs
   pub held : All (λ b. b.held ≡ held places (record { place = b.place; end = b.end; lid = b.lid })) bs
-  pub whole : All (λ b. b.held ≡ None → IsWholeBuffer sum size b) bs
+  pub whole : All (λ b. b.held ≡ None → IsWholeBuffer sum size given_up b) bs
 
 -- All of these calls were made, on buffers that are seen so.
 pub record Writes (sum : List ℕ → ℕ) (size : ℕ) (l : LogView) (ss : List Span) (calls : List BufferAt → List Event) (old new : DeviceView) : Type 0 where
   pub buffers : List BufferAt
-  pub shown : ShowsBuffers sum size (opens l) ss buffers
+  pub shown : ShowsBuffers sum size (opens l) l.given_up ss buffers
   pub made : new.trace ≡ after_all (calls buffers) old.trace
 
 -- They were made up to one that failed: so many buffers were written, as many as were synced. Unless the device failed each of these is whole, and no other
@@ -71,7 +73,7 @@ pub record Writes (sum : List ℕ → ℕ) (size : ℕ) (l : LogView) (ss : List
 pub record WritesSome (sum : List ℕ → ℕ) (size : ℕ) (l : LogView) (ss : List Span) (calls : List BufferAt → List Event) (count : ℕ) (e : Error)
     (fault : Option IoError) (old new : DeviceView) : Type 0 where
   pub buffers : List BufferAt
-  pub shown : ShowsBuffers sum size (opens l) ss buffers
+  pub shown : ShowsBuffers sum size (opens l) l.given_up ss buffers
   pub made : Performs (calls buffers) old.trace new.trace
   pub synced : syncs new.trace ≡ count + syncs old.trace
   pub whole : fault ≡ None → WritesWhole count (calls buffers) old.trace new.trace

@@ -24,7 +24,7 @@ module _ {D C : Type 0} (trace : D → Trace) (sum : List ℕ → ℕ) where
   read_still : (log : Log D C) → IsOnlyRead trace sum log log
   read_still log = record {
     keeps = kept_still trace sum log;
-    tickets = record { awaits = λ ticket m awaits. awaits; opens = refl };
+    tickets = record { awaits = λ ticket m awaits. awaits; opens = refl; given_up = λ m there. there };
     position = record { position = refl; reserved = refl; pins = refl; size = refl };
     buffers = record { waiting = refl; start = refl };
     machine = refl;
@@ -34,7 +34,11 @@ module _ {D C : Type 0} (trace : D → Trace) (sum : List ℕ → ℕ) where
   read_further : (old mid new : Log D C) → IsOnlyRead trace sum old mid → IsOnlyRead trace sum mid new → IsOnlyRead trace sum old new
   read_further old mid new first so = record {
     keeps = kept_further trace sum old mid new first.keeps so.keeps;
-    tickets = record { awaits = λ ticket m awaits. so.tickets.awaits ticket m (first.tickets.awaits ticket m awaits); opens = so.tickets.opens ∙ first.tickets.opens };
+    tickets = record {
+      awaits = λ ticket m awaits. so.tickets.awaits ticket m (first.tickets.awaits ticket m awaits);
+      opens = so.tickets.opens ∙ first.tickets.opens;
+      given_up = λ m there. first.tickets.given_up m (so.tickets.given_up m there);
+    };
     position = record {
       position = so.position.position ∙ first.position.position;
       reserved = so.position.reserved ∙ first.position.reserved;

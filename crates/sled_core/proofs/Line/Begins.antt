@@ -24,10 +24,11 @@ use Rattle.sled_core.specs.Logged.{logged, in_log}
 use Rattle.sled_core.specs.Tickets.{IsFor, index_of}
 use Rattle.sled_core.specs.declared.iobuf.Reserved.{Reserved}
 use Rattle.sled_core.specs.inside.Fits.{written_to, FitsBatches, HasMark, HoldsIn, HoldsLine, HoldsWith, log_parts, parts_in}
-use Rattle.sled_core.specs.Fits.{AwaitsIn, CloseBelow, KeepsAll, KeepsTickets, current_of, device_of, fault_of, line_of, noted_in, machine_at, pins_of, position_of, segment_size_of, stable_end, synced_end}
+use Rattle.sled_core.specs.Fits.{AwaitsIn, CloseBelow, KeepsAll, KeepsTickets, current_of, device_of, fault_of, given_up_of, line_of, noted_in, machine_at, pins_of, position_of, segment_size_of, stable_end, synced_end}
 use Rattle.sled_core.specs.invariants.Fits.{Holds}
 use Rattle.sled_core.specs.inside.Begun.{line_end}
 use Rattle.sled_core.specs.inside.FreeSlots.{HasSlot, HasSlots, HaveOwn}
+use Rattle.sled_core.specs.GivenUp.{given_up_along}
 use Rattle.sled_core.specs.Keeps.{Preserves}
 use Rattle.sled_core.specs.OpenPlaces.{open_places_along}
 use Rattle.sled_core.specs.Positions.{is_short, next_segment_at, position_in}
@@ -49,7 +50,9 @@ use Rattle.sled_core.proofs.Holds.Facts.{IsSegment, current_facts, nth_facts}
 use Rattle.sled_core.proofs.Line.Last.{All-at_last, last_behind_all, last_get_of}
 use Rattle.sled_core.proofs.Line.LineEnds.{end_at_last, kept_same, noted_later, noted_same}
 use Rattle.sled_core.proofs.Line.Moves.{fits_as, holds_as}
+use Rattle.sled_core.proofs.Line.GivenUp.{among_same, given_begun, given_closed}
 use Rattle.sled_core.proofs.Line.OpenPlaces.{places_begun, places_closed}
+use Rattle.sled_core.proofs.Line.Segments.{line_segments}
 use Rattle.sled_core.proofs.Line.OlderSlots.{begun_handed, entries_handed, newest_low}
 use Rattle.sled_core.proofs.Line.Slots.{next_free, next_other, next_others, next_within, slots_begun}
 use Rattle.sled_core.proofs.Reached.BufferPath.{buffer_mark, mark_lower}
@@ -403,6 +406,10 @@ module _ {D C : Type 0} (trace : D → Trace) (sum : List ℕ → ℕ) (old new 
     opens = ap open_places_along line
         ∙ places_begun (closed sum its_size (line_of old)) (begun_view sum its_size (machine_at old) (stable_end old) (current_of old)) refl
         ∙ places_closed sum its_size first behind;
+    given_up = among_same (given_up_of new) (given_up_of old)
+        (ap given_up_along line
+        ∙ given_begun (closed sum its_size (line_of old)) (begun_view sum its_size (machine_at old) (stable_end old) (current_of old)) refl
+        ∙ given_closed sum its_size old.segments.first.site.place first behind (line_segments old));
   }
 
   closes : IsClosable its_size (current_of old)

@@ -1,5 +1,6 @@
 -- A log was made ready for a record and then the blob of its message was made, or refused: it is ready still, and what a reservation comes to.
 use Rattle.std.proofs.Common.{◌≡◌, ◌∙◌, ◌&&◌, ◌==◌, not, ◌+◌, ◌/◌, ◌≤ℤ◌, [], ap, sym, subst, refl, arith, inr, ℕ, ℤ, pos, Bool, true, false, if◌then◌else◌, List, length, map, Option, None, Some, Ok, Err, vec_capacity}
+use Rattle.std.specs.List.{Contains}
 use Rattle.std.proofs.lemmas.Bool.Decides.{nat_tests}
 use Rattle.std.proofs.lemmas.Int.{ints}
 use Rattle.sled_codec.specs.declared.result.DiskPtr.TheVariants.{Blob}
@@ -28,6 +29,7 @@ use Rattle.sled_core.specs.inside.Begun.{last_buffer_in}
 use Rattle.sled_core.specs.Causes.{HasRecordPlace, ReserveAnswers}
 use Rattle.sled_core.specs.Fits.{AwaitsIn, IsLeastOpen, IsUsedUpFor, KeepsAll, KeepsTickets, current_of, device_of, fault_of, line_of, machine_at, message_as, next_place, position_of, segment_size_of, size_for, target_of}
 use Rattle.sled_core.specs.inside.Fits.{written_to}
+use Rattle.sled_core.specs.GivenUp.{given_up_along}
 use Rattle.sled_core.specs.Keeps.{KeepsSeen, Preserves}
 use Rattle.sled_core.specs.Logged.{in_log}
 use Rattle.sled_core.specs.Manifests.{is_manifest, kind_for}
@@ -83,6 +85,7 @@ module _ {D C : Type 0} (trace : D → Trace) (sum : List ℕ → ℕ) (old mid 
     still_tickets = record {
       awaits = λ ticket m awaits. subst (λ (l : List SegmentView). AwaitsIn l ticket (in_log m)) (sym line_same) (ready.tickets.awaits ticket m awaits);
       opens = ap open_places_along line_same ∙ ready.tickets.opens;
+      given_up = λ m there. ready.tickets.given_up m (subst (λ (l : List SegmentView). Contains (given_up_along l) m) line_same there);
     }
 
     still_seen : KeepsSeen old made

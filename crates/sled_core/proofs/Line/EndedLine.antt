@@ -37,6 +37,10 @@ ending_short v i r word k facts there is_open =
     let own = (at_there IsHeaded v.parts.reserved i r there facts.headed).1 is_open in
     omega (arith, own.0, own.1)
 
+-- So few bytes stand in its header, in front of its body.
+pub canceling_head : (sum : List ℕ → ℕ) {size place : ℕ} (v : SegmentView) (i : ℕ) (r : Reserved) → IsSegment size place v → slice_get v.parts.reserved i ≡ Some r → r.state ≡ Open → length (canceling sum v.parts.bytes r) ≤ r.header_len
+canceling_head sum v i r facts there is_open = let own = (at_there IsHeaded v.parts.reserved i r there facts.headed).1 is_open in omega (arith, own.0)
+
 -- as with those that complete it, or make it one that is passed over,
 pub completing_short : {size place : ℕ} (v : SegmentView) (i : ℕ) (r : Reserved) → IsSegment size place v → slice_get v.parts.reserved i ≡ Some r → r.state ≡ Open → length (completing r) ≤ r.len
 completing_short v i r facts there is_open = ending_short v i r r.sum r.kind facts there is_open

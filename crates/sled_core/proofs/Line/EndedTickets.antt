@@ -1,6 +1,6 @@
 -- Tickets by the segments of a log: which segment a ticket is of, which tickets stay for what they were for once one has ended, and which are open then.
 use Rattle.std.proofs.lemmas.Bool.{cases_eq}
-use Rattle.std.proofs.Common.{false, ◌≡◌, ◌≢◌, ◌∙◌, ◌≤◌, ◌<◌, ◌+◌, ◌-◌, ◌*◌, ◌/◌, ◌^◌, ap, sym, arith, subst, to_z, of_z, w64, ℕ, ℤ, pos, max, List, length, set, Option, Some, inl, inr}
+use Rattle.std.proofs.Common.{false, ◌≡◌, ◌≢◌, ◌∙◌, ◌≤◌, ◌<◌, ◌+◌, ◌-◌, ◌*◌, ◌/◌, ◌^◌, ap, sym, arith, subst, to_z, of_z, w64, ℕ, ℤ, pos, max, List, ◌∷◌, length, set, Option, Some, inl, inr}
 use lib.Signed.{mag}
 use Rattle.std.specs.Prelude.{unsigned_abs}
 use Rattle.std.specs.declared.io.Error.{Error as IoError}
@@ -10,7 +10,7 @@ use Rattle.std.proofs.lemmas.Nat.{div-mul-add}
 use Rattle.sled_codec.specs.History.{History, Message}
 use Rattle.sled_store.specs.Device.{State}
 use Rattle.sled_core.specs.declared.iobuf.ReservationState.{ReservationState}
-use Rattle.sled_core.specs.declared.iobuf.ReservationState.TheVariants.{Open}
+use Rattle.sled_core.specs.declared.iobuf.ReservationState.TheVariants.{Canceled, Open}
 use Rattle.sled_core.specs.declared.iobuf.Reserved.{Reserved}
 use Rattle.sled_core.specs.declared.logger.Log.{Log}
 use Rattle.sled_core.specs.declared.reservation.Reservation.{Reservation}
@@ -18,6 +18,7 @@ use Rattle.sled_core.specs.Begun.{SegmentView}
 use Rattle.sled_core.specs.inside.Buffers.{IsChain, IsHeaded, ended}
 use Rattle.sled_core.specs.Buffers.{message_in, open_state}
 use Rattle.sled_core.specs.Fits.{Awaits, AwaitsIn, line_of}
+use Rattle.sled_core.specs.GivenUp.{AreAmong, canceled_state, given_up_along}
 use Rattle.sled_core.specs.inside.Fits.{HoldsLine}
 use Rattle.sled_core.specs.OpenPlaces.{TakesOut, open_places_along}
 use Rattle.sled_core.specs.Tickets.{IsFor, index_of, place_of}
@@ -26,6 +27,7 @@ use Rattle.sled_core.proofs.Holds.CompletedLemmas.{others_stay}
 use Rattle.sled_core.proofs.Line.Ends.{with_segment}
 use Rattle.sled_core.proofs.Holds.Facts.{IsSegment, nth_facts}
 use Rattle.sled_core.proofs.Holds.Nth.{set_get, set_other}
+use Rattle.sled_core.proofs.Line.GivenUp.{canceled_given, ended_given, set_given, set_given_more}
 use Rattle.sled_core.proofs.Line.OpenPlaces.{takes_ended, takes_in}
 use Rattle.sled_core.proofs.Reserve.Ranges.{at_there}
 use Rattle.sled_core.proofs.Sealed.Around.{whole_chain}
@@ -94,6 +96,14 @@ module _ (size : ℕ) (line : List SegmentView) (base n : ℕ) (v : SegmentView)
   -- Its place is taken out of those of the open ones.
   pub ended_takes : open_state state ≡ false → TakesOut (v.parts.site.place + r.from) (open_places_along line) (open_places_along (set line n e))
   ended_takes closed = takes_in (v.parts.site.place + r.from) line n v e there (takes_ended v.parts.site.place v.parts.reserved i r (ended state r) at is_open closed)
+
+  -- What counts as given up was given up before,
+  pub ended_keeps_given : canceled_state state ≡ false → AreAmong (given_up_along (set line n e)) (given_up_along line)
+  ended_keeps_given none = set_given line n v e there (ended_given v (facts n v there) i r at is_open text short state none)
+
+  -- but for its own message, where it was given up.
+  pub ended_gives : state ≡ Canceled → length text ≤ r.header_len → AreAmong (given_up_along (set line n e)) (message_in v.parts.site v.parts.bytes r ∷ given_up_along line)
+  ended_gives is head = set_given_more line n v e (message_in v.parts.site v.parts.bytes r) there (canceled_given v (facts n v there) i r at is_open text short state head is)
 
   -- Other tickets are for what they were for.
   pub others_await : (sum : List ℕ → ℕ) (device : State) (fault : Option IoError) (H : History) → HoldsLine sum size device fault line H → (ticket other : Reservation) (m : Message) → place_of ticket ≡ pos (v.parts.site.place + r.from)

@@ -10,9 +10,11 @@ use Rattle.sled_store.proofs.Traces.MomentLemmas.{started, stays, joined}
 use Rattle.sled_store.proofs.Traces.StopLemmas.{asked_behind, asked_state, asked_later, asked_throughout}
 use Rattle.sled_core.specs.declared.logger.Log.{Log}
 use Rattle.sled_core.specs.declared.reservation.Reservation.{Reservation}
-use Rattle.sled_core.specs.Endings.{EndsTicket}
-use Rattle.sled_core.specs.Fits.{KeepsTickets, config_of, device_of, fault_of, segment_size_of, synced_end}
+use Rattle.sled_store.proofs.Segments.Elements.{in_rest}
+use Rattle.sled_core.specs.Endings.{EndsTicket, GivesUp}
+use Rattle.sled_core.specs.Fits.{KeepsTickets, config_of, device_of, fault_of, given_up_of, segment_size_of, synced_end}
 use Rattle.sled_core.specs.Keeps.{ConfigKept, GoesOn, KeepsLog, Preserves, SamePosition}
+use Rattle.sled_core.specs.Logged.{in_log}
 use Rattle.sled_core.specs.Recoverable.{RecoverableIfOwn}
 use Rattle.sled_core.specs.invariants.Running.{Fits}
 use Rattle.sled_core.proofs.Holds.RunningLemmas.{fits_leaves}
@@ -78,10 +80,14 @@ module _ {D C : Type 0} (trace : D → Trace) (sum : List ℕ → ℕ) where
 
 -- So it is with its tickets,
 pub tickets_still : {D C : Type 0} (log : Log D C) → KeepsTickets log log
-tickets_still log = record { awaits = λ ticket m awaits. awaits; opens = refl }
+tickets_still log = record { awaits = λ ticket m awaits. awaits; opens = refl; given_up = λ m there. there }
 
 pub tickets_further : {D C : Type 0} (old mid new : Log D C) → KeepsTickets old mid → KeepsTickets mid new → KeepsTickets old new
-tickets_further old mid new first then = record { awaits = λ ticket m awaits. then.awaits ticket m (first.awaits ticket m awaits); opens = then.opens ∙ first.opens }
+tickets_further old mid new first then = record {
+  awaits = λ ticket m awaits. then.awaits ticket m (first.awaits ticket m awaits);
+  opens = then.opens ∙ first.opens;
+  given_up = λ m there. first.given_up m (then.given_up m there);
+}
 
 -- and with where the next record begins.
 pub position_still : {D C : Type 0} (log : Log D C) → SamePosition log log
@@ -95,5 +101,8 @@ pub log_still : {D C : Type 0} (trace : D → Trace) (sum : List ℕ → ℕ) (l
 log_still trace sum log = record { preserves = kept_still trace sum log; tickets = tickets_still log; position = position_still log }
 
 -- A ticket was spent for nothing.
+pub gives_none : {D C : Type 0} (ticket : Reservation) (log : Log D C) → GivesUp ticket log log
+gives_none ticket log m awaits = λ n there. in_rest (in_log m) n (given_up_of log) there
+
 pub ends_none : {T D C : Type 0} (trace : D → Trace) (sum : List ℕ → ℕ) (ticket : Reservation) (log : Log D C) (e : Error) → EndsTicket {T = T} trace sum (Err e) ticket log log
 ends_none trace sum ticket log e = record { others = λ H other m holds awaits apart. awaits; opens = λ place is. tt; position = position_still log; buffers = record { waiting = refl; start = refl } }

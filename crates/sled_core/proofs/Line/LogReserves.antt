@@ -19,9 +19,10 @@ use Rattle.sled_core.specs.declared.iobuf.Reserved.{Reserved}
 use Rattle.sled_core.specs.declared.logger.Log.{Log}
 use Rattle.sled_core.specs.declared.reservation.Reservation.{Reservation}
 use Rattle.sled_core.specs.inside.Fits.{written_to}
-use Rattle.sled_core.specs.Fits.{Awaits, AwaitsIn, FitsInline, open_places, KeepsAll, current_of, device_of, fault_of, line_of, noted_in, machine_at, pins_of, position_of, segment_size_of, synced_end}
+use Rattle.sled_core.specs.Fits.{Awaits, AwaitsIn, FitsInline, open_places, KeepsAll, current_of, device_of, fault_of, given_up_of, line_of, noted_in, machine_at, pins_of, position_of, segment_size_of, synced_end}
 use Rattle.sled_core.specs.invariants.Fits.{Holds}
 use Rattle.sled_core.specs.inside.Begun.{line_end}
+use Rattle.sled_core.specs.GivenUp.{AreAmong, given_up_along}
 use Rattle.sled_core.specs.Keeps.{Preserves}
 use Rattle.sled_core.specs.OpenPlaces.{open_places_along}
 use Rattle.sled_core.specs.Positions.{Position, behind_record, is_short, moved_on, next_segment_at, placed_at, position_in}
@@ -30,6 +31,7 @@ use Rattle.sled_core.specs.inside.Slots.{AreBegun}
 use Rattle.sled_core.specs.inside.Turned.{ChangesSlots, HasPlace, reserved_now}
 use Rattle.sled_core.specs.Waiting.{at_last, last_of}
 use Rattle.sled_core.proofs.Holds.FitsBatches.{batches_up}
+use Rattle.sled_core.proofs.Line.GivenUp.{among_same, given_reserved}
 use Rattle.sled_core.proofs.Line.KeptCalls.{goes_on_quietly}
 use Rattle.sled_core.proofs.Holds.Facts.{current_facts}
 use Rattle.sled_core.proofs.Line.Last.{last_changed}
@@ -37,6 +39,7 @@ use Rattle.sled_core.proofs.Line.LineEnds.{end_last, first_at_last, kept_same, n
 use Rattle.sled_core.proofs.Line.Moves.{fits_as, holds_as}
 use Rattle.sled_core.proofs.Line.OpenPlaces.{places_reserved}
 use Rattle.sled_core.proofs.Line.Reserves.{HasPlaceFor, awaits_reserved, line_fits_reserved, line_reserved, slots_reserved}
+use Rattle.sled_core.proofs.Line.Segments.{line_segments}
 use Rattle.sled_core.proofs.Line.Targets.{record_short}
 use Rattle.sled_core.proofs.OwnLog.Calls.{own_reserved}
 use Rattle.sled_core.proofs.Reserve.Heads.{length-short_header_tail}
@@ -179,6 +182,11 @@ module _ {D C : Type 0} (trace : D → Trace) (sum : List ℕ → ℕ) (old new 
   -- the new reservation is open behind those that were,
   pub reserves_opens : open_places new ≡ open_places old ++ ((current_of old).parts.site.place + r.from) ∷ []
   reserves_opens = ap open_places_along line ∙ places_reserved more r v vs fits.open_yet
+
+  -- no message was given up,
+  pub reserves_given : AreAmong (given_up_of new) (given_up_of old)
+  reserves_given = among_same (given_up_of new) (given_up_of old)
+      (ap given_up_along line ∙ given_reserved more r its_size old.segments.first.site.place v vs (line_segments old) fits.open_yet)
 
   -- and the log holds and fits what it did.
   pub reserves_keeps : Preserves trace sum old new

@@ -20,7 +20,8 @@ use Rattle.sled_core.specs.declared.iobuf.Reserved.{Reserved}
 use Rattle.sled_core.specs.declared.iobuf.record.Head.{Head}
 use Rattle.sled_core.specs.declared.logger.Log.{Log}
 use Rattle.sled_core.specs.declared.reservation.Reservation.{Reservation}
-use Rattle.sled_core.specs.Fits.{Awaits, AwaitsIn, FitsInline, open_places, IsUnchanged, IsUsedUpFor, KeepsAll, NoFurther, current_of, is_moved, line_of, machine_at, open_for, open_of, position_behind, position_of, reserved_end, segment_size_of, stable_end, size_for, start_behind, start_of, target_of, waiting_behind, waiting_of}
+use Rattle.sled_core.specs.Fits.{Awaits, AwaitsIn, FitsInline, open_places, IsUnchanged, IsUsedUpFor, KeepsAll, NoFurther, current_of, given_up_of, is_moved, line_of, machine_at, open_for, open_of, position_behind, position_of, reserved_end, segment_size_of, stable_end, size_for, start_behind, start_of, target_of, waiting_behind, waiting_of}
+use Rattle.sled_core.specs.GivenUp.{AreAmong}
 use Rattle.sled_core.specs.Keeps.{KeepsSeen, Preserves}
 use Rattle.sled_core.specs.Logged.{in_log}
 use Rattle.sled_core.specs.Positions.{Position, behind_record, lid_at, next_segment_at}
@@ -29,10 +30,11 @@ use Rattle.sled_core.specs.inside.Prepared.{IsPrepared, next_here, number_of, te
 use Rattle.sled_core.specs.Reserves.{StandsBehind}
 use Rattle.sled_core.specs.inside.Turned.{ChangesLine, ChangesSlots, HasPlace, HasRoomForBatch, HasRoomIn, IsTicketFor, begun_view, next_line, reserved_now}
 use Rattle.sled_core.specs.Waiting.{BufferAt, BufferStart, at_last, closed_now, unwritten}
+use Rattle.sled_core.proofs.Line.GivenUp.{among_further}
 use Rattle.sled_core.proofs.Line.KeptCalls.{kept_further}
 use Rattle.sled_core.proofs.Line.Begins.{begins_current, begins_keeps, begins_same, begins_tickets}
 use Rattle.sled_core.proofs.Line.HeaderMarks.{begun_marked, marked_further, none_begun}
-use Rattle.sled_core.proofs.Line.LogReserves.{placeholder_fits, record_long, reserves_current, reserves_keeps, reserves_opens, reserves_others, reserves_position, reserves_same, target_here, target_next}
+use Rattle.sled_core.proofs.Line.LogReserves.{placeholder_fits, record_long, reserves_current, reserves_given, reserves_keeps, reserves_opens, reserves_others, reserves_position, reserves_same, target_here, target_next}
 use Rattle.sled_core.proofs.Line.LogSpans.{next_buffers, reserved_buffers, same_buffers}
 use Rattle.sled_core.proofs.Line.Reserves.{HasPlaceFor, ticket_reserved}
 use Rattle.sled_core.proofs.Line.Targets.{record_short}
@@ -279,6 +281,9 @@ module _ {D C : Type 0} {trace : D → Trace} {sum : List ℕ → ℕ} {old mid 
       let at = sym (ap (λ (q : Position). q.place) ready.target) in
       reserves_opens trace sum mid new more r line laid.rest laid.accountant fits ∙ (λ i. ready.tickets.opens i ++ at i ∷ [])
 
+  made_given : AreAmong (given_up_of new) (given_up_of old)
+  made_given = among_further (given_up_of new) (given_up_of mid) (given_up_of old) (reserves_given trace sum mid new more r line laid.rest laid.accountant fits) ready.tickets.given_up
+
   made_marked : BeginsMarked sum old new
   made_marked =
       let current = reserves_current trace sum mid new more r line laid.rest laid.accountant fits in
@@ -286,7 +291,7 @@ module _ {D C : Type 0} {trace : D → Trace} {sum : List ℕ → ℕ} {old mid 
 
   -- It stands behind all that the log had.
   pub made_behind : StandsBehind sum old new kept.page len
-  made_behind = record { position = made_position; reserved = made_end; opens = made_opens; waiting = made_seals.0; start = made_seals.1; marked = made_marked }
+  made_behind = record { position = made_position; reserved = made_end; opens = made_opens; given_up = made_given; waiting = made_seals.0; start = made_seals.1; marked = made_marked }
 
   -- The ticket is for its message, as the log has it.
   abbrev pub laid_message : Message

@@ -13,10 +13,11 @@ use Rattle.sled_core.specs.Begun.{SegmentParts, SegmentView, begin_of, segment_v
 use Rattle.sled_core.specs.declared.logger.Log.{Log}
 use Rattle.sled_core.specs.declared.reservation.Reservation.{Reservation}
 use Rattle.sled_core.specs.inside.Fits.{written_to, HoldsIn, HoldsLine, log_parts, parts_in}
-use Rattle.sled_core.specs.Fits.{AwaitsIn, KeepsAll, KeepsTickets, buffers_of, current_begin, current_of, device_of, fault_of, line_of, noted_in, machine_at, pins_of, segment_size_of, synced_end, waiting_of}
+use Rattle.sled_core.specs.Fits.{AwaitsIn, KeepsAll, KeepsTickets, buffers_of, current_begin, current_of, device_of, fault_of, given_up_of, line_of, noted_in, machine_at, pins_of, segment_size_of, synced_end, waiting_of}
 use Rattle.sled_core.specs.invariants.Fits.{Holds}
 use Rattle.sled_core.specs.inside.Begun.{line_end}
 use Rattle.sled_core.specs.inside.FreeSlots.{HasSlot, HasSlots, HaveOwn}
+use Rattle.sled_core.specs.GivenUp.{given_up_along}
 use Rattle.sled_core.specs.Keeps.{Preserves, SamePosition}
 use Rattle.sled_core.specs.Logged.{logged, in_log}
 use Rattle.sled_core.specs.OpenPlaces.{open_places_along}
@@ -30,6 +31,7 @@ use Rattle.sled_core.specs.Waiting.{as_sealed, at_last, closed_now, holds_any, l
 use Rattle.sled_core.proofs.Behind.Calls.{behind-sealed}
 use Rattle.sled_core.proofs.Behind.FitsCalls.{behind-fits-sealed}
 use Rattle.sled_core.proofs.Holds.FitsBatches.{batches_up}
+use Rattle.sled_core.proofs.Line.GivenUp.{among_same, given_sealed}
 use Rattle.sled_core.proofs.Line.KeptCalls.{goes_on_quietly}
 use Rattle.sled_core.proofs.Holds.RunningLemmas.{fits-moved}
 use Rattle.sled_core.proofs.Holds.WholeLemmas.{holds-sealed}
@@ -138,11 +140,12 @@ module _ {D C : Type 0} (trace : D → Trace) (sum : List ℕ → ℕ) (old new 
       let end = end_one w.parts.written_len w.parts.sealed (seal_at (length w.parts.bytes) (drop (sealed_count w.parts.sealed) w.parts.reserved)) in
       ap (λ (x : SegmentView). x.parts.site.place + begin_of x) sealed_current ∙ ap (λ n. w.parts.site.place + n) end
 
-  -- Tickets are for what they were for, and the same reservations are open,
+  -- Tickets are for what they were for, the same reservations are open, and the same messages were given up,
   pub sealed_tickets : KeepsTickets old new
   sealed_tickets = record {
     awaits = λ ticket m awaits. subst (λ (l : List SegmentView). AwaitsIn l ticket (in_log m)) (sym line) (awaits_sealed v vs ticket (in_log m) awaits);
     opens = ap open_places_along line ∙ places_sealed v vs;
+    given_up = among_same (given_up_of new) (given_up_of old) (ap given_up_along line ∙ given_sealed v vs);
   }
 
   -- and the log holds and fits what it did.

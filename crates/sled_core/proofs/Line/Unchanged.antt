@@ -6,14 +6,16 @@ use Rattle.sled_store.specs.declared.config.RunningConfig.{RunningConfig}
 use Rattle.sled_core.specs.Begun.{SegmentView, segment_view}
 use Rattle.sled_core.specs.declared.logger.Log.{Log}
 use Rattle.sled_core.specs.inside.Fits.{written_to}
-use Rattle.sled_core.specs.Fits.{AwaitsIn, IsUnchanged, KeepsAll, KeepsTickets, current_of, line_of, machine_at, noted_in, segment_size_of, synced_end}
+use Rattle.sled_core.specs.Fits.{AwaitsIn, IsUnchanged, KeepsAll, KeepsTickets, current_of, given_up_of, line_of, machine_at, noted_in, segment_size_of, synced_end}
 use Rattle.sled_core.specs.invariants.Fits.{Holds}
+use Rattle.sled_core.specs.GivenUp.{given_up_along}
 use Rattle.sled_core.specs.Keeps.{Preserves, SamePosition}
 use Rattle.sled_core.specs.OpenPlaces.{open_places_along}
 use Rattle.sled_core.specs.Positions.{position_in}
 use Rattle.sled_core.specs.invariants.Running.{Fits}
 use Rattle.sled_core.specs.inside.Turned.{ChangesLine}
 use Rattle.sled_core.specs.Waiting.{last_of}
+use Rattle.sled_core.proofs.Line.GivenUp.{among_same}
 use Rattle.sled_core.proofs.Line.KeptCalls.{goes_on_quietly}
 use Rattle.sled_core.proofs.Line.LineEnds.{kept_same, noted_quiet, noted_same}
 use Rattle.sled_core.proofs.Line.Moves.{fits_as, holds_as}
@@ -40,6 +42,7 @@ module _ {D C : Type 0} (old new : Log D C) (same : IsUnchanged old new) where
   unchanged_tickets = record {
     awaits = λ ticket m awaits. subst (λ (l : List SegmentView). AwaitsIn l ticket (in_log m)) (sym same.line) awaits;
     opens = ap open_places_along same.line;
+    given_up = among_same (given_up_of new) (given_up_of old) (ap given_up_along same.line);
   }
 
   pub unchanged_position : SamePosition old new

@@ -1,19 +1,20 @@
--- Each buffer of a log that nothing holds up is whole records, each with its sum, and so is the current one as it would be sealed.
-use Rattle.std.proofs.Common.{◌≡◌, ◌∙◌, ◌⊎◌, ◌+◌, ◌-◌, ◌/◌, ◌%◌, ◌≤◌, ◌<◌, ap, sym, refl, arith, subst, inl, inr, ℕ, ℤ, pos, suc, max, Bool, true, false, if◌then◌else◌, List, [], ◌∷◌, ◌++◌, length, length-append, length-take, length-drop, take, drop, None, Some}
+-- Each buffer of a log that nothing holds up is whole records, each with its sum, of which those that every reader passes over are of messages that were given up; and so is the current one as it would be sealed.
+use Rattle.std.proofs.Common.{◌≡◌, ◌∙◌, ◌⊎◌, ◌+◌, ◌-◌, ◌/◌, ◌%◌, ◌≤◌, ◌<◌, ap, sym, refl, arith, subst, inl, inr, ℕ, ℤ, pos, suc, max, Bool, true, false, if◌then◌else◌, List, [], ◌∷◌, ◌++◌, length, length-append, length-take, length-drop, map, take, drop, Option, None, Some, is_some}
 use Rattle.std.specs.Prelude.{◌<ℤ◌}
-use Rattle.std.specs.List.{All, slice_get}
+use Rattle.std.specs.List.{All, Contains, slice_get}
 use Rattle.std.proofs.lemmas.Bool.{cases_lt}
 use Rattle.std.proofs.lemmas.List.{append_assoc, append-nil, drop-drop, drop-take, take-append-drop, take-append-le, take-take}
-use Rattle.std.proofs.lemmas.List.Elements.{All-append, All-drop, All-head, All-cons, All-nil, All-tail, All-take}
+use Rattle.std.proofs.lemmas.List.Elements.{Contains-append_left, Contains-append_right, All-append, All-drop, All-head, All-cons, All-nil, All-tail, All-take}
 use Rattle.sled_codec.specs.declared.serialization.message.MessageKind.{MessageKind}
 use Rattle.sled_codec.specs.declared.serialization.message.MessageKind.TheVariants as kind
-use Rattle.sled_codec.specs.History.{History}
+use Rattle.sled_codec.specs.History.{History, Message}
 use Rattle.sled_codec.specs.Places.{part}
 use Rattle.sled_codec.specs.Record.{short_header, short_record}
 use Rattle.sled_store.specs.Device.{State, Trace, state_of}
-use Rattle.sled_core.specs.Begun.{SegmentView}
-use Rattle.sled_core.specs.inside.Buffers.{IsChain, Stands, StandsBy, text_as, text_in}
-use Rattle.sled_core.specs.Buffers.{body_in, first_open_in, none_open, open_state}
+use Rattle.sled_core.specs.Begun.{SegmentView, segment_view}
+use Rattle.sled_core.specs.inside.Buffers.{IsChain, SpellsBlob, Stands, StandsBy, text_as, text_in}
+use Rattle.sled_core.specs.Buffers.{body_in, first_open_in, item_as, message_in, none_open, open_state, pointer_as}
+use Rattle.sled_core.specs.Canceled.{IsBodyAt}
 use Rattle.sled_core.specs.invariants.Caps.{segment_rest}
 use Rattle.sled_core.specs.declared.iobuf.ReservationState.{ReservationState}
 use Rattle.sled_core.specs.declared.iobuf.ReservationState.TheVariants as state
@@ -23,23 +24,26 @@ use Rattle.sled_core.specs.declared.iobuf.SegmentPosition.{SegmentPosition}
 use Rattle.sled_core.specs.declared.logger.Log.{Log}
 use Rattle.sled_core.specs.invariants.Fits.{Holds}
 use Rattle.sled_core.specs.inside.Fits.{HoldsLine}
-use Rattle.sled_core.specs.Fits.{buffers_of, fault_of, line_of}
+use Rattle.sled_core.specs.Fits.{buffers_of, fault_of, given_up_of, line_of}
+use Rattle.sled_core.specs.GivenUp.{AreAmong, given_up_along, given_up_in}
 use Rattle.sled_core.specs.Logged.{logged}
 use Rattle.sled_core.specs.Positions.{is_short}
 use Rattle.sled_core.specs.inside.SealedBuffers.{AreSealed}
 use Rattle.sled_core.specs.SealedBuffers.{bytes_between}
 use Rattle.sled_core.specs.Waiting.{BufferAt, as_sealed, at_last, buffer_at, closed_now, holds_any, placed, sealed_now, turned_now, unwritten, unwritten_in, unwritten_of}
-use Rattle.sled_core.specs.WholeBuffers.{IsFilling, IsWholeBuffer, IsWholeText, RecordParts, records_text}
+use Rattle.sled_core.specs.WholeBuffers.{CanceledAreOf, IsFilling, IsOfOne, IsWholeBuffer, IsWholeText, RecordParts, records_text}
 use Rattle.sled_core.proofs.Line.Closes.{by_filled, filled_up, more_of}
 use Rattle.sled_core.proofs.Line.EndedTickets.{segment_chain}
 use Rattle.sled_core.proofs.Line.Ends.{with_part}
 use Rattle.sled_core.proofs.Holds.Facts.{IsSegment}
+use Rattle.sled_core.proofs.Line.GivenUp.{among_same, as_sealed_given, given_behind, given_first, given_front, given_in, given_rest}
 use Rattle.sled_core.proofs.Line.OpenSeen.{AreLaid, begun_rest, line_laid}
 use Rattle.sled_core.proofs.Line.Segments.{AreSegments, line_segments, nth_segment}
 use Rattle.sled_core.proofs.Line.Shows.{number_small}
 use Rattle.sled_core.proofs.Read.ScanLemmas.{aligned_number, aligned_offset}
 use Rattle.sled_core.proofs.Holds.Filled.{filled_stand}
 use Rattle.sled_core.proofs.Reserve.Ranges.{chain_grows}
+use Rattle.sled_core.proofs.Reserve.ReserveLemmas.{kind_valid}
 
 -- The bytes of a text up to an offset, from another one on, are a part of it and those behind that.
 between_parted : (bytes : List ℕ) (at n end : ℕ) → at + n ≤ end → bytes_between bytes at end ≡ part bytes at n ++ bytes_between bytes (at + n) end
@@ -57,7 +61,13 @@ between_none bytes at end le inside = none_long (bytes_between bytes at end) (om
     none_long [] is = refl
     none_long (x ∷ xs) is = absurd (omega (arith, is))
 
-module _ (sum : List ℕ → ℕ) (size number : ℕ) (bytes : List ℕ) where
+-- what is in a record for its message has that one for its body
+own_body : (blob : Option ℤ) (lid : ℕ) (body : List ℕ) → SpellsBlob blob body → IsBodyAt (pointer_as blob lid) (item_as blob body) body
+own_body None lid body spells = refl
+own_body (Some place) lid body spells = spells
+
+-- Records of a segment that lies there, where these messages were given up.
+module _ (sum : List ℕ → ℕ) (size number : ℕ) (site : SegmentPosition) (bytes : List ℕ) (messages : List Message) where
   abbrev Stand : Reserved → Type 0
   Stand = Stands sum size number bytes
 
@@ -66,12 +76,18 @@ module _ (sum : List ℕ → ℕ) (size number : ℕ) (bytes : List ℕ) where
     records : List RecordParts
     rest : List ℕ
     is : bytes_between bytes at end ≡ records_text sum number records ++ rest
+    canceled : CanceledAreOf sum number messages (site.place + at) records
     filled : IsFilling sum size number (at + length (records_text sum number records)) rest
 
-  -- A record stands in front of others.
-  one_more : (r : Reserved) (end : ℕ) (k : MessageKind) → r.from + r.len ≤ end → end ≤ length bytes → text_in bytes r ≡ short_record sum k r.page number (body_in bytes r) → HasRecords (r.from + r.len) end → HasRecords r.from end
-  one_more r end k within inside is more =
-      let one : RecordParts = record { kind = k; page = r.page; body = body_in bytes r } in
+  -- A record of a reservation with this kind.
+  abbrev record_as : Reserved → MessageKind → RecordParts
+  record_as r k = record { kind = k; page = r.page; body = body_in bytes r }
+
+  -- It stands in front of others.
+  one_more : (r : Reserved) (end : ℕ) (k : MessageKind) → r.from + r.len ≤ end → end ≤ length bytes → text_in bytes r ≡ short_record sum k r.page number (body_in bytes r)
+      → (k ≡ kind.Canceled → IsOfOne messages (site.place + r.from) (record_as r k)) → HasRecords (r.from + r.len) end → HasRecords r.from end
+  one_more r end k within inside is of_one more =
+      let one : RecordParts = record_as r k in
       let text : List ℕ = records_text sum number more.records in
       let long : length (short_record sum k r.page number (body_in bytes r)) ≡ r.len =
       ap length (sym is) ∙ (let n = length-take r.len (drop r.from bytes) in let m = length-drop r.from bytes in let all : length (text_in bytes r) ≡ r.len = omega (arith, n, m, within, inside) in all) in
@@ -82,6 +98,7 @@ module _ (sum : List ℕ → ℕ) (size number : ℕ) (bytes : List ℕ) where
         is = between_parted bytes r.from r.len end within
             ∙ (λ i. is i ++ more.is i)
             ∙ sym (append_assoc (short_record sum k r.page number (body_in bytes r)) text more.rest);
+        canceled = (of_one, subst (λ n. CanceledAreOf sum number messages n more.records) (let behind : site.place + (r.from + r.len) ≡ site.place + r.from + length (short_record sum k r.page number (body_in bytes r)) = omega (arith, long) in behind) more.canceled);
         filled = subst (λ n. IsFilling sum size number n more.rest)
             (let up : r.from + r.len + length text ≡ r.from + length (records_text sum number (one ∷ more.records)) = omega (arith, long, joined) in up) more.filled;
       }
@@ -96,26 +113,28 @@ module _ (sum : List ℕ → ℕ) (size number : ℕ) (bytes : List ℕ) where
         rest = text_in bytes r;
         is = between_parted bytes r.from r.len end within
             ∙ ap (λ (l : List ℕ). text_in bytes r ++ l) (between_none bytes (r.from + r.len) end (omega (arith, to_end, short)) inside) ∙ append-nil (text_in bytes r);
+        canceled = tt;
         filled = inr (omega (arith, long, to_end), is ∙ ap (segment_rest sum size number) here);
       }
 
   -- An entry that has ended.
   entry : (r : Reserved) (end : ℕ) → r.from + r.len ≤ end → end ≤ size → end ≤ length bytes → (s : ReservationState) → r.state ≡ s → open_state s ≡ false → StandsBy s sum size number bytes r
-      → HasRecords (r.from + r.len) end → HasRecords r.from end
-  entry r end within short inside state.Open is never stands more = absurd (let bad : true ≡ false = never in cc)
-  entry r end within short inside state.Completed is ended stands more =
-      one_more r end r.kind within inside (stands.text.is ∙ ap (text_as sum r.kind r.page number (body_in bytes r)) is) more
-  entry r end within short inside state.Canceled is ended stands more =
-      one_more r end kind.Canceled within inside (stands.text.is ∙ ap (text_as sum r.kind r.page number (body_in bytes r)) is) more
-  entry r end within short inside state.Manifest is ended stands more =
-      one_more r end r.kind within inside (stands.text.is ∙ ap (text_as sum r.kind r.page number (body_in bytes r)) is) more
-  entry r end within short inside state.Padding is ended stands more = filling r end stands.to_end stands.is within short inside
+      → (r.state ≡ state.Canceled → Contains messages (message_in site bytes r)) → HasRecords (r.from + r.len) end → HasRecords r.from end
+  entry r end within short inside state.Open is never stands given more = absurd (let bad : true ≡ false = never in cc)
+  entry r end within short inside state.Completed is ended stands given more =
+      one_more r end r.kind within inside (stands.text.is ∙ ap (text_as sum r.kind r.page number (body_in bytes r)) is) (λ bad. absurd ((kind_valid r.log_kind r.page (is_some r.blob) (length (body_in bytes r)) r.kind stands.text.known).1 bad)) more
+  entry r end within short inside state.Canceled is ended stands given more =
+      one_more r end kind.Canceled within inside (stands.text.is ∙ ap (text_as sum r.kind r.page number (body_in bytes r)) is)
+      (λ same. (message_in site bytes r, given is, refl, refl, own_body r.blob (site.slot + r.from) (body_in bytes r) stands.text.names)) more
+  entry r end within short inside state.Manifest is ended stands given more =
+      one_more r end r.kind within inside (stands.text.is ∙ ap (text_as sum r.kind r.page number (body_in bytes r)) is) (λ bad. absurd ((kind_valid r.log_kind r.page (is_some r.blob) (length (body_in bytes r)) r.kind stands.text.known).1 bad)) more
+  entry r end within short inside state.Padding is ended stands given more = filling r end stands.to_end stands.is within short inside
 
-  has_records : (at end : ℕ) (rs : List Reserved) → IsChain at rs end → All Stand rs → none_open rs ≡ true → end ≤ size → end ≤ length bytes → HasRecords at end
-  has_records at end [] chain stand ended short inside = record { records = []; rest = []; is = between_none bytes at end (let same : at ≡ end = chain in omega (arith, same)) inside; filled = inl refl }
-  has_records at end (r ∷ rs) chain stand ended short inside =
+  has_records : (at end : ℕ) (rs : List Reserved) → IsChain at rs end → All Stand rs → AreAmong (given_up_in site bytes rs) messages → none_open rs ≡ true → end ≤ size → end ≤ length bytes → HasRecords at end
+  has_records at end [] chain stand given ended short inside = record { records = []; rest = []; canceled = tt; is = between_none bytes at end (let same : at ≡ end = chain in omega (arith, same)) inside; filled = inl refl }
+  has_records at end (r ∷ rs) chain stand given ended short inside =
       subst (λ n. HasRecords n end) chain.0
-      (by (λ rest. has_records (r.from + r.len) end rs behind (All-tail Stand r rs stand) rest short inside) (open_state r.state) refl ended)
+      (by (λ rest. has_records (r.from + r.len) end rs behind (All-tail Stand r rs stand) (λ m there. given m (given_rest site bytes r rs m there)) rest short inside) (open_state r.state) refl ended)
     where
       up : r.from + r.len ≤ end
       up = let grows = chain_grows (at + r.len) end rs chain.1 in let place : r.from ≡ at = chain.0 in omega (arith, grows, place)
@@ -125,7 +144,7 @@ module _ (sum : List ℕ → ℕ) (size number : ℕ) (bytes : List ℕ) where
 
       by : (none_open rs ≡ true → HasRecords (r.from + r.len) end) → (o : Bool) → open_state r.state ≡ o → (if o then false else none_open rs) ≡ true → HasRecords r.from end
       by more true is bad = absurd (let never : false ≡ true = bad in cc)
-      by more false is rest = entry r end up short inside r.state refl is (All-head Stand r rs stand) (more rest)
+      by more false is rest = entry r end up short inside r.state refl is (All-head Stand r rs stand) (λ canceled. given (message_in site bytes r) (given_first site bytes r rs canceled)) (more rest)
 
 -- where none holds a buffer up, none of its reservations is open
 none_ahead : (rs : List Reserved) (base : ℕ) → placed base (first_open_in rs) ≡ None → none_open rs ≡ true
@@ -135,11 +154,11 @@ none_ahead (r ∷ rs) base is = by (none_ahead rs base) (open_state r.state) is 
   by more true bad = absurd (let never : Some (base + r.from) ≡ None = bad in cc)
   by more false rest = more rest
 
--- The buffers of a segment.
-module _ (sum : List ℕ → ℕ) (size : ℕ) where
+-- The buffers of a segment, where these messages were given up.
+module _ (sum : List ℕ → ℕ) (size : ℕ) (messages : List Message) where
   -- it is whole, unless it is held up
   abbrev pub WholeUnlessHeld : BufferAt → Type 0
-  WholeUnlessHeld b = b.held ≡ None → IsWholeBuffer sum size b
+  WholeUnlessHeld b = b.held ≡ None → IsWholeBuffer sum size messages b
 
   -- An offset of a segment lies behind its header; or it is where it begins, with the header, whose mark lies below it.
   abbrev BeginsBuffer : SegmentPosition → List ℕ → ℕ → Type 0
@@ -150,27 +169,31 @@ module _ (sum : List ℕ → ℕ) (size : ℕ) where
     number = site.place / size
 
     abbrev Text : ℕ → ℕ → Type 0
-    Text from end = IsWholeText sum size number (site.place + from) from (bytes_between bytes from end)
+    Text from end = IsWholeText sum size messages number (site.place + from) from (bytes_between bytes from end)
+
+    abbrev Records : ℕ → ℕ → Type 0
+    Records at end = HasRecords sum size number site bytes messages at end
 
     -- Behind the header records begin,
-    text_behind : (from end : ℕ) → 20 ≤ from → HasRecords sum size number bytes (max 20 from) end → Text from end
+    text_behind : (from end : ℕ) → 20 ≤ from → Records (max 20 from) end → Text from end
     text_behind from end behind has =
         let at : max 20 from ≡ from = omega (arith, behind) in
-        let here : HasRecords sum size number bytes from end = subst (λ n. HasRecords sum size number bytes n end) at has in
+        let here : Records from end = subst (λ n. Records n end) at has in
         record {
           head = [];
           records = here.records;
           rest = here.rest;
           is = here.is;
           headed = inr (behind, refl);
+          canceled = subst (λ n. CanceledAreOf sum number messages n here.records) (let none : site.place + from ≡ site.place + from + 0 = omega arith in none) here.canceled;
           filled = subst (λ n. IsFilling sum size number (n + length (records_text sum number here.records)) here.rest) (let none : from ≡ from + 0 = omega arith in none) here.filled;
         }
 
     -- and where it begins the header stands in front of them.
-    text_headed : (from end : ℕ) (mark : ℤ) → from ≡ 0 → mark <ℤ pos site.place → take 20 bytes ≡ short_header sum (pos site.place) mark → 20 ≤ end → HasRecords sum size number bytes (max 20 from) end → Text from end
+    text_headed : (from end : ℕ) (mark : ℤ) → from ≡ 0 → mark <ℤ pos site.place → take 20 bytes ≡ short_header sum (pos site.place) mark → 20 ≤ end → Records (max 20 from) end → Text from end
     text_headed from end mark none below header up has =
         let at : max 20 from ≡ from + 20 = omega (arith, none) in
-        let here : HasRecords sum size number bytes (from + 20) end = subst (λ n. HasRecords sum size number bytes n end) at has in
+        let here : Records (from + 20) end = subst (λ n. Records n end) at has in
         let place : site.place ≡ site.place + from = omega (arith, none) in
         let front : part bytes from 20 ≡ take 20 bytes = ap (λ n. take 20 (drop n bytes)) none in
         let text : List ℕ = records_text sum number here.records in
@@ -180,15 +203,17 @@ module _ (sum : List ℕ → ℕ) (size : ℕ) where
           rest = here.rest;
           is = between_parted bytes from 20 end (omega (arith, none, up)) ∙ (λ i. front i ++ here.is i) ∙ sym (append_assoc (take 20 bytes) text here.rest);
           headed = inl (none, mark, subst (λ n. mark <ℤ pos n) place below, header ∙ ap (λ n. short_header sum (pos n) mark) place);
+          canceled = subst (λ n. CanceledAreOf sum number messages n here.records)
+              (let behind : site.place + (from + 20) ≡ site.place + from + length (take 20 bytes) = omega (arith, length-take 20 bytes, begun) in behind) here.canceled;
           filled = subst (λ n. IsFilling sum size number (from + n + length text) here.rest)
               (let long : 20 ≡ length (take 20 bytes) = omega (arith, length-take 20 bytes, begun) in long) here.filled;
         }
 
-    one_whole : (from end : ℕ) (own : List Reserved) → from < size → max 20 from ≤ end → BeginsBuffer site bytes from → HasRecords sum size number bytes (max 20 from) end
-        → IsWholeBuffer sum size (buffer_at site bytes from end own)
+    one_whole : (from end : ℕ) (own : List Reserved) → from < size → max 20 from ≤ end → BeginsBuffer site bytes from → Records (max 20 from) end
+        → IsWholeBuffer sum size messages (buffer_at site bytes from end own)
     one_whole from end own low up begins has =
-        subst (λ n. IsWholeText sum size n (site.place + from) ((site.place + from) % size) (bytes_between bytes from end)) (sym (aligned_number site.place from size aligned low))
-        (subst (λ n. IsWholeText sum size number (site.place + from) n (bytes_between bytes from end)) (sym (aligned_offset site.place from size aligned low))
+        subst (λ n. IsWholeText sum size messages n (site.place + from) ((site.place + from) % size) (bytes_between bytes from end)) (sym (aligned_number site.place from size aligned low))
+        (subst (λ n. IsWholeText sum size messages number (site.place + from) n (bytes_between bytes from end)) (sym (aligned_offset site.place from size aligned low))
         (elim begins [
           | inl behind ↦ text_behind from end behind has
           | inr first ↦ text_headed from end first.1 first.0 first.2 first.3 (omega (arith, up)) has
@@ -196,10 +221,10 @@ module _ (sum : List ℕ → ℕ) (size : ℕ) where
 
     -- All of them.
     all_whole : (from end : ℕ) (bs : List Sealed) (rs : List Reserved) → AreSealed from rs bs → IsChain (max 20 from) rs end → end ≤ size → end ≤ length bytes → All (Stands sum size number bytes) rs
-        → BeginsBuffer site bytes from → All WholeUnlessHeld (unwritten_in site bytes from bs rs)
-    all_whole from end [] rs are chain short inside stand begins = All-nil WholeUnlessHeld
-    all_whole from end (b ∷ bs) rs are chain short inside stand begins =
-        by_test (all_whole b.end end bs later are.1 behind short inside (All-drop (Stands sum size number bytes) b.count rs stand) (inl (omega (arith, up)))) b.is_written
+        → AreAmong (given_up_in site bytes rs) messages → BeginsBuffer site bytes from → All WholeUnlessHeld (unwritten_in site bytes from bs rs)
+    all_whole from end [] rs are chain short inside stand given begins = All-nil WholeUnlessHeld
+    all_whole from end (b ∷ bs) rs are chain short inside stand given begins =
+        by_test (all_whole b.end end bs later are.1 behind short inside (All-drop (Stands sum size number bytes) b.count rs stand) (λ m there. given m (given_behind site bytes b.count rs m there)) (inl (omega (arith, up)))) b.is_written
       where
         own : List Reserved
         own = take b.count rs
@@ -219,7 +244,7 @@ module _ (sum : List ℕ → ℕ) (size : ℕ) where
         here : WholeUnlessHeld (buffer_at site bytes from b.end own)
         here free = let rises = are.0.rises in
             one_whole from b.end own (omega (arith, rises, high, short)) up begins
-            (has_records sum size number bytes (max 20 from) b.end own are.0.chain (All-take (Stands sum size number bytes) b.count rs stand) (none_ahead own site.place free) (omega (arith, high, short)) (omega (arith, high, inside)))
+            (has_records sum size number site bytes messages (max 20 from) b.end own are.0.chain (All-take (Stands sum size number bytes) b.count rs stand) (λ m there. given m (given_front site bytes b.count rs m there)) (none_ahead own site.place free) (omega (arith, high, short)) (omega (arith, high, inside)))
 
         by_test : All WholeUnlessHeld (unwritten_in site bytes b.end bs later) → (o : Bool)
             → All WholeUnlessHeld (if o then unwritten_in site bytes b.end bs later else buffer_at site bytes from b.end own ∷ unwritten_in site bytes b.end bs later)
@@ -274,14 +299,14 @@ module _ (sum : List ℕ → ℕ) (size : ℕ) where
   line_told place (v ∷ []) are told = (told_as_sealed place v are.0 told.0, tt)
   line_told place (v ∷ w ∷ ws) are told = (told.0, line_told (place + size) (w ∷ ws) are.1 told.1)
 
-  along : (place : ℕ) (vs : List SegmentView) → AreLaid size place vs → AreTold vs → All WholeUnlessHeld (unwritten vs)
-  along place [] are told = All-nil WholeUnlessHeld
-  along place (v ∷ vs) are told =
+  along : (place : ℕ) (vs : List SegmentView) → AreLaid size place vs → AreTold vs → AreAmong (given_up_along vs) messages → All WholeUnlessHeld (unwritten vs)
+  along place [] are told given = All-nil WholeUnlessHeld
+  along place (v ∷ vs) are told given =
       let is = are.0 in
       let its = told.0 in
       All-append WholeUnlessHeld (unwritten_of v.parts) (unwritten vs)
-      (all_whole v.parts.site v.parts.bytes its.aligned its.begun v.parts.written_len is.end v.parts.sealed v.parts.reserved is.are is.chain is.inside is.held its.stand its.begins)
-      (along (place + size) vs are.1 told.1)
+      (all_whole v.parts.site v.parts.bytes its.aligned its.begun v.parts.written_len is.end v.parts.sealed v.parts.reserved is.are is.chain is.inside is.held its.stand (λ m there. given m (Contains-append_left (given_in v) (given_up_along vs) m there)) its.begins)
+      (along (place + size) vs are.1 told.1 (λ m there. given m (Contains-append_right (given_in v) (given_up_along vs) m there)))
 
 module _ {D C : Type 0} (trace : D → Trace) (sum : List ℕ → ℕ) (log : Log D C) (H : History) where
   abbrev size : ℕ
@@ -290,7 +315,7 @@ module _ {D C : Type 0} (trace : D → Trace) (sum : List ℕ → ℕ) (log : Lo
   abbrev device : State
   device = state_of (trace log.config.device)
 
-  segment_told : HoldsLine sum size device log.fault.kept (line_of log) (logged H) → log.fault.kept ≡ None → (n : ℕ) (v : SegmentView) → slice_get (line_of log) n ≡ Some v → IsTold sum size v
+  segment_told : HoldsLine sum size device log.fault.kept (line_of log) (logged H) → log.fault.kept ≡ None → (n : ℕ) (v : SegmentView) → slice_get (line_of log) n ≡ Some v → IsTold sum size (given_up_of log) v
   segment_told holds none n v there =
       let is : IsSegment size v.parts.site.place v = nth_segment size log.segments.first.site.place (line_of log) (line_segments log) n v there in
       with_part sum size device log.fault.kept (line_of log) n v (logged H) holds there (λ stays own segment.
@@ -309,10 +334,13 @@ module _ {D C : Type 0} (trace : D → Trace) (sum : List ℕ → ℕ) (log : Lo
       })
 
   -- Each buffer of a log that holds a history and keeps no failure is whole, unless it is held up.
-  pub buffers_whole : Holds trace sum log H → fault_of log ≡ None → All (WholeUnlessHeld sum size) (buffers_of sum log)
+  pub buffers_whole : Holds trace sum log H → fault_of log ≡ None → All (WholeUnlessHeld sum size (given_up_of log)) (buffers_of sum log)
   unfolding Holds
   buffers_whole holds none =
       let line : List SegmentView = line_of log in
       let are : AreSegments size log.segments.first.site.place line = line_segments log in
-      along sum size log.segments.first.site.place (at_last (as_sealed sum size) line) (line_laid sum size log.segments.first.site.place line are)
-      (line_told sum size log.segments.first.site.place line are (each_told sum size line (λ n v there. segment_told holds.holds none n v there)))
+      let given : List Message = given_up_of log in
+      along sum size given log.segments.first.site.place (at_last (as_sealed sum size) line) (line_laid sum size log.segments.first.site.place line are)
+      (line_told sum size given log.segments.first.site.place line are (each_told sum size given line (λ n v there. segment_told holds.holds none n v there)))
+      (among_same (given_up_along (at_last (as_sealed sum size) line)) given
+      (as_sealed_given sum size log.segments.first.site.place (segment_view log.segments.first) (map segment_view log.segments.behind.items) are))

@@ -11,9 +11,11 @@ use Rattle.sled_core.specs.declared.reservation.Reservation.{Reservation}
 use Rattle.sled_core.specs.Fits.{AwaitsIn}
 use Rattle.sled_core.specs.OpenPlaces.{open_places_in}
 use Rattle.sled_core.specs.inside.SealedBuffers.{AreSealed, is_ready, run_count, written_at}
+use Rattle.sled_core.specs.GivenUp.{AreAmong}
 use Rattle.sled_core.specs.Tickets.{IsFor, index_of}
 use Rattle.sled_core.specs.inside.Turned.{written_now}
 use Rattle.sled_core.proofs.Holds.Nth.{set_get, set_other}
+use Rattle.sled_core.proofs.Line.GivenUp.{given_behind, given_in}
 use Rattle.sled_core.proofs.Line.OpenManifests.{manifests_behind, manifests_of}
 use Rattle.sled_core.proofs.Line.OpenPlaces.{none_placed, places_of, places_parted}
 use Rattle.sled_core.proofs.Line.Segments.{run_written}
@@ -69,6 +71,10 @@ module _ (line : List SegmentView) (n k : ℕ) (v : SegmentView) (b : Sealed) (a
       message = a.message;
     }
   ]
+
+  -- no other messages were given up,
+  pub given_written : AreAmong (given_in (written_now k v)) (given_in v)
+  given_written = given_behind v.parts.site v.parts.bytes gone entries
 
   -- the same reservations are open,
   pub places_written : places_of (written_now k v) ≡ places_of v

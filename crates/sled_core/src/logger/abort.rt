@@ -8,7 +8,7 @@ ghost use Rattle.sled_core.specs.Canceled.{WritesCanceled};
 ghost use Rattle.sled_core.specs.Causes.{FaultAnswers};
 ghost use Rattle.sled_core.specs.Fits.{Awaits, IsOpen, KeepsAll, KeepsTickets, device_of, fault_of};
 ghost use Rattle.sled_core.specs.invariants.Fits.{Holds};
-ghost use Rattle.sled_core.specs.Endings.{EndsTicket};
+ghost use Rattle.sled_core.specs.Endings.{EndsTicket, GivesUp};
 ghost use Rattle.sled_core.specs.Keeps.{KeepsSeen, Preserves};
 ghost use Rattle.sled_core.specs.OwnBlobs.{PreservesWithout, RemovedAnswers, RemovesBlob};
 ghost use Rattle.sled_core.specs.Tickets.{IsPlaceOf, own_blob};
@@ -40,6 +40,7 @@ impl<D: Device, C: Checksum> Log<D, C> {
         ensures canceled { (H : History) (m : Message) → Holds D.trace C.sum_of self.old H → Awaits self.old ticket m
             → OnOk result (WritesCanceled C.sum_of self.new m) }
         ensures ends { EndsTicket D.trace C.sum_of result ticket self.old self.new }
+        ensures given_up { GivesUp ticket self.old self.new }
         ensures answers { RemovedAnswers result (own_blob ticket) (fault_of self.old) (fault_of self.new)
             (D.faults (device_of self.old)) (D.faults (device_of self.new)) }
         ensures device { RemovesBlob D.trace result (own_blob ticket) self.old self.new }
@@ -92,6 +93,7 @@ impl<D: Device, C: Checksum> Log<D, C> {
         ensures canceled { (H : History) (m : Message) → Holds D.trace C.sum_of self.old H → Awaits self.old ticket m
             → OnOk result (WritesCanceled C.sum_of self.new m) }
         ensures ends { EndsTicket D.trace C.sum_of result ticket self.old self.new }
+        ensures given_up { GivesUp ticket self.old self.new }
         ensures answers { FaultAnswers result (fault_of self.old) }
         ensures keeps { Preserves D.trace C.sum_of self.old self.new }
         ensures same { KeepsAll self.old self.new }

@@ -7,8 +7,9 @@ ghost use Rattle.sled_codec.specs.History.{Batch, Batched, History, Message, Ste
 ghost use Rattle.sled_core.specs.Batches.{EndsBatch, LiesInNoFilling, MayEndAt, NotesBatchOf, batch_for};
 ghost use Rattle.sled_core.specs.Causes.{FaultAnswers};
 ghost use Rattle.sled_core.specs.invariants.Fits.{Holds};
-ghost use Rattle.sled_core.specs.Fits.{IsOpen, fault_of, line_of, noted_in, reserved_end, segment_size_of};
-ghost use Rattle.sled_core.specs.Endings.{EndsTicket};
+ghost use Rattle.sled_core.specs.Fits.{IsOpen, fault_of, given_up_of, line_of, noted_in, reserved_end, segment_size_of};
+ghost use Rattle.sled_core.specs.Endings.{EndsTicket, GivesUp};
+ghost use Rattle.sled_core.specs.GivenUp.{AreAmong};
 ghost use Rattle.sled_core.specs.Keeps.{GoesOn, Preserves};
 ghost use Rattle.sled_core.specs.invariants.Running.{Fits};
 ghost use Rattle.sled_core.specs.Tickets.{IsPlaceOf, is_manifest_of, place_of};
@@ -42,6 +43,8 @@ impl<D: Device, C: Checksum> Log<D, C> {
             → OnOk result ((H' : History) × EndsBatch H ticket peg H' × Fits D.trace C.sum_of self.new H' A f U) }
         ensures canceled { peg ≡ place_of ticket → Preserves D.trace C.sum_of self.old self.new }
         ensures ends { EndsTicket D.trace C.sum_of result ticket self.old self.new }
+        ensures given_up { peg ≡ place_of ticket → GivesUp ticket self.old self.new }
+        ensures ended { place_of ticket <ℤ peg → AreAmong (given_up_of self.new) (given_up_of self.old) }
         ensures answers { FaultAnswers result (fault_of self.old) }
         ensures goes_on { GoesOn D.trace C.sum_of self.old self.new }
         ensures same { OnOk result (NotesBatchOf ticket peg self.old self.new) }
@@ -96,6 +99,7 @@ impl<D: Device, C: Checksum> Log<D, C> {
         ensures fits { (H : History) (A f : ℕ) (U : List Message) → Fits D.trace C.sum_of self.old H A f U
             → OnOk result ((H' : History) × Step H (Batched (batch_for ticket (pos peg))) H' × Fits D.trace C.sum_of self.new H' A f U) }
         ensures ends { EndsTicket D.trace C.sum_of result ticket self.old self.new }
+        ensures given_up { AreAmong (given_up_of self.new) (given_up_of self.old) }
         ensures answers { FaultAnswers result (fault_of self.old) }
         ensures goes_on { GoesOn D.trace C.sum_of self.old self.new }
         ensures same { OnOk result (NotesBatchOf ticket (pos peg) self.old self.new) }

@@ -16,12 +16,14 @@ use Rattle.sled_codec.specs.History.{Batch, Message, History, Completed, Step, C
 use Rattle.sled_codec.specs.PageTables.{IsTable, entry_of}
 use Rattle.sled_codec.specs.Snapshots.{Entry, Page, page_of}
 use Rattle.sled_store.specs.Script.{Performs, after_all}
-use Rattle.sled_store.proofs.Segments.Elements.{all_from_in}
+use Rattle.sled_store.proofs.Segments.Elements.{all_from_in, in_cases, in_first, in_rest}
 use Rattle.sled_core.specs.declared.logger.Log.{Log}
 use Rattle.sled_core.specs.declared.reservation.Reservation.{Reservation}
 use Rattle.sled_core.specs.Causes.{FaultAnswers}
-use Rattle.sled_core.specs.Fits.{Awaits, KeepsBuffers, KeepsTickets, config_of, device_of, fault_of, noted_in, open_places, pins_of, position_of, reserved_end, segment_size_of}
+use Rattle.sled_core.specs.Fits.{Awaits, KeepsBuffers, KeepsTickets, config_of, device_of, fault_of, given_up_of, noted_in, open_places, pins_of, position_of, reserved_end, segment_size_of}
+use Rattle.sled_core.specs.GivenUp.{AreAmong}
 use Rattle.sled_core.specs.Keeps.{KeepsSeen, SamePosition}
+use Rattle.sled_core.specs.Logged.{in_log}
 use Rattle.sled_core.specs.OpenPlaces.{TakesOut}
 use Rattle.sled_core.specs.OwnBlobs.{AreBeside, IsBeside, PreservesWithout, RemovedAnswers, RemovesBlob, removing}
 use Rattle.sled_core.specs.Manifests.{is_manifest, manifest_page}
@@ -105,6 +107,10 @@ pub record GivesUp {T D C : Type 0} (view : D → DeviceView) (sum : List ℕ �
   pub position : SamePosition old new
   pub err : OnErr result (KeepsTickets old new × (IsSome (fault_of old) → new ≡ old))
 
+-- What is among some and one more is among others and that one, where those are among these.
+one_more : (m : Message) (these those all : List Message) → AreAmong these (m ∷ those) → AreAmong those all → AreAmong these (m ∷ all)
+one_more m these those all first second = λ x there. ⊎_elim (λ is. subst (Contains (m ∷ all)) is (in_first m all)) (λ later. in_rest m x all (second x later)) (in_cases m x those (first x there))
+
 -- Where it fails the log keeps that failure.
 failure_kept : (e : IoError) (blob : Option ℤ) (old new : Option IoError) (before after : ℕ) → RemovedAnswers {T = Unit {0}} (Err (error.Io e)) blob old new before after → new ≡ Some e
 failure_kept e blob old new before after (inl kept) = kept.1
@@ -182,7 +188,11 @@ module _ {D C : Type 0} (view : D → DeviceView) (sum : List ℕ → ℕ) (old 
 
     -- what is kept in mind then
     abbrev pub left : History → Unstored
-    left H = record { history = H; acknowledged = k.acknowledged; floor = k.floor; tickets = set k.tickets n None }
+    left H = record { history = H; acknowledged = k.acknowledged; floor = k.floor; tickets = set k.tickets n None; given_up = k.given_up }
+
+    -- and where these were given up
+    abbrev pub left_with : History → List Message → Unstored
+    left_with H given = record { history = H; acknowledged = k.acknowledged; floor = k.floor; tickets = set k.tickets n None; given_up = given }
 
     module _ (log : Log D C) (pages : Vec PageState Global) where
       abbrev pub now : Opened D C
@@ -211,6 +221,7 @@ module _ {D C : Type 0} (view : D → DeviceView) (sum : List ℕ → ℕ) (old 
             tickets = spent_tickets (traces view) sum old now k.history k.history k.tickets n m there at.tickets takes.tickets busy batch position.reserved
                 (λ t x awaits apart. kept.awaits t.reservation x awaits) (λ j x apart open_yet none. absurd (failed none)) (λ x ne may. may)
                 (λ x of ne begun. begun_still noted x begun) (λ none. absurd (failed none));
+            given_up = λ x given. at.given_up x (kept.given_up x given);
             ends = subst (λ e. All (λ x. x.place + x.size ≤ e) k.history.messages) (sym position.reserved) at.ends;
           }
 
@@ -218,17 +229,17 @@ module _ {D C : Type 0} (view : D → DeviceView) (sum : List ℕ → ℕ) (old 
       module _ (is : log ≡ old.log) (pages_are : map page_of pages.items ≡ map page_of old.pages.items) (e : IoError) (fault : fault_of old.log ≡ Some e) where
         pub failed_open : IsOpenAt (traces view) sum now (left k.history)
         failed_open = kept_open e (ap fault_of is ∙ fault)
-            (record { awaits = λ t x awaits. subst (λ (y : Log D C). Awaits y t x) (sym is) awaits; opens = ap open_places is }) (ap noted_in is)
+            (record { awaits = λ t x awaits. subst (λ (y : Log D C). Awaits y t x) (sym is) awaits; opens = ap open_places is; given_up = λ x given. subst (λ (y : Log D C). Contains (given_up_of y) x) is given }) (ap noted_in is)
             (record { position = ap position_of is; reserved = ap reserved_end is; pins = ap pins_of is; size = ap segment_size_of is }) pages_are
             (subst (λ (x : Log D C). Fits (traces view) sum x k.history k.acknowledged k.floor at.unmarked) (sym is) at.fits)
 
-        pub failed_leads : stands view (Open now) (left k.history) ≡ with_log (stands view (Open old) k) (view (config_of log).device) (Some (spent (seen old k.tickets) n (opens (seen old k.tickets)) (length old.pages.items)))
+        pub failed_leads : stands view (Open now) (left k.history) ≡ with_log (stands view (Open old) k) (view (config_of log).device) (Some (spent (seen old k.tickets k.given_up) n (opens (seen old k.tickets k.given_up)) (length old.pages.items)))
         failed_leads i = record {
           device = view (config_of log).device;
           history = k.history;
           acknowledged = k.acknowledged;
           floor = k.floor;
-          log = Some (seen_log (is i) (as_many pages_are i) (set k.tickets n None));
+          log = Some (seen_log (is i) (as_many pages_are i) (set k.tickets n None) k.given_up);
         }
 
       -- The blob that its reservation made is that of its message.
@@ -270,6 +281,7 @@ module _ {D C : Type 0} (view : D → DeviceView) (sum : List ℕ → ℕ) (old 
                     fault = fault i;
                     outstanding = did.err.0.opens i;
                     tickets = set k.tickets n None;
+                    given_up = k.given_up;
                   });
                 };
               },
@@ -298,10 +310,10 @@ module _ {D C : Type 0} (view : D → DeviceView) (sum : List ℕ → ℕ) (old 
         pub outstanding : open_places log ≡ places_without m.place (open_places old.log)
         outstanding = taken_out m.place (open_places old.log) (open_places log) (subst AreRising (sym (at.tickets.are_all fault)) at.tickets.rising) opens_left
 
-        pub ended_open : (H' : History) (U : List Message) → IsMade H' → Fits (traces view) sum log H' k.acknowledged k.floor U → IsTable (map page_of pages.items) H' top
+        pub ended_open : (H' : History) (U given : List Message) → AreAmong (given_up_of log) given → IsMade H' → Fits (traces view) sum log H' k.acknowledged k.floor U → IsTable (map page_of pages.items) H' top
             → ((x : Message) → (m.page ≡ x.page → ⊥) → MayJoin k.history x → MayJoin H' x) → ((x : Message) → x.page ≡ manifest_page → (m.page ≡ x.page → ⊥) → BeginsBatch old.log x → BeginsBatch log x)
-            → All (λ x. x.place + x.size ≤ reserved_end old.log) H'.messages → IsOpenAt (traces view) sum now (left H')
-        ended_open H' U made fits table joins begun ends = record {
+            → All (λ x. x.place + x.size ≤ reserved_end old.log) H'.messages → IsOpenAt (traces view) sum now (left_with H' given)
+        ended_open H' U given among made fits table joins begun ends = record {
           made = made;
           unmarked = U;
           fits = fits;
@@ -311,6 +323,7 @@ module _ {D C : Type 0} (view : D → DeviceView) (sum : List ℕ → ℕ) (old 
           tickets = spent_tickets (traces view) sum old now k.history H' k.tickets n m there at.tickets takes.tickets busy batch position.reserved
               (λ t x awaits apart. others t.reservation x awaits (other_place t.reservation x awaits apart)) safe joins begun
               (λ none. outstanding ∙ ap (places_without m.place) (at.tickets.are_all fault) ∙ sym (spent_places k.tickets n m there at.tickets.rising));
+          given_up = among;
           ends = subst (λ e. All (λ x. x.place + x.size ≤ e) H'.messages) (sym position.reserved) ends;
         }
 
@@ -319,8 +332,9 @@ module _ {D C : Type 0} (view : D → DeviceView) (sum : List ℕ → ℕ) (old 
           (others : (t : Reservation) (x : Message) → Awaits old.log t x → place_of t ≢ place_of ticket.reservation → Awaits log t x)
           (safe : (j : ℕ) (x : Message) → (x.place ≡ m.place → ⊥) → IsTicketFor (traces view) sum old k.history j x → IsSafe (traces view) sum log x)
           (opens_left : TakesOut m.place (open_places old.log) (open_places log)) where
-        ended_view : (count : ℕ) → length pages.items ≡ count → seen now (set k.tickets n None) ≡ spent (seen old k.tickets) n (places_without m.place (opens (seen old k.tickets))) count
-        ended_view count is i = record {
+        ended_view : (count : ℕ) (given : List Message) → length pages.items ≡ count
+            → seen now (set k.tickets n None) given ≡ record (spent (seen old k.tickets k.given_up) n (places_without m.place (opens (seen old k.tickets k.given_up))) count) { given_up = given }
+        ended_view count given is i = record {
           position = position.position i;
           synced = same.synced i;
           noted = same.noted i;
@@ -331,16 +345,18 @@ module _ {D C : Type 0} (view : D → DeviceView) (sum : List ℕ → ℕ) (old 
           fault = kept i;
           outstanding = outstanding same.pins position fault others safe opens_left i;
           tickets = set k.tickets n None;
+          given_up = given;
         }
 
         -- Its message is given up.
         pub aborts : (place : ℤ) (pointer : DiskPtr) → IsAnswerFor m place pointer → map page_of pages.items ≡ map page_of old.pages.items
-            → GivesUp {T = ℤ × DiskPtr} view sum (Ok (place, pointer)) (own_blob ticket.reservation) old.log log → Does view sum (Open old) (command.Abort n) (Open now, reply.Done place pointer) k
-        aborts place pointer answer pages_are did =
-            let seen_is = ended_view (length old.pages.items) (as_many pages_are) in
+            → GivesUp {T = ℤ × DiskPtr} view sum (Ok (place, pointer)) (own_blob ticket.reservation) old.log log → AreAmong (given_up_of log) (in_log m ∷ given_up_of old.log) → Does view sum (Open old) (command.Abort n) (Open now, reply.Done place pointer) k
+        aborts place pointer answer pages_are did gives =
+            let given : List Message = in_log m ∷ k.given_up in
+            let seen_is = ended_view (length old.pages.items) given (as_many pages_are) in
             record {
               not_refused = refl;
-              next = left k.history;
+              next = left_with k.history given;
               step = (
                 removes_own (reply.Done place pointer) (fault_of old.log) (view (config_of old.log).device) (view (config_of log).device)
                     (removal_done (own_blob ticket.reservation) (fault_of old.log) (view (config_of old.log).device) (view (config_of log).device) place pointer
@@ -353,16 +369,16 @@ module _ {D C : Type 0} (view : D → DeviceView) (sum : List ℕ → ℕ) (old 
                   leads = λ i. record { device = view (config_of log).device; history = k.history; acknowledged = k.acknowledged; floor = k.floor; log = Some (seen_is i) };
                 },
               );
-              at = λ own. ended_open same.pins position fault others safe opens_left k.history at.unmarked at.made (did.keeps.fits k.history k.acknowledged k.floor at.unmarked at.fits beside_history)
+              at = λ own. ended_open same.pins position fault others safe opens_left k.history at.unmarked given (one_more (in_log m) (given_up_of log) (given_up_of old.log) k.given_up gives at.given_up) at.made (did.keeps.fits k.history k.acknowledged k.floor at.unmarked at.fits beside_history)
                   (subst (λ (ps : List Page). IsTable ps k.history top) (sym pages_are) at.table) (λ x ne may. may) (λ x of ne begun. begun_still same.noted x begun) at.ends;
               crash = λ own. did.keeps.crash k.history k.acknowledged k.floor at.unmarked at.fits beside_history;
             }
 
         -- It comes to the history.
-        pub completes : config_of log ≡ config_of old.log → m.page ≢ manifest_page → (place : ℤ) (pointer : DiskPtr) → IsAnswerFor m place pointer → (H' : History) → Step k.history (Completed m) H'
+        pub completes : config_of log ≡ config_of old.log → AreAmong (given_up_of log) (given_up_of old.log) → m.page ≢ manifest_page → (place : ℤ) (pointer : DiskPtr) → IsAnswerFor m place pointer → (H' : History) → Step k.history (Completed m) H'
             → Fits (traces view) sum log H' k.acknowledged k.floor (m ∷ at.unmarked) → (e : Entry) → e ≡ entry_of m
             → map page_of pages.items ≡ applied_to (map page_of old.pages.items) ticket.kind ticket.page e → Does view sum (Open old) (command.Complete n) (Open now, reply.Done place pointer) k
-        completes config changes place pointer answer H' step fits e e_is applied =
+        completes config among changes place pointer answer H' step fits e e_is applied =
             let known : List Page = map page_of old.pages.items in
             let entry : map page_of pages.items ≡ applied_to known m.kind m.page (entry_of m) = applied ∙ (λ i. applied_to known (of_kind i) (of_page i) (e_is i)) in
             let may : MayJoin k.history m = had.joins changes in
@@ -374,7 +390,7 @@ module _ {D C : Type 0} (view : D → DeviceView) (sum : List ℕ → ℕ) (old 
             let begun : length pages.items ≡ (if m.page == length old.pages.items then length old.pages.items + 1 else length old.pages.items) =
             sym (length-map pages.items page_of) ∙ ap length entry ∙ applied_length known m.kind m.page (entry_of m) may.changes linked
             ∙ ap (λ j. if m.page == j then j + 1 else j) count in
-            let seen_is = ended_view (if m.page == length old.pages.items then length old.pages.items + 1 else length old.pages.items) begun in
+            let seen_is = ended_view (if m.page == length old.pages.items then length old.pages.items + 1 else length old.pages.items) k.given_up begun in
             record {
               not_refused = refl;
               next = left H';
@@ -390,10 +406,10 @@ module _ {D C : Type 0} (view : D → DeviceView) (sum : List ℕ → ℕ) (old 
                   leads = λ i. record { device = view (config_of log).device; history = H'; acknowledged = k.acknowledged; floor = k.floor; log = Some (seen_is i) };
                 },
               );
-              at = λ own. ended_open same.pins position fault others safe opens_left H' (m ∷ at.unmarked) made fits table (λ x ne next. join_still k.history H' m x may step ne next) (λ x of ne begun. begun_still same.noted x begun)
-                  (all_from_in (λ x. x.place + x.size ≤ reserved_end old.log) H'.messages (λ x among. ⊎_elim
+              at = λ own. ended_open same.pins position fault others safe opens_left H' (m ∷ at.unmarked) k.given_up (λ x given. at.given_up x (among x given)) made fits table (λ x ne next. join_still k.history H' m x may step ne next) (λ x of ne begun. begun_still same.noted x begun)
+                  (all_from_in (λ x. x.place + x.size ≤ reserved_end old.log) H'.messages (λ x there_now. ⊎_elim
                   (λ is. subst (λ (z : Message). z.place + z.size ≤ reserved_end old.log) is had.ends)
-                  (λ was. All-contains (λ z. z.place + z.size ≤ reserved_end old.log) k.history.messages x at.ends was) (came k.history H' m step x among)));
+                  (λ was. All-contains (λ z. z.place + z.size ≤ reserved_end old.log) k.history.messages x at.ends was) (came k.history H' m step x there_now)));
               crash = λ own. untouched (traces view) sum old k at (traces view (device_of log)) (ap (λ c. traces view c.device) config);
             }
 
@@ -434,6 +450,7 @@ module _ {D C : Type 0} (view : D → DeviceView) (sum : List ℕ → ℕ) (old 
     pinned = subst (λ (x : Log D C). 0 < pins_of x) (sym kept.log) at.pinned;
     table = subst (λ (ps : List Page). IsTable ps k.history top) (sym kept.pages) at.table;
     tickets = kept_tickets at.tickets;
+    given_up = subst (λ (x : Log D C). AreAmong (given_up_of x) k.given_up) (sym kept.log) at.given_up;
     ends = subst (λ (x : Log D C). All (λ y. y.place + y.size ≤ reserved_end x) k.history.messages) (sym kept.log) at.ends;
   }
 
@@ -446,7 +463,7 @@ module _ {D C : Type 0} (view : D → DeviceView) (sum : List ℕ → ℕ) (old 
     history = k.history;
     acknowledged = k.acknowledged;
     floor = k.floor;
-    log = Some (seen_log (kept.log i) (room_begun i) k.tickets);
+    log = Some (seen_log (kept.log i) (room_begun i) k.tickets k.given_up);
   }
 
   -- so what a completion comes to then it comes to,

@@ -35,7 +35,7 @@ use Rattle.sled_log.specs.RunStates.{DeviceView, HasAll, LogView, RunState, body
 use Rattle.sled_log.specs.Runs.{CrashStep, HaltStep, IsOwn, IsStep, Runs, StepBy, StopStep, told}
 use Rattle.sled_log.specs.RunPhases.{IsAt, SomeStands, StandsAt, StandsAtPhase, Unstored, seen, stands, traces}
 use Rattle.sled_log.specs.WriteSteps.{FailsTo, FlushStep, HasWrittenTo, KeepsFailing, StableStep, WriteStep, flushed, left_from, stable_from, target_by}
-use Rattle.sled_log.specs.TicketSteps.{AbortStep, CompleteStep, EndStep, HasReserved, RefusedStep, ReserveStep, RewriteStep, batch_of, blank_manifest, keeping, noting, spent}
+use Rattle.sled_log.specs.TicketSteps.{AbortStep, CompleteStep, EndStep, HasReserved, RefusedStep, ReserveStep, RewriteStep, batch_of, blank_manifest, giving_up, keeping, noting, spent}
 use Rattle.sled_log.proofs.Sessions.Reading.{sized}
 use Rattle.sled_log.proofs.Sessions.RunLemmas.{start_cause_of}
 
@@ -53,7 +53,7 @@ module _ {D C : Type 0} (view : D → DeviceView) (sum : List ℕ → ℕ) where
   known_in : (p : Phase D C) (k : Unstored) → IsAt (traces view) sum p k → Known (stands view p k)
   known_in (phase.Closed config) k at l is = cc
   known_in (phase.Open opened) k at l is =
-      let here : seen opened k.tickets ≡ l = same_Some (seen opened k.tickets) l is in
+      let here : seen opened k.tickets k.given_up ≡ l = same_Some (seen opened k.tickets k.given_up) l is in
       subst (EndsIn k.history) here (record {
         completed = λ x there. All-contains (λ (m : Message). m.place + m.size ≤ reserved_end opened.log) k.history.messages x at.ends there;
         reserved = λ n x there. (at.tickets.each n x there).ends;
@@ -191,7 +191,7 @@ module _ (sum : List ℕ → ℕ) (size : ℕ) (device : DeviceView) (H : Histor
     complete t _ new b step = absurd step
 
     abort : (t : ℕ) (r : Reply) (new : DeviceView) (b : RunState) → AbortStep a l t r new b → Moves sum size a (command.Abort t) r b × Led a new b
-    abort t (reply.Done place pointer) new b has = keeps (Some l) (Some (spent l t (places_without has.message.place (opens l)) l.begun)) new b has.leads (inr (inr (t, refl)))
+    abort t (reply.Done place pointer) new b has = keeps (Some l) (Some (giving_up has.message (spent l t (places_without has.message.place (opens l)) l.begun))) new b has.leads (inr (inr (t, refl)))
     abort t (reply.Failed (error.Io e)) new b fails = keeps (Some l) (Some (keeping e (spent l t (opens l) l.begun))) new b fails.leads (inr (inr (t, refl)))
     abort t _ new b step = absurd step
 

@@ -101,7 +101,7 @@ has_record log H end page m of =
 
 module _ {D C : Type 0} (log : Log D C) (sum : List ℕ → ℕ) (at begun : ℕ) (k : Unstored) (below : at < reserved_end log) where
   abbrev l : LogView
-  l = seen_log log begun k.tickets
+  l = seen_log log begun k.tickets k.given_up
 
   -- what is reserved of the current buffer has bytes
   some_held : current_begin log ≤ at → 0 < held_len log
@@ -116,30 +116,30 @@ module _ {D C : Type 0} (log : Log D C) (sum : List ℕ → ℕ) (at begun : ℕ
   are_seen = by (nat_le (current_begin log) at) refl where
     by : (o : Bool) → nat_le (current_begin log) at ≡ o
         → spans (if o then buffers_of sum log else waiting_of log) ≡ (if o then spans (waiting_of log) ++ current_span l l.position ∷ [] else spans (waiting_of log))
-    by true is = shows_current sum log (some_held (grind (arith, nat_tests, is))) ∙ ap (λ (s : Span). spans (waiting_of log) ++ s ∷ []) (span_seen log sum begun k.tickets)
+    by true is = shows_current sum log (some_held (grind (arith, nat_tests, is))) ∙ ap (λ (s : Span). spans (waiting_of log) ++ s ∷ []) (span_seen log sum begun k.tickets k.given_up)
     by false is = refl
 
   of_all : (P : BufferAt → Type 0) → All P (buffers_of sum log) → All P (sealed_at sum at log)
   of_all P all = by (nat_le (current_begin log) at) where
     by : (o : Bool) → All P (if o then buffers_of sum log else waiting_of log)
     by true = all
-    by false = sealed_too log sum begun k.tickets P all
+    by false = sealed_too log sum begun k.tickets k.given_up P all
 
   are_held : All (IsHeldBy (opens l)) (sealed_at sum at log)
-  are_held = of_all (IsHeldBy (opens l)) (all_held log sum begun k.tickets)
+  are_held = of_all (IsHeldBy (opens l)) (all_held log sum begun k.tickets k.given_up)
 
-  shows : AreWhole sum log → ShowsBuffers sum (segment_size_of log) (opens l) (sealed_around at l) (sealed_at sum at log)
+  shows : AreWhole sum log k.given_up → ShowsBuffers sum (segment_size_of log) (opens l) k.given_up (sealed_around at l) (sealed_at sum at log)
   shows whole = record {
     are = are_seen;
     long = of_all HasLength (shows_long sum log);
     held = are_held;
-    whole = of_all (λ b. b.held ≡ None → IsWholeBuffer sum (segment_size_of log) b) whole;
+    whole = of_all (λ b. b.held ≡ None → IsWholeBuffer sum (segment_size_of log) k.given_up b) whole;
   }
 
   start_seen : start_at at log ≡ start_around at l
   start_seen = by (nat_le (current_begin log) at) where
     by : (o : Bool) → (if o then start_sealed log else start_of log) ≡ (if o then next_start l l.position else start_of log)
-    by true = next_start_seen log sum begun k.tickets
+    by true = next_start_seen log sum begun k.tickets k.given_up
     by false = refl
 
   without_around_seen : spans (without_around at (sealed_at sum at log)) ≡ spans_without at (sealed_around at l)
@@ -205,15 +205,15 @@ module _ {D C : Type 0} (trace : D → Trace) (sum : List ℕ → ℕ) (log : Lo
 
 -- One message is read.
 module _ {D C : Type 0} (view : D → DeviceView) (sum : List ℕ → ℕ) (old new : Log D C) (k : Unstored) (page : ℕ) (m : Message) (begun : ℕ) (of : IsOfPage k.history (reserved_end old) page m)
-    (records : fault_of old ≡ None → AreWhole sum old) (position : StaysPut old new) where
+    (records : fault_of old ≡ None → AreWhole sum old k.given_up) (position : StaysPut old new) where
   abbrev at : ℕ
   at = read_at m
 
   abbrev before : LogView
-  before = seen_log old begun k.tickets
+  before = seen_log old begun k.tickets k.given_up
 
   abbrev after : LogView
-  after = seen_log new begun k.tickets
+  after = seen_log new begun k.tickets k.given_up
 
   abbrev old_view : DeviceView
   old_view = view (device_of old)
@@ -234,6 +234,7 @@ module _ {D C : Type 0} (view : D → DeviceView) (sum : List ℕ → ℕ) (old 
     fault = kept i;
     outstanding = position.opens i;
     tickets = k.tickets;
+    given_up = k.given_up;
   }
 
   -- the calls that bring its place to the device
@@ -252,15 +253,15 @@ module _ {D C : Type 0} (view : D → DeviceView) (sum : List ℕ → ℕ) (old 
   ]
   why_at blobs error.OutOfMemory answers whole none =
       let unused = answers.1 in
-      (λ needs. needs.1 (flush_in old sum begun k.tickets (λ used. unused ((let low = needs.0 in omega (arith, ints, low)), used))), answers.3, answers.4)
+      (λ needs. needs.1 (flush_in old sum begun k.tickets k.given_up (λ used. unused ((let low = needs.0 in omega (arith, ints, low)), used))), answers.3, answers.4)
   why_at blobs error.PlacesUsedUp answers whole none =
       let used = answers.1 in
-      (((let low = used.0 in omega (arith, ints, low)), flush_out old sum begun k.tickets used.1), answers.3, answers.4)
+      (((let low = used.0 in omega (arith, ints, low)), flush_out old sum begun k.tickets k.given_up used.1), answers.3, answers.4)
   why_at blobs (error.Held place) answers whole none =
       let up = answers.1 in
       let unused = answers.2 in (
         (up.0, sym (holding_seen old sum at begun k of.read_below) ∙ up.1, up.2),
-        (λ needs. needs.1 (flush_in old sum begun k.tickets (λ used. unused ((let low = needs.0 in omega (arith, ints, low)), used)))),
+        (λ needs. needs.1 (flush_in old sum begun k.tickets k.given_up (λ used. unused ((let low = needs.0 in omega (arith, ints, low)), used)))),
         answers.4,
         answers.5,
       )
@@ -345,7 +346,7 @@ module _ {D C : Type 0} (view : D → DeviceView) (sum : List ℕ → ℕ) (old 
     by true below =
         let low = writes.still (grind (arith, ints, nat_tests, below)) in
         leaves (spans (waiting_of old)) (start_of old) (fault_of old) (ap spans low.0) low.1 kept
-        ∙ (λ i. record { position = before.position; synced = sym (first_seen old) i; noted = sym (noted_still old ∙ ap (λ n. not_whole n (noted_in old)) (first_seen old)) i; end = before.end; waiting = before.waiting; start = before.start; begun = begun; fault = before.fault; outstanding = before.outstanding; tickets = k.tickets })
+        ∙ (λ i. record { position = before.position; synced = sym (first_seen old) i; noted = sym (noted_still old ∙ ap (λ n. not_whole n (noted_in old)) (first_seen old)) i; end = before.end; waiting = before.waiting; start = before.start; begun = begun; fault = before.fault; outstanding = before.outstanding; tickets = k.tickets; given_up = k.given_up })
     by false beyond =
         let high = writes.written (grind (arith, ints, nat_tests, beyond)) in
         leaves (spans_without at (sealed_around at before)) (start_around at before) (fault_of old)
@@ -378,7 +379,7 @@ reads_more sum size [] m l end old mid new is more = (
     free = subst (λ (x : LogView). holding_read x (read_at m) ≡ None) is.2 more.free;
     writes = record {
       buffers = more.writes.buffers;
-      shown = subst (λ (x : LogView). ShowsBuffers sum size (opens x) (sealed_around (read_at m) x) more.writes.buffers) is.2 more.writes.shown;
+      shown = subst (λ (x : LogView). ShowsBuffers sum size (opens x) x.given_up (sealed_around (read_at m) x) more.writes.buffers) is.2 more.writes.shown;
       made = more.writes.made ∙ (λ i. after_all (reading_around (is.2 i) (read_at m) more.writes.buffers) (is.0 i));
     };
     failures = more.failures ∙ is.1;
@@ -407,7 +408,7 @@ pub record HasReadSome {D C : Type 0} (view : D → DeviceView) (sum : List ℕ 
   pub free : fault_of old ≡ None
   pub only : KeepsOpen (traces view) sum old now
   pub so_far : (k : Unstored) (ms : List Message) (begun : ℕ) → IsRead (traces view) sum old k → All (IsOfPage k.history (reserved_end old) page) ms → map entry_of ms ≡ entries
-      → AreRead sum (segment_size_of old) (seen_log old begun k.tickets) ms rest (view (device_of old)) (view (device_of now)) items (seen_log now begun k.tickets)
+      → AreRead sum (segment_size_of old) (seen_log old begun k.tickets k.given_up) ms rest (view (device_of old)) (view (device_of now)) items (seen_log now begun k.tickets k.given_up)
 
 -- of what a page is that is present there is a first message
 first_there : (ms : List Message) → is_present ms ≡ true → (m : Message) × (rest : List Message) × (ms ≡ m ∷ rest)
@@ -422,16 +423,16 @@ fault_around l at = by (nat_lt at l.synced) where
   by false = refl
 
 -- a log that keeps no failure is seen as one of which nothing was written
-still_seen : {D C : Type 0} (log : Log D C) (begun : ℕ) (tickets : List (Option Message)) → fault_of log ≡ None
-    → seen_log log begun tickets ≡ flushed (seen_log log begun tickets) (spans (waiting_of log)) (start_of log) None
-still_seen log begun tickets none =
-    let l : LogView = seen_log log begun tickets in
+still_seen : {D C : Type 0} (log : Log D C) (begun : ℕ) (tickets : List (Option Message)) (given_up : List Message) → fault_of log ≡ None
+    → seen_log log begun tickets given_up ≡ flushed (seen_log log begun tickets given_up) (spans (waiting_of log)) (start_of log) None
+still_seen log begun tickets given_up none =
+    let l : LogView = seen_log log begun tickets given_up in
     λ i. record l { synced = first_seen log i; noted = (noted_still log ∙ ap (λ n. not_whole n (noted_in log)) (first_seen log)) i; fault = none i }
 
 module _ {D C : Type 0} (view : D → DeviceView) (sum : List ℕ → ℕ) (old : Log D C) (page : ℕ) where
   -- nothing was done
   pub only_same : KeepsOpen (traces view) sum old old
-  only_same = record { keeps = kept_still (traces view) sum old; tickets = record { awaits = λ ticket m awaits. awaits; opens = refl }; position = position_still old; free = λ none. none }
+  only_same = record { keeps = kept_still (traces view) sum old; tickets = record { awaits = λ ticket m awaits. awaits; opens = refl; given_up = λ m there. there }; position = position_still old; free = λ none. none }
 
   pub none_read : (entries : List Entry) → fault_of old ≡ None → HasReadSome view sum old page entries old [] entries
   none_read entries free = record {
@@ -470,6 +471,7 @@ module _ {D C : Type 0} (view : D → DeviceView) (sum : List ℕ → ℕ) (old 
       zeros = is.zeros;
       unmarked = is.unmarked;
       fits = only.keeps.fits k.history k.acknowledged k.floor is.unmarked is.fits;
+      given_up = λ m given. is.given_up m (only.tickets.given_up m given);
     }
 
     -- the next message, at the place that code has of its entry
@@ -507,8 +509,8 @@ module _ {D C : Type 0} (view : D → DeviceView) (sum : List ℕ → ℕ) (old 
       so_far = λ k ms begun is all are.
           let came = some.so_far k ms begun is all are in
           let one = next k.history ms came.done came.left e rest came.split came.entries some.only.position all in
-          let l : LogView = seen_log old begun k.tickets in
-          let now : LogView = seen_log mid begun k.tickets in
+          let l : LogView = seen_log old begun k.tickets k.given_up in
+          let now : LogView = seen_log mid begun k.tickets k.given_up in
           let got = reads.item k one.message begun (is_read k some.only is) one.of one.place one.pointer in
           record {
             done = came.done ++ one.message ∷ [];
@@ -530,17 +532,17 @@ module _ {D C : Type 0} (view : D → DeviceView) (sum : List ℕ → ℕ) (old 
       step = λ k ms begun a is all are present device log.
           let came = some.so_far k ms begun is all are in
           let one = next k.history ms came.done came.left e rest came.split came.entries some.only.position all in
-          let l : LogView = seen_log old begun k.tickets in
-          let b : RunState = with_log a (view (device_of new)) (Some (seen_log new begun k.tickets)) in
+          let l : LogView = seen_log old begun k.tickets k.given_up in
+          let b : RunState = with_log a (view (device_of new)) (Some (seen_log new begun k.tickets k.given_up)) in
           inr (inr (record {
             done = came.done;
             message = one.message;
             rest = one.later;
             split = one.split;
             mid = view (device_of mid);
-            log = seen_log mid begun k.tickets;
-            so_far = subst (λ (x : DeviceView). ReadsAll sum (segment_size_of old) l came.done x (view (device_of mid)) (seen_log mid begun k.tickets)) (sym device) came.reads;
-            fails = subst (λ n. FailsAt sum n a (seen_log mid begun k.tickets) (read_at one.message) why (view (device_of mid)) (view (device_of new)) b) some.only.position.size
+            log = seen_log mid begun k.tickets k.given_up;
+            so_far = subst (λ (x : DeviceView). ReadsAll sum (segment_size_of old) l came.done x (view (device_of mid)) (seen_log mid begun k.tickets k.given_up)) (sym device) came.reads;
+            fails = subst (λ n. FailsAt sum n a (seen_log mid begun k.tickets k.given_up) (read_at one.message) why (view (device_of mid)) (view (device_of new)) b) some.only.position.size
                 (reads.item k one.message begun (is_read k some.only is) one.of one.place one.pointer came.sound a);
           }));
     }
@@ -550,14 +552,14 @@ module _ {D C : Type 0} (view : D → DeviceView) (sum : List ℕ → ℕ) (old 
       only = some.only;
       step = λ k ms begun a is all are present device log.
           let came = some.so_far k ms begun is all are in
-          let l : LogView = seen_log old begun k.tickets in
+          let l : LogView = seen_log old begun k.tickets k.given_up in
           let done : ms ≡ came.done = came.split ∙ ap (λ xs. came.done ++ xs) (none_left came.left came.entries) ∙ append-nil came.done in
           record {
             present = present;
             sound = some.free;
             items_are = ap (map (λ (v : Vec ℕ Global). v.items)) items_is ∙ came.items_are ∙ ap (map (λ m. m.bytes)) (sym done);
-            log = seen_log mid begun k.tickets;
-            reads = subst (λ xs. ReadsAll sum (segment_size_of old) l xs a.device (view (device_of mid)) (seen_log mid begun k.tickets)) (sym done) (subst (λ (x : DeviceView). ReadsAll sum (segment_size_of old) l came.done x (view (device_of mid)) (seen_log mid begun k.tickets)) (sym device) came.reads);
+            log = seen_log mid begun k.tickets k.given_up;
+            reads = subst (λ xs. ReadsAll sum (segment_size_of old) l xs a.device (view (device_of mid)) (seen_log mid begun k.tickets k.given_up)) (sym done) (subst (λ (x : DeviceView). ReadsAll sum (segment_size_of old) l came.done x (view (device_of mid)) (seen_log mid begun k.tickets k.given_up)) (sym device) came.reads);
             leads = refl;
           };
     } where
@@ -609,10 +611,10 @@ page_found states seen page s p same lt at is =
 -- The messages of a page that is present are read, and the log stays open.
 module _ {D C : Type 0} (view : D → DeviceView) (sum : List ℕ → ℕ) (opened : Opened D C) (page : ℕ) (k : Unstored) (at : IsOpenAt (traces view) sum opened k) (new : Log D C) (base : Entry) (frags : List Entry) (r : Result (Vec (Vec ℕ Global) Global) Error)
     (has : get_or (map page_of opened.pages.items) page Uninitialized ≡ Present base frags) (reads : ReadsEntries view sum opened.log page (base ∷ frags) new r) where
-  pub page_read : ReadStep sum (segment_size_of opened.log) (stands view (Open opened) k) (seen opened k.tickets) (page_now k.history page) (page_told r) (view (device_of new)) (stands view (Open (over opened new)) k)
+  pub page_read : ReadStep sum (segment_size_of opened.log) (stands view (Open opened) k) (seen opened k.tickets k.given_up) (page_now k.history page) (page_told r) (view (device_of new)) (stands view (Open (over opened new)) k)
   page_read =
       let present = page_present k.history (map page_of opened.pages.items) page base frags at.table has in
-      reads.step k (page_now k.history page) (length opened.pages.items) (stands view (Open opened) k) (record { made = at.made; zeros = at.zeros; unmarked = at.unmarked; fits = at.fits })
+      reads.step k (page_now k.history page) (length opened.pages.items) (stands view (Open opened) k) (record { made = at.made; zeros = at.zeros; unmarked = at.unmarked; fits = at.fits; given_up = at.given_up })
       (all_of_page k.history (reserved_end opened.log) page at.made at.ends) (sym present.entries) present.present refl refl
 
   pub open_still : IsOpenAt (traces view) sum (over opened new) k

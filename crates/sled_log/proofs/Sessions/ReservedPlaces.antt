@@ -38,9 +38,9 @@ body_fits log n = by (in_blob (segment_size_of log) n) refl where
   by false is = grind (arith, nat_tests, is)
 
 -- What a reservation seals, and where its record is put.
-module _ {D C : Type 0} (log : Log D C) (begun : ℕ) (tickets : List (Option Message)) (sum : List ℕ → ℕ) (page n : ℕ) (inline : FitsInline (segment_size_of log) n) where
+module _ {D C : Type 0} (log : Log D C) (begun : ℕ) (tickets : List (Option Message)) (given_up : List Message) (sum : List ℕ → ℕ) (page n : ℕ) (inline : FitsInline (segment_size_of log) n) where
   abbrev l : LogView
-  l = seen_log log begun tickets
+  l = seen_log log begun tickets given_up
 
   abbrev size : ℕ
   size = segment_size_of log

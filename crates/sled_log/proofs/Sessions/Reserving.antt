@@ -25,7 +25,8 @@ use Rattle.sled_core.specs.Begun.{SegmentView}
 use Rattle.sled_core.specs.declared.logger.Log.{Log}
 use Rattle.sled_core.specs.declared.reservation.Reservation.{Reservation}
 use Rattle.sled_core.specs.Buffers.{pointer_as}
-use Rattle.sled_core.specs.Fits.{Awaits, AwaitsIn, FitsInline, IsUnchanged, blob_at, body_length, config_of, device_of, fault_of, in_blob, in_blob_of, message_for, noted_in, open_places, pins_of, reserved_end, segment_size_of, target_of}
+use Rattle.sled_core.specs.Fits.{Awaits, AwaitsIn, FitsInline, IsUnchanged, blob_at, body_length, config_of, device_of, fault_of, given_up_of, in_blob, in_blob_of, message_for, noted_in, open_places, pins_of, reserved_end, segment_size_of, target_of}
+use Rattle.sled_core.specs.GivenUp.{AreAmong, given_up_along}
 use Rattle.sled_core.specs.Keeps.{KeepsSeen, Preserves}
 use Rattle.sled_core.specs.Logged.{in_log}
 use Rattle.sled_core.specs.Manifests.{kind_for, manifest_page}
@@ -109,9 +110,9 @@ making_by : (P : List Event → Type 0) (sum : List ℕ → ℕ) (kind : Option 
 making_by P sum None place bytes some each = cc
 making_by P sum (Some k) place bytes some each = each k refl
 
-module _ {D C : Type 0} (view : D → DeviceView) (sum : List ℕ → ℕ) (old new : Log D C) (kind : LogKind) (page : ℕ) (bytes : List ℕ) (begun : ℕ) (tickets : List (Option Message)) where
+module _ {D C : Type 0} (view : D → DeviceView) (sum : List ℕ → ℕ) (old new : Log D C) (kind : LogKind) (page : ℕ) (bytes : List ℕ) (begun : ℕ) (tickets : List (Option Message)) (given_up : List Message) where
   abbrev there : LogView
-  there = seen_log old begun tickets
+  there = seen_log old begun tickets given_up
 
   abbrev goes : Bool
   goes = in_blob_of old (length bytes)
@@ -218,8 +219,8 @@ module _ {D C : Type 0} (view : D → DeviceView) (sum : List ℕ → ℕ) (old 
       let number : ℕ = length old.tickets.items in
       subst (λ r. HasTried view sum old kind page bytes new r k) (sym holds.told) (record {
         not_refused = refl;
-        acts = subst (λ (x : Log D C). ReserveActs sum (segment_size_of old.log) (seen old k.tickets) kind page bytes (view old.log.config.device) (reply.Reserved number (place_of reservation) (pointer_of reservation)) (view x.config.device)) (sym holds.log)
-            (made_acts view sum old.log log kind page bytes (length old.pages.items) k.tickets reservation number (place_of reservation) (pointer_of reservation) came);
+        acts = subst (λ (x : Log D C). ReserveActs sum (segment_size_of old.log) (seen old k.tickets k.given_up) kind page bytes (view old.log.config.device) (reply.Reserved number (place_of reservation) (pointer_of reservation)) (view x.config.device)) (sym holds.log)
+            (made_acts view sum old.log log kind page bytes (length old.pages.items) k.tickets k.given_up reservation number (place_of reservation) (pointer_of reservation) came);
         tickets = with_ticket k its;
         step = held.reserved;
         at = held.at;
@@ -227,7 +228,7 @@ module _ {D C : Type 0} (view : D → DeviceView) (sum : List ℕ → ℕ) (old 
       })
 
   -- A message of a page has a ticket then,
-  pub held_tried : ChangesPage kind → page < length old.busy.items → page ≢ manifest_page → MayReserve k.history (seen old k.tickets) kind page → HasTried view sum old kind page bytes new result k
+  pub held_tried : ChangesPage kind → page < length old.busy.items → page ≢ manifest_page → MayReserve k.history (seen old k.tickets k.given_up) kind page → HasTried view sum old kind page bytes new result k
   held_tried changes small message may =
       tried_by (held_message view sum old new log long its reservation result k kept holds at inline changes (own_blob old.log k.history kind page bytes) small message may)
 
@@ -245,6 +246,7 @@ pub record StillHolds {D C : Type 0} (trace : D → Trace) (sum : List ℕ → �
   pub fits : (H : History) (A f : ℕ) (U : List Message) → Fits trace sum old H A f U → Fits trace sum new H A f U
   pub awaits : (ticket : Reservation) (m : Message) → Awaits old ticket m → Awaits new ticket m
   pub opens : open_places new ≡ open_places old
+  pub given_up : AreAmong (given_up_of new) (given_up_of old)
   pub grown : reserved_end old ≤ reserved_end new
   pub pins : pins_of new ≡ pins_of old
   pub noted : noted_in new ≡ noted_in old
@@ -289,6 +291,7 @@ still_at trace sum old new k still pages tickets busy batch at =
         busy = λ page message. busy page ∙ at.tickets.busy page message;
         batch = subst (HasBatch k.tickets) (sym batch) at.tickets.batch;
       };
+      given_up = λ m given. at.given_up m (still.given_up m given);
       ends = All-weaker (λ m. m.place + m.size ≤ reserved_end old.log) (λ m. m.place + m.size ≤ reserved_end new.log) (λ m low. omega (arith, low, up)) k.history.messages at.ends;
     }
 
@@ -298,6 +301,7 @@ unchanged_holds trace sum old new unchanged keeps = record {
   fits = keeps.fits;
   awaits = λ ticket m awaits. subst (λ (l : List SegmentView). AwaitsIn l ticket (in_log m)) (sym unchanged.line) awaits;
   opens = ap open_places_along unchanged.line;
+  given_up = λ m given. subst (λ (l : List SegmentView). Contains (given_up_along l) m) unchanged.line given;
   grown = let same = unchanged.reserved in omega (arith, same);
   pins = unchanged.pins;
   noted = unchanged.noted;
@@ -311,6 +315,7 @@ ready_holds trace sum old new page n made keeps = record {
   fits = keeps.fits;
   awaits = made.tickets.awaits;
   opens = made.tickets.opens;
+  given_up = made.tickets.given_up;
   grown = let end = made.reserved in omega (arith, end);
   pins = made.seen.pins;
   noted = made.seen.noted;
@@ -336,6 +341,7 @@ unchanged_stands view old log k unchanged kept = λ i. record {
     fault = unchanged.fault i;
     outstanding = open_places_along (unchanged.line i);
     tickets = k.tickets;
+    given_up = k.given_up;
   });
 }
 
@@ -355,7 +361,7 @@ module _ {D C : Type 0} (view : D → DeviceView) (sum : List ℕ → ℕ) (old 
   n = body_length old.log (length bytes)
 
   abbrev l : LogView
-  l = seen old k.tickets
+  l = seen old k.tickets k.given_up
 
   abbrev q : Position
   q = target_in size l page n
@@ -390,8 +396,8 @@ module _ {D C : Type 0} (view : D → DeviceView) (sum : List ℕ → ℕ) (old 
   ready_tried : (e : Error) → Came e → blob ≡ true → IsMadeReady sum old.log log page n → fault_of old.log ≡ None → BlobActs (making_for sum (kind_for kind page true 8) (pos q.place) bytes) l.fault a.device (reply.Failed e) now
       → HasRecordPlace size l q e → MadeAnswers {T = Unit {0}} (Err e) ((state_of a.device.trace).blobs.file (pos q.place)) (fault_of log) a.device.failures now.failures → HasTried view sum old kind page bytes after (reply.Failed e) k
   ready_tried e came is made none acts room cause =
-      let waiting = ap spans made.seals.0 ∙ waiting_seen old.log begun k.tickets sum page n fits in
-      let start = made.seals.1 ∙ start_with_seen old.log begun k.tickets sum page n fits in
+      let waiting = ap spans made.seals.0 ∙ waiting_seen old.log begun k.tickets k.given_up sum page n fits in
+      let start = made.seals.1 ∙ start_with_seen old.log begun k.tickets k.given_up sum page n fits in
       record {
         not_refused = refl;
         acts = either blob _ _ (λ goes. acts) (λ stays. (let clash : true ≡ false = sym is ∙ stays in cc));
@@ -419,6 +425,7 @@ module _ {D C : Type 0} (view : D → DeviceView) (sum : List ℕ → ℕ) (old 
                 fault = fault_of log;
                 outstanding = made.tickets.opens i;
                 tickets = k.tickets;
+                given_up = k.given_up;
               });
             };
           },
@@ -432,10 +439,10 @@ module _ {D C : Type 0} (view : D → DeviceView) (sum : List ℕ → ℕ) (old 
   blob_tried x came is made none = elim came.answers [
     | inl kept ↦ (let clash : None ≡ Some x = sym none ∙ kept.0 in cc)
     | inr refused ↦ (
-        let same = beside_count old.log begun k.tickets sum page n fits in
+        let same = beside_count old.log begun k.tickets k.given_up sum page n fits in
         let less = refused.room.2 in
-        ready_tried (error.Io x) came is made none (failed_acts view sum old.log log kind page bytes begun k.tickets x is none refused.room.0 came)
-        (in_reach old.log begun k.tickets sum page n fits refused.room.1, omega (arith, same, less)) refused.refused)
+        ready_tried (error.Io x) came is made none (failed_acts view sum old.log log kind page bytes begun k.tickets k.given_up x is none refused.room.0 came)
+        (in_reach old.log begun k.tickets k.given_up sum page n fits refused.room.1, omega (arith, same, less)) refused.refused)
   ]
 
   pub failed_tried : (e : Error) → (kind_for kind page blob n ≡ None → ⊥) → Came e → HasTried view sum old kind page bytes after (reply.Failed e) k
@@ -446,11 +453,11 @@ module _ {D C : Type 0} (view : D → DeviceView) (sum : List ℕ → ℕ) (old 
   failed_tried error.OutOfMemory written came = elim came.left [
     | inl same ↦ unchanged_tried error.OutOfMemory came same (λ b is. (came.answers.0.0, is))
     | inr made ↦ (
-        ready_tried error.OutOfMemory came made.0 made.1 came.answers.0.0 (short_acts view sum old.log log kind page bytes begun k.tickets made.0 came) tt (came.answers.0.1, came.answers.0.2))
+        ready_tried error.OutOfMemory came made.0 made.1 came.answers.0.0 (short_acts view sum old.log log kind page bytes begun k.tickets k.given_up made.0 came) tt (came.answers.0.1, came.answers.0.2))
   ]
-  failed_tried error.PlacesUsedUp written came = unchanged_tried error.PlacesUsedUp came came.left (λ b is. (came.answers.0.0, out_of_reach old.log begun k.tickets sum page n fits came.answers.2, is))
+  failed_tried error.PlacesUsedUp written came = unchanged_tried error.PlacesUsedUp came came.left (λ b is. (came.answers.0.0, out_of_reach old.log begun k.tickets k.given_up sum page n fits came.answers.2, is))
   failed_tried (error.Held p) written came =
-      unchanged_tried (error.Held p) came came.left (λ b is. (beside_least old.log begun k.tickets sum page n fits p came.answers.0.0 came.answers.3 came.answers.4, is))
+      unchanged_tried (error.Held p) came came.left (λ b is. (beside_least old.log begun k.tickets k.given_up sum page n fits p came.answers.0.0 came.answers.3 came.answers.4, is))
   failed_tried (error.Unsupported text) written came = absurd (written came.answers.1)
   failed_tried _ written came = absurd came.answers
 
@@ -464,6 +471,7 @@ room_at trace sum old new k room at = still_at trace sum old new k same room.pag
     fits = λ H A f U. subst (λ x. Fits trace sum x H A f U) (sym room.log);
     awaits = λ ticket m. subst (λ x. Awaits x ticket m) (sym room.log);
     opens = ap open_places room.log;
+    given_up = λ m given. subst (λ x. Contains (given_up_of x) m) room.log given;
     grown = let end = ap reserved_end room.log in omega (arith, end);
     pins = ap pins_of room.log;
     noted = ap noted_in room.log;
@@ -476,21 +484,21 @@ pub by_room : {D C : Type 0} (old new : Opened D C) (P : Log D C → ℕ → Typ
 by_room old new P room holds = subst (λ p. P old.log (length p.items)) room.pages (subst (λ x. P x (length new.pages.items)) room.log holds)
 
 -- and a reservation comes to the same
-pub room_may : {D C : Type 0} (old new : Opened D C) (k : Unstored) (kind : LogKind) (page : ℕ) → MakesRoom old new → MayReserve k.history (seen old k.tickets) kind page → MayReserve k.history (seen new k.tickets) kind page
+pub room_may : {D C : Type 0} (old new : Opened D C) (k : Unstored) (kind : LogKind) (page : ℕ) → MakesRoom old new → MayReserve k.history (seen old k.tickets k.given_up) kind page → MayReserve k.history (seen new k.tickets k.given_up) kind page
 room_may old new k kind page room may =
-    subst (λ x. MayReserve k.history (seen_log x (length new.pages.items) k.tickets) kind page) (sym room.log)
-    (subst (λ p. MayReserve k.history (seen_log old.log (length p.items) k.tickets) kind page) (sym room.pages) may)
+    subst (λ x. MayReserve k.history (seen_log x (length new.pages.items) k.tickets k.given_up) kind page) (sym room.log)
+    (subst (λ p. MayReserve k.history (seen_log old.log (length p.items) k.tickets k.given_up) kind page) (sym room.pages) may)
 
 pub room_tried : {D C : Type 0} (view : D → DeviceView) (sum : List ℕ → ℕ) (old mid new : Opened D C) (kind : LogKind) (page : ℕ) (bytes : List ℕ) (result : Reply) (k : Unstored) → MakesRoom old mid
     → HasTried view sum mid kind page bytes new result k → HasTried view sum old kind page bytes new result k
 room_tried {D = D} {C = C} view sum old mid new kind page bytes result k room tried =
     let now : DeviceView = device_in view (phase.Open new) in
-    let run : Log D C → ℕ → RunState = λ x begun. record { device = view x.config.device; history = k.history; acknowledged = k.acknowledged; floor = k.floor; log = Some (seen_log x begun k.tickets) } in
+    let run : Log D C → ℕ → RunState = λ x begun. record { device = view x.config.device; history = k.history; acknowledged = k.acknowledged; floor = k.floor; log = Some (seen_log x begun k.tickets k.given_up) } in
     record {
       not_refused = tried.not_refused;
-      acts = by_room old mid (λ x begun. ReserveActs sum (segment_size_of x) (seen_log x begun k.tickets) kind page bytes (view x.config.device) result now) room tried.acts;
+      acts = by_room old mid (λ x begun. ReserveActs sum (segment_size_of x) (seen_log x begun k.tickets k.given_up) kind page bytes (view x.config.device) result now) room tried.acts;
       tickets = tried.tickets;
-      step = by_room old mid (λ x begun. ReserveStep (segment_size_of x) (run x begun) (seen_log x begun k.tickets) kind page bytes result now (stands view (phase.Open new) tried.tickets)) room tried.step;
+      step = by_room old mid (λ x begun. ReserveStep (segment_size_of x) (run x begun) (seen_log x begun k.tickets k.given_up) kind page bytes result now (stands view (phase.Open new) tried.tickets)) room tried.step;
       at = tried.at;
       crash = by_room old mid (λ x begun. StaysRecoverable sum (segment_size_of x) (run x begun) (view x.config.device).trace now.trace) room tried.crash;
     }
@@ -502,7 +510,7 @@ room_stands view old new k room = λ i. record {
   history = k.history;
   acknowledged = k.acknowledged;
   floor = k.floor;
-  log = Some (seen_log (room.log i) (length (room.pages i).items) k.tickets);
+  log = Some (seen_log (room.log i) (length (room.pages i).items) k.tickets k.given_up);
 }
 
 -- without room for a ticket
@@ -510,7 +518,7 @@ pub roomless_tried : {D C : Type 0} (view : D → DeviceView) (sum : List ℕ �
     → HasTried view sum old kind page bytes new (reply.Failed error.OutOfMemory) k
 roomless_tried view sum old new kind page bytes k room whole at = record {
   not_refused = refl;
-  acts = acts_same sum (segment_size_of old.log) (seen old k.tickets) kind page bytes (device_in view (phase.Open old)) (device_in view (phase.Open new)) error.OutOfMemory (ap (λ x. view x.config.device) room.log);
+  acts = acts_same sum (segment_size_of old.log) (seen old k.tickets k.given_up) kind page bytes (device_in view (phase.Open old)) (device_in view (phase.Open new)) error.OutOfMemory (ap (λ x. view x.config.device) room.log);
   tickets = k;
   step = inl (whole, room_stands view old new k room);
   at = room_at (traces view) sum old new k room at;

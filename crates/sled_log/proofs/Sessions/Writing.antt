@@ -1,15 +1,16 @@
 -- What writing buffers comes to in a session: what is seen of those that are written and of those that are left, what holds them up, and where the run stands then.
-use Rattle.std.proofs.Common.{◌≡◌, ◌∙◌, ◌≤◌, ◌<◌, ◌+◌, ◌-◌, ◌*◌, ◌^◌, ◌==◌, ◌⊎◌, inl, inr, nat_lt, if◌then◌else◌, max, ℕ, pos, zero, suc, Bool, true, false, List, [], ◌∷◌, ◌++◌, length, map, take, drop, Option, None, Some, ap, sym, subst, refl, arith}
+use Rattle.std.proofs.Common.{◌≡◌, ◌∙◌, ◌≤◌, ◌<◌, ◌+◌, ◌-◌, ◌*◌, ◌/◌, ◌^◌, ◌==◌, ◌⊎◌, inl, inr, nat_lt, if◌then◌else◌, max, ℕ, pos, zero, suc, Bool, true, false, List, [], ◌∷◌, ◌++◌, length, map, take, drop, Option, None, Some, ap, sym, subst, refl, arith}
 use Rattle.std.specs.Prelude.{Err}
 use Rattle.std.specs.List.{All, Contains}
 use Rattle.std.specs.declared.io.Error.{Error as IoError}
 use Rattle.std.proofs.lemmas.Bool.Decides.{nat_tests}
 use Rattle.std.proofs.lemmas.Bool.{cases_lt}
 use Rattle.std.proofs.lemmas.Int.{ints}
-use Rattle.std.proofs.lemmas.List.Elements.{All-cons, All-head, All-nil, All-tail}
+use Rattle.std.proofs.lemmas.List.Elements.{All-cons, All-head, All-nil, All-tail, All-weaker}
 use Rattle.sled_codec.specs.declared.result.Error.{Error}
 use Rattle.sled_codec.specs.declared.result.Error.TheVariants as error
 use Rattle.sled_codec.specs.History.{Batch, History, Message}
+use Rattle.sled_codec.specs.Record.{short_record}
 use Rattle.sled_store.specs.Accounts.{machine_of}
 use Rattle.sled_store.specs.Blobs.{UnlessFault}
 use Rattle.sled_store.specs.Device.{Event, Trace}
@@ -17,8 +18,9 @@ use Rattle.sled_store.specs.Script.{Performs, after_all}
 use Rattle.sled_core.specs.Begun.{begin_of, segment_view}
 use Rattle.sled_core.specs.Causes.{Answers, HeldAnswers, IsHeld, OnDone}
 use Rattle.sled_core.specs.declared.logger.Log.{Log}
-use Rattle.sled_core.specs.Fits.{FirstWaits, IsUsedUp, IsUsedUpBelow, KeepsTickets, buffers_of, current_begin, current_of, device_of, fault_of, held_len, holding_below, noted_in, open_places, pending_of, position_of, reserved_end, sealing_end, segment_size_of, stable_end, start_of, synced_end, waiting_of, writing_below}
+use Rattle.sled_core.specs.Fits.{FirstWaits, IsUsedUp, IsUsedUpBelow, KeepsTickets, buffers_of, current_begin, current_of, device_of, fault_of, given_up_of, held_len, holding_below, noted_in, open_places, pending_of, position_of, reserved_end, sealing_end, segment_size_of, stable_end, start_of, synced_end, waiting_of, writing_below}
 use Rattle.sled_core.specs.Fronts.{CameTo, syncs}
+use Rattle.sled_core.specs.GivenUp.{AreAmong}
 use Rattle.sled_core.specs.Keeps.{LeavesAbove, Preserves, SamePosition, sealed_for, start_for, start_sealed}
 use Rattle.sled_core.specs.OpenPlaces.{first_between}
 use Rattle.sled_core.specs.Positions.{next_segment_at, is_short}
@@ -28,7 +30,7 @@ use Rattle.sled_core.specs.SealedBuffers.{writing}
 use Rattle.sled_core.specs.OpenBatches.{not_whole, stable_below}
 use Rattle.sled_core.specs.Waiting.{BufferAt, BufferStart, HasLength, Span, first_held, held_below, is_unheld, not_below, pending_in, spans, unless_held, without_pending, writes_below}
 use Rattle.sled_core.specs.inside.Waiting.{begun_below}
-use Rattle.sled_core.specs.WholeBuffers.{IsWholeBuffer}
+use Rattle.sled_core.specs.WholeBuffers.{CanceledAreOf, IsWholeBuffer, RecordParts}
 use Rattle.sled_core.proofs.Line.Entered.{filled_last}
 use Rattle.sled_core.proofs.Holds.Facts.{current_facts}
 use Rattle.sled_core.proofs.Line.Positions.{end_seen, next_seen}
@@ -62,13 +64,33 @@ was_free old new same none = by (fault_of old) refl where
   by None is = is
   by (Some e) is = absurd (let both : Some e ≡ None = sym is ∙ ap fault_of (sym (same e is)) ∙ none in cc)
 
--- Each buffer of a log that nothing holds up is whole records,
-abbrev pub AreWhole : {D C : Type 0} → (List ℕ → ℕ) → Log D C → Type 0
-AreWhole sum log = All (λ b. b.held ≡ None → IsWholeBuffer sum (segment_size_of log) b) (buffers_of sum log)
+-- A buffer that is whole where these were given up is where more were.
+more_records : (sum : List ℕ → ℕ) (number : ℕ) (these all : List Message) → AreAmong these all → (place : ℕ) (rs : List RecordParts) → CanceledAreOf sum number these place rs → CanceledAreOf sum number all place rs
+more_records sum number these all among place [] are = tt
+more_records sum number these all among place (r ∷ rs) are = (
+  λ is. (let one = are.0 is in (one.0, among one.0 one.1, one.2, one.3, one.4)),
+  more_records sum number these all among (place + length (short_record sum r.kind r.page number r.body)) rs are.1,
+)
 
--- where it fits a history and keeps no failure.
-pub whole_of : {D C : Type 0} (trace : D → Trace) (sum : List ℕ → ℕ) (log : Log D C) (H : History) (A f : ℕ) (U : List Message) → Fits trace sum log H A f U → fault_of log ≡ None → AreWhole sum log
-whole_of trace sum log H A f U fits none = buffers_whole trace sum log H (fits_holds trace sum log H A f U fits) none
+more_given : (sum : List ℕ → ℕ) (size : ℕ) (these all : List Message) (b : BufferAt) → AreAmong these all → IsWholeBuffer sum size these b → IsWholeBuffer sum size all b
+more_given sum size these all b among whole = record {
+  head = whole.head;
+  records = whole.records;
+  rest = whole.rest;
+  is = whole.is;
+  headed = whole.headed;
+  canceled = more_records sum (b.place / size) these all among (b.place + length whole.head) whole.records whole.canceled;
+  filled = whole.filled;
+}
+
+-- Each buffer of a log that nothing holds up is whole records, those of messages that were given up with the bodies of these,
+abbrev pub AreWhole : {D C : Type 0} → (List ℕ → ℕ) → Log D C → List Message → Type 0
+AreWhole sum log given_up = All (λ b. b.held ≡ None → IsWholeBuffer sum (segment_size_of log) given_up b) (buffers_of sum log)
+
+-- where it fits a history and keeps no failure, and what it counts as given up was.
+pub whole_of : {D C : Type 0} (trace : D → Trace) (sum : List ℕ → ℕ) (log : Log D C) (given_up : List Message) (H : History) (A f : ℕ) (U : List Message) → AreAmong (given_up_of log) given_up → Fits trace sum log H A f U → fault_of log ≡ None → AreWhole sum log given_up
+whole_of trace sum log given_up H A f U among fits none = All-weaker (λ b. b.held ≡ None → IsWholeBuffer sum (segment_size_of log) (given_up_of log) b) (λ b. b.held ≡ None → IsWholeBuffer sum (segment_size_of log) given_up b)
+    (λ b whole free. more_given sum (segment_size_of log) (given_up_of log) given_up b among (whole free)) (buffers_of sum log) (buffers_whole trace sum log H (fits_holds trace sum log H A f U fits) none)
 
 -- Buffers as they are seen.
 
@@ -174,9 +196,9 @@ first_seen log = by (waiting_of log) (first_waits log) where
   by [] is = is
   by (b ∷ bs) is = is
 
-module _ {D C : Type 0} (log : Log D C) (sum : List ℕ → ℕ) (begun : ℕ) (tickets : List (Option Message)) where
+module _ {D C : Type 0} (log : Log D C) (sum : List ℕ → ℕ) (begun : ℕ) (tickets : List (Option Message)) (given_up : List Message) where
   abbrev pub l : LogView
-  l = seen_log log begun tickets
+  l = seen_log log begun tickets given_up
 
   abbrev size : ℕ
   size = segment_size_of log
@@ -254,8 +276,8 @@ module _ {D C : Type 0} (log : Log D C) (sum : List ℕ → ℕ) (begun : ℕ) (
   pub waiting_held : All (IsHeldBy (opens l)) (waiting_of log)
   waiting_held = sealed_too (IsHeldBy (opens l)) all_held
 
-  pub shows_waiting : AreWhole sum log → ShowsBuffers sum size (opens l) l.waiting (waiting_of log)
-  shows_waiting whole = record { are = refl; long = sealed_too HasLength (shows_long sum log); held = waiting_held; whole = sealed_too (λ b. b.held ≡ None → IsWholeBuffer sum size b) whole }
+  pub shows_waiting : AreWhole sum log given_up → ShowsBuffers sum size (opens l) given_up l.waiting (waiting_of log)
+  shows_waiting whole = record { are = refl; long = sealed_too HasLength (shows_long sum log); held = waiting_held; whole = sealed_too (λ b. b.held ≡ None → IsWholeBuffer sum size given_up b) whole }
 
   pub pending_seen : pending_of log ≡ pending_in_view l
   pending_seen = count_seen (opens l) (waiting_of log) waiting_held
@@ -266,7 +288,7 @@ module _ {D C : Type 0} (log : Log D C) (sum : List ℕ → ℕ) (begun : ℕ) (
     before = record { device = device; history = H; acknowledged = A; floor = f; log = Some l }
 
     abbrev pub after : ℕ → RunState
-    after reached = record { device = now; history = H; acknowledged = reached; floor = f; log = Some (seen_log new begun tickets) }
+    after reached = record { device = now; history = H; acknowledged = reached; floor = f; log = Some (seen_log new begun tickets given_up) }
 
     pub leaves : (waiting : List Span) (start : BufferStart) (fault : Option IoError) → spans (waiting_of new) ≡ waiting → start_of new ≡ start → fault_of new ≡ fault
         → after A ≡ with_log before now (Some (flushed l waiting start fault))
@@ -278,7 +300,7 @@ module _ {D C : Type 0} (log : Log D C) (sum : List ℕ → ℕ) (begun : ℕ) (
           history = H;
           acknowledged = A;
           floor = f;
-          log = Some (record { position = position.position i; synced = synced i; noted = noted i; end = position.reserved i; waiting = left i; start = from i; begun = begun; fault = kept i; outstanding = position.opens i; tickets = tickets });
+          log = Some (record { position = position.position i; synced = synced i; noted = noted i; end = position.reserved i; waiting = left i; start = from i; begun = begun; fault = kept i; outstanding = position.opens i; tickets = tickets; given_up = given_up });
         }
 
   -- Once what begins below a place is sealed.
@@ -322,12 +344,12 @@ module _ {D C : Type 0} (log : Log D C) (sum : List ℕ → ℕ) (begun : ℕ) (
       abbrev pub its_buffers : List BufferAt
       its_buffers = begun_below to (buffers_of sum log)
 
-      pub shows_below : AreWhole sum log → ShowsBuffers sum size (opens l) (written_below to l) its_buffers
+      pub shows_below : AreWhole sum log given_up → ShowsBuffers sum size (opens l) given_up (written_below to l) its_buffers
       shows_below whole = record {
         are = flushed_seen;
         long = below_all HasLength to (buffers_of sum log) (shows_long sum log);
         held = below_all (IsHeldBy (opens l)) to (buffers_of sum log) all_held;
-        whole = below_all (λ b. b.held ≡ None → IsWholeBuffer sum size b) to (buffers_of sum log) whole;
+        whole = below_all (λ b. b.held ≡ None → IsWholeBuffer sum size given_up b) to (buffers_of sum log) whole;
       }
 
       pub holding_seen : holding_below sum log to ≡ holding to l
@@ -352,7 +374,7 @@ module _ {D C : Type 0} (log : Log D C) (sum : List ℕ → ℕ) (begun : ℕ) (
           pub stable_seen : LeavesAbove sum to log new → stable_end new ≡ stable_from to l
           stable_seen above = let ends = synced_seen above in let noted = noted_seen above in λ i. stable_below (ends i) (noted i)
 
-          pub has_written : AreWhole sum log → (n : ℕ) → fault_of log ≡ None → fault_of new ≡ None → (IsUsedUpBelow log to → ⊥) → holding_below sum log to ≡ None → now.trace ≡ after_all (writes_free its_buffers) device.trace → now.failures ≡ device.failures
+          pub has_written : AreWhole sum log given_up → (n : ℕ) → fault_of log ≡ None → fault_of new ≡ None → (IsUsedUpBelow log to → ⊥) → holding_below sum log to ≡ None → now.trace ≡ after_all (writes_free its_buffers) device.trace → now.failures ≡ device.failures
               → stable_end new ≡ stable_end log + n → to ≤ synced_end new → A ≤ stable_end log → LeavesAbove sum to log new
               → HasWrittenTo sum size (before new device now H A f position) l to n now (after new device now H A f position (max A (end_below (stable_end new) H)))
           has_written records n none still unused free made failures answer whole past above =
@@ -375,12 +397,12 @@ module _ {D C : Type 0} (log : Log D C) (sum : List ℕ → ℕ) (begun : ℕ) (
                   history = H;
                   acknowledged = max A (end_below (stable i) H);
                   floor = f;
-                  log = Some (record { position = position.position i; synced = ends i; noted = noted i; end = position.reserved i; waiting = waiting i; start = first i; begun = begun; fault = still i; outstanding = position.opens i; tickets = tickets });
+                  log = Some (record { position = position.position i; synced = ends i; noted = noted i; end = position.reserved i; waiting = waiting i; start = first i; begun = begun; fault = still i; outstanding = position.opens i; tickets = tickets; given_up = given_up });
                 };
               }
 
           -- It failed.
-          pub fails_to : AreWhole sum log → (trace : D → Trace) (e : Error) → device.trace ≡ trace (device_of log) → now.trace ≡ trace (device_of new) → fault_of log ≡ None
+          pub fails_to : AreWhole sum log given_up → (trace : D → Trace) (e : Error) → device.trace ≡ trace (device_of log) → now.trace ≡ trace (device_of new) → fault_of log ≡ None
               → IsWhy e (holding to l) ((current_begin log < to) × (EndsInReach size l.position → ⊥)) (fault_of new) device.failures now.failures → Performs (writes_free its_buffers) device.trace now.trace
               → IfHeld e (now.trace ≡ after_all (writes_free its_buffers) device.trace) → (IsHeld {T = ℕ} (Err e) → to ≤ current_begin new) → CameTo trace sum to log new
               → FailsTo sum size (before new device now H A f position) l to e now (after new device now H A f position A)
@@ -465,16 +487,16 @@ spared T error.OutOfMemory old new before after t now none sound answers still =
 spared T _ old new before after t now none sound answers still = absurd answers
 
 -- A log that keeps a failure is as it was.
-pub keeps_failing : {D C : Type 0} (log new : Log D C) (begun : ℕ) (tickets : List (Option Message)) (device now : DeviceView) (H : History) (A f : ℕ) (e : Error) (x : IoError) → e ≡ error.Io x → fault_of log ≡ Some x → new ≡ log → now ≡ device
-    → KeepsFailing (record { device = device; history = H; acknowledged = A; floor = f; log = Some (seen_log log begun tickets) }) (seen_log log begun tickets) e now
-    (record { device = now; history = H; acknowledged = A; floor = f; log = Some (seen_log new begun tickets) })
-keeps_failing log new begun tickets device now H A f e x is kept same still =
-    let a : RunState = record { device = device; history = H; acknowledged = A; floor = f; log = Some (seen_log log begun tickets) } in
-    let b : RunState = record { device = now; history = H; acknowledged = A; floor = f; log = Some (seen_log new begun tickets) } in
-    subst (λ (y : Error). KeepsFailing a (seen_log log begun tickets) y now b) (sym is) (
+pub keeps_failing : {D C : Type 0} (log new : Log D C) (begun : ℕ) (tickets : List (Option Message)) (given_up : List Message) (device now : DeviceView) (H : History) (A f : ℕ) (e : Error) (x : IoError) → e ≡ error.Io x → fault_of log ≡ Some x → new ≡ log → now ≡ device
+    → KeepsFailing (record { device = device; history = H; acknowledged = A; floor = f; log = Some (seen_log log begun tickets given_up) }) (seen_log log begun tickets given_up) e now
+    (record { device = now; history = H; acknowledged = A; floor = f; log = Some (seen_log new begun tickets given_up) })
+keeps_failing log new begun tickets given_up device now H A f e x is kept same still =
+    let a : RunState = record { device = device; history = H; acknowledged = A; floor = f; log = Some (seen_log log begun tickets given_up) } in
+    let b : RunState = record { device = now; history = H; acknowledged = A; floor = f; log = Some (seen_log new begun tickets given_up) } in
+    subst (λ (y : Error). KeepsFailing a (seen_log log begun tickets given_up) y now b) (sym is) (
       kept,
       still,
-      λ i. record { device = still i; history = H; acknowledged = A; floor = f; log = Some (seen_log (same i) begun tickets) },
+      λ i. record { device = still i; history = H; acknowledged = A; floor = f; log = Some (seen_log (same i) begun tickets given_up) },
     )
 
 -- a command that isn't refused has an index that fits
@@ -490,7 +512,7 @@ over opened log = record { alloc = opened.alloc; log = log; guard = opened.guard
 -- It stays open so, where that has the same tickets and the same position.
 module _ {D C : Type 0} (trace : D → Trace) (sum : List ℕ → ℕ) (opened : Opened D C) (log : Log D C) (k : Unstored) (A : ℕ) where
   abbrev kept : Unstored
-  kept = record { history = k.history; acknowledged = A; floor = k.floor; tickets = k.tickets }
+  kept = record { history = k.history; acknowledged = A; floor = k.floor; tickets = k.tickets; given_up = k.given_up }
 
   ticket_still : KeepsTickets opened.log log → SamePosition opened.log log → Preserves trace sum opened.log log → (n : ℕ) (m : Message) → IsTicketFor trace sum opened k.history n m → IsTicketFor trace sum (over opened log) k.history n m
   ticket_still tickets position keeps n m is = record {
@@ -527,5 +549,6 @@ module _ {D C : Type 0} (trace : D → Trace) (sum : List ℕ → ℕ) (opened :
       busy = at.tickets.busy;
       batch = at.tickets.batch;
     };
+    given_up = λ m there. at.given_up m (tickets.given_up m there);
     ends = λ i d lt. let low = at.ends i d lt in let same = position.reserved in omega (arith, low, same);
   }

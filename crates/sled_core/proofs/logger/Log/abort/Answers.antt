@@ -1,10 +1,13 @@
 -- The blob of the reservation's own goes, which leaves the segments of the log as they were, and then its message is given up there.
-use Rattle.std.proofs.Common.{◌≡◌, refl, sym, subst, List, rules}
+use Rattle.std.proofs.Common.{◌≡◌, ◌∷◌, refl, sym, subst, List, rules}
+use Rattle.std.specs.List.{Contains}
+use Rattle.sled_store.proofs.Segments.Elements.{in_rest}
 use Rattle.sled_core.specs.Begun.{SegmentView}
-use Rattle.sled_core.specs.Fits.{AwaitsIn, line_of}
+use Rattle.sled_core.specs.Fits.{AwaitsIn, given_up_of, line_of}
+use Rattle.sled_core.specs.GivenUp.{AreAmong, given_up_along}
 use Rattle.sled_core.specs.Logged.{in_log}
 use Rattle.sled_core.specs.Tickets.{own_blob}
-use Rattle.sled_core.proofs.Line.KeptCalls.{ends_none}
+use Rattle.sled_core.proofs.Line.KeptCalls.{ends_none, gives_none}
 use Rattle.sled_core.proofs.Line.WithoutBlob.{without_further, without_still}
 use Rattle.sled_core.proofs.Line.BlobRemoved.{removes_further, removes_nothing}
 use Rattle.sled_core.proofs.Line.LogWrites.{same_line}
@@ -48,3 +51,19 @@ returns-in-Ok-clause-keeps g c =
 
 pub returns-in-Ok-clause-place : goal.returns-in-Ok-clause-place
 returns-in-Ok-clause-place g c = c.give_up.ensures.place
+
+-- The message was given up in these segments.
+pub returns-in-Ok-clause-given_up : goal.returns-in-Ok-clause-given_up
+returns-in-Ok-clause-given_up g c = λ m awaits.
+    let same : line_of c.remove_own.new.self ≡ line_of c.args.self.now = same_line c.args.self.now c.remove_own.new.self c.remove_own.ensures.changes in
+    subst (λ (l : List SegmentView). AreAmong (given_up_of c.give_up.new.self) (in_log m ∷ given_up_along l)) same
+    (c.give_up.ensures.given_up m (subst (λ (l : List SegmentView). AwaitsIn l c.args.ticket (in_log m)) (sym same) awaits))
+
+pub returns-in-Some-clause-given_up : goal.returns-in-Some-clause-given_up
+returns-in-Some-clause-given_up g c = gives_none c.args.ticket c.args.self.now
+
+-- Where its blob couldn't be removed they are as they were.
+pub returns-in-Err-clause-given_up : goal.returns-in-Err-clause-given_up
+returns-in-Err-clause-given_up g c = λ m awaits n there.
+    let same : line_of c.remove_own.new.self ≡ line_of c.args.self.now = same_line c.args.self.now c.remove_own.new.self c.remove_own.ensures.changes in
+    in_rest (in_log m) n (given_up_of c.args.self.now) (subst (λ (l : List SegmentView). Contains (given_up_along l) n) same there)

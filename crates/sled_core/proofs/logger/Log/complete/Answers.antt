@@ -12,6 +12,7 @@ use Rattle.sled_core.specs.inside.Buffers.{completing}
 use Rattle.sled_core.specs.Fits.{AwaitsIn, line_of, noted_in, open_places}
 use Rattle.sled_core.specs.invariants.Fits.{Holds}
 use Rattle.sled_core.specs.inside.Fits.{HoldsWith}
+use Rattle.sled_core.specs.GivenUp.{AreAmong, given_up_along}
 use Rattle.sled_core.specs.Logged.{logged, in_log}
 use Rattle.sled_core.specs.OpenPlaces.{TakesOut, open_places_along}
 use Rattle.sled_core.specs.invariants.Running.{Fits}
@@ -19,7 +20,7 @@ use Rattle.sled_core.specs.Tickets.{place_of}
 use Rattle.sled_core.proofs.Line.KeptCalls.{ends_none, goes_on_still}
 use Rattle.sled_core.proofs.Line.BatchNoted.{kind_there, reserved_at}
 use Rattle.sled_core.proofs.Line.EndedKeeps.{fits_ended, goes_on_ended, holds_ended, keeps_ended, position_ended}
-use Rattle.sled_core.proofs.Line.EndedTickets.{ended_takes, others_await, says_place, ticket_above, ticket_among, ticket_open, ticket_there}
+use Rattle.sled_core.proofs.Line.EndedTickets.{ended_keeps_given, ended_takes, others_await, says_place, ticket_above, ticket_among, ticket_open, ticket_there}
 use Rattle.sled_core.proofs.Line.Ends.{fits_completed, holds_completed}
 use Rattle.sled_core.proofs.Line.EndedLine.{completing_short}
 use Rattle.sled_core.proofs.Holds.Facts.{nth_facts}
@@ -153,3 +154,17 @@ returns-clause-same g c =
 
 pub returns-in-Some-clause-ends : goal.returns-in-Some-clause-ends
 returns-in-Some-clause-ends g c = ends_none g.D.Device.trace g.C.Checksum.sum_of c.args.ticket c.args.self.now _
+
+-- No message was given up.
+pub returns-clause-given_up : goal.returns-clause-given_up
+returns-clause-given_up g c =
+    let old = c.args.self.now in
+    let own : AwaitsIn (line_of old) c.args.ticket (in_log c.requires.awaited.0) = c.requires.awaited.1 in
+    let at = among g c c.requires.awaited.0 own in
+    let its = there g c c.requires.awaited.0 own in
+    subst (λ (l : List SegmentView). AreAmong (given_up_along l) (given_up_along (line_of old))) (sym (c.complete_in.ensures.line own.segment own.reserved at its))
+    (ended_keeps_given old.config.config.segment_size (line_of old) old.segments.first.site.place c.segment_of-n.result own.segment at (nth_facts old) (c.index-index.result - own.segment.gone) own.reserved its own.own.open_yet (completing own.reserved)
+    (completing_short own.segment (c.index-index.result - own.segment.gone) own.reserved (nth_facts old c.segment_of-n.result own.segment at) its own.own.open_yet) Completed refl)
+
+pub returns-in-Some-clause-given_up : goal.returns-in-Some-clause-given_up
+returns-in-Some-clause-given_up g c = λ m there. there

@@ -107,3 +107,9 @@ returns-clause-goes_on g c = (seen g c).goes_on
 
 pub returns-clause-same : goal.returns-clause-same
 returns-clause-same g c = (seen g c).same
+
+pub returns-clause-given_up : goal.returns-clause-given_up
+returns-clause-given_up g c = (seen g c).given_up
+
+pub returns-in-Some-clause-given_up : goal.returns-in-Some-clause-given_up
+returns-in-Some-clause-given_up g c = λ m there. there

@@ -17,6 +17,7 @@ use Rattle.sled_core.specs.Buffers.{body_in, item_as, pointer_as}
 use Rattle.sled_core.specs.Canceled.{canceled_record, IsBodyAt, IsBodyOf}
 use Rattle.sled_core.specs.Fits.{AwaitsIn, line_of, noted_in, open_places}
 use Rattle.sled_core.specs.invariants.Fits.{Holds}
+use Rattle.sled_core.specs.GivenUp.{AreAmong, given_up_along}
 use Rattle.sled_core.specs.Logged.{logged, in_log, item_in_log}
 use Rattle.sled_core.specs.Manifests.{is_manifest}
 use Rattle.sled_core.specs.OpenPlaces.{TakesOut, open_places_along}
@@ -25,12 +26,12 @@ use Rattle.sled_core.specs.Tickets.{place_of}
 use Rattle.sled_core.specs.inside.Turned.{ended_now}
 use Rattle.sled_core.specs.Waiting.{BufferAt, buffers_in}
 use Rattle.sled_core.proofs.Holds.CanceledLemmas.{canceled_long, canceled_there}
-use Rattle.sled_core.proofs.Line.KeptCalls.{ends_none, kept_still}
+use Rattle.sled_core.proofs.Line.KeptCalls.{ends_none, gives_none, kept_still}
 use Rattle.sled_core.proofs.Line.Canceled.{ended_stands}
 use Rattle.sled_core.proofs.Line.EndedKeeps.{fits_ended, goes_on_ended, left_ended, holds_ended, keeps_ended, position_ended}
-use Rattle.sled_core.proofs.Line.EndedTickets.{ended_takes, others_await, says_place, ticket_above, ticket_among, ticket_open, ticket_there}
+use Rattle.sled_core.proofs.Line.EndedTickets.{ended_gives, ended_takes, others_await, says_place, ticket_above, ticket_among, ticket_open, ticket_there}
 use Rattle.sled_core.proofs.Line.Ends.{fits_aborted, holds_aborted, with_segment}
-use Rattle.sled_core.proofs.Line.EndedLine.{canceling_short}
+use Rattle.sled_core.proofs.Line.EndedLine.{canceling_head, canceling_short}
 use Rattle.sled_core.proofs.Holds.Facts.{nth_facts}
 use Rattle.sled_core.proofs.Line.LogSpans.{ended_buffers}
 use Rattle.sled_core.proofs.Reserve.Entries.{open_plain, reserved_in}
@@ -199,3 +200,22 @@ returns-clause-same g c =
 
 pub returns-in-Some-clause-ends : goal.returns-in-Some-clause-ends
 returns-in-Some-clause-ends g c = ends_none g.D.Device.trace g.C.Checksum.sum_of c.args.ticket c.args.self.now _
+
+-- What counts as given up then is the message of the ticket, and what was given up before.
+pub returns-clause-given_up : goal.returns-clause-given_up
+returns-clause-given_up g c = λ m awaits.
+    let old = c.args.self.now in
+    let sum : List ℕ → ℕ = g.C.Checksum.sum_of in
+    let v : SegmentView = awaits.segment in
+    let r : Reserved = awaits.reserved in
+    let i : ℕ = c.index-index.result - v.gone in
+    let at = among g c m awaits in
+    let its = there g c m awaits in
+    let facts = nth_facts old c.segment_of-n.result v at in
+    subst (λ (l : List SegmentView). AreAmong (given_up_along l) (in_log m ∷ given_up_along (line_of old))) (sym (c.abort_in.ensures.line v r at its))
+    (subst (λ (x : Message). AreAmong (given_up_along (set (line_of old) c.segment_of-n.result (ended_now i r (canceling sum v.parts.bytes r) Canceled v))) (x ∷ given_up_along (line_of old))) (sym awaits.message)
+    (ended_gives old.config.config.segment_size (line_of old) old.segments.first.site.place c.segment_of-n.result v at (nth_facts old) i r its awaits.own.open_yet (canceling sum v.parts.bytes r)
+    (canceling_short sum v i r facts its awaits.own.open_yet) Canceled refl (canceling_head sum v i r facts its awaits.own.open_yet)))
+
+pub returns-in-Some-clause-given_up : goal.returns-in-Some-clause-given_up
+returns-in-Some-clause-given_up g c = gives_none c.args.ticket c.args.self.now

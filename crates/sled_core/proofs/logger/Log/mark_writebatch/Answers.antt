@@ -58,3 +58,9 @@ returns-clause-goes_on g c = c.end_batch.ensures.goes_on
 
 pub returns-clause-err : goal.returns-clause-err
 returns-clause-err g c = c.end_batch.ensures.err
+
+pub returns-clause-ended : goal.returns-clause-ended
+returns-clause-ended g c above = c.end_batch.ensures.given_up
+
+pub returns-clause-given_up : goal.returns-clause-given_up
+returns-clause-given_up g c is = absurd (c.if-peg-lsn.false (ap (of_z w64) (is ∙ sym c.lsn.ensures)))

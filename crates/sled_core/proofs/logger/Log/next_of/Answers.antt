@@ -29,7 +29,7 @@ returns-clause-log g c =
           noted = noted_still old;
           kept = omega arith;
         };
-        tickets = record { awaits = λ ticket m awaits. awaits; opens = refl };
+        tickets = record { awaits = λ ticket m awaits. awaits; opens = refl; given_up = λ m there. there };
         position = record { position = ap (λ n. position_in n (current_of old) (machine_of old.accountant)) size; reserved = refl; pins = refl; size = size };
         buffers = record { waiting = refl; start = refl };
         machine = refl;

@@ -26,6 +26,7 @@ use Rattle.sled_core.specs.declared.logger.io_bufs.SegmentBuffer.{SegmentBuffer}
 use Rattle.sled_core.specs.inside.Begun.{AreEntered, AreFilled, FollowOn, IsUnfilled, IsUsed}
 use Rattle.sled_core.specs.Begun.{SegmentView, begin_of, line_at, segment_view, view_at}
 use Rattle.sled_core.specs.Fits.{CloseBelow, NoneOpenIn}
+use Rattle.sled_core.specs.GivenUp.{given_up_along, given_up_in}
 use Rattle.sled_core.specs.inside.Fits.{FitsBatches, HoldsIn, HoldsLine, log_parts, written_to}
 use Rattle.sled_core.specs.invariants.Fits.{Holds}
 use Rattle.sled_core.specs.inside.Begun.{line_end}
@@ -268,6 +269,8 @@ returns-in-Ok-clause-begins g c =
           ∙ (λ i. position_by (same i) (site i) (long i) (c.in-Ok.ensures.machine i));
       reserved = ap (λ n. c.in-Ok.beginning.place + n) (sym first.from);
       start = ap start_in current ∙ (λ i. record { place = (site i).place + at i; lid = (site i).slot + at i });
+      given_up = subst (λ (ss : List SegmentBuffer). given_up_along (line_at here c.in-Ok.buffer ss) ≡ []) (sym c.no_segments.ensures)
+          (ap (λ (rs : List Reserved). given_up_in here c.in-Ok.buffer.bytes.items rs ++ []) first.reserved);
       ended = subst (λ (ss : List SegmentBuffer). NoneOpenIn (line_at here c.in-Ok.buffer ss)) (sym c.no_segments.ensures) (none_open_one (view_at here c.in-Ok.buffer) (ap none_open first.reserved));
       unsealed = subst (λ (ss : List SegmentBuffer). unwritten (line_at here c.in-Ok.buffer ss) ≡ []) (sym c.no_segments.ensures)
           (ap (λ (bs : List Sealed). unwritten_in here c.in-Ok.buffer.bytes.items c.in-Ok.buffer.written_len bs c.in-Ok.buffer.reserved.items ++ []) first.sealed);

@@ -22,6 +22,7 @@ use Rattle.sled_core.specs.Fronts.{WroteNone}
 use Rattle.sled_core.specs.inside.Fits.{written_to}
 use Rattle.sled_core.specs.Fits.{AwaitsIn, line_of, noted_in, segment_size_of}
 use Rattle.sled_core.specs.invariants.Fits.{Holds}
+use Rattle.sled_core.specs.GivenUp.{given_up_along}
 use Rattle.sled_core.specs.Logged.{logged, in_log}
 use Rattle.sled_core.specs.OpenBatches.{batch_of, not_whole}
 use Rattle.sled_core.specs.inside.OpenPlaces.{open_manifests}
@@ -34,6 +35,7 @@ use Rattle.sled_core.specs.inside.Turned.{ChangesDevice, IsReadyIn, promoted, wr
 use Rattle.sled_core.specs.Waiting.{last_of}
 use Rattle.sled_core.proofs.Holds.StoredItems.{items_same}
 use Rattle.sled_core.proofs.Line.Faulty.{fits_with_same, holds_with_same}
+use Rattle.sled_core.proofs.Line.GivenUp.{among_further, among_same, given_promoted, set_given}
 use Rattle.sled_core.proofs.Line.LineEnds.{kept_same, noted_later, noted_same}
 use Rattle.sled_core.proofs.Line.LogWrites.{KeepsInvariants, crash_write, end_grows, fits_done, fits_failed, holds_done, holds_failed, keeps_invariants, line_after, line_left, names, noted_left, same_line, segments_written}
 use Rattle.sled_core.proofs.Line.Marks.{HasReady, ready_at}
@@ -44,7 +46,7 @@ use Rattle.sled_core.proofs.Line.OpenPlaces.{places_promoted, set_places}
 use Rattle.sled_core.proofs.Line.Promotes.{awaits_promoted, last_promoted, last_set}
 use Rattle.sled_core.proofs.Line.Segments.{line_segments, nth_segment}
 use Rattle.sled_core.proofs.Reached.OpenBatch.{not_whole_further}
-use Rattle.sled_core.proofs.Line.WrittenTickets.{awaits_written, manifests_written, places_written}
+use Rattle.sled_core.proofs.Line.WrittenTickets.{awaits_written, given_written, manifests_written, places_written}
 use Rattle.sled_core.proofs.Pending.Logs.{written_ready}
 use Rattle.sled_core.proofs.logger.Log.write_buffer.Goals as goal
 
@@ -234,6 +236,11 @@ returns-clause-keeps g c = record {
         opens = ap open_places_along line
             ∙ places_promoted (segment_size_of old) old.segments.first.site.place (set (line_of old) c.args.n (written_now c.args.k r.segment)) old.config.config.least (segments_written old c.args.n c.args.k r)
             ∙ set_places (line_of old) c.args.n r.segment (written_now c.args.k r.segment) r.among (places_written (line_of old) c.args.n c.args.k r.segment r.buffer r.among r.there r.ready is.are);
+        given_up =
+            let left : List SegmentView = set (line_of old) c.args.n (written_now c.args.k r.segment) in
+            let promoted_same = given_promoted (segment_size_of old) old.segments.first.site.place left old.config.config.least (segments_written old c.args.n c.args.k r) in
+            among_further _ (given_up_along left) (given_up_along (line_of old)) (among_same _ (given_up_along left) (ap given_up_along line ∙ promoted_same))
+            (set_given (line_of old) c.args.n r.segment (written_now c.args.k r.segment) r.among (given_written (line_of old) c.args.n c.args.k r.segment r.buffer r.among r.there r.ready is.are));
       }
       );
   position = (

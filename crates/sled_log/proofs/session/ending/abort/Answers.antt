@@ -1,7 +1,9 @@
-use Rattle.std.proofs.Common.{◌∙◌, ap, sym, subst, Option, Some, Ok, Err, map, ℤ}
+use Rattle.std.proofs.Common.{◌∙◌, ◌∷◌, ap, sym, subst, Option, Some, Ok, Err, map, ℤ}
 use Rattle.std.specs.Int.{w64, cast_signed, cast_unsigned}
 use Rattle.sled_codec.specs.Snapshots.{page_of}
-use Rattle.sled_core.specs.Fits.{Awaits, open_places}
+use Rattle.sled_core.specs.Fits.{Awaits, given_up_of, open_places}
+use Rattle.sled_core.specs.GivenUp.{AreAmong}
+use Rattle.sled_core.specs.Logged.{in_log}
 use Rattle.sled_core.specs.OpenPlaces.{TakesOut}
 use Rattle.sled_core.specs.Tickets.{own_blob}
 use Rattle.sled_core.specs.invariants.Running.{Fits}
@@ -65,3 +67,4 @@ returns-in-Ok-clause-step g c = λ k at asked.
     (subst (λ x. TakesOut m.place (open_places x) (open_places new)) takes.log (done.ends.opens m.place says.0))
     _ c.in-Ok.pointer (sym (place_back c.in-Ok.place m.place (done.place.0 ∙ sym says.0) (awaited_small old.log ticket m awaits)), done.place.1 ∙ sym says.1)
     (ap (λ x. map page_of x.items) takes.pages) did
+    (subst (λ x. AreAmong (given_up_of new) (in_log m ∷ given_up_of x)) takes.log (c.abort.ensures.given_up m (subst (λ x. Awaits x ticket m) (sym takes.log) awaits)))

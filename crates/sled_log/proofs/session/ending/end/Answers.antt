@@ -1,5 +1,5 @@
 -- The batch that is begun ends with the greatest place that was reserved.
-use Rattle.std.proofs.Common.{◌≡◌, ◌∙◌, ◌-ℤ◌, ℤ, pos, to_z, of_z, w64, ap, sym, subst, Some, Err}
+use Rattle.std.proofs.Common.{◌≡◌, ◌∙◌, ◌-ℤ◌, ◌<ℤ◌, ℤ, pos, to_z, of_z, w64, ap, sym, subst, Some, Err}
 use Rattle.std.specs.Prelude.{FitsSigned}
 use Rattle.std.specs.List.{slice_get}
 use Rattle.std.proofs.lemmas.Bool.{false≢true}
@@ -9,16 +9,18 @@ use Rattle.sled_codec.specs.declared.result.DiskPtr.{DiskPtr}
 use Rattle.sled_codec.specs.History.{Message}
 use Rattle.sled_core.specs.Causes.{FaultAnswers}
 use Rattle.sled_core.specs.Batches.{EndsBatch, MayEndAt, NotesBatchOf}
-use Rattle.sled_core.specs.Fits.{Awaits, KeepsBuffers, fault_of, open_places, reserved_end}
+use Rattle.sled_core.specs.Fits.{Awaits, KeepsBuffers, fault_of, given_up_of, open_places, reserved_end}
+use Rattle.sled_core.specs.GivenUp.{AreAmong}
 use Rattle.sled_core.specs.Keeps.{SamePosition}
 use Rattle.sled_core.specs.Manifests.{manifest_page}
 use Rattle.sled_core.specs.OpenPlaces.{TakesOut}
+use Rattle.sled_core.specs.Tickets.{place_of}
 use Rattle.sled_core.specs.invariants.Running.{Fits}
 use Rattle.sled_core.proofs.PublicLaws.{awaited, awaited_small, fits_holds, place_back}
 use Rattle.sled_log.specs.Endings.{TakesTicket}
 use Rattle.sled_log.specs.RunPhases.{HasBatch, IsOpenAt, IsSafe, Unstored, traces, view_by}
 use Rattle.sled_log.specs.RunStates.{DeviceView}
-use Rattle.sled_log.proofs.Sessions.EndedBatches.{batch_there, end_fails, ends_batch, is_batch, may_end}
+use Rattle.sled_log.proofs.Sessions.EndedBatches.{batch_there, behind, end_fails, ends_batch, is_batch, may_end}
 use Rattle.sled_log.proofs.Sessions.EndedTickets.{awaits_it, takes_it}
 use Rattle.sled_log.proofs.session.ending.end.Given.{Over}
 use Rattle.sled_log.proofs.session.ending.end.Goals.{After-reserved_offset-peg, then-is_manifest, else-is_manifest}
@@ -102,6 +104,7 @@ returns-in-Ok-clause-step g c = λ k at asked.
     (λ t x holds ne. c.mark_writebatch.ensures.ends.others k.history t x (fits_holds trace sum mid.log k.history k.acknowledged k.floor at.unmarked fits) (subst (λ y. Awaits y t x) (sym took.log) holds) ne)
     (λ j x apart had. safe_on trace sum mid.log new x c.mark_writebatch.ensures.goes_on (subst (λ y. IsSafe trace sum y x) (sym took.log) had.stored))
     (subst (λ x. TakesOut m.place (open_places x) (open_places new)) took.log (done.ends.opens m.place says.0))
+    (subst (λ x. AreAmong (given_up_of new) (given_up_of x)) took.log (c.mark_writebatch.ensures.ended (subst (λ z. place_of ticket.reservation <ℤ z) (sym (peg_is g read)) (behind (seen_by g) sum old k at n m its.1 its.2 mid ticket took))))
     _ c.in-Ok.pointer (sym (place_back c.in-Ok.low m.place (done.place.0 ∙ sym says.0) (awaited_small old.log ticket.reservation m awaits)), done.place.1 ∙ sym says.1)
     gives.0 (subst (λ z. EndsBatch k.history ticket.reservation z gives.0) (peg_is g read) gives.1) gives.2
 

@@ -106,7 +106,7 @@ returns-in-Ok-clause-step g c = λ k at free.
       ends = all_from_in (λ m. m.place + m.size ≤ cut) H'.messages (λ m there. let found = from_below k.history cut m there in good.fits.messages m found.0 found.1);
     } in
     let started = c.start.ensures.starts H' k.acknowledged cut recovered in
-    let log = subst (λ n. log_in c.start.result.0 [] ≡ log_opened n (length_of mid) s c.start.result.1) sizes started.log in
+    let log = subst (λ n. log_in c.start.result.0 [] [] ≡ log_opened n (length_of mid) s c.start.result.1) sizes started.log in
     let why = subst (λ n. SaysWhy c.start.result.1 n new.failures) c.in-Ok.ensures.answers started.why in (
       record {
         good = still_good sum size (let least = given.least in omega (arith, least)) mid new s c.start.result.1 starts k.history k.acknowledged k.floor good;

@@ -1,17 +1,18 @@
 -- A log that is started goes on where the recovered table ends, and a start that fails leaves what can be recovered.
-use Rattle.std.proofs.Common.{◌≡◌, ◌≤◌, ◌<◌, ◌+◌, ◌∙◌, ℕ, [], None, Some, length, refl, sym, ap, subst, arith, rules}
+use Rattle.std.proofs.Common.{◌≡◌, ◌≤◌, ◌<◌, ◌+◌, ◌∙◌, ℕ, List, [], None, Some, length, refl, sym, ap, subst, arith, rules}
 use Rattle.std.proofs.lemmas.List.{length-map}
 use Rattle.sled_codec.specs.Snapshots.{SnapshotModel, model_of, stable_place}
 use Rattle.sled_store.specs.Device.{Trace, state_of}
 use Rattle.sled_store.specs.Moments.{LeavesOnly}
 use Rattle.sled_core.specs.declared.logger.Log.{Log}
 use Rattle.sled_store.proofs.Traces.MomentLemmas.{at_last}
-use Rattle.sled_core.specs.Fits.{fault_of, noted_in, open_places, pins_of, position_of, reserved_end, start_of, synced_end, waiting_of}
+use Rattle.sled_core.specs.Fits.{fault_of, given_up_of, noted_in, open_places, pins_of, position_of, reserved_end, start_of, synced_end, waiting_of}
 use Rattle.sled_core.specs.Recoverable.{LeavesRecoverable, RecoverableIfOwn}
 use Rattle.sled_core.specs.Waiting.{spans}
 use Rattle.sled_log.proofs.Sessions.RunLemmas.{start_cause}
 use Rattle.sled_log.proofs.Sessions.RunLogs.{starts_at}
-use Rattle.std.specs.List.{All}
+use Rattle.std.specs.List.{All, Contains}
+use Rattle.sled_codec.specs.History.{Message}
 use Rattle.sled_core.proofs.PublicLaws.{none_is_empty}
 use Rattle.sled_log.proofs.session.opening.start.Goals as goal
 
@@ -50,7 +51,7 @@ returns-in-Ok-clause-starts g c = λ H A f at.
     let pages : length c.args.snapshot.pt.items ≡ length s.pages = simp length-map in
     let pinned : pins_of new ≡ 1 = ap pins_of taken ∙ ap (λ n. n + 1) begins.pins in
     record {
-      log = λ i. Some (record { position = position i; synced = synced i; noted = noted i; end = end i; waiting = waiting i; start = first i; begun = pages i; fault = fault i; outstanding = empty i; tickets = [] });
+      log = λ i. Some (record { position = position i; synced = synced i; noted = noted i; end = end i; waiting = waiting i; start = first i; begun = pages i; fault = fault i; outstanding = empty i; tickets = []; given_up = [] });
       at = record {
         made = at.closed.made;
         unmarked = [];
@@ -68,6 +69,7 @@ returns-in-Ok-clause-starts g c = λ H A f at.
           busy = λ page message. search rules;
           batch = refl;
         };
+        given_up = λ m given. subst (λ (l : List Message). Contains l m) (ap given_up_of taken ∙ begins.given_up) given;
         ends = subst (λ e. All (λ m. m.place + m.size ≤ e) H.messages) (sym end) at.ends;
       };
       crash = subst (λ (x : Log _ _). LeavesOnly (RecoverableIfOwn sum size H A f) (trace c.args.config.device) (trace x.config.device)) (sym taken) (c.in-Ok.ensures.crash H A f at.ready);

@@ -36,6 +36,7 @@ returns-clause-step g c = λ k at free.
             fault = did.rest.fault i;
             outstanding = did.keeps.tickets.opens i;
             tickets = k.tickets;
+            given_up = k.given_up;
           });
         }),
       );

@@ -33,22 +33,22 @@ returns-in-Ok-clause-step g c = λ k at free.
     let answers = c.in-Ok.ensures.answers in
     let above = c.in-Ok.ensures.buffers.0.above in
     let fits = c.in-Ok.ensures.acknowledges H k.acknowledged k.floor at.unmarked at.fits in
-    let some : current_begin old < to → 0 < held_len old = some_known old sum begun k.tickets place answers.0 in
+    let some : current_begin old < to → 0 < held_len old = some_known old sum begun k.tickets k.given_up place answers.0 in
     let past = fits_stable trace sum old H k.acknowledged k.floor at.unmarked at.fits in
     let position = c.make_stable.ensures.keeps.position in
     let put = stays_put trace sum old new c.make_stable.ensures.keeps.tickets position c.make_stable.ensures.keeps.preserves in
     let reached : ℕ = max k.acknowledged (end_below (stable_end new) H) in
-    let unheld = holding_seen old sum begun k.tickets to some ∙ sym (held_seen old sum begun k.tickets place answers.0) ∙ answers.1.0 in
+    let unheld = holding_seen old sum begun k.tickets k.given_up to some ∙ sym (held_seen old sum begun k.tickets k.given_up place answers.0) ∙ answers.1.0 in
     let done : Does view sum (phase.Open opened) (told.Stable place) (phase.Open (over opened new), reply.Flushed c.in-Ok.more) k =
     record {
       not_refused = refl;
-      next = record { history = H; acknowledged = reached; floor = k.floor; tickets = k.tickets };
+      next = record { history = H; acknowledged = reached; floor = k.floor; tickets = k.tickets; given_up = k.given_up };
       step = (
         answers.0,
-        has_written old sum begun k.tickets to some new (view old.config.device) (view new.config.device) H k.acknowledged k.floor put (whole_of trace sum old H k.acknowledged k.floor at.unmarked at.fits answers.1.2) c.in-Ok.more answers.1.2 answers.1.3 answers.1.1 unheld
-            (c.in-Ok.ensures.made ∙ ap (λ (es : List Event). after_all es (trace (device_of old))) (stabilizing_seen old sum begun k.tickets place)) answers.1.4 c.in-Ok.ensures.answer
+        has_written old sum begun k.tickets k.given_up to some new (view old.config.device) (view new.config.device) H k.acknowledged k.floor put (whole_of trace sum old k.given_up H k.acknowledged k.floor at.unmarked at.given_up at.fits answers.1.2) c.in-Ok.more answers.1.2 answers.1.3 answers.1.1 unheld
+            (c.in-Ok.ensures.made ∙ ap (λ (es : List Event). after_all es (trace (device_of old))) (stabilizing_seen old sum begun k.tickets k.given_up place)) answers.1.4 c.in-Ok.ensures.answer
             (target_written old new place c.make_stable.ensures.keeps.preserves.noted c.in-Ok.ensures.target) past above,
-        subst (λ n. place <ℤ pos n) (stable_seen old sum begun k.tickets to some new (view old.config.device) (view new.config.device) H k.acknowledged k.floor put above) c.in-Ok.ensures.target,
+        subst (λ n. place <ℤ pos n) (stable_seen old sum begun k.tickets k.given_up to some new (view old.config.device) (view new.config.device) H k.acknowledged k.floor put above) c.in-Ok.ensures.target,
       );
       at = λ own. still_open trace sum opened new k reached at c.make_stable.ensures.keeps.tickets position (was_free old new c.make_stable.ensures.spares.faulty) c.make_stable.ensures.keeps.preserves fits;
       crash = λ own. going_on trace sum opened k at new c.make_stable.ensures.keeps.preserves.goes_on;
@@ -66,7 +66,7 @@ returns-in-Err-clause-step g c = λ k at free.
     let new = c.make_stable.new.self in
     let position = c.make_stable.ensures.keeps.position in
     let place : ℤ = to_z w64 (of_z w64 c.args.place) in
-    let fails = stable_failed view sum old new (length opened.pages.items) k.tickets place k.history k.acknowledged k.floor (stays_put trace sum old new c.make_stable.ensures.keeps.tickets position c.make_stable.ensures.keeps.preserves) (whole_of trace sum old k.history k.acknowledged k.floor at.unmarked at.fits) c.in-Err.e c.in-Err.ensures.answers c.in-Err.ensures.made c.make_stable.ensures.at_most
+    let fails = stable_failed view sum old new (length opened.pages.items) k.tickets k.given_up place k.history k.acknowledged k.floor (stays_put trace sum old new c.make_stable.ensures.keeps.tickets position c.make_stable.ensures.keeps.preserves) (whole_of trace sum old k.given_up k.history k.acknowledged k.floor at.unmarked at.given_up at.fits) c.in-Err.e c.in-Err.ensures.answers c.in-Err.ensures.made c.make_stable.ensures.at_most
     c.make_stable.ensures.spares.faulty c.in-Err.ensures.refused c.in-Err.ensures.buffers.0.seals.held c.in-Err.ensures.buffers.1 in
     let done : Does view sum (phase.Open opened) (told.Stable place) (phase.Open (over opened new), reply.Failed c.in-Err.e) k =
     record {
