@@ -15,6 +15,7 @@ pub mod Iterators
 pub mod Keeps
 pub mod LogFile
 pub mod LogSegments
+pub mod LogStatus
 pub mod Logged
 pub mod Manifests
 pub mod Marked

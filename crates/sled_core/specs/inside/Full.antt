@@ -14,7 +14,6 @@ use Rattle.sled_core.specs.Logged.{logged}
 use Rattle.sled_core.specs.inside.Reached.{BeginsNext, BeginsOne, BegunSegment, LeadsTo, StandsIn, StandsTo}
 use Rattle.sled_core.specs.OpenBatches.{stable_below}
 use Rattle.sled_core.specs.Recoverable.{LeavesRecoverable, NoHeaderOfZeros}
-
 use Rattle.sled_core.specs.inside.Running.{HaveItems, HaveNames, ReachesTo}
 use Rattle.sled_core.specs.inside.Scan.{IsFoundSegment}
 use Rattle.sled_core.specs.inside.Tail.{least_place}

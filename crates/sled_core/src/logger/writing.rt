@@ -15,9 +15,10 @@ ghost use Rattle.sled_core.specs.Begun.{SegmentView};
 ghost use Rattle.sled_core.specs.Buffers.{first_open_in, open_in};
 ghost use Rattle.sled_core.specs.Causes.{Answers, FaultOrMemory, HeldAnswers, OnDone};
 ghost use Rattle.sled_core.specs.invariants.Fits.{Holds};
-ghost use Rattle.sled_core.specs.Fits.{IsUnchanged, IsUsedUp, IsUsedUpBelow, IsWritten, KeepsAll, NoneSealed, buffers_of, current_begin, current_of, device_of, fault_of, flushing, held_len, holding_below, line_of, pending_of, reserved_end, sealing_end, segment_size_of, stable_end, start_of, synced_end, waiting_of, writing_below, writing_pending};
+ghost use Rattle.sled_core.specs.Fits.{IsUnchanged, IsUsedUp, IsUsedUpBelow, IsWritten, KeepsAll, NoneSealed, buffers_of, config_of, current_begin, current_of, device_of, fault_of, flushing, held_len, holding_below, line_of, pending_of, reserved_end, sealing_end, segment_size_of, stable_end, start_of, synced_end, waiting_of, writing_below, writing_pending};
 ghost use Rattle.sled_core.specs.Fronts.{CameTo, WroteFront, WroteNone, syncs};
-ghost use Rattle.sled_core.specs.Keeps.{KeepsLog, LeavesAbove, WritesBelow};
+ghost use Rattle.sled_core.specs.Keeps.{KeepsLog, LeavesAbove, WritesBelow, sealed_for, start_for, start_sealed};
+ghost use Rattle.sled_core.specs.LogStatus.{flushed, rolled, status_of};
 ghost use Rattle.sled_core.specs.Marked.{BeginsMarked};
 ghost use Rattle.sled_core.specs.inside.Marked.{KeepsSegment};
 ghost use Rattle.sled_core.specs.invariants.Running.{Fits};
@@ -91,11 +92,11 @@ impl<D: Device, C: Checksum> Log<D, C> {
     /// is to be begun and would not end below 2^63 in the log and in the file; and `OutOfMemory`. The log is as it was.
     pub fn roll_iobuf(&mut self) -> Result<usize>
         ensures answer { IfOk result (λ n. n ≡ held_len self.old) }
-        ensures sealed { OnOk result (waiting_of self.new ≡ buffers_of C.sum_of self.old) }
-        ensures begins { OnOk result (current_begin self.new ≡ (if holds_any (current_of self.old) then sealing_end self.old else current_begin self.old)) }
+        ensures status { OnOk result (status_of self.new ≡ (if holds_any (current_of self.old)
+            then rolled (buffers_of C.sum_of self.old) (start_sealed self.old) (status_of self.old) else status_of self.old)) }
         ensures marked { OnOk result (BeginsMarked C.sum_of self.old self.new) }
         ensures keeps { KeepsLog D.trace C.sum_of self.old self.new }
-        ensures same { KeepsAll self.old self.new }
+        ensures untouched { config_of self.new ≡ config_of self.old }
         ensures answers { FaultOrMemory result ((0 < held_len self.old) × IsUsedUp self.old) (fault_of self.old) }
         ensures err { OnErr result (IsUnchanged self.old self.new) }
     {
@@ -125,6 +126,8 @@ impl<D: Device, C: Checksum> Log<D, C> {
     /// where it was after each of them.
     pub fn flush(&mut self) -> Result<usize>
         ensures answer { IfOk result (λ n. stable_end self.new ≡ stable_end self.old + n) }
+        ensures status { OnOk result (status_of self.new
+            ≡ flushed (sealed_for C.sum_of (reserved_end self.old) self.old) (start_for (reserved_end self.old) self.old) (status_of self.old)) }
         ensures synced { OnOk result (SyncsAll self.old self.new) }
         ensures records { (H : History) → Holds D.trace C.sum_of self.old H → OnOk result (IsWritten D.trace C.sum_of self.new H) }
         ensures calls { OnDone result (D.trace (device_of self.new) ≡ after_all (flushing C.sum_of self.old) (D.trace (device_of self.old))) }

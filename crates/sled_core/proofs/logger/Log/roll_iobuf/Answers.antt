@@ -1,30 +1,50 @@
 -- Where the current buffer holds nothing, nothing is done.
-use Rattle.std.proofs.Common.{◌≡◌, ◌<◌, ap, sym, arith, rules, length, ℕ, Err, None, Option, Some}
+use Rattle.std.proofs.Common.{◌≡◌, ◌<◌, ◌∙◌, ap, sym, arith, rules, length, if◌then◌else◌, Bool, true, false, List, ℕ, Err, None, Option, Some}
 use Rattle.std.specs.declared.io.Error.{Error as IoError}
+use Rattle.std.proofs.lemmas.Bool.Decides.{nat_tests}
 use Rattle.std.proofs.lemmas.Result.{err_from_is_err_and}
 use Rattle.sled_codec.specs.declared.result.Error.{Error}
 use Rattle.sled_codec.specs.declared.result.Error.TheVariants.{Io, OutOfMemory, PlacesUsedUp}
 use Rattle.sled_core.specs.Causes.{FaultOrMemory}
 use Rattle.sled_core.specs.Begun.{SegmentView, begin_of}
 use Rattle.sled_core.specs.declared.iobuf.IoBuf.{IoBuf}
-use Rattle.sled_core.specs.Fits.{held_len}
+use Rattle.sled_core.specs.declared.logger.Log.{Log}
+use Rattle.sled_core.specs.Fits.{KeepsAll, buffers_of, current_of, held_len, start_of, waiting_of}
+use Rattle.sled_core.specs.Keeps.{SamePosition, start_sealed}
+use Rattle.sled_core.specs.LogStatus.{rolled, status_of}
+use Rattle.sled_core.specs.Waiting.{holds_any}
+use Rattle.sled_core.proofs.Holds.Facts.{current_facts}
 use Rattle.sled_core.proofs.Line.KeptCalls.{log_still}
-use Rattle.sled_core.proofs.Line.Shows.{buffers_still}
 use Rattle.sled_core.proofs.logger.Log.roll_iobuf.Goals as goal
 
 pub returns-in-Some-clause-keeps : goal.returns-in-Some-clause-keeps
 returns-in-Some-clause-keeps g c = log_still g.D.Device.trace g.C.Checksum.sum_of c.args.self.now
 
-pub returns-then-held-eq0-clause-sealed : goal.returns-then-held-eq0-clause-sealed
-returns-then-held-eq0-clause-sealed g c =
+-- A log of which nothing is sealed is as it was.
+none_rolled : {D C : Type 0} (sum : List ℕ → ℕ) (log : Log D C) → held_len log ≡ 0
+    → status_of log ≡ (if holds_any (current_of log) then rolled (buffers_of sum log) (start_sealed log) (status_of log) else status_of log)
+none_rolled sum log none =
+    let begins = (current_facts log).begins in
+    let any : holds_any (current_of log) ≡ false = grind (arith, nat_tests, none, begins) in
+    sym (ap (λ (o : Bool). if o then rolled (buffers_of sum log) (start_sealed log) (status_of log) else status_of log) any)
+
+-- One of which the current buffer is sealed has one more.
+one_rolled : {D C : Type 0} (sum : List ℕ → ℕ) (old new : Log D C) → holds_any (current_of old) ≡ true → waiting_of new ≡ buffers_of sum old → start_of new ≡ start_sealed old → SamePosition old new → KeepsAll old new
+    → status_of new ≡ (if holds_any (current_of old) then rolled (buffers_of sum old) (start_sealed old) (status_of old) else status_of old)
+one_rolled sum old new any waits start position same =
+    let is : status_of new ≡ rolled (buffers_of sum old) (start_sealed old) (status_of old) =
+        let a = position.position in let b = position.reserved in let c = same.synced in let d = same.noted in let e = same.fault in let f = same.pins in cc in
+    is ∙ sym (ap (λ (o : Bool). if o then rolled (buffers_of sum old) (start_sealed old) (status_of old) else status_of old) any)
+
+pub returns-then-held-eq0-clause-status : goal.returns-then-held-eq0-clause-status
+returns-then-held-eq0-clause-status g c =
     let b : IoBuf = c.current.result.1.now in
     let begins = b.begins in
     let count : c.len.result ≡ length b.bytes.items = search rules in
     let empty = c.if-held-eq0.true in
     let long = ap (λ (v : SegmentView). length v.parts.bytes) c.current.ensures.view in
     let begin = ap (λ (v : SegmentView). begin_of v) c.current.ensures.view in
-    let none : held_len c.args.self.now ≡ 0 = omega (arith, empty, count, begins, long, begin) in
-    sym (buffers_still g.C.Checksum.sum_of c.args.self.now none)
+    none_rolled g.C.Checksum.sum_of c.args.self.now (omega (empty, count, begins, long, begin, arith))
 
 pub returns-then-held-eq0-clause-keeps : goal.returns-then-held-eq0-clause-keeps
 returns-then-held-eq0-clause-keeps g c = log_still g.D.Device.trace g.C.Checksum.sum_of c.args.self.now
@@ -47,3 +67,15 @@ returns-in_err-seal-clause-answers g c =
     let more : 0 < held_len c.args.self.now = omega (arith, some, count, begins, long, begin) in
     let e = err_from_is_err_and c.from_residual.result c.from_residual.ensures.1 in
     rw (e.1, e.2) (seal_refused (Unit {0}) ℕ c.in_err-seal.field-0.0 _ _ _ more c.in_default.is c.in_err-seal.ensures.answers)
+
+pub returns-clause-status : goal.returns-clause-status
+returns-clause-status g c =
+    let b : IoBuf = c.current.result.1.now in
+    let begins = b.begins in
+    let count : c.len.result ≡ length b.bytes.items = search rules in
+    let some = c.if-held-eq0.false in
+    let long = ap (λ (v : SegmentView). length v.parts.bytes) c.current.ensures.view in
+    let begin = ap (λ (v : SegmentView). begin_of v) c.current.ensures.view in
+    let more : begin_of (current_of c.args.self.now) < length (current_of c.args.self.now).parts.bytes = omega (arith, some, count, begins, long, begin) in
+    let did = c.in_ok-seal.ensures in
+    one_rolled g.C.Checksum.sum_of c.args.self.now c.seal.new.self (grind (arith, nat_tests, more)) did.waiting did.start did.keeps.position did.same

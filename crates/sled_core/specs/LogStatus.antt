@@ -1,0 +1,54 @@
+-- What a caller sees of a log at one moment, and what sealing and writing make of it. What they seal is told beside it: its bytes aren't part of what is seen.
+use Rattle.std.specs.Prelude.{◌∷◌, if◌then◌else◌, Bool, ℕ, List, [], Option}
+use Rattle.std.specs.declared.io.Error.{Error as IoError}
+use Rattle.sled_codec.specs.History.{Batch}
+use Rattle.sled_core.specs.declared.logger.Log.{Log}
+use Rattle.sled_core.specs.Fits.{fault_of, noted_in, pins_of, position_of, reserved_end, start_of, synced_end, waiting_of}
+use Rattle.sled_core.specs.OpenBatches.{not_whole}
+use Rattle.sled_core.specs.Positions.{Position}
+use Rattle.sled_core.specs.Waiting.{BufferAt, BufferStart, not_below}
+
+-- Where a log stands.
+pub record LogStatus : Type 0 where
+  -- where the next record may begin
+  pub position : Position
+  -- the place behind all that was reserved, and behind all that is on the device without a gap
+  pub reserved : ℕ
+  pub synced : ℕ
+  -- the batches that were noted and aren't wholly on the device
+  pub noted : List Batch
+  -- the sealed buffers that aren't on the device, and where the current one begins
+  pub waiting : List BufferAt
+  pub start : BufferStart
+  pub fault : Option IoError
+  pub pins : ℕ
+
+abbrev pub status_of : {D C : Type 0} → Log D C → LogStatus
+status_of log = record {
+  position = position_of log;
+  reserved = reserved_end log;
+  synced = synced_end log;
+  noted = noted_in log;
+  waiting = waiting_of log;
+  start = start_of log;
+  fault = fault_of log;
+  pins = pins_of log;
+}
+
+-- where the first of these buffers begins, or else the current one
+abbrev pub first_begin : List BufferAt → BufferStart → ℕ
+first_begin [] start = start.place
+first_begin (b ∷ bs) start = b.place
+
+-- the buffers are these, and the current one begins there
+abbrev pub rolled : List BufferAt → BufferStart → LogStatus → LogStatus
+rolled buffers start s = record s { waiting = buffers; start = start }
+
+-- those of them are written that begin below what was reserved
+abbrev pub flushed : List BufferAt → BufferStart → LogStatus → LogStatus
+flushed buffers start s = record s {
+  waiting = not_below s.reserved buffers;
+  start = start;
+  synced = first_begin (not_below s.reserved buffers) start;
+  noted = not_whole (first_begin (not_below s.reserved buffers) start) s.noted;
+}
