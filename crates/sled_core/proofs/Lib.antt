@@ -2,6 +2,7 @@ pub mod Behind
 pub mod Blobs
 pub mod Crash
 pub mod Flush
+pub mod Freed
 pub mod Holds
 pub mod Iterated
 pub mod Iterates

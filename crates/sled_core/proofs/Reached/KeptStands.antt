@@ -163,8 +163,11 @@ module _ (sum : List ℕ → ℕ) (size : ℕ) (Used : ℕ → Type 0) (old left
         item_kept sum size old left s.slot was.slot bytes s refl m of.reached item,
       )
 
-  -- The log file stands up to the same place.
-  module _ (H : History) (A : ℕ) (first : SnapshotModel) (reach : ℕ) (is : StandsTo sum size old H A first reach) (listed : (s : Segment) → Contains is.ordering s → Used (s.slot / size))
+  -- These segments are found in it, each in a used slot, and so is each that is held: the log file stands up to the same place. One in front of the segments
+  -- that are held may be gone.
+  module _ (H : History) (A : ℕ) (first : SnapshotModel) (reach : ℕ) (is : StandsTo sum size old H A first reach)
+      (ordering : List Segment) (numbers : IsOrdering sum size left (least_place size first) ordering) (listed : (s : Segment) → Contains ordering s → Used (s.slot / size))
+      (held : (s : Segment) → Contains is.ordering s → is.from / size * size ≤ s.place → Used (s.slot / size))
       (entered : (cut : ℕ) (low : is.from ≤ cut) (high : cut ≤ reach) (page : ℕ) (m : Message) (entry : Contains (table H cut page) m) → Used ((is.needed cut low high page m entry).0.segment.slot / size)) where
     abbrev least : ℕ
     least = least_place size first
@@ -172,26 +175,22 @@ module _ (sum : List ℕ → ℕ) (size : ℕ) (Used : ℕ → Type 0) (old left
     known : (t : Scanned) → Contains is.scanned t → Contains is.ordering t.segment × IsScanned sum size old t
     known t there = segment_there sum size old is.ordering is.scanned is.reads t there
 
-    still_read : (t : Scanned) → Contains is.scanned t → IsScanned sum size left t
-    still_read t there =
+    was : (s : Segment) → Contains ordering s → Contains is.ordering s
+    was s there = (is.numbers.found s).1 (keeps.before least s ((numbers.found s).0 there))
+
+    still_read : (t : Scanned) → Contains is.scanned t → Used (t.segment.slot / size) → IsScanned sum size left t
+    still_read t there used =
         let had = known t there in
-        scan_kept least t.segment ((is.numbers.found t.segment).0 had.0) (listed t.segment had.0) t.met t.stop t.why had.1
+        scan_kept least t.segment ((is.numbers.found t.segment).0 had.0) used t.met t.stop t.why had.1
 
-    numbers : IsOrdering sum size left least is.ordering
-    numbers = record {
-      ascending = is.numbers.ascending;
-      found = λ s. (λ there. found_kept least s ((is.numbers.found s).0 there) (listed s there), λ has. (is.numbers.found s).1 (keeps.before least s has));
-      placed = is.numbers.placed;
-    }
-
-    reading_of : (t : Scanned) → Contains is.scanned t → IsReading sum size left H t.segment
+    reading_of : (t : Scanned) → Contains is.scanned t → Used (t.segment.slot / size) → IsReading sum size left H t.segment
     unfolding IsScan
-    reading_of t there =
+    reading_of t there used =
         let had = known t there in
         let found = (is.numbers.found t.segment).0 had.0 in
-        let bytes = bytes_kept least t.segment found (listed t.segment had.0) in
+        let bytes = bytes_kept least t.segment found used in
         let alike = alike_kept sum size old left t.segment.slot found.slot bytes t.segment.place 20 t.met t.stop had.1.0 in
-        let read = still_read t there in
+        let read = still_read t there used in
         record {
           scan = t;
           segment = refl;
@@ -200,21 +199,42 @@ module _ (sum : List ℕ → ℕ) (size : ℕ) (Used : ℕ → Type 0) (old left
           caps = is.caps t there;
         }
 
-    each : (s : Segment) → Contains is.ordering s → IsReading sum size left H s
-    each s there = let t = scan_there sum size old is.ordering is.scanned is.reads s there in subst (IsReading sum size left H) t.2 (reading_of t.0 t.1)
+    each : (s : Segment) → Contains ordering s → IsReading sum size left H s
+    each s there =
+        let t = scan_there sum size old is.ordering is.scanned is.reads s (was s there) in
+        subst (IsReading sum size left H) t.2 (reading_of t.0 t.1 (subst (λ (x : Segment). Used (x.slot / size)) (sym t.2) (listed s there)))
 
-    as_far : (t : Scanned) → Contains is.scanned t → IsAsFar sum size left is.ordering t
-    as_far t there = record {
-      scan = t;
-      segment = refl;
-      there = (known t there).0;
-      read = still_read t there;
-      far = omega arith;
-      leads = λ goes. goes;
-    }
+    as_far : (t : Scanned) → Contains is.scanned t → is.from / size * size ≤ t.segment.place → IsAsFar sum size left ordering t
+    as_far t there low =
+        let had = known t there in
+        let used = held t.segment had.0 low in
+        record {
+          scan = t;
+          segment = refl;
+          there = (numbers.found t.segment).1 (found_kept least t.segment ((is.numbers.found t.segment).0 had.0) used);
+          read = still_read t there used;
+          far = omega arith;
+          leads = λ goes. goes;
+        }
 
     needed : (cut : ℕ) → is.from ≤ cut → cut ≤ reach → (page : ℕ) (m : Message) → Contains (table H cut page) m → IsSegmentOf sum size left H cut m × StandsInline sum size left m m.pointer
     needed cut low high page m entry = let had = is.needed cut low high page m entry in needed_kept H cut m had.0 (entered cut low high page m entry) had.1
 
+    pub kept_among : 256 ≤ size → StandsFrom sum size left H A first reach is.from
+    kept_among some = stands_still sum size old left H A first reach is ordering numbers each (λ s there. is.marks s (was s there)) as_far some (λ s there. is.marks_below s (was s there)) needed
+
+  -- So it does where all that were found are in used slots.
+  module _ (H : History) (A : ℕ) (first : SnapshotModel) (reach : ℕ) (is : StandsTo sum size old H A first reach) (listed : (s : Segment) → Contains is.ordering s → Used (s.slot / size))
+      (entered : (cut : ℕ) (low : is.from ≤ cut) (high : cut ≤ reach) (page : ℕ) (m : Message) (entry : Contains (table H cut page) m) → Used ((is.needed cut low high page m entry).0.segment.slot / size)) where
+    same_numbers : IsOrdering sum size left (least_place size first) is.ordering
+    same_numbers = record {
+      ascending = is.numbers.ascending;
+      found = λ s. (
+        λ there. found_kept (least_place size first) s ((is.numbers.found s).0 there) (listed s there),
+        λ has. (is.numbers.found s).1 (keeps.before (least_place size first) s has),
+      );
+      placed = is.numbers.placed;
+    }
+
     pub kept_stands : 256 ≤ size → StandsFrom sum size left H A first reach is.from
-    kept_stands some = stands_still sum size old left H A first reach is is.ordering numbers each is.marks as_far some is.marks_below needed
+    kept_stands some = kept_among H A first reach is is.ordering same_numbers listed (λ s there low. listed s there) entered some

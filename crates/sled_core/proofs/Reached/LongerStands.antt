@@ -84,4 +84,4 @@ module _ (sum : List ℕ → ℕ) (size : ℕ) (log more : List ℕ) (H : Histor
       )
 
   pub longer_stands : 256 ≤ size → StandsFrom sum size left H A first reach is.from
-  longer_stands some = stands_still sum size log left H A first reach is is.ordering numbers each is.marks as_far some is.marks_below needed
+  longer_stands some = stands_still sum size log left H A first reach is is.ordering numbers each is.marks (λ t there low. as_far t there) some is.marks_below needed

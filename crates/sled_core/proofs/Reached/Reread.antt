@@ -1,4 +1,4 @@
--- A log file is read anew behind a write: where each segment of before is read at least as far, and what is met is of the history, it stands up to the same place.
+-- A log file is read anew behind a write: where each segment that is held is read at least as far, and what is met is of the history, it stands up to the same place.
 use Rattle.std.proofs.Common.{◌≡◌, ◌≢◌, ◌⊎◌, ◌∙◌, ◌+◌, ◌*◌, ◌/◌, ◌%◌, ◌<◌, ◌≤◌, ℕ, List, [], ◌∷◌, refl, sym, ap, subst, arith, inl, inr}
 use Rattle.std.specs.List.{Contains}
 use Rattle.sled_codec.specs.History.{Message, History, table}
@@ -12,7 +12,7 @@ use Rattle.sled_core.specs.Tail.{Scanned, IsScanned}
 use Rattle.sled_core.specs.inside.Tail.{IsOrdering, AreScanned, least_place}
 use Rattle.sled_core.proofs.Tail.OneReading.{one_scan}
 use Rattle.sled_core.proofs.Tail.OneTail.{scan_there, segment_there, reading_there}
-use Rattle.sled_core.proofs.Tail.SegmentsFrom.{tail_grows}
+use Rattle.sled_core.proofs.Tail.SegmentsFrom.{tail_stays}
 use Rattle.sled_core.proofs.Reached.StandsTo.{StandsFrom, StandsTo}
 
 -- What is met in a segment, all of it of the history. Behind a Cap nothing of that begins in the segment.
@@ -63,12 +63,13 @@ module _ (sum : List ℕ → ℕ) (size : ℕ) (old log : List ℕ) (H : History
   abbrev readings : (xs : List Scanned) × AreScanned sum size log ordering xs
   readings = scans_of sum size log H ordering each
 
-  module _ (on : (t : Scanned) → Contains is.scanned t → IsAsFar sum size log ordering t) where
-    -- a segment that was found is found
-    still_found : (s : Segment) → Contains is.ordering s → Contains ordering s
-    still_found s there =
+  -- each of them from where what is held counts: one in front of that may be gone
+  module _ (on : (t : Scanned) → Contains is.scanned t → is.from / size * size ≤ t.segment.place → IsAsFar sum size log ordering t) where
+    -- a segment that was found from there on is found
+    still_found : (s : Segment) → Contains is.ordering s → is.from / size * size ≤ s.place → Contains ordering s
+    still_found s there low =
         let t = scan_there sum size old is.ordering is.scanned is.reads s there in
-        let u = on t.0 t.1 in
+        let u = on t.0 t.1 (omega (arith, low, ap (λ (x : Segment). x.place) t.2)) in
         subst (Contains ordering) (u.segment ∙ t.2) u.there
 
     -- What led on up to the place does so.
@@ -76,14 +77,14 @@ module _ (sum : List ℕ → ℕ) (size : ℕ) (old log : List ℕ) (H : History
         → (t : Scanned) × Contains readings.0 t × (t.segment.place ≡ z) × ((reach ≤ z + t.stop) ⊎ ((t.why ≢ Broken) × (u : Segment) × Contains ordering u × (u.place ≡ z + size)))
     gapless_still z aligned low under =
         let found = is.gapless z aligned low under in
-        let u = on found.0 found.1 in
+        let u = on found.0 found.1 (omega (arith, low, found.2)) in
         let longer = u.far in (
           u.scan,
           reading_there sum size log ordering readings.0 readings.1 u.scan u.there u.read,
           ap (λ (s : Segment). s.place) u.segment ∙ found.2,
           elim found.3 [
             | inl far ↦ inl (omega (arith, far, longer))
-            | inr leads ↦ inr (u.leads leads.0, leads.1, still_found leads.1 leads.2, leads.3)
+            | inr leads ↦ inr (u.leads leads.0, leads.1, still_found leads.1 leads.2 (omega (arith, low, leads.3)), leads.3)
           ],
         )
 
@@ -108,7 +109,7 @@ module _ (sum : List ℕ → ℕ) (size : ℕ) (old log : List ℕ) (H : History
         from = is.from;
         from_low = is.from_low;
         from_high = is.from_high;
-        tail_from = let low = is.tail_from in let grows = tail_grows size some (least_place size first) is.ordering ordering still_found in omega (arith, low, grows);
+        tail_from = tail_stays size some (least_place size first) (is.from / size * size) is.ordering ordering (λ s there. (is.marks s there).below) still_found is.tail_from;
         gapless = gapless_still;
         needed = needed;
       },

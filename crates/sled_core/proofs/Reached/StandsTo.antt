@@ -22,6 +22,29 @@ pub use Rattle.sled_core.specs.inside.Reached.{StandsTo}
 abbrev pub StandsFrom : (List ℕ → ℕ) → ℕ → List ℕ → History → ℕ → SnapshotModel → ℕ → ℕ → Type 0
 StandsFrom sum size log H A first reach from = (is : StandsTo sum size log H A first reach) × (is.from ≡ from)
 
+-- A tail that begins no lower than a segment which begins at the stable place or above it begins at the snapshot's: no mark is as high.
+pub tail_of_snapshot : (sum : List ℕ → ℕ) (size : ℕ) (log : List ℕ) → 256 ≤ size → (H : History) (A : ℕ) (first : SnapshotModel) (reach : ℕ) (is : StandsTo sum size log H A first reach)
+    (place : ℕ) → place % size ≡ 0 → A ≤ place → place ≤ tail_begins size (least_place size first) is.ordering → place ≤ least_place size first
+tail_of_snapshot sum size log some H A first reach is place aligned above far = by (greatest_is (least_place size first) is.ordering) where
+  greatest : ℕ
+  greatest = greatest_mark (least_place size first) is.ordering
+
+  low : place ≤ greatest
+  low = let parts = put_down size greatest in omega (arith, far, parts.0)
+
+  not_raised : raised size A ≤ place
+  not_raised =
+      let own = one_multiple size some place (place + (size - 1)) aligned (omega arith) (omega (arith, some)) in
+      let within = lower_multiple size some (A + (size - 1)) (place + (size - 1)) (omega (arith, above)) in
+      omega (arith, own, within)
+
+  by : (greatest ≡ least_place size first) ⊎ ((s : Segment) × Contains is.ordering s × (s.mark ≡ pos greatest)) → place ≤ least_place size first
+  by (inl same) = omega (arith, same, low)
+  by (inr (s, there, mark)) = ⊎_elim
+      (λ lower. let under : greatest < A = mark_below s.mark greatest A mark lower in absurd (omega (arith, under, low, above)))
+      (λ within. let same : greatest ≡ within.0 = pos_injective greatest within.0 (sym mark ∙ within.1) in absurd (omega (arith, same, within.2, not_raised, low)))
+      (is.marks_below s there)
+
 module _ (sum : List ℕ → ℕ) (size : ℕ) (log : List ℕ) (some : 256 ≤ size) (H : History) (first : SnapshotModel) (reach : ℕ) (is : StandsTo sum size log H reach first reach) where
   abbrev pub least : ℕ
   least = least_place size first
@@ -89,27 +112,11 @@ module _ (sum : List ℕ → ℕ) (size : ℕ) (log : List ℕ) (some : 256 ≤ 
 
   -- Where it begins at that place, that is the snapshot's own.
   snapshot_there : begins ≡ reach → place ≡ reach
-  snapshot_there at = by (greatest_is least is.ordering) where
-    greatest : ℕ
-    greatest = greatest_mark least is.ordering
-
-    low : begins ≤ greatest
-    low = let parts = put_down size greatest in omega (arith, parts.0)
-
-    not_raised : raised size reach ≡ reach
-    not_raised = one_multiple size some reach (reach + (size - 1)) (ap (λ n. n % size) (sym at) ∙ aligned) (omega arith) (omega (arith, some))
-
-    by : (greatest ≡ least) ⊎ ((s : Segment) × Contains is.ordering s × (s.mark ≡ pos greatest)) → place ≡ reach
-    by (inl same) =
-        let parts = put_down size place in
-        let above = is.not_below in
-        omega (arith, same, low, at, parts.0, above)
-    by (inr (s, there, mark)) = ⊎_elim
-        (λ lower. let under : greatest < reach = mark_below s.mark greatest reach mark lower in absurd (omega (arith, under, low, at)))
-        (λ within.
-        let same : greatest ≡ within.0 = pos_injective greatest within.0 (sym mark ∙ within.1) in
-        absurd (omega (arith, same, within.2, not_raised, low, at)))
-        (is.marks_below s there)
+  snapshot_there at =
+      let own = tail_of_snapshot sum size log some H reach first reach is reach (ap (λ n. n % size) (sym at) ∙ aligned) (omega arith) (omega (arith, at)) in
+      let parts = put_down size place in
+      let above = is.not_below in
+      omega (arith, own, parts.0, above)
 
   -- The tail of the log file.
 

@@ -93,7 +93,7 @@ module _ (sum : List ℕ → ℕ) (size : ℕ) (some : 256 ≤ size) (old : List
 
   -- Its header didn't come, or lies below the segments that are asked for.
   pub stands_without : ((s : Segment) → IsFoundSegment sum size left least s → s.slot ≢ slot * size) → StandsFrom sum size left H A first reach is.from
-  stands_without missing = stands_still sum size old left H A first reach is is.ordering numbers each is.marks (as_far is.ordering (λ s there. there)) some is.marks_below needed where
+  stands_without missing = stands_still sum size old left H A first reach is is.ordering numbers each is.marks (λ t there low. as_far is.ordering (λ s had. had) t there) some is.marks_below needed where
     numbers : IsOrdering sum size left least is.ordering
     numbers = record {
       ascending = is.numbers.ascending;
@@ -146,7 +146,7 @@ module _ (sum : List ℕ → ℕ) (size : ℕ) (some : 256 ≤ size) (old : List
     stands_with = stands_still sum size old left H A first reach is ordering numbers
         (λ s there. elim (put_cases seg is.ordering s there) [ inl one ↦ subst (IsReading sum size left H) one reading | inr had ↦ each s had ])
         (λ s there. elim (put_cases seg is.ordering s there) [ inl one ↦ subst (IsMarkOf H) one its_mark | inr had ↦ is.marks s had ])
-        (as_far ordering (others_there seg is.ordering)) some
+        (λ t there low. as_far ordering (others_there seg is.ordering) t there) some
         (λ s there. elim (put_cases seg is.ordering s there) [ inl one ↦ subst (λ (x : Segment). IsMarkBelow size H A x.mark) one mark_below | inr had ↦ is.marks_below s had ])
         needed
 

@@ -215,7 +215,7 @@ module _ (sum : List ℕ → ℕ) (size : ℕ) (some : 256 ≤ size) (old : List
     ]
 
     pub stands_behind : StandsFrom sum size left H A first reach is.from
-    stands_behind = stands_still sum size old left H A first reach is is.ordering numbers each is.marks as_far some is.marks_below
+    stands_behind = stands_still sum size old left H A first reach is is.ordering numbers each is.marks (λ t there low. as_far t there) some is.marks_below
         (λ cut low high page m entry. segment_left sum size some old slot from asked now left inside no_more leaves H cut (all_found 0) lies reads_on m (is.needed cut low high page m entry))
 
 -- Where only what the log wrote passes as its own, a crash leaves the first of the records that were written.

@@ -3,7 +3,7 @@ use Rattle.std.proofs.Common.{⊎_elim, ◌≡◌, ◌⊎◌, ◌∙◌, ◌+◌
 use Rattle.std.specs.List.{Contains, filter}
 use Rattle.std.proofs.lemmas.Bool.{cases_lt, leb-true, le-leb}
 use Rattle.sled_codec.specs.History.{History}
-use Rattle.sled_store.proofs.Segments.Elements.{in_first, in_rest, in_cases, in_nothing, in_filter, from_filter}
+use Rattle.sled_store.proofs.Segments.Elements.{in_first, in_cases, in_nothing, in_filter, from_filter}
 use Rattle.sled_core.specs.declared.iterator.Segment.{Segment}
 use Rattle.sled_core.specs.inside.Recoverable.{IsMarkBelow}
 use Rattle.sled_core.proofs.Read.FoundLemmas.{pos_injective}
@@ -20,6 +20,14 @@ segments_from place = filter (λ s. nat_le place s.place)
 abbrev pub scanned_from : ℕ → List Scanned → List Scanned
 scanned_from place = filter (λ x. nat_le place x.segment.place)
 
+-- segments that are picked out of others rise as these do
+pub rises_picked : (p : Segment → Bool) (ss : List Segment) → Rises ss → Rises (filter p ss)
+rises_picked p [] rises = tt
+rises_picked p (s ∷ ss) rises = by (p s) (rises_picked p ss rises.1) where
+  by : (b : Bool) → Rises (filter p ss) → Rises (cond b (s ∷ filter p ss) (filter p ss))
+  by true rest = (λ t there. rises.0 t (from_filter p ss t there).0, rest)
+  by false rest = rest
+
 module _ (place : ℕ) where
   pub in_segments : (ss : List Segment) (s : Segment) → Contains ss s → place ≤ s.place → Contains (segments_from place ss) s
   in_segments ss s there above = in_filter (λ (t : Segment). nat_le place t.place) ss s there (le-leb place s.place above)
@@ -32,13 +40,6 @@ module _ (place : ℕ) where
 
   pub of_scanned : (xs : List Scanned) (x : Scanned) → Contains (scanned_from place xs) x → Contains xs x × (place ≤ x.segment.place)
   of_scanned xs x there = let from = from_filter (λ (t : Scanned). nat_le place t.segment.place) xs x there in (from.0, leb-true place x.segment.place from.1)
-
-  rises_from : (ss : List Segment) → Rises ss → Rises (segments_from place ss)
-  rises_from [] rises = tt
-  rises_from (s ∷ ss) rises = by (nat_le place s.place) (rises_from ss rises.1) where
-    by : (b : Bool) → Rises (segments_from place ss) → Rises (cond b (s ∷ segments_from place ss) (segments_from place ss))
-    by true rest = (λ t there. rises.0 t (of_segments ss t there).0, rest)
-    by false rest = rest
 
   -- What is met in them is met as before.
   pub reads_from : (sum : List ℕ → ℕ) (size : ℕ) (log : List ℕ) (ss : List Segment) (xs : List Scanned) → AreScanned sum size log ss xs → AreScanned sum size log (segments_from place ss) (scanned_from place xs)
@@ -63,7 +64,7 @@ ascends_of (s ∷ t ∷ ss) rises = ap (λ (b : Bool). b && is_ascending (t ∷ 
 -- They are the ordering from that place on.
 pub ordering_from : (sum : List ℕ → ℕ) (size : ℕ) (log : List ℕ) (least place : ℕ) (ss : List Segment) → least ≤ place → IsOrdering sum size log least ss → IsOrdering sum size log place (segments_from place ss)
 ordering_from sum size log least place ss low is = record {
-  ascending = ascends_of (segments_from place ss) (rises_from place ss (rises_of ss is.ascending));
+  ascending = ascends_of (segments_from place ss) (rises_picked (λ (t : Segment). nat_le place t.place) ss (rises_of ss is.ascending));
   found = λ s. (
     λ there. let from = of_segments place ss s there in let had = (is.found s).0 from.0 in record { slot = had.slot; header = had.header; not_below = from.1 },
     λ has. let above = has.not_below in in_segments place ss s ((is.found s).1 (record { slot = has.slot; header = has.header; not_below = omega (arith, above, low) })) above,
@@ -85,18 +86,24 @@ mark_within least (t ∷ ss) s there = elim (in_cases t s ss there) [
   | inr later ↦ (let rest = mark_within least ss s later in omega (arith, rest))
 ]
 
--- and with more segments that is no less
-greatest_grows : (least : ℕ) (ss ts : List Segment) → ((s : Segment) → Contains ss s → Contains ts s) → greatest_mark least ss ≤ greatest_mark least ts
-greatest_grows least [] ts among = greatest_above least ts
-greatest_grows least (s ∷ ss) ts among =
-    let first = mark_within least ts s (among s (in_first s ss)) in
-    let rest = greatest_grows least ss ts (λ t there. among t (in_rest s t ss there)) in
-    omega (arith, first, rest)
-
 module _ (size : ℕ) (some : 256 ≤ size) where
-  -- With more segments the tail begins no lower.
-  pub tail_grows : (least : ℕ) (ss ts : List Segment) → ((s : Segment) → Contains ss s → Contains ts s) → tail_begins size least ss ≤ tail_begins size least ts
-  tail_grows least ss ts among = lower_multiple size some (greatest_mark least ss) (greatest_mark least ts) (greatest_grows least ss ts among)
+  -- Where the tail begins at a place or above it, it still does with other segments, if those that begin there or above are among them: a mark lies below its
+  -- segment, so the greatest one isn't that of a segment below the place.
+  pub tail_stays : (least place : ℕ) (ss ts : List Segment) → ((s : Segment) → Contains ss s → s.mark <ℤ pos s.place) → ((s : Segment) → Contains ss s → place ≤ s.place → Contains ts s)
+      → place ≤ tail_begins size least ss → place ≤ tail_begins size least ts
+  tail_stays least place ss ts below among far = by (greatest_is least ss) where
+    no_lower : greatest_mark least ss ≤ greatest_mark least ts → place ≤ tail_begins size least ts
+    no_lower le = let on = lower_multiple size some (greatest_mark least ss) (greatest_mark least ts) le in omega (arith, far, on)
+
+    by : (greatest_mark least ss ≡ least) ⊎ ((s : Segment) × Contains ss s × (s.mark ≡ pos (greatest_mark least ss))) → place ≤ tail_begins size least ts
+    by (inl at) = no_lower (let above = greatest_above least ts in omega (arith, at, above))
+    by (inr (s, there, mark)) = elim (cases_lt s.place place) [
+      | inl under ↦ absurd (
+          let parts = put_down size (greatest_mark least ss) in
+          let lower : greatest_mark least ss < s.place = mark_below s.mark (greatest_mark least ss) s.place mark (below s there) in
+          omega (arith, far, parts.0, lower, under))
+      | inr above ↦ no_lower (let its = mark_within least ts s (among s there above) in omega (arith, its, ap place_of_mark mark))
+    ]
 
   -- Where each mark lies before the end of a segment, it begins with that or below it.
   pub tail_within : (least place : ℕ) → place % size ≡ 0 → least ≤ place → (ss : List Segment) → ((s : Segment) → Contains ss s → s.mark <ℤ pos (place + size)) → tail_begins size least ss ≤ place
