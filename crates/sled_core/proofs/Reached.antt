@@ -31,5 +31,6 @@ pub mod TornBehind
 pub mod UnreachedWrite
 pub mod WholeBegun
 pub mod WholeBehind
+pub mod WholeSegments
 pub mod WrittenUnread
 pub mod WrittenWhole

@@ -15,7 +15,7 @@ use Rattle.sled_core.specs.LogFile.{StaysFrom}
 use Rattle.sled_core.specs.Logged.{logged}
 use Rattle.sled_core.specs.OpenBatches.{stable_below}
 use Rattle.sled_core.specs.inside.Running.{FitsIn, FitsLine, FitsWith}
-use Rattle.sled_core.specs.inside.Slots.{HaveEntries, HasAccount}
+use Rattle.sled_core.specs.inside.Slots.{HasAccount}
 use Rattle.sled_core.proofs.Blobs.Leaves.{ChangesAt, with_names, blobs_fit_beside, names_fit_beside, leaves_beside, entries_beside, stored_beside}
 use Rattle.sled_core.proofs.Blobs.Unnamed.{IsUnnamed}
 use Rattle.sled_core.proofs.Flush.FlushLemmas.{holds_over}
@@ -102,8 +102,7 @@ module _ (sum : List ℕ → ℕ) (size : ℕ) (device : State) (blobs snapshots
       parts = fits_line_over line fits.reach pins fits.parts;
       batches = fits.batches;
       slots = fits.slots;
-      begun = fits.begun;
+      whole = fits.whole;
       own = fits.own;
-      entries = subst (λ (file : ℤ → Option (List ℕ)). HaveEntries sum size file (logged H) m) (sym changes.same_files) fits.entries;
       account = subst (λ (file : ℤ → Option (List ℕ)). HasAccount sum size file H U m) (sym changes.same_files) fits.account;
     }

@@ -84,8 +84,7 @@ module _ (sum : List ℕ → ℕ) (H : History) (A less f lower : ℕ) (U : List
     parts = fits_line_claimed log.config.config.segment_size (state_of (trace log.config.device)) log.fault.kept (line_of log) fits.reach log.pins fits.parts;
     batches = fits.batches;
     slots = fits.slots;
-    begun = fits.begun;
+    whole = fits.whole;
     own = fits.own;
-    entries = fits.entries;
     account = fits.account;
   }

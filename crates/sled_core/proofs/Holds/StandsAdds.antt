@@ -10,59 +10,36 @@ use Rattle.sled_core.specs.declared.iterator.Segment.{Segment}
 use Rattle.sled_core.specs.declared.iterator.scan.ScannedRecord.{ScannedRecord}
 use Rattle.sled_core.specs.declared.iterator.scan.ScanEnd.TheVariants.{Capped}
 use Rattle.sled_core.specs.inside.Reached.{BegunSegment, ReachesIn, StandsAmong, StandsTo}
-use Rattle.sled_core.specs.inside.Recoverable.{NothingBehind, NoMessageBegins, NoBatchBegins, StandsInline, IsMarkBelow, IsOfHistory, IsReadOn, IsSegmentOf, LiesInSegment}
+use Rattle.sled_core.specs.inside.Recoverable.{NothingBehind, NoMessageBegins, NoBatchBegins, StandsInline, IsMarkBelow, IsOfHistory, IsSegmentOf, LiesInSegment}
 use Rattle.sled_core.specs.Recoverable.{NoHeaderOfZeros}
 use Rattle.sled_core.specs.SealedBuffers.{AreZeros}
 use Rattle.sled_core.specs.Tail.{Scanned}
 use Rattle.sled_core.proofs.Reached.Marks.{less_than}
-use Rattle.sled_core.proofs.Reached.ReadOn.{met_within, reads_on_in}
 use Rattle.sled_core.proofs.Reached.SegmentsBeside.{follows}
 use Rattle.sled_core.proofs.Sealed.HeadWritten.{reached_near}
 use Rattle.sled_core.proofs.Tail.GreatestMark.{mark_below}
-use Rattle.sled_core.proofs.Holds.Added.{was_or_added, stays_there}
+use Rattle.sled_core.proofs.Holds.Added.{was_or_added, batch_was, beside_message, no_batch, none_begins, reads_beside}
 use Rattle.sled_core.proofs.Holds.BegunLemmas.{entry_stays}
 use Rattle.sled_core.proofs.Holds.PlacesBeside.{LiesBeside, cap_beside, first_below, lies_beside, met_beside}
 
 module _ (sum : List ℕ → ℕ) (size : ℕ) (log : List ℕ) (some : 256 ≤ size) (H H' : History) (A : ℕ) (first : SnapshotModel) (reach : ℕ) (is : StandsTo sum size log H A first reach)
     (m : Message) (beside : (t : Scanned) → Contains is.scanned t → LiesBeside size t m.place) (marks : (s : Segment) → Contains is.ordering s → s.mark <ℤ pos m.place)
     (adds : AddsMessage H m H') (above : reach ≤ m.place) (lies : LiesInSegment size m) where
-  -- No message of the new history begins where none of the old one did, and the new one doesn't.
-  none_begins : (low high : ℕ) → (m.place < low) ⊎ (high ≤ m.place) → NoMessageBegins H low high → NoMessageBegins H' low high
-  none_begins low high apart none x there = ⊎_elim (none x) (λ own. subst (λ (y : Message). (y.place < low) ⊎ (high ≤ y.place)) own apart) (was_or_added H H' m adds x there)
-
-  batch_was : (b : Batch) → Contains H'.batches b → Contains H.batches b
-  batch_was b there = subst (λ (l : List Batch). Contains l b) adds.batches there
-
-  batch_stays : (b : Batch) → Contains H.batches b → Contains H'.batches b
-  batch_stays b there = subst (λ (l : List Batch). Contains l b) (sym adds.batches) there
-
-  no_batch : (low high : ℕ) → NoBatchBegins H low high → NoBatchBegins H' low high
-  no_batch low high none b there = none b (batch_was b there)
-
   met_apart : (s : Scanned) (x : ScannedRecord) → Contains is.scanned s → Contains s.met x → (low : ℕ) → x.place ≤ low → (m.place < low) ⊎ (x.place + x.len ≤ m.place)
   met_apart = met_beside sum size log some H A first reach is m.place beside
 
-  -- A record beside which the message lies is of the new history.
-  of_apart : (x : ScannedRecord) → ((low : ℕ) → x.place ≤ low → (m.place < low) ⊎ (x.place + x.len ≤ m.place)) → IsOfHistory sum size log H x → IsOfHistory sum size log H' x
-  of_apart x apart (inl own) =
-      inl (own.0, stays_there H H' m adds own.0 own.1, own.2, own.3, none_begins (x.place + 1) (x.place + x.len) (apart (x.place + 1) (omega arith)) own.4, no_batch x.place (x.place + x.len) own.5)
-  of_apart x apart (inr (inl batch)) =
-      inr (inl (batch.0, batch_stays batch.0 batch.1, batch.2, batch.3, none_begins x.place (x.place + x.len) (apart x.place (omega arith)) batch.4, no_batch (x.place + 1) (x.place + x.len) batch.5))
-  of_apart x apart (inr (inr given_up)) =
-      inr (inr (given_up.0, none_begins x.place (x.place + x.len) (apart x.place (omega arith)) given_up.1, no_batch x.place (x.place + x.len) given_up.2))
-
   of_new : (s : Scanned) (x : ScannedRecord) → Contains is.scanned s → Contains s.met x → IsOfHistory sum size log H x → IsOfHistory sum size log H' x
-  of_new s x here there = of_apart x (met_apart s x here there)
+  of_new s x here there = beside_message H H' m adds sum size log x (met_apart s x here there)
 
   -- where a segment ended in a Cap, the message lies in another one
   capped_new : (s : Scanned) → Contains is.scanned s → s.why ≡ Capped → NoMessageBegins H' (s.segment.place + s.stop) (s.segment.place + size) × NoBatchBegins H' (s.segment.place + s.stop) (s.segment.place + size)
   capped_new s here capped =
       let had = (is.caps s here).0 capped in
       let other = cap_beside sum size log some H A first reach is m.place beside s here capped in
-      (none_begins (s.segment.place + s.stop) (s.segment.place + size) other had.0, no_batch (s.segment.place + s.stop) (s.segment.place + size) had.1)
+      (none_begins H H' m adds (s.segment.place + s.stop) (s.segment.place + size) other had.0, no_batch H H' m adds (s.segment.place + s.stop) (s.segment.place + size) had.1)
 
   caps_new : (s : Scanned) → Contains is.scanned s → NothingBehind size H' s.segment.place s.stop s.why
-  caps_new s here = ((λ capped. capped_new s here capped), (λ goes b there. (is.caps s here).1 goes b (batch_was b there)))
+  caps_new s here = ((λ capped. capped_new s here capped), (λ goes b there. (is.caps s here).1 goes b (batch_was H H' m adds b there)))
 
   -- a mark that lay below the place does so still
   mark_new : (s : Segment) → Contains is.ordering s → IsMarkBelow size H' A s.mark
@@ -70,12 +47,8 @@ module _ (sum : List ℕ → ℕ) (size : ℕ) (log : List ℕ) (some : 256 ≤ 
     | inl below ↦ inl below
     | inr (n, at, under, message, batch, ended) ↦ (
         let low : n < m.place = mark_below s.mark n m.place at (marks s there) in
-        inr (n, at, under, none_begins A (n + 1) (inr (omega (arith, low))) message, no_batch A (n + 1) batch, λ b at_b. ended b (batch_was b at_b)))
+        inr (n, at, under, none_begins H H' m adds A (n + 1) (inr (omega (arith, low))) message, no_batch H H' m adds A (n + 1) batch, λ b at_b. ended b (batch_was H H' m adds b at_b)))
   ]
-
-  -- a segment that ends below the place is read to its end as before
-  reads_on : (s : Segment) → s.slot % size ≡ 0 → s.place + size ≤ reach → IsReadOn sum size log H s → IsReadOn sum size log H' s
-  reads_on s aligned under on = reads_on_in sum size log H H' s on (λ x met. of_apart x (λ low up. let within = met_within sum size log some H s aligned on x met in inr (omega (arith, within, under, above))))
 
   segment_of_new : (cut : ℕ) → cut ≤ reach → (n : Message) → IsSegmentOf sum size log H cut n → IsSegmentOf sum size log H' cut n
   segment_of_new cut high n of = record {
@@ -84,7 +57,7 @@ module _ (sum : List ℕ → ℕ) (size : ℕ) (log : List ℕ) (some : 256 ≤ 
     place = of.place;
     reached = of.reached;
     whole = λ x there same under. of.whole x (among H H' m cut adds (omega (arith, high, above)) x there under) same under;
-    full = λ under. reads_on of.segment of.found.slot (omega (arith, under, high)) (of.full under);
+    full = λ under. reads_beside H H' m adds sum size log some of.segment of.found.slot (omega (arith, under, high, above)) (of.full under);
   }
 
   needed_new : (cut : ℕ) → is.from ≤ cut → cut ≤ reach → (page : ℕ) (n : Message) → Contains (table H' cut page) n → IsSegmentOf sum size log H' cut n × StandsInline sum size log n n.pointer
@@ -99,15 +72,15 @@ module _ (sum : List ℕ → ℕ) (size : ℕ) (log : List ℕ) (some : 256 ≤ 
     numbers = is.numbers;
     scanned = is.scanned;
     reads = is.reads;
-    marks = λ s there. let mark = is.marks s there in record { least = mark.least; below = mark.below; apart = λ b at. mark.apart b (batch_was b at) };
+    marks = λ s there. let mark = is.marks s there in record { least = mark.least; below = mark.below; apart = λ b at. mark.apart b (batch_was H H' m adds b at) };
     truth = λ s x here there. of_new s x here there (is.truth s x here there);
     caps = caps_new;
     not_below = let low = is.not_below in omega (arith, low, same);
     passes = let passes = is.passes in omega (arith, passes, same);
     marks_below = λ s there. subst (λ n. IsMarkBelow size H' n s.mark) (sym same) (mark_new s there);
     placed = λ x there. ⊎_elim (is.placed x) (λ own. subst (LiesInSegment size) own lies) (was_or_added H H' m adds x there);
-    batched = λ b there. let placed = is.batched b (batch_was b there) in record { begins = placed.begins; alone = λ c at. placed.alone c (batch_was c at); nested = λ c at. placed.nested c (batch_was c at) };
-    closed = λ b there low. let under = is.closed b (batch_was b there) (omega (arith, low, same)) in omega (arith, under, same);
+    batched = λ b there. let placed = is.batched b (batch_was H H' m adds b there) in record { begins = placed.begins; alone = λ c at. placed.alone c (batch_was H H' m adds c at); nested = λ c at. placed.nested c (batch_was H H' m adds c at) };
+    closed = λ b there low. let under = is.closed b (batch_was H H' m adds b there) (omega (arith, low, same)) in omega (arith, under, same);
     from = is.from;
     from_low = is.from_low;
     from_high = let high = is.from_high in omega (arith, high, same);

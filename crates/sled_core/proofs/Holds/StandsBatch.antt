@@ -13,18 +13,17 @@ use Rattle.sled_core.specs.declared.iterator.Segment.{Segment}
 use Rattle.sled_core.specs.declared.iterator.scan.ScannedRecord.{ScannedRecord}
 use Rattle.sled_core.specs.declared.iterator.scan.ScanEnd.TheVariants.{Broken, Capped}
 use Rattle.sled_core.specs.inside.Reached.{BegunSegment, ReachesIn, StandsAmong, StandsTo}
-use Rattle.sled_core.specs.inside.Recoverable.{NothingBehind, BeginsInSegment, IsMarkBelow, IsMarkOf, IsOfHistory, IsPlacedBatch, IsReadOn, IsSegmentOf, NoBatchBegins, NoMessageBegins, StandsInline}
+use Rattle.sled_core.specs.inside.Recoverable.{NothingBehind, BeginsInSegment, IsMarkBelow, IsMarkOf, IsOfHistory, IsPlacedBatch, IsSegmentOf, NoBatchBegins, NoMessageBegins, StandsInline}
 use Rattle.sled_core.specs.Recoverable.{NoHeaderOfZeros}
 use Rattle.sled_core.specs.SealedBuffers.{AreZeros}
 use Rattle.sled_core.specs.inside.Scan.{IsFoundSegment}
 use Rattle.sled_core.specs.Scan.{IsScan}
 use Rattle.sled_core.specs.inside.Tail.{least_place}
 use Rattle.sled_core.specs.Tail.{Scanned}
-use Rattle.sled_core.proofs.Reached.AddedBatch.{batch_stays, batch_there, entry_was, message_stays, message_was, no_batch, no_end, no_message, was_or_batch}
+use Rattle.sled_core.proofs.Reached.AddedBatch.{batch_there, beside_batch, entry_was, message_was, no_batch, no_end, no_message, reads_below, was_or_batch}
 use Rattle.sled_core.proofs.Holds.PlacesBeside.{LiesBeside, cap_beside, first_below, lies_beside, met_beside}
 use Rattle.sled_core.proofs.Holds.PegLemmas.{LiesBesideFilling}
 use Rattle.sled_core.proofs.Reached.Marks.{less_than}
-use Rattle.sled_core.proofs.Reached.ReadOn.{met_within, reads_on_in}
 use Rattle.sled_core.proofs.Reached.SegmentsBeside.{follows}
 use Rattle.sled_core.proofs.Reached.StableBelow.{stable_one_more}
 use Rattle.sled_core.proofs.Sealed.HeadWritten.{reached_near}
@@ -93,36 +92,9 @@ module _ (sum : List ℕ → ℕ) (size : ℕ) (log : List ℕ) (some : 256 ≤ 
   met_apart : (s : Scanned) (x : ScannedRecord) → Contains is.scanned s → Contains s.met x → (low : ℕ) → x.place ≤ low → (b.low < low) ⊎ (x.place + x.len ≤ b.low)
   met_apart = met_beside sum size log some H A first reach is b.low beside
 
-  -- A record beside which the batch begins is of the new history.
-  of_apart : (x : ScannedRecord) → ((low : ℕ) → x.place ≤ low → (b.low < low) ⊎ (x.place + x.len ≤ b.low)) → IsOfHistory sum size log H x → IsOfHistory sum size log H' x
-  of_apart x apart (inl own) =
-      inl (
-        own.0,
-        message_stays H H' b adds own.0 own.1,
-        own.2,
-        own.3,
-        no_message H H' b adds (x.place + 1) (x.place + x.len) own.4,
-        no_batch H H' b adds x.place (x.place + x.len) (apart x.place (omega arith)) own.5,
-      )
-  of_apart x apart (inr (inl batch)) =
-      inr (inl (
-        batch.0,
-        batch_stays H H' b adds batch.0 batch.1,
-        batch.2,
-        batch.3,
-        no_message H H' b adds x.place (x.place + x.len) batch.4,
-        no_batch H H' b adds (x.place + 1) (x.place + x.len) (apart (x.place + 1) (omega arith)) batch.5,
-      ))
-  of_apart x apart (inr (inr given_up)) =
-      inr (inr (
-        given_up.0,
-        no_message H H' b adds x.place (x.place + x.len) given_up.1,
-        no_batch H H' b adds x.place (x.place + x.len) (apart x.place (omega arith)) given_up.2,
-      ))
-
   -- the batch begins in no record that is met
   of_new : (s : Scanned) (x : ScannedRecord) → Contains is.scanned s → Contains s.met x → IsOfHistory sum size log H x → IsOfHistory sum size log H' x
-  of_new s x here there = of_apart x (met_apart s x here there)
+  of_new s x here there = beside_batch H H' b adds sum size log x (met_apart s x here there)
 
   -- where a segment ended in a Cap, the batch begins in another one
   capped_new : (s : Scanned) → Contains is.scanned s → s.why ≡ Capped → NoMessageBegins H' (s.segment.place + s.stop) (s.segment.place + size) × NoBatchBegins H' (s.segment.place + s.stop) (s.segment.place + size)
@@ -164,10 +136,6 @@ module _ (sum : List ℕ → ℕ) (size : ℕ) (log : List ℕ) (some : 256 ≤ 
         ))
   ]
 
-  -- a segment that ends below the place is read to its end as before
-  reads_on : (s : Segment) → s.slot % size ≡ 0 → s.place + size ≤ reach → IsReadOn sum size log H s → IsReadOn sum size log H' s
-  reads_on s aligned under on = reads_on_in sum size log H H' s on (λ x met. of_apart x (λ low up. let within = met_within sum size log some H s aligned on x met in inr (omega (arith, within, under, above))))
-
   segment_of_new : (cut : ℕ) → cut ≤ reach → (n : Message) → IsSegmentOf sum size log H cut n → IsSegmentOf sum size log H' cut n
   segment_of_new cut high n of = record {
     segment = of.segment;
@@ -175,7 +143,7 @@ module _ (sum : List ℕ → ℕ) (size : ℕ) (log : List ℕ) (some : 256 ≤ 
     place = of.place;
     reached = of.reached;
     whole = λ x there same under. of.whole x (message_was H H' b adds x there) same under;
-    full = λ under. reads_on of.segment of.found.slot (omega (arith, under, high)) (of.full under);
+    full = λ under. reads_below H H' b adds sum size log some of.segment of.found.slot (omega (arith, under, high, above)) (of.full under);
   }
 
   needed_new : (cut : ℕ) → is.from ≤ cut → cut ≤ reach → (page : ℕ) (n : Message) → Contains (table H' cut page) n → IsSegmentOf sum size log H' cut n × StandsInline sum size log n n.pointer

@@ -1,19 +1,19 @@
 -- What stands in the file of a log that fits a history is what an iterator of it asks for.
-use Rattle.std.proofs.Common.{◌≡◌, ◌∙◌, ◌+◌, ◌*◌, ◌/◌, ◌%◌, ◌^◌, ◌<◌, ◌≤◌, ℕ, suc, ℤ, pos, false, List, [], ◌∷◌, map, length, None, refl, sym, ap, subst, arith, inl, inr}
+use Rattle.std.proofs.Common.{◌≡◌, ◌⊎◌, ◌∙◌, ◌+◌, ◌*◌, ◌/◌, ◌%◌, ◌^◌, ◌<◌, ◌≤◌, ℕ, suc, ℤ, pos, false, List, [], ◌∷◌, map, length, None, refl, sym, ap, subst, arith, inl, inr}
 use Rattle.std.specs.List.{Contains}
 use Rattle.std.proofs.Math.Nat.{mul-mod_left, suc-mul}
-use Rattle.std.proofs.lemmas.Bool.{cases_lt, cases_order}
+use Rattle.std.proofs.lemmas.Bool.{cases_order}
 use Rattle.std.proofs.lemmas.List.{length-map}
 use Rattle.std.proofs.lemmas.List.Elements.{All-head}
 use Rattle.sled_codec.specs.Coords.{raised}
-use Rattle.sled_codec.specs.History.{Message, History}
+use Rattle.sled_codec.specs.History.{Batch, Message, History}
 use Rattle.sled_codec.specs.Places.{part}
 use Rattle.sled_codec.specs.Record.{IsHeader}
 use Rattle.sled_codec.specs.Snapshots.{SnapshotModel}
 use Rattle.sled_codec.specs.WellFormed.{LieApart}
 use Rattle.sled_store.specs.Device.{State, Trace, state_of}
 use Rattle.sled_store.specs.SegmentStates.{Machine, is_free, slot_at}
-use Rattle.sled_store.proofs.Names.OneBegin.{one_begin}
+use Rattle.sled_store.proofs.Histories.Ascending.{apart_ascends}
 use Rattle.sled_core.specs.declared.iterator.log_iter.LogIter.{LogIter}
 use Rattle.sled_core.specs.declared.logger.Log.{Log}
 use Rattle.sled_core.specs.inside.Begun.{FollowOn, line_end}
@@ -32,17 +32,17 @@ use Rattle.sled_core.specs.inside.Reached.{ReachesIn, StandsAmong}
 use Rattle.sled_core.specs.Recoverable.{NoHeaderOfZeros}
 use Rattle.sled_core.specs.inside.Recoverable.{PassesIfThere}
 use Rattle.sled_core.specs.inside.Running.{FitsWith}
-use Rattle.sled_core.specs.inside.Tail.{least_place}
+use Rattle.sled_core.specs.inside.Slots.{IsWholeSegment}
 use Rattle.sled_core.specs.Tail.{place_of_mark}
 use Rattle.sled_core.proofs.Blobs.FirmContent.{blobs_read, firm_files, firm_leaves, firm_own}
 use Rattle.sled_core.proofs.Holds.BufferEnds.{written_behind}
 use Rattle.sled_core.proofs.Holds.FitsBatches.{stable_noted}
 use Rattle.sled_core.proofs.Holds.WholeHistory.{whole_apart}
-use Rattle.sled_core.proofs.Iterated.OnFile.{AreSlotsOf, HasEntryIn, IsEndOf, gives_on_file}
+use Rattle.sled_core.proofs.Iterated.OnFile.{AreSlotsOf, gives_on_file}
+use Rattle.sled_core.proofs.Iterated.ReadHere.{IsReadHere, read_held, read_whole}
 use Rattle.sled_core.proofs.Line.WrittenSlots.{headers_line}
 use Rattle.sled_core.proofs.Logged.Messages.{logged_apart, logged_there, logged_twice}
-use Rattle.sled_core.proofs.Logged.Names.{have_entries_alike}
-use Rattle.sled_core.proofs.Logged.Stands.{among_alike}
+use Rattle.sled_core.proofs.Logged.Stands.{among_alike, whole_alike}
 use Rattle.sled_core.proofs.Reached.StableBelow.{stable_closed, stable_low}
 use Rattle.sled_core.proofs.Start.ReadyLemmas.{raised_same}
 use Rattle.sled_core.proofs.Tail.Multiples.{apart, put_down, raised_within}
@@ -107,13 +107,17 @@ module _ {D C : Type 0} (trace : D → Trace) (sum : List ℕ → ℕ) (log : Lo
     end_low : stable_end log ≤ synced_end log
     end_low = stable_low (synced_end log) (noted_in log)
 
-    is_end : IsEndOf H fits.reach (stable_end log)
-    is_end = record {
-      reached = λ n there low. (fits.parts.reached.ends (in_log n) (logged_there H n there) (omega (arith, low, end_low))).0;
-      closed = λ b there low.
-          let under = stable_closed size H among.stands.batched (synced_end log) b there (omega (arith, low, same_end)) in
-          omega (arith, under, same_end);
-    }
+    -- below it the log has reached each message, and no batch is open there
+    all_reached : (n : Message) → Contains H.messages n → n.place < stable_end log → n.place < fits.reach
+    all_reached n there low = (fits.parts.reached.ends (in_log n) (logged_there H n there) (omega (arith, low, end_low))).0
+
+    closed : (b : Batch) → Contains H.batches b → b.low < stable_end log → b.peg < stable_end log
+    closed b there low =
+        let under = stable_closed size H among.stands.batched (synced_end log) b there (omega (arith, low, same_end)) in
+        omega (arith, under, same_end)
+
+    apart_messages : LieApart H.messages
+    apart_messages = logged_apart H (whole_apart sum size log.segments.first.site state log.fault.kept log.segments.first.buffer.bytes.items log.segments.first.buffer.written_len log.segments.first.buffer.sealed.items log.segments.first.buffer.reserved.items (logged H) fits.parts.holds log.line.lies.in_segment)
 
     -- the header stands in the slot of the first segment, where any of it is written
     first_header : (k : ℕ) → is_free (slot_at m k).state ≡ false → (slot_at m k).lsn ≡ log.segments.first.site.place → 0 < log.segments.first.buffer.written_len → (mark : ℤ) × IsHeader sum (part state.log.bytes (k * size) 20) (pos (slot_at m k).lsn) mark
@@ -126,34 +130,61 @@ module _ {D C : Type 0} (trace : D → Trace) (sum : List ℕ → ℕ) (log : Lo
           subst (λ n. IsHeader sum (part state.log.bytes n 20) (pos (slot_at m k).lsn) has.mark) slot (subst (λ n. IsHeader sum (part state.log.bytes log.segments.first.site.slot 20) (pos n) has.mark) (sym at) has.header),
         )
 
-    begun : (k : ℕ) → is_free (slot_at m k).state ≡ false → (slot_at m k).lsn < stable_end log → (mark : ℤ) × IsHeader sum (part state.log.bytes (k * size) 20) (pos (slot_at m k).lsn) mark
-    begun k taken low = elim (cases_lt (slot_at m k).lsn log.segments.first.site.place) [
-      | inl lower ↦ fits.begun none k taken lower
-      | inr above ↦ (
-          let aligned = fits.slots.own.aligned k taken in
-          let begins = fits.parts.holds.own.records.place_begins in
-          let inside = log.line.lies.in_segment in
-          let held = written_behind log.segments.first.buffer in
-          let at : (slot_at m k).lsn ≡ log.segments.first.site.place = elim (cases_lt log.segments.first.site.place (slot_at m k).lsn) [
-            | inl over ↦ (let far = apart size (omega (arith, some)) log.segments.first.site.place (slot_at m k).lsn begins aligned over in absurd (omega (arith, far, low, end_low, inside, held)))
-            | inr le ↦ omega (arith, le, above)
-          ] in
-          first_header k taken at (omega (arith, at, low, end_low)))
+    -- A slot has the first one, or one that ends where that begins or below.
+    older_or_first : (k : ℕ) → is_free (slot_at m k).state ≡ false → (slot_at m k).lsn < stable_end log
+        → ((slot_at m k).lsn ≡ log.segments.first.site.place) ⊎ ((slot_at m k).lsn + size ≤ log.segments.first.site.place)
+    older_or_first k taken low =
+        let aligned = fits.slots.own.aligned k taken in
+        let begins = fits.parts.holds.own.records.place_begins in
+        elim (cases_order (slot_at m k).lsn log.segments.first.site.place) [
+          | inl same ↦ inl same
+          | inr (inl lower) ↦ inr (apart size (omega (arith, some)) (slot_at m k).lsn log.segments.first.site.place aligned begins lower)
+          | inr (inr over) ↦ absurd (
+              let far = apart size (omega (arith, some)) log.segments.first.site.place (slot_at m k).lsn begins aligned over in
+              let inside = log.line.lies.in_segment in
+              let held = written_behind log.segments.first.buffer in
+              omega (arith, far, low, end_low, inside, held))
+        ]
+
+    -- The older ones are whole.
+    whole : (k : ℕ) → is_free (slot_at m k).state ≡ false → (slot_at m k).lsn + size ≤ log.segments.first.site.place
+        → IsWholeSegment sum size state.log.bytes H (k * size) (slot_at m k).lsn
+    whole k taken lower = whole_alike (logged H) H (logged_twice H) sum size state.log.bytes (k * size) (slot_at m k).lsn (fits.whole none zeros k taken lower)
+
+    -- Each of these has its header,
+    begun : (k : ℕ) → is_free (slot_at m k).state ≡ false → (slot_at m k).lsn < stable_end log
+        → (mark : ℤ) × IsHeader sum (part state.log.bytes (k * size) 20) (pos (slot_at m k).lsn) mark
+    begun k taken low = elim (older_or_first k taken low) [
+      | inl at ↦ first_header k taken at (omega (arith, at, low, end_low))
+      | inr lower ↦ (let w = whole k taken lower in (w.mark, w.found.header))
     ]
 
-    entry : (k : ℕ) → is_free (slot_at m k).state ≡ false → (slot_at m k).lsn < least_place size first → HasEntryIn size H first m k
-    entry =
-        let entries = have_entries_alike (logged H) H (logged_twice H) sum size state.snapshots.file m fits.entries in
-        subst (λ (s : SnapshotModel). (k : ℕ) → is_free (slot_at m k).state ≡ false → (slot_at m k).lsn < least_place size s → HasEntryIn size H s m k)
-        (one_begin sum state.snapshots.file entries.first first entries.begins fits.parts.holds.begun.begins) entries.entry
+    -- begins below what was reached,
+    near : (k : ℕ) → is_free (slot_at m k).state ≡ false → (slot_at m k).lsn < stable_end log → (slot_at m k).lsn < fits.reach
+    near k taken low =
+        below_reach sum size some H log.segments.first.site.place log.segments.first.buffer.written_len fits.reach (slot_at m k).lsn among.reached
+        (fits.slots.own.aligned k taken) (omega (arith, low, end_low))
 
-    slots : AreSlotsOf sum size state.log.bytes H first fits.reach (stable_end log) m
+    -- and is read.
+    reads : (k : ℕ) → is_free (slot_at m k).state ≡ false → (slot_at m k).lsn < stable_end log
+        → IsReadHere sum size state.log.bytes H fits.reach (stable_end log) (k * size) (slot_at m k).lsn
+    reads k taken low = elim (older_or_first k taken low) [
+      | inl at ↦ (
+          let header = begun k taken low in
+          let least = fits.parts.holds.begun.least in
+          let from = ap (λ (n : ℕ). n / size * size) among.held in
+          read_held sum size state.log.bytes some H (apart_ascends H.messages apart_messages) (stable_below fits.reach H.batches) first fits.reach among.stands
+          (stable_end log) all_reached k (slot_at m k).lsn (fits.slots.own.aligned k taken) (omega (arith, from, least, at)) (near k taken low) header.0 header.1)
+      | inr lower ↦ read_whole sum size state.log.bytes H fits.reach (stable_end log) (k * size) (slot_at m k).lsn (whole k taken lower)
+    ]
+
+    slots : AreSlotsOf sum size state.log.bytes H fits.reach (stable_end log) m
     slots = record {
       aligned = fits.slots.own.aligned;
       one = fits.slots.own.one;
-      reached = λ k taken low. below_reach sum size some H log.segments.first.site.place log.segments.first.buffer.written_len fits.reach (slot_at m k).lsn among.reached (fits.slots.own.aligned k taken) (omega (arith, low, end_low));
+      reached = near;
       begun = begun;
-      entry = entry;
+      reads = reads;
       fits = λ k taken.
           let below = fits.slots.own.below k taken in
           let ends = follow_end size (log.segments.first.site.place + size) log.segments.behind.items log.line.lies.place_in_reach log.line.lies.follow in
@@ -165,12 +196,9 @@ module _ {D C : Type 0} (trace : D → Trace) (sum : List ℕ → ℕ) (log : Lo
     good : (n : Message) → Contains H.messages n → PassesIfThere sum state.blobs.file n n.pointer
     good = (blobs_read sum state.blobs H (stable_below fits.reach H.batches) (fits.parts.items.blobs (firm_files sum state.blobs) (firm_leaves sum state.blobs) (firm_own sum state.blobs (fits.parts.named.own_names none).of_blobs))).named
 
-    apart_messages : LieApart H.messages
-    apart_messages = logged_apart H (whole_apart sum size log.segments.first.site state log.fault.kept log.segments.first.buffer.bytes.items log.segments.first.buffer.written_len log.segments.first.buffer.sealed.items log.segments.first.buffer.reserved.items (logged H) fits.parts.holds log.line.lies.in_segment)
-
     -- So an iterator that goes over the segments of the log gives its messages.
     pub gives_messages : (lsn : ℤ) (it : LogIter D C) → GoesOver trace sum log lsn it → GivesMessages trace sum log H lsn it
     gives_messages lsn it over =
-        let given = gives_on_file sum size state.log.bytes some H apart_messages (stable_below fits.reach H.batches) first fits.reach among.stands among.held (stable_end log) is_end m slots state.blobs.file good (begins_from size lsn)
+        let given = gives_on_file sum size state.log.bytes some H apart_messages fits.reach (stable_end log) closed m slots state.blobs.file good (begins_from size lsn)
         (mul-mod_left (place_of_mark lsn / size) size) over.0 over.1 in
         (given.0, given.1, over.2 (map item_of given.0) None given.2)

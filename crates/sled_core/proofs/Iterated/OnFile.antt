@@ -4,11 +4,9 @@ use Rattle.std.specs.List.{Contains}
 use Rattle.std.proofs.Math.Nat.{mul-mod_left}
 use Rattle.std.proofs.lemmas.List.{map-append}
 use Rattle.std.proofs.lemmas.List.Elements.{All-contains, Contains-append_cases, Contains-append_left, Contains-append_right}
-use Rattle.sled_codec.specs.History.{Message, Batch, History, table}
+use Rattle.sled_codec.specs.History.{Message, Batch, History}
 use Rattle.sled_codec.specs.Places.{part}
-use Rattle.sled_codec.specs.Pointers.{lid_of}
 use Rattle.sled_codec.specs.Record.{IsHeader}
-use Rattle.sled_codec.specs.Snapshots.{SnapshotModel, stable_place}
 use Rattle.sled_codec.specs.WellFormed.{LieApart}
 use Rattle.sled_store.specs.SegmentStates.{Machine, is_free, slot_at}
 use Rattle.sled_store.proofs.Histories.Ascending.{Ascends, apart_ascends, append_ascends, later_above}
@@ -20,15 +18,13 @@ use Rattle.sled_core.specs.declared.iterator.scan.ScanEnd.TheVariants.{Full, Cap
 use Rattle.sled_core.specs.Iterates.{Item, Damage, HasItsHeader, GivesOf, GivesBehind, IsIteration}
 use Rattle.sled_core.specs.LogSegments.{AreSegments}
 use Rattle.sled_core.specs.OnFile.{HasBlobThere, item_of, AreOnFile}
-use Rattle.sled_core.specs.inside.Reached.{StandsTo}
 use Rattle.sled_core.specs.inside.Recoverable.{PassesIfThere}
 use Rattle.sled_core.specs.Replayed.{IsReplayed}
 use Rattle.sled_core.specs.Scan.{IsPath, IsScan}
 use Rattle.sled_core.specs.Tail.{Scanned, open_at}
-use Rattle.sled_core.specs.inside.Tail.{least_place}
 use Rattle.sled_core.proofs.Iterated.Given.{AreGiven, GivesInline, met_inline, messages_given}
 use Rattle.sled_core.proofs.Iterated.Listed.{listed_of, listed_has, listed_rises}
-use Rattle.sled_core.proofs.Iterated.ReadHere.{IsReadHere, read_here}
+use Rattle.sled_core.proofs.Iterated.ReadHere.{IsReadHere}
 use Rattle.sled_core.proofs.Reached.ReachedEntries.{path_to}
 use Rattle.sled_core.proofs.Tail.Multiples.{put_down, apart, lower_multiple, one_multiple}
 use Rattle.sled_core.proofs.Tail.OneTail.{Rises}
@@ -208,38 +204,27 @@ module _ (sum : List ℕ → ℕ) (size : ℕ) (log : List ℕ) (some : 256 ≤ 
 abbrev pub IsTakenIn : Machine → ℕ → Type 0
 IsTakenIn m k = is_free (slot_at m k).state ≡ false
 
--- an entry of the table of the snapshot lies in the segment of a slot
-abbrev pub HasEntryIn : ℕ → History → SnapshotModel → Machine → ℕ → Type 0
-HasEntryIn size H first m k = (page : ℕ) × (e : Message) × Contains (table H (stable_place first.stable) page) e × (e.place / size * size ≡ (slot_at m k).lsn) × (lid_of e.pointer / size ≡ k)
-
--- What is asked of the end of an iterator: below it the log has reached each message, and no batch is open there.
-pub record IsEndOf (H : History) (reach end : ℕ) : Type 0 where
-  -- each message that begins below it begins below what was reached
-  pub reached : (n : Message) → Contains H.messages n → n.place < end → n.place < reach
-  -- each batch that begins below it ends below it
-  pub closed : (b : Batch) → Contains H.batches b → b.low < end → b.peg < end
-
 -- What is asked of the slots that aren't free, of the segment in each of them.
-pub record AreSlotsOf (sum : List ℕ → ℕ) (size : ℕ) (log : List ℕ) (H : History) (first : SnapshotModel) (reach end : ℕ) (m : Machine) : Type 0 where
+pub record AreSlotsOf (sum : List ℕ → ℕ) (size : ℕ) (log : List ℕ) (H : History) (reach end : ℕ) (m : Machine) : Type 0 where
   -- it begins at a multiple of the size
   pub aligned : (k : ℕ) → IsTakenIn m k → (slot_at m k).lsn % size ≡ 0
   -- no other slot has one that begins there
   pub one : (j k : ℕ) → IsTakenIn m j → IsTakenIn m k → (slot_at m j).lsn ≡ (slot_at m k).lsn → j ≡ k
   -- below the end it begins below what was reached
   pub reached : (k : ℕ) → IsTakenIn m k → (slot_at m k).lsn < end → (slot_at m k).lsn < reach
-  -- and its header stands in its slot
+  -- its header stands in its slot
   pub begun : (k : ℕ) → IsTakenIn m k → (slot_at m k).lsn < end → (mark : ℤ) × IsHeader sum (part log (k * size) 20) (pos (slot_at m k).lsn) mark
-  -- below that of the snapshot an entry of the table lies in it
-  pub entry : (k : ℕ) → IsTakenIn m k → (slot_at m k).lsn < least_place size first → HasEntryIn size H first m k
+  -- and it is read
+  pub reads : (k : ℕ) → IsTakenIn m k → (slot_at m k).lsn < end → IsReadHere sum size log H reach end (k * size) (slot_at m k).lsn
   -- it ends below the last place
   pub fits : (k : ℕ) → IsTakenIn m k → (slot_at m k).lsn + size < 2 ^ 63
 
-module _ (sum : List ℕ → ℕ) (size : ℕ) (log : List ℕ) (some : 256 ≤ size) (H : History) (lie : LieApart H.messages) (A : ℕ) (first : SnapshotModel) (reach : ℕ) (stands : StandsTo sum size log H A first reach)
-    (held : stands.from ≡ stable_place first.stable) (end : ℕ) (is_end : IsEndOf H reach end) (m : Machine) (slots : AreSlotsOf sum size log H first reach end m)
+module _ (sum : List ℕ → ℕ) (size : ℕ) (log : List ℕ) (some : 256 ≤ size) (H : History) (lie : LieApart H.messages) (reach end : ℕ)
+    (closed : (b : Batch) → Contains H.batches b → b.low < end → b.peg < end) (m : Machine) (slots : AreSlotsOf sum size log H reach end m)
     (blobs : ℤ → Option (List ℕ)) (good : (n : Message) → Contains H.messages n → PassesIfThere sum blobs n n.pointer)
     (from : ℕ) (begins : from % size ≡ 0) (ss : List Segment) (are : AreSegments size m from end ss) where
   -- each segment of the list can be given
-  can_be_given : (s : Segment) → Contains ss s → CanBeGivenOf sum size log some H lie reach blobs good end is_end.closed s
+  can_be_given : (s : Segment) → Contains ss s → CanBeGivenOf sum size log some H lie reach blobs good end closed s
   can_be_given s there =
       let of = listed_of size m from end ss are s there in
       let k : ℕ = of.index in
@@ -250,20 +235,19 @@ module _ (sum : List ℕ → ℕ) (size : ℕ) (log : List ℕ) (some : 256 ≤ 
       let near = slots.reached k of.taken low in
       let header = slots.begun k of.taken low in
       let aligned = slots.aligned k of.taken in
-      let reads = read_here sum size log some H (apart_ascends H.messages lie) A first reach stands held end is_end.reached k (slot_at m k).lsn aligned near header.0 header.1 (slots.entry k of.taken) in
       record {
         slot = ap (λ n. n % size) slot ∙ mul-mod_left k size;
         aligned = ap (λ n. n % size) place ∙ aligned;
         below = below;
         near = omega (arith, near, place);
         header = (header.0, subst (λ n. IsHeader sum (part log n 20) (pos s.place) header.0) (sym slot) (subst (λ p. IsHeader sum (part log (k * size) 20) (pos p) header.0) (sym place) header.1));
-        reads = subst (λ n. IsReadHere sum size log H reach end n s.place) (sym slot) (subst (λ p. IsReadHere sum size log H reach end (k * size) p) (sym place) reads);
+        reads = subst (λ n. IsReadHere sum size log H reach end n s.place) (sym slot) (subst (λ p. IsReadHere sum size log H reach end (k * size) p) (sym place) (slots.reads k of.taken low));
       }
 
   -- An iterator gives the messages of the history that are on file.
   pub gives_on_file : (ms : List Message) × AreOnFile size m blobs H from end ms × IsIteration sum size log blobs end true ss (map item_of ms) None
   gives_on_file =
-      let given = given_of sum size log some H lie reach blobs good end is_end.closed ss (listed_rises size m from end ss are slots.one) can_be_given in
+      let given = given_of sum size log some H lie reach blobs good end closed ss (listed_rises size m from end ss are slots.one) can_be_given in
       let L : List Message = given.0 in
       let is = given.1 in (
         L,

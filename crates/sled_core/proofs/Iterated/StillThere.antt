@@ -177,8 +177,11 @@ module _ {D C : Type 0} (trace : D → Trace) (sum : List ℕ → ℕ) (log : Lo
           taken,
           elim (cases_lt (slot_at machine k).lsn log.segments.first.site.place) [
             | inl lower ↦ (
-                let had = fits.begun none k taken lower in
-                let same = (one_header sum (part state.log.bytes (k * size) 20) (pos (slot_at machine k).lsn) had.0 (pos of.segment.place) of.segment.mark had.1 header).0 in
+                let begins = fits.parts.holds.own.records.place_begins in
+                let aligned = fits.slots.own.aligned k taken in
+                let ends = apart size (omega (arith, some)) (slot_at machine k).lsn log.segments.first.site.place aligned begins lower in
+                let had = fits.whole none zeros k taken ends in
+                let same = (one_header sum (part state.log.bytes (k * size) 20) (pos (slot_at machine k).lsn) had.mark (pos of.segment.place) of.segment.mark had.found.header header).0 in
                 let place = of.place in
                 omega (arith, ints, same, place))
             | inr above ↦ absurd (other taken above)

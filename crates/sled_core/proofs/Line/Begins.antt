@@ -36,7 +36,7 @@ use Rattle.sled_core.specs.inside.Recoverable.{IsMarkOf}
 use Rattle.sled_core.specs.OpenBatches.{stable_below}
 use Rattle.sled_core.specs.invariants.Running.{Fits}
 use Rattle.sled_core.specs.inside.Running.{FitsIn, FitsLine, FitsWith}
-use Rattle.sled_core.specs.inside.Slots.{AreBegun, HaveEntries, HasAccount}
+use Rattle.sled_core.specs.inside.Slots.{AreWhole, HasAccount}
 use Rattle.sled_core.specs.inside.Turned.{ChangesSlots, begun_view, next_line}
 use Rattle.sled_core.specs.Waiting.{at_last, closed_now, filled_now, last_of}
 use Rattle.sled_core.proofs.Behind.Around.{behind_place, behind_place_is}
@@ -45,7 +45,6 @@ use Rattle.sled_core.proofs.Behind.FitsBegun.{behind-fits-begun}
 use Rattle.sled_core.proofs.Holds.FitsBatches.{batches_up, stable_noted}
 use Rattle.sled_core.proofs.Line.KeptCalls.{goes_on_quietly}
 use Rattle.sled_core.proofs.Line.Closes.{IsClosable, filled_gone, filled_length, filled_message, filled_site, filled_there, filled_written, line_closed, line_fits_closed}
-use Rattle.sled_core.proofs.Line.Ends.{line_holds}
 use Rattle.sled_core.proofs.Holds.Facts.{IsSegment, current_facts, nth_facts}
 use Rattle.sled_core.proofs.Line.Last.{All-at_last, last_behind_all, last_get_of}
 use Rattle.sled_core.proofs.Line.LineEnds.{end_at_last, kept_same, noted_later, noted_same}
@@ -53,7 +52,7 @@ use Rattle.sled_core.proofs.Line.Moves.{fits_as, holds_as}
 use Rattle.sled_core.proofs.Line.GivenUp.{among_same, given_begun, given_closed}
 use Rattle.sled_core.proofs.Line.OpenPlaces.{places_begun, places_closed}
 use Rattle.sled_core.proofs.Line.Segments.{line_segments}
-use Rattle.sled_core.proofs.Line.OlderSlots.{begun_handed, entries_handed, newest_low}
+use Rattle.sled_core.proofs.Line.OlderSlots.{whole_handed}
 use Rattle.sled_core.proofs.Line.Slots.{next_free, next_other, next_others, next_within, slots_begun}
 use Rattle.sled_core.proofs.Reached.BufferPath.{buffer_mark, mark_lower}
 use Rattle.sled_core.proofs.Reached.Marks.{less_than}
@@ -222,11 +221,10 @@ module _ (sum : List ℕ → ℕ) (size : ℕ) where
       first_there : first_place next ≡ v.parts.site.place
       first_there = first_append (closed (v ∷ vs)) (begun_view sum size m stable (last_of v vs) ∷ []) (closed_some v vs) ∙ closed_first v vs
 
-      begun_next : AreBegun sum size device.log.bytes v.parts.site.place m → AreBegun sum size device.log.bytes (first_place next) (handed_out place m)
-      begun_next begun = subst (λ p. AreBegun sum size device.log.bytes p (handed_out place m)) (sym first_there) (begun_handed sum size m (next_within m slots) place device.log.bytes v.parts.site.place (omega (arith, lies)) begun)
-
-      entries_next : (H : History) → HoldsLine sum size device fault (v ∷ vs) H → HaveEntries sum size device.snapshots.file H m → HaveEntries sum size device.snapshots.file H (handed_out place m)
-      entries_next H holds e = entries_handed sum size m (next_within m slots) place device.snapshots.file H e (let low = (newest_low sum size device fault (v ∷ vs) H holds e.first e.begins).0 in omega (arith, low, lies))
+      whole_next : (H : History) → AreWhole sum size device.log.bytes H v.parts.site.place m → AreWhole sum size device.log.bytes H (first_place next) (handed_out place m)
+      whole_next H are =
+          subst (λ p. AreWhole sum size device.log.bytes H p (handed_out place m)) (sym first_there)
+          (whole_handed sum size m (next_within m slots) place device.log.bytes H v.parts.site.place (omega (arith, big)) (omega (arith, lies)) are)
 
       -- it lies behind those of all slots
       is_new : HasSlots size (v ∷ vs) device.log.bytes fault m → IsNewPlace size place m
@@ -287,9 +285,8 @@ module _ (sum : List ℕ → ℕ) (size : ℕ) where
             (line_fits_closed sum size device fault fits.reach pins H A f U v vs closable fits.parts);
         batches = batches_next (logged H) fits.batches;
         slots = slots_next fits.slots;
-        begun = λ none. begun_next (fits.begun none);
+        whole = λ none zeros. whole_next (logged H) (fits.whole none zeros);
         own = λ none zeros. own_next sum size (HeaderWasPlaced device.placed) (RecordWasPlaced sum size device.placed) device.log.bytes m stable (v ∷ vs) (fits.own none zeros);
-        entries = entries_next (logged H) (line_holds sum size device fault (v ∷ vs) fits.reach pins H A f U fits.parts) fits.entries;
         account = account_next H U fits.slots fits.account;
       }
 

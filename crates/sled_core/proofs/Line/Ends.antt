@@ -1,16 +1,13 @@
 -- One of the reservations of the n-th of a log's segments ends, whichever that is: what the log holds and fits then, and what it keeps.
-use Rattle.std.proofs.Common.{◌⊎◌, ◌≡◌, ◌∙◌, ◌≤◌, ◌<◌, ◌+◌, ◌*◌, ap, sym, refl, arith, subst, ℕ, zero, suc, max, List, [], ◌∷◌, ◌++◌, length, take, drop, set, map, Option, None, Some, false}
+use Rattle.std.proofs.Common.{◌⊎◌, ◌≡◌, ◌∙◌, ◌≤◌, ◌<◌, ◌+◌, ◌*◌, ap, sym, refl, arith, subst, ℕ, zero, suc, List, [], ◌∷◌, ◌++◌, length, take, drop, set, map, Option, None, Some, false}
 use Rattle.std.specs.declared.io.Error.{Error as IoError}
 use Rattle.std.specs.List.{Contains, slice_get}
-use Rattle.std.proofs.Math.Nat.{suc-mul}
 use Rattle.std.proofs.lemmas.List.Elements.{All-set}
 use Rattle.sled_codec.specs.Written.{written}
 use Rattle.sled_codec.specs.History.{Batch, AddsMessage, History, Message}
-use Rattle.sled_codec.specs.Snapshots.{SnapshotModel, stable_place}
 use Rattle.sled_store.specs.Foreign.{HeaderWasPlaced, RecordWasPlaced}
 use Rattle.sled_store.specs.Device.{State}
 use Rattle.sled_store.specs.SegmentStates.{Machine}
-use Rattle.sled_store.specs.SnapshotFiles.{BeginsFrom}
 use Rattle.sled_core.specs.Logged.{logged, in_log}
 use Rattle.sled_core.specs.Manifests.{is_manifest}
 use Rattle.sled_core.specs.declared.iobuf.ReservationState.TheVariants.{Open, Canceled, Completed}
@@ -20,11 +17,11 @@ use Rattle.sled_core.specs.Begun.{SegmentParts, SegmentView}
 use Rattle.sled_core.specs.inside.Buffers.{canceling, completing}
 use Rattle.sled_core.specs.Buffers.{message_in}
 use Rattle.sled_core.specs.inside.Fits.{FitsBatches, written_to, HoldsIn, HoldsLine, HoldsSegment, HoldsWith, LogParts, log_parts, parts_in}
-use Rattle.sled_core.specs.inside.Begun.{line_end}
+use Rattle.sled_core.specs.inside.Begun.{first_place, line_end}
 use Rattle.sled_core.specs.inside.FreeSlots.{HasSlot, HasSlots, HaveOwn}
 use Rattle.sled_core.specs.inside.Running.{FitsIn, FitsLine, FitsWith}
 use Rattle.sled_core.specs.Running.{KeepsItem}
-use Rattle.sled_core.specs.inside.Slots.{AreBegun}
+use Rattle.sled_core.specs.inside.Slots.{AreWhole}
 use Rattle.sled_core.specs.inside.Turned.{ended_now}
 use Rattle.sled_core.specs.Reading.{BlobIsBelow}
 use Rattle.sled_core.proofs.Behind.Calls.{behind-aborted, ended_long, held_here}
@@ -40,10 +37,11 @@ use Rattle.sled_core.proofs.Holds.WholeLemmas.{holds-aborted, holds-complete}
 use Rattle.sled_core.proofs.Holds.Facts.{IsSegment}
 use Rattle.sled_core.proofs.Line.LineEnds.{end_set, first_set}
 use Rattle.sled_core.proofs.Holds.Nth.{parts_set, parts_split}
-use Rattle.sled_core.proofs.Line.OlderSlots.{entries_adds, newest_low}
+use Rattle.sled_core.proofs.Line.OlderSlots.{whole_adds}
+use Rattle.sled_core.proofs.Line.Segments.{first_below, from_each}
 use Rattle.sled_core.proofs.OwnLog.Calls.{own_ended}
 use Rattle.sled_core.proofs.Logged.Messages.{adds_logged, put_real}
-use Rattle.sled_core.proofs.Reserve.Ranges.{at_there, chain_within}
+use Rattle.sled_core.proofs.Reserve.Ranges.{at_there}
 use Rattle.sled_core.proofs.Sealed.Ended.{ends_up}
 use Rattle.sled_core.proofs.Line.Accounts.{account_completed}
 
@@ -184,19 +182,6 @@ written_set [] n v w there site from = refl
 written_set (x ∷ xs) zero v w there site from = let same : x ≡ v = cc in (λ i. (site i).place + from i) ∙ ap (λ (y : SegmentView). y.parts.site.place + y.parts.written_len) (sym same)
 written_set (x ∷ xs) (suc n) v w there site from = refl
 
--- No more is written of the first segment than of each.
-written_least : (size place : ℕ) (line : List SegmentView) → ((k : ℕ) (x : SegmentView) → slice_get line k ≡ Some x → IsSegment size (place + k * size) x) → (n : ℕ) (v : SegmentView) → slice_get line n ≡ Some v → written_to line ≤ v.parts.site.place + v.parts.written_len
-written_least size place [] facts n v there = cc
-written_least size place (w ∷ ws) facts zero v there = let same : w ≡ v = cc in let both = ap (λ (x : SegmentView). x.parts.site.place + x.parts.written_len) same in omega (arith, both)
-written_least size place (w ∷ ws) facts (suc k) v there =
-    let first = facts zero w refl in
-    let its = facts (suc k) v there in
-    let one = first.at in
-    let other = its.at in
-    let grown = written_inside w first in
-    let short = first.short in
-    omega (arith, one, other, grown, short, suc-mul k size)
-
 -- What a log holds and fits where one of its reservations has ended.
 module _ (sum : List ℕ → ℕ) (size : ℕ) (device : State) (fault : Option IoError) (line : List SegmentView) (n : ℕ) (v : SegmentView) (there : slice_get line n ≡ Some v) (place : ℕ)
     (facts : (k : ℕ) (x : SegmentView) → slice_get line k ≡ Some x → IsSegment size (place + k * size) x) (i : ℕ) (r : Reserved) (at : slice_get v.parts.reserved i ≡ Some r) (is_open : r.state ≡ Open) (machine : Machine) (noted : List Batch) where
@@ -223,20 +208,14 @@ module _ (sum : List ℕ → ℕ) (size : ℕ) (device : State) (fault : Option 
     parts = abort_fits sum size device fault v i r at is_open line n fits.reach pins H A f U there (facts n v there) fits.parts;
     batches = batches_set (ended_now i r (canceling sum v.parts.bytes r) Canceled v) refl refl (logged H) fits.batches;
     slots = slots_set size line device.log.bytes fault machine n v (ended_now i r (canceling sum v.parts.bytes r) Canceled v) there refl fits.slots;
-    begun = λ none. subst (λ p. AreBegun sum size device.log.bytes p machine) (sym (first_set line n v (ended_now i r (canceling sum v.parts.bytes r) Canceled v) there refl)) (fits.begun none);
+    whole = λ none zeros. subst (λ p. AreWhole sum size device.log.bytes (logged H) p machine) (sym (first_set line n v (ended_now i r (canceling sum v.parts.bytes r) Canceled v) there refl)) (fits.whole none zeros);
     own = λ none zeros. own_ended sum size (HeaderWasPlaced device.placed) (RecordWasPlaced sum size device.placed) device.log.bytes line n v i r (canceling sum v.parts.bytes r) Canceled there (fits.own none zeros);
-    entries = fits.entries;
     account = fits.account;
   }
 
-  -- The newest snapshot's stable place isn't above where it begins.
-  newest_before : (H : History) → HoldsLine sum size device fault line H → (first : SnapshotModel) → BeginsFrom sum device.snapshots.file first → stable_place first.stable ≤ v.parts.site.place + r.from
-  newest_before H holds first begins =
-      let low = (newest_low sum size device fault line H holds first begins).1 in
-      let least = written_least size place line facts n v there in
-      let behind : max 20 v.parts.written_len ≤ r.from = with_part sum size device fault line n v H holds there (λ stays own segment.
-      (at_there (λ (z : Reserved). (max 20 v.parts.written_len ≤ z.from) × (z.from + z.len ≤ length v.parts.bytes)) v.parts.reserved i r at (chain_within (max 20 v.parts.written_len) (length v.parts.bytes) v.parts.reserved segment.records.chain)).0) in
-      omega (arith, low, least, behind)
+  -- It begins no lower than the first segment.
+  pub first_before : first_place line ≤ v.parts.site.place + r.from
+  first_before = let low = first_below size place line (from_each size place line facts) n v there in omega (arith, low)
 
   pub holds_completed : is_manifest r.log_kind r.page ≡ false → (H : History) → HoldsWith sum noted size device fault line machine H
       → (H' : History) × AddsMessage H (message_in v.parts.site v.parts.bytes r) H' × HoldsWith sum noted size device fault (set line n (ended_now i r (completing r) Completed v)) machine H'
@@ -252,7 +231,7 @@ module _ (sum : List ℕ → ℕ) (size : ℕ) (device : State) (fault : Option 
       let held = line_holds sum size device fault line fits.reach pins H A f U fits.parts in
       let put = adds_logged H x done.0 done.1 in
       let apart : (b : Batch) → Contains H.batches b → (b.low ≤ x.place) ⊎ (x.place + x.size ≤ b.low) = λ b among. subst (λ (y : Message). (b.low ≤ y.place) ⊎ (y.place + y.size ≤ b.low)) (sym its_message) (beside (logged H) held b among) in
-      let past : stable_place fits.entries.first.stable ≤ x.place = subst (λ (y : Message). stable_place fits.entries.first.stable ≤ y.place) (sym its_message) (newest_before (logged H) held fits.entries.first fits.entries.begins) in (
+      let past : first_place line ≤ x.place = subst (λ (y : Message). first_place line ≤ y.place) (sym its_message) first_before in (
         done.0,
         done.1,
         record {
@@ -260,9 +239,9 @@ module _ (sum : List ℕ → ℕ) (size : ℕ) (device : State) (fault : Option 
           parts = done.2;
           batches = batches_set (ended_now i r (completing r) Completed v) refl refl (logged done.0) (batches_completed (written_to line) (line_end size line) noted (logged H) (logged done.0) (in_log x) put apart fits.batches);
           slots = slots_set size line device.log.bytes fault machine n v (ended_now i r (completing r) Completed v) there refl fits.slots;
-          begun = λ none. subst (λ p. AreBegun sum size device.log.bytes p machine) (sym (first_set line n v (ended_now i r (completing r) Completed v) there refl)) (fits.begun none);
+          whole = λ none zeros. subst (λ p. AreWhole sum size device.log.bytes (logged done.0) p machine) (sym (first_set line n v (ended_now i r (completing r) Completed v) there refl))
+              (whole_adds sum size least device.log.bytes (logged H) (logged done.0) (in_log x) (first_place line) machine put past (fits.whole none zeros));
           own = λ none zeros. own_ended sum size (HeaderWasPlaced device.placed) (RecordWasPlaced sum size device.placed) device.log.bytes line n v i r (completing r) Completed there (fits.own none zeros);
-          entries = entries_adds sum size device.snapshots.file (logged H) (logged done.0) (in_log x) machine put fits.entries past;
           account = account_completed sum size device.snapshots.file H U machine fits.account done.0 x done.1;
         },
       )

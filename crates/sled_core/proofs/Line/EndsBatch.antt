@@ -15,12 +15,12 @@ use Rattle.sled_core.specs.declared.iobuf.Reserved.{Reserved}
 use Rattle.sled_core.specs.Begun.{SegmentView}
 use Rattle.sled_core.specs.inside.Buffers.{marking}
 use Rattle.sled_core.specs.inside.Fits.{FitsBatches, HoldBehind, HoldsLine, HoldsWith, parts_in, written_to}
-use Rattle.sled_core.specs.inside.Begun.{line_end}
+use Rattle.sled_core.specs.inside.Begun.{first_place, line_end}
 use Rattle.sled_core.specs.Logged.{logged}
 use Rattle.sled_core.specs.Manifests.{is_manifest}
 use Rattle.sled_core.specs.OpenBatches.{with_batch}
 use Rattle.sled_core.specs.inside.Running.{FitsWith}
-use Rattle.sled_core.specs.inside.Slots.{AreBegun}
+use Rattle.sled_core.specs.inside.Slots.{AreWhole}
 use Rattle.sled_core.specs.inside.Turned.{ended_now}
 use Rattle.sled_core.proofs.Flush.Completed.{all_below}
 use Rattle.sled_core.proofs.Holds.FitsBatches.{batches_noted, batches_up}
@@ -29,11 +29,11 @@ use Rattle.sled_core.proofs.Holds.MessagesBeside.{message_before}
 use Rattle.sled_core.proofs.Holds.WholeHistory.{behind_above}
 use Rattle.sled_core.proofs.Holds.PegLemmas.{IsOff}
 use Rattle.sled_core.proofs.Line.EndedTickets.{entry_low, segment_chain}
-use Rattle.sled_core.proofs.Line.Ends.{line_holds, slots_set, written_inside, written_set}
+use Rattle.sled_core.proofs.Line.Ends.{first_before, line_holds, slots_set, written_inside, written_set}
 use Rattle.sled_core.proofs.Holds.Facts.{IsSegment}
 use Rattle.sled_core.proofs.Line.LineEnds.{end_set, first_set}
 use Rattle.sled_core.proofs.Line.Noted.{mark_fits, mark_holds, mark_placed}
-use Rattle.sled_core.proofs.Line.OlderSlots.{entries_noted}
+use Rattle.sled_core.proofs.Line.OlderSlots.{whole_noted}
 use Rattle.sled_core.proofs.OwnLog.Calls.{own_ended}
 use Rattle.sled_core.proofs.Reserve.Ranges.{at_there, chain_within}
 use Rattle.sled_core.proofs.Line.Accounts.{account_noted}
@@ -168,8 +168,9 @@ module _ (sum : List ℕ → ℕ) (size : ℕ) (device : State) (fault : Option 
             (λ placed. mark_placed sum size device fault v i r at is_open manifest peg small later line n place (logged H) there facts offs holds placed (others (logged H) fits.batches)) fits.parts;
         batches = batches_now (logged H) holds fits.batches;
         slots = slots_set size line device.log.bytes fault machine n v (ended_now i r (marking sum v.parts.bytes r peg) Manifest v) there (λ j. v.parts.site) fits.slots;
-        begun = λ none. subst (λ p. AreBegun sum size device.log.bytes p machine) (sym (first_set line n v (ended_now i r (marking sum v.parts.bytes r peg) Manifest v) there (λ j. v.parts.site))) (fits.begun none);
+        whole = λ none zeros. subst (λ p. AreWhole sum size device.log.bytes (noted_history (logged H) b) p machine) (sym (first_set line n v (ended_now i r (marking sum v.parts.bytes r peg) Manifest v) there (λ j. v.parts.site)))
+            (whole_noted sum size least device.log.bytes (logged H) (noted_history (logged H) b) b (first_place line) machine (noted_adds (logged H) b later)
+            (first_before sum size device fault line n v there place facts i r at is_open machine noted) (fits.whole none zeros));
         own = λ none zeros. own_ended sum size (HeaderWasPlaced device.placed) (RecordWasPlaced sum size device.placed) device.log.bytes line n v i r (marking sum v.parts.bytes r peg) Manifest there (fits.own none zeros);
-        entries = entries_noted sum size device.snapshots.file (logged H) (noted_history (logged H) b) machine refl fits.entries;
         account = account_noted sum size device.snapshots.file H U machine fits.account (noted_history H b) refl;
       }

@@ -11,11 +11,10 @@ use Rattle.sled_store.proofs.Traces.ScriptLemmas.{performs_throughout}
 use Rattle.sled_core.specs.Begun.{SegmentView}
 use Rattle.sled_core.specs.inside.Fits.{HoldsLine, HoldsWith}
 use Rattle.sled_core.specs.inside.FreeSlots.{HasSlots}
-use Rattle.sled_core.specs.Logged.{logged}
 use Rattle.sled_core.specs.OpenBatches.{stable_below}
 use Rattle.sled_core.specs.Recoverable.{LeavesRecoverable}
 use Rattle.sled_core.specs.inside.Running.{FitsLine, FitsWith}
-use Rattle.sled_core.specs.inside.Slots.{HaveEntries, HasAccount}
+use Rattle.sled_core.specs.inside.Slots.{HasAccount}
 use Rattle.sled_core.proofs.Flush.FlushLemmas.{fault_or_none, holds-faulty}
 use Rattle.sled_core.proofs.Flush.SameFits.{fits_faulty}
 
@@ -84,9 +83,8 @@ fits_with_kept sum noted size size' device new fault now line line' m m' pins pi
         (subst (LeavesRecoverable sum size H (stable_below fits.reach H.batches) f) (sym d) (line_leaves sum size device fault line fits.reach pins H A f U fits.parts));
     batches = fits.batches;
     slots = slots_line_faulty size line device.log.bytes new.log.bytes fault m fits.slots e now is;
-    begun = λ none. cc;
+    whole = λ none zeros. cc;
     own = λ none zeros. cc;
-    entries = subst (λ (s : State). HaveEntries sum size s.snapshots.file (logged H) m) (sym d) fits.entries;
     account = subst (λ (s : State). HasAccount sum size s.snapshots.file H U m) (sym d) fits.account;
   }
 ])

@@ -27,7 +27,7 @@ use Rattle.sled_core.specs.Keeps.{Preserves}
 use Rattle.sled_core.specs.OpenPlaces.{open_places_along}
 use Rattle.sled_core.specs.Positions.{Position, behind_record, is_short, moved_on, next_segment_at, placed_at, position_in}
 use Rattle.sled_core.specs.invariants.Running.{Fits}
-use Rattle.sled_core.specs.inside.Slots.{AreBegun}
+use Rattle.sled_core.specs.inside.Slots.{AreWhole}
 use Rattle.sled_core.specs.inside.Turned.{ChangesSlots, HasPlace, reserved_now}
 use Rattle.sled_core.specs.Waiting.{at_last, last_of}
 use Rattle.sled_core.proofs.Holds.FitsBatches.{batches_up}
@@ -208,9 +208,8 @@ module _ {D C : Type 0} (trace : D → Trace) (sum : List ℕ → ℕ) (old new 
           batches = batches_up (written_to (line_of old)) (written_to (at_last (reserved_now more r) (line_of old))) (line_end its_size (line_of old)) (line_end its_size (at_last (reserved_now more r) (line_of old))) (noted_in old) (logged H) (let same = kept_written v vs in omega (arith, same))
               (let same = end_last its_size (reserved_now more r) (λ _. refl) v vs in omega (arith, same)) its.batches;
           slots = slots_reserved sum its_size more r (line_of old) (state_of (trace (device_of old))).log.bytes (fault_of old) (machine_at old) its.slots;
-          begun = λ none. subst (λ p. AreBegun sum its_size (state_of (trace (device_of old))).log.bytes p (machine_at old)) (sym (first_at_last (reserved_now more r) (λ _. refl) (line_of old))) (its.begun none);
+          whole = λ none zeros. subst (λ p. AreWhole sum its_size (state_of (trace (device_of old))).log.bytes (logged H) p (machine_at old)) (sym (first_at_last (reserved_now more r) (λ _. refl) (line_of old))) (its.whole none zeros);
           own = λ none zeros. own_reserved sum its_size (HeaderWasPlaced (state_of (trace (device_of old))).placed) (RecordWasPlaced sum its_size (state_of (trace (device_of old))).placed) (state_of (trace (device_of old))).log.bytes more r (line_of old) (its.own none zeros);
-          entries = its.entries;
           account = its.account;
         });
     noted = noted_later old new rest.noted (let same = reserves_synced in omega (arith, same));

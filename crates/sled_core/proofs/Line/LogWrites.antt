@@ -28,7 +28,7 @@ use Rattle.sled_core.specs.inside.Begun.{line_end}
 use Rattle.sled_core.specs.Recoverable.{LeavesRecoverable}
 use Rattle.sled_core.specs.invariants.Running.{Fits}
 use Rattle.sled_core.specs.inside.Running.{FitsLine, FitsWith}
-use Rattle.sled_core.specs.inside.Slots.{HaveEntries, HasAccount}
+use Rattle.sled_core.specs.inside.Slots.{HasAccount}
 use Rattle.sled_core.specs.inside.Turned.{ChangesDevice, IsReadyIn, promoted, write_in, written_now}
 use Rattle.sled_core.proofs.Flush.FlushLemmas.{fault_or_none}
 use Rattle.sled_core.proofs.Flush.Settled.{leaves_less}
@@ -43,7 +43,7 @@ use Rattle.sled_core.proofs.Holds.Facts.{nth_facts}
 use Rattle.sled_core.proofs.Line.Fillings.{log_recorded}
 use Rattle.sled_core.proofs.Line.Segments.{AreSegments, filled_promoted, filled_written, follow_segments, line_segments, promoted_waits, run_written, segments_promoted, set_segment, written_segment}
 use Rattle.sled_core.proofs.Line.Writes.{along_write, buffer_begin, buffer_bytes, buffer_calls, buffer_synced, calls_are, fits_write, holds_write, passes_line, slots_write}
-use Rattle.sled_core.proofs.Line.WrittenSlots.{begun_write}
+use Rattle.sled_core.proofs.Line.WrittenSlots.{whole_write}
 use Rattle.sled_core.proofs.Line.PlacedWrite.{placed_left}
 
 module _ {D C : Type 0} (log : Log D C) (n k : ℕ) (r : IsReadyIn (line_of log) n k) where
@@ -189,9 +189,8 @@ module _ {D C : Type 0} (log : Log D C) (n k : ℕ) (r : IsReadyIn (line_of log)
             (at_last (LeavesRecoverable sum size H (stable_below fits.reach H.batches) f) before new (left new came fits.reach H A f U fits.parts));
         batches = fits.batches;
         slots = slots_line_faulty size line device.log.bytes (state_of new).log.bytes log.fault.kept slots fits.slots some.0 now some.1;
-        begun = λ none. let never = some.1 in cc;
+        whole = λ none zeros. let never = some.1 in cc;
         own = λ none zeros. let never = some.1 in cc;
-        entries = subst (λ (s : NamesState). HaveEntries sum size s.file (logged H) slots) (sym (names new came).1) fits.entries;
         account = subst (λ (s : NamesState). HasAccount sum size s.file H U slots) (sym (names new came).1) fits.account;
       }
     ]
@@ -221,11 +220,10 @@ module _ {D C : Type 0} (log : Log D C) (n k : ℕ) (r : IsReadyIn (line_of log)
           parts = after.1;
           batches = batches_after (logged H) fits.batches;
           slots = slots_write sum size log.config.config.least device log.fault.kept whole v k r.buffer r.there r.ready log.segments.first.site.place line (line_segments log) n r.among slots None fits.slots;
-          begun = λ none. begun_write sum size log.config.config.least device log.fault.kept whole v k r.buffer r.there r.ready log.segments.first.site.place line (line_segments log) n r.among slots fits.slots (logged H)
-              (line_holds sum size device log.fault.kept line fits.reach log.pins H A f U fits.parts) (fits.begun whole);
+          whole = λ none zeros. whole_write sum size log.config.config.least device log.fault.kept whole v k r.buffer r.there r.ready log.segments.first.site.place line (line_segments log) n r.among slots fits.slots
+              fits.reach after.0 log.pins H A f U fits.parts after.1 zeros (fits.whole whole zeros);
           own = λ none zeros. placed_left sum size log.config.config.least device log.fault.kept whole v k r.buffer r.there r.ready log.segments.first.site.place line (line_segments log) n r.among slots fits.slots (logged H)
               (line_holds sum size device log.fault.kept line fits.reach log.pins H A f U fits.parts) zeros (fits.own whole zeros);
-          entries = fits.entries;
           account = fits.account;
         }))
 

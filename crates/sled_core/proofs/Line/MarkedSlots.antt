@@ -1,11 +1,8 @@
 -- A message is marked: the slots have the segments that they had, so the log holds what it held; and it fits the history with the others unmarked.
-use Rattle.std.proofs.Common.{◌≡◌, ◌≢◌, ◌∙◌, ◌+◌, ◌*◌, ◌%◌, ◌<◌, ◌≤◌, ℕ, ℤ, pos, Bool, true, false, List, [], ◌∷◌, length, map, Option, None, refl, sym, ap, subst, arith}
-use Rattle.std.specs.List.{All, Contains}
+use Rattle.std.proofs.Common.{◌≡◌, ◌≢◌, ◌∙◌, ◌+◌, ◌%◌, ℕ, false, List, [], length, Option, refl, sym, ap, subst, arith}
 use Rattle.std.specs.declared.io.Error.{Error as IoError}
 use Rattle.std.proofs.lemmas.List.Elements.{All-contains}
 use Rattle.sled_codec.specs.History.{History, Message}
-use Rattle.sled_codec.specs.Places.{part}
-use Rattle.sled_codec.specs.Record.{IsHeader}
 use Rattle.sled_store.specs.Device.{Trace, state_of}
 use Rattle.sled_store.specs.SegmentStates.{Machine, SlotState, is_free, slot_at}
 use Rattle.sled_store.specs.declared.config.RunningConfig.{RunningConfig}
@@ -16,17 +13,17 @@ use Rattle.sled_core.specs.Begun.{SegmentView, line_in}
 use Rattle.sled_core.specs.declared.logger.Log.{Log}
 use Rattle.sled_core.specs.Fits.{device_of, fault_of, line_of, machine_at, noted_in, pins_of, segment_size_of, synced_end}
 use Rattle.sled_core.specs.Keeps.{GoesOn, Preserves}
-use Rattle.sled_core.specs.Logged.{logged}
 use Rattle.sled_core.specs.Marking.{ChangesAccount}
 use Rattle.sled_core.specs.OpenBatches.{not_whole}
 use Rattle.sled_core.specs.inside.FreeSlots.{HasSlot, HasSlots}
-use Rattle.sled_core.specs.inside.Slots.{AreBegun, HasAccount, HaveEntries}
+use Rattle.sled_core.specs.inside.Slots.{AreWhole, HasAccount}
 use Rattle.sled_core.specs.invariants.Fits.{Holds}
 use Rattle.sled_core.specs.invariants.Running.{Fits}
 use Rattle.sled_core.proofs.Holds.RunningLemmas.{fits-pinned}
 use Rattle.sled_core.proofs.Line.KeptCalls.{goes_on_quietly}
 use Rattle.sled_core.proofs.Line.LineEnds.{noted_still}
 use Rattle.sled_core.proofs.Line.Moves.{fits_as, holds_as}
+use Rattle.sled_core.proofs.Reached.WholeSegments.{whole_at}
 use Rattle.sled_core.proofs.Line.Accounts.{account_popped}
 
 module _ (size : ℕ) (m n : Machine) (same : SameSegments m.slots n.slots) where
@@ -50,22 +47,11 @@ module _ (size : ℕ) (m n : Machine) (same : SameSegments m.slots n.slots) wher
     };
   }
 
-  -- their headers,
-  pub begun_same : (sum : List ℕ → ℕ) (log : List ℕ) (below : ℕ) → AreBegun sum size log below m → AreBegun sum size log below n
-  begun_same sum log below begun k taken low =
+  -- and those that were whole are.
+  pub whole_same : (sum : List ℕ → ℕ) (log : List ℕ) (H : History) (below : ℕ) → AreWhole sum size log H below m → AreWhole sum size log H below n
+  whole_same sum log H below are k taken ends =
       let is = (same k).lsn in
-      let there = begun k (taken_before k taken) (omega (arith, is, low)) in
-      (there.0, subst (λ (p : ℕ). IsHeader sum (part log (k * size) 20) (pos p) there.0) (sym (same k).lsn) there.1)
-
-  -- and the entries of the table with which the log began.
-  pub entries_same : (sum : List ℕ → ℕ) (snapshots : ℤ → Option (List ℕ)) (H : History) → HaveEntries sum size snapshots H m → HaveEntries sum size snapshots H n
-  entries_same sum snapshots H have = record {
-    first = have.first;
-    begins = have.begins;
-    entry = λ k taken low.
-        let is = (same k).lsn in
-        let there = have.entry k (taken_before k taken) (omega (arith, is, low)) in (there.0, there.1, there.2, there.3 ∙ sym (same k).lsn, there.4);
-  }
+      whole_at sum size log H refl is (are k (taken_before k taken) (omega (arith, is, ends)))
 
 module _ {D C : Type 0} (trace : D → Trace) (sum : List ℕ → ℕ) (old new : Log D C) (rest : ChangesAccount old new) where
   -- All that is seen of the log but its slots is as it was.
@@ -108,9 +94,8 @@ module _ {D C : Type 0} (trace : D → Trace) (sum : List ℕ → ℕ) (old new 
           parts = fits-pinned _ _ _ _ _ _ _ _ _ _ H A f U fits.parts (pins_of old) V (λ some. fits.parts.pinned (fewer some));
           batches = fits.batches;
           slots = slots_same (segment_size_of old) (machine_at old) m same (line_of old) _ (fault_of old) fits.slots;
-          begun = λ none. begun_same (segment_size_of old) (machine_at old) m same sum _ _ (fits.begun none);
+          whole = λ none zeros. whole_same (segment_size_of old) (machine_at old) m same sum _ _ _ (fits.whole none zeros);
           own = fits.own;
-          entries = entries_same (segment_size_of old) (machine_at old) m same sum _ (logged H) fits.entries;
           account = account;
         })
 

@@ -1,74 +1,68 @@
--- The slots that are older than the segments of a log: their headers, and the entries with which the log began, as a message is added and a slot is handed out.
-use Rattle.std.proofs.Common.{◌≡◌, ◌∙◌, ◌+◌, ◌*◌, ◌≤◌, sym, subst, arith, inl, inr, ℕ, ℤ, pos, List, [], ◌∷◌, length, Option}
-use Rattle.std.specs.List.{Contains}
+-- The slots that are older than the segments of a log, as a message is added, a batch is noted and a slot is handed out: their segments are whole still.
+use Rattle.std.proofs.Common.{◌*◌, ◌%◌, ◌<◌, ◌≤◌, refl, ap, subst, arith, inl, inr, ℕ, List, [], ◌∷◌, length, Option}
 use Rattle.std.specs.declared.io.Error.{Error as IoError}
-use Rattle.sled_codec.specs.History.{AddsMessage, History, Message, of_page, page_state, table}
-use Rattle.sled_codec.specs.Places.{part}
-use Rattle.sled_codec.specs.Record.{IsHeader}
-use Rattle.sled_codec.specs.Snapshots.{SnapshotModel, stable_place}
-use Rattle.sled_codec.proofs.Histories.{table_stays}
+use Rattle.sled_codec.specs.History.{AddsBatch, AddsMessage, Batch, History, Message}
+use Rattle.sled_codec.specs.Snapshots.{SnapshotModel}
 use Rattle.sled_store.specs.Device.{State}
-use Rattle.sled_store.specs.SegmentStates.{Machine, handed_out, next_slot}
+use Rattle.sled_store.specs.SegmentStates.{Machine, handed_out, next_slot, slot_at}
 use Rattle.sled_store.specs.SnapshotFiles.{BeginsFrom}
 use Rattle.sled_store.proofs.Names.OneBegin.{one_begin}
 use Rattle.sled_core.specs.Begun.{SegmentView}
 use Rattle.sled_core.specs.inside.Begun.{first_place}
-use Rattle.sled_core.specs.inside.Fits.{HoldsLine, written_to}
-use Rattle.sled_core.specs.inside.Slots.{AreBegun, HaveEntries}
+use Rattle.sled_core.specs.inside.Fits.{HoldsLine}
+use Rattle.sled_core.specs.inside.Slots.{AreWhole, marked_at}
 use Rattle.sled_core.specs.inside.Tail.{least_place}
+use Rattle.sled_core.proofs.Holds.Added.{reads_beside, was_or_added}
+use Rattle.sled_core.proofs.Reached.AddedBatch.{message_was, reads_below}
+use Rattle.sled_core.proofs.Reached.WholeSegments.{whole_at}
 use Rattle.sled_core.proofs.Start.OwnSlots.{taken_cases}
+use Rattle.sled_core.proofs.Tail.Multiples.{put_down}
 
 module _ (sum : List ℕ → ℕ) (size : ℕ) where
-  -- The segment of the newest snapshot's stable place isn't above the first one of a log, and as much is written as the snapshot has.
+  -- The segment of the newest snapshot's stable place isn't above the first one of a log.
   pub newest_low : (device : State) (fault : Option IoError) (line : List SegmentView) (H : History) → HoldsLine sum size device fault line H → (first : SnapshotModel) → BeginsFrom sum device.snapshots.file first
-      → (least_place size first ≤ first_place line) × (stable_place first.stable ≤ written_to line)
+      → least_place size first ≤ first_place line
   newest_low device fault [] H holds first begins = absurd holds
   newest_low device fault (v ∷ vs) H holds first begins =
       let own = holds.begun in
-      let same : own.first ≡ first = one_begin sum device.snapshots.file own.first first own.begins begins in
-      (subst (λ (s : SnapshotModel). least_place size s ≤ v.parts.site.place) same own.least, subst (λ (s : SnapshotModel). stable_place s.stable ≤ v.parts.site.place + v.parts.written_len) same own.reached)
+      subst (λ (s : SnapshotModel). least_place size s ≤ v.parts.site.place) (one_begin sum device.snapshots.file own.first first own.begins begins) own.least
 
-  -- A message is added behind the stable place: the entries are the same.
-  pub entries_adds : (snapshots : ℤ → Option (List ℕ)) (H H' : History) (m : Message) (machine : Machine) → AddsMessage H m H' → (e : HaveEntries sum size snapshots H machine) → stable_place e.first.stable ≤ m.place → HaveEntries sum size snapshots H' machine
-  entries_adds snapshots H H' m machine adds e past = record {
-    first = e.first;
-    begins = e.begins;
-    entry = λ k taken low.
-        let had = e.entry k taken low in
-        (had.0, had.1, subst (λ (l : List Message). Contains l had.1) (sym (table_stays H H' m (stable_place e.first.stable) had.0 adds past)) had.2, had.3, had.4);
-  }
+  -- A message is added at this place or above it: those below are whole still.
+  pub whole_adds : 256 ≤ size → (log : List ℕ) (H H' : History) (m : Message) (below : ℕ) (machine : Machine) → AddsMessage H m H' → below ≤ m.place
+      → AreWhole sum size log H below machine → AreWhole sum size log H' below machine
+  whole_adds big log H H' m below machine adds above are k taken ends =
+      let whole = are k taken ends in
+      record {
+        mark = whole.mark;
+        found = whole.found;
+        read_on = reads_beside H H' m adds sum size log big (marked_at (k * size) (slot_at machine k).lsn whole.mark) whole.found.slot
+            (omega (arith, ends, above)) whole.read_on;
+        reached = λ n there own. elim (was_or_added H H' m adds n there) [
+          | inl had ↦ whole.reached n had own
+          | inr is ↦ absurd (
+              let parts = put_down size n.place in
+              let inside : n.place % size < size = omega (arith, big) in
+              omega (arith, parts.0, own, inside, ends, above, ap (λ (x : Message). x.place) is))
+        ];
+      }
 
-  -- A batch is noted: they are too.
-  pub entries_noted : (snapshots : ℤ → Option (List ℕ)) (H H' : History) (machine : Machine) → H'.messages ≡ H.messages → HaveEntries sum size snapshots H machine → HaveEntries sum size snapshots H' machine
-  unfolding table
-  entries_noted snapshots H H' machine same e = record {
-    first = e.first;
-    begins = e.begins;
-    entry = λ k taken low.
-        let had = e.entry k taken low in
-        (had.0, had.1, subst (λ (ms : List Message). Contains (page_state (of_page ms (stable_place e.first.stable) had.0)) had.1) (sym same) had.2, had.3, had.4);
-  }
+  -- A batch is noted that begins there or above: they are too.
+  pub whole_noted : 256 ≤ size → (log : List ℕ) (H H' : History) (b : Batch) (below : ℕ) (machine : Machine) → AddsBatch H b H' → below ≤ b.low
+      → AreWhole sum size log H below machine → AreWhole sum size log H' below machine
+  whole_noted big log H H' b below machine adds above are k taken ends =
+      let whole = are k taken ends in
+      record {
+        mark = whole.mark;
+        found = whole.found;
+        read_on = reads_below H H' b adds sum size log big (marked_at (k * size) (slot_at machine k).lsn whole.mark) whole.found.slot
+            (omega (arith, ends, above)) whole.read_on;
+        reached = λ n there own. whole.reached n (message_was H H' b adds n there) own;
+      }
 
   -- A slot is handed out for a segment that isn't older.
-  module _ (m : Machine) (within : next_slot m ≤ length m.slots) (place : ℕ) where
-    pub entries_handed : (snapshots : ℤ → Option (List ℕ)) (H : History) → (e : HaveEntries sum size snapshots H m) → least_place size e.first ≤ place → HaveEntries sum size snapshots H (handed_out place m)
-    entries_handed snapshots H e above = record {
-      first = e.first;
-      begins = e.begins;
-      entry = λ k taken low. elim (taken_cases m within place k taken) [
-        | inl new ↦ absurd (let at = new.0 in omega (arith, at, low, above))
-        | inr old ↦ (
-            let same = old.0 in
-            let had = e.entry k old.1 (omega (arith, same, low)) in
-            (had.0, had.1, had.2, had.3 ∙ sym same, had.4))
-      ];
-    }
-
-    pub begun_handed : (log : List ℕ) (below : ℕ) → below ≤ place → AreBegun sum size log below m → AreBegun sum size log below (handed_out place m)
-    begun_handed log below above begun k taken low = elim (taken_cases m within place k taken) [
-      | inl new ↦ absurd (let at = new.0 in omega (arith, at, low, above))
-      | inr old ↦ (
-          let same = old.0 in
-          let had = begun k old.1 (omega (arith, same, low)) in
-          (had.0, subst (λ n. IsHeader sum (part log (k * size) 20) (pos n) had.0) (sym same) had.1))
-    ]
+  pub whole_handed : (m : Machine) → next_slot m ≤ length m.slots → (place : ℕ) (log : List ℕ) (H : History) (below : ℕ) → 0 < size → below ≤ place
+      → AreWhole sum size log H below m → AreWhole sum size log H below (handed_out place m)
+  whole_handed m within place log H below some above are k taken ends = elim (taken_cases m within place k taken) [
+    | inl new ↦ absurd (let at = new.0 in omega (arith, at, ends, above, some))
+    | inr old ↦ (let same = old.0 in whole_at sum size log H refl same (are k old.1 (omega (arith, same, ends))))
+  ]

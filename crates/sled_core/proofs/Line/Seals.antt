@@ -25,7 +25,7 @@ use Rattle.sled_core.specs.Positions.{is_short, position_in}
 use Rattle.sled_core.specs.invariants.Running.{Fits}
 use Rattle.sled_core.specs.inside.Running.{FitsIn, FitsLine}
 use Rattle.sled_core.specs.SealedBuffers.{seal_at, sealed_count}
-use Rattle.sled_core.specs.inside.Slots.{AreBegun}
+use Rattle.sled_core.specs.inside.Slots.{AreWhole}
 use Rattle.sled_core.specs.inside.Turned.{ChangesLine}
 use Rattle.sled_core.specs.Waiting.{as_sealed, at_last, closed_now, holds_any, last_of, sealed_now, turned_now, unwritten}
 use Rattle.sled_core.proofs.Behind.Calls.{behind-sealed}
@@ -168,9 +168,8 @@ module _ {D C : Type 0} (trace : D → Trace) (sum : List ℕ → ℕ) (old new 
           batches = batches_up (written_to (line_of old)) (written_to (at_last sealed_now (line_of old))) (line_end size (line_of old)) (line_end size (at_last sealed_now (line_of old))) (noted_in old) (logged H) (let same = kept_written v vs in omega (arith, same))
               (let same = end_last size sealed_now (λ _. refl) v vs in omega (arith, same)) fits.batches;
           slots = slots_sealed size (line_of old) (state_of (trace (device_of old))).log.bytes (fault_of old) (machine_at old) fits.slots;
-          begun = λ none. subst (λ p. AreBegun sum size (state_of (trace (device_of old))).log.bytes p (machine_at old)) (sym (first_at_last sealed_now (λ _. refl) (line_of old))) (fits.begun none);
+          whole = λ none zeros. subst (λ p. AreWhole sum size (state_of (trace (device_of old))).log.bytes (logged H) p (machine_at old)) (sym (first_at_last sealed_now (λ _. refl) (line_of old))) (fits.whole none zeros);
           own = λ none zeros. own_sealed sum size (HeaderWasPlaced (state_of (trace (device_of old))).placed) (RecordWasPlaced sum size (state_of (trace (device_of old))).placed) (state_of (trace (device_of old))).log.bytes (line_of old) (fits.own none zeros);
-          entries = fits.entries;
           account = fits.account;
         });
     noted = noted_later old new rest.noted (let same = sealed_synced in omega (arith, same));

@@ -5,7 +5,7 @@ use Rattle.std.proofs.Math.Nat.{suc-mul}
 use Rattle.std.proofs.lemmas.Bool.Decides.{nat_tests}
 use Rattle.std.proofs.lemmas.List.{drop-drop}
 use Rattle.std.proofs.lemmas.List.Elements.{All-drop}
-use Rattle.sled_core.specs.inside.Begun.{AreEntered, AreFilled, FollowOn, IsUnfilled}
+use Rattle.sled_core.specs.inside.Begun.{AreEntered, AreFilled, FollowOn, IsUnfilled, first_place}
 use Rattle.sled_core.specs.Begun.{SegmentView, begin_of, records_to, segment_view}
 use Rattle.sled_core.specs.inside.Buffers.{IsChain, IsHeaded, records_end}
 use Rattle.sled_core.specs.Buffers.{most_open, open_in}
@@ -33,7 +33,7 @@ abbrev pub AreSegments : ℕ → ℕ → List SegmentView → Type 0
 AreSegments size place [] = Unit {0}
 AreSegments size place (v ∷ vs) = IsSegment size place v × AreSegments size (place + size) vs
 
-from_each : (size place : ℕ) (vs : List SegmentView) → ((n : ℕ) (v : SegmentView) → slice_get vs n ≡ Some v → IsSegment size (place + n * size) v) → AreSegments size place vs
+pub from_each : (size place : ℕ) (vs : List SegmentView) → ((n : ℕ) (v : SegmentView) → slice_get vs n ≡ Some v → IsSegment size (place + n * size) v) → AreSegments size place vs
 from_each size place [] each = tt
 from_each size place (v ∷ vs) each = (
   subst (λ n. IsSegment size n v) (omega arith) (each zero v refl),
@@ -49,6 +49,19 @@ pub nth_segment : (size place : ℕ) (vs : List SegmentView) → AreSegments siz
 nth_segment size place [] are n v there = cc
 nth_segment size place (x ∷ xs) are zero v there = let same : x ≡ v = cc in subst (λ (y : SegmentView). IsSegment size y.parts.site.place y) same (subst (λ p. IsSegment size p x) (sym are.0.at) are.0)
 nth_segment size place (x ∷ xs) are (suc n) v there = nth_segment size (place + size) xs are.1 n v there
+
+-- begins no lower than the first one
+pub first_below : (size place : ℕ) (vs : List SegmentView) → AreSegments size place vs → (n : ℕ) (v : SegmentView) → slice_get vs n ≡ Some v
+    → first_place vs ≤ v.parts.site.place
+first_below size place [] are n v there = cc
+first_below size place (x ∷ xs) are n v there = let at = are.0.at in let up = each (x ∷ xs) place are n there in omega (arith, at, up) where
+  each : (ys : List SegmentView) (p : ℕ) → AreSegments size p ys → (k : ℕ) → slice_get ys k ≡ Some v → p ≤ v.parts.site.place
+  each [] p are k at = cc
+  each (y ∷ ys) p are zero at =
+      let same : y ≡ v = cc in
+      let begins = are.0.at in
+      omega (arith, begins, ap (λ (u : SegmentView). u.parts.site.place) same)
+  each (y ∷ ys) p are (suc k) at = let up = each ys (p + size) are.1 k at in omega (arith, up)
 
 -- and with another one in its place
 pub set_segment : (size place : ℕ) (vs : List SegmentView) → AreSegments size place vs → (n : ℕ) (v w : SegmentView) → slice_get vs n ≡ Some v → ((p : ℕ) → IsSegment size p v → IsSegment size p w) → AreSegments size place (set vs n w)

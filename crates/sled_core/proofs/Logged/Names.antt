@@ -1,17 +1,14 @@
--- Snapshots, slots and batches that fit a history fit each one that is alike, and what is ready for the one is ready for the other.
+-- Snapshots and batches that fit a history fit each one that is alike, and what is ready for the one is ready for the other.
 use Rattle.std.proofs.Common.{◌≡◌, ◌∙◌, ◌*◌, ◌/◌, ◌%◌, ◌≤◌, ◌<◌, ℕ, ℤ, List, Option, Some, None, sym, ap, subst}
 use Rattle.sled_codec.specs.History.{Message, History}
-use Rattle.sled_codec.specs.Pointers.{lid_of}
 use Rattle.sled_codec.specs.Snapshots.{SnapshotModel, stable_place}
 use Rattle.sled_store.specs.Device.{NamesState, State}
-use Rattle.sled_store.specs.SegmentStates.{Machine}
 use Rattle.sled_core.specs.Fits.{CloseBelow}
 use Rattle.sled_core.specs.LogFile.{StandsHere}
 use Rattle.sled_core.specs.Logged.{logged}
 use Rattle.sled_core.specs.Ready.{HasActive, HasFile, HasNoActive, HaveRecords, IsReady, StandsUsed, active_site}
 use Rattle.sled_core.specs.inside.Recoverable.{AreRecoverableSnapshots, IsTableFile}
 use Rattle.sled_core.specs.inside.Running.{NamesFit}
-use Rattle.sled_core.specs.inside.Slots.{HaveEntries}
 use Rattle.sled_core.proofs.Logged.Alike.{alike_apart, alike_batches, alike_below, alike_there, cut_alike, entry_alike, table_alike}
 use Rattle.sled_core.proofs.Logged.Messages.{inline_alike}
 
@@ -49,19 +46,6 @@ module _ (H R : History) (same : logged H ≡ logged R) where
       -- whatever a crash leaves of them
       pub names_alike : (names : NamesState) (f : ℕ) (first : SnapshotModel) → NamesFit sum size names H f first → NamesFit sum size names R f first
       names_alike names f first fits left leaves own = snapshots_alike left f first (fits left leaves own)
-
-      -- Slots.
-
-      -- each slot of an older segment has an entry of the table
-      pub have_entries_alike : (snapshots : ℤ → Option (List ℕ)) (m : Machine) → HaveEntries sum size snapshots H m → HaveEntries sum size snapshots R m
-      have_entries_alike snapshots m have = record {
-        first = have.first;
-        begins = have.begins;
-        entry = λ k taken low.
-            let own = have.entry k taken low in
-            let other = entry_alike H R same (stable_place have.first.stable) own.0 own.1 own.2 in
-            (own.0, other.0, other.1, ap (λ (x : Message). x.place / size * size) other.2 ∙ own.3, ap (λ (x : Message). lid_of x.pointer / size) other.2 ∙ own.4);
-      }
 
       -- What is ready: the records are those of messages that have their items there, which both histories have.
 

@@ -16,6 +16,7 @@ use Rattle.sled_core.specs.Logged.{in_log, logged}
 use Rattle.sled_core.specs.OpenBatches.{stable_below}
 use Rattle.sled_core.specs.inside.Reached.{BegunSegment, BeginsNext, ReachesIn, StandsActive, StandsAmong, StandsTo}
 use Rattle.sled_core.specs.inside.Recoverable.{BeginsInSegment, IsMarkBelow, IsMarkOf, IsOfHistory, IsPlacedBatch, IsReachedIn, IsReadOn, IsSegmentOf, LiesInSegment, MeetsMessage, NamesBlobOf, NothingBehind, StandsInline}
+use Rattle.sled_core.specs.inside.Slots.{IsWholeSegment, marked_at}
 use Rattle.sled_core.specs.Reading.{BlobIsBelow}
 use Rattle.sled_core.proofs.Logged.Alike.{alike_all, alike_batch, alike_batches, alike_there, entry_alike, no_batch_alike, no_end_alike, no_message_alike}
 use Rattle.sled_core.proofs.Logged.Messages.{inline_alike}
@@ -150,6 +151,18 @@ module _ (H R : History) (same : logged H ≡ logged R) where
           let segments : other.0.place / size ≡ m.place / size = ap (λ (x : Message). x.place / size) other.2 ∙ in_segment ∙ ap (λ (x : Message). x.place / size) is in
           reached_alike other.0 y (sym other.2) sum size log there.segment (there.whole other.0 other.1 segments (subst (λ (x : Message). x.place < cut) (sym other.2) low));
       full = λ ends. read_on_alike there.segment (there.full ends);
+    }
+
+    -- A segment that is read to its end, with each message of it reached, is so.
+    pub whole_alike : (slot place : ℕ) → IsWholeSegment sum size log H slot place → IsWholeSegment sum size log R slot place
+    whole_alike slot place whole = record {
+      mark = whole.mark;
+      found = whole.found;
+      read_on = read_on_alike (marked_at slot place whole.mark) whole.read_on;
+      reached = λ y found own.
+          let other = alike_there R H (sym same) y found in
+          let here = ap (λ (x : Message). x.place / size * size) other.2 ∙ own in
+          reached_alike other.0 y (sym other.2) sum size log (marked_at slot place whole.mark) (whole.reached other.0 other.1 here);
     }
 
     -- What a reader finds up to a place, for a stable place that is written in two ways. It reads the same segments.

@@ -1,31 +1,29 @@
--- The slots that are older than the segment in which a log begins: their headers stand, and each has an entry of the snapshot, which is the table of the history.
-use Rattle.std.proofs.Common.{◌≡◌, ◌∙◌, ◌*◌, ◌/◌, ◌≤◌, ◌<◌, ap, sym, subst, arith, ℕ, ℤ, pos, true, false, List, length, Option}
+-- The slots that are older than the segment in which a log begins: each has an entry of the snapshot, which is the table of the history, so its segment is whole.
+use Rattle.std.proofs.Common.{◌≡◌, ◌∙◌, ◌+◌, ◌*◌, ◌/◌, ◌≤◌, ◌<◌, ap, sym, subst, arith, ℕ, true, false, List, length, Option, None, Some}
 use Rattle.std.specs.List.{Contains}
-use Rattle.sled_codec.specs.History.{History, table}
-use Rattle.sled_codec.specs.Places.{part}
-use Rattle.sled_codec.specs.Pointers.{lid_of}
-use Rattle.sled_codec.specs.Record.{IsHeader}
+use Rattle.sled_codec.specs.History.{History}
 use Rattle.sled_codec.specs.Snapshots.{Entry, SnapshotModel, stable_place}
 use Rattle.sled_store.specs.Begin.{IsStartable, entries_of, is_used, place_at, segment_number_of, slot_of, slots_of}
 use Rattle.sled_store.specs.Device.{State}
 use Rattle.sled_store.specs.SegmentStates.{Machine, is_free, slot_at}
-use Rattle.sled_store.specs.SnapshotFiles.{BeginsFrom}
 use Rattle.sled_store.proofs.Accounts.StartedFile.{started_file, started_part}
-use Rattle.sled_core.specs.declared.iterator.Segment.{Segment}
 use Rattle.sled_core.specs.FreeSlots.{begun_machine}
 use Rattle.sled_core.specs.inside.Reached.{StandsActive}
+use Rattle.sled_core.specs.inside.Recoverable.{ActiveFits}
 use Rattle.sled_core.specs.Ready.{IsReady}
-use Rattle.sled_core.specs.inside.Slots.{AreBegun, HaveEntries}
-use Rattle.sled_core.specs.inside.Tail.{least_place}
+use Rattle.sled_core.specs.inside.Slots.{AreWhole, IsWholeSegment}
 use Rattle.sled_core.proofs.Reached.StartedStands.{found_inside}
+use Rattle.sled_core.proofs.Reached.WholeSegments.{whole_at, whole_kept, whole_needed}
 use Rattle.sled_core.proofs.Start.BegunSlots.{next_within}
 use Rattle.sled_core.proofs.Start.Entries.{entry_used}
-use Rattle.sled_core.proofs.Start.OwnSlots.{least_low, older}
+use Rattle.sled_core.proofs.Start.OwnSlots.{older}
 use Rattle.sled_core.proofs.Start.PlacedEntries.{Known, known, number_is, slot_is}
-use Rattle.sled_core.proofs.Start.UsedLemmas.{header_inside}
+use Rattle.sled_core.proofs.Start.ReadyLemmas.{raised_same}
+use Rattle.sled_core.proofs.Tail.Multiples.{put_down}
 use Rattle.sled_core.proofs.Torn.AlikeSlots.{slot_found}
 
-module _ (sum : List ℕ → ℕ) (size : ℕ) (big : 256 ≤ size) (old : State) (s : SnapshotModel) (H : History) (ready : IsReady sum size old s H) (alone : StandsActive sum size old.log.bytes s H) (startable : IsStartable size (length old.log.bytes) s) where
+module _ (sum : List ℕ → ℕ) (size : ℕ) (big : 256 ≤ size) (old : State) (s : SnapshotModel) (H : History) (ready : IsReady sum size old s H)
+    (alone : StandsActive sum size old.log.bytes s H) (startable : IsStartable size (length old.log.bytes) s) (active : ActiveFits size (stable_place s.stable) s.active) where
   abbrev log : List ℕ
   log = old.log.bytes
 
@@ -52,43 +50,46 @@ module _ (sum : List ℕ → ℕ) (size : ℕ) (big : 256 ≤ size) (old : State
       record { entry = e.0; among = e.1; slot = e.2; is = e.3; of = known sum size log s H big ready.table alone e.0 e.1 }
 
   -- Its segment begins at its place,
-  segment_place : (k : ℕ) (e : HasKnown k) → e.of.message.place / size * size ≡ (slot_at begun k).lsn
-  segment_place k e = ap (λ n. n * size) (sym (number_is sum size log s H big ready.table alone e.entry e.of)) ∙ sym e.is
+  segment_place : (k : ℕ) (e : HasKnown k) → e.of.segment.segment.place ≡ (slot_at begun k).lsn
+  segment_place k e = e.of.segment.place ∙ ap (λ n. n * size) (sym (number_is sum size log s H big ready.table alone e.entry e.of)) ∙ sym e.is
 
-  -- and the header of that stands in the file, once the log is started.
-  header_started : (k : ℕ) (e : HasKnown k) → (mark : ℤ) × IsHeader sum (part (started_file size log s) (k * size) 20) (pos (slot_at begun k).lsn) mark
-  header_started k e =
-      let u : Segment = e.of.segment.segment in
-      let found = e.of.segment.found in
-      let number : u.slot / size ≡ k = sym (slot_is sum size log s H big ready.table alone e.entry e.of) ∙ e.slot in
-      let begins : u.slot ≡ k * size = slot_found sum size log 0 u found ∙ ap (λ n. n * size) number in
-      let inside : k < slots_of size (length log) = subst (λ n. n < slots_of size (length log)) number (found_inside sum size log 0 u (omega (arith, big)) found) in
-      let there : IsHeader sum (part log (k * size) 20) (pos (slot_at begun k).lsn) u.mark =
-      subst (λ n. IsHeader sum (part log n 20) (pos (slot_at begun k).lsn) u.mark) begins (subst (λ p. IsHeader sum (part log u.slot 20) (pos p) u.mark) (e.of.segment.place ∙ segment_place k e) found.header) in
+  -- and lies in the slot.
+  segment_slot : (k : ℕ) (e : HasKnown k) → e.of.segment.segment.slot / size ≡ k
+  segment_slot k e = sym (slot_is sum size log s H big ready.table alone e.entry e.of) ∙ e.slot
+
+  segment_begins : (k : ℕ) (e : HasKnown k) → e.of.segment.segment.slot ≡ k * size
+  segment_begins k e = slot_found sum size log 0 e.of.segment.segment e.of.segment.found ∙ ap (λ n. n * size) (segment_slot k e)
+
+  -- It ends at the stable place or below,
+  stable_low : place_at size stable s.active ≤ stable
+  stable_low = by s.active active where
+    by : (o : Option ℕ) → ActiveFits size stable o → place_at size stable o ≤ stable
+    by None fits = let same = raised_same size stable some fits in omega (arith, same)
+    by (Some a) fits = let parts = put_down size stable in omega (arith, parts.0)
+
+  -- so it is whole,
+  whole_here : (k : ℕ) (e : HasKnown k) → (slot_at begun k).lsn + size ≤ place_at size stable s.active → IsWholeSegment sum size log H (k * size) (slot_at begun k).lsn
+  whole_here k e ends =
+      let place = segment_place k e in
+      let low = stable_low in
+      whole_at sum size log H (sym (segment_begins k e)) (sym place)
+      (whole_needed sum size log some H stable e.of.message e.of.segment (omega (arith, place, ends, low)))
+
+  -- also once the log is started.
+  whole_started : (k : ℕ) (e : HasKnown k) → (slot_at begun k).lsn + size ≤ place_at size stable s.active
+      → IsWholeSegment sum size (started_file size log s) H (k * size) (slot_at begun k).lsn
+  whole_started k e ends =
+      let within = found_inside sum size log 0 e.of.segment.segment (omega (arith, big)) e.of.segment.found in
+      let inside : k < slots_of size (length log) = subst (λ n. n < slots_of size (length log)) (segment_slot k e) within in
       let used : is_used size s k ≡ true = subst (λ n. is_used size s n ≡ true) e.slot (entry_used size s e.entry e.among) in
-      let same : part (started_file size log s) (k * size) 20 ≡ part log (k * size) 20 =
-      started_part size some log s k used inside (k * size) 20 (omega arith) (omega (arith, big)) (header_inside sum log (k * size) (pos (slot_at begun k).lsn) u.mark there) in
-      (u.mark, subst (λ (l : List ℕ). IsHeader sum l (pos (slot_at begun k).lsn) u.mark) (sym same) there)
+      whole_kept sum size log (started_file size log s) (k * size) (omega (arith, big)) (started_part size some log s k used inside) H (slot_at begun k).lsn
+      (whole_here k e ends)
 
   -- So it is in the machine and the file with which the log begins.
-  pub start_begun : {size' : ℕ} → size' ≡ size → {now : List ℕ} → now ≡ started_file size log s → {place : ℕ} → place ≡ place_at size stable s.active → {m : Machine} → m ≡ begun → AreBegun sum size' now place m
-  start_begun same {now} file {place} at {m} machine =
-      subst (λ n. AreBegun sum n now place m) (sym same) (subst (λ (l : List ℕ). AreBegun sum size l place m) (sym file) (subst (λ p. AreBegun sum size (started_file size log s) p m) (sym at)
-      (subst (λ (x : Machine). AreBegun sum size (started_file size log s) (place_at size stable s.active) x) (sym machine) (λ k taken low. header_started k (older_known k taken low)))))
-
-  pub start_entries : {size' : ℕ} → size' ≡ size → (snapshots : ℤ → Option (List ℕ)) → snapshots ≡ old.snapshots.file → {m : Machine} → m ≡ begun → HaveEntries sum size' snapshots H m
-  start_entries same snapshots names {m} machine =
-      subst (λ n. HaveEntries sum n snapshots H m) (sym same) (subst (λ (x : Machine). HaveEntries sum size snapshots H x) (sym machine) (record {
-        first = ready.first;
-        begins = subst (λ (f : ℤ → Option (List ℕ)). BeginsFrom sum f ready.first) (sym names) ready.begins;
-        entry = λ k taken low.
-            let cut : stable_place ready.first.stable ≡ stable = ap stable_place ready.same_place in
-            let least : least_place size ready.first ≡ stable / size * size = ap (λ n. n / size * size) cut in
-            let e = older_known k taken (let up = least_low size (length log) some s in omega (arith, low, least, up)) in (
-              e.of.page,
-              e.of.message,
-              subst (λ n. Contains (table H n e.of.page) e.of.message) (sym cut) e.of.entry,
-              segment_place k e,
-              ap (λ p. lid_of p / size) (sym e.of.of.pointer) ∙ e.slot,
-            );
-      }))
+  pub start_whole : {size' : ℕ} → size' ≡ size → {now : List ℕ} → now ≡ started_file size log s → {place : ℕ} → place ≡ place_at size stable s.active
+      → {m : Machine} → m ≡ begun → AreWhole sum size' now H place m
+  start_whole same {now} file {place} at {m} machine =
+      subst (λ n. AreWhole sum n now H place m) (sym same) (subst (λ (l : List ℕ). AreWhole sum size l H place m) (sym file)
+      (subst (λ p. AreWhole sum size (started_file size log s) H p m) (sym at)
+      (subst (λ (x : Machine). AreWhole sum size (started_file size log s) H (place_at size stable s.active) x) (sym machine)
+      (λ k taken ends. whole_started k (older_known k taken (omega (arith, ends, some))) ends))))

@@ -187,10 +187,3 @@ module _ (size len : ℕ) (some : 0 < size) (s : SnapshotModel) where
           let e = found_taken k old.1 in
           (e.entry, subst (λ (o : Option ℕ). Contains (active_entry stable o ++ entries_of s.pages) e.entry) none e.among, e.slot, old.0 ∙ e.is))
     ]
-
-  -- The segment of the stable place doesn't begin above it.
-  pub least_low : stable / size * size ≤ place_at size stable s.active
-  least_low = by s.active where
-    by : (o : Option ℕ) → stable / size * size ≤ place_at size stable o
-    by (Some a) = omega arith
-    by None = let up : stable + (size - 1) < raised size stable + size = lt-div-mul-add some in let whole = mod-add-div' stable size in omega (arith, up, whole, some)

@@ -1,7 +1,7 @@
 -- Where the entries of a snapshot lie, whose table stands in the log file: each in the segment of its message, and two in one slot just where they are of one segment.
 use Rattle.std.proofs.Common.{◌≡◌, ◌≤◌, ◌<◌, ◌≤ℤ◌, ◌*◌, ◌/◌, ◌%◌, ◌∙◌, ℕ, ℤ, pos, List, length, sym, ap, subst, arith, inl, inr, unsigned_abs}
 use Rattle.std.specs.List.{Contains}
-use Rattle.std.proofs.Math.Nat.{mod-add-div', mul-div_cancel}
+use Rattle.std.proofs.Math.Nat.{mod-add-div'}
 use Rattle.std.proofs.lemmas.Int.{ints}
 use Rattle.sled_codec.specs.Pointers.{lid_of}
 use Rattle.sled_codec.specs.History.{Message, History, table}
@@ -17,11 +17,8 @@ use Rattle.sled_core.proofs.Start.Entries.{entry_message}
 use Rattle.sled_core.proofs.Reached.StartedStands.{found_inside, slot_needed}
 use Rattle.sled_core.proofs.Read.ScanLemmas.{aligned_offset}
 use Rattle.sled_core.proofs.Tail.Moved.{one_in_slot}
+use Rattle.sled_core.proofs.Tail.Multiples.{same_number}
 use Rattle.sled_core.proofs.Torn.AlikeSlots.{slot_found}
-
--- two multiples of a size are of one number
-pub same_number : (size m n : ℕ) → 0 < size → m * size ≡ n * size → m ≡ n
-same_number size m n some same = sym (mul-div_cancel m some) ∙ ap (λ k. k / size) same ∙ mul-div_cancel n some
 
 module _ (sum : List ℕ → ℕ) (size : ℕ) (log : List ℕ) (s : SnapshotModel) (H : History) (long : 256 ≤ size) (is : IsTable s.pages H (stable_place s.stable)) (alone : StandsActive sum size log s H) where
   abbrev stable : ℕ

@@ -1,5 +1,5 @@
 -- The slots with which a log begins are the account of the history: each message of the table that the snapshot is lies in the slot of its segment, and no table from the stable place on has another one.
-use Rattle.std.proofs.Common.{if◌then◌else◌, ⊎_elim, ◌≡◌, ◌≢◌, ◌⊎◌, ◌↔◌, ◌∙◌, ◌||◌, ◌-◌, ◌==◌, ◌+◌, ◌*◌, ◌/◌, ◌%◌, ◌≤◌, ◌<◌, ℕ, ℤ, zero, suc, pos, unsigned_abs, Bool, true, false, not, List, [], ◌∷◌, ◌++◌, filter, length, map, get_or, Option, None, Some, IfSome, refl, sym, ap, subst, arith, inl, inr, eq-eqb, eqb-true}
+use Rattle.std.proofs.Common.{if◌then◌else◌, ⊎_elim, ◌≡◌, ◌⊎◌, ◌↔◌, ◌∙◌, ◌-◌, ◌==◌, ◌+◌, ◌*◌, ◌/◌, ◌%◌, ◌≤◌, ◌<◌, ℕ, ℤ, zero, suc, pos, unsigned_abs, Bool, true, false, not, List, [], ◌∷◌, ◌++◌, filter, length, get_or, Option, None, Some, IfSome, refl, sym, ap, subst, arith, inl, inr, eq-eqb, eqb-true}
 use Rattle.std.specs.List.{All, Contains, list_any}
 use Rattle.std.proofs.lemmas.Bool.{cases_lt, cases_order, false≢true, true≢false}
 use Rattle.std.proofs.lemmas.List.{get_or_past}
@@ -20,7 +20,7 @@ use Rattle.sled_store.specs.SegmentStates as states
 use Rattle.sled_store.specs.SnapshotFiles.{BeginsFrom}
 use Rattle.sled_store.specs.SlotTables.{active_entry, number_in}
 use Rattle.sled_store.specs.Started.{all_entries, found, found_slot, pages_in, started, used_state}
-use Rattle.sled_store.specs.Tracked.{IsAccountOf, IsActiveOrBelow, IsHeld, IsNoEntry}
+use Rattle.sled_store.specs.Tracked.{IsAccountOf, IsHeld, IsNoEntry}
 use Rattle.sled_store.proofs.Accounts.StartNext.{cut_free}
 use Rattle.sled_store.proofs.Histories.Ascending.{Ascends, one_at_place}
 use Rattle.sled_store.proofs.Marks.AccountSteps.{handed_out_account, past_table, same_account}
@@ -41,9 +41,8 @@ use Rattle.sled_core.proofs.Logged.Alike.{table_alike}
 use Rattle.sled_core.proofs.Logged.Messages.{logged_apart, logged_below, logged_twice}
 use Rattle.sled_core.proofs.Start.Entries.{HasEntry, from_any, table_entry}
 use Rattle.sled_core.proofs.Start.OwnSlots.{HasFound, found_taken, low_active, low_raised, own_started}
-use Rattle.sled_core.proofs.Start.PlacedEntries.{same_number}
 use Rattle.sled_core.proofs.Start.UsedEntries.{page_used}
-use Rattle.sled_core.proofs.Tail.Multiples.{apart}
+use Rattle.sled_core.proofs.Tail.Multiples.{apart, same_number}
 
 -- A page with an entry in a slot is among those of the slot.
 pages_there : (size k i : ℕ) (ps : List Page) (n : ℕ) → list_any (λ e. slot_of size e == k) (entries_in (get_or ps n Uninitialized)) ≡ true → Contains (pages_in size k i ps) (i + n)

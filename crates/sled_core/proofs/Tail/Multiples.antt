@@ -1,6 +1,6 @@
 -- Multiples of a size, and the one at or below a place.
-use Rattle.std.proofs.Common.{◌≡◌, ◌∙◌, ◌+◌, ◌-◌, ◌*◌, ◌/◌, ◌%◌, ◌<◌, ◌≤◌, ℕ, suc, ap, arith, inl, inr}
-use Rattle.std.proofs.Math.Nat.{mod-add-div', mul-mod_left, mul-le-mul_right, suc-mul}
+use Rattle.std.proofs.Common.{◌≡◌, ◌∙◌, ◌+◌, ◌-◌, ◌*◌, ◌/◌, ◌%◌, ◌<◌, ◌≤◌, ℕ, suc, sym, ap, arith, inl, inr}
+use Rattle.std.proofs.Math.Nat.{mod-add-div', mul-div_cancel, mul-mod_left, mul-le-mul_right, suc-mul}
 use Rattle.std.proofs.lemmas.Bool.{cases_lt, cases_order}
 use Rattle.sled_codec.specs.Coords.{raised}
 
@@ -12,6 +12,10 @@ apart size some a b at_a at_b less =
     let fewer : b / size ≤ a / size → ⊥ = λ (le : b / size ≤ a / size). omega (arith, mul-le-mul_right size le, whole_a, whole_b, less) in
     let one_more : suc (a / size) ≤ b / size = omega (arith, fewer) in
     omega (arith, mul-le-mul_right size one_more, whole_a, whole_b, suc-mul (a / size) size)
+
+-- and are of one number where they are one
+pub same_number : (size m n : ℕ) → 0 < size → m * size ≡ n * size → m ≡ n
+same_number size m n some same = sym (mul-div_cancel m some) ∙ ap (λ k. k / size) same ∙ mul-div_cancel n some
 
 -- the multiple of a size at or below a place
 pub put_down : (size p : ℕ) → (p / size * size + p % size ≡ p) × (p / size * size % size ≡ 0)

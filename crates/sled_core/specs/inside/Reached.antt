@@ -127,7 +127,7 @@ BeginsOne others place = (x : BegunSegment) × Contains others x × (x.site.plac
 pub record StandsAmong (sum : List ℕ → ℕ) (size : ℕ) (log : List ℕ) (site : SegmentPosition) (from : ℕ) (others : List BegunSegment) (reach : ℕ) (H : History)
     (first : SnapshotModel) : Type 0 where
   pub stands : StandsTo sum size log H (stable_below reach H.batches) first reach
-  -- as yet all counts from the snapshot's place, and iterators read from there on
+  -- as yet all counts from the snapshot's place
   pub held : stands.from ≡ stable_place first.stable
   pub reached : ReachesIn size H site.place from reach
   pub led : IsLed sum size log (least_place size first) reach site.place

@@ -22,7 +22,7 @@ use Rattle.sled_core.specs.Recoverable.{NoHeaderOfZeros, LeavesRecoverable}
 use Rattle.sled_core.specs.inside.Reached.{StandsAmong, StandsActive}
 use Rattle.sled_core.specs.inside.LogFile.{padded}
 use Rattle.sled_core.specs.Ready.{IsReady}
-use Rattle.sled_core.specs.inside.Slots.{AreBegun, HasAccount, HaveEntries}
+use Rattle.sled_core.specs.inside.Slots.{AreWhole, HasAccount}
 use Rattle.sled_core.specs.Running.{KeepsItem}
 
 -- whatever snapshots a crash leaves of which only those pass that the log wrote, recovery begins from this one
@@ -101,11 +101,10 @@ pub record FitsWith (sum : List ℕ → ℕ) (noted : List Batch) (size : ℕ) (
   pub parts : FitsLine sum size device fault line reach pins H A f U
   pub batches : FitsBatches (written_to line) (line_end size line) noted (logged H)
   pub slots : HasSlots size line device.log.bytes fault m
-  -- the segments before the first of these have their headers
-  pub begun : fault ≡ None → AreBegun sum size device.log.bytes (first_place line) m
+  -- the segments before the first of these are read to their end, and their messages are reached
+  pub whole : fault ≡ None → NoHeaderOfZeros sum → AreWhole sum size device.log.bytes (logged H) (first_place line) m
   -- all that a reader reads in them was placed by the log
   pub own : fault ≡ None → NoHeaderOfZeros sum → HasPlacedFile sum size device line
-  pub entries : HaveEntries sum size device.snapshots.file (logged H) m
   pub account : HasAccount sum size device.snapshots.file H U m
 
 -- Snapshot and device are ready for a log that fits this history, the end of what was acknowledged and the floor. Log file and snapshots have records and

@@ -1,29 +1,31 @@
--- What stands in the slots of a log that aren't free: the headers of their segments, entries of the table with which the log began, and what was marked.
-use Rattle.std.specs.Prelude.{◌≡◌, ◌*◌, ◌/◌, ◌<◌, ℕ, ℤ, pos, false, List, Option, Contains}
-use Rattle.sled_codec.specs.History.{Message, History, table}
-use Rattle.sled_codec.specs.Places.{part}
-use Rattle.sled_codec.specs.Pointers.{lid_of}
-use Rattle.sled_codec.specs.Record.{IsHeader}
+-- What stands in the slots of a log that aren't free: the segments that are wholly on the device, and what was marked.
+use Rattle.std.specs.Prelude.{◌≡◌, ◌+◌, ◌*◌, ◌/◌, ◌≤◌, ℕ, ℤ, false, List, Option, Contains}
+use Rattle.sled_codec.specs.History.{Message, History}
 use Rattle.sled_codec.specs.Snapshots.{SnapshotModel, stable_place}
 use Rattle.sled_store.specs.SegmentStates.{Machine, is_free, slot_at}
 use Rattle.sled_store.specs.SnapshotFiles.{BeginsFrom}
 use Rattle.sled_store.specs.Tracked.{IsAccountOf}
+use Rattle.sled_core.specs.declared.iterator.Segment.{Segment}
 use Rattle.sled_core.specs.Unmarked.{without}
-use Rattle.sled_core.specs.inside.Tail.{least_place}
+use Rattle.sled_core.specs.inside.Recoverable.{IsReachedIn, IsReadOn}
+use Rattle.sled_core.specs.inside.Scan.{IsFoundSegment}
 
--- The header of its segment stands in each slot that isn't free whose segment begins below a place.
-abbrev pub AreBegun : (List ℕ → ℕ) → ℕ → List ℕ → ℕ → Machine → Type 0
-AreBegun sum size log below m =
-    (k : ℕ) → is_free (slot_at m k).state ≡ false → (slot_at m k).lsn < below → (mark : ℤ) × IsHeader sum (part log (k * size) 20) (pos (slot_at m k).lsn) mark
+-- the segment with this mark
+abbrev pub marked_at : ℕ → ℕ → ℤ → Segment
+marked_at slot place mark = record { place = place; slot = slot; mark = mark }
 
--- The newest snapshot is the one with which the log began. Each slot that isn't free and whose segment is older than that of its stable place has an entry
--- of its table.
-pub record HaveEntries (sum : List ℕ → ℕ) (size : ℕ) (snapshots : ℤ → Option (List ℕ)) (H : History) (m : Machine) : Type 0 where
-  pub first : SnapshotModel
-  pub begins : BeginsFrom sum snapshots first
-  pub entry : (k : ℕ) → is_free (slot_at m k).state ≡ false → (slot_at m k).lsn < least_place size first
-      → (page : ℕ) × (e : Message) × Contains (table H (stable_place first.stable) page) e × (e.place / size * size ≡ (slot_at m k).lsn)
-      × (lid_of e.pointer / size ≡ k)
+-- A segment that begins at a place lies in a slot: its header is found there, it is read to its end and leads on, all that is met in it is of the history,
+-- and each message of the history in it is reached.
+pub record IsWholeSegment (sum : List ℕ → ℕ) (size : ℕ) (log : List ℕ) (H : History) (slot place : ℕ) : Type 0 where
+  pub mark : ℤ
+  pub found : IsFoundSegment sum size log 0 (marked_at slot place mark)
+  pub read_on : IsReadOn sum size log H (marked_at slot place mark)
+  pub reached : (n : Message) → Contains H.messages n → n.place / size * size ≡ place → IsReachedIn sum size log (marked_at slot place mark) n
+
+-- So it is with each segment that a slot has and that ends at a place or below it.
+abbrev pub AreWhole : (List ℕ → ℕ) → ℕ → List ℕ → History → ℕ → Machine → Type 0
+AreWhole sum size log H below m =
+    (k : ℕ) → is_free (slot_at m k).state ≡ false → (slot_at m k).lsn + size ≤ below → IsWholeSegment sum size log H (k * size) (slot_at m k).lsn
 
 -- The slots are the account of what is marked: of all messages of the history but these. Tables count from the snapshot on with which the log began.
 pub record HasAccount (sum : List ℕ → ℕ) (size : ℕ) (snapshots : ℤ → Option (List ℕ)) (H : History) (U : List Message) (m : Machine) : Type 0 where

@@ -1,6 +1,5 @@
 -- All that was reserved is written.
-use Rattle.std.proofs.Common.{◌≡◌, ◌∙◌, ◌∷◌, ◌≤◌, ap, ℕ, List, [], Option, None, Some, arith, max, refl, subst, sym}
-use Rattle.std.specs.declared.io.Error.{Error as IoError}
+use Rattle.std.proofs.Common.{◌≡◌, ◌∙◌, ◌∷◌, ◌≤◌, ap, ℕ, List, [], max, arith, refl, subst, sym}
 use Rattle.sled_store.proofs.Traces.ScriptLemmas.{performs_nothing}
 use Rattle.std.proofs.lemmas.Result.{err_from_is_err_and}
 use Rattle.sled_codec.specs.declared.result.Error.TheVariants.{Io}
@@ -77,7 +76,7 @@ unfolding Fits
 returns-clause-acknowledges g c = λ H A f U fits.
     let later = c.write_below.ensures.keeps.preserves.fits H A f U fits in
     subst (λ n. Fits g.D.Device.trace g.C.Checksum.sum_of c.write_below.new.self H (max A (end_below n H)) f U) (stable g c)
-    (record { reach = later.reach; parts = fits-acknowledged g.C.Checksum.sum_of _ _ _ _ _ _ _ _ _ H A f U later.parts _ _ later.batches; batches = later.batches; slots = later.slots; begun = later.begun; own = later.own; entries = later.entries; account = later.account })
+    (record { reach = later.reach; parts = fits-acknowledged g.C.Checksum.sum_of _ _ _ _ _ _ _ _ _ H A f U later.parts _ _ later.batches; batches = later.batches; slots = later.slots; whole = later.whole; own = later.own; account = later.account })
 
 pub returns-in-Some-clause-buffers : goal.returns-in-Some-clause-buffers
 returns-in-Some-clause-buffers g c =

@@ -1,6 +1,5 @@
 -- Where nothing is written, the log is as it was; else the buffers up to the place are.
-use Rattle.std.proofs.Common.{◌∙◌, ◌<ℤ◌, pos, ◌≤ℤ◌, ◌<◌, ap, sym, subst, refl, arith, ◌≡◌, ◌≤◌, negsuc, ℤ, rules, SFits, of_z, to_z, inl, inr, List, None, ℕ, Option, Ok, Err, Some}
-use Rattle.std.specs.declared.io.Error.{Error as IoError}
+use Rattle.std.proofs.Common.{◌∙◌, ◌<ℤ◌, pos, ◌≤ℤ◌, ◌<◌, ap, sym, subst, refl, arith, ◌≡◌, ◌≤◌, negsuc, ℤ, rules, SFits, of_z, to_z, inl, inr, List, None, ℕ, Option, Ok, Err}
 use Rattle.std.specs.Int.{w64}
 use Rattle.std.proofs.lemmas.Int.{ints, to_z-of_z, to_z_pos}
 use Rattle.std.proofs.lemmas.Result.{err_from_is_err_and}
@@ -176,7 +175,7 @@ pub returns-clause-acknowledges : goal.returns-clause-acknowledges
 unfolding Fits
 returns-clause-acknowledges g c = λ H A f U fits.
     let later = c.write_below.ensures.keeps.preserves.fits H A f U fits in
-    record { reach = later.reach; parts = fits-acknowledged g.C.Checksum.sum_of _ _ _ _ _ _ _ _ _ H A f U later.parts _ _ later.batches; batches = later.batches; slots = later.slots; begun = later.begun; own = later.own; entries = later.entries; account = later.account }
+    record { reach = later.reach; parts = fits-acknowledged g.C.Checksum.sum_of _ _ _ _ _ _ _ _ _ H A f U later.parts _ _ later.batches; batches = later.batches; slots = later.slots; whole = later.whole; own = later.own; account = later.account }
 
 pub returns-clause-answers : goal.returns-clause-answers
 returns-clause-answers g c =

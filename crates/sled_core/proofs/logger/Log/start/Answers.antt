@@ -53,7 +53,7 @@ use Rattle.sled_core.proofs.Logged.Names.{ready_alike}
 use Rattle.sled_core.proofs.OwnLog.Started.{started_own}
 use Rattle.sled_core.proofs.OwnLog.StartedDevice.{started_placed}
 use Rattle.sled_core.proofs.Start.BegunSlots.{begun_slots}
-use Rattle.sled_core.proofs.Start.OlderStarted.{start_begun, start_entries}
+use Rattle.sled_core.proofs.Start.OlderStarted.{start_whole}
 use Rattle.sled_core.proofs.Start.StartedAccount.{start_account}
 use Rattle.sled_core.proofs.Start.StartedMoments.{started_throughout}
 use Rattle.sled_core.proofs.Start.ReadyStarts.{ready_starts}
@@ -221,7 +221,7 @@ returns-in-Ok-clause-fits g c = λ H A f ready.
           (ap (λ (t : Trace). (state_of t).snapshots.file) c.in-Ok.ensures.made ∙ ap (λ (n : NamesState). n.file) (started-snapshots size some (state_of old).log.bytes s old)) c.in-Ok.beginning c.in-Ok.ensures.beginning first.header first.resumed));
       slots = subst (λ (ss : List SegmentBuffer). HasSlots c.begin.new.config.config.segment_size (line_at site c.in-Ok.buffer ss) now.log.bytes None (machine_of c.in-Ok.accountant)) (sym c.no_segments.ensures)
           (start_slots size same some s (state_of old).log.bytes now.log.bytes c.in-Ok.ensures.answers.0 (ap (λ (l : LogState). l.bytes) log_now) (view_at site c.in-Ok.buffer) (ap (λ (x : Beginning). record { place = x.place; slot = x.slot }) c.in-Ok.ensures.beginning) c.in-Ok.ensures.machine);
-      begun = λ none. start_begun g.C.Checksum.sum_of size c.args.config.config.least (state_of old) s (logged H) ready.ready ready.alone c.in-Ok.ensures.answers.0 same (ap (λ (l : LogState). l.bytes) log_now)
+      whole = λ none zeros. start_whole g.C.Checksum.sum_of size c.args.config.config.least (state_of old) s (logged H) ready.ready ready.alone c.in-Ok.ensures.answers.0 ready.active same (ap (λ (l : LogState). l.bytes) log_now)
           (ap (λ (x : Beginning). x.place) c.in-Ok.ensures.beginning ∙ begins_place size (slots_of size (length (state_of old).log.bytes)) (stable_place s.stable) (unused size (slots_of size (length (state_of old).log.bytes)) s) s.active) c.in-Ok.ensures.machine;
       own = λ none zeros. (
           let least = c.args.config.config.least in
@@ -232,8 +232,6 @@ returns-in-Ok-clause-fits g c = λ H A f ready.
           (subst (λ (ss : List SegmentBuffer). HasPlacedFile g.C.Checksum.sum_of size now (line_at site c.in-Ok.buffer ss)) (sym c.no_segments.ensures)
           (started_own g.C.Checksum.sum_of size c.args.config.config.least zeros (state_of old) now s H A f ready c.in-Ok.ensures.answers.0 (ap (λ (l : LogState). l.bytes) log_now) behind (view_at site c.in-Ok.buffer)
           (ap (λ (x : Beginning). record { place = x.place; slot = x.slot }) c.in-Ok.ensures.beginning) (first.from ∙ offset) first.sealed)));
-      entries = start_entries g.C.Checksum.sum_of size c.args.config.config.least (state_of old) s (logged H) ready.ready ready.alone c.in-Ok.ensures.answers.0 same now.snapshots.file
-          (ap (λ (t : Trace). (state_of t).snapshots.file) c.in-Ok.ensures.made ∙ ap (λ (n : NamesState). n.file) (started-snapshots size some (state_of old).log.bytes s old)) c.in-Ok.ensures.machine;
       account = start_account g.C.Checksum.sum_of size some (state_of old) s H A f ready c.in-Ok.ensures.answers.0 same now.snapshots.file
           (ap (λ (t : Trace). (state_of t).snapshots.file) c.in-Ok.ensures.made ∙ ap (λ (n : NamesState). n.file) (started-snapshots size some (state_of old).log.bytes s old)) c.in-Ok.ensures.machine;
     }
