@@ -1,5 +1,6 @@
 pub mod Accounts
 pub mod Advanced
+pub mod Among
 pub mod Around
 pub mod BatchNoted
 pub mod Begins
@@ -26,6 +27,7 @@ pub mod Filling
 pub mod Fillings
 pub mod GivenUp
 pub mod HeaderMarks
+pub mod Heads
 pub mod KeptCalls
 pub mod KeptReads
 pub mod Last

@@ -21,7 +21,9 @@ use Rattle.sled_core.specs.declared.logger.Log.{Log}
 use Rattle.sled_store.specs.declared.config.RunningConfig.{RunningConfig}
 use Rattle.sled_core.specs.Begun.{SegmentView, begin_of, line_in, segment_view}
 use Rattle.sled_core.specs.Buffers.{pointer_as, message_in, none_open, open_in, first_open_in}
-use Rattle.sled_core.specs.GivenUp.{AreAmong, given_up_along}
+use Rattle.sled_core.specs.Among.{AreAmong}
+use Rattle.sled_core.specs.GivenUp.{given_up_along}
+use Rattle.sled_core.specs.Heads.{HeadAt, heads_along}
 use Rattle.sled_core.specs.LogFile.{IsLogFile, StaysFrom}
 use Rattle.sled_core.specs.Logged.{in_log, logged}
 use Rattle.sled_core.specs.OpenBatches.{batch_of, not_whole, stable_below}
@@ -236,6 +238,10 @@ open_places log = open_places_along (line_of log)
 -- the messages that were given up, as the log has them, of those whose reservations it has in memory
 abbrev pub given_up_of : {D C : Type 0} → Log D C → List Message
 given_up_of log = given_up_along (line_of log)
+
+-- the headers of its segments that aren't on the device yet
+abbrev pub heads_of : {D C : Type 0} → Log D C → List HeadAt
+heads_of log = heads_along (line_of log)
 
 -- The log file has these messages, and those that stay of earlier segments, and all of it is settled, so that a crash leaves just that.
 pub record IsOnDevice (sum : List ℕ → ℕ) (size : ℕ) (device : LogState) (site : SegmentPosition) (from : ℕ) (messages : List Message)

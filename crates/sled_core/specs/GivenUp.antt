@@ -1,5 +1,5 @@
 -- Which messages of a log were given up, of those that it has in memory, as lists.
-use Rattle.std.specs.Prelude.{ℕ, Bool, true, false, if◌then◌else◌, List, [], ◌∷◌, ◌++◌, Contains}
+use Rattle.std.specs.Prelude.{ℕ, Bool, true, false, if◌then◌else◌, List, [], ◌∷◌, ◌++◌}
 use Rattle.sled_codec.specs.History.{Message}
 use Rattle.sled_core.specs.declared.iobuf.ReservationState.{ReservationState}
 use Rattle.sled_core.specs.declared.iobuf.ReservationState.TheVariants.{Open, Completed, Canceled, Manifest, Padding}
@@ -25,7 +25,3 @@ given_up_in site bytes (r ∷ rs) = if canceled_state r.state then message_in si
 abbrev pub given_up_along : List SegmentView → List Message
 given_up_along [] = []
 given_up_along (v ∷ vs) = given_up_in v.parts.site v.parts.bytes v.parts.reserved ++ given_up_along vs
-
--- each of the first messages is one of the others
-abbrev pub AreAmong : List Message → List Message → Type 0
-AreAmong these those = (m : Message) → Contains these m → Contains those m

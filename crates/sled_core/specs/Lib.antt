@@ -1,4 +1,5 @@
 pub mod Ahead
+pub mod Among
 pub mod Batches
 pub mod Begun
 pub mod Buffers
@@ -10,6 +11,7 @@ pub mod FreeSlots
 pub mod Fronts
 pub mod GivenUp
 pub mod Good
+pub mod Heads
 pub mod Iterates
 pub mod Iterators
 pub mod Keeps

@@ -6,6 +6,7 @@ use Rattle.sled_codec.specs.declared.serialization.message.MessageKind.TheVarian
 use Rattle.sled_codec.specs.History.{Message}
 use Rattle.sled_codec.specs.Record.{short_header, short_record}
 use Rattle.sled_core.specs.Canceled.{IsBodyOf}
+use Rattle.sled_core.specs.Heads.{HeadAt}
 use Rattle.sled_core.specs.invariants.Caps.{segment_rest}
 use Rattle.sled_core.specs.Waiting.{BufferAt}
 
@@ -32,25 +33,27 @@ CanceledAreOf sum number messages place (r ∷ rs) =
     × CanceledAreOf sum number messages (place + length (short_record sum r.kind r.page number r.body)) rs
 
 -- What stands in front of the first record of a buffer that begins at a place, which lies at an offset of its segment: where it begins with the segment the
--- segment's header, with a mark below it; else nothing.
-abbrev pub IsHead : (List ℕ → ℕ) → ℕ → ℕ → List ℕ → Type 0
-IsHead sum place from head = ((from ≡ 0) × (mark : ℤ) × (mark <ℤ pos place) × (head ≡ short_header sum (pos place) mark)) ⊎ ((20 ≤ from) × (head ≡ []))
+-- segment's header, with a mark below it, which is one of these; else nothing.
+abbrev pub IsHead : (List ℕ → ℕ) → List HeadAt → ℕ → ℕ → List ℕ → Type 0
+IsHead sum heads place from head =
+    ((from ≡ 0) × Contains heads (record { place = place; bytes = head }) × (mark : ℤ) × (mark <ℤ pos place) × (head ≡ short_header sum (pos place) mark))
+    ⊎ ((20 ≤ from) × (head ≡ []))
 
 -- What stands behind its last record, from that offset on: nothing, or what fills the segment to its end.
 abbrev pub IsFilling : (List ℕ → ℕ) → ℕ → ℕ → ℕ → List ℕ → Type 0
 IsFilling sum size number from rest = (rest ≡ []) ⊎ ((from + length rest ≡ size) × (rest ≡ segment_rest sum size number from))
 
--- The bytes of a buffer that begins at a place, and so at an offset of a segment of a number: no record is written in parts, and none without its sum; and
--- one that every reader passes over is of one of these messages, those that were given up.
-pub record IsWholeText (sum : List ℕ → ℕ) (size : ℕ) (given_up : List Message) (number place from : ℕ) (bytes : List ℕ) : Type 0 where
+-- The bytes of a buffer that begins at a place, and so at an offset of a segment of a number: no record is written in parts, and none without its sum; one
+-- that every reader passes over is of one of these messages, those that were given up; and the header is one of these, those that aren't on the device.
+pub record IsWholeText (sum : List ℕ → ℕ) (size : ℕ) (given_up : List Message) (heads : List HeadAt) (number place from : ℕ) (bytes : List ℕ) : Type 0 where
   pub head : List ℕ
   pub records : List RecordParts
   pub rest : List ℕ
   pub is : bytes ≡ head ++ records_text sum number records ++ rest
-  pub headed : IsHead sum place from head
+  pub headed : IsHead sum heads place from head
   pub canceled : CanceledAreOf sum number given_up (place + length head) records
   pub filled : IsFilling sum size number (from + length head + length (records_text sum number records)) rest
 
--- So are those of a buffer of a log with segments of a size, where these were given up.
-abbrev pub IsWholeBuffer : (List ℕ → ℕ) → ℕ → List Message → BufferAt → Type 0
-IsWholeBuffer sum size given_up b = IsWholeText sum size given_up (b.place / size) b.place (b.place % size) b.bytes
+-- So are those of a buffer of a log with segments of a size, where these were given up, and these headers aren't on the device.
+abbrev pub IsWholeBuffer : (List ℕ → ℕ) → ℕ → List Message → List HeadAt → BufferAt → Type 0
+IsWholeBuffer sum size given_up heads b = IsWholeText sum size given_up heads (b.place / size) b.place (b.place % size) b.bytes

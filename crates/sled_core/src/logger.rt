@@ -82,7 +82,7 @@ pub struct Log<D, C> {
 
 impl<D: Device, C: Checksum> Log<D, C> {
     ghost use Rattle.sled_core.specs.invariants.Fits.{Holds};
-    ghost use Rattle.sled_core.specs.GivenUp.{AreAmong};
+    ghost use Rattle.sled_core.specs.Among.{AreAmong};
     ghost use Rattle.sled_core.specs.Fits.{Awaits, IsOpen, FitsInline, fault_of, given_up_of, synced_end, reserved_end, pins_of, config_of, device_of, HasRecordOf, line_of, segment_size_of, waiting_of, current_begin, FirstWaits, stable_end, KeepsAll};
     ghost use Rattle.sled_core.specs.Fronts.{CameAround};
     ghost use Rattle.sled_core.specs.Endings.{EndsTicket};

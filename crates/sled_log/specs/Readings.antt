@@ -8,9 +8,11 @@ use Rattle.sled_codec.specs.History.{History, Message, table}
 use Rattle.sled_codec.specs.PageTables.{entry_of}
 use Rattle.sled_codec.specs.Snapshots.{Entry}
 use Rattle.sled_store.specs.Device.{Trace}
+use Rattle.sled_log.specs.WriteSteps.{headed}
+use Rattle.sled_core.specs.Marked.{BeginsMarked}
 use Rattle.sled_core.specs.declared.logger.Log.{Log}
-use Rattle.sled_core.specs.Fits.{KeepsTickets, device_of, fault_of, given_up_of, reserved_end, segment_size_of}
-use Rattle.sled_core.specs.GivenUp.{AreAmong}
+use Rattle.sled_core.specs.Fits.{KeepsTickets, device_of, fault_of, given_up_of, reserved_end, segment_size_of, heads_of, start_of}
+use Rattle.sled_core.specs.Among.{AreAmong}
 use Rattle.sled_core.specs.Keeps.{Preserves, SamePosition}
 use Rattle.sled_core.specs.ReadPointer.{place_read}
 use Rattle.sled_core.specs.Recoverable.{NoHeaderOfZeros}
@@ -19,16 +21,18 @@ use Rattle.sled_log.specs.declared.session.command.Reply.{Reply}
 use Rattle.sled_log.specs.declared.session.command.Reply.TheVariants as reply
 use Rattle.sled_log.specs.Made.{IsMade}
 use Rattle.sled_log.specs.RunPhases.{Unstored, seen_log, traces}
-use Rattle.sled_log.specs.RunStates.{DeviceView, LogView, RunState, is_present, top, with_log}
+use Rattle.sled_log.specs.RunStates.{DeviceView, LogView, RunState, is_present, top, with_log, MarkAt, heads_at}
 use Rattle.sled_log.specs.ReadSteps.{FailsAt, ReadStep, ReadsAt, read_around, read_at}
 
--- A log fits what a session keeps in mind, what it counts as given up was, and zeros pass as no header.
+-- A log fits what a session keeps in mind, what it counts as given up was, its headers that aren't on the device have the marks that they were begun with,
+-- and zeros pass as no header.
 pub record IsRead {D C : Type 0} (trace : D → Trace) (sum : List ℕ → ℕ) (log : Log D C) (k : Unstored) : Type 0 where
   pub made : IsMade k.history
   pub zeros : NoHeaderOfZeros sum
   pub unmarked : List Message
   pub fits : Fits trace sum log k.history k.acknowledged k.floor unmarked
   pub given_up : AreAmong (given_up_of log) k.given_up
+  pub heads : AreAmong (heads_of log) (map (headed sum) k.heads)
 
 -- A message of what a page is, that was reserved, as the place was that a read of it brings to the device.
 pub record IsOfPage (H : History) (end page : ℕ) (m : Message) : Type 0 where
@@ -60,9 +64,11 @@ IsItem view sum old l m new l' (Err e) =
 pub record ReadsItem {D C : Type 0} (view : D → DeviceView) (sum : List ℕ → ℕ) (old : Log D C) (page : ℕ) (place : ℤ) (pointer : DiskPtr)
     (new : Log D C) (result : Result (Vec ℕ Global) Error) : Type 0 where
   pub only : KeepsOpen (traces view) sum old new
+  pub marked : BeginsMarked sum old new
   pub item : (k : Unstored) (m : Message) (begun : ℕ) → IsRead (traces view) sum old k → IsOfPage k.history (reserved_end old) page m
       → pos m.place ≡ place → m.pointer ≡ pointer
-      → IsItem view sum old (seen_log old begun k.tickets k.given_up) m new (seen_log new begun k.tickets k.given_up) result
+      → let l = seen_log old begun k.tickets k.given_up k.heads in
+      IsItem view sum old l m new (seen_log new begun k.tickets k.given_up (heads_at l (start_of new))) result
 
 -- what is told of the messages of a page that were read
 abbrev pub page_told : Result (Vec (Vec ℕ Global) Global) Error → Reply
@@ -75,6 +81,7 @@ pub record ReadsEntries {D C : Type 0} (view : D → DeviceView) (sum : List ℕ
   pub only : KeepsOpen (traces view) sum old new
   pub step : (k : Unstored) (ms : List Message) (begun : ℕ) (a : RunState) → IsRead (traces view) sum old k
       → All (IsOfPage k.history (reserved_end old) page) ms → map entry_of ms ≡ entries → is_present ms ≡ true
-      → a.device ≡ view (device_of old) → a.log ≡ Some (seen_log old begun k.tickets k.given_up)
-      → ReadStep sum (segment_size_of old) a (seen_log old begun k.tickets k.given_up) ms (page_told result) (view (device_of new))
-      (with_log a (view (device_of new)) (Some (seen_log new begun k.tickets k.given_up)))
+      → a.device ≡ view (device_of old) → a.log ≡ Some (seen_log old begun k.tickets k.given_up k.heads)
+      → (heads : List MarkAt) × AreAmong (heads_of new) (map (headed sum) heads)
+      × ReadStep sum (segment_size_of old) a (seen_log old begun k.tickets k.given_up k.heads) ms (page_told result) (view (device_of new))
+      (with_log a (view (device_of new)) (Some (seen_log new begun k.tickets k.given_up heads)))

@@ -8,9 +8,10 @@ use Rattle.sled_codec.specs.Snapshots.{SnapshotModel, page_of, stable_place}
 use Rattle.sled_store.specs.Device.{Trace, state_of}
 use Rattle.sled_store.specs.Moments.{IsLater}
 use Rattle.sled_store.specs.declared.config.RunningConfig.{RunningConfig}
+use Rattle.sled_log.specs.WriteSteps.{headed}
 use Rattle.sled_core.specs.declared.logger.Log.{Log}
-use Rattle.sled_core.specs.Fits.{Awaits, config_of, fault_of, given_up_of, noted_in, open_places, pins_of, position_of, reserved_end, start_of, synced_end, waiting_of}
-use Rattle.sled_core.specs.GivenUp.{AreAmong}
+use Rattle.sled_core.specs.Fits.{Awaits, config_of, fault_of, given_up_of, noted_in, open_places, pins_of, position_of, reserved_end, start_of, synced_end, waiting_of, heads_of}
+use Rattle.sled_core.specs.Among.{AreAmong}
 use Rattle.sled_core.specs.Manifests.{manifest_page}
 use Rattle.sled_core.specs.Waiting.{spans}
 use Rattle.sled_core.specs.Keeps.{ConfigKept}
@@ -28,7 +29,7 @@ use Rattle.sled_log.specs.declared.session.command.Command.{Command}
 use Rattle.sled_log.specs.declared.session.command.Reply.{Reply}
 use Rattle.sled_log.specs.Made.{IsMade, MayJoin}
 use Rattle.sled_log.specs.Refusals.{reason_of, refusal_for}
-use Rattle.sled_log.specs.RunStates.{DeviceView, LogView, RunState, ShowsActive, has_page, in_batch, open_messages, top}
+use Rattle.sled_log.specs.RunStates.{DeviceView, LogView, RunState, ShowsActive, has_page, in_batch, open_messages, top, MarkAt}
 use Rattle.sled_log.specs.TicketSteps.{own_of}
 use Rattle.sled_log.specs.Runs.{Carries, IsOwn, IsStep, StaysWithin}
 
@@ -42,9 +43,10 @@ view_by trace faults stopped device = record { trace = trace device; failures = 
 abbrev pub traces : {D : Type 0} → (D → DeviceView) → D → Trace
 traces view device = (view device).trace
 
--- what is seen of a log, with so many pages begun, with the messages of its tickets and with those that were given up
-abbrev pub seen_log : {D C : Type 0} → Log D C → ℕ → List (Option Message) → List Message → LogView
-seen_log log begun tickets given_up =
+-- what is seen of a log, with so many pages begun, with the messages of its tickets, with those that were given up, and with where
+-- buffers were begun
+abbrev pub seen_log : {D C : Type 0} → Log D C → ℕ → List (Option Message) → List Message → List MarkAt → LogView
+seen_log log begun tickets given_up heads =
     record {
       position = position_of log;
       synced = synced_end log;
@@ -57,11 +59,12 @@ seen_log log begun tickets given_up =
       outstanding = open_places log;
       tickets = tickets;
       given_up = given_up;
+      heads = heads;
     }
 
 -- the same of one that is open in a session
-abbrev pub seen : {D C : Type 0} → Opened D C → List (Option Message) → List Message → LogView
-seen opened tickets given_up = seen_log opened.log (length opened.pages.items) tickets given_up
+abbrev pub seen : {D C : Type 0} → Opened D C → List (Option Message) → List Message → List MarkAt → LogView
+seen opened tickets given_up heads = seen_log opened.log (length opened.pages.items) tickets given_up heads
 
 -- What a session keeps in mind that its code doesn't store.
 pub record Unstored : Type 0 where
@@ -70,11 +73,12 @@ pub record Unstored : Type 0 where
   pub floor : ℕ
   pub tickets : List (Option Message)
   pub given_up : List Message
+  pub heads : List MarkAt
 
 -- the log in a phase
-abbrev pub log_in : {D C : Type 0} → Phase D C → List (Option Message) → List Message → Option LogView
-log_in (Closed config) tickets given_up = None
-log_in (Open opened) tickets given_up = Some (seen opened tickets given_up)
+abbrev pub log_in : {D C : Type 0} → Phase D C → List (Option Message) → List Message → List MarkAt → Option LogView
+log_in (Closed config) tickets given_up heads = None
+log_in (Open opened) tickets given_up heads = Some (seen opened tickets given_up heads)
 
 -- what a phase runs on
 abbrev pub running : {D C : Type 0} → Phase D C → RunningConfig D C
@@ -93,7 +97,7 @@ stands view phase k =
       history = k.history;
       acknowledged = k.acknowledged;
       floor = k.floor;
-      log = log_in phase k.tickets k.given_up;
+      log = log_in phase k.tickets k.given_up k.heads;
     }
 
 -- the size of its segments
@@ -154,8 +158,8 @@ pub record HasTickets {D C : Type 0} (trace : D → Trace) (sum : List ℕ → �
   pub busy : (page : ℕ) → page ≢ manifest_page → get_or opened.busy.items page false ≡ has_page page (open_messages tickets)
   pub batch : HasBatch tickets opened.batch
 
--- A log is open that fits the history, with a pin out, and with the table of it; what it counts as given up was. Zeros pass as no header, as where its
--- recovery read nothing foreign.
+-- A log is open that fits the history, with a pin out, and with the table of it; what it counts as given up was, and its headers that aren't on the device
+-- have the marks that they were begun with. Zeros pass as no header, as where its recovery read nothing foreign.
 pub record IsOpenAt {D C : Type 0} (trace : D → Trace) (sum : List ℕ → ℕ) (opened : Opened D C) (k : Unstored) : Type 0 where
   pub made : IsMade k.history
   pub unmarked : List Message
@@ -165,6 +169,7 @@ pub record IsOpenAt {D C : Type 0} (trace : D → Trace) (sum : List ℕ → ℕ
   pub table : IsTable (map page_of opened.pages.items) k.history top
   pub tickets : HasTickets trace sum opened k.history k.tickets
   pub given_up : AreAmong (given_up_of opened.log) k.given_up
+  pub heads : AreAmong (heads_of opened.log) (map (headed sum) k.heads)
   pub ends : All (λ m. m.place + m.size ≤ reserved_end opened.log) k.history.messages
 
 -- What holds in a phase.

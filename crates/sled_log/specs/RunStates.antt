@@ -1,5 +1,5 @@
 -- Where a run of commands stands between two commands.
-use Rattle.std.specs.Prelude.{◌≡◌, ◌≤◌, ◌<◌, ◌+◌, ◌-◌, ◌%◌, ◌^◌, ◌&&◌, ◌==◌, ◌∷◌, ◌++◌, nat_lt, nat_le, not, zero, suc, if◌then◌else◌, ℕ, ℤ, Bool, true, false}
+use Rattle.std.specs.Prelude.{◌≡◌, ◌≤◌, ◌<◌, ◌+◌, ◌-◌, ◌-ℤ◌, ◌%◌, ◌^◌, ◌&&◌, ◌==◌, ◌∷◌, ◌++◌, nat_lt, nat_le, not, zero, suc, if◌then◌else◌, ℕ, ℤ, pos, Bool, true, false}
 use Rattle.std.specs.Prelude.{List, [], length, slice_get, Option, None, Some, Contains}
 use Rattle.std.specs.declared.io.Error.{Error as IoError}
 use Rattle.sled_codec.specs.declared.result.DiskPtr.{DiskPtr}
@@ -31,6 +31,11 @@ pub record DeviceView : Type 0 where
 abbrev pub length_of : DeviceView → ℕ
 length_of device = length (state_of device.trace).log.bytes
 
+-- Where a buffer was begun, and the mark in the header of its segment, should it begin with that.
+pub record MarkAt : Type 0 where
+  pub place : ℕ
+  pub mark : ℤ
+
 -- What is seen of a log that is open.
 pub record LogView : Type 0 where
   -- where the next record may begin, and which slots are left behind that
@@ -55,10 +60,16 @@ pub record LogView : Type 0 where
   pub tickets : List (Option Message)
   -- the messages that were given up since the log was started, as the log has them, the last one first
   pub given_up : List Message
+  -- where a buffer was begun since the log was started, the last one first
+  pub heads : List MarkAt
 
 -- the place behind the stable end, which lies in front of a batch that goes on behind what is on the device
 abbrev pub stable_of : LogView → ℕ
 stable_of l = stable_below l.synced l.noted
+
+-- What was begun, once the current buffer begins there. A segment that begins with it has the last stable place for its mark.
+abbrev pub heads_at : LogView → BufferStart → List MarkAt
+heads_at l start = if nat_lt l.start.place start.place then record { place = start.place; mark = pos (stable_of l) -ℤ pos 1 } ∷ l.heads else l.heads
 
 -- Where a run stands: its device, the completed messages, the end of what was acknowledged, the cut of the last recovery, and the log, where one is open.
 pub record RunState : Type 0 where
@@ -82,6 +93,10 @@ recovered a now s log = record a { device = now; history = below a.history (stab
 
 -- The log.
 
+-- where it begins its first buffer, with the header of a new segment or behind one
+abbrev pub heads_on : ℕ → ℕ → SnapshotModel → List MarkAt
+heads_on size len s = record { place = (start_from size len s).place; mark = pos (stable_place s.stable) -ℤ pos 1 } ∷ []
+
 -- a log that was started on a snapshot, where its log file had this length
 abbrev pub started_on : ℕ → ℕ → SnapshotModel → LogView
 started_on size len s = record {
@@ -96,6 +111,7 @@ started_on size len s = record {
   outstanding = [];
   tickets = [];
   given_up = [];
+  heads = heads_on size len s;
 }
 
 -- how long the body of the record of an item of n bytes is: it is the item, or the place of its blob
@@ -156,7 +172,8 @@ start_with l q = if is_behind l q then next_start l q else l.start
 -- The log ready for a record that begins at a position, which it has none of, with the failure that it keeps: behind what fills the current segment, where
 -- the record begins a further one. What was reserved ends where it did.
 abbrev pub made_ready : LogView → Position → Option IoError → LogView
-made_ready l q fault = record l { position = q; waiting = waiting_with l q; start = start_with l q; fault = fault }
+made_ready l q fault =
+    record l { position = q; waiting = waiting_with l q; start = start_with l q; fault = fault; heads = heads_at l (start_with l q) }
 
 -- The sealed buffers, once those that begin below a place are sealed; and where the current one begins then.
 abbrev pub sealed_below : ℕ → LogView → List Span

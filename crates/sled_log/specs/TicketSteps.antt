@@ -22,7 +22,7 @@ use Rattle.sled_core.specs.Positions.{Position, behind_record}
 use Rattle.sled_core.specs.inside.Reserves.{MadeAnswers}
 use Rattle.sled_log.specs.declared.session.command.Reply.{Reply}
 use Rattle.sled_log.specs.declared.session.command.Reply.TheVariants as reply
-use Rattle.sled_log.specs.RunStates.{DeviceView, EndsInReach, LogView, RunState, body_in, is_behind, made_ready, message_at, one_blob, opens, page_now}
+use Rattle.sled_log.specs.RunStates.{DeviceView, EndsInReach, LogView, RunState, body_in, is_behind, made_ready, message_at, one_blob, opens, page_now, heads_at}
 use Rattle.sled_log.specs.RunStates.{places_without, rewriting_at, start_with, target_in, waiting_with, with_log}
 
 -- the place and the pointer that are answered are those of a message
@@ -38,6 +38,7 @@ reserving size l q m = record l {
   start = start_with l q;
   outstanding = opens l ++ m.place ∷ [];
   tickets = l.tickets ++ Some m ∷ [];
+  heads = heads_at l (start_with l q);
 }
 
 -- the places of the open reservations of the buffer that a record would be of that begins at this position

@@ -1,5 +1,5 @@
 -- What the commands come to that write: a flush, a write up to a place, and that of one buffer; and why a log fails.
-use Rattle.std.specs.Prelude.{◌≡◌, ◌⊎◌, ◌+◌, ◌≤◌, ◌≤ℤ◌, ◌<ℤ◌, ◌<◌, ◌%◌, ◌^◌, ◌∷◌, ℕ, ℤ, pos, max, IsTrue, List, [], drop, Option, None, Some}
+use Rattle.std.specs.Prelude.{◌≡◌, ◌⊎◌, ◌+◌, ◌≤◌, ◌≤ℤ◌, ◌<ℤ◌, ◌<◌, ◌%◌, ◌^◌, ◌∷◌, ℕ, ℤ, pos, max, IsTrue, List, [], drop, map, Option, None, Some}
 use Rattle.std.specs.List.{All}
 use Rattle.std.specs.declared.io.Error.{Error as IoError}
 use Rattle.sled_codec.specs.History.{Message}
@@ -8,6 +8,8 @@ use Rattle.sled_codec.specs.declared.result.Error.TheVariants.{Held, Io, NotRese
 use Rattle.sled_store.specs.Device.{Event, state_of}
 use Rattle.sled_store.specs.Answers.{is_fault}
 use Rattle.sled_store.specs.Script.{Performs, after_all}
+use Rattle.sled_codec.specs.Record.{short_header}
+use Rattle.sled_core.specs.Heads.{HeadAt}
 use Rattle.sled_core.specs.declared.iobuf.SegmentPosition.{SegmentPosition}
 use Rattle.sled_core.specs.Fits.{IsKept}
 use Rattle.sled_core.specs.Fronts.{WritesWhole, syncs}
@@ -20,7 +22,7 @@ use Rattle.sled_core.specs.WholeBuffers.{IsWholeBuffer}
 use Rattle.sled_core.specs.Running.{end_below}
 use Rattle.sled_log.specs.declared.session.command.Reply.{Reply}
 use Rattle.sled_log.specs.declared.session.command.Reply.TheVariants as reply
-use Rattle.sled_log.specs.RunStates.{DeviceView, EndsInReach, LogView, RunState, first_waiting, held, held_among, opens, sealed_below, spans_below, spans_from}
+use Rattle.sled_log.specs.RunStates.{DeviceView, EndsInReach, LogView, MarkAt, RunState, first_waiting, heads_at, held, held_among, opens, sealed_below, spans_below, spans_from}
 use Rattle.sled_log.specs.RunStates.{stable_of, start_below, with_log, without_unheld}
 
 -- Failures.
@@ -53,19 +55,25 @@ IfHeld _ P = Unit {0}
 
 -- Writing.
 
+-- the header of a segment that begins there
+abbrev pub headed : (List ℕ → ℕ) → MarkAt → HeadAt
+headed sum m = record { place = m.place; bytes = short_header sum (pos m.place) m.mark }
+
 -- These buffers of a log, with its open reservations at these places, are seen so: each as a whole, and what holds it up. What isn't held up is whole records,
--- each with its sum, and of these one that every reader passes over is of one of the messages that were given up: so nothing is written that is no log's own
--- but by its sum, nor anything of such a message but what its caller gave.
-pub record ShowsBuffers (sum : List ℕ → ℕ) (size : ℕ) (places : List ℕ) (given_up : List Message) (ss : List Span) (bs : List BufferAt) : Type 0 where
+-- each with its sum, and of these one that every reader passes over is of one of the messages that were given up; and where it begins its segment, in front
+-- of them the segment's header with the mark that it was begun with: so nothing is written that is no log's own but by its sum, nor anything of such a message
+-- but what its caller gave, nor another mark than one that follows from what was on the device.
+pub record ShowsBuffers (sum : List ℕ → ℕ) (size : ℕ) (places : List ℕ) (given_up : List Message) (heads : List MarkAt) (ss : List Span)
+    (bs : List BufferAt) : Type 0 where
   pub are : spans bs ≡ ss
   pub long : All HasLength bs
   pub held : All (λ b. b.held ≡ held places (record { place = b.place; end = b.end; lid = b.lid })) bs
-  pub whole : All (λ b. b.held ≡ None → IsWholeBuffer sum size given_up b) bs
+  pub whole : All (λ b. b.held ≡ None → IsWholeBuffer sum size given_up (map (headed sum) heads) b) bs
 
 -- All of these calls were made, on buffers that are seen so.
 pub record Writes (sum : List ℕ → ℕ) (size : ℕ) (l : LogView) (ss : List Span) (calls : List BufferAt → List Event) (old new : DeviceView) : Type 0 where
   pub buffers : List BufferAt
-  pub shown : ShowsBuffers sum size (opens l) l.given_up ss buffers
+  pub shown : ShowsBuffers sum size (opens l) l.given_up l.heads ss buffers
   pub made : new.trace ≡ after_all (calls buffers) old.trace
 
 -- They were made up to one that failed: so many buffers were written, as many as were synced. Unless the device failed each of these is whole, and no other
@@ -73,7 +81,7 @@ pub record Writes (sum : List ℕ → ℕ) (size : ℕ) (l : LogView) (ss : List
 pub record WritesSome (sum : List ℕ → ℕ) (size : ℕ) (l : LogView) (ss : List Span) (calls : List BufferAt → List Event) (count : ℕ) (e : Error)
     (fault : Option IoError) (old new : DeviceView) : Type 0 where
   pub buffers : List BufferAt
-  pub shown : ShowsBuffers sum size (opens l) l.given_up ss buffers
+  pub shown : ShowsBuffers sum size (opens l) l.given_up l.heads ss buffers
   pub made : Performs (calls buffers) old.trace new.trace
   pub synced : syncs new.trace ≡ count + syncs old.trace
   pub whole : fault ≡ None → WritesWhole count (calls buffers) old.trace new.trace
@@ -82,7 +90,14 @@ pub record WritesSome (sum : List ℕ → ℕ) (size : ℕ) (l : LogView) (ss : 
 -- the log with these buffers left, the current one from there on, and this failure kept: all before the first of them is on the device
 abbrev pub flushed : LogView → List Span → BufferStart → Option IoError → LogView
 flushed l waiting start fault =
-    record l { synced = first_waiting waiting start; noted = not_whole (first_waiting waiting start) l.noted; waiting = waiting; start = start; fault = fault }
+    record l {
+      synced = first_waiting waiting start;
+      noted = not_whole (first_waiting waiting start) l.noted;
+      waiting = waiting;
+      start = start;
+      fault = fault;
+      heads = heads_at l start;
+    }
 
 -- the run goes on with that log
 abbrev pub LeavesLog : RunState → LogView → DeviceView → RunState → List Span → BufferStart → Option IoError → Type 0

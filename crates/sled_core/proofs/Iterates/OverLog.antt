@@ -27,6 +27,7 @@ module _ {D C : Type 0} (trace : D → Trace) (sum : List ℕ → ℕ) where
     tickets = record { awaits = λ ticket m awaits. awaits; opens = refl; given_up = λ m there. there };
     position = record { position = refl; reserved = refl; pins = refl; size = refl };
     buffers = record { waiting = refl; start = refl };
+    heads = λ h there. there;
     machine = refl;
   }
 
@@ -46,6 +47,7 @@ module _ {D C : Type 0} (trace : D → Trace) (sum : List ℕ → ℕ) where
       size = so.position.size ∙ first.position.size;
     };
     buffers = record { waiting = so.buffers.waiting ∙ first.buffers.waiting; start = so.buffers.start ∙ first.buffers.start };
+    heads = λ h there. first.heads h (so.heads h there);
     machine = so.machine ∙ first.machine;
   }
 

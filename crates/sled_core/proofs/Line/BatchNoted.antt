@@ -7,6 +7,7 @@ use Rattle.sled_codec.specs.History.{AddsBatch, Batch, Batched, History, Message
 use Rattle.sled_store.specs.Accounts.{machine_of}
 use Rattle.sled_store.specs.Device.{Trace, state_of}
 use Rattle.sled_store.specs.declared.config.RunningConfig.{RunningConfig}
+use Rattle.sled_core.specs.Heads.{heads_along}
 use Rattle.sled_core.specs.Batches.{LiesInNoFilling, NotesBatchOf, batch_for}
 use Rattle.sled_core.specs.Begun.{SegmentView, line_in, segment_view}
 use Rattle.sled_core.specs.inside.Buffers.{IsHeaded, marking}
@@ -14,9 +15,10 @@ use Rattle.sled_core.specs.declared.iobuf.ReservationState.TheVariants.{Manifest
 use Rattle.sled_core.specs.declared.iobuf.Reserved.{Reserved}
 use Rattle.sled_core.specs.declared.logger.Log.{Log}
 use Rattle.sled_core.specs.declared.reservation.Reservation.{Reservation}
-use Rattle.sled_core.specs.Fits.{Awaits, AwaitsIn, KeepsAll, KeepsBuffers, config_of, current_of, fault_of, given_up_of, kept_batches, line_of, noted_in, open_places, reserved_end, synced_end}
+use Rattle.sled_core.specs.Fits.{Awaits, AwaitsIn, KeepsAll, KeepsBuffers, config_of, current_of, fault_of, given_up_of, kept_batches, line_of, noted_in, open_places, reserved_end, synced_end, heads_of}
 use Rattle.sled_core.specs.invariants.Fits.{Holds}
-use Rattle.sled_core.specs.GivenUp.{AreAmong, given_up_along}
+use Rattle.sled_core.specs.Among.{AreAmong}
+use Rattle.sled_core.specs.GivenUp.{given_up_along}
 use Rattle.sled_core.specs.Keeps.{GoesOn, KeepsOthers, SamePosition}
 use Rattle.sled_core.specs.Logged.{logged, in_log}
 use Rattle.sled_core.specs.Manifests.{is_manifest}
@@ -31,7 +33,7 @@ use Rattle.sled_core.proofs.Behind.FirstHoldsMarked.{noted_adds, noted_history}
 use Rattle.sled_core.proofs.Line.KeptCalls.{goes_on_quietly, position_further}
 use Rattle.sled_core.proofs.Line.EndedKeeps.{keeps_ended, position_ended}
 use Rattle.sled_core.proofs.Line.EndedLine.{marking_short}
-use Rattle.sled_core.proofs.Line.EndedTickets.{ended_keeps_given, ended_takes, others_await, ticket_among, ticket_there}
+use Rattle.sled_core.proofs.Line.EndedTickets.{ended_keeps_given, ended_takes, others_await, ticket_among, ticket_there, ended_heads}
 use Rattle.sled_core.proofs.Line.EndsBatch.{fits_noted, holds_noted, line_unwritten}
 use Rattle.sled_core.proofs.Holds.Facts.{IsSegment, nth_facts}
 use Rattle.sled_core.proofs.Line.Fillings.{log_off}
@@ -117,6 +119,7 @@ pub record IsBatchNoted {D C : Type 0} (trace : D → Trace) (sum : List ℕ →
   pub goes_on : GoesOn trace sum old new
   pub opens : (place : ℕ) → pos place ≡ place_of ticket → TakesOut place (open_places old) (open_places new)
   pub given_up : AreAmong (given_up_of new) (given_up_of old)
+  pub heads : AreAmong (heads_of new) (heads_of old)
   pub others : KeepsOthers trace sum ticket old new
 
 -- It ends with a peg, and then the batch is noted.
@@ -217,6 +220,11 @@ module _ {D C : Type 0} (trace : D → Trace) (sum : List ℕ → ℕ) (old mid 
         subst (λ (l : List SegmentView). AreAmong (given_up_along l) (given_up_of old)) (sym (noted_line mid new rest ∙ line))
         (ended_keeps_given old.config.config.segment_size (line_of old) old.segments.first.site.place n v f.among (nth_facts old) i r f.there f.own.open_yet (marking sum v.parts.bytes r peg) short Manifest refl)
 
+    batch_heads : AreAmong (heads_of new) (heads_of old)
+    batch_heads =
+        subst (λ (l : List SegmentView). AreAmong (heads_along l) (heads_of old)) (sym (noted_line mid new rest ∙ line))
+        (ended_heads old.config.config.segment_size (line_of old) old.segments.first.site.place n v f.among (nth_facts old) i r f.there f.own.open_yet (marking sum v.parts.bytes r peg) short Manifest)
+
     batch_others : KeepsOthers trace sum ticket old new
     unfolding Holds
     batch_others H other m holds awaits elsewhere =
@@ -226,7 +234,7 @@ module _ {D C : Type 0} (trace : D → Trace) (sum : List ℕ → ℕ) (old mid 
 
     -- so much is seen,
     pub batch_seen : kept_batches new ≤ 2 * length (noted_in new) → IsBatchNoted trace sum old new ticket peg
-    batch_seen few = record { same = batch_same few; position = batch_position; buffers = batch_buffers; goes_on = batch_goes_on; opens = batch_opens; given_up = batch_given; others = batch_others }
+    batch_seen few = record { same = batch_same few; position = batch_position; buffers = batch_buffers; goes_on = batch_goes_on; opens = batch_opens; given_up = batch_given; heads = batch_heads; others = batch_others }
 
     -- and the log holds the history with the batch,
     pub batch_holds : peg < reserved_end old → ((b : Batch) → Contains (noted_in old) b → (pos b.peg <ℤ place_of ticket) ⊎ (peg < b.low)) → LiesInNoFilling old.config.config.segment_size (line_of old) (pos peg) → (H : History) → Holds trace sum old H

@@ -14,6 +14,10 @@ use Rattle.sled_store.specs.Accounts.{AreSlots}
 use Rattle.sled_store.specs.declared.config.RunningConfig.{RunningConfig}
 use Rattle.sled_store.specs.Device.{State, Trace, state_of}
 use Rattle.sled_store.specs.SegmentStates.{Machine, handed_out, next_slot}
+use Rattle.sled_core.proofs.Line.Heads.{heads_begun, heads_closed}
+use Rattle.sled_core.proofs.Line.HeaderMarks.{HasOnly, begun_marked}
+use Rattle.sled_core.specs.Marked.{BeginsMarked, IsMarkedHead}
+use Rattle.sled_core.specs.Heads.{HeadAt, heads_along}
 use Rattle.sled_core.specs.declared.iobuf.SegmentPosition.{SegmentPosition}
 use Rattle.sled_core.specs.declared.logger.Log.{Log}
 use Rattle.sled_core.specs.declared.reservation.Reservation.{Reservation}
@@ -24,7 +28,7 @@ use Rattle.sled_core.specs.Logged.{logged, in_log}
 use Rattle.sled_core.specs.Tickets.{IsFor, index_of}
 use Rattle.sled_core.specs.declared.iobuf.Reserved.{Reserved}
 use Rattle.sled_core.specs.inside.Fits.{written_to, FitsBatches, HasMark, HoldsIn, HoldsLine, HoldsWith, log_parts, parts_in}
-use Rattle.sled_core.specs.Fits.{AwaitsIn, CloseBelow, KeepsAll, KeepsTickets, current_of, device_of, fault_of, given_up_of, line_of, noted_in, machine_at, pins_of, position_of, segment_size_of, stable_end, synced_end}
+use Rattle.sled_core.specs.Fits.{AwaitsIn, CloseBelow, KeepsAll, KeepsTickets, current_of, device_of, fault_of, given_up_of, line_of, noted_in, machine_at, pins_of, position_of, segment_size_of, stable_end, synced_end, current_begin, heads_of}
 use Rattle.sled_core.specs.invariants.Fits.{Holds}
 use Rattle.sled_core.specs.inside.Begun.{line_end}
 use Rattle.sled_core.specs.inside.FreeSlots.{HasSlot, HasSlots, HaveOwn}
@@ -49,7 +53,8 @@ use Rattle.sled_core.proofs.Holds.Facts.{IsSegment, current_facts, nth_facts}
 use Rattle.sled_core.proofs.Line.Last.{All-at_last, last_behind_all, last_get_of}
 use Rattle.sled_core.proofs.Line.LineEnds.{end_at_last, kept_same, noted_later, noted_same}
 use Rattle.sled_core.proofs.Line.Moves.{fits_as, holds_as}
-use Rattle.sled_core.proofs.Line.GivenUp.{among_same, given_begun, given_closed}
+use Rattle.sled_core.proofs.Line.Among.{among_same}
+use Rattle.sled_core.proofs.Line.GivenUp.{given_begun, given_closed}
 use Rattle.sled_core.proofs.Line.OpenPlaces.{places_begun, places_closed}
 use Rattle.sled_core.proofs.Line.Segments.{line_segments}
 use Rattle.sled_core.proofs.Line.OlderSlots.{whole_handed}
@@ -414,6 +419,23 @@ module _ {D C : Type 0} (trace : D → Trace) (sum : List ℕ → ℕ) (old new 
 
   first_facts : IsSegment its_size (old.segments.first.site.place + 0 * its_size) first
   first_facts = nth_facts old 0 first refl
+
+  -- The header of the new segment is the only one more that isn't on the device, and the current buffer begins with it.
+  pub begins_heads : (h : HeadAt) → Contains (heads_of new) h → HasOnly sum old new h
+  begins_heads h there =
+      let b : SegmentView = begun_view sum its_size (machine_at old) (stable_end old) (current_of old) in
+      let begin : current_begin new ≡ b.parts.site.place = ap (λ (v : SegmentView). v.parts.site.place + begin_of v) begins_current ∙ (let same : b.parts.site.place + 0 ≡ b.parts.site.place = omega arith in same) in
+      let low = closes.some in
+      elim (heads_begun (closed sum its_size (line_of old)) b h refl (subst (λ (l : List SegmentView). Contains (heads_along l) h) line there)) [
+        | inl had ↦ inl (subst (λ (l : List HeadAt). Contains l h) (heads_closed sum its_size old.segments.first.site.place first behind (line_segments old)) had)
+        | inr own ↦ inr (subst (λ n. (current_begin old < n) × IsMarkedHead sum n (stable_end old) h) (sym begin) (
+          omega (arith, low),
+          (ap (λ (x : HeadAt). x.place) own, ap (λ (x : HeadAt). x.bytes) own ∙ take_all 20 b.parts.bytes (omega (arith, length-short_header sum (pos b.parts.site.place) (pos (stable_end old) -ℤ pos 1)))),
+        ))
+      ]
+
+  pub begins_marked : BeginsMarked sum old new
+  begins_marked = begun_marked sum old its_size (machine_at old) new begins_current begins_heads
 
   lies : (current_of old).parts.site.place ≡ first.parts.site.place + length behind * its_size
   lies = let at = facts.at in omega (arith, at, ap (λ n. n * its_size) (length-map old.segments.behind.items segment_view))

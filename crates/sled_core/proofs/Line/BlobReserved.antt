@@ -24,7 +24,7 @@ use Rattle.sled_core.specs.declared.iobuf.record.Head.{Head}
 use Rattle.sled_core.specs.declared.logger.Log.{Log}
 use Rattle.sled_core.specs.declared.reservation.Reservation.{Reservation}
 use Rattle.sled_core.specs.Buffers.{item_as, pointer_as}
-use Rattle.sled_core.specs.Begun.{SegmentView, segment_view}
+use Rattle.sled_core.specs.Begun.{SegmentView, segment_view, begin_of}
 use Rattle.sled_core.specs.inside.Begun.{last_buffer_in}
 use Rattle.sled_core.specs.Causes.{HasRecordPlace, ReserveAnswers}
 use Rattle.sled_core.specs.Fits.{AwaitsIn, IsLeastOpen, IsUsedUpFor, KeepsAll, KeepsTickets, current_of, device_of, fault_of, line_of, machine_at, message_as, next_place, position_of, segment_size_of, size_for, target_of}
@@ -44,7 +44,7 @@ use Rattle.sled_core.specs.inside.Turned.{ChangesDevice, HasPlace, HasRoomForBat
 use Rattle.sled_core.specs.Waiting.{last_of, start_in, unwritten}
 use Rattle.sled_core.proofs.Blobs.ItemsStay.{blobs_made, item_made}
 use Rattle.sled_core.proofs.Line.KeptCalls.{kept_further}
-use Rattle.sled_core.proofs.Line.HeaderMarks.{marked_same}
+use Rattle.sled_core.proofs.Line.HeaderMarks.{marked_same, segment_same}
 use Rattle.sled_core.proofs.Line.LineEnds.{noted_same}
 use Rattle.sled_core.proofs.Line.LogWrites.{same_line}
 use Rattle.sled_core.proofs.Line.Prepares.{seen_further}
@@ -120,7 +120,7 @@ module _ {D C : Type 0} (trace : D → Trace) (sum : List ℕ → ℕ) (old mid 
       room = subst (λ (b : IoBuf). HasRoomIn b (head.len + n)) (sym buffer_same) ready.room;
       batch = still_batch;
       seals = (ap unwritten line_same ∙ ready.seals.0, ap start_in current_same ∙ ready.seals.1);
-      marked = marked_same sum old mid made ready.marked (ap (λ (v : SegmentView). v.parts.site.place) current_same) (ap (λ (v : SegmentView). v.parts.bytes) current_same);
+      marked = marked_same sum old mid made ready.marked (segment_same mid made line_same) (ap (λ (v : SegmentView). v.parts.site.place + begin_of v) current_same);
     }
 
 -- A message that may have a blob has a kind that is written so.

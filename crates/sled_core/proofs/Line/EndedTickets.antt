@@ -9,6 +9,9 @@ use Rattle.std.proofs.lemmas.Int.{to_z-of_z}
 use Rattle.std.proofs.lemmas.Nat.{div-mul-add}
 use Rattle.sled_codec.specs.History.{History, Message}
 use Rattle.sled_store.specs.Device.{State}
+use Rattle.sled_core.proofs.Line.Heads.{heads_ended, set_heads}
+use Rattle.sled_core.proofs.Line.Among.{among_same}
+use Rattle.sled_core.specs.Heads.{heads_along, heads_in}
 use Rattle.sled_core.specs.declared.iobuf.ReservationState.{ReservationState}
 use Rattle.sled_core.specs.declared.iobuf.ReservationState.TheVariants.{Canceled, Open}
 use Rattle.sled_core.specs.declared.iobuf.Reserved.{Reserved}
@@ -18,7 +21,8 @@ use Rattle.sled_core.specs.Begun.{SegmentView}
 use Rattle.sled_core.specs.inside.Buffers.{IsChain, IsHeaded, ended}
 use Rattle.sled_core.specs.Buffers.{message_in, open_state}
 use Rattle.sled_core.specs.Fits.{Awaits, AwaitsIn, line_of}
-use Rattle.sled_core.specs.GivenUp.{AreAmong, canceled_state, given_up_along}
+use Rattle.sled_core.specs.Among.{AreAmong}
+use Rattle.sled_core.specs.GivenUp.{canceled_state, given_up_along}
 use Rattle.sled_core.specs.inside.Fits.{HoldsLine}
 use Rattle.sled_core.specs.OpenPlaces.{TakesOut, open_places_along}
 use Rattle.sled_core.specs.Tickets.{IsFor, index_of, place_of}
@@ -96,6 +100,10 @@ module _ (size : ℕ) (line : List SegmentView) (base n : ℕ) (v : SegmentView)
   -- Its place is taken out of those of the open ones.
   pub ended_takes : open_state state ≡ false → TakesOut (v.parts.site.place + r.from) (open_places_along line) (open_places_along (set line n e))
   ended_takes closed = takes_in (v.parts.site.place + r.from) line n v e there (takes_ended v.parts.site.place v.parts.reserved i r (ended state r) at is_open closed)
+
+  -- No header is another that isn't on the device.
+  pub ended_heads : AreAmong (heads_along (set line n e)) (heads_along line)
+  ended_heads = set_heads line n v e there (among_same (heads_in e) (heads_in v) (heads_ended v (facts n v there) i r at text short state))
 
   -- What counts as given up was given up before,
   pub ended_keeps_given : canceled_state state ≡ false → AreAmong (given_up_along (set line n e)) (given_up_along line)

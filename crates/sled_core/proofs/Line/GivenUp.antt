@@ -17,39 +17,16 @@ use Rattle.sled_core.specs.declared.iobuf.ReservationState.{ReservationState}
 use Rattle.sled_core.specs.declared.iobuf.ReservationState.TheVariants.{Canceled, Open}
 use Rattle.sled_core.specs.declared.iobuf.Reserved.{Reserved}
 use Rattle.sled_core.specs.declared.iobuf.SegmentPosition.{SegmentPosition}
-use Rattle.sled_core.specs.GivenUp.{AreAmong, canceled_state, given_up_along, given_up_in}
+use Rattle.sled_core.specs.Among.{AreAmong}
+use Rattle.sled_core.specs.GivenUp.{canceled_state, given_up_along, given_up_in}
 use Rattle.sled_core.specs.inside.Turned.{ended_now, promoted, reserved_now}
 use Rattle.sled_core.specs.Positions.{is_short}
 use Rattle.sled_core.specs.Waiting.{as_sealed, at_last, closed_now, filled_now, holds_any, last_of, sealed_now, turned_now, with_filling}
 use Rattle.sled_core.proofs.Holds.Facts.{IsSegment}
+use Rattle.sled_core.proofs.Line.Among.{among_before, among_behind, among_same}
 use Rattle.sled_core.proofs.Line.Segments.{AreSegments, by_front, full_empty}
 use Rattle.sled_core.proofs.Reserve.Ranges.{chain-split, chain_grows, chain_within, part-append, part-written_before, part-written_behind, there_split}
 use Rattle.sled_core.proofs.Sealed.Around.{whole_chain}
-
--- Messages among others.
-
-pub among_all : (these : List Message) → AreAmong these these
-among_all these = λ m there. there
-
-pub among_further : (these those all : List Message) → AreAmong these those → AreAmong those all → AreAmong these all
-among_further these those all first second = λ m there. second m (first m there)
-
--- the same ones
-pub among_same : (these those : List Message) → these ≡ those → AreAmong these those
-among_same these those same = λ m there. subst (λ (l : List Message). Contains l m) same there
-
--- behind the same ones, and in front of others
-among_behind : (front these those : List Message) → AreAmong these those → AreAmong (front ++ these) (front ++ those)
-among_behind front these those among = λ m there. elim (Contains-append_cases front these m there) [
-  | inl before ↦ Contains-append_left front those m before
-  | inr behind ↦ Contains-append_right front those m (among m behind)
-]
-
-among_before : (these those behind : List Message) → AreAmong these those → AreAmong (these ++ behind) (those ++ behind)
-among_before these those behind among = λ m there. elim (Contains-append_cases these behind m there) [
-  | inl before ↦ Contains-append_left those behind m (among m before)
-  | inr later ↦ Contains-append_right those behind m later
-]
 
 -- Those of a segment.
 abbrev pub given_in : SegmentView → List Message
@@ -139,7 +116,7 @@ at_last_given f v [] is = ap (λ (l : List Message). l ++ []) is
 at_last_given f v (w ∷ ws) is = ap (λ (l : List Message). given_in v ++ l) (at_last_given f w ws is)
 
 -- the last one of segments is one
-last_segment : (size place : ℕ) (v : SegmentView) (vs : List SegmentView) → AreSegments size place (v ∷ vs) → (p : ℕ) × IsSegment size p (last_of v vs)
+pub last_segment : (size place : ℕ) (v : SegmentView) (vs : List SegmentView) → AreSegments size place (v ∷ vs) → (p : ℕ) × IsSegment size p (last_of v vs)
 last_segment size place v [] are = (place, are.0)
 last_segment size place v (w ∷ ws) are = last_segment size (place + size) w ws are.1
 

@@ -1,6 +1,8 @@
 -- A reservation is made in the segment that is being filled: where it is put, and what the log holds and fits then.
 use Rattle.std.proofs.Common.{◌≡◌, ◌∙◌, ◌<◌, ◌≤◌, ◌+◌, ◌-◌, ◌/◌, ◌^◌, nat_lt, ap, sym, refl, arith, subst, ℕ, Bool, true, false, if◌then◌else◌, List, [], ◌∷◌, ◌++◌, length, length-append, map, drop, Some, is_some}
 use Rattle.std.proofs.lemmas.Bool.Decides.{nat_tests}
+use Rattle.sled_core.proofs.Line.Heads.{heads_reserved}
+use Rattle.sled_core.specs.Heads.{heads_along}
 use Rattle.sled_core.specs.Logged.{logged, in_log}
 use Rattle.sled_core.specs.Manifests.{kind_for}
 use Rattle.sled_codec.specs.Spelling.{short_header_tail}
@@ -19,10 +21,11 @@ use Rattle.sled_core.specs.declared.iobuf.Reserved.{Reserved}
 use Rattle.sled_core.specs.declared.logger.Log.{Log}
 use Rattle.sled_core.specs.declared.reservation.Reservation.{Reservation}
 use Rattle.sled_core.specs.inside.Fits.{written_to}
-use Rattle.sled_core.specs.Fits.{Awaits, AwaitsIn, FitsInline, open_places, KeepsAll, current_of, device_of, fault_of, given_up_of, line_of, noted_in, machine_at, pins_of, position_of, segment_size_of, synced_end}
+use Rattle.sled_core.specs.Fits.{Awaits, AwaitsIn, FitsInline, open_places, KeepsAll, current_of, device_of, fault_of, given_up_of, line_of, noted_in, machine_at, pins_of, position_of, segment_size_of, synced_end, heads_of}
 use Rattle.sled_core.specs.invariants.Fits.{Holds}
 use Rattle.sled_core.specs.inside.Begun.{line_end}
-use Rattle.sled_core.specs.GivenUp.{AreAmong, given_up_along}
+use Rattle.sled_core.specs.Among.{AreAmong}
+use Rattle.sled_core.specs.GivenUp.{given_up_along}
 use Rattle.sled_core.specs.Keeps.{Preserves}
 use Rattle.sled_core.specs.OpenPlaces.{open_places_along}
 use Rattle.sled_core.specs.Positions.{Position, behind_record, is_short, moved_on, next_segment_at, placed_at, position_in}
@@ -31,7 +34,8 @@ use Rattle.sled_core.specs.inside.Slots.{AreWhole}
 use Rattle.sled_core.specs.inside.Turned.{ChangesSlots, HasPlace, reserved_now}
 use Rattle.sled_core.specs.Waiting.{at_last, last_of}
 use Rattle.sled_core.proofs.Holds.FitsBatches.{batches_up}
-use Rattle.sled_core.proofs.Line.GivenUp.{among_same, given_reserved}
+use Rattle.sled_core.proofs.Line.Among.{among_same}
+use Rattle.sled_core.proofs.Line.GivenUp.{given_reserved}
 use Rattle.sled_core.proofs.Line.KeptCalls.{goes_on_quietly}
 use Rattle.sled_core.proofs.Holds.Facts.{current_facts}
 use Rattle.sled_core.proofs.Line.Last.{last_changed}
@@ -187,6 +191,10 @@ module _ {D C : Type 0} (trace : D → Trace) (sum : List ℕ → ℕ) (old new 
   pub reserves_given : AreAmong (given_up_of new) (given_up_of old)
   reserves_given = among_same (given_up_of new) (given_up_of old)
       (ap given_up_along line ∙ given_reserved more r its_size old.segments.first.site.place v vs (line_segments old) fits.open_yet)
+
+  -- no header is another that isn't on the device,
+  pub reserves_heads : AreAmong (heads_of new) (heads_of old)
+  reserves_heads = among_same (heads_of new) (heads_of old) (ap heads_along line ∙ heads_reserved more r its_size old.segments.first.site.place v vs (line_segments old))
 
   -- and the log holds and fits what it did.
   pub reserves_keeps : Preserves trace sum old new

@@ -40,7 +40,7 @@ use Rattle.sled_core.specs.Reading.{IsNoPlace}
 use Rattle.sled_core.specs.invariants.Running.{Fits}
 use Rattle.sled_core.specs.SealedBuffers.{writing}
 use Rattle.sled_core.specs.Stable.{IsNotReserved}
-use Rattle.sled_core.specs.Waiting.{BufferAt, has_place, unless_held, write_around}
+use Rattle.sled_core.specs.Waiting.{BufferAt, has_place, unless_held, write_around, BufferStart}
 use Rattle.sled_core.specs.Fits.{buffers_of}
 use Rattle.sled_core.proofs.Line.HeaderMarks.{marked_same}
 use Rattle.sled_core.proofs.Line.Around.{is_none, none_found}
@@ -294,7 +294,7 @@ module _ {D C : Type 0} (lsn : ℤ) (old mid : Log D C) where
     written = λ behind. all_ok r _ (left behind);
     held = λ held. absurd (free held);
     some = elim (or_beyond (pos (synced_end old)) lsn) [ inl behind ↦ all_err r _ (inr (inr (left behind))) | inr below ↦ all_err r _ (inl (waiting ∙ (is.still below).0, start ∙ (is.still below).1)) ];
-    marked = marked_same sum old mid new is.marked segment.place segment.bytes;
+    marked = marked_same sum old mid new is.marked segment (ap (λ (s : BufferStart). s.place) start);
   } where
     left : pos (synced_end old) ≤ℤ lsn → LeavesWritten sum (unsigned_abs lsn) old new
     left behind = (waiting ∙ (is.written behind).0, start ∙ (is.written behind).1)

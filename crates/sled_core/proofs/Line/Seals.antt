@@ -9,11 +9,14 @@ use Rattle.sled_store.specs.Device.{State, Trace, state_of}
 use Rattle.sled_store.specs.SegmentStates.{Machine}
 use Rattle.sled_store.specs.Accounts.{machine_of}
 use Rattle.sled_store.specs.declared.config.RunningConfig.{RunningConfig}
+use Rattle.sled_core.proofs.Line.Heads.{heads_sealed}
+use Rattle.sled_core.specs.Heads.{heads_along}
+use Rattle.sled_core.specs.Among.{AreAmong}
 use Rattle.sled_core.specs.Begun.{SegmentParts, SegmentView, begin_of, segment_view}
 use Rattle.sled_core.specs.declared.logger.Log.{Log}
 use Rattle.sled_core.specs.declared.reservation.Reservation.{Reservation}
 use Rattle.sled_core.specs.inside.Fits.{written_to, HoldsIn, HoldsLine, log_parts, parts_in}
-use Rattle.sled_core.specs.Fits.{AwaitsIn, KeepsAll, KeepsTickets, buffers_of, current_begin, current_of, device_of, fault_of, given_up_of, line_of, noted_in, machine_at, pins_of, segment_size_of, synced_end, waiting_of}
+use Rattle.sled_core.specs.Fits.{AwaitsIn, KeepsAll, KeepsTickets, buffers_of, current_begin, current_of, device_of, fault_of, given_up_of, line_of, noted_in, machine_at, pins_of, segment_size_of, synced_end, waiting_of, heads_of}
 use Rattle.sled_core.specs.invariants.Fits.{Holds}
 use Rattle.sled_core.specs.inside.Begun.{line_end}
 use Rattle.sled_core.specs.inside.FreeSlots.{HasSlot, HasSlots, HaveOwn}
@@ -31,7 +34,8 @@ use Rattle.sled_core.specs.Waiting.{as_sealed, at_last, closed_now, holds_any, l
 use Rattle.sled_core.proofs.Behind.Calls.{behind-sealed}
 use Rattle.sled_core.proofs.Behind.FitsCalls.{behind-fits-sealed}
 use Rattle.sled_core.proofs.Holds.FitsBatches.{batches_up}
-use Rattle.sled_core.proofs.Line.GivenUp.{among_same, given_sealed}
+use Rattle.sled_core.proofs.Line.Among.{among_same}
+use Rattle.sled_core.proofs.Line.GivenUp.{given_sealed}
 use Rattle.sled_core.proofs.Line.KeptCalls.{goes_on_quietly}
 use Rattle.sled_core.proofs.Holds.RunningLemmas.{fits-moved}
 use Rattle.sled_core.proofs.Holds.WholeLemmas.{holds-sealed}
@@ -147,6 +151,10 @@ module _ {D C : Type 0} (trace : D → Trace) (sum : List ℕ → ℕ) (old new 
     opens = ap open_places_along line ∙ places_sealed v vs;
     given_up = among_same (given_up_of new) (given_up_of old) (ap given_up_along line ∙ given_sealed v vs);
   }
+
+  -- no header is another that isn't on the device,
+  pub sealed_heads : AreAmong (heads_of new) (heads_of old)
+  sealed_heads = among_same (heads_of new) (heads_of old) (ap heads_along line ∙ heads_sealed v vs)
 
   -- and the log holds and fits what it did.
   pub sealed_keeps : Preserves trace sum old new

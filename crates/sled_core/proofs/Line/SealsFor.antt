@@ -17,7 +17,7 @@ use Rattle.sled_core.specs.Keeps.{Preserves, SamePosition, start_sealed}
 use Rattle.sled_core.specs.Marked.{BeginsMarked}
 use Rattle.sled_core.specs.inside.Marked.{KeepsSegment}
 use Rattle.sled_core.specs.ReadBuffer.{IsUsedUpAt, LeavesSealed, LeavesWritten, WritesAround, held_at, settling}
-use Rattle.sled_core.specs.Waiting.{BufferAt, Span, has_place, without_around}
+use Rattle.sled_core.specs.Waiting.{BufferAt, Span, has_place, without_around, BufferStart}
 use Rattle.sled_core.proofs.Line.KeptCalls.{kept_still, position_still, tickets_still}
 use Rattle.sled_core.proofs.Line.Around.{found, found_front, held_found, held_of, writes_found, writes_of}
 use Rattle.sled_core.proofs.Line.Below.{begin_all}
@@ -59,7 +59,7 @@ seals_still trace sum place log lower = record {
   apart = λ _. refl;
   once = inl refl;
   sealed = still (let no : nat_le (current_begin log) place ≡ false = grind (arith, nat_tests, lower) in no);
-  marked = none_begun sum log log refl;
+  marked = none_begun sum log log refl (λ h there. there);
   none = λ none b has. absurd (in_nothing b (subst (λ (l : List BufferAt). Contains l b) none has));
 } where
   still : nat_le (current_begin log) place ≡ false → LeavesSealed sum place log log
@@ -141,5 +141,5 @@ module _ {D C : Type 0} (trace : D → Trace) (sum : List ℕ → ℕ) (place : 
       written = λ _. on_ok r _ _ leaves_written done;
       held = λ held. leaves_sealed (held_err r _ held failed);
       some = on_err r _ _ (λ same. inr (inl (leaves_sealed same))) failed;
-      marked = marked_same sum old mid new seals.marked segment.place segment.bytes;
+      marked = marked_same sum old mid new seals.marked segment (ap (λ (s : BufferStart). s.place) start);
     }

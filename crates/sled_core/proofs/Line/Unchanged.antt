@@ -15,7 +15,7 @@ use Rattle.sled_core.specs.Positions.{position_in}
 use Rattle.sled_core.specs.invariants.Running.{Fits}
 use Rattle.sled_core.specs.inside.Turned.{ChangesLine}
 use Rattle.sled_core.specs.Waiting.{last_of}
-use Rattle.sled_core.proofs.Line.GivenUp.{among_same}
+use Rattle.sled_core.proofs.Line.Among.{among_same}
 use Rattle.sled_core.proofs.Line.KeptCalls.{goes_on_quietly}
 use Rattle.sled_core.proofs.Line.LineEnds.{kept_same, noted_quiet, noted_same}
 use Rattle.sled_core.proofs.Line.Moves.{fits_as, holds_as}

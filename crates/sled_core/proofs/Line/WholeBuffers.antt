@@ -11,6 +11,8 @@ use Rattle.sled_codec.specs.History.{History, Message}
 use Rattle.sled_codec.specs.Places.{part}
 use Rattle.sled_codec.specs.Record.{short_header, short_record}
 use Rattle.sled_store.specs.Device.{State, Trace, state_of}
+use Rattle.sled_core.proofs.Line.Heads.{head_there}
+use Rattle.sled_core.specs.Heads.{HeadAt}
 use Rattle.sled_core.specs.Begun.{SegmentView, segment_view}
 use Rattle.sled_core.specs.inside.Buffers.{IsChain, SpellsBlob, Stands, StandsBy, text_as, text_in}
 use Rattle.sled_core.specs.Buffers.{body_in, first_open_in, item_as, message_in, none_open, open_state, pointer_as}
@@ -24,8 +26,9 @@ use Rattle.sled_core.specs.declared.iobuf.SegmentPosition.{SegmentPosition}
 use Rattle.sled_core.specs.declared.logger.Log.{Log}
 use Rattle.sled_core.specs.invariants.Fits.{Holds}
 use Rattle.sled_core.specs.inside.Fits.{HoldsLine}
-use Rattle.sled_core.specs.Fits.{buffers_of, fault_of, given_up_of, line_of}
-use Rattle.sled_core.specs.GivenUp.{AreAmong, given_up_along, given_up_in}
+use Rattle.sled_core.specs.Fits.{buffers_of, fault_of, given_up_of, line_of, heads_of}
+use Rattle.sled_core.specs.Among.{AreAmong}
+use Rattle.sled_core.specs.GivenUp.{given_up_along, given_up_in}
 use Rattle.sled_core.specs.Logged.{logged}
 use Rattle.sled_core.specs.Positions.{is_short}
 use Rattle.sled_core.specs.inside.SealedBuffers.{AreSealed}
@@ -36,7 +39,8 @@ use Rattle.sled_core.proofs.Line.Closes.{by_filled, filled_up, more_of}
 use Rattle.sled_core.proofs.Line.EndedTickets.{segment_chain}
 use Rattle.sled_core.proofs.Line.Ends.{with_part}
 use Rattle.sled_core.proofs.Holds.Facts.{IsSegment}
-use Rattle.sled_core.proofs.Line.GivenUp.{among_same, as_sealed_given, given_behind, given_first, given_front, given_in, given_rest}
+use Rattle.sled_core.proofs.Line.Among.{among_same}
+use Rattle.sled_core.proofs.Line.GivenUp.{as_sealed_given, given_behind, given_first, given_front, given_in, given_rest}
 use Rattle.sled_core.proofs.Line.OpenSeen.{AreLaid, begun_rest, line_laid}
 use Rattle.sled_core.proofs.Line.Segments.{AreSegments, line_segments, nth_segment}
 use Rattle.sled_core.proofs.Line.Shows.{number_small}
@@ -154,22 +158,22 @@ none_ahead (r ∷ rs) base is = by (none_ahead rs base) (open_state r.state) is 
   by more true bad = absurd (let never : Some (base + r.from) ≡ None = bad in cc)
   by more false rest = more rest
 
--- The buffers of a segment, where these messages were given up.
-module _ (sum : List ℕ → ℕ) (size : ℕ) (messages : List Message) where
+-- The buffers of a segment, where these messages were given up, and these headers aren't on the device.
+module _ (sum : List ℕ → ℕ) (size : ℕ) (messages : List Message) (heads : List HeadAt) where
   -- it is whole, unless it is held up
   abbrev pub WholeUnlessHeld : BufferAt → Type 0
-  WholeUnlessHeld b = b.held ≡ None → IsWholeBuffer sum size messages b
+  WholeUnlessHeld b = b.held ≡ None → IsWholeBuffer sum size messages heads b
 
-  -- An offset of a segment lies behind its header; or it is where it begins, with the header, whose mark lies below it.
+  -- An offset of a segment lies behind its header; or it is where it begins, with the header, which is one of those, and whose mark lies below it.
   abbrev BeginsBuffer : SegmentPosition → List ℕ → ℕ → Type 0
-  BeginsBuffer site bytes from = (20 ≤ from) ⊎ ((from ≡ 0) × (mark : ℤ) × (mark <ℤ pos site.place) × (take 20 bytes ≡ short_header sum (pos site.place) mark))
+  BeginsBuffer site bytes from = (20 ≤ from) ⊎ ((from ≡ 0) × Contains heads (record { place = site.place; bytes = take 20 bytes }) × (mark : ℤ) × (mark <ℤ pos site.place) × (take 20 bytes ≡ short_header sum (pos site.place) mark))
 
   module _ (site : SegmentPosition) (bytes : List ℕ) (aligned : site.place % size ≡ 0) (begun : 20 ≤ length bytes) where
     abbrev number : ℕ
     number = site.place / size
 
     abbrev Text : ℕ → ℕ → Type 0
-    Text from end = IsWholeText sum size messages number (site.place + from) from (bytes_between bytes from end)
+    Text from end = IsWholeText sum size messages heads number (site.place + from) from (bytes_between bytes from end)
 
     abbrev Records : ℕ → ℕ → Type 0
     Records at end = HasRecords sum size number site bytes messages at end
@@ -190,8 +194,8 @@ module _ (sum : List ℕ → ℕ) (size : ℕ) (messages : List Message) where
         }
 
     -- and where it begins the header stands in front of them.
-    text_headed : (from end : ℕ) (mark : ℤ) → from ≡ 0 → mark <ℤ pos site.place → take 20 bytes ≡ short_header sum (pos site.place) mark → 20 ≤ end → Records (max 20 from) end → Text from end
-    text_headed from end mark none below header up has =
+    text_headed : (from end : ℕ) (mark : ℤ) → from ≡ 0 → Contains heads (record { place = site.place; bytes = take 20 bytes }) → mark <ℤ pos site.place → take 20 bytes ≡ short_header sum (pos site.place) mark → 20 ≤ end → Records (max 20 from) end → Text from end
+    text_headed from end mark none one below header up has =
         let at : max 20 from ≡ from + 20 = omega (arith, none) in
         let here : Records (from + 20) end = subst (λ n. Records n end) at has in
         let place : site.place ≡ site.place + from = omega (arith, none) in
@@ -202,7 +206,7 @@ module _ (sum : List ℕ → ℕ) (size : ℕ) (messages : List Message) where
           records = here.records;
           rest = here.rest;
           is = between_parted bytes from 20 end (omega (arith, none, up)) ∙ (λ i. front i ++ here.is i) ∙ sym (append_assoc (take 20 bytes) text here.rest);
-          headed = inl (none, mark, subst (λ n. mark <ℤ pos n) place below, header ∙ ap (λ n. short_header sum (pos n) mark) place);
+          headed = inl (none, subst (λ n. Contains heads (record { place = n; bytes = take 20 bytes })) place one, mark, subst (λ n. mark <ℤ pos n) place below, header ∙ ap (λ n. short_header sum (pos n) mark) place);
           canceled = subst (λ n. CanceledAreOf sum number messages n here.records)
               (let behind : site.place + (from + 20) ≡ site.place + from + length (take 20 bytes) = omega (arith, length-take 20 bytes, begun) in behind) here.canceled;
           filled = subst (λ n. IsFilling sum size number (from + n + length text) here.rest)
@@ -210,13 +214,13 @@ module _ (sum : List ℕ → ℕ) (size : ℕ) (messages : List Message) where
         }
 
     one_whole : (from end : ℕ) (own : List Reserved) → from < size → max 20 from ≤ end → BeginsBuffer site bytes from → Records (max 20 from) end
-        → IsWholeBuffer sum size messages (buffer_at site bytes from end own)
+        → IsWholeBuffer sum size messages heads (buffer_at site bytes from end own)
     one_whole from end own low up begins has =
-        subst (λ n. IsWholeText sum size messages n (site.place + from) ((site.place + from) % size) (bytes_between bytes from end)) (sym (aligned_number site.place from size aligned low))
-        (subst (λ n. IsWholeText sum size messages number (site.place + from) n (bytes_between bytes from end)) (sym (aligned_offset site.place from size aligned low))
+        subst (λ n. IsWholeText sum size messages heads n (site.place + from) ((site.place + from) % size) (bytes_between bytes from end)) (sym (aligned_number site.place from size aligned low))
+        (subst (λ n. IsWholeText sum size messages heads number (site.place + from) n (bytes_between bytes from end)) (sym (aligned_offset site.place from size aligned low))
         (elim begins [
           | inl behind ↦ text_behind from end behind has
-          | inr first ↦ text_headed from end first.1 first.0 first.2 first.3 (omega (arith, up)) has
+          | inr first ↦ text_headed from end first.2 first.0 first.1 first.3 first.4 (omega (arith, up)) has
         ]))
 
     -- All of them.
@@ -278,7 +282,7 @@ module _ (sum : List ℕ → ℕ) (size : ℕ) (messages : List Message) where
         aligned = told.aligned;
         begun = omega (arith, longer, low);
         stand = filled_stand sum size (v.parts.site.place / size) bytes (max 20 v.parts.written_len) v.parts.reserved (number_small size place v f) less (segment_chain v f) told.stand;
-        begins = elim told.begins [ inl behind ↦ inl behind | inr first ↦ inr (first.0, first.1, first.2, front ∙ first.3) ];
+        begins = elim told.begins [ inl behind ↦ inl behind | inr first ↦ inr (first.0, subst (λ (l : List ℕ). Contains heads (record { place = v.parts.site.place; bytes = l })) (sym front) first.1, first.2, first.3, front ∙ first.4) ];
       }
 
   told_as_sealed : (place : ℕ) (v : SegmentView) → IsSegment size place v → IsTold v → IsTold (as_sealed sum size v)
@@ -315,7 +319,7 @@ module _ {D C : Type 0} (trace : D → Trace) (sum : List ℕ → ℕ) (log : Lo
   abbrev device : State
   device = state_of (trace log.config.device)
 
-  segment_told : HoldsLine sum size device log.fault.kept (line_of log) (logged H) → log.fault.kept ≡ None → (n : ℕ) (v : SegmentView) → slice_get (line_of log) n ≡ Some v → IsTold sum size (given_up_of log) v
+  segment_told : HoldsLine sum size device log.fault.kept (line_of log) (logged H) → log.fault.kept ≡ None → (n : ℕ) (v : SegmentView) → slice_get (line_of log) n ≡ Some v → IsTold sum size (given_up_of log) (heads_of log) v
   segment_told holds none n v there =
       let is : IsSegment size v.parts.site.place v = nth_segment size log.segments.first.site.place (line_of log) (line_segments log) n v there in
       with_part sum size device log.fault.kept (line_of log) n v (logged H) holds there (λ stays own segment.
@@ -329,18 +333,19 @@ module _ {D C : Type 0} (trace : D → Trace) (sum : List ℕ → ℕ) (log : Lo
           | inr none ↦ (
               let first : v.parts.written_len ≡ 0 = omega (arith, none) in
               let head = segment.records.header first in
-              inr (first, head.mark, head.of_history.below, head.is))
+              inr (first, head_there (line_of log) n v there first, head.mark, head.of_history.below, head.is))
         ];
       })
 
   -- Each buffer of a log that holds a history and keeps no failure is whole, unless it is held up.
-  pub buffers_whole : Holds trace sum log H → fault_of log ≡ None → All (WholeUnlessHeld sum size (given_up_of log)) (buffers_of sum log)
+  pub buffers_whole : Holds trace sum log H → fault_of log ≡ None → All (WholeUnlessHeld sum size (given_up_of log) (heads_of log)) (buffers_of sum log)
   unfolding Holds
   buffers_whole holds none =
       let line : List SegmentView = line_of log in
       let are : AreSegments size log.segments.first.site.place line = line_segments log in
       let given : List Message = given_up_of log in
-      along sum size given log.segments.first.site.place (at_last (as_sealed sum size) line) (line_laid sum size log.segments.first.site.place line are)
-      (line_told sum size given log.segments.first.site.place line are (each_told sum size given line (λ n v there. segment_told holds.holds none n v there)))
+      let heads : List HeadAt = heads_of log in
+      along sum size given heads log.segments.first.site.place (at_last (as_sealed sum size) line) (line_laid sum size log.segments.first.site.place line are)
+      (line_told sum size given heads log.segments.first.site.place line are (each_told sum size given heads line (λ n v there. segment_told holds.holds none n v there)))
       (among_same (given_up_along (at_last (as_sealed sum size) line)) given
       (as_sealed_given sum size log.segments.first.site.place (segment_view log.segments.first) (map segment_view log.segments.behind.items) are))

@@ -11,7 +11,7 @@ use Rattle.sled_core.specs.declared.reservation.Reservation.{Reservation}
 use Rattle.sled_core.specs.Fits.{AwaitsIn}
 use Rattle.sled_core.specs.OpenPlaces.{open_places_in}
 use Rattle.sled_core.specs.inside.SealedBuffers.{AreSealed, is_ready, run_count, written_at}
-use Rattle.sled_core.specs.GivenUp.{AreAmong}
+use Rattle.sled_core.specs.Among.{AreAmong}
 use Rattle.sled_core.specs.Tickets.{IsFor, index_of}
 use Rattle.sled_core.specs.inside.Turned.{written_now}
 use Rattle.sled_core.proofs.Holds.Nth.{set_get, set_other}

@@ -9,7 +9,7 @@ ghost use Rattle.sled_core.specs.Causes.{FaultAnswers};
 ghost use Rattle.sled_core.specs.invariants.Fits.{Holds};
 ghost use Rattle.sled_core.specs.Fits.{IsOpen, fault_of, given_up_of, line_of, noted_in, reserved_end, segment_size_of};
 ghost use Rattle.sled_core.specs.Endings.{EndsTicket, GivesUp};
-ghost use Rattle.sled_core.specs.GivenUp.{AreAmong};
+ghost use Rattle.sled_core.specs.Among.{AreAmong};
 ghost use Rattle.sled_core.specs.Keeps.{GoesOn, Preserves};
 ghost use Rattle.sled_core.specs.invariants.Running.{Fits};
 ghost use Rattle.sled_core.specs.Tickets.{IsPlaceOf, is_manifest_of, place_of};

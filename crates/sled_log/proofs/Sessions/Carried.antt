@@ -52,7 +52,7 @@ alone sum size l kind page bytes old r new short acts =
 
 module _ {D C : Type 0} (view : D → DeviceView) (sum : List ℕ → ℕ) (old : Opened D C) (k : Unstored) (page : ℕ) where
   abbrev l : LogView
-  l = seen old k.tickets k.given_up
+  l = seen old k.tickets k.given_up k.heads
 
   abbrev size : ℕ
   size = size_of (Open old)
@@ -146,7 +146,7 @@ module _ {D C : Type 0} (view : D → DeviceView) (sum : List ℕ → ℕ) (old 
         not_refused = tried.not_refused;
         next = tried.tickets;
         step = stepping sum size a command.BeginBatch result now (stands view (Open new) tried.tickets) tried.not_refused
-            (alone sum size (seen old k.tickets k.given_up) does.Skip manifest_page blank_manifest a.device result now (manifest_inline old.log) tried.acts, tried.step);
+            (alone sum size (seen old k.tickets k.given_up k.heads) does.Skip manifest_page blank_manifest a.device result now (manifest_inline old.log) tried.acts, tried.step);
         at = λ own. tried.at;
         crash = λ own. tried.crash;
       }

@@ -12,8 +12,8 @@ use Rattle.sled_core.specs.declared.logger.Log.{Log}
 use Rattle.sled_core.specs.declared.reservation.Reservation.{Reservation}
 use Rattle.sled_core.specs.Batches.{EndsBatch, MayEndAt, NotesBatchOf, batch_for, with_batch_for}
 use Rattle.sled_core.specs.Causes.{FaultAnswers}
-use Rattle.sled_core.specs.Fits.{Awaits, KeepsBuffers, config_of, device_of, fault_of, given_up_of, noted_in, open_places, reserved_end}
-use Rattle.sled_core.specs.GivenUp.{AreAmong}
+use Rattle.sled_core.specs.Fits.{Awaits, KeepsBuffers, config_of, device_of, fault_of, given_up_of, noted_in, open_places, reserved_end, heads_of}
+use Rattle.sled_core.specs.Among.{AreAmong}
 use Rattle.sled_core.specs.Keeps.{SamePosition}
 use Rattle.sled_core.specs.Manifests.{is_manifest, manifest_page}
 use Rattle.sled_core.specs.OpenBatches.{with_batch}
@@ -54,7 +54,7 @@ batch_there stopped ts None has asked = absurd (by stopped (in_batch ts) has ask
 module _ {D C : Type 0} (view : D → DeviceView) (sum : List ℕ → ℕ) (old : Opened D C) (k : Unstored) (at : IsOpenAt (traces view) sum old k) (n : ℕ) (m : Message) (there : slice_get k.tickets n ≡ Some (Some m)) (manifest : m.page ≡ manifest_page)
     (mid : Opened D C) (ticket : Ticket) (takes : TakesTicket old n mid (Some ticket)) where
   abbrev l : LogView
-  l = seen old k.tickets k.given_up
+  l = seen old k.tickets k.given_up k.heads
 
   abbrev begun : HasBegun l
   begun = record { ticket = n; message = m; reserved = there; manifest = manifest }
@@ -116,8 +116,8 @@ module _ {D C : Type 0} (view : D → DeviceView) (sum : List ℕ → ℕ) (old 
 
   -- Where it keeps none, the batch comes to the history, and is noted.
   module _ (log : Log D C) (notes : NotesBatchOf ticket.reservation peg old.log log) (position : SamePosition old.log log) (buffers : KeepsBuffers old.log log) (fault : fault_of old.log ≡ None)
-      (others : (t : Reservation) (x : Message) → Awaits old.log t x → place_of t ≢ place_of ticket.reservation → Awaits log t x) (safe : (j : ℕ) (x : Message) → (x.place ≡ m.place → ⊥) → IsTicketFor (traces view) sum old k.history j x → IsSafe (traces view) sum log x) (opens_left : TakesOut m.place (open_places old.log) (open_places log)) (among : AreAmong (given_up_of log) (given_up_of old.log)) where
-    ended_view : seen (now view sum old k at n m there mid ticket takes log mid.pages) (set k.tickets n None) k.given_up ≡ noting (batch_of l m) (spent l n (places_without m.place (opens l)) (length old.pages.items))
+      (others : (t : Reservation) (x : Message) → Awaits old.log t x → place_of t ≢ place_of ticket.reservation → Awaits log t x) (safe : (j : ℕ) (x : Message) → (x.place ≡ m.place → ⊥) → IsTicketFor (traces view) sum old k.history j x → IsSafe (traces view) sum log x) (opens_left : TakesOut m.place (open_places old.log) (open_places log)) (among : AreAmong (given_up_of log) (given_up_of old.log)) (heads : AreAmong (heads_of log) (heads_of old.log)) where
+    ended_view : seen (now view sum old k at n m there mid ticket takes log mid.pages) (set k.tickets n None) k.given_up k.heads ≡ noting (batch_of l m) (spent l n (places_without m.place (opens l)) (length old.pages.items))
     ended_view i = record {
       position = position.position i;
       synced = notes.synced i;
@@ -130,6 +130,7 @@ module _ {D C : Type 0} (view : D → DeviceView) (sum : List ℕ → ℕ) (old 
       outstanding = outstanding view sum old k at n m there mid ticket takes log mid.pages notes.pins position fault others safe opens_left i;
       tickets = set k.tickets n None;
       given_up = k.given_up;
+      heads = k.heads;
     }
 
     step_from : (H' : History) → EndsBatch k.history ticket.reservation peg H' → Step k.history (Batched (batch_of l m)) H'
@@ -160,7 +161,7 @@ module _ {D C : Type 0} (view : D → DeviceView) (sum : List ℕ → ℕ) (old 
               leads = λ i. record { device = view (config_of log).device; history = H'; acknowledged = k.acknowledged; floor = k.floor; log = Some (ended_view i) };
             },
           );
-          at = λ own. ended_open view sum old k at n m there mid ticket takes log mid.pages notes.pins position fault others safe opens_left H' at.unmarked k.given_up (λ x given. at.given_up x (among x given))
+          at = λ own. ended_open view sum old k at n m there mid ticket takes log mid.pages notes.pins position fault others safe opens_left H' at.unmarked k.given_up (λ x given. at.given_up x (among x given)) heads
               (made_still k.history H' same at.made) fits
               (subst (λ p. IsTable (map page_of p.items) H' top) (sym takes.pages) (table_still k.history H' same (map page_of old.pages.items) top at.table))
               (λ x ne may. joins_still k.history H' same x may)

@@ -17,11 +17,12 @@ use Rattle.sled_codec.specs.PageTables.{IsTable, entry_of}
 use Rattle.sled_codec.specs.Snapshots.{Entry, Page, page_of}
 use Rattle.sled_store.specs.Script.{Performs, after_all}
 use Rattle.sled_store.proofs.Segments.Elements.{all_from_in, in_cases, in_first, in_rest}
+use Rattle.sled_log.specs.WriteSteps.{headed}
 use Rattle.sled_core.specs.declared.logger.Log.{Log}
 use Rattle.sled_core.specs.declared.reservation.Reservation.{Reservation}
 use Rattle.sled_core.specs.Causes.{FaultAnswers}
-use Rattle.sled_core.specs.Fits.{Awaits, KeepsBuffers, KeepsTickets, config_of, device_of, fault_of, given_up_of, noted_in, open_places, pins_of, position_of, reserved_end, segment_size_of}
-use Rattle.sled_core.specs.GivenUp.{AreAmong}
+use Rattle.sled_core.specs.Fits.{Awaits, KeepsBuffers, KeepsTickets, config_of, device_of, fault_of, given_up_of, noted_in, open_places, pins_of, position_of, reserved_end, segment_size_of, heads_of}
+use Rattle.sled_core.specs.Among.{AreAmong}
 use Rattle.sled_core.specs.Keeps.{KeepsSeen, SamePosition}
 use Rattle.sled_core.specs.Logged.{in_log}
 use Rattle.sled_core.specs.OpenPlaces.{TakesOut}
@@ -105,6 +106,7 @@ pub record GivesUp {T D C : Type 0} (view : D → DeviceView) (sum : List ℕ �
   pub seen : KeepsSeen old new
   pub buffers : KeepsBuffers old new
   pub position : SamePosition old new
+  pub heads : AreAmong (heads_of new) (heads_of old)
   pub err : OnErr result (KeepsTickets old new × (IsSome (fault_of old) → new ≡ old))
 
 -- What is among some and one more is among others and that one, where those are among these.
@@ -188,11 +190,11 @@ module _ {D C : Type 0} (view : D → DeviceView) (sum : List ℕ → ℕ) (old 
 
     -- what is kept in mind then
     abbrev pub left : History → Unstored
-    left H = record { history = H; acknowledged = k.acknowledged; floor = k.floor; tickets = set k.tickets n None; given_up = k.given_up }
+    left H = record { history = H; acknowledged = k.acknowledged; floor = k.floor; tickets = set k.tickets n None; given_up = k.given_up; heads = k.heads }
 
     -- and where these were given up
     abbrev pub left_with : History → List Message → Unstored
-    left_with H given = record { history = H; acknowledged = k.acknowledged; floor = k.floor; tickets = set k.tickets n None; given_up = given }
+    left_with H given = record { history = H; acknowledged = k.acknowledged; floor = k.floor; tickets = set k.tickets n None; given_up = given; heads = k.heads }
 
     module _ (log : Log D C) (pages : Vec PageState Global) where
       abbrev pub now : Opened D C
@@ -207,9 +209,9 @@ module _ {D C : Type 0} (view : D → DeviceView) (sum : List ℕ → ℕ) (old 
       as_many pages_are = sym (length-map pages.items page_of) ∙ ap length pages_are ∙ length-map old.pages.items page_of
 
       -- Where the log keeps a failure its reservations stay open, and no item has to be safe from a crash.
-      kept_open : (e : IoError) → fault_of log ≡ Some e → KeepsTickets old.log log → noted_in log ≡ noted_in old.log → SamePosition old.log log → map page_of pages.items ≡ map page_of old.pages.items
+      kept_open : (e : IoError) → fault_of log ≡ Some e → KeepsTickets old.log log → AreAmong (heads_of log) (heads_of old.log) → noted_in log ≡ noted_in old.log → SamePosition old.log log → map page_of pages.items ≡ map page_of old.pages.items
           → Fits (traces view) sum log k.history k.acknowledged k.floor at.unmarked → IsOpenAt (traces view) sum now (left k.history)
-      kept_open e fault kept noted position pages_are fits =
+      kept_open e fault kept heads noted position pages_are fits =
           let failed : fault_of log ≡ None → ⊥ = λ none. let both : None ≡ Some e = sym none ∙ fault in cc in
           record {
             made = at.made;
@@ -222,6 +224,7 @@ module _ {D C : Type 0} (view : D → DeviceView) (sum : List ℕ → ℕ) (old 
                 (λ t x awaits apart. kept.awaits t.reservation x awaits) (λ j x apart open_yet none. absurd (failed none)) (λ x ne may. may)
                 (λ x of ne begun. begun_still noted x begun) (λ none. absurd (failed none));
             given_up = λ x given. at.given_up x (kept.given_up x given);
+            heads = λ h there_yet. at.heads h (heads h there_yet);
             ends = subst (λ e. All (λ x. x.place + x.size ≤ e) k.history.messages) (sym position.reserved) at.ends;
           }
 
@@ -229,17 +232,17 @@ module _ {D C : Type 0} (view : D → DeviceView) (sum : List ℕ → ℕ) (old 
       module _ (is : log ≡ old.log) (pages_are : map page_of pages.items ≡ map page_of old.pages.items) (e : IoError) (fault : fault_of old.log ≡ Some e) where
         pub failed_open : IsOpenAt (traces view) sum now (left k.history)
         failed_open = kept_open e (ap fault_of is ∙ fault)
-            (record { awaits = λ t x awaits. subst (λ (y : Log D C). Awaits y t x) (sym is) awaits; opens = ap open_places is; given_up = λ x given. subst (λ (y : Log D C). Contains (given_up_of y) x) is given }) (ap noted_in is)
+            (record { awaits = λ t x awaits. subst (λ (y : Log D C). Awaits y t x) (sym is) awaits; opens = ap open_places is; given_up = λ x given. subst (λ (y : Log D C). Contains (given_up_of y) x) is given }) (λ h there_yet. subst (λ (y : Log D C). Contains (heads_of y) h) is there_yet) (ap noted_in is)
             (record { position = ap position_of is; reserved = ap reserved_end is; pins = ap pins_of is; size = ap segment_size_of is }) pages_are
             (subst (λ (x : Log D C). Fits (traces view) sum x k.history k.acknowledged k.floor at.unmarked) (sym is) at.fits)
 
-        pub failed_leads : stands view (Open now) (left k.history) ≡ with_log (stands view (Open old) k) (view (config_of log).device) (Some (spent (seen old k.tickets k.given_up) n (opens (seen old k.tickets k.given_up)) (length old.pages.items)))
+        pub failed_leads : stands view (Open now) (left k.history) ≡ with_log (stands view (Open old) k) (view (config_of log).device) (Some (spent (seen old k.tickets k.given_up k.heads) n (opens (seen old k.tickets k.given_up k.heads)) (length old.pages.items)))
         failed_leads i = record {
           device = view (config_of log).device;
           history = k.history;
           acknowledged = k.acknowledged;
           floor = k.floor;
-          log = Some (seen_log (is i) (as_many pages_are i) (set k.tickets n None) k.given_up);
+          log = Some (seen_log (is i) (as_many pages_are i) (set k.tickets n None) k.given_up k.heads);
         }
 
       -- The blob that its reservation made is that of its message.
@@ -282,11 +285,12 @@ module _ {D C : Type 0} (view : D → DeviceView) (sum : List ℕ → ℕ) (old 
                     outstanding = did.err.0.opens i;
                     tickets = set k.tickets n None;
                     given_up = k.given_up;
+                    heads = k.heads;
                   });
                 };
               },
             );
-            at = λ own. kept_open x fault did.err.0 did.seen.noted did.position pages_are (did.keeps.fits k.history k.acknowledged k.floor at.unmarked at.fits beside_history);
+            at = λ own. kept_open x fault did.err.0 did.heads did.seen.noted did.position pages_are (did.keeps.fits k.history k.acknowledged k.floor at.unmarked at.fits beside_history);
             crash = λ own. did.keeps.crash k.history k.acknowledged k.floor at.unmarked at.fits beside_history;
           }
       abort_fails T _ did pages_are = absurd did.answers
@@ -310,10 +314,10 @@ module _ {D C : Type 0} (view : D → DeviceView) (sum : List ℕ → ℕ) (old 
         pub outstanding : open_places log ≡ places_without m.place (open_places old.log)
         outstanding = taken_out m.place (open_places old.log) (open_places log) (subst AreRising (sym (at.tickets.are_all fault)) at.tickets.rising) opens_left
 
-        pub ended_open : (H' : History) (U given : List Message) → AreAmong (given_up_of log) given → IsMade H' → Fits (traces view) sum log H' k.acknowledged k.floor U → IsTable (map page_of pages.items) H' top
+        pub ended_open : (H' : History) (U given : List Message) → AreAmong (given_up_of log) given → AreAmong (heads_of log) (heads_of old.log) → IsMade H' → Fits (traces view) sum log H' k.acknowledged k.floor U → IsTable (map page_of pages.items) H' top
             → ((x : Message) → (m.page ≡ x.page → ⊥) → MayJoin k.history x → MayJoin H' x) → ((x : Message) → x.page ≡ manifest_page → (m.page ≡ x.page → ⊥) → BeginsBatch old.log x → BeginsBatch log x)
             → All (λ x. x.place + x.size ≤ reserved_end old.log) H'.messages → IsOpenAt (traces view) sum now (left_with H' given)
-        ended_open H' U given among made fits table joins begun ends = record {
+        ended_open H' U given among heads made fits table joins begun ends = record {
           made = made;
           unmarked = U;
           fits = fits;
@@ -324,6 +328,7 @@ module _ {D C : Type 0} (view : D → DeviceView) (sum : List ℕ → ℕ) (old 
               (λ t x awaits apart. others t.reservation x awaits (other_place t.reservation x awaits apart)) safe joins begun
               (λ none. outstanding ∙ ap (places_without m.place) (at.tickets.are_all fault) ∙ sym (spent_places k.tickets n m there at.tickets.rising));
           given_up = among;
+          heads = λ h there_yet. at.heads h (heads h there_yet);
           ends = subst (λ e. All (λ x. x.place + x.size ≤ e) H'.messages) (sym position.reserved) ends;
         }
 
@@ -333,7 +338,7 @@ module _ {D C : Type 0} (view : D → DeviceView) (sum : List ℕ → ℕ) (old 
           (safe : (j : ℕ) (x : Message) → (x.place ≡ m.place → ⊥) → IsTicketFor (traces view) sum old k.history j x → IsSafe (traces view) sum log x)
           (opens_left : TakesOut m.place (open_places old.log) (open_places log)) where
         ended_view : (count : ℕ) (given : List Message) → length pages.items ≡ count
-            → seen now (set k.tickets n None) given ≡ record (spent (seen old k.tickets k.given_up) n (places_without m.place (opens (seen old k.tickets k.given_up))) count) { given_up = given }
+            → seen now (set k.tickets n None) given k.heads ≡ record (spent (seen old k.tickets k.given_up k.heads) n (places_without m.place (opens (seen old k.tickets k.given_up k.heads))) count) { given_up = given }
         ended_view count given is i = record {
           position = position.position i;
           synced = same.synced i;
@@ -346,6 +351,7 @@ module _ {D C : Type 0} (view : D → DeviceView) (sum : List ℕ → ℕ) (old 
           outstanding = outstanding same.pins position fault others safe opens_left i;
           tickets = set k.tickets n None;
           given_up = given;
+          heads = k.heads;
         }
 
         -- Its message is given up.
@@ -369,16 +375,16 @@ module _ {D C : Type 0} (view : D → DeviceView) (sum : List ℕ → ℕ) (old 
                   leads = λ i. record { device = view (config_of log).device; history = k.history; acknowledged = k.acknowledged; floor = k.floor; log = Some (seen_is i) };
                 },
               );
-              at = λ own. ended_open same.pins position fault others safe opens_left k.history at.unmarked given (one_more (in_log m) (given_up_of log) (given_up_of old.log) k.given_up gives at.given_up) at.made (did.keeps.fits k.history k.acknowledged k.floor at.unmarked at.fits beside_history)
+              at = λ own. ended_open same.pins position fault others safe opens_left k.history at.unmarked given (one_more (in_log m) (given_up_of log) (given_up_of old.log) k.given_up gives at.given_up) did.heads at.made (did.keeps.fits k.history k.acknowledged k.floor at.unmarked at.fits beside_history)
                   (subst (λ (ps : List Page). IsTable ps k.history top) (sym pages_are) at.table) (λ x ne may. may) (λ x of ne begun. begun_still same.noted x begun) at.ends;
               crash = λ own. did.keeps.crash k.history k.acknowledged k.floor at.unmarked at.fits beside_history;
             }
 
         -- It comes to the history.
-        pub completes : config_of log ≡ config_of old.log → AreAmong (given_up_of log) (given_up_of old.log) → m.page ≢ manifest_page → (place : ℤ) (pointer : DiskPtr) → IsAnswerFor m place pointer → (H' : History) → Step k.history (Completed m) H'
+        pub completes : config_of log ≡ config_of old.log → AreAmong (given_up_of log) (given_up_of old.log) → AreAmong (heads_of log) (heads_of old.log) → m.page ≢ manifest_page → (place : ℤ) (pointer : DiskPtr) → IsAnswerFor m place pointer → (H' : History) → Step k.history (Completed m) H'
             → Fits (traces view) sum log H' k.acknowledged k.floor (m ∷ at.unmarked) → (e : Entry) → e ≡ entry_of m
             → map page_of pages.items ≡ applied_to (map page_of old.pages.items) ticket.kind ticket.page e → Does view sum (Open old) (command.Complete n) (Open now, reply.Done place pointer) k
-        completes config among changes place pointer answer H' step fits e e_is applied =
+        completes config among heads changes place pointer answer H' step fits e e_is applied =
             let known : List Page = map page_of old.pages.items in
             let entry : map page_of pages.items ≡ applied_to known m.kind m.page (entry_of m) = applied ∙ (λ i. applied_to known (of_kind i) (of_page i) (e_is i)) in
             let may : MayJoin k.history m = had.joins changes in
@@ -406,7 +412,7 @@ module _ {D C : Type 0} (view : D → DeviceView) (sum : List ℕ → ℕ) (old 
                   leads = λ i. record { device = view (config_of log).device; history = H'; acknowledged = k.acknowledged; floor = k.floor; log = Some (seen_is i) };
                 },
               );
-              at = λ own. ended_open same.pins position fault others safe opens_left H' (m ∷ at.unmarked) k.given_up (λ x given. at.given_up x (among x given)) made fits table (λ x ne next. join_still k.history H' m x may step ne next) (λ x of ne begun. begun_still same.noted x begun)
+              at = λ own. ended_open same.pins position fault others safe opens_left H' (m ∷ at.unmarked) k.given_up (λ x given. at.given_up x (among x given)) heads made fits table (λ x ne next. join_still k.history H' m x may step ne next) (λ x of ne begun. begun_still same.noted x begun)
                   (all_from_in (λ x. x.place + x.size ≤ reserved_end old.log) H'.messages (λ x there_now. ⊎_elim
                   (λ is. subst (λ (z : Message). z.place + z.size ≤ reserved_end old.log) is had.ends)
                   (λ was. All-contains (λ z. z.place + z.size ≤ reserved_end old.log) k.history.messages x at.ends was) (came k.history H' m step x there_now)));
@@ -451,6 +457,7 @@ module _ {D C : Type 0} (view : D → DeviceView) (sum : List ℕ → ℕ) (old 
     table = subst (λ (ps : List Page). IsTable ps k.history top) (sym kept.pages) at.table;
     tickets = kept_tickets at.tickets;
     given_up = subst (λ (x : Log D C). AreAmong (given_up_of x) k.given_up) (sym kept.log) at.given_up;
+    heads = subst (λ (x : Log D C). AreAmong (heads_of x) (map (headed sum) k.heads)) (sym kept.log) at.heads;
     ends = subst (λ (x : Log D C). All (λ y. y.place + y.size ≤ reserved_end x) k.history.messages) (sym kept.log) at.ends;
   }
 
@@ -463,7 +470,7 @@ module _ {D C : Type 0} (view : D → DeviceView) (sum : List ℕ → ℕ) (old 
     history = k.history;
     acknowledged = k.acknowledged;
     floor = k.floor;
-    log = Some (seen_log (kept.log i) (room_begun i) k.tickets k.given_up);
+    log = Some (seen_log (kept.log i) (room_begun i) k.tickets k.given_up k.heads);
   }
 
   -- so what a completion comes to then it comes to,

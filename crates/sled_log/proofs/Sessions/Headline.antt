@@ -53,7 +53,7 @@ module _ {D C : Type 0} (view : D → DeviceView) (sum : List ℕ → ℕ) where
   known_in : (p : Phase D C) (k : Unstored) → IsAt (traces view) sum p k → Known (stands view p k)
   known_in (phase.Closed config) k at l is = cc
   known_in (phase.Open opened) k at l is =
-      let here : seen opened k.tickets k.given_up ≡ l = same_Some (seen opened k.tickets k.given_up) l is in
+      let here : seen opened k.tickets k.given_up k.heads ≡ l = same_Some (seen opened k.tickets k.given_up k.heads) l is in
       subst (EndsIn k.history) here (record {
         completed = λ x there. All-contains (λ (m : Message). m.place + m.size ≤ reserved_end opened.log) k.history.messages x at.ends there;
         reserved = λ n x there. (at.tickets.each n x there).ends;

@@ -12,10 +12,11 @@ use Rattle.sled_codec.specs.PageTables.{IsTable, entry_of, page_with}
 use Rattle.sled_codec.specs.Snapshots.{Free, Page, Present, Uninitialized, page_of}
 use Rattle.sled_store.specs.Device.{Trace}
 use Rattle.sled_store.proofs.Histories.TableParts.{from_page}
+use Rattle.sled_log.proofs.Sessions.BegunHeads.{heads_kept}
 use Rattle.sled_core.specs.declared.logger.Log.{Log}
 use Rattle.sled_core.specs.declared.reservation.Reservation.{Reservation}
 use Rattle.sled_core.specs.Buffers.{most_open}
-use Rattle.sled_core.specs.Fits.{Awaits, FitsInline, IsUsedUpFor, fault_of, next_place, open_for, open_places, reserved_end, segment_size_of, size_for, target_of}
+use Rattle.sled_core.specs.Fits.{Awaits, FitsInline, IsUsedUpFor, fault_of, next_place, open_for, open_places, reserved_end, segment_size_of, size_for, target_of, start_of}
 use Rattle.sled_core.specs.Keeps.{KeepsSeen, Preserves}
 use Rattle.sled_core.specs.Manifests.{manifest_page}
 use Rattle.sled_core.specs.Positions.{Position, behind_record}
@@ -33,7 +34,7 @@ use Rattle.sled_log.specs.declared.session.Phase.TheVariants as phase
 use Rattle.sled_log.specs.Made.{HasReplaceBelow, JoinsWithBlob, MayJoin}
 use Rattle.sled_log.specs.Reservations.{HoldsTicket, MayReserve}
 use Rattle.sled_log.specs.RunPhases.{AreRising, BeginsBatch, HasBatch, HasTickets, IsOpenAt, IsTicketFor, Unstored, device_in, seen, stands, traces}
-use Rattle.sled_log.specs.RunStates.{DeviceView, has_page, is_present, open_messages, page_now, target_in, top}
+use Rattle.sled_log.specs.RunStates.{DeviceView, has_page, is_present, open_messages, page_now, target_in, top, MarkAt, heads_at}
 use Rattle.sled_log.specs.TicketSteps.{HasReserved, own_of}
 use Rattle.sled_log.proofs.Sessions.SafeItems.{safe_on}
 use Rattle.sled_log.proofs.Sessions.TicketsSeen.{page_has}
@@ -75,9 +76,9 @@ pub record KeptPlace {D C : Type 0} (trace : D → Trace) (sum : List ℕ → �
   pub keeps : Preserves trace sum old new
   pub seen : KeepsSeen old new
 
--- with one more ticket, for this message
-abbrev pub with_ticket : Unstored → Message → Unstored
-with_ticket k m = record { history = k.history; acknowledged = k.acknowledged; floor = k.floor; tickets = k.tickets ++ Some m ∷ []; given_up = k.given_up }
+-- with one more ticket, for this message, and with these buffers begun
+abbrev pub with_ticket : Unstored → Message → List MarkAt → Unstored
+with_ticket k m heads = record { history = k.history; acknowledged = k.acknowledged; floor = k.floor; tickets = k.tickets ++ Some m ∷ []; given_up = k.given_up; heads = heads }
 
 -- The record of a message that comes is put behind all messages.
 put_behind : {D C : Type 0} (trace : D → Trace) (sum : List ℕ → ℕ) (opened : Opened D C) (k : Unstored) → IsOpenAt trace sum opened k → (page n : ℕ) → FitsInline (segment_size_of opened.log) n
@@ -97,7 +98,7 @@ module _ {D C : Type 0} (view : D → DeviceView) (sum : List ℕ → ℕ) (old 
   begun_pages = length old.pages.items
 
   abbrev more : Unstored
-  more = with_ticket k its
+  more = with_ticket k its (heads_at (seen old k.tickets k.given_up k.heads) (start_of new.log))
 
   abbrev its_ticket : Ticket
   its_ticket = record { kind = its.kind; page = its.page; reservation = reservation }
@@ -105,7 +106,7 @@ module _ {D C : Type 0} (view : D → DeviceView) (sum : List ℕ → ℕ) (old 
   -- its place lies behind all that was reserved
   behind : reserved_end old.log ≤ its.place
   behind =
-      let low = reserved_below old.log begun_pages k.tickets k.given_up sum its.page n inline in
+      let low = reserved_below old.log begun_pages k.tickets k.given_up k.heads sum its.page n inline in
       let place = kept.place in
       omega (arith, low, place)
 
@@ -113,7 +114,7 @@ module _ {D C : Type 0} (view : D → DeviceView) (sum : List ℕ → ℕ) (old 
   grown : reserved_end old.log ≤ reserved_end new.log
   grown =
       let end = kept.behind.reserved in
-      let low = reserved_below old.log begun_pages k.tickets k.given_up sum its.page n inline in
+      let low = reserved_below old.log begun_pages k.tickets k.given_up k.heads sum its.page n inline in
       omega (arith, end, low)
 
   ends_with : reserved_end new.log ≡ its.place + its.size
@@ -226,22 +227,23 @@ module _ {D C : Type 0} (view : D → DeviceView) (sum : List ℕ → ℕ) (old 
           table = subst (λ p. IsTable (map page_of p.items) k.history top) (sym pages) at.table;
           tickets = has_tickets;
           given_up = λ m given. at.given_up m (kept.behind.given_up m given);
+          heads = heads_kept sum old.log new.log begun_pages k.tickets k.given_up k.heads kept.behind.marked.heads at.heads;
           ends = All-weaker (λ m. m.place + m.size ≤ reserved_end old.log) (λ m. m.place + m.size ≤ reserved_end new.log) (λ m low. omega (arith, low, up)) k.history.messages at.ends;
         }
 
-    pub reserved_step : HasReserved (segment_size_of old.log) (stands view (phase.Open old) k) (seen old k.tickets k.given_up) (target_in (segment_size_of old.log) (seen old k.tickets k.given_up) its.page n) its
+    pub reserved_step : HasReserved (segment_size_of old.log) (stands view (phase.Open old) k) (seen old k.tickets k.given_up k.heads) (target_in (segment_size_of old.log) (seen old k.tickets k.given_up k.heads) its.page n) its
         (length old.tickets.items) (place_of reservation) (pointer_of reservation) (device_in view (phase.Open new)) (stands view (phase.Open new) more)
     reserved_step =
         let q : Position = target_of old.log its.page n in
         let both = awaited new.log reservation its kept.ticket in
         let position = kept.behind.position ∙ ap (behind_record (segment_size_of old.log) q) (sym kept.size) in
-        let waiting = ap spans kept.behind.waiting ∙ waiting_seen old.log begun_pages k.tickets k.given_up sum its.page n inline in
-        let start = kept.behind.start ∙ start_with_seen old.log begun_pages k.tickets k.given_up sum its.page n inline in
+        let waiting = ap spans kept.behind.waiting ∙ waiting_seen old.log begun_pages k.tickets k.given_up k.heads sum its.page n inline in
+        let start = kept.behind.start ∙ start_with_seen old.log begun_pages k.tickets k.given_up k.heads sum its.page n inline in
         let fault = kept.sound ∙ sym kept.fault in
         record {
           fault = kept.fault;
-          in_reach = in_reach old.log begun_pages k.tickets k.given_up sum its.page n inline kept.free;
-          few = let same = beside_count old.log begun_pages k.tickets k.given_up sum its.page n inline in let less = kept.few in omega (arith, same, less);
+          in_reach = in_reach old.log begun_pages k.tickets k.given_up k.heads sum its.page n inline kept.free;
+          few = let same = beside_count old.log begun_pages k.tickets k.given_up k.heads sum its.page n inline in let less = kept.few in omega (arith, same, less);
           number = at.tickets.as_many;
           answer = (sym both.0, sym both.1);
           leads = λ i. record {
@@ -261,6 +263,7 @@ module _ {D C : Type 0} (view : D → DeviceView) (sum : List ℕ → ℕ) (old 
               outstanding = opens_with i;
               tickets = k.tickets ++ Some its ∷ [];
               given_up = k.given_up;
+              heads = heads_at (seen old k.tickets k.given_up k.heads) (start i);
             });
           };
         }
@@ -268,7 +271,7 @@ module _ {D C : Type 0} (view : D → DeviceView) (sum : List ℕ → ℕ) (old 
 -- A message of a page that may be reserved may come to the history.
 module _ {D C : Type 0} (view : D → DeviceView) (sum : List ℕ → ℕ) (old new : Opened D C) (n : ℕ) (comes : Message) (reservation : Reservation)
     (changes : ChangesPage comes.kind) (kept : KeptPlace (traces view) sum old.log new.log n comes reservation) (inline : FitsInline (segment_size_of old.log) n)
-    (small : comes.page < length old.busy.items) (k : Unstored) (at : IsOpenAt (traces view) sum old k) (may : MayReserve k.history (seen old k.tickets k.given_up) comes.kind comes.page) where
+    (small : comes.page < length old.busy.items) (k : Unstored) (at : IsOpenAt (traces view) sum old k) (may : MayReserve k.history (seen old k.tickets k.given_up k.heads) comes.kind comes.page) where
   below : All (λ m. m.place < comes.place) k.history.messages
   below = subst (λ p. All (λ m. m.place < p) k.history.messages) (sym kept.place) (put_behind (traces view) sum old k at comes.page n inline)
 
@@ -299,9 +302,9 @@ module _ {D C : Type 0} (view : D → DeviceView) (sum : List ℕ → ℕ) (old 
 
 -- A place was kept for a message, which has a ticket now, and all holds that did.
 pub record HasHeld {D C : Type 0} (view : D → DeviceView) (sum : List ℕ → ℕ) (old new : Opened D C) (n : ℕ) (m : Message) (reservation : Reservation) (k : Unstored) : Type 0 where
-  pub reserved : HasReserved (segment_size_of old.log) (stands view (phase.Open old) k) (seen old k.tickets k.given_up) (target_in (segment_size_of old.log) (seen old k.tickets k.given_up) m.page n) m
-      (length old.tickets.items) (place_of reservation) (pointer_of reservation) (device_in view (phase.Open new)) (stands view (phase.Open new) (with_ticket k m))
-  pub at : IsOpenAt (traces view) sum new (with_ticket k m)
+  pub reserved : HasReserved (segment_size_of old.log) (stands view (phase.Open old) k) (seen old k.tickets k.given_up k.heads) (target_in (segment_size_of old.log) (seen old k.tickets k.given_up k.heads) m.page n) m
+      (length old.tickets.items) (place_of reservation) (pointer_of reservation) (device_in view (phase.Open new)) (stands view (phase.Open new) (with_ticket k m (heads_at (seen old k.tickets k.given_up k.heads) (start_of new.log))))
+  pub at : IsOpenAt (traces view) sum new (with_ticket k m (heads_at (seen old k.tickets k.given_up k.heads) (start_of new.log)))
 
 -- a session over another log
 abbrev pub over_log : {D C : Type 0} → Opened D C → Log D C → Opened D C
@@ -315,7 +318,7 @@ module _ {D C : Type 0} (view : D → DeviceView) (sum : List ℕ → ℕ) (old 
   kept_new = subst (λ x. KeptPlace (traces view) sum old.log x n m reservation) (sym holds.log) kept
 
   -- a message of a page, whose blob is its own or that of another message, if it has one,
-  pub held_message : ChangesPage m.kind → JoinsWithBlob k.history m m.pointer → m.page < length old.busy.items → m.page ≢ manifest_page → MayReserve k.history (seen old k.tickets k.given_up) m.kind m.page
+  pub held_message : ChangesPage m.kind → JoinsWithBlob k.history m m.pointer → m.page < length old.busy.items → m.page ≢ manifest_page → MayReserve k.history (seen old k.tickets k.given_up k.heads) m.kind m.page
       → HasHeld view sum old new n m reservation k
   held_message changes blob small message may =
       let other : (m.page == manifest_page) ≡ false = ne_eqb m.page manifest_page message in
@@ -335,7 +338,7 @@ module _ {D C : Type 0} (view : D → DeviceView) (sum : List ℕ → ℕ) (old 
       let same : (m.page == manifest_page) ≡ true = eq-eqb m.page manifest_page manifest in
       let same_busy : new.busy.items ≡ old.busy.items = holds.busy ∙ ap (λ (b : Bool). if b then old.busy.items else set old.busy.items m.page true) same in
       let is_batch : new.batch ≡ Some (length k.tickets) = holds.batch ∙ ap (λ (b : Bool). if b then Some (length old.tickets.items) else old.batch) same ∙ ap (λ x. Some x) at.tickets.as_many in
-      let low = reserved_below old.log (length old.pages.items) k.tickets k.given_up sum m.page n inline in
+      let low = reserved_below old.log (length old.pages.items) k.tickets k.given_up k.heads sum m.page n inline in
       let place = kept.place in
       let up : reserved_end old.log ≤ m.place = omega (arith, low, place) in
       let begins : m.page ≡ manifest_page → BeginsBatch new.log m = λ is. record {

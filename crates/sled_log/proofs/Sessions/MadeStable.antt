@@ -10,9 +10,10 @@ use Rattle.sled_codec.specs.declared.result.Error.TheVariants as error
 use Rattle.sled_codec.specs.History.{History, Message}
 use Rattle.sled_store.specs.Device.{Event}
 use Rattle.sled_store.specs.Script.{Performs, after_all}
+use Rattle.sled_log.proofs.Sessions.BegunHeads.{heads_still}
 use Rattle.sled_core.specs.Causes.{HeldAnswers, IsHeld, OnDone}
 use Rattle.sled_core.specs.declared.logger.Log.{Log}
-use Rattle.sled_core.specs.Fits.{FirstWaits, IsUsedUpBelow, buffers_of, current_begin, device_of, fault_of, held_len, holding_below, reserved_end, segment_size_of, stable_end, synced_end, waiting_of, writing_below}
+use Rattle.sled_core.specs.Fits.{FirstWaits, IsUsedUpBelow, buffers_of, current_begin, device_of, fault_of, held_len, holding_below, reserved_end, segment_size_of, stable_end, synced_end, waiting_of, writing_below, start_of}
 use Rattle.sled_core.specs.Fronts.{CameTo}
 use Rattle.sled_core.proofs.Line.Places.{behind_stable}
 use Rattle.sled_core.specs.Stable.{IsNotReserved, StableAnswers, held_for, stabilizing, target_for}
@@ -25,7 +26,7 @@ use Rattle.sled_log.proofs.Sessions.NotedSeen.{target_reserved}
 use Rattle.sled_log.specs.declared.session.command.Reply.TheVariants as reply
 use Rattle.sled_log.specs.RunPhases.{seen_log, traces}
 use Rattle.sled_log.specs.WriteSteps.{FailsTo, IsKnownPlace, StableStep, holding, writes_free}
-use Rattle.sled_log.specs.RunStates.{DeviceView, LogView, RunState, held_among, opens}
+use Rattle.sled_log.specs.RunStates.{DeviceView, LogView, RunState, held_among, opens, MarkAt, heads_at}
 use Rattle.sled_log.proofs.Sessions.Writing.{AreWhole, StaysPut, below_writes, fails_to, flush_in, flush_out, flushed_seen, holding_seen, if_held, keeps_failing, some_reserved, some_stable, why_of}
 
 -- A place that is made stable.
@@ -44,7 +45,7 @@ none_one to b le = by (nat_lt b.place to) refl where
   by true is = absurd (grind (arith, nat_tests, le, is))
   by false is = refl
 
-module _ {D C : Type 0} (log : Log D C) (sum : List ℕ → ℕ) (begun : ℕ) (tickets : List (Option Message)) (given_up : List Message) where
+module _ {D C : Type 0} (log : Log D C) (sum : List ℕ → ℕ) (begun : ℕ) (tickets : List (Option Message)) (given_up : List Message) (heads : List MarkAt) where
   -- what is stable lies below the current buffer
   up : synced_end log ≤ current_begin log
   up = let is = stable_up log (pos (current_begin log)) (omega (arith, ints)) in omega (arith, ints, is)
@@ -65,7 +66,7 @@ module _ {D C : Type 0} (log : Log D C) (sum : List ℕ → ℕ) (begun : ℕ) (
     target = target_for log place
 
     abbrev view_of : LogView
-    view_of = seen_log log begun tickets given_up
+    view_of = seen_log log begun tickets given_up heads
 
     below_test : (n : ℕ) → int_lt place (pos n) ≡ true → place <ℤ pos n
     below_test n is = grind (arith, ints, is)
@@ -75,8 +76,8 @@ module _ {D C : Type 0} (log : Log D C) (sum : List ℕ → ℕ) (begun : ℕ) (
     target_synced = behind_stable sum log place
 
     pub some_known : IsKnownPlace view_of place → current_begin log < target → 0 < held_len log
-    some_known (inl stable) = some_stable log sum begun tickets given_up target (target_synced stable)
-    some_known (inr reserved) = some_reserved log sum begun tickets given_up target (target_reserved log place reserved)
+    some_known (inl stable) = some_stable log sum begun tickets given_up heads target (target_synced stable)
+    some_known (inr reserved) = some_reserved log sum begun tickets given_up heads target (target_reserved log place reserved)
 
     -- what makes it stable
     pub stabilizing_seen : stabilizing sum log place ≡ writes_free (begun_below target (buffers_of sum log))
@@ -91,12 +92,12 @@ module _ {D C : Type 0} (log : Log D C) (sum : List ℕ → ℕ) (begun : ℕ) (
       by : (o : Bool) → int_lt place (pos (stable_end log)) ≡ o → (if o then None else holding_below sum log target) ≡ holding target view_of
       by true is =
           sym (ap (λ (bs : List BufferAt). held_among (opens view_of) (spans bs)) (none_below target (target_synced (below_test (stable_end log) is))))
-          ∙ ap (held_among (opens view_of)) (flushed_seen log sum begun tickets given_up target (some_known known))
-      by false is = holding_seen log sum begun tickets given_up target (some_known known)
+          ∙ ap (held_among (opens view_of)) (flushed_seen log sum begun tickets given_up heads target (some_known known))
+      by false is = holding_seen log sum begun tickets given_up heads target (some_known known)
 
 -- A call that makes a place stable, and failed: it wasn't reserved, or the log kept a failure, and nothing was done; or it was reserved.
-module _ {D C : Type 0} (view : D → DeviceView) (sum : List ℕ → ℕ) (log new : Log D C) (begun : ℕ) (tickets : List (Option Message)) (given_up : List Message) (place : ℤ) (H : History) (A f : ℕ) (position : StaysPut log new)
-    (whole : fault_of log ≡ None → AreWhole sum log given_up) where
+module _ {D C : Type 0} (view : D → DeviceView) (sum : List ℕ → ℕ) (log new : Log D C) (begun : ℕ) (tickets : List (Option Message)) (given_up : List Message) (heads : List MarkAt) (place : ℤ) (H : History) (A f : ℕ) (position : StaysPut log new)
+    (whole : fault_of log ≡ None → AreWhole sum log given_up heads) where
   abbrev old_device : DeviceView
   old_device = view (device_of log)
 
@@ -104,13 +105,13 @@ module _ {D C : Type 0} (view : D → DeviceView) (sum : List ℕ → ℕ) (log 
   new_device = view (device_of new)
 
   abbrev from : RunState
-  from = record { device = old_device; history = H; acknowledged = A; floor = f; log = Some (seen_log log begun tickets given_up) }
+  from = record { device = old_device; history = H; acknowledged = A; floor = f; log = Some (seen_log log begun tickets given_up heads) }
 
   abbrev leads_to : RunState
-  leads_to = record { device = new_device; history = H; acknowledged = A; floor = f; log = Some (seen_log new begun tickets given_up) }
+  leads_to = record { device = new_device; history = H; acknowledged = A; floor = f; log = Some (seen_log new begun tickets given_up (heads_at (seen_log log begun tickets given_up heads) (start_of new))) }
 
   abbrev Fails : Error → Type 0
-  Fails e = StableStep sum (segment_size_of log) from (seen_log log begun tickets given_up) place (reply.Failed e) new_device leads_to
+  Fails e = StableStep sum (segment_size_of log) from (seen_log log begun tickets given_up heads) place (reply.Failed e) new_device leads_to
 
   same_device : new ≡ log → new_device ≡ old_device
   same_device same = ap (λ (x : Log D C). view (device_of x)) same
@@ -121,16 +122,16 @@ module _ {D C : Type 0} (view : D → DeviceView) (sum : List ℕ → ℕ) (log 
   -- it was reserved
   known_fails : (e : Error) → pos (stable_end log) ≤ℤ place → place <ℤ pos (reserved_end log) → OnDone {T = ℕ} (Err e) (new_device.trace ≡ after_all (stabilizing sum log place) old_device.trace) → Performs (stabilizing sum log place) old_device.trace new_device.trace → (IsHeld {T = ℕ} (Err e) → target_for log place ≤ current_begin new) → (IsNotReserved {T = ℕ} (Err e) → ⊥) → IsNotReserved {T = ℕ} (Err e) ⊎ CameTo (traces view) sum (target_for log place) log new → fault_of log ≡ None
       → HeldAnswers {T = ℕ} (Err e) (held_for sum log place) (IsUsedUpBelow log (target_for log place)) (fault_of log) (fault_of new) old_device.failures new_device.failures
-      → (pos (stable_end log) ≤ℤ place) × (place <ℤ pos (reserved_end log)) × FailsTo sum (segment_size_of log) from (seen_log log begun tickets given_up) (target_for log place) e new_device leads_to
+      → (pos (stable_end log) ≤ℤ place) × (place <ℤ pos (reserved_end log)) × FailsTo sum (segment_size_of log) from (seen_log log begun tickets given_up heads) (target_for log place) e new_device leads_to
   known_fails e above reserved done made sealed known_place came none answers =
-      let known : IsKnownPlace (seen_log log begun tickets given_up) place = inr reserved in (
+      let known : IsKnownPlace (seen_log log begun tickets given_up heads) place = inr reserved in (
         above,
         reserved,
-        fails_to log sum begun tickets given_up (target_for log place) (some_known log sum begun tickets given_up place known) new old_device new_device H A f position (whole none) (traces view) e refl refl none
-            (why_of ℕ e (held_for sum log place) _ (IsUsedUpBelow log (target_for log place)) _ (fault_of log) (fault_of new) old_device.failures new_device.failures none (held_seen log sum begun tickets given_up place known)
-            (λ used. (used.0, flush_out log sum begun tickets given_up used.1)) (λ free needs. needs.1 (flush_in log sum begun tickets given_up (λ used. free (needs.0, used)))) answers)
-            (subst (λ (es : List Event). Performs es old_device.trace new_device.trace) (stabilizing_seen log sum begun tickets given_up place) made)
-            (if_held ℕ e _ _ (λ all. all ∙ ap (λ (es : List Event). after_all es old_device.trace) (stabilizing_seen log sum begun tickets given_up place)) done) sealed (elim came [ inl other ↦ absurd (known_place other) | inr far ↦ far ]),
+        fails_to log sum begun tickets given_up heads (target_for log place) (some_known log sum begun tickets given_up heads place known) new old_device new_device H A f position (whole none) (traces view) e refl refl none
+            (why_of ℕ e (held_for sum log place) _ (IsUsedUpBelow log (target_for log place)) _ (fault_of log) (fault_of new) old_device.failures new_device.failures none (held_seen log sum begun tickets given_up heads place known)
+            (λ used. (used.0, flush_out log sum begun tickets given_up heads used.1)) (λ free needs. needs.1 (flush_in log sum begun tickets given_up heads (λ used. free (needs.0, used)))) answers)
+            (subst (λ (es : List Event). Performs es old_device.trace new_device.trace) (stabilizing_seen log sum begun tickets given_up heads place) made)
+            (if_held ℕ e _ _ (λ all. all ∙ ap (λ (es : List Event). after_all es old_device.trace) (stabilizing_seen log sum begun tickets given_up heads place)) done) sealed (elim came [ inl other ↦ absurd (known_place other) | inr far ↦ far ]),
       )
 
   pub stable_failed : (e : Error) → StableFails e → OnDone {T = ℕ} (Err e) (new_device.trace ≡ after_all (stabilizing sum log place) old_device.trace) → Performs (stabilizing sum log place) old_device.trace new_device.trace
@@ -141,10 +142,11 @@ module _ {D C : Type 0} (view : D → DeviceView) (sum : List ℕ → ℕ) (log 
     answers.2,
     answers.3,
     same_device (refused tt),
-    ap (λ (x : Log D C). record { device = view (device_of x); history = H; acknowledged = A; floor = f; log = Some (seen_log x begun tickets given_up) }) (refused tt),
+    ap (λ (x : Log D C). record { device = view (device_of x); history = H; acknowledged = A; floor = f; log = Some (seen_log x begun tickets given_up (heads_at (seen_log log begun tickets given_up heads) (start_of x))) }) (refused tt)
+        ∙ ap (λ (hs : List MarkAt). record { device = old_device; history = H; acknowledged = A; floor = f; log = Some (seen_log log begun tickets given_up hs) }) (heads_still (seen_log log begun tickets given_up heads)),
   )
   stable_failed (error.Io x) answers done made faulty refused sealed came = elim answers.1 [
-    | inl kept ↦ (let same : new ≡ log = faulty x kept.0 in inl (keeps_failing log new begun tickets given_up old_device new_device H A f (error.Io x) x refl kept.0 same (same_device same)))
+    | inl kept ↦ (let same : new ≡ log = faulty x kept.0 in inl (keeps_failing log new begun tickets given_up heads old_device new_device H A f (error.Io x) x refl kept.0 same (same_device same)))
     | inr failed ↦ inr (known_fails (error.Io x) (answers.0 failed.0).0 (answers.0 failed.0).1 done made sealed (λ no. no) came failed.0 answers.1)
   ]
   stable_failed error.OutOfMemory answers done made faulty refused sealed came = inr (known_fails error.OutOfMemory answers.0 answers.1 done made sealed (λ no. no) came answers.3 (answers.2, answers.3, answers.4, answers.5))

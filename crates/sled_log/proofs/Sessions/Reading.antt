@@ -23,6 +23,8 @@ use Rattle.sled_codec.specs.Snapshots.{Entry, Page, Present, Uninitialized, page
 use Rattle.sled_store.specs.Device.{Event, Trace}
 use Rattle.sled_store.specs.Script.{Performs, after_all}
 use Rattle.sled_store.proofs.Segments.TableEntries.{from_table}
+use Rattle.sled_log.proofs.Sessions.BegunHeads.{heads_kept, heads_still, begun_with}
+use Rattle.sled_core.specs.Among.{AreAmong}
 use Rattle.sled_core.specs.Causes.{IsFault, IsFaultAt, IsHeld, OnDone}
 use Rattle.sled_core.specs.Reading.{GivesMessage, IsInline}
 use Rattle.sled_core.specs.ReadPointer.{GivesBlobOrWaits, IsKeptBlob, place_read}
@@ -31,7 +33,7 @@ use Rattle.sled_core.specs.declared.logger.Log.{Log}
 use Rattle.sled_core.specs.Begun.{segment_view}
 use Rattle.sled_core.specs.OpenBatches.{not_whole}
 use Rattle.sled_core.proofs.Line.LineEnds.{noted_still}
-use Rattle.sled_core.specs.Fits.{HasRecordOf, buffers_of, current_begin, current_of, device_of, fault_of, held_len, next_place, noted_in, reserved_end, segment_size_of, start_of, synced_end, waiting_of}
+use Rattle.sled_core.specs.Fits.{HasRecordOf, buffers_of, current_begin, current_of, device_of, fault_of, held_len, next_place, noted_in, reserved_end, segment_size_of, start_of, synced_end, waiting_of, heads_of}
 use Rattle.sled_core.specs.Keeps.{SamePosition, start_sealed}
 use Rattle.sled_core.specs.OpenPlaces.{first_between}
 use Rattle.sled_core.specs.Fronts.{CameAround, syncs}
@@ -50,12 +52,12 @@ use Rattle.sled_log.proofs.Sessions.MadePages.{page_present}
 use Rattle.sled_log.specs.Made.{HasBlobIn, IsMade}
 use Rattle.sled_log.specs.declared.session.Phase.TheVariants.{Open}
 use Rattle.sled_log.specs.declared.session.opened.Opened.{Opened}
-use Rattle.sled_log.proofs.Sessions.Writing.{AreWhole, IsHeldBy, StaysPut, all_held, first_seen, flush_in, flush_out, if_held, next_start_seen, over, sealed_too, span_seen, still_open}
+use Rattle.sled_log.proofs.Sessions.Writing.{AreWhole, IsHeldBy, StaysPut, all_held, first_seen, flush_in, flush_out, if_held, next_start_seen, over, sealed_too, span_seen, still_open, kept_with, still_with}
 use Rattle.sled_log.specs.Readings.{IsOfPage, IsRead, KeepsOpen, ReadsEntries, ReadsItem, page_told}
 use Rattle.sled_log.specs.RunPhases.{IsOpenAt, Unstored, seen, seen_log, stands, traces}
-use Rattle.sled_log.specs.RunStates.{DeviceView, EndsInReach, LogView, RunState, current_span, first_waiting, held, is_present, next_start, opens, page_now, sealed_around, spans_without, start_around, top, with_log}
+use Rattle.sled_log.specs.RunStates.{DeviceView, EndsInReach, LogView, RunState, current_span, first_waiting, held, is_present, next_start, opens, page_now, sealed_around, spans_without, start_around, top, with_log, MarkAt, heads_at}
 use Rattle.sled_log.specs.ReadSteps.{FailsAt, ReadStep, ReadsAll, ReadsAt, held_around_place, holding_read, read_around, read_at, reading_around}
-use Rattle.sled_log.specs.WriteSteps.{IfHeld, IsWhy, ShowsBuffers, WritesSome, flushed}
+use Rattle.sled_log.specs.WriteSteps.{IfHeld, IsWhy, ShowsBuffers, WritesSome, flushed, headed}
 
 -- Buffers that have a place.
 
@@ -101,7 +103,7 @@ has_record log H end page m of =
 
 module _ {D C : Type 0} (log : Log D C) (sum : List ℕ → ℕ) (at begun : ℕ) (k : Unstored) (below : at < reserved_end log) where
   abbrev l : LogView
-  l = seen_log log begun k.tickets k.given_up
+  l = seen_log log begun k.tickets k.given_up k.heads
 
   -- what is reserved of the current buffer has bytes
   some_held : current_begin log ≤ at → 0 < held_len log
@@ -116,30 +118,30 @@ module _ {D C : Type 0} (log : Log D C) (sum : List ℕ → ℕ) (at begun : ℕ
   are_seen = by (nat_le (current_begin log) at) refl where
     by : (o : Bool) → nat_le (current_begin log) at ≡ o
         → spans (if o then buffers_of sum log else waiting_of log) ≡ (if o then spans (waiting_of log) ++ current_span l l.position ∷ [] else spans (waiting_of log))
-    by true is = shows_current sum log (some_held (grind (arith, nat_tests, is))) ∙ ap (λ (s : Span). spans (waiting_of log) ++ s ∷ []) (span_seen log sum begun k.tickets k.given_up)
+    by true is = shows_current sum log (some_held (grind (arith, nat_tests, is))) ∙ ap (λ (s : Span). spans (waiting_of log) ++ s ∷ []) (span_seen log sum begun k.tickets k.given_up k.heads)
     by false is = refl
 
   of_all : (P : BufferAt → Type 0) → All P (buffers_of sum log) → All P (sealed_at sum at log)
   of_all P all = by (nat_le (current_begin log) at) where
     by : (o : Bool) → All P (if o then buffers_of sum log else waiting_of log)
     by true = all
-    by false = sealed_too log sum begun k.tickets k.given_up P all
+    by false = sealed_too log sum begun k.tickets k.given_up k.heads P all
 
   are_held : All (IsHeldBy (opens l)) (sealed_at sum at log)
-  are_held = of_all (IsHeldBy (opens l)) (all_held log sum begun k.tickets k.given_up)
+  are_held = of_all (IsHeldBy (opens l)) (all_held log sum begun k.tickets k.given_up k.heads)
 
-  shows : AreWhole sum log k.given_up → ShowsBuffers sum (segment_size_of log) (opens l) k.given_up (sealed_around at l) (sealed_at sum at log)
+  shows : AreWhole sum log k.given_up k.heads → ShowsBuffers sum (segment_size_of log) (opens l) k.given_up k.heads (sealed_around at l) (sealed_at sum at log)
   shows whole = record {
     are = are_seen;
     long = of_all HasLength (shows_long sum log);
     held = are_held;
-    whole = of_all (λ b. b.held ≡ None → IsWholeBuffer sum (segment_size_of log) k.given_up b) whole;
+    whole = of_all (λ b. b.held ≡ None → IsWholeBuffer sum (segment_size_of log) k.given_up (map (headed sum) k.heads) b) whole;
   }
 
   start_seen : start_at at log ≡ start_around at l
   start_seen = by (nat_le (current_begin log) at) where
     by : (o : Bool) → (if o then start_sealed log else start_of log) ≡ (if o then next_start l l.position else start_of log)
-    by true = next_start_seen log sum begun k.tickets k.given_up
+    by true = next_start_seen log sum begun k.tickets k.given_up k.heads
     by false = refl
 
   without_around_seen : spans (without_around at (sealed_at sum at log)) ≡ spans_without at (sealed_around at l)
@@ -205,15 +207,15 @@ module _ {D C : Type 0} (trace : D → Trace) (sum : List ℕ → ℕ) (log : Lo
 
 -- One message is read.
 module _ {D C : Type 0} (view : D → DeviceView) (sum : List ℕ → ℕ) (old new : Log D C) (k : Unstored) (page : ℕ) (m : Message) (begun : ℕ) (of : IsOfPage k.history (reserved_end old) page m)
-    (records : fault_of old ≡ None → AreWhole sum old k.given_up) (position : StaysPut old new) where
+    (records : fault_of old ≡ None → AreWhole sum old k.given_up k.heads) (position : StaysPut old new) where
   abbrev at : ℕ
   at = read_at m
 
   abbrev before : LogView
-  before = seen_log old begun k.tickets k.given_up
+  before = seen_log old begun k.tickets k.given_up k.heads
 
   abbrev after : LogView
-  after = seen_log new begun k.tickets k.given_up
+  after = seen_log new begun k.tickets k.given_up (heads_at before (start_of new))
 
   abbrev old_view : DeviceView
   old_view = view (device_of old)
@@ -235,6 +237,7 @@ module _ {D C : Type 0} (view : D → DeviceView) (sum : List ℕ → ℕ) (old 
     outstanding = position.opens i;
     tickets = k.tickets;
     given_up = k.given_up;
+    heads = heads_at before (first i);
   }
 
   -- the calls that bring its place to the device
@@ -253,15 +256,15 @@ module _ {D C : Type 0} (view : D → DeviceView) (sum : List ℕ → ℕ) (old 
   ]
   why_at blobs error.OutOfMemory answers whole none =
       let unused = answers.1 in
-      (λ needs. needs.1 (flush_in old sum begun k.tickets k.given_up (λ used. unused ((let low = needs.0 in omega (arith, ints, low)), used))), answers.3, answers.4)
+      (λ needs. needs.1 (flush_in old sum begun k.tickets k.given_up k.heads (λ used. unused ((let low = needs.0 in omega (arith, ints, low)), used))), answers.3, answers.4)
   why_at blobs error.PlacesUsedUp answers whole none =
       let used = answers.1 in
-      (((let low = used.0 in omega (arith, ints, low)), flush_out old sum begun k.tickets k.given_up used.1), answers.3, answers.4)
+      (((let low = used.0 in omega (arith, ints, low)), flush_out old sum begun k.tickets k.given_up k.heads used.1), answers.3, answers.4)
   why_at blobs (error.Held place) answers whole none =
       let up = answers.1 in
       let unused = answers.2 in (
         (up.0, sym (holding_seen old sum at begun k of.read_below) ∙ up.1, up.2),
-        (λ needs. needs.1 (flush_in old sum begun k.tickets k.given_up (λ used. unused ((let low = needs.0 in omega (arith, ints, low)), used)))),
+        (λ needs. needs.1 (flush_in old sum begun k.tickets k.given_up k.heads (λ used. unused ((let low = needs.0 in omega (arith, ints, low)), used)))),
         answers.4,
         answers.5,
       )
@@ -346,7 +349,7 @@ module _ {D C : Type 0} (view : D → DeviceView) (sum : List ℕ → ℕ) (old 
     by true below =
         let low = writes.still (grind (arith, ints, nat_tests, below)) in
         leaves (spans (waiting_of old)) (start_of old) (fault_of old) (ap spans low.0) low.1 kept
-        ∙ (λ i. record { position = before.position; synced = sym (first_seen old) i; noted = sym (noted_still old ∙ ap (λ n. not_whole n (noted_in old)) (first_seen old)) i; end = before.end; waiting = before.waiting; start = before.start; begun = begun; fault = before.fault; outstanding = before.outstanding; tickets = k.tickets; given_up = k.given_up })
+        ∙ (λ i. record { position = before.position; synced = sym (first_seen old) i; noted = sym (noted_still old ∙ ap (λ n. not_whole n (noted_in old)) (first_seen old)) i; end = before.end; waiting = before.waiting; start = before.start; begun = begun; fault = before.fault; outstanding = before.outstanding; tickets = k.tickets; given_up = k.given_up; heads = heads_still before i })
     by false beyond =
         let high = writes.written (grind (arith, ints, nat_tests, beyond)) in
         leaves (spans_without at (sealed_around at before)) (start_around at before) (fault_of old)
@@ -379,7 +382,7 @@ reads_more sum size [] m l end old mid new is more = (
     free = subst (λ (x : LogView). holding_read x (read_at m) ≡ None) is.2 more.free;
     writes = record {
       buffers = more.writes.buffers;
-      shown = subst (λ (x : LogView). ShowsBuffers sum size (opens x) x.given_up (sealed_around (read_at m) x) more.writes.buffers) is.2 more.writes.shown;
+      shown = subst (λ (x : LogView). ShowsBuffers sum size (opens x) x.given_up x.heads (sealed_around (read_at m) x) more.writes.buffers) is.2 more.writes.shown;
       made = more.writes.made ∙ (λ i. after_all (reading_around (is.2 i) (read_at m) more.writes.buffers) (is.0 i));
     };
     failures = more.failures ∙ is.1;
@@ -408,7 +411,8 @@ pub record HasReadSome {D C : Type 0} (view : D → DeviceView) (sum : List ℕ 
   pub free : fault_of old ≡ None
   pub only : KeepsOpen (traces view) sum old now
   pub so_far : (k : Unstored) (ms : List Message) (begun : ℕ) → IsRead (traces view) sum old k → All (IsOfPage k.history (reserved_end old) page) ms → map entry_of ms ≡ entries
-      → AreRead sum (segment_size_of old) (seen_log old begun k.tickets k.given_up) ms rest (view (device_of old)) (view (device_of now)) items (seen_log now begun k.tickets k.given_up)
+      → (heads : List MarkAt) × AreAmong (heads_of now) (map (headed sum) heads)
+      × AreRead sum (segment_size_of old) (seen_log old begun k.tickets k.given_up k.heads) ms rest (view (device_of old)) (view (device_of now)) items (seen_log now begun k.tickets k.given_up heads)
 
 -- of what a page is that is present there is a first message
 first_there : (ms : List Message) → is_present ms ≡ true → (m : Message) × (rest : List Message) × (ms ≡ m ∷ rest)
@@ -422,13 +426,6 @@ fault_around l at = by (nat_lt at l.synced) where
   by true = refl
   by false = refl
 
--- a log that keeps no failure is seen as one of which nothing was written
-still_seen : {D C : Type 0} (log : Log D C) (begun : ℕ) (tickets : List (Option Message)) (given_up : List Message) → fault_of log ≡ None
-    → seen_log log begun tickets given_up ≡ flushed (seen_log log begun tickets given_up) (spans (waiting_of log)) (start_of log) None
-still_seen log begun tickets given_up none =
-    let l : LogView = seen_log log begun tickets given_up in
-    λ i. record l { synced = first_seen log i; noted = (noted_still log ∙ ap (λ n. not_whole n (noted_in log)) (first_seen log)) i; fault = none i }
-
 module _ {D C : Type 0} (view : D → DeviceView) (sum : List ℕ → ℕ) (old : Log D C) (page : ℕ) where
   -- nothing was done
   pub only_same : KeepsOpen (traces view) sum old old
@@ -438,21 +435,21 @@ module _ {D C : Type 0} (view : D → DeviceView) (sum : List ℕ → ℕ) (old 
   none_read entries free = record {
     free = free;
     only = only_same;
-    so_far = λ k ms begun is all are. record { done = []; left = ms; split = refl; entries = are; reads = (refl, refl, refl); items_are = refl; sound = free };
+    so_far = λ k ms begun is all are. (k.heads, is.heads, record { done = []; left = ms; split = refl; entries = are; reads = (refl, refl, refl); items_are = refl; sound = free });
   }
 
   -- for want of memory for the list of items
   pub unread : (entries : List Entry) → fault_of old ≡ None → ReadsEntries view sum old page entries old (Err error.OutOfMemory)
   unread entries free = record {
     only = only_same;
-    step = λ k ms begun a is all are present device log. inr (inl (free, sym device, λ i. record a { device = sym device i; log = sym log i }));
+    step = λ k ms begun a is all are present device log. (k.heads, is.heads, inr (inl (free, sym device, λ i. record a { device = sym device i; log = sym log i })));
   }
 
   -- or since the log keeps a failure
   pub kept_unread : (entries : List Entry) (x : IoError) → fault_of old ≡ Some x → ReadsEntries view sum old page entries old (Err (error.Io x))
   kept_unread entries x kept = record {
     only = only_same;
-    step = λ k ms begun a is all are present device log. inl (kept, sym device, λ i. record a { device = sym device i; log = sym log i });
+    step = λ k ms begun a is all are present device log. (k.heads, is.heads, inl (kept, sym device, λ i. record a { device = sym device i; log = sym log i }));
   }
 
   module _ (entries : List Entry) (mid : Log D C) (items : List (Vec ℕ Global)) where
@@ -465,13 +462,14 @@ module _ {D C : Type 0} (view : D → DeviceView) (sum : List ℕ → ℕ) (old 
       free = λ none. first.free (second.free none);
     }
 
-    is_read : (k : Unstored) → KeepsOpen (traces view) sum old mid → IsRead (traces view) sum old k → IsRead (traces view) sum mid k
-    is_read k only is = record {
+    is_read : (k : Unstored) (heads : List MarkAt) → AreAmong (heads_of mid) (map (headed sum) heads) → KeepsOpen (traces view) sum old mid → IsRead (traces view) sum old k → IsRead (traces view) sum mid (begun_with k heads)
+    is_read k heads among only is = record {
       made = is.made;
       zeros = is.zeros;
       unmarked = is.unmarked;
       fits = only.keeps.fits k.history k.acknowledged k.floor is.unmarked is.fits;
       given_up = λ m given. is.given_up m (only.tickets.given_up m given);
+      heads = among;
     }
 
     -- the next message, at the place that code has of its entry
@@ -507,12 +505,14 @@ module _ {D C : Type 0} (view : D → DeviceView) (sum : List ℕ → ℕ) (old 
       free = some.free;
       only = further new some.only reads.only;
       so_far = λ k ms begun is all are.
-          let came = some.so_far k ms begun is all are in
+          let so = some.so_far k ms begun is all are in
+          let heads : List MarkAt = so.0 in
+          let came = so.2 in
           let one = next k.history ms came.done came.left e rest came.split came.entries some.only.position all in
-          let l : LogView = seen_log old begun k.tickets k.given_up in
-          let now : LogView = seen_log mid begun k.tickets k.given_up in
-          let got = reads.item k one.message begun (is_read k some.only is) one.of one.place one.pointer in
-          record {
+          let l : LogView = seen_log old begun k.tickets k.given_up k.heads in
+          let now : LogView = seen_log mid begun k.tickets k.given_up heads in
+          let got = reads.item (begun_with k heads) one.message begun (is_read k heads so.1 some.only is) one.of one.place one.pointer in
+          (heads_at now (start_of new), heads_kept sum mid new begun k.tickets k.given_up heads reads.marked.heads so.1, record {
             done = came.done ++ one.message ∷ [];
             left = one.later;
             split = one.split ∙ sym (append_assoc came.done (one.message ∷ []) one.later);
@@ -522,7 +522,7 @@ module _ {D C : Type 0} (view : D → DeviceView) (sum : List ℕ → ℕ) (old 
                 (subst (λ n. ReadsAt sum n now (read_at one.message) (view (device_of mid)) (view (device_of new))) some.only.position.size got.2));
             items_are = map-append (λ (v : Vec ℕ Global). v.items) items (item ∷ []) ∙ (λ i. came.items_are i ++ got.0 i ∷ []) ∙ sym (map-append (λ (m : Message). m.bytes) came.done (one.message ∷ []));
             sound = ap (λ (x : LogView). x.fault) got.3 ∙ fault_around now (read_at one.message) ∙ came.sound;
-          };
+          });
     }
 
     pub one_failed : (new : Log D C) (e : Entry) (rest : List Entry) (why : Error) → HasReadSome view sum old page entries mid items (e ∷ rest) → ReadsItem view sum mid page (to_z w64 (of_z w64 e.0)) e.1 new (Err why)
@@ -530,38 +530,43 @@ module _ {D C : Type 0} (view : D → DeviceView) (sum : List ℕ → ℕ) (old 
     one_failed new e rest why some reads = record {
       only = further new some.only reads.only;
       step = λ k ms begun a is all are present device log.
-          let came = some.so_far k ms begun is all are in
+          let so = some.so_far k ms begun is all are in
+          let heads : List MarkAt = so.0 in
+          let came = so.2 in
           let one = next k.history ms came.done came.left e rest came.split came.entries some.only.position all in
-          let l : LogView = seen_log old begun k.tickets k.given_up in
-          let b : RunState = with_log a (view (device_of new)) (Some (seen_log new begun k.tickets k.given_up)) in
-          inr (inr (record {
+          let l : LogView = seen_log old begun k.tickets k.given_up k.heads in
+          let now : LogView = seen_log mid begun k.tickets k.given_up heads in
+          let b : RunState = with_log a (view (device_of new)) (Some (seen_log new begun k.tickets k.given_up (heads_at now (start_of new)))) in
+          (heads_at now (start_of new), heads_kept sum mid new begun k.tickets k.given_up heads reads.marked.heads so.1, inr (inr (record {
             done = came.done;
             message = one.message;
             rest = one.later;
             split = one.split;
             mid = view (device_of mid);
-            log = seen_log mid begun k.tickets k.given_up;
-            so_far = subst (λ (x : DeviceView). ReadsAll sum (segment_size_of old) l came.done x (view (device_of mid)) (seen_log mid begun k.tickets k.given_up)) (sym device) came.reads;
-            fails = subst (λ n. FailsAt sum n a (seen_log mid begun k.tickets k.given_up) (read_at one.message) why (view (device_of mid)) (view (device_of new)) b) some.only.position.size
-                (reads.item k one.message begun (is_read k some.only is) one.of one.place one.pointer came.sound a);
-          }));
+            log = now;
+            so_far = subst (λ (x : DeviceView). ReadsAll sum (segment_size_of old) l came.done x (view (device_of mid)) now) (sym device) came.reads;
+            fails = subst (λ n. FailsAt sum n a now (read_at one.message) why (view (device_of mid)) (view (device_of new)) b) some.only.position.size
+                (reads.item (begun_with k heads) one.message begun (is_read k heads so.1 some.only is) one.of one.place one.pointer came.sound a);
+          })));
     }
 
     pub all_read : (vs : Vec (Vec ℕ Global) Global) → vs.items ≡ items → HasReadSome view sum old page entries mid items [] → ReadsEntries view sum old page entries mid (Ok vs)
     all_read vs items_is some = record {
       only = some.only;
       step = λ k ms begun a is all are present device log.
-          let came = some.so_far k ms begun is all are in
-          let l : LogView = seen_log old begun k.tickets k.given_up in
+          let so = some.so_far k ms begun is all are in
+          let now : LogView = seen_log mid begun k.tickets k.given_up so.0 in
+          let came = so.2 in
+          let l : LogView = seen_log old begun k.tickets k.given_up k.heads in
           let done : ms ≡ came.done = came.split ∙ ap (λ xs. came.done ++ xs) (none_left came.left came.entries) ∙ append-nil came.done in
-          record {
+          (so.0, so.1, record {
             present = present;
             sound = some.free;
             items_are = ap (map (λ (v : Vec ℕ Global). v.items)) items_is ∙ came.items_are ∙ ap (map (λ m. m.bytes)) (sym done);
-            log = seen_log mid begun k.tickets k.given_up;
-            reads = subst (λ xs. ReadsAll sum (segment_size_of old) l xs a.device (view (device_of mid)) (seen_log mid begun k.tickets k.given_up)) (sym done) (subst (λ (x : DeviceView). ReadsAll sum (segment_size_of old) l came.done x (view (device_of mid)) (seen_log mid begun k.tickets k.given_up)) (sym device) came.reads);
+            log = now;
+            reads = subst (λ xs. ReadsAll sum (segment_size_of old) l xs a.device (view (device_of mid)) now) (sym done) (subst (λ (x : DeviceView). ReadsAll sum (segment_size_of old) l came.done x (view (device_of mid)) now) (sym device) came.reads);
             leads = refl;
-          };
+          });
     } where
       none_left : (left : List Message) → map entry_of left ≡ [] → left ≡ []
       none_left [] are = refl
@@ -611,11 +616,16 @@ page_found states seen page s p same lt at is =
 -- The messages of a page that is present are read, and the log stays open.
 module _ {D C : Type 0} (view : D → DeviceView) (sum : List ℕ → ℕ) (opened : Opened D C) (page : ℕ) (k : Unstored) (at : IsOpenAt (traces view) sum opened k) (new : Log D C) (base : Entry) (frags : List Entry) (r : Result (Vec (Vec ℕ Global) Global) Error)
     (has : get_or (map page_of opened.pages.items) page Uninitialized ≡ Present base frags) (reads : ReadsEntries view sum opened.log page (base ∷ frags) new r) where
-  pub page_read : ReadStep sum (segment_size_of opened.log) (stands view (Open opened) k) (seen opened k.tickets k.given_up) (page_now k.history page) (page_told r) (view (device_of new)) (stands view (Open (over opened new)) k)
+  -- what is kept in mind then
+  abbrev pub read_with : List MarkAt → Unstored
+  read_with = kept_with (traces view) sum opened new k k.acknowledged
+
+  pub page_read : (heads : List MarkAt) × AreAmong (heads_of new) (map (headed sum) heads)
+      × ReadStep sum (segment_size_of opened.log) (stands view (Open opened) k) (seen opened k.tickets k.given_up k.heads) (page_now k.history page) (page_told r) (view (device_of new)) (stands view (Open (over opened new)) (read_with heads))
   page_read =
       let present = page_present k.history (map page_of opened.pages.items) page base frags at.table has in
-      reads.step k (page_now k.history page) (length opened.pages.items) (stands view (Open opened) k) (record { made = at.made; zeros = at.zeros; unmarked = at.unmarked; fits = at.fits; given_up = at.given_up })
+      reads.step k (page_now k.history page) (length opened.pages.items) (stands view (Open opened) k) (record { made = at.made; zeros = at.zeros; unmarked = at.unmarked; fits = at.fits; given_up = at.given_up; heads = at.heads })
       (all_of_page k.history (reserved_end opened.log) page at.made at.ends) (sym present.entries) present.present refl refl
 
-  pub open_still : IsOpenAt (traces view) sum (over opened new) k
-  open_still = still_open (traces view) sum opened new k k.acknowledged at reads.only.tickets reads.only.position reads.only.free reads.only.keeps (reads.only.keeps.fits k.history k.acknowledged k.floor at.unmarked at.fits)
+  pub open_still : IsOpenAt (traces view) sum (over opened new) (read_with page_read.0)
+  open_still = still_with (traces view) sum opened new k k.acknowledged page_read.0 page_read.1 at reads.only.tickets reads.only.position reads.only.free reads.only.keeps (reads.only.keeps.fits k.history k.acknowledged k.floor at.unmarked at.fits)

@@ -17,7 +17,7 @@ use Rattle.sled_core.proofs.Holds.Facts.{current_facts}
 use Rattle.sled_core.proofs.Line.Targets.{LiesHere, LiesNext, lies}
 use Rattle.sled_core.proofs.PublicLaws.{current_count, current_least, shows_behind, target_above as put_above}
 use Rattle.sled_log.specs.RunPhases.{seen_log}
-use Rattle.sled_log.specs.RunStates.{EndsInReach, LogView, body_in, current_span, is_behind, next_start, start_with, target_in, waiting_with}
+use Rattle.sled_log.specs.RunStates.{EndsInReach, LogView, body_in, current_span, is_behind, next_start, start_with, target_in, waiting_with, MarkAt}
 use Rattle.sled_log.specs.TicketSteps.{IsFullOfOpen, opens_beside}
 use Rattle.sled_core.proofs.Holds.ReachLemmas.{position_past}
 
@@ -38,9 +38,9 @@ body_fits log n = by (in_blob (segment_size_of log) n) refl where
   by false is = grind (arith, nat_tests, is)
 
 -- What a reservation seals, and where its record is put.
-module _ {D C : Type 0} (log : Log D C) (begun : ℕ) (tickets : List (Option Message)) (given_up : List Message) (sum : List ℕ → ℕ) (page n : ℕ) (inline : FitsInline (segment_size_of log) n) where
+module _ {D C : Type 0} (log : Log D C) (begun : ℕ) (tickets : List (Option Message)) (given_up : List Message) (heads : List MarkAt) (sum : List ℕ → ℕ) (page n : ℕ) (inline : FitsInline (segment_size_of log) n) where
   abbrev l : LogView
-  l = seen_log log begun tickets given_up
+  l = seen_log log begun tickets given_up heads
 
   abbrev size : ℕ
   size = segment_size_of log

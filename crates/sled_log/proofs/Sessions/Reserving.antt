@@ -21,12 +21,16 @@ use Rattle.sled_store.specs.Blobs.{blob_bytes, making}
 use Rattle.sled_store.specs.Device.{Event, Trace, state_of}
 use Rattle.sled_store.specs.Script.{Performs, after_all}
 use Rattle.sled_store.proofs.Traces.ScriptLemmas.{performs_nothing}
+use Rattle.sled_log.specs.WriteSteps.{headed}
+use Rattle.sled_log.proofs.Sessions.BegunHeads.{begun_with, heads_kept}
+use Rattle.sled_core.specs.Heads.{heads_along}
 use Rattle.sled_core.specs.Begun.{SegmentView}
 use Rattle.sled_core.specs.declared.logger.Log.{Log}
 use Rattle.sled_core.specs.declared.reservation.Reservation.{Reservation}
 use Rattle.sled_core.specs.Buffers.{pointer_as}
-use Rattle.sled_core.specs.Fits.{Awaits, AwaitsIn, FitsInline, IsUnchanged, blob_at, body_length, config_of, device_of, fault_of, given_up_of, in_blob, in_blob_of, message_for, noted_in, open_places, pins_of, reserved_end, segment_size_of, target_of}
-use Rattle.sled_core.specs.GivenUp.{AreAmong, given_up_along}
+use Rattle.sled_core.specs.Fits.{Awaits, AwaitsIn, FitsInline, IsUnchanged, blob_at, body_length, config_of, device_of, fault_of, given_up_of, in_blob, in_blob_of, message_for, noted_in, open_places, pins_of, reserved_end, segment_size_of, target_of, heads_of, start_of}
+use Rattle.sled_core.specs.Among.{AreAmong}
+use Rattle.sled_core.specs.GivenUp.{given_up_along}
 use Rattle.sled_core.specs.Keeps.{KeepsSeen, Preserves}
 use Rattle.sled_core.specs.Logged.{in_log}
 use Rattle.sled_core.specs.Manifests.{kind_for, manifest_page}
@@ -48,7 +52,7 @@ use Rattle.sled_log.specs.declared.session.Phase.TheVariants as phase
 use Rattle.sled_log.specs.Made.{JoinsWithBlob}
 use Rattle.sled_log.specs.Reservations.{HasTried, HoldsTicket, MakesRoom, MayReserve}
 use Rattle.sled_log.specs.RunPhases.{HasBatch, IsOpenAt, IsSafe, Unstored, device_in, seen, seen_log, stands, traces}
-use Rattle.sled_log.specs.RunStates.{DeviceView, LogView, RunState, has_page, open_messages, target_in, top}
+use Rattle.sled_log.specs.RunStates.{DeviceView, LogView, RunState, has_page, open_messages, target_in, top, MarkAt, heads_at}
 use Rattle.sled_log.specs.Runs.{StaysRecoverable}
 use Rattle.sled_log.specs.TicketActs.{BlobActs, ReserveActs, making_for}
 use Rattle.sled_log.specs.TicketSteps.{HasRecordPlace, RefusedStep, ReserveStep, own_in}
@@ -110,9 +114,9 @@ making_by : (P : List Event → Type 0) (sum : List ℕ → ℕ) (kind : Option 
 making_by P sum None place bytes some each = cc
 making_by P sum (Some k) place bytes some each = each k refl
 
-module _ {D C : Type 0} (view : D → DeviceView) (sum : List ℕ → ℕ) (old new : Log D C) (kind : LogKind) (page : ℕ) (bytes : List ℕ) (begun : ℕ) (tickets : List (Option Message)) (given_up : List Message) where
+module _ {D C : Type 0} (view : D → DeviceView) (sum : List ℕ → ℕ) (old new : Log D C) (kind : LogKind) (page : ℕ) (bytes : List ℕ) (begun : ℕ) (tickets : List (Option Message)) (given_up : List Message) (heads : List MarkAt) where
   abbrev there : LogView
-  there = seen_log old begun tickets given_up
+  there = seen_log old begun tickets given_up heads
 
   abbrev goes : Bool
   goes = in_blob_of old (length bytes)
@@ -219,16 +223,16 @@ module _ {D C : Type 0} (view : D → DeviceView) (sum : List ℕ → ℕ) (old 
       let number : ℕ = length old.tickets.items in
       subst (λ r. HasTried view sum old kind page bytes new r k) (sym holds.told) (record {
         not_refused = refl;
-        acts = subst (λ (x : Log D C). ReserveActs sum (segment_size_of old.log) (seen old k.tickets k.given_up) kind page bytes (view old.log.config.device) (reply.Reserved number (place_of reservation) (pointer_of reservation)) (view x.config.device)) (sym holds.log)
-            (made_acts view sum old.log log kind page bytes (length old.pages.items) k.tickets k.given_up reservation number (place_of reservation) (pointer_of reservation) came);
-        tickets = with_ticket k its;
+        acts = subst (λ (x : Log D C). ReserveActs sum (segment_size_of old.log) (seen old k.tickets k.given_up k.heads) kind page bytes (view old.log.config.device) (reply.Reserved number (place_of reservation) (pointer_of reservation)) (view x.config.device)) (sym holds.log)
+            (made_acts view sum old.log log kind page bytes (length old.pages.items) k.tickets k.given_up k.heads reservation number (place_of reservation) (pointer_of reservation) came);
+        tickets = with_ticket k its (heads_at (seen old k.tickets k.given_up k.heads) (start_of new.log));
         step = held.reserved;
         at = held.at;
         crash = subst (λ (x : Log D C). StaysRecoverable sum (segment_size_of old.log) (stands view (phase.Open old) k) (traces view (device_of old.log)) (traces view (device_of x))) (sym holds.log) (going_on (traces view) sum old k at log came.keeps.goes_on);
       })
 
   -- A message of a page has a ticket then,
-  pub held_tried : ChangesPage kind → page < length old.busy.items → page ≢ manifest_page → MayReserve k.history (seen old k.tickets k.given_up) kind page → HasTried view sum old kind page bytes new result k
+  pub held_tried : ChangesPage kind → page < length old.busy.items → page ≢ manifest_page → MayReserve k.history (seen old k.tickets k.given_up k.heads) kind page → HasTried view sum old kind page bytes new result k
   held_tried changes small message may =
       tried_by (held_message view sum old new log long its reservation result k kept holds at inline changes (own_blob old.log k.history kind page bytes) small message may)
 
@@ -253,10 +257,10 @@ pub record StillHolds {D C : Type 0} (trace : D → Trace) (sum : List ℕ → �
   pub sound : fault_of new ≡ None → fault_of old ≡ None
   pub safe : (m : Message) → IsSafe trace sum old m → IsSafe trace sum new m
 
--- So does a session over it, with the same tickets and pages.
-pub still_at : {D C : Type 0} (trace : D → Trace) (sum : List ℕ → ℕ) (old new : Opened D C) (k : Unstored) → StillHolds trace sum old.log new.log → new.pages ≡ old.pages → new.tickets.items ≡ old.tickets.items
-    → ((page : ℕ) → get_or new.busy.items page false ≡ get_or old.busy.items page false) → new.batch ≡ old.batch → IsOpenAt trace sum old k → IsOpenAt trace sum new k
-still_at trace sum old new k still pages tickets busy batch at =
+-- So does a session over it, with the same tickets and pages, with the buffers that were begun.
+pub still_at : {D C : Type 0} (trace : D → Trace) (sum : List ℕ → ℕ) (old new : Opened D C) (k : Unstored) (heads : List MarkAt) → AreAmong (heads_of new.log) (map (headed sum) heads) → StillHolds trace sum old.log new.log → new.pages ≡ old.pages → new.tickets.items ≡ old.tickets.items
+    → ((page : ℕ) → get_or new.busy.items page false ≡ get_or old.busy.items page false) → new.batch ≡ old.batch → IsOpenAt trace sum old k → IsOpenAt trace sum new (begun_with k heads)
+still_at trace sum old new k heads among still pages tickets busy batch at =
     let up = still.grown in
     record {
       made = at.made;
@@ -292,6 +296,7 @@ still_at trace sum old new k still pages tickets busy batch at =
         batch = subst (HasBatch k.tickets) (sym batch) at.tickets.batch;
       };
       given_up = λ m given. at.given_up m (still.given_up m given);
+      heads = among;
       ends = All-weaker (λ m. m.place + m.size ≤ reserved_end old.log) (λ m. m.place + m.size ≤ reserved_end new.log) (λ m low. omega (arith, low, up)) k.history.messages at.ends;
     }
 
@@ -308,6 +313,10 @@ unchanged_holds trace sum old new unchanged keeps = record {
   sound = keeps.goes_on.sound;
   safe = λ m. safe_on trace sum old new m keeps.goes_on;
 }
+
+-- whose headers that aren't on the device are what they were,
+pub unchanged_heads : {D C : Type 0} (sum : List ℕ → ℕ) (old new : Log D C) (heads : List MarkAt) → IsUnchanged old new → AreAmong (heads_of old) (map (headed sum) heads) → AreAmong (heads_of new) (map (headed sum) heads)
+unchanged_heads sum old new heads unchanged among = λ h there. among h (subst (λ (l : List SegmentView). Contains (heads_along l) h) unchanged.line there)
 
 -- and one that was made ready for a record.
 ready_holds : {D C : Type 0} (trace : D → Trace) (sum : List ℕ → ℕ) (old new : Log D C) (page n : ℕ) → IsMadeReady sum old new page n → Preserves trace sum old new → StillHolds trace sum old new
@@ -342,6 +351,7 @@ unchanged_stands view old log k unchanged kept = λ i. record {
     outstanding = open_places_along (unchanged.line i);
     tickets = k.tickets;
     given_up = k.given_up;
+    heads = k.heads;
   });
 }
 
@@ -361,7 +371,7 @@ module _ {D C : Type 0} (view : D → DeviceView) (sum : List ℕ → ℕ) (old 
   n = body_length old.log (length bytes)
 
   abbrev l : LogView
-  l = seen old k.tickets k.given_up
+  l = seen old k.tickets k.given_up k.heads
 
   abbrev q : Position
   q = target_in size l page n
@@ -388,7 +398,7 @@ module _ {D C : Type 0} (view : D → DeviceView) (sum : List ℕ → ℕ) (old 
     acts = acts_same sum size l kind page bytes a.device now e (ap (λ x. view x.device) unchanged.config);
     tickets = k;
     step = inl (refused (stands view (phase.Open after) k) (unchanged_stands view old log k unchanged came.seen));
-    at = still_at (traces view) sum old after k (unchanged_holds (traces view) sum old.log log unchanged came.keeps) refl refl (λ p. refl) refl at;
+    at = still_at (traces view) sum old after k k.heads (unchanged_heads sum old.log log k.heads unchanged at.heads) (unchanged_holds (traces view) sum old.log log unchanged came.keeps) refl refl (λ p. refl) refl at;
     crash = going_on (traces view) sum old k at log came.keeps.goes_on;
   }
 
@@ -396,12 +406,12 @@ module _ {D C : Type 0} (view : D → DeviceView) (sum : List ℕ → ℕ) (old 
   ready_tried : (e : Error) → Came e → blob ≡ true → IsMadeReady sum old.log log page n → fault_of old.log ≡ None → BlobActs (making_for sum (kind_for kind page true 8) (pos q.place) bytes) l.fault a.device (reply.Failed e) now
       → HasRecordPlace size l q e → MadeAnswers {T = Unit {0}} (Err e) ((state_of a.device.trace).blobs.file (pos q.place)) (fault_of log) a.device.failures now.failures → HasTried view sum old kind page bytes after (reply.Failed e) k
   ready_tried e came is made none acts room cause =
-      let waiting = ap spans made.seals.0 ∙ waiting_seen old.log begun k.tickets k.given_up sum page n fits in
-      let start = made.seals.1 ∙ start_with_seen old.log begun k.tickets k.given_up sum page n fits in
+      let waiting = ap spans made.seals.0 ∙ waiting_seen old.log begun k.tickets k.given_up k.heads sum page n fits in
+      let start = made.seals.1 ∙ start_with_seen old.log begun k.tickets k.given_up k.heads sum page n fits in
       record {
         not_refused = refl;
         acts = either blob _ _ (λ goes. acts) (λ stays. (let clash : true ≡ false = sym is ∙ stays in cc));
-        tickets = k;
+        tickets = begun_with k (heads_at l (start_of log));
         step = inr (
           is,
           record {
@@ -426,11 +436,12 @@ module _ {D C : Type 0} (view : D → DeviceView) (sum : List ℕ → ℕ) (old 
                 outstanding = made.tickets.opens i;
                 tickets = k.tickets;
                 given_up = k.given_up;
+                heads = heads_at l (start i);
               });
             };
           },
         );
-        at = still_at (traces view) sum old after k (ready_holds (traces view) sum old.log log page n made came.keeps) refl refl (λ p. refl) refl at;
+        at = still_at (traces view) sum old after k (heads_at l (start_of log)) (heads_kept sum old.log log begun k.tickets k.given_up k.heads made.marked.heads at.heads) (ready_holds (traces view) sum old.log log page n made came.keeps) refl refl (λ p. refl) refl at;
         crash = going_on (traces view) sum old k at log came.keeps.goes_on;
       }
 
@@ -439,10 +450,10 @@ module _ {D C : Type 0} (view : D → DeviceView) (sum : List ℕ → ℕ) (old 
   blob_tried x came is made none = elim came.answers [
     | inl kept ↦ (let clash : None ≡ Some x = sym none ∙ kept.0 in cc)
     | inr refused ↦ (
-        let same = beside_count old.log begun k.tickets k.given_up sum page n fits in
+        let same = beside_count old.log begun k.tickets k.given_up k.heads sum page n fits in
         let less = refused.room.2 in
-        ready_tried (error.Io x) came is made none (failed_acts view sum old.log log kind page bytes begun k.tickets k.given_up x is none refused.room.0 came)
-        (in_reach old.log begun k.tickets k.given_up sum page n fits refused.room.1, omega (arith, same, less)) refused.refused)
+        ready_tried (error.Io x) came is made none (failed_acts view sum old.log log kind page bytes begun k.tickets k.given_up k.heads x is none refused.room.0 came)
+        (in_reach old.log begun k.tickets k.given_up k.heads sum page n fits refused.room.1, omega (arith, same, less)) refused.refused)
   ]
 
   pub failed_tried : (e : Error) → (kind_for kind page blob n ≡ None → ⊥) → Came e → HasTried view sum old kind page bytes after (reply.Failed e) k
@@ -453,11 +464,11 @@ module _ {D C : Type 0} (view : D → DeviceView) (sum : List ℕ → ℕ) (old 
   failed_tried error.OutOfMemory written came = elim came.left [
     | inl same ↦ unchanged_tried error.OutOfMemory came same (λ b is. (came.answers.0.0, is))
     | inr made ↦ (
-        ready_tried error.OutOfMemory came made.0 made.1 came.answers.0.0 (short_acts view sum old.log log kind page bytes begun k.tickets k.given_up made.0 came) tt (came.answers.0.1, came.answers.0.2))
+        ready_tried error.OutOfMemory came made.0 made.1 came.answers.0.0 (short_acts view sum old.log log kind page bytes begun k.tickets k.given_up k.heads made.0 came) tt (came.answers.0.1, came.answers.0.2))
   ]
-  failed_tried error.PlacesUsedUp written came = unchanged_tried error.PlacesUsedUp came came.left (λ b is. (came.answers.0.0, out_of_reach old.log begun k.tickets k.given_up sum page n fits came.answers.2, is))
+  failed_tried error.PlacesUsedUp written came = unchanged_tried error.PlacesUsedUp came came.left (λ b is. (came.answers.0.0, out_of_reach old.log begun k.tickets k.given_up k.heads sum page n fits came.answers.2, is))
   failed_tried (error.Held p) written came =
-      unchanged_tried (error.Held p) came came.left (λ b is. (beside_least old.log begun k.tickets k.given_up sum page n fits p came.answers.0.0 came.answers.3 came.answers.4, is))
+      unchanged_tried (error.Held p) came came.left (λ b is. (beside_least old.log begun k.tickets k.given_up k.heads sum page n fits p came.answers.0.0 came.answers.3 came.answers.4, is))
   failed_tried (error.Unsupported text) written came = absurd (written came.answers.1)
   failed_tried _ written came = absurd came.answers
 
@@ -465,7 +476,7 @@ module _ {D C : Type 0} (view : D → DeviceView) (sum : List ℕ → ℕ) (old 
 
 -- where only room was made all holds that did
 pub room_at : {D C : Type 0} (trace : D → Trace) (sum : List ℕ → ℕ) (old new : Opened D C) (k : Unstored) → MakesRoom old new → IsOpenAt trace sum old k → IsOpenAt trace sum new k
-room_at trace sum old new k room at = still_at trace sum old new k same room.pages room.tickets room.busy room.batch at where
+room_at trace sum old new k room at = still_at trace sum old new k k.heads (λ h there. at.heads h (subst (λ x. Contains (heads_of x) h) room.log there)) same room.pages room.tickets room.busy room.batch at where
   same : StillHolds trace sum old.log new.log
   same = record {
     fits = λ H A f U. subst (λ x. Fits trace sum x H A f U) (sym room.log);
@@ -484,21 +495,21 @@ pub by_room : {D C : Type 0} (old new : Opened D C) (P : Log D C → ℕ → Typ
 by_room old new P room holds = subst (λ p. P old.log (length p.items)) room.pages (subst (λ x. P x (length new.pages.items)) room.log holds)
 
 -- and a reservation comes to the same
-pub room_may : {D C : Type 0} (old new : Opened D C) (k : Unstored) (kind : LogKind) (page : ℕ) → MakesRoom old new → MayReserve k.history (seen old k.tickets k.given_up) kind page → MayReserve k.history (seen new k.tickets k.given_up) kind page
+pub room_may : {D C : Type 0} (old new : Opened D C) (k : Unstored) (kind : LogKind) (page : ℕ) → MakesRoom old new → MayReserve k.history (seen old k.tickets k.given_up k.heads) kind page → MayReserve k.history (seen new k.tickets k.given_up k.heads) kind page
 room_may old new k kind page room may =
-    subst (λ x. MayReserve k.history (seen_log x (length new.pages.items) k.tickets k.given_up) kind page) (sym room.log)
-    (subst (λ p. MayReserve k.history (seen_log old.log (length p.items) k.tickets k.given_up) kind page) (sym room.pages) may)
+    subst (λ x. MayReserve k.history (seen_log x (length new.pages.items) k.tickets k.given_up k.heads) kind page) (sym room.log)
+    (subst (λ p. MayReserve k.history (seen_log old.log (length p.items) k.tickets k.given_up k.heads) kind page) (sym room.pages) may)
 
 pub room_tried : {D C : Type 0} (view : D → DeviceView) (sum : List ℕ → ℕ) (old mid new : Opened D C) (kind : LogKind) (page : ℕ) (bytes : List ℕ) (result : Reply) (k : Unstored) → MakesRoom old mid
     → HasTried view sum mid kind page bytes new result k → HasTried view sum old kind page bytes new result k
 room_tried {D = D} {C = C} view sum old mid new kind page bytes result k room tried =
     let now : DeviceView = device_in view (phase.Open new) in
-    let run : Log D C → ℕ → RunState = λ x begun. record { device = view x.config.device; history = k.history; acknowledged = k.acknowledged; floor = k.floor; log = Some (seen_log x begun k.tickets k.given_up) } in
+    let run : Log D C → ℕ → RunState = λ x begun. record { device = view x.config.device; history = k.history; acknowledged = k.acknowledged; floor = k.floor; log = Some (seen_log x begun k.tickets k.given_up k.heads) } in
     record {
       not_refused = tried.not_refused;
-      acts = by_room old mid (λ x begun. ReserveActs sum (segment_size_of x) (seen_log x begun k.tickets k.given_up) kind page bytes (view x.config.device) result now) room tried.acts;
+      acts = by_room old mid (λ x begun. ReserveActs sum (segment_size_of x) (seen_log x begun k.tickets k.given_up k.heads) kind page bytes (view x.config.device) result now) room tried.acts;
       tickets = tried.tickets;
-      step = by_room old mid (λ x begun. ReserveStep (segment_size_of x) (run x begun) (seen_log x begun k.tickets k.given_up) kind page bytes result now (stands view (phase.Open new) tried.tickets)) room tried.step;
+      step = by_room old mid (λ x begun. ReserveStep (segment_size_of x) (run x begun) (seen_log x begun k.tickets k.given_up k.heads) kind page bytes result now (stands view (phase.Open new) tried.tickets)) room tried.step;
       at = tried.at;
       crash = by_room old mid (λ x begun. StaysRecoverable sum (segment_size_of x) (run x begun) (view x.config.device).trace now.trace) room tried.crash;
     }
@@ -510,7 +521,7 @@ room_stands view old new k room = λ i. record {
   history = k.history;
   acknowledged = k.acknowledged;
   floor = k.floor;
-  log = Some (seen_log (room.log i) (length (room.pages i).items) k.tickets k.given_up);
+  log = Some (seen_log (room.log i) (length (room.pages i).items) k.tickets k.given_up k.heads);
 }
 
 -- without room for a ticket
@@ -518,7 +529,7 @@ pub roomless_tried : {D C : Type 0} (view : D → DeviceView) (sum : List ℕ �
     → HasTried view sum old kind page bytes new (reply.Failed error.OutOfMemory) k
 roomless_tried view sum old new kind page bytes k room whole at = record {
   not_refused = refl;
-  acts = acts_same sum (segment_size_of old.log) (seen old k.tickets k.given_up) kind page bytes (device_in view (phase.Open old)) (device_in view (phase.Open new)) error.OutOfMemory (ap (λ x. view x.config.device) room.log);
+  acts = acts_same sum (segment_size_of old.log) (seen old k.tickets k.given_up k.heads) kind page bytes (device_in view (phase.Open old)) (device_in view (phase.Open new)) error.OutOfMemory (ap (λ x. view x.config.device) room.log);
   tickets = k;
   step = inl (whole, room_stands view old new k room);
   at = room_at (traces view) sum old new k room at;

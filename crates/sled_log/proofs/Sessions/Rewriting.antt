@@ -18,7 +18,7 @@ use Rattle.sled_store.proofs.Segments.TableEntries.{from_table}
 use Rattle.sled_core.specs.declared.logger.Log.{Log}
 use Rattle.sled_core.specs.declared.reservation.Reservation.{Reservation}
 use Rattle.sled_core.specs.Causes.{RewriteAnswers}
-use Rattle.sled_core.specs.Fits.{Awaits, FitsInline, IsLeastOpen, IsUnchanged, IsUsedUpFor, KeepsAll, fault_of, message_rewriting, next_place, open_for, segment_size_of, target_of}
+use Rattle.sled_core.specs.Fits.{Awaits, FitsInline, IsLeastOpen, IsUnchanged, IsUsedUpFor, KeepsAll, fault_of, message_rewriting, next_place, open_for, segment_size_of, target_of, start_of}
 use Rattle.sled_core.specs.Keeps.{KeepsSeen, Preserves}
 use Rattle.sled_core.specs.Manifests.{manifest_page}
 use Rattle.sled_core.specs.Reserves.{StandsBehind}
@@ -35,13 +35,13 @@ use Rattle.sled_log.specs.Made.{HasBlobIn, IsMade, JoinsWithBlob}
 use Rattle.sled_log.specs.Refusals.{has_no_blob, is_busy, reason_of, refusal_for}
 use Rattle.sled_log.specs.Reservations.{HoldsTicket, MakesRoom}
 use Rattle.sled_log.specs.RunPhases.{Does, IsOpenAt, Unstored, device_in, seen, seen_log, stands, traces}
-use Rattle.sled_log.specs.RunStates.{DeviceView, RunState, blob_in, is_present, one_blob, page_now, target_in, top}
+use Rattle.sled_log.specs.RunStates.{DeviceView, RunState, blob_in, is_present, one_blob, page_now, target_in, top, heads_at}
 use Rattle.sled_log.specs.TicketSteps.{RefusedStep, RewriteStep, own_of}
 use Rattle.sled_log.proofs.Sessions.Carried.{passes, stepping}
 use Rattle.sled_log.proofs.Sessions.KeptPlaces.{KeptPlace, held_message, over_log, with_ticket}
 use Rattle.sled_log.proofs.Sessions.MadeHistories.{of_page_same}
 use Rattle.sled_log.proofs.Sessions.ReservedPlaces.{beside_least, out_of_reach}
-use Rattle.sled_log.proofs.Sessions.Reserving.{by_room, room_at, room_stands, still_at, unchanged_holds, unchanged_stands}
+use Rattle.sled_log.proofs.Sessions.Reserving.{by_room, room_at, room_stands, still_at, unchanged_heads, unchanged_holds, unchanged_stands}
 use Rattle.sled_log.proofs.Sessions.Within.{untouched}
 
 -- only a Replace begins a page with something on it
@@ -128,7 +128,7 @@ pub record HasTriedAgain {D C : Type 0} (view : D → DeviceView) (sum : List �
   pub not_refused : reason_of result ≡ None
   pub device : device_in view (Open new) ≡ device_in view (Open old)
   pub tickets : Unstored
-  pub step : RewriteStep (segment_size_of old.log) (stands view (Open old) k) (seen old k.tickets k.given_up) page result (device_in view (Open new)) (stands view (Open new) tickets)
+  pub step : RewriteStep (segment_size_of old.log) (stands view (Open old) k) (seen old k.tickets k.given_up k.heads) page result (device_in view (Open new)) (stands view (Open new) tickets)
   pub at : IsOpenAt (traces view) sum new tickets
 
 -- It is what the command comes to.
@@ -147,11 +147,11 @@ rewrite_does view sum old page new result k at tried =
 
 -- Where it isn't refused, the page is one item in a blob and has no open ticket.
 pub rewrite_may : {D C : Type 0} (view : D → DeviceView) (old : Opened D C) (k : Unstored) (page : ℕ) → refusal_for (stands view (Open old) k) (command.Rewrite page) ≡ None
-    → (has_no_blob k.history page ≡ false) × (is_busy (seen old k.tickets k.given_up) page ≡ false)
+    → (has_no_blob k.history page ≡ false) × (is_busy (seen old k.tickets k.given_up k.heads) page ≡ false)
 rewrite_may view old k page free =
     let first = passes _ _ _ free in
     let blob = passes (has_no_blob k.history page) _ _ first.1 in
-    (blob.0, (passes (is_busy (seen old k.tickets k.given_up) page) _ _ blob.1).0)
+    (blob.0, (passes (is_busy (seen old k.tickets k.given_up k.heads) page) _ _ blob.1).0)
 
 -- Room for its ticket is made first.
 module _ {D C : Type 0} (view : D → DeviceView) (sum : List ℕ → ℕ) (old mid : Opened D C) (k : Unstored) (page : ℕ) (room : MakesRoom old mid) (at : IsOpenAt (traces view) sum old k) where
@@ -159,12 +159,12 @@ module _ {D C : Type 0} (view : D → DeviceView) (sum : List ℕ → ℕ) (old 
   over_room : (new : Opened D C) (result : Reply) → HasTriedAgain view sum mid page new result k → HasTriedAgain view sum old page new result k
   over_room new result tried =
       let now : DeviceView = device_in view (Open new) in
-      let run : Log D C → ℕ → RunState = λ x begun. record { device = view x.config.device; history = k.history; acknowledged = k.acknowledged; floor = k.floor; log = Some (seen_log x begun k.tickets k.given_up) } in
+      let run : Log D C → ℕ → RunState = λ x begun. record { device = view x.config.device; history = k.history; acknowledged = k.acknowledged; floor = k.floor; log = Some (seen_log x begun k.tickets k.given_up k.heads) } in
       record {
         not_refused = tried.not_refused;
         device = tried.device ∙ ap (λ x. view x.config.device) room.log;
         tickets = tried.tickets;
-        step = by_room old mid (λ x begun. RewriteStep (segment_size_of x) (run x begun) (seen_log x begun k.tickets k.given_up) page result now (stands view (Open new) tried.tickets)) room tried.step;
+        step = by_room old mid (λ x begun. RewriteStep (segment_size_of x) (run x begun) (seen_log x begun k.tickets k.given_up k.heads) page result now (stands view (Open new) tried.tickets)) room tried.step;
         at = tried.at;
       }
 
@@ -190,11 +190,11 @@ module _ {D C : Type 0} (view : D → DeviceView) (sum : List ℕ → ℕ) (old 
 
     -- A log that kept no place is as it was.
     refused_step : (a b : RunState) (e : Error) → b ≡ a → RewriteAnswers {T = Reservation} (Err e) (fault_of mid.log) (IsUsedUpFor mid.log page 8) (open_for mid.log page 8) (IsLeastOpen mid.log)
-        → RefusedStep (segment_size_of mid.log) a (seen mid k.tickets k.given_up) (target_in (segment_size_of mid.log) (seen mid k.tickets k.given_up) page 8) e b
+        → RefusedStep (segment_size_of mid.log) a (seen mid k.tickets k.given_up k.heads) (target_in (segment_size_of mid.log) (seen mid k.tickets k.given_up k.heads) page 8) e b
     refused_step a b (error.Io x) is answers = (answers, is)
     refused_step a b error.OutOfMemory is answers = (answers.0, is)
-    refused_step a b error.PlacesUsedUp is answers = (answers.0, out_of_reach mid.log (length mid.pages.items) k.tickets k.given_up sum page 8 eight answers.1, is)
-    refused_step a b (error.Held p) is answers = (beside_least mid.log (length mid.pages.items) k.tickets k.given_up sum page 8 eight p answers.0 answers.2 answers.3, is)
+    refused_step a b error.PlacesUsedUp is answers = (answers.0, out_of_reach mid.log (length mid.pages.items) k.tickets k.given_up k.heads sum page 8 eight answers.1, is)
+    refused_step a b (error.Held p) is answers = (beside_least mid.log (length mid.pages.items) k.tickets k.given_up k.heads sum page 8 eight p answers.0 answers.2 answers.3, is)
     refused_step a b _ is answers = absurd answers
 
     pub failed_again : (e : Error) → RewriteAnswers {T = Reservation} (Err e) (fault_of mid.log) (IsUsedUpFor mid.log page 8) (open_for mid.log page 8) (IsLeastOpen mid.log) → IsUnchanged mid.log log
@@ -204,7 +204,7 @@ module _ {D C : Type 0} (view : D → DeviceView) (sum : List ℕ → ℕ) (old 
       device = ap (λ x. view x.device) same.config;
       tickets = k;
       step = refused_step (stands view (Open mid) k) (stands view (Open (over_log mid log)) k) e (unchanged_stands view mid log k unchanged kept_seen) answers;
-      at = still_at (traces view) sum mid (over_log mid log) k (unchanged_holds (traces view) sum mid.log log unchanged keeps) refl refl (λ p. refl) refl at_mid;
+      at = still_at (traces view) sum mid (over_log mid log) k k.heads (unchanged_heads sum mid.log log k.heads unchanged at_mid.heads) (unchanged_holds (traces view) sum mid.log log unchanged keeps) refl refl (λ p. refl) refl at_mid;
     })
 
     -- The place that it kept has a ticket.
@@ -238,14 +238,14 @@ module _ {D C : Type 0} (view : D → DeviceView) (sum : List ℕ → ℕ) (old 
       }
 
       pub held_again : (new : Opened D C) (result : Reply) → HoldsTicket (over_log mid log) new does.Replace page reservation result → page < length mid.busy.items → page ≢ manifest_page
-          → is_busy (seen old k.tickets k.given_up) page ≡ false → HasTriedAgain view sum old page new result k
+          → is_busy (seen old k.tickets k.given_up k.heads) page ≡ false → HasTriedAgain view sum old page new result k
       held_again new result holds small message idle =
           let held = held_message view sum mid new log 8 its reservation result k kept holds at_mid eight (inl refl) (rewriting_joins (traces view) sum mid k at_mid page blob its_one) small message
           (record { known = inr (one_present (page_now k.history page) blob its_one); idle = idle; few = λ is. cc }) in
           over_room new result (subst (λ r. HasTriedAgain view sum mid page new r k) (sym holds.told) (record {
             not_refused = refl;
             device = ap (λ x. view x.config.device) holds.log ∙ ap (λ x. view x.device) same.config;
-            tickets = with_ticket k its;
+            tickets = with_ticket k its (heads_at (seen mid k.tickets k.given_up k.heads) (start_of new.log));
             step = record { message = its_one.message; is = its_one.is; blob = blob; there = ap one_blob (sym its_one.is) ∙ one; reserved = held.reserved };
             at = held.at;
           }))

@@ -105,7 +105,7 @@ module _ (sum : List ℕ → ℕ) (size : ℕ) where
       subst (λ (t : Trace). LeavesRecoverable sum size H A f (state_of t)) (sym is) (crashed_leaves H A f left (state_of old) (leaves (content_left left (state_of old)) may own))
 
   -- An empty device, no log on it.
-  pub fresh_closed : 256 ≤ size → size < 2 ^ 63 → (trace : Trace) → state_of trace ≡ fresh → IsClosedAt sum size trace (record { history = no_history; acknowledged = 0; floor = 0; tickets = []; given_up = [] })
+  pub fresh_closed : 256 ≤ size → size < 2 ^ 63 → (trace : Trace) → state_of trace ≡ fresh → IsClosedAt sum size trace (record { history = no_history; acknowledged = 0; floor = 0; tickets = []; given_up = []; heads = [] })
   fresh_closed large small trace is = record { made = none_made; left = subst (LeavesRecoverable sum size no_history 0 0) (sym is) (fresh_leaves sum size large small) }
 
 -- what was chosen of a crash, or what was settled, a crash may leave

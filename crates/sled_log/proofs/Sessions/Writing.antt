@@ -15,12 +15,14 @@ use Rattle.sled_store.specs.Accounts.{machine_of}
 use Rattle.sled_store.specs.Blobs.{UnlessFault}
 use Rattle.sled_store.specs.Device.{Event, Trace}
 use Rattle.sled_store.specs.Script.{Performs, after_all}
+use Rattle.sled_log.proofs.Sessions.BegunHeads.{HasOnlyBegun, heads_kept, heads_still}
+use Rattle.sled_core.specs.Heads.{HeadAt}
 use Rattle.sled_core.specs.Begun.{begin_of, segment_view}
 use Rattle.sled_core.specs.Causes.{Answers, HeldAnswers, IsHeld, OnDone}
 use Rattle.sled_core.specs.declared.logger.Log.{Log}
-use Rattle.sled_core.specs.Fits.{FirstWaits, IsUsedUp, IsUsedUpBelow, KeepsTickets, buffers_of, current_begin, current_of, device_of, fault_of, given_up_of, held_len, holding_below, noted_in, open_places, pending_of, position_of, reserved_end, sealing_end, segment_size_of, stable_end, start_of, synced_end, waiting_of, writing_below}
+use Rattle.sled_core.specs.Fits.{FirstWaits, IsUsedUp, IsUsedUpBelow, KeepsTickets, buffers_of, current_begin, current_of, device_of, fault_of, given_up_of, held_len, holding_below, noted_in, open_places, pending_of, position_of, reserved_end, sealing_end, segment_size_of, stable_end, start_of, synced_end, waiting_of, writing_below, heads_of}
 use Rattle.sled_core.specs.Fronts.{CameTo, syncs}
-use Rattle.sled_core.specs.GivenUp.{AreAmong}
+use Rattle.sled_core.specs.Among.{AreAmong}
 use Rattle.sled_core.specs.Keeps.{LeavesAbove, Preserves, SamePosition, sealed_for, start_for, start_sealed}
 use Rattle.sled_core.specs.OpenPlaces.{first_between}
 use Rattle.sled_core.specs.Positions.{next_segment_at, is_short}
@@ -41,10 +43,10 @@ use Rattle.sled_core.proofs.Reached.OpenBatch.{whole_not}
 use Rattle.sled_log.specs.declared.session.opened.Opened.{Opened}
 use Rattle.sled_log.specs.declared.session.command.Refusal.{Refusal}
 use Rattle.sled_log.specs.Refusals.{when}
-use Rattle.sled_log.specs.RunPhases.{IsOpenAt, IsTicketFor, Unstored, seen_log}
-use Rattle.sled_log.specs.WriteSteps.{FailsTo, HasWrittenTo, IfHeld, IsWhy, KeepsFailing, ShowsBuffers, flushed, holding, left_from, stable_from, synced_from, writes_free, written_below}
+use Rattle.sled_log.specs.RunPhases.{IsOpenAt, IsTicketFor, Unstored, seen_log, seen}
+use Rattle.sled_log.specs.WriteSteps.{FailsTo, HasWrittenTo, IfHeld, IsWhy, KeepsFailing, ShowsBuffers, flushed, holding, left_from, stable_from, synced_from, writes_free, written_below, headed}
 use Rattle.sled_log.proofs.Sessions.SafeItems.{safe_on}
-use Rattle.sled_log.specs.RunStates.{DeviceView, EndsInReach, LogView, RunState, count_unheld, current_span, first_waiting, held, held_among, next_start, opens, pending_in_view, sealed_below, spans_below, spans_from, start_below, with_log, without_unheld}
+use Rattle.sled_log.specs.RunStates.{DeviceView, EndsInReach, LogView, RunState, count_unheld, current_span, first_waiting, held, held_among, next_start, opens, pending_in_view, sealed_below, spans_below, spans_from, start_below, with_log, without_unheld, MarkAt, heads_at}
 
 -- The next record of a log begins where it did, what was reserved ends there, and the same reservations are open.
 pub record StaysPut {D C : Type 0} (old new : Log D C) : Type 0 where
@@ -72,25 +74,32 @@ more_records sum number these all among place (r ∷ rs) are = (
   more_records sum number these all among (place + length (short_record sum r.kind r.page number r.body)) rs are.1,
 )
 
-more_given : (sum : List ℕ → ℕ) (size : ℕ) (these all : List Message) (b : BufferAt) → AreAmong these all → IsWholeBuffer sum size these b → IsWholeBuffer sum size all b
-more_given sum size these all b among whole = record {
+more_given : (sum : List ℕ → ℕ) (size : ℕ) (these all : List Message) (fewer heads : List HeadAt) (b : BufferAt) → AreAmong these all → AreAmong fewer heads → IsWholeBuffer sum size these fewer b → IsWholeBuffer sum size all heads b
+more_given sum size these all fewer heads b among further whole = record {
   head = whole.head;
   records = whole.records;
   rest = whole.rest;
   is = whole.is;
-  headed = whole.headed;
+  headed = elim whole.headed [
+    | inl first ↦ inl (first.0, further (record { place = b.place; bytes = whole.head }) first.1, first.2, first.3, first.4)
+    | inr behind ↦ inr behind
+  ];
   canceled = more_records sum (b.place / size) these all among (b.place + length whole.head) whole.records whole.canceled;
   filled = whole.filled;
 }
 
--- Each buffer of a log that nothing holds up is whole records, those of messages that were given up with the bodies of these,
-abbrev pub AreWhole : {D C : Type 0} → (List ℕ → ℕ) → Log D C → List Message → Type 0
-AreWhole sum log given_up = All (λ b. b.held ≡ None → IsWholeBuffer sum (segment_size_of log) given_up b) (buffers_of sum log)
+-- Each buffer of a log that nothing holds up is whole records, those of messages that were given up with the bodies of these, and headers with the marks that
+-- their segments were begun with,
+abbrev pub AreWhole : {D C : Type 0} → (List ℕ → ℕ) → Log D C → List Message → List MarkAt → Type 0
+AreWhole sum log given_up heads = All (λ b. b.held ≡ None → IsWholeBuffer sum (segment_size_of log) given_up (map (headed sum) heads) b) (buffers_of sum log)
 
--- where it fits a history and keeps no failure, and what it counts as given up was.
-pub whole_of : {D C : Type 0} (trace : D → Trace) (sum : List ℕ → ℕ) (log : Log D C) (given_up : List Message) (H : History) (A f : ℕ) (U : List Message) → AreAmong (given_up_of log) given_up → Fits trace sum log H A f U → fault_of log ≡ None → AreWhole sum log given_up
-whole_of trace sum log given_up H A f U among fits none = All-weaker (λ b. b.held ≡ None → IsWholeBuffer sum (segment_size_of log) (given_up_of log) b) (λ b. b.held ≡ None → IsWholeBuffer sum (segment_size_of log) given_up b)
-    (λ b whole free. more_given sum (segment_size_of log) (given_up_of log) given_up b among (whole free)) (buffers_of sum log) (buffers_whole trace sum log H (fits_holds trace sum log H A f U fits) none)
+-- where it fits a history and keeps no failure, what it counts as given up was, and its headers that aren't on the device were begun so.
+pub whole_of : {D C : Type 0} (trace : D → Trace) (sum : List ℕ → ℕ) (log : Log D C) (given_up : List Message) (heads : List MarkAt) (H : History) (A f : ℕ) (U : List Message) → AreAmong (given_up_of log) given_up → AreAmong (heads_of log) (map (headed sum) heads)
+    → Fits trace sum log H A f U → fault_of log ≡ None → AreWhole sum log given_up heads
+whole_of trace sum log given_up heads H A f U among marked fits none =
+    let marks : List HeadAt = map (headed sum) heads in
+    All-weaker (λ b. b.held ≡ None → IsWholeBuffer sum (segment_size_of log) (given_up_of log) (heads_of log) b) (λ b. b.held ≡ None → IsWholeBuffer sum (segment_size_of log) given_up marks b)
+    (λ b whole free. more_given sum (segment_size_of log) (given_up_of log) given_up (heads_of log) marks b among marked (whole free)) (buffers_of sum log) (buffers_whole trace sum log H (fits_holds trace sum log H A f U fits) none)
 
 -- Buffers as they are seen.
 
@@ -196,9 +205,9 @@ first_seen log = by (waiting_of log) (first_waits log) where
   by [] is = is
   by (b ∷ bs) is = is
 
-module _ {D C : Type 0} (log : Log D C) (sum : List ℕ → ℕ) (begun : ℕ) (tickets : List (Option Message)) (given_up : List Message) where
+module _ {D C : Type 0} (log : Log D C) (sum : List ℕ → ℕ) (begun : ℕ) (tickets : List (Option Message)) (given_up : List Message) (heads : List MarkAt) where
   abbrev pub l : LogView
-  l = seen_log log begun tickets given_up
+  l = seen_log log begun tickets given_up heads
 
   abbrev size : ℕ
   size = segment_size_of log
@@ -276,8 +285,8 @@ module _ {D C : Type 0} (log : Log D C) (sum : List ℕ → ℕ) (begun : ℕ) (
   pub waiting_held : All (IsHeldBy (opens l)) (waiting_of log)
   waiting_held = sealed_too (IsHeldBy (opens l)) all_held
 
-  pub shows_waiting : AreWhole sum log given_up → ShowsBuffers sum size (opens l) given_up l.waiting (waiting_of log)
-  shows_waiting whole = record { are = refl; long = sealed_too HasLength (shows_long sum log); held = waiting_held; whole = sealed_too (λ b. b.held ≡ None → IsWholeBuffer sum size given_up b) whole }
+  pub shows_waiting : AreWhole sum log given_up heads → ShowsBuffers sum size (opens l) given_up heads l.waiting (waiting_of log)
+  shows_waiting whole = record { are = refl; long = sealed_too HasLength (shows_long sum log); held = waiting_held; whole = sealed_too (λ b. b.held ≡ None → IsWholeBuffer sum size given_up (map (headed sum) heads) b) whole }
 
   pub pending_seen : pending_of log ≡ pending_in_view l
   pending_seen = count_seen (opens l) (waiting_of log) waiting_held
@@ -288,7 +297,7 @@ module _ {D C : Type 0} (log : Log D C) (sum : List ℕ → ℕ) (begun : ℕ) (
     before = record { device = device; history = H; acknowledged = A; floor = f; log = Some l }
 
     abbrev pub after : ℕ → RunState
-    after reached = record { device = now; history = H; acknowledged = reached; floor = f; log = Some (seen_log new begun tickets given_up) }
+    after reached = record { device = now; history = H; acknowledged = reached; floor = f; log = Some (seen_log new begun tickets given_up (heads_at l (start_of new))) }
 
     pub leaves : (waiting : List Span) (start : BufferStart) (fault : Option IoError) → spans (waiting_of new) ≡ waiting → start_of new ≡ start → fault_of new ≡ fault
         → after A ≡ with_log before now (Some (flushed l waiting start fault))
@@ -300,7 +309,7 @@ module _ {D C : Type 0} (log : Log D C) (sum : List ℕ → ℕ) (begun : ℕ) (
           history = H;
           acknowledged = A;
           floor = f;
-          log = Some (record { position = position.position i; synced = synced i; noted = noted i; end = position.reserved i; waiting = left i; start = from i; begun = begun; fault = kept i; outstanding = position.opens i; tickets = tickets; given_up = given_up });
+          log = Some (record { position = position.position i; synced = synced i; noted = noted i; end = position.reserved i; waiting = left i; start = from i; begun = begun; fault = kept i; outstanding = position.opens i; tickets = tickets; given_up = given_up; heads = heads_at l (from i) });
         }
 
   -- Once what begins below a place is sealed.
@@ -344,12 +353,12 @@ module _ {D C : Type 0} (log : Log D C) (sum : List ℕ → ℕ) (begun : ℕ) (
       abbrev pub its_buffers : List BufferAt
       its_buffers = begun_below to (buffers_of sum log)
 
-      pub shows_below : AreWhole sum log given_up → ShowsBuffers sum size (opens l) given_up (written_below to l) its_buffers
+      pub shows_below : AreWhole sum log given_up heads → ShowsBuffers sum size (opens l) given_up heads (written_below to l) its_buffers
       shows_below whole = record {
         are = flushed_seen;
         long = below_all HasLength to (buffers_of sum log) (shows_long sum log);
         held = below_all (IsHeldBy (opens l)) to (buffers_of sum log) all_held;
-        whole = below_all (λ b. b.held ≡ None → IsWholeBuffer sum size given_up b) to (buffers_of sum log) whole;
+        whole = below_all (λ b. b.held ≡ None → IsWholeBuffer sum size given_up (map (headed sum) heads) b) to (buffers_of sum log) whole;
       }
 
       pub holding_seen : holding_below sum log to ≡ holding to l
@@ -374,7 +383,7 @@ module _ {D C : Type 0} (log : Log D C) (sum : List ℕ → ℕ) (begun : ℕ) (
           pub stable_seen : LeavesAbove sum to log new → stable_end new ≡ stable_from to l
           stable_seen above = let ends = synced_seen above in let noted = noted_seen above in λ i. stable_below (ends i) (noted i)
 
-          pub has_written : AreWhole sum log given_up → (n : ℕ) → fault_of log ≡ None → fault_of new ≡ None → (IsUsedUpBelow log to → ⊥) → holding_below sum log to ≡ None → now.trace ≡ after_all (writes_free its_buffers) device.trace → now.failures ≡ device.failures
+          pub has_written : AreWhole sum log given_up heads → (n : ℕ) → fault_of log ≡ None → fault_of new ≡ None → (IsUsedUpBelow log to → ⊥) → holding_below sum log to ≡ None → now.trace ≡ after_all (writes_free its_buffers) device.trace → now.failures ≡ device.failures
               → stable_end new ≡ stable_end log + n → to ≤ synced_end new → A ≤ stable_end log → LeavesAbove sum to log new
               → HasWrittenTo sum size (before new device now H A f position) l to n now (after new device now H A f position (max A (end_below (stable_end new) H)))
           has_written records n none still unused free made failures answer whole past above =
@@ -397,12 +406,12 @@ module _ {D C : Type 0} (log : Log D C) (sum : List ℕ → ℕ) (begun : ℕ) (
                   history = H;
                   acknowledged = max A (end_below (stable i) H);
                   floor = f;
-                  log = Some (record { position = position.position i; synced = ends i; noted = noted i; end = position.reserved i; waiting = waiting i; start = first i; begun = begun; fault = still i; outstanding = position.opens i; tickets = tickets; given_up = given_up });
+                  log = Some (record { position = position.position i; synced = ends i; noted = noted i; end = position.reserved i; waiting = waiting i; start = first i; begun = begun; fault = still i; outstanding = position.opens i; tickets = tickets; given_up = given_up; heads = heads_at l (first i) });
                 };
               }
 
           -- It failed.
-          pub fails_to : AreWhole sum log given_up → (trace : D → Trace) (e : Error) → device.trace ≡ trace (device_of log) → now.trace ≡ trace (device_of new) → fault_of log ≡ None
+          pub fails_to : AreWhole sum log given_up heads → (trace : D → Trace) (e : Error) → device.trace ≡ trace (device_of log) → now.trace ≡ trace (device_of new) → fault_of log ≡ None
               → IsWhy e (holding to l) ((current_begin log < to) × (EndsInReach size l.position → ⊥)) (fault_of new) device.failures now.failures → Performs (writes_free its_buffers) device.trace now.trace
               → IfHeld e (now.trace ≡ after_all (writes_free its_buffers) device.trace) → (IsHeld {T = ℕ} (Err e) → to ≤ current_begin new) → CameTo trace sum to log new
               → FailsTo sum size (before new device now H A f position) l to e now (after new device now H A f position A)
@@ -487,16 +496,18 @@ spared T error.OutOfMemory old new before after t now none sound answers still =
 spared T _ old new before after t now none sound answers still = absurd answers
 
 -- A log that keeps a failure is as it was.
-pub keeps_failing : {D C : Type 0} (log new : Log D C) (begun : ℕ) (tickets : List (Option Message)) (given_up : List Message) (device now : DeviceView) (H : History) (A f : ℕ) (e : Error) (x : IoError) → e ≡ error.Io x → fault_of log ≡ Some x → new ≡ log → now ≡ device
-    → KeepsFailing (record { device = device; history = H; acknowledged = A; floor = f; log = Some (seen_log log begun tickets given_up) }) (seen_log log begun tickets given_up) e now
-    (record { device = now; history = H; acknowledged = A; floor = f; log = Some (seen_log new begun tickets given_up) })
-keeps_failing log new begun tickets given_up device now H A f e x is kept same still =
-    let a : RunState = record { device = device; history = H; acknowledged = A; floor = f; log = Some (seen_log log begun tickets given_up) } in
-    let b : RunState = record { device = now; history = H; acknowledged = A; floor = f; log = Some (seen_log new begun tickets given_up) } in
-    subst (λ (y : Error). KeepsFailing a (seen_log log begun tickets given_up) y now b) (sym is) (
+pub keeps_failing : {D C : Type 0} (log new : Log D C) (begun : ℕ) (tickets : List (Option Message)) (given_up : List Message) (heads : List MarkAt) (device now : DeviceView) (H : History) (A f : ℕ) (e : Error) (x : IoError) → e ≡ error.Io x → fault_of log ≡ Some x → new ≡ log → now ≡ device
+    → KeepsFailing (record { device = device; history = H; acknowledged = A; floor = f; log = Some (seen_log log begun tickets given_up heads) }) (seen_log log begun tickets given_up heads) e now
+    (record { device = now; history = H; acknowledged = A; floor = f; log = Some (seen_log new begun tickets given_up (heads_at (seen_log log begun tickets given_up heads) (start_of new))) })
+keeps_failing log new begun tickets given_up heads device now H A f e x is kept same still =
+    let l : LogView = seen_log log begun tickets given_up heads in
+    let a : RunState = record { device = device; history = H; acknowledged = A; floor = f; log = Some l } in
+    let b : RunState = record { device = now; history = H; acknowledged = A; floor = f; log = Some (seen_log new begun tickets given_up (heads_at l (start_of new))) } in
+    subst (λ (y : Error). KeepsFailing a l y now b) (sym is) (
       kept,
       still,
-      λ i. record { device = still i; history = H; acknowledged = A; floor = f; log = Some (seen_log (same i) begun tickets given_up) },
+      (λ i. record { device = still i; history = H; acknowledged = A; floor = f; log = Some (seen_log (same i) begun tickets given_up (heads_at l (start_of (same i)))) })
+          ∙ ap (λ (hs : List MarkAt). record { device = device; history = H; acknowledged = A; floor = f; log = Some (seen_log log begun tickets given_up hs) }) (heads_still l),
     )
 
 -- a command that isn't refused has an index that fits
@@ -511,8 +522,12 @@ over opened log = record { alloc = opened.alloc; log = log; guard = opened.guard
 
 -- It stays open so, where that has the same tickets and the same position.
 module _ {D C : Type 0} (trace : D → Trace) (sum : List ℕ → ℕ) (opened : Opened D C) (log : Log D C) (k : Unstored) (A : ℕ) where
-  abbrev kept : Unstored
-  kept = record { history = k.history; acknowledged = A; floor = k.floor; tickets = k.tickets; given_up = k.given_up }
+  -- with these buffers begun
+  abbrev pub kept_with : List MarkAt → Unstored
+  kept_with heads = record { history = k.history; acknowledged = A; floor = k.floor; tickets = k.tickets; given_up = k.given_up; heads = heads }
+
+  abbrev pub kept : Unstored
+  kept = kept_with (heads_at (seen opened k.tickets k.given_up k.heads) (start_of log))
 
   ticket_still : KeepsTickets opened.log log → SamePosition opened.log log → Preserves trace sum opened.log log → (n : ℕ) (m : Message) → IsTicketFor trace sum opened k.history n m → IsTicketFor trace sum (over opened log) k.history n m
   ticket_still tickets position keeps n m is = record {
@@ -530,9 +545,9 @@ module _ {D C : Type 0} (trace : D → Trace) (sum : List ℕ → ℕ) (opened :
     ends = (let low = is.ends in let same = position.reserved in omega (arith, low, same));
   }
 
-  pub still_open : (at : IsOpenAt trace sum opened k) → KeepsTickets opened.log log → SamePosition opened.log log → (fault_of log ≡ None → fault_of opened.log ≡ None)
-      → Preserves trace sum opened.log log → Fits trace sum log k.history A k.floor at.unmarked → IsOpenAt trace sum (over opened log) kept
-  still_open at tickets position free keeps fits = record {
+  pub still_with : (heads : List MarkAt) → AreAmong (heads_of log) (map (headed sum) heads) → (at : IsOpenAt trace sum opened k) → KeepsTickets opened.log log → SamePosition opened.log log → (fault_of log ≡ None → fault_of opened.log ≡ None)
+      → Preserves trace sum opened.log log → Fits trace sum log k.history A k.floor at.unmarked → IsOpenAt trace sum (over opened log) (kept_with heads)
+  still_with heads among at tickets position free keeps fits = record {
     made = at.made;
     unmarked = at.unmarked;
     fits = fits;
@@ -550,5 +565,12 @@ module _ {D C : Type 0} (trace : D → Trace) (sum : List ℕ → ℕ) (opened :
       batch = at.tickets.batch;
     };
     given_up = λ m there. at.given_up m (tickets.given_up m there);
+    heads = among;
     ends = λ i d lt. let low = at.ends i d lt in let same = position.reserved in omega (arith, low, same);
   }
+
+  pub still_open : (at : IsOpenAt trace sum opened k) → KeepsTickets opened.log log → HasOnlyBegun sum opened.log log → SamePosition opened.log log → (fault_of log ≡ None → fault_of opened.log ≡ None)
+      → Preserves trace sum opened.log log → Fits trace sum log k.history A k.floor at.unmarked → IsOpenAt trace sum (over opened log) kept
+  still_open at tickets only position free keeps fits =
+      still_with (heads_at (seen opened k.tickets k.given_up k.heads) (start_of log)) (heads_kept sum opened.log log (length opened.pages.items) k.tickets k.given_up k.heads only at.heads)
+      at tickets position free keeps fits

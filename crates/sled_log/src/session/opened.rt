@@ -49,7 +49,7 @@ impl<D: CrashDevice, C: Checksum> Opened<D, C> {
     /// Why a command is refused while the log is open, if it is.
     pub(crate) fn refusal(&self, command: &Command) -> Option<Refusal>
         ensures why { (k : Unstored) → IsOpenAt D.trace C.sum_of self.now k
-            → result ≡ refused_open k.history (seen self.now k.tickets k.given_up) command.now }
+            → result ≡ refused_open k.history (seen self.now k.tickets k.given_up k.heads) command.now }
         ensures alone { RefusedIn true command.now result }
     {
         match command {
@@ -74,7 +74,7 @@ impl<D: CrashDevice, C: Checksum> Opened<D, C> {
 
     fn refuse_replace(&self, page: PageId) -> Option<Refusal>
         ensures why { (k : Unstored) (item : Vec ℕ Global) → IsOpenAt D.trace C.sum_of self.now k
-            → result ≡ refused_open k.history (seen self.now k.tickets k.given_up) (told.Replace page item) }
+            → result ≡ refused_open k.history (seen self.now k.tickets k.given_up k.heads) (told.Replace page item) }
     {
         if page > self.pages.len() as u64 {
             return Some(Refusal::Page);
@@ -87,7 +87,7 @@ impl<D: CrashDevice, C: Checksum> Opened<D, C> {
 
     fn refuse_link(&self, page: PageId) -> Option<Refusal>
         ensures why { (k : Unstored) (item : Vec ℕ Global) → IsOpenAt D.trace C.sum_of self.now k
-            → result ≡ refused_open k.history (seen self.now k.tickets k.given_up) (told.Link page item) }
+            → result ≡ refused_open k.history (seen self.now k.tickets k.given_up k.heads) (told.Link page item) }
     {
         let entries = self.entries_of(page);
         if entries == 0 {
@@ -104,7 +104,7 @@ impl<D: CrashDevice, C: Checksum> Opened<D, C> {
 
     fn refuse_free(&self, page: PageId) -> Option<Refusal>
         ensures why { (k : Unstored) → IsOpenAt D.trace C.sum_of self.now k
-            → result ≡ refused_open k.history (seen self.now k.tickets k.given_up) (told.Free page) }
+            → result ≡ refused_open k.history (seen self.now k.tickets k.given_up k.heads) (told.Free page) }
     {
         if self.entries_of(page) == 0 {
             return Some(Refusal::Page);
@@ -117,7 +117,7 @@ impl<D: CrashDevice, C: Checksum> Opened<D, C> {
 
     fn refuse_rewrite(&self, page: PageId) -> Option<Refusal>
         ensures why { (k : Unstored) → IsOpenAt D.trace C.sum_of self.now k
-            → result ≡ refused_open k.history (seen self.now k.tickets k.given_up) (told.Rewrite page) }
+            → result ≡ refused_open k.history (seen self.now k.tickets k.given_up k.heads) (told.Rewrite page) }
     {
         if self.blob_of(page).is_none() {
             return Some(Refusal::Page);
@@ -130,7 +130,7 @@ impl<D: CrashDevice, C: Checksum> Opened<D, C> {
 
     fn refuse_begin(&self) -> Option<Refusal>
         ensures why { (k : Unstored) → IsOpenAt D.trace C.sum_of self.now k
-            → result ≡ refused_open k.history (seen self.now k.tickets k.given_up) told.BeginBatch }
+            → result ≡ refused_open k.history (seen self.now k.tickets k.given_up k.heads) told.BeginBatch }
     {
         if self.batch.is_some() {
             Some(Refusal::Batch)
@@ -141,7 +141,7 @@ impl<D: CrashDevice, C: Checksum> Opened<D, C> {
 
     fn refuse_end(&self) -> Option<Refusal>
         ensures why { (k : Unstored) → IsOpenAt D.trace C.sum_of self.now k
-            → result ≡ refused_open k.history (seen self.now k.tickets k.given_up) told.EndBatch }
+            → result ≡ refused_open k.history (seen self.now k.tickets k.given_up k.heads) told.EndBatch }
     {
         if self.batch.is_some() {
             None
@@ -153,7 +153,7 @@ impl<D: CrashDevice, C: Checksum> Opened<D, C> {
     /// Refuses a ticket that isn't open, and that of a manifest.
     fn refuse_message(&self, number: usize) -> Option<Refusal>
         ensures why { (k : Unstored) → IsOpenAt D.trace C.sum_of self.now k
-            → result ≡ refused_open k.history (seen self.now k.tickets k.given_up) (told.Complete number) }
+            → result ≡ refused_open k.history (seen self.now k.tickets k.given_up k.heads) (told.Complete number) }
     {
         if self.batch == Some(number) {
             return Some(Refusal::Ticket);
@@ -163,7 +163,7 @@ impl<D: CrashDevice, C: Checksum> Opened<D, C> {
 
     fn refuse_ticket(&self, number: usize) -> Option<Refusal>
         ensures why { (k : Unstored) → IsOpenAt D.trace C.sum_of self.now k
-            → result ≡ refused_open k.history (seen self.now k.tickets k.given_up) (told.Abort number) }
+            → result ≡ refused_open k.history (seen self.now k.tickets k.given_up k.heads) (told.Abort number) }
     {
         if number >= self.tickets.len() || self.tickets[number].is_none() {
             return Some(Refusal::Ticket);
@@ -173,7 +173,7 @@ impl<D: CrashDevice, C: Checksum> Opened<D, C> {
 
     fn refuse_index(&self, i: usize) -> Option<Refusal>
         ensures why { (k : Unstored) → IsOpenAt D.trace C.sum_of self.now k
-            → result ≡ refused_open k.history (seen self.now k.tickets k.given_up) (told.Write i) }
+            → result ≡ refused_open k.history (seen self.now k.tickets k.given_up k.heads) (told.Write i) }
     {
         if i < self.log.pending() {
             None
@@ -184,7 +184,7 @@ impl<D: CrashDevice, C: Checksum> Opened<D, C> {
 
     fn refuse_read(&self, page: PageId) -> Option<Refusal>
         ensures why { (k : Unstored) → IsOpenAt D.trace C.sum_of self.now k
-            → result ≡ refused_open k.history (seen self.now k.tickets k.given_up) (told.Read page) }
+            → result ≡ refused_open k.history (seen self.now k.tickets k.given_up k.heads) (told.Read page) }
     {
         if page < self.pages.len() as u64 {
             None
@@ -195,7 +195,7 @@ impl<D: CrashDevice, C: Checksum> Opened<D, C> {
 
     /// Whether a page has an open ticket.
     fn is_busy(&self, page: PageId) -> bool
-        ensures { (k : Unstored) → IsOpenAt D.trace C.sum_of self.now k → result ≡ is_busy (seen self.now k.tickets k.given_up) page }
+        ensures { (k : Unstored) → IsOpenAt D.trace C.sum_of self.now k → result ≡ is_busy (seen self.now k.tickets k.given_up k.heads) page }
     {
         if page == BATCH_MANIFEST_PID {
             return self.batch.is_some();

@@ -2,9 +2,11 @@
 use Rattle.std.proofs.Common.{◌≡◌, ◌∷◌, refl, sym, subst, List, rules}
 use Rattle.std.specs.List.{Contains}
 use Rattle.sled_store.proofs.Segments.Elements.{in_rest}
+use Rattle.sled_core.specs.Heads.{heads_along}
 use Rattle.sled_core.specs.Begun.{SegmentView}
 use Rattle.sled_core.specs.Fits.{AwaitsIn, given_up_of, line_of}
-use Rattle.sled_core.specs.GivenUp.{AreAmong, given_up_along}
+use Rattle.sled_core.specs.Among.{AreAmong}
+use Rattle.sled_core.specs.GivenUp.{given_up_along}
 use Rattle.sled_core.specs.Logged.{in_log}
 use Rattle.sled_core.specs.Tickets.{own_blob}
 use Rattle.sled_core.proofs.Line.KeptCalls.{ends_none, gives_none}
@@ -40,6 +42,18 @@ returns-in-Ok-clause-ends g c =
       opens = search rules;
       position = search rules;
       buffers = search rules;
+      heads = λ h there. subst (λ (l : List SegmentView). Contains (heads_along l) h) same (c.give_up.ensures.ends.heads h there);
+    }
+
+pub returns-in-Err-clause-ends : goal.returns-in-Err-clause-ends
+returns-in-Err-clause-ends g c =
+    let same : line_of c.remove_own.new.self ≡ line_of c.args.self.now = same_line c.args.self.now c.remove_own.new.self c.remove_own.ensures.changes in
+    record {
+      others = λ H other m holds awaits apart. subst (λ (l : List SegmentView). AwaitsIn l other (in_log m)) (sym same) awaits;
+      opens = search rules;
+      position = search rules;
+      buffers = search rules;
+      heads = λ h there. subst (λ (l : List SegmentView). Contains (heads_along l) h) same there;
     }
 
 pub returns-in-Ok-clause-device : goal.returns-in-Ok-clause-device

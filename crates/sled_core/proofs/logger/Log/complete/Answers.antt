@@ -5,6 +5,7 @@ use Rattle.std.specs.List.{slice_get}
 use Rattle.sled_codec.specs.History.{AddsMessage, Message, Step}
 use Rattle.sled_store.specs.Accounts.{machine_of}
 use Rattle.sled_store.specs.Device.{state_of}
+use Rattle.sled_core.specs.Heads.{heads_along}
 use Rattle.sled_core.specs.declared.iobuf.ReservationState.TheVariants.{Completed}
 use Rattle.sled_core.specs.declared.iobuf.Reserved.{Reserved}
 use Rattle.sled_core.specs.Begun.{SegmentView}
@@ -12,7 +13,8 @@ use Rattle.sled_core.specs.inside.Buffers.{completing}
 use Rattle.sled_core.specs.Fits.{AwaitsIn, line_of, noted_in, open_places}
 use Rattle.sled_core.specs.invariants.Fits.{Holds}
 use Rattle.sled_core.specs.inside.Fits.{HoldsWith}
-use Rattle.sled_core.specs.GivenUp.{AreAmong, given_up_along}
+use Rattle.sled_core.specs.Among.{AreAmong}
+use Rattle.sled_core.specs.GivenUp.{given_up_along}
 use Rattle.sled_core.specs.Logged.{logged, in_log}
 use Rattle.sled_core.specs.OpenPlaces.{TakesOut, open_places_along}
 use Rattle.sled_core.specs.invariants.Running.{Fits}
@@ -20,7 +22,7 @@ use Rattle.sled_core.specs.Tickets.{place_of}
 use Rattle.sled_core.proofs.Line.KeptCalls.{ends_none, goes_on_still}
 use Rattle.sled_core.proofs.Line.BatchNoted.{kind_there, reserved_at}
 use Rattle.sled_core.proofs.Line.EndedKeeps.{fits_ended, goes_on_ended, holds_ended, keeps_ended, position_ended}
-use Rattle.sled_core.proofs.Line.EndedTickets.{ended_keeps_given, ended_takes, others_await, says_place, ticket_above, ticket_among, ticket_open, ticket_there}
+use Rattle.sled_core.proofs.Line.EndedTickets.{ended_keeps_given, ended_takes, others_await, says_place, ticket_above, ticket_among, ticket_open, ticket_there, ended_heads}
 use Rattle.sled_core.proofs.Line.Ends.{fits_completed, holds_completed}
 use Rattle.sled_core.proofs.Line.EndedLine.{completing_short}
 use Rattle.sled_core.proofs.Holds.Facts.{nth_facts}
@@ -135,6 +137,15 @@ returns-clause-ends g c = record {
       let at = among g c c.requires.awaited.0 own in
       let its = there g c c.requires.awaited.0 own in
       ended_buffers c.args.self.now c.complete_in.new.self c.segment_of-n.result own.segment (c.index-index.result - own.segment.gone) own.reserved (completing own.reserved) Completed at (c.complete_in.ensures.line own.segment own.reserved at its)
+      );
+  heads = (
+      let old = c.args.self.now in
+      let own : AwaitsIn (line_of old) c.args.ticket (in_log c.requires.awaited.0) = c.requires.awaited.1 in
+      let at = among g c c.requires.awaited.0 own in
+      let its = there g c c.requires.awaited.0 own in
+      subst (λ (l : List SegmentView). AreAmong (heads_along l) (heads_along (line_of old))) (sym (c.complete_in.ensures.line own.segment own.reserved at its))
+      (ended_heads old.config.config.segment_size (line_of old) old.segments.first.site.place c.segment_of-n.result own.segment at (nth_facts old) (c.index-index.result - own.segment.gone) own.reserved its own.own.open_yet (completing own.reserved)
+      (completing_short own.segment (c.index-index.result - own.segment.gone) own.reserved (nth_facts old c.segment_of-n.result own.segment at) its own.own.open_yet) Completed)
       );
 }
 

@@ -100,6 +100,7 @@ returns-clause-ends g c = record {
   opens = (seen g c).opens;
   position = (seen g c).position;
   buffers = (seen g c).buffers;
+  heads = (seen g c).heads;
 }
 
 pub returns-clause-goes_on : goal.returns-clause-goes_on

@@ -9,6 +9,7 @@ use Rattle.sled_codec.specs.Places.{part}
 use Rattle.sled_store.specs.Accounts.{machine_of}
 use Rattle.sled_store.specs.Device.{state_of}
 use Rattle.sled_store.specs.declared.config.RunningConfig.{RunningConfig}
+use Rattle.sled_core.specs.Heads.{heads_along}
 use Rattle.sled_core.specs.declared.iobuf.ReservationState.TheVariants.{Canceled}
 use Rattle.sled_core.specs.declared.iobuf.Reserved.{Reserved}
 use Rattle.sled_core.specs.Begun.{SegmentView}
@@ -17,7 +18,8 @@ use Rattle.sled_core.specs.Buffers.{body_in, item_as, pointer_as}
 use Rattle.sled_core.specs.Canceled.{canceled_record, IsBodyAt, IsBodyOf}
 use Rattle.sled_core.specs.Fits.{AwaitsIn, line_of, noted_in, open_places}
 use Rattle.sled_core.specs.invariants.Fits.{Holds}
-use Rattle.sled_core.specs.GivenUp.{AreAmong, given_up_along}
+use Rattle.sled_core.specs.Among.{AreAmong}
+use Rattle.sled_core.specs.GivenUp.{given_up_along}
 use Rattle.sled_core.specs.Logged.{logged, in_log, item_in_log}
 use Rattle.sled_core.specs.Manifests.{is_manifest}
 use Rattle.sled_core.specs.OpenPlaces.{TakesOut, open_places_along}
@@ -29,7 +31,7 @@ use Rattle.sled_core.proofs.Holds.CanceledLemmas.{canceled_long, canceled_there}
 use Rattle.sled_core.proofs.Line.KeptCalls.{ends_none, gives_none, kept_still}
 use Rattle.sled_core.proofs.Line.Canceled.{ended_stands}
 use Rattle.sled_core.proofs.Line.EndedKeeps.{fits_ended, goes_on_ended, left_ended, holds_ended, keeps_ended, position_ended}
-use Rattle.sled_core.proofs.Line.EndedTickets.{ended_gives, ended_takes, others_await, says_place, ticket_above, ticket_among, ticket_open, ticket_there}
+use Rattle.sled_core.proofs.Line.EndedTickets.{ended_gives, ended_takes, others_await, says_place, ticket_above, ticket_among, ticket_open, ticket_there, ended_heads}
 use Rattle.sled_core.proofs.Line.Ends.{fits_aborted, holds_aborted, with_segment}
 use Rattle.sled_core.proofs.Line.EndedLine.{canceling_head, canceling_short}
 use Rattle.sled_core.proofs.Holds.Facts.{nth_facts}
@@ -188,6 +190,15 @@ returns-clause-ends g c = record {
       let at = among g c c.requires.0 own in
       let its = there g c c.requires.0 own in
       ended_buffers c.args.self.now c.abort_in.new.self c.segment_of-n.result own.segment (c.index-index.result - own.segment.gone) own.reserved (canceling g.C.Checksum.sum_of own.segment.parts.bytes own.reserved) Canceled at (c.abort_in.ensures.line own.segment own.reserved at its)
+      );
+  heads = (
+      let old = c.args.self.now in
+      let own : AwaitsIn (line_of old) c.args.ticket (in_log c.requires.0) = c.requires.1 in
+      let at = among g c c.requires.0 own in
+      let its = there g c c.requires.0 own in
+      subst (λ (l : List SegmentView). AreAmong (heads_along l) (heads_along (line_of old))) (sym (c.abort_in.ensures.line own.segment own.reserved at its))
+      (ended_heads old.config.config.segment_size (line_of old) old.segments.first.site.place c.segment_of-n.result own.segment at (nth_facts old) (c.index-index.result - own.segment.gone) own.reserved its own.own.open_yet (canceling g.C.Checksum.sum_of own.segment.parts.bytes own.reserved)
+      (canceling_short g.C.Checksum.sum_of own.segment (c.index-index.result - own.segment.gone) own.reserved (nth_facts old c.segment_of-n.result own.segment at) its own.own.open_yet) Canceled)
       );
 }
 

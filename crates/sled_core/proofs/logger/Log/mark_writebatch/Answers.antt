@@ -48,6 +48,7 @@ returns-clause-ends g c = record {
   opens = c.end_batch.ensures.ends.opens;
   position = c.end_batch.ensures.ends.position;
   buffers = c.end_batch.ensures.ends.buffers;
+  heads = c.end_batch.ensures.ends.heads;
 }
 
 pub returns-clause-answers : goal.returns-clause-answers

@@ -32,6 +32,7 @@ returns-clause-log g c =
         tickets = record { awaits = λ ticket m awaits. awaits; opens = refl; given_up = λ m there. there };
         position = record { position = ap (λ n. position_in n (current_of old) (machine_of old.accountant)) size; reserved = refl; pins = refl; size = size };
         buffers = record { waiting = refl; start = refl };
+        heads = λ h there. there;
         machine = refl;
       };
       fault = c.note_item.ensures;

@@ -6,13 +6,13 @@ use Rattle.std.proofs.lemmas.List.Elements.{All-nil}
 use Rattle.sled_core.specs.declared.logger.Log.{Log}
 use Rattle.sled_core.specs.Begun.{SegmentView}
 use Rattle.sled_core.specs.inside.Fits.{AddsBuffers}
-use Rattle.sled_core.specs.Fits.{buffers_of, current_of, machine_at, reserved_end, segment_size_of}
+use Rattle.sled_core.specs.Fits.{buffers_of, current_of, reserved_end, segment_size_of}
 use Rattle.sled_core.specs.Waiting.{BufferAt}
-use Rattle.sled_core.proofs.Line.Begins.{begins_current, begins_keeps, begins_same, begins_tickets}
-use Rattle.sled_core.proofs.Line.HeaderMarks.{begun_marked, none_begun}
+use Rattle.sled_core.proofs.Line.Begins.{begins_keeps, begins_marked, begins_same, begins_tickets}
+use Rattle.sled_core.proofs.Line.HeaderMarks.{none_begun}
 use Rattle.sled_core.proofs.Line.LogSpans.{seal_starts, turn_starts}
 use Rattle.sled_core.proofs.Line.Outcomes.{either, on_both, on_err, on_ok}
-use Rattle.sled_core.proofs.Line.Seals.{sealed_begins, sealed_buffers, sealed_current, sealed_keeps, sealed_position, sealed_same, sealed_tickets, sealed_waiting}
+use Rattle.sled_core.proofs.Line.Seals.{sealed_begins, sealed_buffers, sealed_current, sealed_keeps, sealed_position, sealed_same, sealed_tickets, sealed_waiting, sealed_heads}
 use Rattle.sled_core.proofs.Line.Turns.{turns_begins, turns_buffers, turns_position, turns_waiting}
 use Rattle.sled_core.proofs.Line.Unchanged.{left_alone, unchanged_keeps, unchanged_position, unchanged_same, unchanged_tickets}
 use Rattle.sled_core.proofs.logger.Log.seal.Goals as goal
@@ -52,7 +52,7 @@ returns-then-is_short-clause-marked g c =
     let did = c.begin_next.ensures in
     let old = c.args.self.now in
     let new = c.begin_next.new.self in
-    on_both c.begin_next.result _ _ _ (λ line machine. begun_marked g.C.Checksum.sum_of old (segment_size_of old) (machine_at old) new (begins_current g.D.Device.trace g.C.Checksum.sum_of old new line machine did.rest)) did.line did.machine
+    on_both c.begin_next.result _ _ _ (λ line machine. begins_marked g.D.Device.trace g.C.Checksum.sum_of old new line machine did.rest) did.line did.machine
 
 pub returns-then-is_short-clause-keeps : goal.returns-then-is_short-clause-keeps
 returns-then-is_short-clause-keeps g c = record {
@@ -126,7 +126,8 @@ pub returns-clause-marked : goal.returns-clause-marked
 returns-clause-marked g c =
     let old = c.args.self.now in
     let new = c.seal_unfilled.new.self in
-    on_ok c.seal_unfilled.result _ _ (λ line. none_begun g.C.Checksum.sum_of old new (ap (λ (v : SegmentView). v.parts.site.place) (sealed_current g.D.Device.trace g.C.Checksum.sum_of old new c.seal_unfilled.ensures.rest line c.requires.some))) c.seal_unfilled.ensures.line
+    on_ok c.seal_unfilled.result _ _ (λ line. none_begun g.C.Checksum.sum_of old new (ap (λ (v : SegmentView). v.parts.site.place) (sealed_current g.D.Device.trace g.C.Checksum.sum_of old new c.seal_unfilled.ensures.rest line c.requires.some))
+    (sealed_heads g.D.Device.trace g.C.Checksum.sum_of old new c.seal_unfilled.ensures.rest line c.requires.some)) c.seal_unfilled.ensures.line
 
 pub returns-clause-keeps : goal.returns-clause-keeps
 returns-clause-keeps g c = record {

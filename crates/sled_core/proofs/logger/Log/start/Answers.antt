@@ -1,5 +1,5 @@
-use Rattle.std.proofs.Common.{◌≡◌, ◌∙◌, ◌+◌, ◌-ℤ◌, ◌<◌, ◌≤◌, ◌∷◌, ◌++◌, pos, if◌then◌else◌, zero, suc, true, ℕ, List, [], Option, None, Some, length, map, refl, ap, sym, subst, arith, mod-lt}
-use Rattle.std.specs.List.{All}
+use Rattle.std.proofs.Common.{◌≡◌, ◌∙◌, ◌+◌, ◌-ℤ◌, ◌<◌, ◌≤◌, ◌∷◌, ◌++◌, pos, if◌then◌else◌, zero, suc, true, ℕ, List, [], Option, None, Some, length, map, refl, ap, sym, subst, arith, mod-lt, ◌==◌, Bool, false, take}
+use Rattle.std.specs.List.{All, Contains}
 use Rattle.std.proofs.lemmas.List.Elements.{All-nil}
 use Rattle.std.proofs.Math.Nat.{suc-mul}
 use Rattle.sled_codec.proofs.Segments.{length-short_header}
@@ -18,6 +18,11 @@ use Rattle.sled_store.specs.Script.{after_all}
 use Rattle.sled_store.specs.Begin.{IsStartable, beginning_of, offset_at, place_at, slots_of, unused}
 use Rattle.sled_store.specs.SegmentStates.{Machine}
 use Rattle.sled_store.specs.Started.{started}
+use Rattle.std.proofs.lemmas.Bool.Decides.{nat_tests}
+use Rattle.std.proofs.lemmas.List.{take_all}
+use Rattle.sled_store.proofs.Segments.Elements.{in_nothing, only_in}
+use Rattle.sled_core.specs.Marked.{IsMarkedHead}
+use Rattle.sled_core.specs.Heads.{HeadAt, head_of, heads_along}
 use Rattle.sled_core.specs.declared.iobuf.IoBuf.{IoBuf}
 use Rattle.sled_core.specs.declared.iobuf.Reserved.{Reserved}
 use Rattle.sled_core.specs.declared.iobuf.Sealed.{Sealed}
@@ -289,9 +294,38 @@ marked_at sum place offset slot b [] [] first none empty at =
     let from = first.from in
     first.header (omega (arith, at, from)) ∙ sym (ap (λ n. short_header sum (pos place) (pos n -ℤ pos 1)) at)
 
+-- That is the only header that isn't on the device, and the current buffer begins with it.
+heads_at : (sum : List ℕ → ℕ) (place offset slot : ℕ) (b : IoBuf) (ss : List SegmentBuffer) (noted : List NotedBatch) → IsFirstBuffer sum place offset b → ss ≡ [] → noted ≡ []
+    → let v : SegmentView = last_of (view_at (record { place = place; slot = slot }) b) (map segment_view ss) in
+    (h : HeadAt) → Contains (heads_along (line_at (record { place = place; slot = slot }) b ss)) h → IsMarkedHead sum (v.parts.site.place + begin_of v) (stable_below (place + b.written_len) (not_whole (place + b.written_len) (map batch_of noted))) h
+heads_at sum place offset slot b (s ∷ ss) noted first none empty h there = cc
+heads_at sum place offset slot b [] (n ∷ ns) first none empty h there = cc
+heads_at sum place offset slot b [] [] first none empty h there = by (b.written_len == 0) refl there where
+  v : SegmentView
+  v = view_at (record { place = place; slot = slot }) b
+
+  begins : (o : Bool) → b.written_len ≡ 0 → begin_of v ≡ 0
+  begins o at = ap (λ (bs : List Sealed). sealed_end b.written_len bs) first.sealed ∙ at
+
+  by : (o : Bool) → (b.written_len == 0) ≡ o → Contains ((if o then head_of v ∷ [] else []) ++ []) h → IsMarkedHead sum (place + begin_of v) (place + b.written_len) h
+  by false is has = absurd (in_nothing h has)
+  by true is has =
+      let at : b.written_len ≡ 0 = grind (arith, nat_tests, is) in
+      let from = first.from in
+      let begin = begins true at in
+      let own : head_of v ≡ h = only_in (head_of v) h has in
+      let here : place ≡ place + begin_of v = omega (arith, begin) in
+      let stable : place ≡ place + b.written_len = omega (arith, at) in
+      (
+        sym (ap (λ (x : HeadAt). x.place) own) ∙ here,
+        sym (ap (λ (x : HeadAt). x.bytes) own) ∙ ap (take 20) (first.header (omega (arith, at, from))) ∙ take_all 20 (short_header sum (pos place) (pos place -ℤ pos 1)) (omega (arith, length-short_header sum (pos place) (pos place -ℤ pos 1)))
+            ∙ (λ i. short_header sum (pos (here i)) (pos (stable i) -ℤ pos 1)),
+      )
+
 pub returns-in-Ok-clause-marked : goal.returns-in-Ok-clause-marked
 returns-in-Ok-clause-marked g c = record {
   header = marked_at g.C.Checksum.sum_of c.in-Ok.beginning.place c.in-Ok.beginning.offset c.in-Ok.beginning.slot c.in-Ok.buffer c.no_segments.result.items c.new-in-Ok.result.noted.items c.in-Ok.ensures.buffer c.no_segments.ensures c.new-in-Ok.ensures.noted;
+  heads = heads_at g.C.Checksum.sum_of c.in-Ok.beginning.place c.in-Ok.beginning.offset c.in-Ok.beginning.slot c.in-Ok.buffer c.no_segments.result.items c.new-in-Ok.result.noted.items c.in-Ok.ensures.buffer c.no_segments.ensures c.new-in-Ok.ensures.noted;
 }
 
 pub returns-in-Ok-clause-config : goal.returns-in-Ok-clause-config

@@ -1,13 +1,15 @@
 -- The buffers that begin below the place are sealed first, and then written.
-use Rattle.std.proofs.Common.{◌∙◌, ◌≤◌, ap, sym, subst, arith, inr}
+use Rattle.std.proofs.Common.{◌∙◌, ◌≤◌, ap, sym, subst, arith, inr, inl}
 use Rattle.std.proofs.lemmas.Result.{err_from_is_err_and}
 use Rattle.sled_store.specs.declared.config.RunningConfig.{RunningConfig}
+use Rattle.sled_core.proofs.Line.LogSpans.{same_buffers}
+use Rattle.sled_core.proofs.Line.Advanced.{same_synced}
 use Rattle.sled_core.specs.declared.logger.Log.{Log}
 use Rattle.sled_core.specs.Fits.{current_begin}
 use Rattle.sled_core.proofs.Line.KeptCalls.{kept_further}
-use Rattle.sled_core.proofs.Line.HeaderMarks.{marked_same}
+use Rattle.sled_core.proofs.Line.HeaderMarks.{marked_same, none_begun, segment_same}
 use Rattle.sled_core.proofs.Line.CameFar.{front_leaves}
-use Rattle.sled_core.proofs.Line.Outcomes.{all_err, on_err, seal_answers}
+use Rattle.sled_core.proofs.Line.Outcomes.{all_err, on_err, seal_answers, seal_not_held}
 use Rattle.sled_core.proofs.Line.SealFirst.{SealedFor, first_answers, first_calls, first_performs, first_position, first_tickets, sealed_already, sealed_first, sealed_past, some_below, unchanged_came, unchanged_performs}
 use Rattle.sled_core.proofs.logger.Log.write_below.Given.{Over}
 use Rattle.sled_core.proofs.logger.Log.write_below.Goals.{then-current_begin-to+in_ok-seal, else-current_begin-to}
@@ -79,7 +81,25 @@ returns-clause-buffers g c =
     let did = c.write_sealed_below.ensures in
     (ready g c).writes c.write_sealed_below.new.self c.write_sealed_below.result did.current.0 did.none did.one did.above
     (on_err c.write_sealed_below.result _ _ (front_leaves g.D.Device.trace g.C.Checksum.sum_of c.args.to c.if-current_begin-to.self c.write_sealed_below.new.self) did.front)
-    (marked_same g.C.Checksum.sum_of c.args.self.now c.if-current_begin-to.self c.write_sealed_below.new.self (ready g c).marked did.current.1.place did.current.1.bytes)
+    (marked_same g.C.Checksum.sum_of c.args.self.now c.if-current_begin-to.self c.write_sealed_below.new.self (ready g c).marked did.current.1 did.current.0)
+
+pub returns-in_err-seal-clause-buffers : goal.returns-in_err-seal-clause-buffers
+returns-in_err-seal-clause-buffers g c =
+    let e = err_from_is_err_and c.from_residual.result c.from_residual.ensures.1 in
+    let old = c.args.self.now in
+    let new = c.seal.new.self in
+    let same = c.in_err-seal.ensures.err in
+    let kept = segment_same old new same.line in
+    rw (e.1, e.2) (record {
+      seals = record {
+        held = λ held. absurd (seal_not_held (Unit {0}) (Unit {0}) c.in_err-seal.field-0.0 _ c.in_err-seal.ensures.answers held);
+        none = λ unsealed. tt;
+        err = λ unsealed. same_synced old new same.line;
+      };
+      above = tt;
+      some = inl (same_buffers old new same.line);
+      marked = none_begun g.C.Checksum.sum_of old new kept.place kept.heads;
+    })
 
 pub returns-clause-came : goal.returns-clause-came
 returns-clause-came g c = on_err c.write_sealed_below.result _ _ (λ front. inr ((ready g c).fronts c.write_sealed_below.new.self front)) c.write_sealed_below.ensures.front

@@ -35,7 +35,8 @@ use Rattle.sled_core.specs.inside.Turned.{ChangesDevice, IsReadyIn, promoted, wr
 use Rattle.sled_core.specs.Waiting.{last_of}
 use Rattle.sled_core.proofs.Holds.StoredItems.{items_same}
 use Rattle.sled_core.proofs.Line.Faulty.{fits_with_same, holds_with_same}
-use Rattle.sled_core.proofs.Line.GivenUp.{among_further, among_same, given_promoted, set_given}
+use Rattle.sled_core.proofs.Line.Among.{among_further, among_same}
+use Rattle.sled_core.proofs.Line.GivenUp.{given_promoted, set_given}
 use Rattle.sled_core.proofs.Line.LineEnds.{kept_same, noted_later, noted_same}
 use Rattle.sled_core.proofs.Line.LogWrites.{KeepsInvariants, crash_write, end_grows, fits_done, fits_failed, holds_done, holds_failed, keeps_invariants, line_after, line_left, names, noted_left, same_line, segments_written}
 use Rattle.sled_core.proofs.Line.Marks.{HasReady, ready_at}

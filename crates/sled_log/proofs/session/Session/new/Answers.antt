@@ -22,7 +22,7 @@ returns-clause-begins g c = λ none.
     let config = made.config in
     let same = c.new-config.ensures.device in
     let fresh_yet : state_of (trace made.device) ≡ fresh = ap (λ x. state_of (trace x)) same ∙ none in
-    let k : Unstored = record { history = no_history; acknowledged = 0; floor = 0; tickets = []; given_up = [] } in
+    let k : Unstored = record { history = no_history; acknowledged = 0; floor = 0; tickets = []; given_up = []; heads = [] } in
     stands_at view sum _ _ _ refl (k, ap (λ x. begins_on (view x)) (sym same), fresh_closed sum config.segment_size config.least (let most = config.most in omega (arith, most)) (trace made.device) fresh_yet)
 
 pub returns-clause-over : goal.returns-clause-over

@@ -30,7 +30,7 @@ use Rattle.sled_log.specs.Recovery.{Damaged, Recovers}
 use Rattle.sled_log.specs.Refusals.{reason_of}
 use Rattle.sled_log.specs.Restores.{RecoveryCalls}
 use Rattle.sled_log.specs.RunPhases.{IsAt, IsClosedAt, IsRecoveredAt, Unstored, device_in, log_in, stands, view_by}
-use Rattle.sled_log.specs.RunStates.{DeviceView, RunState, ShowsActive, length_of, top}
+use Rattle.sled_log.specs.RunStates.{DeviceView, RunState, ShowsActive, length_of, top, heads_on}
 use Rattle.sled_log.specs.Runs.{IsStep, StaysRecoverable, StaysWithin}
 use Rattle.sled_log.proofs.Ready.Convertible.{read_of}
 use Rattle.sled_log.proofs.Recovers.ShownActive.{shows_active}
@@ -89,7 +89,7 @@ returns-in-Ok-clause-step g c = λ k at free.
     let not_refused = not_refusing size mid s c.start.result.1 new starts in
     let cut : ℕ = stable_place s.stable in
     let H' : History = below k.history cut in
-    let l : Unstored = unreserved H' k.acknowledged cut in
+    let l : Unstored = unreserved H' k.acknowledged cut (heads_on config.config.segment_size (length_of mid) s) in
     let b : RunState = stands view c.start.result.0 l in
     let comes : ReadsOnlyOwn sum size (state_of old.trace) → GoesOnFrom sum size a mid s c.start.result.1 new b × IsAt trace sum c.start.result.0 l × StaysWithin sum size a command.Open new b = λ own.
     let can : CanRecover sum size (state_of old.trace) k.history k.acknowledged k.floor = record { orderly = at.made.orderly; left = at.left; own = own } in
@@ -106,7 +106,7 @@ returns-in-Ok-clause-step g c = λ k at free.
       ends = all_from_in (λ m. m.place + m.size ≤ cut) H'.messages (λ m there. let found = from_below k.history cut m there in good.fits.messages m found.0 found.1);
     } in
     let started = c.start.ensures.starts H' k.acknowledged cut recovered in
-    let log = subst (λ n. log_in c.start.result.0 [] [] ≡ log_opened n (length_of mid) s c.start.result.1) sizes started.log in
+    let log = subst (λ n. log_in c.start.result.0 [] [] l.heads ≡ log_opened n (length_of mid) s c.start.result.1) sizes started.log in
     let why = subst (λ n. SaysWhy c.start.result.1 n new.failures) c.in-Ok.ensures.answers started.why in (
       record {
         good = still_good sum size (let least = given.least in omega (arith, least)) mid new s c.start.result.1 starts k.history k.acknowledged k.floor good;

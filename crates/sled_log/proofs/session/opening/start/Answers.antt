@@ -1,12 +1,19 @@
 -- A log that is started goes on where the recovered table ends, and a start that fails leaves what can be recovered.
-use Rattle.std.proofs.Common.{◌≡◌, ◌≤◌, ◌<◌, ◌+◌, ◌∙◌, ℕ, List, [], None, Some, length, refl, sym, ap, subst, arith, rules}
+use Rattle.std.proofs.Common.{◌≡◌, ◌≤◌, ◌<◌, ◌+◌, ◌∙◌, ℕ, List, [], None, Some, length, refl, sym, ap, subst, arith, rules, ◌∷◌, ◌-ℤ◌, pos}
 use Rattle.std.proofs.lemmas.List.{length-map}
 use Rattle.sled_codec.specs.Snapshots.{SnapshotModel, model_of, stable_place}
 use Rattle.sled_store.specs.Device.{Trace, state_of}
 use Rattle.sled_store.specs.Moments.{LeavesOnly}
+use Rattle.sled_codec.specs.Record.{short_header}
+use Rattle.sled_log.specs.RunStates.{MarkAt, heads_on}
+use Rattle.sled_log.specs.WriteSteps.{headed}
+use Rattle.sled_store.proofs.Segments.Elements.{in_first}
+use Rattle.sled_core.specs.OpenBatches.{stable_below}
+use Rattle.sled_core.specs.Starts.{start_from}
+use Rattle.sled_core.specs.Heads.{HeadAt}
 use Rattle.sled_core.specs.declared.logger.Log.{Log}
 use Rattle.sled_store.proofs.Traces.MomentLemmas.{at_last}
-use Rattle.sled_core.specs.Fits.{fault_of, given_up_of, noted_in, open_places, pins_of, position_of, reserved_end, start_of, synced_end, waiting_of}
+use Rattle.sled_core.specs.Fits.{fault_of, given_up_of, noted_in, open_places, pins_of, position_of, reserved_end, start_of, synced_end, waiting_of, current_begin, heads_of, stable_end}
 use Rattle.sled_core.specs.Recoverable.{LeavesRecoverable, RecoverableIfOwn}
 use Rattle.sled_core.specs.Waiting.{spans}
 use Rattle.sled_log.proofs.Sessions.RunLemmas.{start_cause}
@@ -49,9 +56,14 @@ returns-in-Ok-clause-starts g c = λ H A f at.
     let fault : fault_of new ≡ None = ap fault_of taken ∙ begins.fault in
     let empty : open_places new ≡ [] = ap open_places taken ∙ (none_is_empty c.in-Ok.log).0 begins.ended in
     let pages : length c.args.snapshot.pt.items ≡ length s.pages = simp length-map in
+    let len : ℕ = length (state_of (trace c.args.config.device)).log.bytes in
+    let begin : current_begin c.in-Ok.log ≡ (start_from size len s).place = ap (λ x. x.place) begins.start in
+    let ends : synced_end c.in-Ok.log ≡ stable_place s.stable = begins.synced ∙ place in
+    let bare : noted_in c.in-Ok.log ≡ [] = begins.noted in
+    let stable : stable_end c.in-Ok.log ≡ stable_place s.stable = (λ i. stable_below (ends i) (bare i)) in
     let pinned : pins_of new ≡ 1 = ap pins_of taken ∙ ap (λ n. n + 1) begins.pins in
     record {
-      log = λ i. Some (record { position = position i; synced = synced i; noted = noted i; end = end i; waiting = waiting i; start = first i; begun = pages i; fault = fault i; outstanding = empty i; tickets = []; given_up = [] });
+      log = λ i. Some (record { position = position i; synced = synced i; noted = noted i; end = end i; waiting = waiting i; start = first i; begun = pages i; fault = fault i; outstanding = empty i; tickets = []; given_up = []; heads = heads_on size len s });
       at = record {
         made = at.closed.made;
         unmarked = [];
@@ -70,6 +82,11 @@ returns-in-Ok-clause-starts g c = λ H A f at.
           batch = refl;
         };
         given_up = λ m given. subst (λ (l : List Message). Contains l m) (ap given_up_of taken ∙ begins.given_up) given;
+        heads = λ h there.
+            let is = c.in-Ok.ensures.marked.heads h (subst (λ (l : List HeadAt). Contains l h) (ap heads_of taken) there) in
+            let first : MarkAt = record { place = (start_from size len s).place; mark = pos (stable_place s.stable) -ℤ pos 1 } in
+            let one : headed sum first ≡ h = sym (λ i. record { place = (is.0 ∙ begin) i; bytes = (is.1 ∙ (λ j. short_header sum (pos (begin j)) (pos (stable j) -ℤ pos 1))) i }) in
+            subst (λ (x : HeadAt). Contains (headed sum first ∷ []) x) one (in_first (headed sum first) []);
         ends = subst (λ e. All (λ m. m.place + m.size ≤ e) H.messages) (sym end) at.ends;
       };
       crash = subst (λ (x : Log _ _). LeavesOnly (RecoverableIfOwn sum size H A f) (trace c.args.config.device) (trace x.config.device)) (sym taken) (c.in-Ok.ensures.crash H A f at.ready);

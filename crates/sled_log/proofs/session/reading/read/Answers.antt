@@ -6,7 +6,7 @@ use Rattle.sled_codec.specs.Snapshots.{Entry, Free, Page, Present, Uninitialized
 use Rattle.sled_log.specs.Readings.{ReadsEntries}
 use Rattle.sled_log.specs.RunPhases.{view_by}
 use Rattle.sled_log.proofs.Sessions.MadePages.{page_free, page_not_nothing}
-use Rattle.sled_log.proofs.Sessions.Reading.{open_still, page_found, page_read}
+use Rattle.sled_log.proofs.Sessions.Reading.{open_still, page_found, page_read, read_with}
 use Rattle.sled_log.proofs.Sessions.Within.{going_on, untouched}
 use Rattle.sled_log.proofs.session.reading.read.Goals as goal
 
@@ -22,10 +22,11 @@ returns-in-Ok-clause-step g c = λ k at free.
     let look = c.in-Some.ensures.lookup in
     let has = page_found opened.pages.items c.deref.result.now c.args.page c.in-Some.state.now (Present base frags) c.deref.ensures.value look.3.0 look.1 (ap page_of c.in-Present.is) in
     let reads = subst (λ l. ReadsEntries view sum opened.log c.args.page (base ∷ l) new (Ok c.in-Ok.items)) c.deref-in-Present.ensures.value c.in-Ok.ensures.reads in
+    let read = page_read view sum opened c.args.page k at new base frags (Ok c.in-Ok.items) has reads in
     record {
       not_refused = refl;
-      next = k;
-      step = page_read view sum opened c.args.page k at new base frags (Ok c.in-Ok.items) has reads;
+      next = read_with view sum opened c.args.page k at new base frags (Ok c.in-Ok.items) has reads read.0;
+      step = read.2;
       at = λ own. open_still view sum opened c.args.page k at new base frags (Ok c.in-Ok.items) has reads;
       crash = λ own. going_on g.D.Device.trace sum opened k at new reads.only.keeps.goes_on;
     }
@@ -42,10 +43,11 @@ returns-in-Err-clause-step g c = λ k at free.
     let look = c.in-Some.ensures.lookup in
     let has = page_found opened.pages.items c.deref.result.now c.args.page c.in-Some.state.now (Present base frags) c.deref.ensures.value look.3.0 look.1 (ap page_of c.in-Present.is) in
     let reads = subst (λ l. ReadsEntries view sum opened.log c.args.page (base ∷ l) new (Err c.in-Err.e)) c.deref-in-Present.ensures.value c.in-Err.ensures.reads in
+    let read = page_read view sum opened c.args.page k at new base frags (Err c.in-Err.e) has reads in
     record {
       not_refused = refl;
-      next = k;
-      step = page_read view sum opened c.args.page k at new base frags (Err c.in-Err.e) has reads;
+      next = read_with view sum opened c.args.page k at new base frags (Err c.in-Err.e) has reads read.0;
+      step = read.2;
       at = λ own. open_still view sum opened c.args.page k at new base frags (Err c.in-Err.e) has reads;
       crash = λ own. going_on g.D.Device.trace sum opened k at new reads.only.keeps.goes_on;
     }

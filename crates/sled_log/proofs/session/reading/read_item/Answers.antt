@@ -29,12 +29,13 @@ returns-in_err-item-clause-reads g c =
     let gives = err_from_is_err_and c.from_residual.result c.from_residual.ensures.1 in
     rw (gives.1, gives.2) (record {
       only = record { keeps = c.read.ensures.keeps.preserves; tickets = c.read.ensures.keeps.tickets; position = c.read.ensures.keeps.position; free = was_free old new c.read.ensures.refused.faulty };
+      marked = c.read.ensures.buffers.1.marked;
       item = λ k m begun is of here points none a.
           let at = here ∙ sym (to_z-of_z w64 c.args.place c.ranges.place) in
           let whole = is_whole trace sum old k c.args.page m place is of at c.args.pointer e points
           (came.undamaged k.history k.acknowledged k.floor is.unmarked m is.fits of.there (has_record old k.history (reserved_end old) c.args.page m of) at points)
           (came.blob k.history k.acknowledged k.floor is.unmarked m is.fits is.zeros).kept in
-          read_failed view sum old new k c.args.page m begun of (whole_of trace sum old k.given_up k.history k.acknowledged k.floor is.unmarked is.given_up is.fits) (stays_put trace sum old new c.read.ensures.keeps.tickets c.read.ensures.keeps.position c.read.ensures.keeps.preserves) blobs e place c.args.pointer at points
+          read_failed view sum old new k c.args.page m begun of (whole_of trace sum old k.given_up k.heads k.history k.acknowledged k.floor is.unmarked is.given_up is.heads is.fits) (stays_put trace sum old new c.read.ensures.keeps.tickets c.read.ensures.keeps.position c.read.ensures.keeps.preserves) blobs e place c.args.pointer at points
           (came.calls, (came.buffers.1, came.answers, came.buffers.2)) whole none a;
     })
 
@@ -52,6 +53,7 @@ returns-in-Inline-clause-reads g c =
     let place : ℤ = to_z w64 (of_z w64 c.args.place) in
     record {
       only = record { keeps = c.read.ensures.keeps.preserves; tickets = c.read.ensures.keeps.tickets; position = c.read.ensures.keeps.position; free = was_free old new c.read.ensures.refused.faulty };
+      marked = c.read.ensures.buffers.1.marked;
       item = λ k m begun is of here points.
           let at = here ∙ sym (to_z-of_z w64 c.args.place c.ranges.place) in
           let gives : GivesMessage m r = is_given trace sum old k c.args.page m place is of at c.args.pointer r points
@@ -61,7 +63,7 @@ returns-in-Inline-clause-reads g c =
             | inl x ↦ (subst (GivesMessage m) x.2 gives).2
             | inr x ↦ (subst (GivesMessage m) x.3 gives).2
           ] in
-          let read = was_read view sum old new k c.args.page m begun of (whole_of trace sum old k.given_up k.history k.acknowledged k.floor is.unmarked is.given_up is.fits) (stays_put trace sum old new c.read.ensures.keeps.tickets c.read.ensures.keeps.position c.read.ensures.keeps.preserves) blobs r place c.args.pointer at points
+          let read = was_read view sum old new k c.args.page m begun of (whole_of trace sum old k.given_up k.heads k.history k.acknowledged k.floor is.unmarked is.given_up is.heads is.fits) (stays_put trace sum old new c.read.ensures.keeps.tickets c.read.ensures.keeps.position c.read.ensures.keeps.preserves) blobs r place c.args.pointer at points
           (came.calls, (came.buffers.1, came.answers, came.buffers.2)) in
           (bytes, read.0, read.1, read.2);
     }
@@ -78,6 +80,7 @@ returns-in-Canceled g c =
     record {
       reads = record {
         only = record { keeps = c.read.ensures.keeps.preserves; tickets = c.read.ensures.keeps.tickets; position = c.read.ensures.keeps.position; free = was_free old new c.read.ensures.refused.faulty };
+        marked = c.read.ensures.buffers.1.marked;
         item = λ k m begun is of here points.
             let at = here ∙ sym (to_z-of_z w64 c.args.place c.ranges.place) in
             let gives : GivesMessage m c.in_ok-item.field-0 = is_given trace sum old k c.args.page m place is of at c.args.pointer c.in_ok-item.field-0 points

@@ -1,9 +1,12 @@
 -- The device of a log is to be stopped, and nothing else is another.
-use Rattle.std.proofs.Common.{refl, sym, ◌∙◌, length, Some}
+use Rattle.std.proofs.Common.{refl, sym, subst, List, ◌∙◌, length, Some}
+use Rattle.std.specs.List.{Contains}
+use Rattle.sled_core.specs.Heads.{heads_along}
+use Rattle.sled_core.specs.Begun.{SegmentView}
 use Rattle.sled_core.specs.Waiting.{spans}
 use Rattle.sled_log.specs.RunPhases.{view_by}
 use Rattle.sled_log.proofs.Sessions.Carried.{asked_going}
-use Rattle.sled_log.proofs.Sessions.Writing.{still_open}
+use Rattle.sled_log.proofs.Sessions.Writing.{still_with}
 use Rattle.sled_log.proofs.Sessions.Within.{going_on}
 use Rattle.sled_log.proofs.session.step.stop_open.Goals as goal
 
@@ -37,10 +40,11 @@ returns-clause-step g c = λ k at free.
             outstanding = did.keeps.tickets.opens i;
             tickets = k.tickets;
             given_up = k.given_up;
+            heads = k.heads;
           });
         }),
       );
-      at = λ own. still_open trace g.C.Checksum.sum_of opened new k k.acknowledged at did.keeps.tickets did.keeps.position (λ none. sym did.rest.fault ∙ none) did.keeps.preserves (did.keeps.preserves.fits k.history k.acknowledged k.floor at.unmarked at.fits);
+      at = λ own. still_with trace g.C.Checksum.sum_of opened new k k.acknowledged k.heads (λ h there. at.heads h (subst (λ (l : List SegmentView). Contains (heads_along l) h) did.rest.line there)) at did.keeps.tickets did.keeps.position (λ none. sym did.rest.fault ∙ none) did.keeps.preserves (did.keeps.preserves.fits k.history k.acknowledged k.floor at.unmarked at.fits);
       crash = λ own. going_on trace g.C.Checksum.sum_of opened k at new did.keeps.preserves.goes_on;
     }
 

@@ -11,7 +11,7 @@ use Rattle.sled_core.proofs.PublicLaws.{written_past}
 use Rattle.sled_log.specs.RunPhases.{seen, view_by}
 use Rattle.sled_log.specs.RunStates.{LogView}
 use Rattle.sled_log.specs.WriteSteps.{stable_from}
-use Rattle.sled_log.proofs.Sessions.Writing.{fails_to, flush_in, flush_out, has_written, holding_seen, if_held, keeps_failing, kept_or_none, some_reserved, stable_seen, stays_put, still_open, was_free, whole_of, why_of, writes_seen}
+use Rattle.sled_log.proofs.Sessions.Writing.{fails_to, flush_in, flush_out, has_written, holding_seen, if_held, keeps_failing, kept_or_none, some_reserved, stable_seen, stays_put, still_open, was_free, whole_of, why_of, writes_seen, kept}
 use Rattle.sled_log.proofs.Sessions.Within.{going_on}
 use Rattle.sled_log.proofs.session.writing.flush.Goals as goal
 
@@ -24,33 +24,33 @@ returns-in-Ok-clause-step g c = λ k at free.
     let old = opened.log in
     let new = c.flush.new.self in
     let begun = length opened.pages.items in
-    let l : LogView = seen opened k.tickets k.given_up in
+    let l : LogView = seen opened k.tickets k.given_up k.heads in
     let H = k.history in
     let to = reserved_end old in
-    let some : current_begin old < to → 0 < held_len old = some_reserved old sum begun k.tickets k.given_up to (omega arith) in
+    let some : current_begin old < to → 0 < held_len old = some_reserved old sum begun k.tickets k.given_up k.heads to (omega arith) in
     let holds = fits_holds trace sum old H k.acknowledged k.floor at.unmarked at.fits in
     let past = fits_stable trace sum old H k.acknowledged k.floor at.unmarked at.fits in
     let above = c.in-Ok.ensures.buffers.0.above in
     let answers = c.in-Ok.ensures.answers in
     let position = c.flush.ensures.keeps.position in
     let put = stays_put trace sum old new c.flush.ensures.keeps.tickets position c.flush.ensures.keeps.preserves in
-    let ends : synced_end new ≡ stable_from to l = sym c.in-Ok.ensures.synced.stable ∙ stable_seen old sum begun k.tickets k.given_up to some new (view old.config.device) (view new.config.device) H k.acknowledged k.floor put above in
-    let kept : IsKept sum (segment_size_of old) new.segments.first.site new.segments.first.buffer.written_len (state_of (trace (device_of new))) (logged H) =
+    let ends : synced_end new ≡ stable_from to l = sym c.in-Ok.ensures.synced.stable ∙ stable_seen old sum begun k.tickets k.given_up k.heads to some new (view old.config.device) (view new.config.device) H k.acknowledged k.floor put above in
+    let settled : IsKept sum (segment_size_of old) new.segments.first.site new.segments.first.buffer.written_len (state_of (trace (device_of new))) (logged H) =
     subst (λ n. IsKept sum n new.segments.first.site new.segments.first.buffer.written_len (state_of (trace (device_of new))) (logged H)) position.size (c.in-Ok.ensures.records H holds) in
     let reached : ℕ = max k.acknowledged (end_below (stable_end new) H) in
     record {
       not_refused = refl;
-      next = record { history = H; acknowledged = reached; floor = k.floor; tickets = k.tickets; given_up = k.given_up };
+      next = kept trace sum opened new k reached;
       step = record {
-        written = has_written old sum begun k.tickets k.given_up to some new (view old.config.device) (view new.config.device) H k.acknowledged k.floor put (whole_of trace sum old k.given_up H k.acknowledged k.floor at.unmarked at.given_up at.fits answers.2) c.in-Ok.grown answers.2 answers.3 answers.1 answers.0
-            (c.in-Ok.ensures.calls ∙ ap (λ (es : List Event). after_all es (trace (device_of old))) (writes_seen old sum begun k.tickets k.given_up to some)) answers.4 c.in-Ok.ensures.answer c.in-Ok.ensures.synced.whole past above;
+        written = has_written old sum begun k.tickets k.given_up k.heads to some new (view old.config.device) (view new.config.device) H k.acknowledged k.floor put (whole_of trace sum old k.given_up k.heads H k.acknowledged k.floor at.unmarked at.given_up at.heads at.fits answers.2) c.in-Ok.grown answers.2 answers.3 answers.1 answers.0
+            (c.in-Ok.ensures.calls ∙ ap (λ (es : List Event). after_all es (trace (device_of old))) (writes_seen old sum begun k.tickets k.given_up k.heads to some)) answers.4 c.in-Ok.ensures.answer c.in-Ok.ensures.synced.whole past above;
         all = λ i d lt. let low = written_past trace sum new H (c.in-Ok.ensures.records H holds) i d lt in omega (arith, low, ends);
         site = new.segments.first.site;
         from = new.segments.first.buffer.written_len;
         at = ends;
-        kept = kept;
+        kept = settled;
       };
-      at = λ own. still_open trace sum opened new k reached at c.flush.ensures.keeps.tickets position (was_free old new c.flush.ensures.spares.faulty) c.flush.ensures.keeps.preserves
+      at = λ own. still_open trace sum opened new k reached at c.flush.ensures.keeps.tickets c.flush.ensures.buffers.0.marked.heads position (was_free old new c.flush.ensures.spares.faulty) c.flush.ensures.keeps.preserves
           (subst (λ n. Fits trace sum new H (max k.acknowledged (end_below n H)) k.floor at.unmarked) (sym c.in-Ok.ensures.synced.stable) (c.in-Ok.ensures.acknowledges H k.acknowledged k.floor at.unmarked at.fits));
       crash = λ own. going_on trace sum opened k at new c.flush.ensures.keeps.preserves.goes_on;
     }
@@ -65,10 +65,10 @@ returns-in-Err-clause-step g c = λ k at free.
     let old = opened.log in
     let new = c.flush.new.self in
     let begun = length opened.pages.items in
-    let l : LogView = seen opened k.tickets k.given_up in
+    let l : LogView = seen opened k.tickets k.given_up k.heads in
     let H = k.history in
     let to = reserved_end old in
-    let some : current_begin old < to → 0 < held_len old = some_reserved old sum begun k.tickets k.given_up to (omega arith) in
+    let some : current_begin old < to → 0 < held_len old = some_reserved old sum begun k.tickets k.given_up k.heads to (omega arith) in
     let position = c.flush.ensures.keeps.position in
     let device = view old.config.device in
     let now = view new.config.device in
@@ -76,16 +76,16 @@ returns-in-Err-clause-step g c = λ k at free.
     let used : Type 0 = IsUsedUpBelow old to in
     record {
       not_refused = refl;
-      next = k;
+      next = kept trace sum opened new k k.acknowledged;
       step = elim (kept_or_none ℕ c.in-Err.e held used (fault_of old) (fault_of new) device.failures now.failures c.in-Err.ensures.answers) [
         | inl kept ↦ (
             let same = c.flush.ensures.spares.faulty kept.0 kept.2 in
-            inl (keeps_failing old new begun k.tickets k.given_up device now H k.acknowledged k.floor c.in-Err.e kept.0 kept.1 kept.2 same (ap (λ x. view x.config.device) same)))
-        | inr none ↦ inr (fails_to old sum begun k.tickets k.given_up to some new device now H k.acknowledged k.floor (stays_put trace sum old new c.flush.ensures.keeps.tickets position c.flush.ensures.keeps.preserves) (whole_of trace sum old k.given_up H k.acknowledged k.floor at.unmarked at.given_up at.fits none) trace c.in-Err.e refl refl none
-            (why_of ℕ c.in-Err.e held _ used _ (fault_of old) (fault_of new) device.failures now.failures none (holding_seen old sum begun k.tickets k.given_up to some) (λ used. (used.0, flush_out old sum begun k.tickets k.given_up used.1)) (λ free needs. needs.1 (flush_in old sum begun k.tickets k.given_up (λ used. free (needs.0, used)))) c.in-Err.ensures.answers)
-            (subst (λ (es : List Event). Performs es (trace (device_of old)) (trace (device_of new))) (writes_seen old sum begun k.tickets k.given_up to some) c.flush.ensures.at_most)
-            (if_held ℕ c.in-Err.e _ _ (λ done. done ∙ ap (λ (es : List Event). after_all es (trace (device_of old))) (writes_seen old sum begun k.tickets k.given_up to some)) c.in-Err.ensures.calls) c.in-Err.ensures.buffers.0.seals.held c.in-Err.ensures.buffers.1)
+            inl (keeps_failing old new begun k.tickets k.given_up k.heads device now H k.acknowledged k.floor c.in-Err.e kept.0 kept.1 kept.2 same (ap (λ x. view x.config.device) same)))
+        | inr none ↦ inr (fails_to old sum begun k.tickets k.given_up k.heads to some new device now H k.acknowledged k.floor (stays_put trace sum old new c.flush.ensures.keeps.tickets position c.flush.ensures.keeps.preserves) (whole_of trace sum old k.given_up k.heads H k.acknowledged k.floor at.unmarked at.given_up at.heads at.fits none) trace c.in-Err.e refl refl none
+            (why_of ℕ c.in-Err.e held _ used _ (fault_of old) (fault_of new) device.failures now.failures none (holding_seen old sum begun k.tickets k.given_up k.heads to some) (λ used. (used.0, flush_out old sum begun k.tickets k.given_up k.heads used.1)) (λ free needs. needs.1 (flush_in old sum begun k.tickets k.given_up k.heads (λ used. free (needs.0, used)))) c.in-Err.ensures.answers)
+            (subst (λ (es : List Event). Performs es (trace (device_of old)) (trace (device_of new))) (writes_seen old sum begun k.tickets k.given_up k.heads to some) c.flush.ensures.at_most)
+            (if_held ℕ c.in-Err.e _ _ (λ done. done ∙ ap (λ (es : List Event). after_all es (trace (device_of old))) (writes_seen old sum begun k.tickets k.given_up k.heads to some)) c.in-Err.ensures.calls) c.in-Err.ensures.buffers.0.seals.held c.in-Err.ensures.buffers.1)
       ];
-      at = λ own. still_open trace sum opened new k k.acknowledged at c.flush.ensures.keeps.tickets position (was_free old new c.flush.ensures.spares.faulty) c.flush.ensures.keeps.preserves (c.flush.ensures.keeps.preserves.fits H k.acknowledged k.floor at.unmarked at.fits);
+      at = λ own. still_open trace sum opened new k k.acknowledged at c.flush.ensures.keeps.tickets c.flush.ensures.buffers.0.marked.heads position (was_free old new c.flush.ensures.spares.faulty) c.flush.ensures.keeps.preserves (c.flush.ensures.keeps.preserves.fits H k.acknowledged k.floor at.unmarked at.fits);
       crash = λ own. going_on trace sum opened k at new c.flush.ensures.keeps.preserves.goes_on;
     }

@@ -10,7 +10,7 @@ use Rattle.sled_core.specs.Stable.{target_for}
 use Rattle.sled_core.proofs.Holds.ReachLemmas.{fits_stable}
 use Rattle.sled_log.specs.RunPhases.{Does, view_by}
 use Rattle.sled_log.proofs.Sessions.NotedSeen.{target_written}
-use Rattle.sled_log.proofs.Sessions.Writing.{has_written, holding_seen, over, stable_seen, stays_put, still_open, was_free, whole_of}
+use Rattle.sled_log.proofs.Sessions.Writing.{has_written, holding_seen, over, stable_seen, stays_put, still_open, was_free, whole_of, kept}
 use Rattle.sled_log.proofs.Sessions.MadeStable.{held_seen, some_known, stabilizing_seen, stable_failed}
 use Rattle.sled_log.specs.declared.session.Phase.TheVariants as phase
 use Rattle.sled_log.specs.declared.session.command.Command.TheVariants as told
@@ -33,24 +33,24 @@ returns-in-Ok-clause-step g c = λ k at free.
     let answers = c.in-Ok.ensures.answers in
     let above = c.in-Ok.ensures.buffers.0.above in
     let fits = c.in-Ok.ensures.acknowledges H k.acknowledged k.floor at.unmarked at.fits in
-    let some : current_begin old < to → 0 < held_len old = some_known old sum begun k.tickets k.given_up place answers.0 in
+    let some : current_begin old < to → 0 < held_len old = some_known old sum begun k.tickets k.given_up k.heads place answers.0 in
     let past = fits_stable trace sum old H k.acknowledged k.floor at.unmarked at.fits in
     let position = c.make_stable.ensures.keeps.position in
     let put = stays_put trace sum old new c.make_stable.ensures.keeps.tickets position c.make_stable.ensures.keeps.preserves in
     let reached : ℕ = max k.acknowledged (end_below (stable_end new) H) in
-    let unheld = holding_seen old sum begun k.tickets k.given_up to some ∙ sym (held_seen old sum begun k.tickets k.given_up place answers.0) ∙ answers.1.0 in
+    let unheld = holding_seen old sum begun k.tickets k.given_up k.heads to some ∙ sym (held_seen old sum begun k.tickets k.given_up k.heads place answers.0) ∙ answers.1.0 in
     let done : Does view sum (phase.Open opened) (told.Stable place) (phase.Open (over opened new), reply.Flushed c.in-Ok.more) k =
     record {
       not_refused = refl;
-      next = record { history = H; acknowledged = reached; floor = k.floor; tickets = k.tickets; given_up = k.given_up };
+      next = kept trace sum opened new k reached;
       step = (
         answers.0,
-        has_written old sum begun k.tickets k.given_up to some new (view old.config.device) (view new.config.device) H k.acknowledged k.floor put (whole_of trace sum old k.given_up H k.acknowledged k.floor at.unmarked at.given_up at.fits answers.1.2) c.in-Ok.more answers.1.2 answers.1.3 answers.1.1 unheld
-            (c.in-Ok.ensures.made ∙ ap (λ (es : List Event). after_all es (trace (device_of old))) (stabilizing_seen old sum begun k.tickets k.given_up place)) answers.1.4 c.in-Ok.ensures.answer
+        has_written old sum begun k.tickets k.given_up k.heads to some new (view old.config.device) (view new.config.device) H k.acknowledged k.floor put (whole_of trace sum old k.given_up k.heads H k.acknowledged k.floor at.unmarked at.given_up at.heads at.fits answers.1.2) c.in-Ok.more answers.1.2 answers.1.3 answers.1.1 unheld
+            (c.in-Ok.ensures.made ∙ ap (λ (es : List Event). after_all es (trace (device_of old))) (stabilizing_seen old sum begun k.tickets k.given_up k.heads place)) answers.1.4 c.in-Ok.ensures.answer
             (target_written old new place c.make_stable.ensures.keeps.preserves.noted c.in-Ok.ensures.target) past above,
-        subst (λ n. place <ℤ pos n) (stable_seen old sum begun k.tickets k.given_up to some new (view old.config.device) (view new.config.device) H k.acknowledged k.floor put above) c.in-Ok.ensures.target,
+        subst (λ n. place <ℤ pos n) (stable_seen old sum begun k.tickets k.given_up k.heads to some new (view old.config.device) (view new.config.device) H k.acknowledged k.floor put above) c.in-Ok.ensures.target,
       );
-      at = λ own. still_open trace sum opened new k reached at c.make_stable.ensures.keeps.tickets position (was_free old new c.make_stable.ensures.spares.faulty) c.make_stable.ensures.keeps.preserves fits;
+      at = λ own. still_open trace sum opened new k reached at c.make_stable.ensures.keeps.tickets c.make_stable.ensures.buffers.0.marked.heads position (was_free old new c.make_stable.ensures.spares.faulty) c.make_stable.ensures.keeps.preserves fits;
       crash = λ own. going_on trace sum opened k at new c.make_stable.ensures.keeps.preserves.goes_on;
     } in
     subst (λ (z : ℤ). Does view sum (phase.Open opened) (told.Stable z) (phase.Open (over opened new), reply.Flushed c.in-Ok.more) k) (to_z-of_z w64 c.args.place c.ranges.place) done
@@ -66,14 +66,14 @@ returns-in-Err-clause-step g c = λ k at free.
     let new = c.make_stable.new.self in
     let position = c.make_stable.ensures.keeps.position in
     let place : ℤ = to_z w64 (of_z w64 c.args.place) in
-    let fails = stable_failed view sum old new (length opened.pages.items) k.tickets k.given_up place k.history k.acknowledged k.floor (stays_put trace sum old new c.make_stable.ensures.keeps.tickets position c.make_stable.ensures.keeps.preserves) (whole_of trace sum old k.given_up k.history k.acknowledged k.floor at.unmarked at.given_up at.fits) c.in-Err.e c.in-Err.ensures.answers c.in-Err.ensures.made c.make_stable.ensures.at_most
+    let fails = stable_failed view sum old new (length opened.pages.items) k.tickets k.given_up k.heads place k.history k.acknowledged k.floor (stays_put trace sum old new c.make_stable.ensures.keeps.tickets position c.make_stable.ensures.keeps.preserves) (whole_of trace sum old k.given_up k.heads k.history k.acknowledged k.floor at.unmarked at.given_up at.heads at.fits) c.in-Err.e c.in-Err.ensures.answers c.in-Err.ensures.made c.make_stable.ensures.at_most
     c.make_stable.ensures.spares.faulty c.in-Err.ensures.refused c.in-Err.ensures.buffers.0.seals.held c.in-Err.ensures.buffers.1 in
     let done : Does view sum (phase.Open opened) (told.Stable place) (phase.Open (over opened new), reply.Failed c.in-Err.e) k =
     record {
       not_refused = refl;
-      next = k;
+      next = kept trace sum opened new k k.acknowledged;
       step = fails;
-      at = λ own. still_open trace sum opened new k k.acknowledged at c.make_stable.ensures.keeps.tickets position (was_free old new c.make_stable.ensures.spares.faulty) c.make_stable.ensures.keeps.preserves (c.make_stable.ensures.keeps.preserves.fits k.history k.acknowledged k.floor at.unmarked at.fits);
+      at = λ own. still_open trace sum opened new k k.acknowledged at c.make_stable.ensures.keeps.tickets c.make_stable.ensures.buffers.0.marked.heads position (was_free old new c.make_stable.ensures.spares.faulty) c.make_stable.ensures.keeps.preserves (c.make_stable.ensures.keeps.preserves.fits k.history k.acknowledged k.floor at.unmarked at.fits);
       crash = λ own. going_on trace sum opened k at new c.make_stable.ensures.keeps.preserves.goes_on;
     } in
     subst (λ (z : ℤ). Does view sum (phase.Open opened) (told.Stable z) (phase.Open (over opened new), reply.Failed c.in-Err.e) k) (to_z-of_z w64 c.args.place c.ranges.place) done

@@ -6,7 +6,7 @@ use Rattle.sled_core.specs.Waiting.{spans}
 use Rattle.sled_log.specs.RunPhases.{seen, view_by}
 use Rattle.sled_log.specs.RunStates.{LogView, opens, pending_in_view, without_unheld}
 use Rattle.sled_log.specs.declared.session.command.Refusal.TheVariants as why
-use Rattle.sled_log.proofs.Sessions.Writing.{held_none, index_fits, keeps_failing, kept_or_none, leaves, never_held, pending_seen, shows_waiting, spared, stays_put, still_open, waiting_held, was_free, whole_of, why_of, without_seen}
+use Rattle.sled_log.proofs.Sessions.Writing.{held_none, index_fits, keeps_failing, kept_or_none, leaves, never_held, pending_seen, shows_waiting, spared, stays_put, still_open, waiting_held, was_free, whole_of, why_of, without_seen, kept}
 use Rattle.sled_log.proofs.Sessions.Within.{going_on}
 use Rattle.sled_log.proofs.session.writing.write.Goals as goal
 
@@ -14,9 +14,9 @@ use Rattle.sled_log.proofs.session.writing.write.Goals as goal
 pub returns-then-i-pending-clause-step : goal.returns-then-i-pending-clause-step
 returns-then-i-pending-clause-step g c = λ k at free.
     let opened = c.args.opened.now in
-    let l : LogView = seen opened k.tickets k.given_up in
+    let l : LogView = seen opened k.tickets k.given_up k.heads in
     let fits : nat_le (pending_in_view l) c.args.i ≡ false = index_fits (g.D.CrashDevice.is_stopped opened.log.config.device && true) (nat_le (pending_in_view l) c.args.i) why.Stopped why.Index free in
-    let same = pending_seen opened.log g.C.Checksum.sum_of (length opened.pages.items) k.tickets k.given_up in
+    let same = pending_seen opened.log g.C.Checksum.sum_of (length opened.pages.items) k.tickets k.given_up k.heads in
     let high : pending_in_view l ≤ c.args.i = let high = c.if-i-pending.true in let is = c.pending.ensures in omega (arith, high, is, same) in
     absurd (grind (arith, nat_tests, fits, high))
 
@@ -28,19 +28,19 @@ returns-in-Ok-clause-step g c = λ k at free.
     let opened = c.args.opened.now in
     let old = opened.log in
     let new = c.write_to_log.new.self in
-    let l : LogView = seen opened k.tickets k.given_up in
+    let l : LogView = seen opened k.tickets k.given_up k.heads in
     let answers = c.in-Ok.ensures.answers in
-    let left : spans (waiting_of new) ≡ without_unheld (opens l) c.args.i l.waiting = ap spans c.in-Ok.ensures.written ∙ without_seen (opens l) c.args.i (waiting_of old) (waiting_held old sum (length opened.pages.items) k.tickets k.given_up) in
+    let left : spans (waiting_of new) ≡ without_unheld (opens l) c.args.i l.waiting = ap spans c.in-Ok.ensures.written ∙ without_seen (opens l) c.args.i (waiting_of old) (waiting_held old sum (length opened.pages.items) k.tickets k.given_up k.heads) in
     record {
       not_refused = refl;
-      next = k;
+      next = kept trace sum opened new k k.acknowledged;
       step = (
         answers.0,
-        record { buffers = waiting_of old; shown = shows_waiting old sum (length opened.pages.items) k.tickets k.given_up (whole_of trace sum old k.given_up k.history k.acknowledged k.floor at.unmarked at.given_up at.fits answers.0); made = c.in-Ok.ensures.calls },
+        record { buffers = waiting_of old; shown = shows_waiting old sum (length opened.pages.items) k.tickets k.given_up k.heads (whole_of trace sum old k.given_up k.heads k.history k.acknowledged k.floor at.unmarked at.given_up at.heads at.fits answers.0); made = c.in-Ok.ensures.calls },
         answers.2,
-        leaves old sum (length opened.pages.items) k.tickets k.given_up new (view old.config.device) (view new.config.device) k.history k.acknowledged k.floor (stays_put trace sum old new c.write_to_log.ensures.keeps.tickets c.write_to_log.ensures.keeps.position c.write_to_log.ensures.keeps.preserves) _ _ _ left c.write_to_log.ensures.start answers.1,
+        leaves old sum (length opened.pages.items) k.tickets k.given_up k.heads new (view old.config.device) (view new.config.device) k.history k.acknowledged k.floor (stays_put trace sum old new c.write_to_log.ensures.keeps.tickets c.write_to_log.ensures.keeps.position c.write_to_log.ensures.keeps.preserves) _ _ _ left c.write_to_log.ensures.start answers.1,
       );
-      at = λ own. still_open trace sum opened new k k.acknowledged at c.write_to_log.ensures.keeps.tickets c.write_to_log.ensures.keeps.position (was_free old new c.write_to_log.ensures.faulty) c.write_to_log.ensures.keeps.preserves (c.write_to_log.ensures.keeps.preserves.fits k.history k.acknowledged k.floor at.unmarked at.fits);
+      at = λ own. still_open trace sum opened new k k.acknowledged at c.write_to_log.ensures.keeps.tickets (λ h there. inl (c.write_to_log.ensures.heads h there)) c.write_to_log.ensures.keeps.position (was_free old new c.write_to_log.ensures.faulty) c.write_to_log.ensures.keeps.preserves (c.write_to_log.ensures.keeps.preserves.fits k.history k.acknowledged k.floor at.unmarked at.fits);
       crash = λ own. going_on trace sum opened k at new c.write_to_log.ensures.keeps.preserves.goes_on;
     }
 
@@ -52,7 +52,7 @@ returns-in-Err-clause-step g c = λ k at free.
     let opened = c.args.opened.now in
     let old = opened.log in
     let new = c.write_to_log.new.self in
-    let l : LogView = seen opened k.tickets k.given_up in
+    let l : LogView = seen opened k.tickets k.given_up k.heads in
     let left : spans (waiting_of new) ≡ l.waiting = ap spans c.in-Err.ensures.err.1 in
     let device = view old.config.device in
     let now = view new.config.device in
@@ -61,11 +61,11 @@ returns-in-Err-clause-step g c = λ k at free.
     let answers = held_none (Unit {0}) c.in-Err.e (fault_of old) (fault_of new) device.failures now.failures c.in-Err.ensures.answers in
     record {
       not_refused = refl;
-      next = k;
+      next = kept trace sum opened new k k.acknowledged;
       step = elim (kept_or_none (Unit {0}) c.in-Err.e None ⊥ (fault_of old) (fault_of new) device.failures now.failures answers) [
         | inl kept ↦ (
             let same = c.write_to_log.ensures.faulty kept.0 kept.2 in
-            inl (keeps_failing old new begun k.tickets k.given_up device now k.history k.acknowledged k.floor c.in-Err.e kept.0 kept.1 kept.2 same (ap (λ x. view x.config.device) same)))
+            inl (keeps_failing old new begun k.tickets k.given_up k.heads device now k.history k.acknowledged k.floor c.in-Err.e kept.0 kept.1 kept.2 same (ap (λ x. view x.config.device) same)))
         | inr none ↦ inr (record {
           sound = none;
           fault = fault_of new;
@@ -73,16 +73,16 @@ returns-in-Err-clause-step g c = λ k at free.
           came = (
             record {
               buffers = waiting_of old;
-              shown = shows_waiting old sum begun k.tickets k.given_up (whole_of trace sum old k.given_up k.history k.acknowledged k.floor at.unmarked at.given_up at.fits none);
+              shown = shows_waiting old sum begun k.tickets k.given_up k.heads (whole_of trace sum old k.given_up k.heads k.history k.acknowledged k.floor at.unmarked at.given_up at.heads at.fits none);
               made = c.write_to_log.ensures.at_most;
               synced = (let same = c.in-Err.ensures.err.2 in omega (arith, same));
               whole = λ sound. spared (Unit {0}) c.in-Err.e (fault_of old) (fault_of new) device.failures now.failures device.trace now.trace none sound c.in-Err.ensures.answers c.in-Err.ensures.refused;
               held = never_held (Unit {0}) c.in-Err.e (fault_of old) (fault_of new) device.failures now.failures _ c.in-Err.ensures.answers;
             },
-            leaves old sum begun k.tickets k.given_up new device now k.history k.acknowledged k.floor put _ _ _ left c.write_to_log.ensures.start refl,
+            leaves old sum begun k.tickets k.given_up k.heads new device now k.history k.acknowledged k.floor put _ _ _ left c.write_to_log.ensures.start refl,
           );
         })
       ];
-      at = λ own. still_open trace sum opened new k k.acknowledged at c.write_to_log.ensures.keeps.tickets c.write_to_log.ensures.keeps.position (was_free old new c.write_to_log.ensures.faulty) c.write_to_log.ensures.keeps.preserves (c.write_to_log.ensures.keeps.preserves.fits k.history k.acknowledged k.floor at.unmarked at.fits);
+      at = λ own. still_open trace sum opened new k k.acknowledged at c.write_to_log.ensures.keeps.tickets (λ h there. inl (c.write_to_log.ensures.heads h there)) c.write_to_log.ensures.keeps.position (was_free old new c.write_to_log.ensures.faulty) c.write_to_log.ensures.keeps.preserves (c.write_to_log.ensures.keeps.preserves.fits k.history k.acknowledged k.floor at.unmarked at.fits);
       crash = λ own. going_on trace sum opened k at new c.write_to_log.ensures.keeps.preserves.goes_on;
     }

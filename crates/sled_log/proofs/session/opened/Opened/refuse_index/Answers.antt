@@ -12,8 +12,8 @@ pub returns-then-i-pending : goal.returns-then-i-pending
 returns-then-i-pending g c = record {
   why = λ k at.
       let opened = c.args.self.now in
-      let n : ℕ = pending_in_view (seen opened k.tickets k.given_up) in
-      let is : c.pending.result ≡ n = c.pending.ensures ∙ pending_seen opened.log g.C.Checksum.sum_of (length opened.pages.items) k.tickets k.given_up in
+      let n : ℕ = pending_in_view (seen opened k.tickets k.given_up k.heads) in
+      let is : c.pending.result ≡ n = c.pending.ensures ∙ pending_seen opened.log g.C.Checksum.sum_of (length opened.pages.items) k.tickets k.given_up k.heads in
       let low = c.if-i-pending.true in
       let test : nat_le n c.args.i ≡ false = grind (arith, nat_tests, is, low) in
       ap (λ (b : Bool). when b why.Index None) (sym test);
@@ -23,8 +23,8 @@ pub returns-else-i-pending : goal.returns-else-i-pending
 returns-else-i-pending g c = record {
   why = λ k at.
       let opened = c.args.self.now in
-      let n : ℕ = pending_in_view (seen opened k.tickets k.given_up) in
-      let is : c.pending.result ≡ n = c.pending.ensures ∙ pending_seen opened.log g.C.Checksum.sum_of (length opened.pages.items) k.tickets k.given_up in
+      let n : ℕ = pending_in_view (seen opened k.tickets k.given_up k.heads) in
+      let is : c.pending.result ≡ n = c.pending.ensures ∙ pending_seen opened.log g.C.Checksum.sum_of (length opened.pages.items) k.tickets k.given_up k.heads in
       let up = c.if-i-pending.false in
       let test : nat_le n c.args.i ≡ true = grind (arith, nat_tests, is, up) in
       ap (λ (b : Bool). when b why.Index None) (sym test);
