@@ -1,1 +1,12 @@
+pub mod AlikeRecords
+pub mod AnyOrdering
+pub mod BufferPlaces
+pub mod Cleared
+pub mod ClearedCalls
+pub mod ClearedMoves
+pub mod ClearedShows
+pub mod CutEnds
 pub mod Emptied
+pub mod Gone
+pub mod NoHarm
+pub mod PassedOver

@@ -17,7 +17,7 @@ use Rattle.sled_store.proofs.Names.NamesLemmas.{settled_name_left, settled_name_
 use Rattle.sled_core.specs.declared.logger.Log.{Log}
 use Rattle.sled_core.specs.Fits.{KeepsAll, stable_end, FirstWaits, FitsInline, HasRecordOf, NoneOpen, NoneOpenIn, IsUnchanged, IsWritten, synced_end, segment_size_of, buffers_of, current_begin, current_of, held_len, holding_below, is_moved, line_of, machine_at, message_rewriting, next_place, noted_in, reserved_end, sealing_end, start_behind, start_of, target_of, waiting_behind, waiting_of}
 use Rattle.sled_core.specs.Logged.{logged}
-use Rattle.sled_core.specs.Waiting.{BufferAt, BufferStart, HasLength, at_last, closed_now, first_held, held_below, spans, unwritten}
+use Rattle.sled_core.specs.Waiting.{BufferAt, BufferStart, at_last, closed_now, first_held, held_below, spans, unwritten}
 use Rattle.sled_store.specs.SegmentStates.{next_slot}
 use Rattle.sled_core.specs.Recoverable.{NoForeign, LeavesRecoverable}
 use Rattle.sled_core.specs.invariants.Recoverable.{Recoverable}
@@ -29,7 +29,7 @@ use Rattle.sled_core.proofs.Holds.ReachLemmas.{kept_past}
 use Rattle.sled_core.proofs.Holds.Facts.{current_facts}
 use Rattle.sled_core.proofs.Line.Rewritten.{rewritten_stored}
 use Rattle.sled_core.proofs.Line.Targets.{lies}
-use Rattle.sled_core.proofs.Line.Shows.{buffers_add, buffers_closed, buffers_free, buffers_long, buffers_still}
+use Rattle.sled_core.proofs.Line.Shows.{buffers_add, buffers_closed, buffers_free}
 use Rattle.sled_core.proofs.Line.Spans.{spans_added}
 use Rattle.sled_core.proofs.Logged.Messages.{all_in_log}
 use Rattle.sled_core.proofs.Start.Places.{goes_on_at}

@@ -1,5 +1,5 @@
 -- What a caller sees of a log at one moment, and what sealing and writing make of it. What they seal is told beside it: its bytes aren't part of what is seen.
-use Rattle.std.specs.Prelude.{◌∷◌, if◌then◌else◌, Bool, ℕ, List, [], Option}
+use Rattle.std.specs.Prelude.{◌∷◌, ℕ, List, [], Option}
 use Rattle.std.specs.declared.io.Error.{Error as IoError}
 use Rattle.sled_codec.specs.History.{Batch}
 use Rattle.sled_core.specs.declared.logger.Log.{Log}

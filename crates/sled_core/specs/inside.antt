@@ -4,6 +4,7 @@ pub mod Begun
 pub mod Buffers
 pub mod Caps
 pub mod Causes
+pub mod Cleared
 pub mod FirstBuffer
 pub mod Fits
 pub mod FreeSlots

@@ -1,13 +1,13 @@
 -- The lemmas by which a proof of a crate above cites the laws of histories and tables: a history of Replaces in the order of pages stays orderly, a message of a greater place is appended, and a table has the last message of each page.
 -- The laws are the interface (`src/laws.rt`): each says what a client may rely on, and its lemma here says the same. Those under "Helpers" have no law: they are about lists and sizes alone, and are here so that a client needn't write them again.
 use Rattle.std.specs.Prelude.{◌↔◌}
-use Rattle.std.proofs.Common.{⊎_elim, ◌≡◌, ◌∙◌, ◌<◌, ◌≤◌, ℕ, ◌&&◌, if◌then◌else◌, cond, nat_lt, List, [], ◌∷◌, ◌++◌, length, Option, Some, None, refl, sym, ap, subst, arith, pos}
+use Rattle.std.proofs.Common.{⊎_elim, ◌≡◌, ◌∙◌, ◌<◌, ◌≤◌, ℕ, if◌then◌else◌, List, [], ◌∷◌, ◌++◌, length, Option, Some, None, refl, sym, ap, subst, arith, pos}
 use Rattle.std.specs.List.{All, Contains}
 use Rattle.std.proofs.lemmas.List.{append-nil}
 use Rattle.std.proofs.lemmas.List.Elements.{All-head, All-tail, All-filter, All-contains, Contains-append_right}
 use Rattle.sled_codec.specs.declared.serialization.message.LogKind.{LogKind}
 use Rattle.sled_codec.specs.declared.serialization.message.LogKind.TheVariants.{Replace}
-use Rattle.sled_codec.specs.History.{Message, History, Completed, Step, begins_page, is_replace, is_link, later_or, last_beginning, entries_from, page_state, of_page, table, below, HasPage}
+use Rattle.sled_codec.specs.History.{Message, History, Completed, Step, begins_page, is_replace, later_or, last_beginning, entries_from, page_state, of_page, table, below, HasPage}
 use Rattle.sled_codec.specs.PageTables.{IsTable, entry_of, page_with}
 use Rattle.sled_codec.specs.Snapshots.{Page, Present, Free}
 use Rattle.sled_log.specs.Replaces.{HasLast, IsOfReplaces}

@@ -1,11 +1,9 @@
 -- Segments one behind another: the n-th one, the last one, and those around them.
-use Rattle.std.proofs.Common.{◌≡◌, ◌∙◌, ◌-◌, ap, sym, refl, arith, ℕ, zero, suc, List, [], ◌∷◌, ◌++◌, length, take, drop, set, map, Some}
+use Rattle.std.proofs.Common.{◌≡◌, ◌∙◌, ◌-◌, ap, refl, arith, ℕ, zero, suc, List, [], ◌∷◌, ◌++◌, length, take, drop, set, map, Some}
 use Rattle.std.specs.List.{slice_get}
-use Rattle.std.proofs.lemmas.List.{length-set, map-append, set_split}
+use Rattle.std.proofs.lemmas.List.{map-append, set_split}
 use Rattle.std.proofs.lemmas.Option.{slice_get_within}
 use Rattle.sled_core.specs.Begun.{SegmentView, segment_view}
-use Rattle.sled_core.specs.inside.Begun.{last_buffer}
-use Rattle.sled_core.specs.declared.iobuf.IoBuf.{IoBuf}
 use Rattle.sled_core.specs.declared.logger.io_bufs.SegmentBuffer.{SegmentBuffer}
 use Rattle.sled_core.specs.inside.Fits.{parts_in}
 use Rattle.sled_core.specs.Waiting.{at_last, last_of}

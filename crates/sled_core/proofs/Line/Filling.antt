@@ -1,14 +1,12 @@
 -- What code makes of the segment that is being filled, in the first buffer or in the last one behind it, is made of the last segment of the line.
-use Rattle.std.proofs.Common.{◌≡◌, ◌∙◌, ◌<◌, ◌≤◌, ◌+◌, ◌-◌, ◌^◌, ap, sym, refl, arith, subst, ℕ, zero, suc, List, [], ◌∷◌, length, map, set, slice_index_or, Some}
+use Rattle.std.proofs.Common.{◌≡◌, ◌∙◌, ◌<◌, ◌≤◌, ◌+◌, ◌^◌, ap, sym, arith, subst, ℕ, zero, suc, List, [], ◌∷◌, length, set, Some}
 use Rattle.std.specs.List.{slice_get}
-use Rattle.std.proofs.lemmas.Option.{slice_get_read}
 use Rattle.sled_core.specs.inside.Begun.{FollowOn}
-use Rattle.sled_core.specs.Begun.{SegmentView, line_at, segment_view, view_at}
+use Rattle.sled_core.specs.Begun.{SegmentView, line_at, view_at}
 use Rattle.sled_core.specs.declared.iobuf.IoBuf.{IoBuf}
 use Rattle.sled_core.specs.declared.iobuf.SegmentPosition.{SegmentPosition}
 use Rattle.sled_core.specs.declared.logger.io_bufs.SegmentBuffer.{SegmentBuffer}
-use Rattle.sled_core.specs.Waiting.{at_last, last_of}
-use Rattle.sled_core.proofs.Line.Last.{at_last_still}
+use Rattle.sled_core.specs.Waiting.{at_last}
 
 pub line_first : (f : SegmentView → SegmentView) (site : SegmentPosition) (b new : IoBuf) (ss : List SegmentBuffer) → length ss ≡ 0 → view_at site new ≡ f (view_at site b) → line_at site new ss ≡ at_last f (line_at site b ss)
 line_first f site b new [] none is = ap (λ (v : SegmentView). v ∷ []) is

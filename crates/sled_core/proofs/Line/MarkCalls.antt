@@ -1,5 +1,5 @@
 -- A call that marks a message: where it succeeds the log fits the history with the others unmarked, and where it fails as before.
-use Rattle.std.proofs.Common.{◌≡◌, ◌≢◌, ◌∙◌, ◌<◌, ℕ, true, false, List, [], Result, Ok, Err, OnOk, OnErr, refl, sym, ap, subst, arith, inl, inr}
+use Rattle.std.proofs.Common.{◌≡◌, ◌∙◌, ◌<◌, ℕ, true, List, [], Result, Ok, Err, OnOk, refl, sym, ap, subst, arith, inl, inr}
 use Rattle.std.proofs.lemmas.Bool.{false≢true}
 use Rattle.std.proofs.lemmas.List.Elements.{All-nil}
 use Rattle.sled_codec.specs.declared.result.Error.{Error}
@@ -7,7 +7,7 @@ use Rattle.sled_codec.specs.declared.serialization.message.LogKind.{LogKind}
 use Rattle.sled_codec.specs.declared.serialization.message.LogKind.TheVariants.{Corrupted, Free, Link, Replace, Skip}
 use Rattle.sled_codec.specs.History.{ChangesPage, History, Message, begins_page}
 use Rattle.sled_store.specs.Device.{Trace, state_of}
-use Rattle.sled_store.specs.Marks.{IsFormerState, info_of}
+use Rattle.sled_store.specs.Marks.{IsFormerState}
 use Rattle.sled_store.specs.SegmentStates.{LiesIn, Machine, MayMark, linked, replaced}
 use Rattle.sled_store.specs.declared.segment.slot.CacheInfo.{CacheInfo}
 use Rattle.sled_store.proofs.Marks.MarkSteps.{SameSegments, same_segment}
@@ -17,7 +17,6 @@ use Rattle.sled_core.specs.Fits.{device_of, machine_at, segment_size_of}
 use Rattle.sled_core.specs.Marking.{ChangesAccount, IsOfMessage, KeepsMarked, Marks, TakesMark, but_for}
 use Rattle.sled_core.specs.Unmarked.{without}
 use Rattle.sled_core.specs.inside.Slots.{HasAccount}
-use Rattle.sled_core.specs.invariants.Fits.{Holds}
 use Rattle.sled_core.specs.invariants.Running.{Fits}
 use Rattle.sled_core.proofs.Holds.ReachLemmas.{fits_apart}
 use Rattle.sled_core.proofs.Line.Accounts.{account_linked, account_replaced}

@@ -1,5 +1,5 @@
 -- What is written to make a place durable, and what holds that up, where it isn't durable yet, and where it is.
-use Rattle.std.proofs.Common.{◌*◌, length, ◌≡◌, ◌∙◌, ◌≤ℤ◌, ◌<ℤ◌, ◌+◌, ◌-ℤ◌, ◌<◌, ◌≤◌, ◌^◌, int_lt, unsigned_abs, refl, true, false, Bool, ℕ, ℤ, pos, negsuc, List, Option, None, Err, if◌then◌else◌, [], sym, ap, subst, arith, map}
+use Rattle.std.proofs.Common.{◌*◌, length, ◌≡◌, ◌∙◌, ◌≤ℤ◌, ◌<ℤ◌, ◌+◌, ◌-ℤ◌, ◌≤◌, int_lt, unsigned_abs, refl, true, false, Bool, ℕ, ℤ, pos, negsuc, List, Option, None, Err, if◌then◌else◌, [], sym, ap, subst, arith, map}
 use Rattle.std.specs.Int.Signed.{le_z}
 use Rattle.std.proofs.Math.Nat.{suc-mul}
 use Rattle.std.proofs.lemmas.Int.{ints}

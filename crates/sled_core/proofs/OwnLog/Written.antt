@@ -19,7 +19,7 @@ use Rattle.sled_core.proofs.Read.ScanLemmas.{aligned_offset}
 use Rattle.sled_core.proofs.Sealed.LaidLemmas.{EndsRise}
 
 -- a buffer begins with the header of its segment, or behind it
-first_in : (size slot from : ℕ) → slot % size ≡ 0 → from < size → (from ≡ 0) ⊎ (20 ≤ from) → first_record size (slot + from) ≡ max 20 from - from
+pub first_in : (size slot from : ℕ) → slot % size ≡ 0 → from < size → (from ≡ 0) ⊎ (20 ≤ from) → first_record size (slot + from) ≡ max 20 from - from
 first_in size slot from aligned below begins = ap (λ n. if nat_lt 0 n then 0 else 20) (aligned_offset slot from size aligned below) ∙ by begins
   where
     by : (from ≡ 0) ⊎ (20 ≤ from) → (if nat_lt 0 from then 0 else 20) ≡ max 20 from - from

@@ -1,7 +1,7 @@
 -- The cut of such a log file: a pass over it stops at the place that was reached or above it.
 use Rattle.std.proofs.Common.{⊎_elim, ◌≡◌, ◌∙◌, ◌+◌, ◌%◌, ◌<◌, ◌≤◌, ℕ, List, [], ◌∷◌, Option, Some, refl, sym, ap, subst, arith, inl, inr}
 use Rattle.std.specs.List.{Contains}
-use Rattle.std.proofs.lemmas.Bool.{cases_lt, cases_order}
+use Rattle.std.proofs.lemmas.Bool.{cases_lt}
 use Rattle.sled_codec.specs.History.{History}
 use Rattle.sled_codec.specs.Snapshots.{SnapshotModel}
 use Rattle.sled_store.proofs.Segments.Elements.{in_nothing}
@@ -13,7 +13,7 @@ use Rattle.sled_core.proofs.Tail.Covered.{PassEnds}
 use Rattle.sled_core.proofs.Tail.OfHistory.{opened_of}
 use Rattle.sled_core.proofs.Tail.OneTail.{in_below, from_below}
 use Rattle.sled_core.proofs.Tail.Rows.{IsRow, IsStopIn, row_below, met_stand, stand_in, stand_rises, stop_inside, stop_in, cut_cases}
-use Rattle.sled_core.proofs.Tail.Tails.{further, whole, row, one_reading, tail_last, tail_has}
+use Rattle.sled_core.proofs.Tail.Tails.{ends_low, further, whole, row, tail_last, tail_has}
 use Rattle.sled_core.proofs.Reached.StandsTo.{StandsTo, least, begins, aligned}
 
 module _ (sum : List ℕ → ℕ) (size : ℕ) (log : List ℕ) (some : 256 ≤ size) (H : History) (first : SnapshotModel) (reach : ℕ) (is : StandsTo sum size log H reach first reach)
@@ -38,19 +38,8 @@ module _ (sum : List ℕ → ℕ) (size : ℕ) (log : List ℕ) (some : 256 ≤ 
   multiples = further sum size log some from is.ordering is.numbers is.scanned is.reads
 
   -- A segment that begins below the end of the tail ends no higher.
-  ends_low : (t : Scanned) → Contains is.scanned t → t.segment.place < end → t.segment.place + t.stop ≤ end
-  ends_low t there below =
-      let own = whole sum size log some from is.ordering is.numbers is.scanned is.reads t there in
-      let its = whole sum size log some from is.ordering is.numbers is.scanned is.reads last.0 last.1 in
-      let fits = inside t there in
-      let short = inside last.0 last.1 in
-      elim (cases_order t.segment.place last.0.segment.place) [
-        | inl same ↦ (
-            let one : t ≡ last.0 = one_reading sum size log some from is.ordering is.numbers is.scanned is.reads t last.0 there last.1 same in
-            omega (arith, last.2, ap (λ (x : Scanned). x.segment.place + x.stop) one))
-        | inr (inl under) ↦ (let apart = multiples t.segment.place last.0.segment.place own.1 its.1 under in omega (arith, apart, fits, last.2))
-        | inr (inr over) ↦ (let apart = multiples last.0.segment.place t.segment.place its.1 own.1 over in absurd (omega (arith, apart, short, last.2, below)))
-      ]
+  low_end : (t : Scanned) → Contains is.scanned t → t.segment.place < end → t.segment.place + t.stop ≤ end
+  low_end = ends_low sum size log some from is.ordering is.numbers is.scanned is.reads begin tail is_tail end ends
 
   last_begun : last.0.segment.place < end
   last_begun = let longer = long last.0 last.1 in omega (arith, longer, last.2)
@@ -123,7 +112,7 @@ module _ (sum : List ℕ → ℕ) (size : ℕ) (log : List ℕ) (some : 256 ≤ 
       begun = final.1;
       place = place_is;
       is_cut = refl;
-      low = let within = stop_within in let low = ends_low stops.last final.0 final.1 in omega (arith, within, low);
+      low = let within = stop_within in let low = low_end stops.last final.0 final.1 in omega (arith, within, low);
       no_higher = λ z begins_z lower. elim (cases_lt stops.last.segment.place z) [
         | inl higher ↦ (
             let apart = multiples stops.last.segment.place z (whole sum size log some from is.ordering is.numbers is.scanned is.reads stops.last final.0).1 begins_z higher in

@@ -34,7 +34,7 @@ pub record IsAsFar (sum : List ℕ → ℕ) (size : ℕ) (log : List ℕ) (order
 
 module _ (sum : List ℕ → ℕ) (size : ℕ) (log : List ℕ) (H : History) where
   -- the readings of segments, in the order of these
-  scans_of : (ss : List Segment) → ((s : Segment) → Contains ss s → IsReading sum size log H s) → (xs : List Scanned) × AreScanned sum size log ss xs
+  pub scans_of : (ss : List Segment) → ((s : Segment) → Contains ss s → IsReading sum size log H s) → (xs : List Scanned) × AreScanned sum size log ss xs
   scans_of [] each = ([], tt)
   scans_of (s ∷ ss) each =
       let one = each s (in_first s ss) in
@@ -49,10 +49,10 @@ module _ (sum : List ℕ → ℕ) (size : ℕ) (log : List ℕ) (H : History) wh
         let r = each t.segment known.0 in
         (r, one_scan sum size log r.scan t r.segment r.read known.1)
 
-    read_truth : (t : Scanned) (x : ScannedRecord) → Contains xs t → Contains t.met x → IsOfHistory sum size log H x
+    pub read_truth : (t : Scanned) (x : ScannedRecord) → Contains xs t → Contains t.met x → IsOfHistory sum size log H x
     read_truth t x there met = let r = the_reading t there in r.0.truth x (subst (λ (u : Scanned). Contains u.met x) (sym r.1) met)
 
-    read_caps : (t : Scanned) → Contains xs t → NothingBehind size H t.segment.place t.stop t.why
+    pub read_caps : (t : Scanned) → Contains xs t → NothingBehind size H t.segment.place t.stop t.why
     read_caps t there =
         let r = the_reading t there in
         subst (λ (u : Scanned). NothingBehind size H u.segment.place u.stop u.why) r.1 r.0.caps

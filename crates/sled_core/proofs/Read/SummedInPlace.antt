@@ -1,6 +1,6 @@
 -- Bytes that are put over others for a while, and what stands then behind what is before them.
-use Rattle.std.proofs.Common.{◌≡◌, ◌∙◌, ◌+◌, ◌-◌, ◌≤◌, ℕ, List, ◌++◌, length, take, drop, ap, sym, refl, arith, append_assoc, length-take, length-drop}
-use Rattle.std.proofs.lemmas.List.{drop-drop, drop-take, take-take, take_at, drop_at, drop-append-le, take-append-le, take-append-drop}
+use Rattle.std.proofs.Common.{◌≡◌, ◌∙◌, ◌+◌, ◌-◌, ◌≤◌, ℕ, List, ◌++◌, length, take, drop, ap, sym, arith, append_assoc, length-take, length-drop}
+use Rattle.std.proofs.lemmas.List.{drop-drop, take-take, take_at, drop-append-le, take-append-le, take-append-drop}
 use Rattle.sled_codec.specs.Places.{part}
 use Rattle.sled_codec.specs.Written.{written, drop-written}
 use Rattle.sled_core.proofs.Reserve.Parts.{mid_is}

@@ -1,5 +1,5 @@
 -- The contiguous end is where the next place is in no interval.
-use Rattle.std.proofs.Common.{◌≡◌, ◌⊎◌, ◌≤ℤ◌, ◌<ℤ◌, ◌+ℤ◌, zero, suc, ℤ, pos, List, ◌∷◌, slice_index_or, refl, inl, inr, arith}
+use Rattle.std.proofs.Common.{◌⊎◌, ◌≤ℤ◌, ◌<ℤ◌, ◌+ℤ◌, suc, ℤ, pos, List, ◌∷◌, slice_index_or, inl, inr, arith}
 use Rattle.std.specs.List.{All, Any, Contains}
 use Rattle.std.proofs.lemmas.Int.{ints, by_lt_z}
 use Rattle.std.proofs.lemmas.List.Elements.{All-contains, Contains-get_or}

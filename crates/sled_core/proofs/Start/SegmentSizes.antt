@@ -10,7 +10,7 @@ use Rattle.sled_codec.specs.Snapshots.{Entry, Page}
 use Rattle.sled_codec.specs.WellFormed.{LieApart}
 use Rattle.sled_store.specs.Begin.{slot_of, segment_number_of, entries_of, sizes_in}
 use Rattle.sled_store.specs.SlotTables.{number_in}
-use Rattle.sled_store.proofs.Segments.Elements.{in_first, in_rest, all_from_in}
+use Rattle.sled_store.proofs.Segments.Elements.{all_from_in}
 use Rattle.sled_store.proofs.Segments.EntryLemmas.{first_in, no_sizes}
 use Rattle.sled_store.proofs.Segments.TableWeights.{weight, table_counts}
 use Rattle.sled_store.proofs.Marks.StandingSums.{sum_less as less_sum}

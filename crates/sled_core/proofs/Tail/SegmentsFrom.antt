@@ -79,7 +79,7 @@ greatest_above least [] = omega arith
 greatest_above least (s ∷ ss) = let rest = greatest_above least ss in omega (arith, rest)
 
 -- no mark is greater than the greatest
-mark_within : (least : ℕ) (ss : List Segment) (s : Segment) → Contains ss s → place_of_mark s.mark ≤ greatest_mark least ss
+pub mark_within : (least : ℕ) (ss : List Segment) (s : Segment) → Contains ss s → place_of_mark s.mark ≤ greatest_mark least ss
 mark_within least [] s there = absurd (in_nothing s there)
 mark_within least (t ∷ ss) s there = elim (in_cases t s ss there) [
   | inl same ↦ omega (arith, ap (λ (u : Segment). place_of_mark u.mark) same)

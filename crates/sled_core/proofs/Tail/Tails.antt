@@ -11,7 +11,7 @@ use Rattle.sled_core.specs.Tail.{Scanned, IsScanned}
 use Rattle.sled_core.proofs.Tail.Multiples.{apart, next_multiple}
 use Rattle.sled_core.proofs.Tail.OneReading.{one_scan}
 use Rattle.sled_core.proofs.Tail.OneTail.{Rises, rises_of, one_at_place, scan_there, segment_there, reading_there}
-use Rattle.sled_core.proofs.Tail.Rows.{IsWhole, IsRow, row_ordered, row_whole, stop_inside}
+use Rattle.sled_core.proofs.Tail.Rows.{IsWhole, IsRow, met_stand, row_ordered, row_whole, stand_rises, stop_inside}
 
 -- what is left of an option
 pub some_is : (a b : ℕ) → Some a ≡ Some b → a ≡ b
@@ -108,6 +108,51 @@ module _ (sum : List ℕ → ℕ) (size : ℕ) (log : List ℕ) (some : 256 ≤ 
         no_more none = cc
     by Full on rest = next on rest
     by Capped on rest = next on rest
+
+  -- It begins with a segment that is there, and ends behind that one's beginning.
+  pub tail_first : (place : ℕ) (tail : List Scanned) → IsTail sum size log ordering place tail → (end : ℕ) → tail_end tail ≡ Some end
+      → (x : Scanned) × Contains scanned x × (x.segment.place ≡ place) × (place < end)
+  tail_first place [] tail end ends = cc
+  tail_first place (x ∷ []) tail end ends =
+      let there = known x tail.0 tail.2 in
+      let long = stand_rises (x.segment.place + 20) x.met (x.segment.place + x.stop) (met_stand sum size log some x (whole x there)) in
+      (x, there, tail.1, omega (arith, long, tail.1, some_is (x.segment.place + x.stop) end ends))
+  tail_first place (x ∷ y ∷ ys) tail end ends = by x.why tail.3 (tail_some (place + size) y ys) where
+    Rest : Type 0
+    Rest = IsTail sum size log ordering (place + size) (y ∷ ys) → (e : ℕ) × (tail_end (y ∷ ys) ≡ Some e) × (place + size ≤ e)
+
+    First : Type 0
+    First = (t : Scanned) × Contains scanned t × (t.segment.place ≡ place) × (place < end)
+
+    next : IsTail sum size log ordering (place + size) (y ∷ ys) → Rest → First
+    next on rest =
+        let e = rest on in
+        (x, known x tail.0 tail.2, tail.1, omega (arith, some, e.2, some_is e.0 end (sym e.1 ∙ ends)))
+
+    by : (why : ScanEnd) → GoesOn why (y ∷ ys) (IsTail sum size log ordering (place + size) (y ∷ ys)) → Rest → First
+    by Broken none rest = absurd (no_more none)
+      where
+        no_more : (y ∷ ys) ≡ [] → ⊥
+        no_more none = cc
+    by Full on rest = next on rest
+    by Capped on rest = next on rest
+
+  -- A segment that begins below its end ends no higher.
+  pub ends_low : (place : ℕ) (tail : List Scanned) → IsTail sum size log ordering place tail → (end : ℕ) → tail_end tail ≡ Some end
+      → (t : Scanned) → Contains scanned t → t.segment.place < end → t.segment.place + t.stop ≤ end
+  ends_low place tail is end ends t there below =
+      let last = tail_last place tail is end ends in
+      let own = whole t there in
+      let its = whole last.0 last.1 in
+      let fits = stop_inside sum size log some t own in
+      let short = stop_inside sum size log some last.0 its in
+      elim (cases_order t.segment.place last.0.segment.place) [
+        | inl same ↦ (
+            let one : t ≡ last.0 = one_reading t last.0 there last.1 same in
+            omega (arith, last.2, ap (λ (x : Scanned). x.segment.place + x.stop) one))
+        | inr (inl under) ↦ (let apart = further t.segment.place last.0.segment.place own.1 its.1 under in omega (arith, apart, fits, last.2))
+        | inr (inr over) ↦ (let apart = further last.0.segment.place t.segment.place its.1 own.1 over in absurd (omega (arith, apart, short, last.2, below)))
+      ]
 
   -- There is a tail, wherever it is to begin.
   module _ where

@@ -8,7 +8,7 @@ use Rattle.sled_core.specs.declared.iobuf.IoBuf.{IoBuf}
 use Rattle.sled_core.specs.declared.iobuf.Reserved.{Reserved}
 use Rattle.sled_core.specs.declared.logger.io_bufs.IoBufs.{IoBufs}
 use Rattle.sled_core.specs.declared.logger.io_bufs.SegmentBuffer.{SegmentBuffer}
-use Rattle.sled_core.specs.Begun.{SegmentParts, parts_at, SegmentView, line_in, records_to, begin_of}
+use Rattle.sled_core.specs.Begun.{SegmentView, line_in, records_to, begin_of}
 
 -- They lie one behind another from a place on, each within its size and in reach.
 abbrev pub FollowOn : ℕ → ℕ → List SegmentBuffer → Type 0

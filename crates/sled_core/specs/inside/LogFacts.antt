@@ -1,5 +1,5 @@
 -- What a log keeps in mind of its open segments, and of the batches that it noted.
-use Rattle.std.specs.Prelude.{◌≡◌, ◌<◌, ℕ, List, All}
+use Rattle.std.specs.Prelude.{◌≡◌, ◌<◌, ℕ, All}
 use Rattle.std.proofs.Props.{props}
 use Rattle.sled_core.specs.Begun.{line_in}
 use Rattle.sled_core.specs.declared.logger.batches.PendingBatches.{PendingBatches}

@@ -1,7 +1,7 @@
 -- What proofs, and functions that no user calls, need beside `specs/SealedBuffers.antt`. No public contract names it.
 use Rattle.std.specs.Prelude.{◌≡◌, ◌==◌, ◌+◌, ◌-◌, nat_lt, ◌≤◌, ◌<◌, ℕ, zero, suc, Bool, true, false, if◌then◌else◌, max, List, [], ◌∷◌, ◌++◌, length, take}
 use Rattle.std.specs.Prelude.{drop, get_or, slice_get, Some}
-use Rattle.sled_store.specs.Device.{Event, Wrote}
+use Rattle.sled_store.specs.Device.{Event}
 use Rattle.sled_core.specs.declared.iobuf.ReservationState.TheVariants.{Open}
 use Rattle.sled_core.specs.declared.iobuf.Reserved.{Reserved}
 use Rattle.sled_core.specs.declared.iobuf.Sealed.{Sealed}

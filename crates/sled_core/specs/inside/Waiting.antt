@@ -1,7 +1,5 @@
 -- What proofs, and functions that no user calls, need beside `specs/Waiting.antt`. No public contract names it.
 use Rattle.std.specs.Prelude.{nat_lt, ℕ, if◌then◌else◌, List, [], ◌∷◌}
-use Rattle.sled_store.specs.Device.{Event}
-use Rattle.sled_core.specs.SealedBuffers.{writing}
 use Rattle.sled_core.specs.Waiting.{BufferAt}
 
 -- of buffers one behind another, those that begin below a place, and the others

@@ -4,17 +4,17 @@ use Rattle.sled_codec.specs.declared.serialization.message.MessageKind.{MessageK
 use Rattle.sled_codec.specs.History.{History, CutFits}
 use Rattle.sled_codec.specs.Snapshots.{SnapshotModel, stable_place}
 use Rattle.sled_store.specs.Blobs.{IsBlob}
-use Rattle.sled_store.specs.Device.{Event, Wrote, Synced, LogState, NamesState, Temporary, State, Content, step, at_rest, overwritten, settled_again, LeavesLog, LeavesName, Placement}
+use Rattle.sled_store.specs.Device.{Event, Wrote, Synced, LogState, NamesState, Temporary, State, step, at_rest, overwritten, settled_again, LeavesLog, LeavesName, Placement}
 use Rattle.sled_store.specs.Foreign.{NoForeignLog, NoForeignNames}
 use Rattle.sled_store.specs.inside.Script.{Along}
 use Rattle.sled_store.specs.SnapshotFiles.{IsSnapshotFile}
-use Rattle.sled_store.proofs.Crashes.ForeignLemmas.{Knows, own_log, own_names, before_knows, torn_knows}
+use Rattle.sled_store.proofs.Crashes.ForeignLemmas.{before_knows, torn_knows}
 use Rattle.sled_store.proofs.Crashes.LeavesLemmas.{Asked, write, before_leaves, torn_leaves}
 use Rattle.sled_store.proofs.LogFile.LogLemmas.{at_rest_left}
 use Rattle.sled_store.proofs.Segments.Elements.{in_first, in_rest}
 use Rattle.sled_store.proofs.Traces.ScriptLemmas.{along_first}
 use Rattle.sled_core.specs.inside.Recoverable.{ActiveFits, AreRecoverableSnapshots, IsRecoverableLog, AreRecoverableBlobs}
-use Rattle.sled_core.specs.Recoverable.{NoForeign, NoHeaderOfZeros}
+use Rattle.sled_core.specs.Recoverable.{NoHeaderOfZeros}
 use Rattle.sled_core.proofs.Torn.TornLemmas.{after_write}
 use Rattle.sled_log.specs.Orderly.{IsOrderly}
 pub use Rattle.sled_log.proofs.Recovers.Readable.{LeavesReadable}

@@ -1,12 +1,12 @@
 -- A log file that can be recovered up to a cut still can be under a snapshot that has the cut for its place, where the reading of the segment of the cut ends at the cut, or no segment begins there.
 use Rattle.std.proofs.Common.{◌≡◌, ◌/◌, ◌*◌, ◌%◌, ◌≤◌, ℕ, List, Option, arith}
 use Rattle.std.specs.List.{Contains}
-use Rattle.sled_codec.specs.History.{History, CutFits}
+use Rattle.sled_codec.specs.History.{History}
 use Rattle.sled_codec.specs.Snapshots.{SnapshotModel, stable_place}
 use Rattle.sled_core.specs.declared.iterator.Segment.{Segment}
 use Rattle.sled_core.specs.inside.Recoverable.{IsRecoverableLog}
 use Rattle.sled_log.specs.Recovery.{Scanned, least_place}
-use Rattle.sled_log.proofs.Moments.FromCut.{EndsAtCut, IsOfCut, from_end, from_inside}
+use Rattle.sled_log.proofs.Moments.FromCut.{EndsAtCut, IsOfCut, from_end}
 use Rattle.sled_core.proofs.Tail.SegmentsFrom.{segments_from, scanned_from, of_segments, in_scanned, of_scanned, reads_from, ordering_from}
 use Rattle.sled_core.proofs.Tail.Multiples.{lower_multiple}
 

@@ -1,5 +1,5 @@
 -- What a recovery writes to the log file, one step behind another: zeros behind the cut, a snapshot with the cut for its place, and zeros over slots that the pass did not read. Each keeps the file recoverable, up to the same cut.
-use Rattle.std.proofs.Common.{◌≡◌, ◌+◌, ◌%◌, ◌≤◌, ℕ, List, length, replicate, Option, Some, None}
+use Rattle.std.proofs.Common.{◌≡◌, ◌+◌, ◌%◌, ◌≤◌, ℕ, List, length, replicate, Option, Some}
 use Rattle.sled_codec.specs.History.{History, CutFits}
 use Rattle.sled_codec.specs.Snapshots.{SnapshotModel, stable_place}
 use Rattle.sled_store.specs.Device.{LeavesLog, overwritten, Placement}
@@ -10,10 +10,10 @@ use Rattle.sled_core.specs.Recoverable.{NoHeaderOfZeros}
 use Rattle.sled_core.specs.inside.Scan.{IsFoundSegment}
 use Rattle.sled_core.proofs.Torn.TornLemmas.{after_write}
 use Rattle.sled_log.specs.Recovery.{Scanned}
-use Rattle.sled_log.proofs.Moments.CutSegment.{cut_segment, ends_segment}
+use Rattle.sled_log.proofs.Moments.CutSegment.{cut_segment}
 use Rattle.sled_log.proofs.Moments.FromCut.{EndsAtCut}
-use Rattle.sled_log.proofs.Moments.PublishedCut.{of_cut, of_all, ends_too, published_end}
-use Rattle.sled_log.proofs.Moments.UnreadSlot.{unread_end, unread_inside}
+use Rattle.sled_log.proofs.Moments.PublishedCut.{of_cut, ends_too}
+use Rattle.sled_log.proofs.Moments.UnreadSlot.{unread_inside}
 use Rattle.sled_log.proofs.Moments.ZeroedCut.{zeros_behind_cut}
 use Rattle.sled_log.proofs.Moments.ZeroedWhole.{y, zeros_written, ends_at_cut}
 

@@ -4,9 +4,9 @@ use Rattle.std.proofs.lemmas.List.{append-nil}
 use Rattle.sled_codec.specs.Snapshots.{Page, SnapshotModel, stable_place}
 use Rattle.sled_core.specs.declared.iterator.scan.ScannedRecord.{ScannedRecord}
 use Rattle.sled_core.specs.declared.iterator.Segment.{Segment}
-use Rattle.sled_log.specs.Recovery.{passed_all, Scanned, Applied, Recovered, Damaged, unchanged, outcome_of, concluded, cut_of, applied_of, before_open, open_at, passed_in, stops_in, given, has_no_table, table_of, table_with}
+use Rattle.sled_log.specs.Recovery.{passed_all, Scanned, Applied, outcome_of, concluded, cut_of, applied_of, before_open, open_at, passed_in, stops_in, given, has_no_table, table_of, table_with}
 use Rattle.sled_log.specs.Passes.{stop_of}
-use Rattle.sled_log.proofs.Replay.RecoveryLemmas.{before_none, no_table_damaged}
+use Rattle.sled_log.proofs.Replay.RecoveryLemmas.{before_none}
 
 -- One segment, and those behind it.
 module _ (end : ℕ) (s : Scanned) where

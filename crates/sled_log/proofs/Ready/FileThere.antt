@@ -11,10 +11,9 @@ use Rattle.sled_codec.specs.PageTables.{IsTable}
 use Rattle.sled_codec.specs.Snapshots.{SnapshotModel, stable_place}
 use Rattle.sled_store.specs.Begin.{is_used}
 use Rattle.sled_store.proofs.Histories.Ascending.{Ascends}
-use Rattle.sled_core.specs.declared.iterator.Segment.{Segment}
 use Rattle.sled_core.specs.LogFile.{HasHeader, StandsHere}
 use Rattle.sled_core.specs.Ready.{StandsUsed, HaveRecords, HasActive, HasNoActive, HasFile, active_site}
-use Rattle.sled_core.specs.inside.Recoverable.{ActiveFits, StandsInline, IsReachedIn, IsRecoverableLog}
+use Rattle.sled_core.specs.inside.Recoverable.{ActiveFits, StandsInline, IsRecoverableLog}
 use Rattle.sled_core.specs.Tail.{Scanned, IsScanned}
 use Rattle.sled_core.proofs.Read.ScanLemmas.{aligned_offset}
 use Rattle.sled_core.proofs.Reached.ReachedEntries.{reached_of}
@@ -22,7 +21,7 @@ use Rattle.sled_core.proofs.Tail.GreatestMark.{mark_below}
 use Rattle.sled_core.proofs.Tail.Multiples.{put_down}
 use Rattle.sled_core.proofs.Tail.OfHistory.{message_of}
 use Rattle.sled_core.proofs.Tail.OneTail.{segment_there}
-use Rattle.sled_core.proofs.Tail.Rows.{stand_in, stand_rises, path_stands, met_stand, covers}
+use Rattle.sled_core.proofs.Tail.Rows.{stand_in, met_stand, covers}
 use Rattle.sled_log.proofs.Moments.FromCut.{EndsAtCut}
 use Rattle.sled_log.proofs.Ready.ReadToPlace.{EndsThere}
 use Rattle.sled_log.proofs.Ready.SlotNamed.{uses_entry}

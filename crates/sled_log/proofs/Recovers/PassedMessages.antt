@@ -1,21 +1,18 @@
 -- What a pass meets of a history: its messages in their order, but those whose blob is missing.
-use Rattle.std.proofs.Common.{⊎_elim, ◌≡◌, ◌∙◌, ◌+◌, ◌<◌, ◌≤◌, ◌==◌, ℕ, ℤ, pos, Bool, true, false, nat_lt, is_some, if◌then◌else◌, List, [], ◌∷◌, ◌++◌, map, Option, Some, None, refl, sym, ap, subst, arith, inl, inr}
+use Rattle.std.proofs.Common.{⊎_elim, ◌≡◌, ◌∙◌, ◌+◌, ◌<◌, ◌≤◌, ℕ, ℤ, pos, Bool, true, false, nat_lt, is_some, if◌then◌else◌, List, [], ◌∷◌, ◌++◌, map, Option, Some, None, refl, sym, ap, subst, arith, inl, inr}
 use Rattle.std.specs.List.{Contains}
 use Rattle.std.proofs.lemmas.Bool.{cases_lt}
 use Rattle.std.proofs.lemmas.Bool.Decides.{nat_tests}
 use Rattle.sled_codec.specs.declared.result.DiskPtr.{DiskPtr}
 use Rattle.sled_codec.specs.declared.result.DiskPtr.TheVariants.{Blob}
 use Rattle.sled_codec.specs.declared.serialization.message.LogKind.{LogKind}
-use Rattle.sled_codec.specs.declared.serialization.message.LogKind.TheVariants as does
 use Rattle.sled_codec.specs.declared.serialization.message.MessageKind.{MessageKind}
-use Rattle.sled_codec.specs.declared.serialization.message.MessageKind.TheVariants as kind
-use Rattle.sled_codec.specs.Kinds.{kind_written, log_kind_of}
+use Rattle.sled_codec.specs.Kinds.{log_kind_of}
 use Rattle.sled_codec.specs.History.{Message, History}
 use Rattle.sled_core.specs.declared.iterator.scan.ScannedRecord.{ScannedRecord}
 use Rattle.sled_core.specs.declared.iterator.scan.RecordContent.{RecordContent}
 use Rattle.sled_core.specs.declared.iterator.scan.RecordContent.TheVariants.{Gives, NamesBlob, Skipped, BatchStart}
 use Rattle.sled_core.specs.inside.Recoverable.{HasItem, NamesBlobOf, MeetsMessage, IsOfHistory}
-use Rattle.sled_core.proofs.Read.PathLemmas.{back_if}
 use Rattle.sled_store.proofs.Segments.Elements.{in_first, in_rest, in_cases, in_nothing, all_from_in}
 use Rattle.sled_log.specs.Recovery.{Applied, applied, applied_of, given, resolved, with_blob}
 use Rattle.sled_store.proofs.Histories.Ascending.{IsSublist, Ascends, later_above, one_at_place}

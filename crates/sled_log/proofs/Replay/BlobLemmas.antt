@@ -2,14 +2,12 @@
 use Rattle.std.proofs.Common.{◌≡◌, ◌⊎◌, ◌∙◌, ◌≤◌, ℕ, ℤ, suc, Bool, true, false, if◌then◌else◌, List, [], ◌∷◌, ◌++◌, map, is_some, Option, Some, None, refl, sym, ap, subst, arith, inl, inr}
 use Rattle.sled_codec.specs.Kinds.{log_kind_of}
 use Rattle.sled_codec.specs.declared.result.DiskPtr.TheVariants.{Blob}
-use Rattle.sled_codec.specs.History.{Message}
 use Rattle.sled_store.proofs.Segments.Elements.{in_cases, in_nothing}
 use Rattle.sled_core.specs.declared.iterator.scan.ScannedRecord.{ScannedRecord}
 use Rattle.sled_core.specs.declared.iterator.scan.RecordContent.{RecordContent}
 use Rattle.sled_core.specs.declared.iterator.scan.RecordContent.TheVariants.{Gives, NamesBlob, Skipped, BatchStart}
-use Rattle.sled_core.proofs.Read.PathLemmas.{met_of}
 use Rattle.sled_core.proofs.Tail.Rows.{all_before_open}
-use Rattle.sled_log.specs.Recovery.{Scanned, opens, before_open, open_at, stops_in, passed_in, cut_of, HasBadBlob, MeetsBadBlob, HaveGoodBlobs, with_blob, resolved, resolved_before, resolved_scan}
+use Rattle.sled_log.specs.Recovery.{Scanned, opens, before_open, open_at, stops_in, passed_in, cut_of, HasBadBlob, MeetsBadBlob, with_blob, resolved, resolved_before, resolved_scan}
 use Rattle.sled_log.proofs.Replay.LineLemmas.{LieBelow, IsLine, all_below}
 
 module _ (blobs : ℤ → Option (List ℕ)) (end : ℕ) where

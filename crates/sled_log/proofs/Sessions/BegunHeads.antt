@@ -1,9 +1,8 @@
 -- The headers of a log that aren't on the device have the marks that their segments were begun with, also once a call may have begun a further one.
-use Rattle.std.proofs.Common.{◌≡◌, ◌⊎◌, ◌<◌, ◌-ℤ◌, nat_lt, ap, sym, refl, subst, inl, inr, arith, ℕ, pos, Bool, true, false, if◌then◌else◌, List, [], ◌∷◌, map, Option}
+use Rattle.std.proofs.Common.{◌≡◌, ◌⊎◌, ◌<◌, ◌-ℤ◌, nat_lt, ap, sym, subst, inl, inr, arith, ℕ, pos, Bool, true, false, if◌then◌else◌, List, ◌∷◌, map, Option}
 use Rattle.std.specs.List.{Contains}
 use Rattle.std.proofs.lemmas.Bool.Decides.{nat_tests}
 use Rattle.sled_codec.specs.History.{Message}
-use Rattle.sled_codec.specs.Record.{short_header}
 use Rattle.sled_store.proofs.Segments.Elements.{in_first, in_rest}
 use Rattle.sled_core.specs.OpenBatches.{stable_below}
 use Rattle.sled_core.specs.Among.{AreAmong}

@@ -1,6 +1,6 @@
 -- The table of a history that a session makes: what a message that is completed or a recovery makes of it, and what it says of a page.
 use Rattle.std.proofs.Common.{⊎_elim, ◌≡◌, ◌∙◌, ◌⊎◌, ◌<◌, ◌≤◌, ◌-◌, ℕ, pos, Bool, true, false, ◌==◌, if◌then◌else◌, List, [], ◌∷◌, ◌++◌, length, map, get_or, set, refl, sym, ap, subst, inl, inr, arith, eqb-true, length-set}
-use Rattle.std.specs.List.{All, Contains}
+use Rattle.std.specs.List.{Contains}
 use Rattle.std.proofs.lemmas.Bool.{eqb-false, cases_lt, cases_eq}
 use Rattle.std.proofs.lemmas.List.{map-append, get_or_push, get_or_append_left, get_or_past, get_or-set_same, get_or-set_other, set_past, length_push}
 use Rattle.std.proofs.lemmas.List.Elements.{All-contains}

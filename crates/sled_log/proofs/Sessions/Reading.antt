@@ -52,7 +52,7 @@ use Rattle.sled_log.proofs.Sessions.MadePages.{page_present}
 use Rattle.sled_log.specs.Made.{HasBlobIn, IsMade}
 use Rattle.sled_log.specs.declared.session.Phase.TheVariants.{Open}
 use Rattle.sled_log.specs.declared.session.opened.Opened.{Opened}
-use Rattle.sled_log.proofs.Sessions.Writing.{AreWhole, IsHeldBy, StaysPut, all_held, first_seen, flush_in, flush_out, if_held, next_start_seen, over, sealed_too, span_seen, still_open, kept_with, still_with}
+use Rattle.sled_log.proofs.Sessions.Writing.{AreWhole, IsHeldBy, StaysPut, all_held, first_seen, flush_in, flush_out, if_held, next_start_seen, over, sealed_too, span_seen, kept_with, still_with}
 use Rattle.sled_log.specs.Readings.{IsOfPage, IsRead, KeepsOpen, ReadsEntries, ReadsItem, page_told}
 use Rattle.sled_log.specs.RunPhases.{IsOpenAt, Unstored, seen, seen_log, stands, traces}
 use Rattle.sled_log.specs.RunStates.{DeviceView, EndsInReach, LogView, RunState, current_span, first_waiting, held, is_present, next_start, opens, page_now, sealed_around, spans_without, start_around, top, with_log, MarkAt, heads_at}
@@ -511,18 +511,21 @@ module _ {D C : Type 0} (view : D → DeviceView) (sum : List ℕ → ℕ) (old 
           let one = next k.history ms came.done came.left e rest came.split came.entries some.only.position all in
           let l : LogView = seen_log old begun k.tickets k.given_up k.heads in
           let now : LogView = seen_log mid begun k.tickets k.given_up heads in
-          let got = reads.item (begun_with k heads) one.message begun (is_read k heads so.1 some.only is) one.of one.place one.pointer in
-          (heads_at now (start_of new), heads_kept sum mid new begun k.tickets k.given_up heads reads.marked.heads so.1, record {
-            done = came.done ++ one.message ∷ [];
-            left = one.later;
-            split = one.split ∙ sym (append_assoc came.done (one.message ∷ []) one.later);
-            entries = one.others;
-            reads = subst (λ (x : LogView). ReadsAll sum (segment_size_of old) l (came.done ++ one.message ∷ []) (view (device_of old)) (view (device_of new)) x) (sym got.3)
-                (reads_more sum (segment_size_of old) came.done one.message l now (view (device_of old)) (view (device_of mid)) (view (device_of new)) came.reads
-                (subst (λ n. ReadsAt sum n now (read_at one.message) (view (device_of mid)) (view (device_of new))) some.only.position.size got.2));
-            items_are = map-append (λ (v : Vec ℕ Global). v.items) items (item ∷ []) ∙ (λ i. came.items_are i ++ got.0 i ∷ []) ∙ sym (map-append (λ (m : Message). m.bytes) came.done (one.message ∷ []));
-            sound = ap (λ (x : LogView). x.fault) got.3 ∙ fault_around now (read_at one.message) ∙ came.sound;
-          });
+          let got = reads.item (begun_with k heads) one.message begun (is_read k heads so.1 some.only is) one.of one.place one.pointer in (
+            heads_at now (start_of new),
+            heads_kept sum mid new begun k.tickets k.given_up heads reads.marked.heads so.1,
+            record {
+              done = came.done ++ one.message ∷ [];
+              left = one.later;
+              split = one.split ∙ sym (append_assoc came.done (one.message ∷ []) one.later);
+              entries = one.others;
+              reads = subst (λ (x : LogView). ReadsAll sum (segment_size_of old) l (came.done ++ one.message ∷ []) (view (device_of old)) (view (device_of new)) x) (sym got.3)
+                  (reads_more sum (segment_size_of old) came.done one.message l now (view (device_of old)) (view (device_of mid)) (view (device_of new)) came.reads
+                  (subst (λ n. ReadsAt sum n now (read_at one.message) (view (device_of mid)) (view (device_of new))) some.only.position.size got.2));
+              items_are = map-append (λ (v : Vec ℕ Global). v.items) items (item ∷ []) ∙ (λ i. came.items_are i ++ got.0 i ∷ []) ∙ sym (map-append (λ (m : Message). m.bytes) came.done (one.message ∷ []));
+              sound = ap (λ (x : LogView). x.fault) got.3 ∙ fault_around now (read_at one.message) ∙ came.sound;
+            },
+          );
     }
 
     pub one_failed : (new : Log D C) (e : Entry) (rest : List Entry) (why : Error) → HasReadSome view sum old page entries mid items (e ∷ rest) → ReadsItem view sum mid page (to_z w64 (of_z w64 e.0)) e.1 new (Err why)
@@ -536,18 +539,21 @@ module _ {D C : Type 0} (view : D → DeviceView) (sum : List ℕ → ℕ) (old 
           let one = next k.history ms came.done came.left e rest came.split came.entries some.only.position all in
           let l : LogView = seen_log old begun k.tickets k.given_up k.heads in
           let now : LogView = seen_log mid begun k.tickets k.given_up heads in
-          let b : RunState = with_log a (view (device_of new)) (Some (seen_log new begun k.tickets k.given_up (heads_at now (start_of new)))) in
-          (heads_at now (start_of new), heads_kept sum mid new begun k.tickets k.given_up heads reads.marked.heads so.1, inr (inr (record {
-            done = came.done;
-            message = one.message;
-            rest = one.later;
-            split = one.split;
-            mid = view (device_of mid);
-            log = now;
-            so_far = subst (λ (x : DeviceView). ReadsAll sum (segment_size_of old) l came.done x (view (device_of mid)) now) (sym device) came.reads;
-            fails = subst (λ n. FailsAt sum n a now (read_at one.message) why (view (device_of mid)) (view (device_of new)) b) some.only.position.size
-                (reads.item (begun_with k heads) one.message begun (is_read k heads so.1 some.only is) one.of one.place one.pointer came.sound a);
-          })));
+          let b : RunState = with_log a (view (device_of new)) (Some (seen_log new begun k.tickets k.given_up (heads_at now (start_of new)))) in (
+            heads_at now (start_of new),
+            heads_kept sum mid new begun k.tickets k.given_up heads reads.marked.heads so.1,
+            inr (inr (record {
+              done = came.done;
+              message = one.message;
+              rest = one.later;
+              split = one.split;
+              mid = view (device_of mid);
+              log = now;
+              so_far = subst (λ (x : DeviceView). ReadsAll sum (segment_size_of old) l came.done x (view (device_of mid)) now) (sym device) came.reads;
+              fails = subst (λ n. FailsAt sum n a now (read_at one.message) why (view (device_of mid)) (view (device_of new)) b) some.only.position.size
+                  (reads.item (begun_with k heads) one.message begun (is_read k heads so.1 some.only is) one.of one.place one.pointer came.sound a);
+            })),
+          );
     }
 
     pub all_read : (vs : Vec (Vec ℕ Global) Global) → vs.items ≡ items → HasReadSome view sum old page entries mid items [] → ReadsEntries view sum old page entries mid (Ok vs)
@@ -558,15 +564,18 @@ module _ {D C : Type 0} (view : D → DeviceView) (sum : List ℕ → ℕ) (old 
           let now : LogView = seen_log mid begun k.tickets k.given_up so.0 in
           let came = so.2 in
           let l : LogView = seen_log old begun k.tickets k.given_up k.heads in
-          let done : ms ≡ came.done = came.split ∙ ap (λ xs. came.done ++ xs) (none_left came.left came.entries) ∙ append-nil came.done in
-          (so.0, so.1, record {
-            present = present;
-            sound = some.free;
-            items_are = ap (map (λ (v : Vec ℕ Global). v.items)) items_is ∙ came.items_are ∙ ap (map (λ m. m.bytes)) (sym done);
-            log = now;
-            reads = subst (λ xs. ReadsAll sum (segment_size_of old) l xs a.device (view (device_of mid)) now) (sym done) (subst (λ (x : DeviceView). ReadsAll sum (segment_size_of old) l came.done x (view (device_of mid)) now) (sym device) came.reads);
-            leads = refl;
-          });
+          let done : ms ≡ came.done = came.split ∙ ap (λ xs. came.done ++ xs) (none_left came.left came.entries) ∙ append-nil came.done in (
+            so.0,
+            so.1,
+            record {
+              present = present;
+              sound = some.free;
+              items_are = ap (map (λ (v : Vec ℕ Global). v.items)) items_is ∙ came.items_are ∙ ap (map (λ m. m.bytes)) (sym done);
+              log = now;
+              reads = subst (λ xs. ReadsAll sum (segment_size_of old) l xs a.device (view (device_of mid)) now) (sym done) (subst (λ (x : DeviceView). ReadsAll sum (segment_size_of old) l came.done x (view (device_of mid)) now) (sym device) came.reads);
+              leads = refl;
+            },
+          );
     } where
       none_left : (left : List Message) → map entry_of left ≡ [] → left ≡ []
       none_left [] are = refl

@@ -5,12 +5,12 @@ use Rattle.std.proofs.lemmas.Bool.{cases_lt}
 use Rattle.sled_codec.specs.History.{Message}
 use Rattle.sled_store.specs.Accounts.{machine_of}
 use Rattle.sled_store.specs.SegmentStates.{Machine, next_slot}
-use Rattle.sled_core.specs.Begun.{SegmentView, begin_of, segment_view}
+use Rattle.sled_core.specs.Begun.{begin_of, segment_view}
 use Rattle.sled_core.specs.Buffers.{most_open}
 use Rattle.sled_core.specs.declared.logger.Log.{Log}
 use Rattle.sled_core.specs.Fits.{FitsInline, IsLeastOpen, IsUsedUpFor, current_begin, current_of, fault_of, in_blob, is_moved, line_of, next_place, open_for, open_of, open_places, position_of, reserved_end, segment_size_of, start_behind, start_of, waiting_behind, waiting_of}
 use Rattle.sled_core.specs.OpenPlaces.{places_from}
-use Rattle.sled_core.specs.Positions.{Position, is_short, next_segment_at, position_in}
+use Rattle.sled_core.specs.Positions.{Position}
 use Rattle.sled_core.specs.Waiting.{at_last, closed_now, spans, unwritten}
 use Rattle.sled_core.proofs.Line.Entered.{filled_last}
 use Rattle.sled_core.proofs.Holds.Facts.{current_facts}

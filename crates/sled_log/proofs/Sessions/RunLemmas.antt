@@ -1,8 +1,6 @@
 -- What holds at the joints of a run: one trace behind another, what a crash leaves, and how a phase leads to the next one.
-use Rattle.std.proofs.Common.{◌≡◌, ◌∙◌, ◌<◌, ◌≤◌, ◌^◌, ℕ, ℤ, pos, Bool, true, false, if◌then◌else◌, rules, IsTrue, List, [], ◌∷◌, ◌++◌, Option, None, Some, refl, sym, ap, subst, append_assoc}
-use Rattle.std.specs.Prelude.{FitsSigned, Result, Ok, Err, OnErr, OnOk, is_err, ◌&&◌, ◌↔◌}
-use Rattle.std.specs.Int.{w64, cast_signed, cast_unsigned}
-use Rattle.std.proofs.lemmas.Int.{to_z-of_z}
+use Rattle.std.proofs.Common.{◌≡◌, ◌∙◌, ◌<◌, ◌≤◌, ◌^◌, ℕ, ℤ, Bool, true, false, if◌then◌else◌, IsTrue, List, [], ◌∷◌, Option, None, Some, refl, sym, ap, subst}
+use Rattle.std.specs.Prelude.{Result, Ok, Err, OnErr, OnOk, is_err, ◌&&◌, ◌↔◌}
 use Rattle.sled_codec.specs.declared.result.Error.{Error}
 use Rattle.sled_codec.specs.declared.result.Error.TheVariants as error
 use Rattle.sled_codec.specs.Errors.{IsCorruption, IsCorrupt}
@@ -15,12 +13,9 @@ use Rattle.sled_store.specs.Chosen.{MayBeChosen, MayBeLeft}
 use Rattle.sled_store.specs.Device.{Event, Left, Trace, State, Content, Crashed, Settled, state_of, fresh, step, content_left, Leaves, names_at_rest}
 use Rattle.sled_store.specs.Moments.{IsLater}
 use Rattle.sled_store.specs.Noted.{left_of}
-use Rattle.sled_store.specs.Script.{Performs}
-use Rattle.sled_store.specs.inside.Script.{Along}
 use Rattle.sled_store.specs.Stops.{KeepsToStop}
 use Rattle.sled_store.proofs.LogFile.LogLemmas.{at_rest_left}
 use Rattle.sled_store.proofs.Names.NamesLemmas.{settled_name_left, settled_name_at_rest}
-use Rattle.sled_store.proofs.Traces.ScriptLemmas.{performs_throughout}
 use Rattle.sled_store.proofs.Crashes.SettledLemmas.{settled_left_too}
 use Rattle.sled_core.specs.Fits.{config_of, device_of, segment_size_of}
 use Rattle.sled_core.specs.Recoverable.{NoForeign, LeavesRecoverable}

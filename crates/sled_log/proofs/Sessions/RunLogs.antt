@@ -1,13 +1,11 @@
 -- What a flush of a log with no open reservation writes, where a log begins on a snapshot, and what its start leaves of what can be read.
-use Rattle.std.proofs.Common.{◌≡◌, ◌≤◌, ◌<◌, ◌+◌, ℕ, List, Option, Some, None, arith}
+use Rattle.std.proofs.Common.{◌≡◌, ◌<◌, ◌+◌, ℕ, List, Option, Some, None}
 use Rattle.sled_codec.specs.History.{History}
 use Rattle.sled_codec.specs.Snapshots.{SnapshotModel}
 use Rattle.sled_store.specs.Begin.{place_at, offset_at}
 use Rattle.sled_store.specs.Device.{Trace, state_of, content_of}
 use Rattle.sled_store.specs.Script.{Performs}
 use Rattle.sled_core.specs.Good.{IsGood}
-use Rattle.sled_core.specs.Running.{end_below}
-use Rattle.sled_core.proofs.PublicLaws.{acknowledged_least, batch_acknowledged, message_acknowledged}
 use Rattle.sled_core.proofs.Start.GoodStarted.{good_started}
 use Rattle.sled_core.proofs.Start.Places.{goes_on_at}
 use Rattle.sled_log.specs.RunStates.{ShowsActive}

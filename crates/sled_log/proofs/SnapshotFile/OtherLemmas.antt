@@ -1,5 +1,5 @@
 -- The snapshots but the one that is kept, and what their removal leaves under each number.
-use Rattle.std.proofs.Common.{◌≡◌, ◌≢◌, ◌∙◌, ◌&&◌, ◌⊎◌, ◌↔◌, ℕ, ℤ, zero, suc, Bool, true, false, not, is_some, if◌then◌else◌, List, [], ◌∷◌, get_or, Option, Some, None, IsSome, length, refl, sym, ap, subst, inl, inr, arith}
+use Rattle.std.proofs.Common.{◌≡◌, ◌≢◌, ◌∙◌, ◌&&◌, ◌⊎◌, ◌↔◌, ℕ, ℤ, Bool, true, false, not, is_some, if◌then◌else◌, List, [], ◌∷◌, get_or, Option, Some, None, IsSome, length, refl, sym, ap, subst, inl, inr, arith}
 use Rattle.std.specs.Ordering.{int_eq, int_cmp}
 use Rattle.std.specs.Cmp.{signed_Decides}
 use Rattle.std.specs.List.{Contains}

@@ -1,5 +1,5 @@
 -- The last segment, which is being filled, is filled up, and one more is begun behind it.
-use Rattle.std.proofs.Common.{Result, Ok, Err, IsErrAnd, OnOk, ◌≡◌, ◌∙◌, ◌+◌, ◌-◌, ◌*◌, ◌<◌, ◌≤◌, ◌^◌, ◌-ℤ◌, sym, ap, refl, subst, arith, rules, ℕ, zero, suc, false, pos, List, [], ◌∷◌, ◌++◌, length, length-append, map, deque_len, Some}
+use Rattle.std.proofs.Common.{◌≡◌, ◌∙◌, ◌+◌, ◌-◌, ◌*◌, ◌<◌, ◌≤◌, ◌^◌, ◌-ℤ◌, sym, ap, refl, subst, arith, rules, ℕ, zero, suc, false, pos, List, [], ◌∷◌, ◌++◌, length, length-append, map, deque_len, Some}
 use Rattle.std.specs.List.{slice_get}
 use Rattle.sled_core.specs.inside.Begun.{AreFilled, FollowOn, LieWithin, last_buffer, last_buffer_in, open_segments, with_nth}
 use Rattle.sled_core.specs.Begun.{SegmentView, begin_of, line_in, segment_view, view_at}

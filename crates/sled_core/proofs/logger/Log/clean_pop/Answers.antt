@@ -1,7 +1,4 @@
 use Rattle.std.proofs.Common.{refl}
-use Rattle.sled_core.specs.Fits.{machine_at}
-use Rattle.sled_core.specs.invariants.Running.{Fits}
-use Rattle.sled_core.specs.inside.Slots.{HasAccount}
 use Rattle.sled_core.proofs.Line.MarkedSlots.{popped_keeps}
 use Rattle.sled_core.proofs.logger.Log.clean_pop.Goals as goal
 

@@ -2,7 +2,6 @@ use Rattle.std.proofs.Common.{refl}
 use Rattle.sled_store.specs.SegmentStates.{linked}
 use Rattle.sled_store.proofs.Marks.MarkSteps.{linked_same}
 use Rattle.sled_core.specs.Fits.{machine_at, segment_size_of}
-use Rattle.sled_core.specs.Marking.{Marks}
 use Rattle.sled_core.proofs.Line.KeptCalls.{goes_on_still}
 use Rattle.sled_core.proofs.Line.MarkCalls.{link_account, marks_fit, marks_keep}
 use Rattle.sled_core.proofs.logger.Log.mark_link.Goals as goal

@@ -2,7 +2,6 @@ use Rattle.std.proofs.Common.{refl}
 use Rattle.sled_store.specs.SegmentStates.{replaced}
 use Rattle.sled_store.proofs.Marks.SameSlots.{replaced_segments}
 use Rattle.sled_core.specs.Fits.{machine_at, segment_size_of}
-use Rattle.sled_core.specs.Marking.{Marks}
 use Rattle.sled_core.proofs.Line.KeptCalls.{goes_on_still}
 use Rattle.sled_core.proofs.Line.MarkCalls.{marks_fit, marks_keep, replace_account}
 use Rattle.sled_core.proofs.logger.Log.mark_replace.Goals as goal

@@ -33,7 +33,7 @@ one_rolled : {D C : Type 0} (sum : List ℕ → ℕ) (old new : Log D C) → hol
     → status_of new ≡ (if holds_any (current_of old) then rolled (buffers_of sum old) (start_sealed old) (status_of old) else status_of old)
 one_rolled sum old new any waits start position same =
     let is : status_of new ≡ rolled (buffers_of sum old) (start_sealed old) (status_of old) =
-        let a = position.position in let b = position.reserved in let c = same.synced in let d = same.noted in let e = same.fault in let f = same.pins in cc in
+    let a = position.position in let b = position.reserved in let c = same.synced in let d = same.noted in let e = same.fault in let f = same.pins in cc in
     is ∙ sym (ap (λ (o : Bool). if o then rolled (buffers_of sum old) (start_sealed old) (status_of old) else status_of old) any)
 
 pub returns-then-held-eq0-clause-status : goal.returns-then-held-eq0-clause-status

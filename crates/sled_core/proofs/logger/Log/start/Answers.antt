@@ -315,8 +315,7 @@ heads_at sum place offset slot b [] [] first none empty h there = by (b.written_
       let begin = begins true at in
       let own : head_of v ≡ h = only_in (head_of v) h has in
       let here : place ≡ place + begin_of v = omega (arith, begin) in
-      let stable : place ≡ place + b.written_len = omega (arith, at) in
-      (
+      let stable : place ≡ place + b.written_len = omega (arith, at) in (
         sym (ap (λ (x : HeadAt). x.place) own) ∙ here,
         sym (ap (λ (x : HeadAt). x.bytes) own) ∙ ap (take 20) (first.header (omega (arith, at, from))) ∙ take_all 20 (short_header sum (pos place) (pos place -ℤ pos 1)) (omega (arith, length-short_header sum (pos place) (pos place -ℤ pos 1)))
             ∙ (λ i. short_header sum (pos (here i)) (pos (stable i) -ℤ pos 1)),
