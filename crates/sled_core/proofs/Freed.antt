@@ -8,5 +8,11 @@ pub mod ClearedShows
 pub mod CutEnds
 pub mod Emptied
 pub mod Gone
+pub mod Hides
+pub mod KeptHides
 pub mod NoHarm
 pub mod PassedOver
+pub mod Quiet
+pub mod ReadsAs
+pub mod ShownReads
+pub mod WrittenOwn

@@ -9,6 +9,7 @@ pub mod FirstBuffer
 pub mod Fits
 pub mod FreeSlots
 pub mod Full
+pub mod Hides
 pub mod Iterators
 pub mod Lending
 pub mod LogFacts

@@ -105,7 +105,7 @@ module _ (size : ℕ) (some : 0 < size) (m : Machine) (line : List SegmentView) 
   -- Of a segment that isn't of the line any more it has all.
   module _ (k : ℕ) (taken : is_free (slot_at m k).state ≡ false)
       (gone : (j : ℕ) (u : SegmentView) → slice_get line j ≡ Some u → Beside size u.parts.site.slot (k * size)) where
-    none_stale : (i : ℕ) → k * size ≤ i → i < k * size + size → is_stale size m line i ≡ false
+    pub none_stale : (i : ℕ) → k * size ≤ i → i < k * size + size → is_stale size m line i ≡ false
     none_stale i low high =
         or_from (is_free (slot_at m (i / size)).state) (is_unwritten size line i) (ap (λ n. is_free (slot_at m n).state) (slot_is size k i low high) ∙ taken)
         (line_none size line i (λ j u at. beside j u at i

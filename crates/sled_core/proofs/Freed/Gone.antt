@@ -12,6 +12,7 @@ use Rattle.sled_core.specs.declared.iterator.Segment.{Segment}
 use Rattle.sled_core.specs.declared.iterator.scan.ScannedRecord.{ScannedRecord}
 use Rattle.sled_core.specs.declared.iterator.scan.ScanEnd.{ScanEnd}
 use Rattle.sled_core.specs.declared.iterator.scan.ScanEnd.TheVariants.{Full, Capped, Broken}
+use Rattle.sled_core.specs.inside.Hides.{IsGoneSegment, IsReading}
 use Rattle.sled_core.specs.inside.Recoverable.{IsMarkBelow, IsMarkOf, IsOfHistory, IsReachedIn, IsReadOn, IsRecoverableLog, IsSegmentOf, NothingBehind}
 use Rattle.sled_core.specs.inside.Recoverable.{StandsInline, cut_from, cut_over, scanned_below}
 use Rattle.sled_core.specs.inside.Scan.{IsFoundSegment}
@@ -23,7 +24,7 @@ use Rattle.sled_core.proofs.Freed.CutEnds.{none_ends}
 use Rattle.sled_core.proofs.Freed.PassedOver.{Has, HasOrPasses, none_opens, same_over}
 use Rattle.sled_core.proofs.Reached.LeftBeside.{truth_alike}
 use Rattle.sled_core.proofs.Reached.Marks.{less_than}
-use Rattle.sled_core.proofs.Reached.Reread.{IsReading, read_caps, read_truth, scans_of}
+use Rattle.sled_core.proofs.Reached.Reread.{read_caps, read_truth, scans_of}
 use Rattle.sled_core.proofs.Read.FoundLemmas.{pos_injective}
 use Rattle.sled_core.proofs.Read.ScanLemmas.{one_more}
 use Rattle.sled_core.proofs.Tail.GreatestMark.{greatest_is, mark_above, mark_below}
@@ -36,15 +37,6 @@ use Rattle.sled_core.proofs.Tail.Rows.{IsWhole, met_stand, row_below, stand_in, 
 use Rattle.sled_core.proofs.Tail.SegmentsFrom.{greatest_above, mark_within, tail_low}
 use Rattle.sled_core.proofs.Tail.Tails.{row, tail_first, whole}
 use Rattle.sled_core.proofs.Torn.WrittenRecords.{AlikeAlong}
-
--- A segment that no slot has any more: it begins where one can, and no other one begins there. It ends at a place or below it, its mark is one of the
--- history's, and so is all that is read of it.
-pub record IsGoneSegment (sum : List ℕ → ℕ) (size : ℕ) (log : List ℕ) (H : History) (base : ℕ) (s : Segment) : Type 0 where
-  pub aligned : s.place % size ≡ 0
-  pub alone : (t : Segment) → IsFoundSegment sum size log 0 t → t.place ≡ s.place → t.slot ≡ s.slot
-  pub below : s.place + size ≤ base
-  pub is_mark : IsMarkOf H s
-  pub reading : IsReading sum size log H s
 
 -- A log file reads as another one, but for segments that are gone: each segment that is found in the other is found in it, in the same slot, and is read there
 -- as in the other, with the same bytes up to where the reading ends. Each other one that is found in it is gone.

@@ -4,12 +4,13 @@ use Rattle.std.specs.List.{Contains}
 use Rattle.sled_codec.specs.History.{History}
 use Rattle.sled_codec.specs.Snapshots.{SnapshotModel}
 use Rattle.sled_core.specs.declared.iterator.Segment.{Segment}
+use Rattle.sled_core.specs.inside.Hides.{IsGoneSegment}
 use Rattle.sled_core.specs.inside.Recoverable.{IsRecoverableLog}
 use Rattle.sled_core.specs.inside.Scan.{IsFoundSegment, IsMisplaced}
 use Rattle.sled_core.specs.inside.Tail.{IsUnordered, greatest_mark, least_place, tail_begins}
 use Rattle.sled_core.specs.Tail.{place_of_mark}
 use Rattle.sled_core.proofs.Freed.AnyOrdering.{any_ordering}
-use Rattle.sled_core.proofs.Freed.Gone.{IsGoneSegment, ReadsAs, found_low, recoverable_with}
+use Rattle.sled_core.proofs.Freed.Gone.{ReadsAs, found_low, recoverable_with}
 use Rattle.sled_core.proofs.Tail.GreatestMark.{greatest_is, mark_above, mark_below}
 use Rattle.sled_core.proofs.Tail.Multiples.{lower_multiple, put_down}
 use Rattle.sled_core.proofs.Tail.OneTail.{one_at_place, rises_of}
@@ -28,15 +29,21 @@ begins_above size some least mark ordering s there above = by s.mark refl where
     none : pos mark ≤ℤ negsuc n → ⊥
     none le = le.le
 
+-- A segment begins where one can, and no other one begins there.
+pub record BeginsAlone (sum : List ℕ → ℕ) (size : ℕ) (log : List ℕ) (s : Segment) : Type 0 where
+  pub aligned : s.place % size ≡ 0
+  pub alone : (t : Segment) → IsFoundSegment sum size log 0 t → t.place ≡ s.place → t.slot ≡ s.slot
+
 module _ (sum : List ℕ → ℕ) (size : ℕ) (some : 256 ≤ size) (shown left : List ℕ) (H : History) (A : ℕ) (first : SnapshotModel) (cut : ℕ × Option ℕ)
     (is : IsRecoverableLog sum size shown H A first cut) (base : ℕ) (same : ReadsAs sum size (least_place size first) H base shown left)
-    (low : base ≤ tail_begins size (least_place size first) is.ordering) where
+    (low : base ≤ tail_begins size (least_place size first) is.ordering)
+    (apart : (s : Segment) → IsFoundSegment sum size left (least_place size first) s → IsGoneSegment sum size left H base s → BeginsAlone sum size left s) where
   abbrev least : ℕ
   least = least_place size first
 
   -- The places of what is gone are no greater than those of a log can be.
   gone_fits : (s : Segment) → IsFoundSegment sum size left least s → IsGoneSegment sum size left H base s → IsMisplaced size s → ⊥
-  gone_fits s found gone (inl unaligned) = unaligned gone.aligned
+  gone_fits s found gone (inl unaligned) = unaligned (apart s found gone).aligned
   gone_fits s found gone (inr high) = by (greatest_is least is.ordering) where
     parts : tail_begins size least is.ordering + greatest_mark least is.ordering % size ≡ greatest_mark least is.ordering
     parts = (put_down size (greatest_mark least is.ordering)).0
@@ -57,8 +64,8 @@ module _ (sum : List ℕ → ℕ) (size : ℕ) (some : 256 ≤ size) (shown left
   ordered (inr (s, t, found, also, slots, places)) = by (same.others s found) (same.others t also) where
     by : IsFoundSegment sum size shown least s ⊎ IsGoneSegment sum size left H base s
         → IsFoundSegment sum size shown least t ⊎ IsGoneSegment sum size left H base t → ⊥
-    by (inr gone) other = slots (sym (gone.alone t (found_low sum size left least t also) (sym places)))
-    by (inl had) (inr gone) = slots (gone.alone s (found_low sum size left least s found) places)
+    by (inr gone) other = slots (sym ((apart s found gone).alone t (found_low sum size left least t also) (sym places)))
+    by (inl had) (inr gone) = slots ((apart t also gone).alone s (found_low sum size left least s found) places)
     by (inl had) (inl has) =
         let one = one_at_place is.ordering (rises_of is.ordering is.numbers.ascending) s t ((is.numbers.found s).1 had) ((is.numbers.found t).1 has) places in
         slots (ap (λ (x : Segment). x.slot) one)

@@ -14,6 +14,7 @@ use Rattle.sled_core.specs.declared.iterator.scan.ScannedRecord.{ScannedRecord}
 use Rattle.sled_core.specs.declared.iterator.scan.ScanEnd.{ScanEnd}
 use Rattle.sled_core.specs.declared.iterator.scan.ScanEnd.TheVariants.{Full, Capped, Broken}
 use Rattle.sled_core.specs.Reading.{StandsAt}
+use Rattle.sled_core.specs.inside.Hides.{IsReading}
 use Rattle.sled_core.specs.inside.Recoverable.{StandsInline, IsReachedIn, IsReadOn, IsSegmentOf}
 use Rattle.sled_core.specs.inside.Scan.{IsFoundSegment}
 use Rattle.sled_core.specs.Scan.{IsMet, IsPath, IsEnd, EndsThere, IsScan}
@@ -28,7 +29,7 @@ use Rattle.sled_core.specs.inside.Tail.{IsOrdering, least_place}
 use Rattle.sled_core.proofs.Tail.Moved.{message_moved}
 use Rattle.sled_core.proofs.Tail.OneTail.{scan_there, segment_there}
 use Rattle.sled_core.proofs.Reached.LeftBeside.{truth_alike}
-use Rattle.sled_core.proofs.Reached.Reread.{IsReading, IsAsFar, stands_still}
+use Rattle.sled_core.proofs.Reached.Reread.{IsAsFar, stands_still}
 use Rattle.sled_core.proofs.Reached.StandsTo.{StandsFrom, StandsTo}
 
 -- what lay of these slots in one file is the same in another

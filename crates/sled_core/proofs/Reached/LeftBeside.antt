@@ -25,7 +25,7 @@ use Rattle.sled_core.proofs.Torn.WrittenBeside as other_slots
 use Rattle.sled_core.specs.Tail.{Scanned, IsScanned}
 use Rattle.sled_core.proofs.Tail.Multiples.{apart}
 use Rattle.sled_core.proofs.Tail.Moved.{slot_index, message_moved, of_left}
-use Rattle.sled_core.proofs.Reached.Reread.{IsReading}
+use Rattle.sled_core.specs.inside.Hides.{IsReading}
 
 -- In other slots than this one a file has the segments that another one has, and all is met in them as there.
 pub record IsSameBeside (sum : List ℕ → ℕ) (size : ℕ) (old left : List ℕ) (slot : ℕ) : Type 0 where

@@ -5,6 +5,7 @@ use Rattle.sled_codec.specs.History.{Message, History, table}
 use Rattle.sled_codec.specs.Places.{part}
 use Rattle.sled_codec.specs.Snapshots.{SnapshotModel}
 use Rattle.sled_core.specs.declared.iterator.Segment.{Segment}
+use Rattle.sled_core.specs.inside.Hides.{IsReading}
 use Rattle.sled_core.specs.inside.Recoverable.{IsSegmentOf, StandsInline}
 use Rattle.sled_core.specs.inside.Scan.{IsFoundSegment}
 use Rattle.sled_core.specs.Scan.{IsScan}
@@ -13,7 +14,7 @@ use Rattle.sled_core.specs.Tail.{IsScanned, Scanned}
 use Rattle.sled_core.proofs.Read.FoundLemmas.{found_there}
 use Rattle.sled_core.proofs.Reached.KeptStands.{alike_kept, item_kept, reached_kept, read_on_kept}
 use Rattle.sled_core.proofs.Reached.LeftBeside.{truth_alike}
-use Rattle.sled_core.proofs.Reached.Reread.{IsAsFar, IsReading, stands_still}
+use Rattle.sled_core.proofs.Reached.Reread.{IsAsFar, stands_still}
 use Rattle.sled_core.proofs.Reached.StandsTo.{StandsFrom, StandsTo}
 use Rattle.sled_core.proofs.Reserve.Ranges.{part-append}
 use Rattle.sled_core.proofs.Tail.OneTail.{scan_there, segment_there}

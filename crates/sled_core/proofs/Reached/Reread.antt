@@ -7,6 +7,7 @@ use Rattle.sled_store.proofs.Segments.Elements.{in_first, in_rest}
 use Rattle.sled_core.specs.declared.iterator.Segment.{Segment}
 use Rattle.sled_core.specs.declared.iterator.scan.ScannedRecord.{ScannedRecord}
 use Rattle.sled_core.specs.declared.iterator.scan.ScanEnd.TheVariants.{Broken}
+use Rattle.sled_core.specs.inside.Hides.{IsReading}
 use Rattle.sled_core.specs.inside.Recoverable.{NothingBehind, StandsInline, IsOfHistory, IsSegmentOf, IsMarkOf, IsMarkBelow}
 use Rattle.sled_core.specs.Tail.{Scanned, IsScanned}
 use Rattle.sled_core.specs.inside.Tail.{IsOrdering, AreScanned, least_place}
@@ -14,14 +15,6 @@ use Rattle.sled_core.proofs.Tail.OneReading.{one_scan}
 use Rattle.sled_core.proofs.Tail.OneTail.{scan_there, segment_there, reading_there}
 use Rattle.sled_core.proofs.Tail.SegmentsFrom.{tail_stays}
 use Rattle.sled_core.proofs.Reached.StandsTo.{StandsFrom, StandsTo}
-
--- What is met in a segment, all of it of the history. Behind a Cap nothing of that begins in the segment.
-pub record IsReading (sum : List ℕ → ℕ) (size : ℕ) (log : List ℕ) (H : History) (s : Segment) : Type 0 where
-  pub scan : Scanned
-  pub segment : scan.segment ≡ s
-  pub read : IsScanned sum size log scan
-  pub truth : (x : ScannedRecord) → Contains scan.met x → IsOfHistory sum size log H x
-  pub caps : NothingBehind size H scan.segment.place scan.stop scan.why
 
 -- A segment that was read before is read at least as far, and leads on where it did.
 pub record IsAsFar (sum : List ℕ → ℕ) (size : ℕ) (log : List ℕ) (ordering : List Segment) (t : Scanned) : Type 0 where

@@ -13,6 +13,7 @@ use Rattle.sled_store.specs.Foreign.{NoForeignLog}
 use Rattle.sled_core.specs.declared.iterator.Segment.{Segment}
 use Rattle.sled_core.specs.declared.iterator.scan.ScannedRecord.{ScannedRecord}
 use Rattle.sled_core.specs.declared.iterator.scan.ScanEnd.{ScanEnd}
+use Rattle.sled_core.specs.inside.Hides.{IsReading}
 use Rattle.sled_core.specs.inside.Recoverable.{NothingBehind, StandsInline, IsOfHistory, IsReachedIn, IsReadOn, IsSegmentOf, IsMarkOf, IsMarkBelow}
 use Rattle.sled_core.specs.Recoverable.{NoHeaderOfZeros}
 use Rattle.sled_core.specs.inside.Scan.{IsFoundSegment, IsMisplaced}
@@ -27,7 +28,7 @@ use Rattle.sled_core.proofs.Tail.OneTail.{scan_there, segment_there}
 use Rattle.sled_core.proofs.Reached.KeptStands.{read_on_kept}
 use Rattle.sled_core.proofs.Reached.LeftBeside.{IsSameBeside, truth_alike, beside, bytes_beside, segment_left, found_beside, same_beside, reading_beside}
 use Rattle.sled_core.proofs.Reached.PutIn.{put_in, others_there, put_cases, ordering_with}
-use Rattle.sled_core.proofs.Reached.Reread.{IsReading, IsAsFar, stands_still}
+use Rattle.sled_core.proofs.Reached.Reread.{IsAsFar, stands_still}
 use Rattle.sled_core.proofs.Reached.StandsTo.{StandsFrom, StandsTo}
 use Rattle.sled_core.proofs.Reached.TornBehind.{in_taken, caps_met}
 

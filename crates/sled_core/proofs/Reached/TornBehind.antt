@@ -15,6 +15,7 @@ use Rattle.sled_core.specs.declared.iterator.Segment.{Segment}
 use Rattle.sled_core.specs.declared.iterator.scan.ScannedRecord.{ScannedRecord}
 use Rattle.sled_core.specs.declared.iterator.scan.ScanEnd.{ScanEnd}
 use Rattle.sled_core.specs.declared.iterator.scan.ScanEnd.TheVariants.{Capped, Broken}
+use Rattle.sled_core.specs.inside.Hides.{IsReading}
 use Rattle.sled_core.specs.inside.Recoverable.{NoBatchEnds, NothingBehind, NoMessageBegins, NoBatchBegins, IsOfHistory, IsReachedIn, IsReadOn}
 use Rattle.sled_core.specs.inside.Scan.{IsFoundSegment}
 use Rattle.sled_core.specs.Scan.{IsPath, IsEnd, IsScan}
@@ -31,7 +32,7 @@ use Rattle.sled_core.proofs.Tail.Tails.{one_reading}
 use Rattle.sled_core.proofs.Tail.Moved.{one_in_slot}
 use Rattle.sled_core.proofs.Reached.KeptStands.{read_on_kept}
 use Rattle.sled_core.proofs.Reached.LeftBeside.{IsSameBeside, truth_alike, alike_apart, beside, bytes_beside, segment_left, found_beside, same_beside, reading_beside}
-use Rattle.sled_core.proofs.Reached.Reread.{IsReading, IsAsFar, stands_still}
+use Rattle.sled_core.proofs.Reached.Reread.{IsAsFar, stands_still}
 use Rattle.sled_core.proofs.Reached.StandsTo.{StandsFrom, StandsTo}
 
 -- one of the first elements is an element
