@@ -1,6 +1,6 @@
 -- What the bytes of a buffer are that a log writes: the header of its segment, where it begins with that; whole records, each with its sum, and those of
--- messages that were given up with the bodies of these; and what fills the segment.
-use Rattle.std.specs.Prelude.{◌≡◌, ◌⊎◌, ◌+◌, ◌/◌, ◌%◌, ◌≤◌, ◌<ℤ◌, ◌∷◌, ◌++◌, ℕ, ℤ, pos, List, [], length, Contains}
+-- messages that were given up with the bodies of these; and what fills the segment, which alone ends its records.
+use Rattle.std.specs.Prelude.{◌≡◌, ◌≢◌, ◌⊎◌, ◌+◌, ◌/◌, ◌%◌, ◌≤◌, ◌<ℤ◌, ◌∷◌, ◌++◌, ℕ, ℤ, pos, List, [], length, Contains}
 use Rattle.sled_codec.specs.declared.serialization.message.MessageKind.{MessageKind}
 use Rattle.sled_codec.specs.declared.serialization.message.MessageKind.TheVariants as kind
 use Rattle.sled_codec.specs.History.{Message}
@@ -25,12 +25,15 @@ records_text sum number (r ∷ rs) = short_record sum r.kind r.page number r.bod
 abbrev pub IsOfOne : List Message → ℕ → RecordParts → Type 0
 IsOfOne messages place r = (m : Message) × Contains messages m × (m.place ≡ place) × (m.page ≡ r.page) × IsBodyOf m r.body
 
--- So is each one of kind `Canceled` of such records, where the first of them stands at a place.
-abbrev pub CanceledAreOf : (List ℕ → ℕ) → ℕ → List Message → ℕ → List RecordParts → Type 0
-CanceledAreOf sum number messages place [] = Unit {0}
-CanceledAreOf sum number messages place (r ∷ rs) =
-    (r.kind ≡ kind.Canceled → IsOfOne messages place r)
-    × CanceledAreOf sum number messages (place + length (short_record sum r.kind r.page number r.body)) rs
+-- A record at a place is none that ends its segment, and of a kind that a reader knows; and where every reader passes over it, it is of one of these messages.
+abbrev pub IsRecordAmong : List Message → ℕ → RecordParts → Type 0
+IsRecordAmong given_up place r = (r.kind ≢ kind.Cap) × (r.kind ≢ kind.Corrupted) × (r.kind ≡ kind.Canceled → IsOfOne given_up place r)
+
+-- So is each one of several, where the first of them stands at a place.
+abbrev pub AreRecordsAmong : (List ℕ → ℕ) → ℕ → List Message → ℕ → List RecordParts → Type 0
+AreRecordsAmong sum number given_up place [] = Unit {0}
+AreRecordsAmong sum number given_up place (r ∷ rs) =
+    IsRecordAmong given_up place r × AreRecordsAmong sum number given_up (place + length (short_record sum r.kind r.page number r.body)) rs
 
 -- What stands in front of the first record of a buffer that begins at a place, which lies at an offset of its segment: where it begins with the segment the
 -- segment's header, with a mark below it, which is one of these; else nothing.
@@ -43,15 +46,16 @@ IsHead sum heads place from head =
 abbrev pub IsFilling : (List ℕ → ℕ) → ℕ → ℕ → ℕ → List ℕ → Type 0
 IsFilling sum size number from rest = (rest ≡ []) ⊎ ((from + length rest ≡ size) × (rest ≡ segment_rest sum size number from))
 
--- The bytes of a buffer that begins at a place, and so at an offset of a segment of a number: no record is written in parts, and none without its sum; one
--- that every reader passes over is of one of these messages, those that were given up; and the header is one of these, those that aren't on the device.
+-- The bytes of a buffer that begins at a place, and so at an offset of a segment of a number: no record is written in parts, and none without its sum, nor one
+-- of no kind; one that every reader passes over is of one of these messages, those that were given up; no record ends the segment but in what fills it; and
+-- the header is one of these, those that aren't on the device.
 pub record IsWholeText (sum : List ℕ → ℕ) (size : ℕ) (given_up : List Message) (heads : List HeadAt) (number place from : ℕ) (bytes : List ℕ) : Type 0 where
   pub head : List ℕ
   pub records : List RecordParts
   pub rest : List ℕ
   pub is : bytes ≡ head ++ records_text sum number records ++ rest
   pub headed : IsHead sum heads place from head
-  pub canceled : CanceledAreOf sum number given_up (place + length head) records
+  pub each : AreRecordsAmong sum number given_up (place + length head) records
   pub filled : IsFilling sum size number (from + length head + length (records_text sum number records)) rest
 
 -- So are those of a buffer of a log with segments of a size, where these were given up, and these headers aren't on the device.

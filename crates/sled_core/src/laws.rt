@@ -97,8 +97,9 @@ pub fn written_messages_are_stable<D: Device, C: Checksum>()
 
 /// What is seen of the buffers of a log that aren't on the device: the current one, as it would be sealed, lies behind the
 /// sealed ones, from where it begins up to where it ends once it is sealed, and so it does where a reservation fills its
-/// segment; each has as many bytes as places, and unless it is held up it is whole records, each with its sum, and those of messages that were given
-/// up with the bodies of these; one that begins its segment has the header that the log has for that.
+/// segment; each has as many bytes as places, and unless it is held up it is whole records, each with its sum and of a kind
+/// that a reader knows, and those of messages that were given up with the bodies of these; none but what fills the segment
+/// ends it; one that begins its segment has the header that the log has for that.
 pub fn a_log_shows_its_buffers<D: Device, C: Checksum>()
     ensures current { (log : Log D C) → 0 < held_len log
         → spans (buffers_of C.sum_of log)

@@ -60,9 +60,9 @@ abbrev pub headed : (List ℕ → ℕ) → MarkAt → HeadAt
 headed sum m = record { place = m.place; bytes = short_header sum (pos m.place) m.mark }
 
 -- These buffers of a log, with its open reservations at these places, are seen so: each as a whole, and what holds it up. What isn't held up is whole records,
--- each with its sum, and of these one that every reader passes over is of one of the messages that were given up; and where it begins its segment, in front
--- of them the segment's header with the mark that it was begun with: so nothing is written that is no log's own but by its sum, nor anything of such a message
--- but what its caller gave, nor another mark than one that follows from what was on the device.
+-- each with its sum and of a kind that a reader knows; of these one that every reader passes over is of one of the messages that were given up; none ends its
+-- segment but in what fills it, which is one text; and where it begins its segment, the segment's header is in front of them, with the mark that it was begun
+-- with. So all of them are met by who reads the segment, and but for what is of the history there is no choice in what is written.
 pub record ShowsBuffers (sum : List ℕ → ℕ) (size : ℕ) (places : List ℕ) (given_up : List Message) (heads : List MarkAt) (ss : List Span)
     (bs : List BufferAt) : Type 0 where
   pub are : spans bs ≡ ss

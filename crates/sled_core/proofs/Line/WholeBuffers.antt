@@ -30,11 +30,12 @@ use Rattle.sled_core.specs.Fits.{buffers_of, fault_of, given_up_of, line_of, hea
 use Rattle.sled_core.specs.Among.{AreAmong}
 use Rattle.sled_core.specs.GivenUp.{given_up_along, given_up_in}
 use Rattle.sled_core.specs.Logged.{logged}
+use Rattle.sled_core.specs.Manifests.{kind_for}
 use Rattle.sled_core.specs.Positions.{is_short}
 use Rattle.sled_core.specs.inside.SealedBuffers.{AreSealed}
 use Rattle.sled_core.specs.SealedBuffers.{bytes_between}
 use Rattle.sled_core.specs.Waiting.{BufferAt, as_sealed, at_last, buffer_at, closed_now, holds_any, placed, sealed_now, turned_now, unwritten, unwritten_in, unwritten_of}
-use Rattle.sled_core.specs.WholeBuffers.{CanceledAreOf, IsFilling, IsOfOne, IsWholeBuffer, IsWholeText, RecordParts, records_text}
+use Rattle.sled_core.specs.WholeBuffers.{AreRecordsAmong, IsFilling, IsRecordAmong, IsWholeBuffer, IsWholeText, RecordParts, records_text}
 use Rattle.sled_core.proofs.Line.Closes.{by_filled, filled_up, more_of}
 use Rattle.sled_core.proofs.Line.EndedTickets.{segment_chain}
 use Rattle.sled_core.proofs.Line.Ends.{with_part}
@@ -80,7 +81,7 @@ module _ (sum : List ℕ → ℕ) (size number : ℕ) (site : SegmentPosition) (
     records : List RecordParts
     rest : List ℕ
     is : bytes_between bytes at end ≡ records_text sum number records ++ rest
-    canceled : CanceledAreOf sum number messages (site.place + at) records
+    each : AreRecordsAmong sum number messages (site.place + at) records
     filled : IsFilling sum size number (at + length (records_text sum number records)) rest
 
   -- A record of a reservation with this kind.
@@ -89,8 +90,8 @@ module _ (sum : List ℕ → ℕ) (size number : ℕ) (site : SegmentPosition) (
 
   -- It stands in front of others.
   one_more : (r : Reserved) (end : ℕ) (k : MessageKind) → r.from + r.len ≤ end → end ≤ length bytes → text_in bytes r ≡ short_record sum k r.page number (body_in bytes r)
-      → (k ≡ kind.Canceled → IsOfOne messages (site.place + r.from) (record_as r k)) → HasRecords (r.from + r.len) end → HasRecords r.from end
-  one_more r end k within inside is of_one more =
+      → IsRecordAmong messages (site.place + r.from) (record_as r k) → HasRecords (r.from + r.len) end → HasRecords r.from end
+  one_more r end k within inside is its more =
       let one : RecordParts = record_as r k in
       let text : List ℕ = records_text sum number more.records in
       let long : length (short_record sum k r.page number (body_in bytes r)) ≡ r.len =
@@ -102,7 +103,7 @@ module _ (sum : List ℕ → ℕ) (size number : ℕ) (site : SegmentPosition) (
         is = between_parted bytes r.from r.len end within
             ∙ (λ i. is i ++ more.is i)
             ∙ sym (append_assoc (short_record sum k r.page number (body_in bytes r)) text more.rest);
-        canceled = (of_one, subst (λ n. CanceledAreOf sum number messages n more.records) (let behind : site.place + (r.from + r.len) ≡ site.place + r.from + length (short_record sum k r.page number (body_in bytes r)) = omega (arith, long) in behind) more.canceled);
+        each = (its, subst (λ n. AreRecordsAmong sum number messages n more.records) (let behind : site.place + (r.from + r.len) ≡ site.place + r.from + length (short_record sum k r.page number (body_in bytes r)) = omega (arith, long) in behind) more.each);
         filled = subst (λ n. IsFilling sum size number n more.rest)
             (let up : r.from + r.len + length text ≡ r.from + length (records_text sum number (one ∷ more.records)) = omega (arith, long, joined) in up) more.filled;
       }
@@ -117,25 +118,31 @@ module _ (sum : List ℕ → ℕ) (size number : ℕ) (site : SegmentPosition) (
         rest = text_in bytes r;
         is = between_parted bytes r.from r.len end within
             ∙ ap (λ (l : List ℕ). text_in bytes r ++ l) (between_none bytes (r.from + r.len) end (omega (arith, to_end, short)) inside) ∙ append-nil (text_in bytes r);
-        canceled = tt;
+        each = tt;
         filled = inr (omega (arith, long, to_end), is ∙ ap (segment_rest sum size number) here);
       }
+
+  -- One of a message or a manifest is no other.
+  of_message : (r : Reserved) (place : ℕ) → kind_for r.log_kind r.page (is_some r.blob) (length (body_in bytes r)) ≡ Some r.kind → IsRecordAmong messages place (record_as r r.kind)
+  of_message r place known =
+      let own = kind_valid r.log_kind r.page (is_some r.blob) (length (body_in bytes r)) r.kind known in
+      (own.2, own.0, λ bad. absurd (own.1 bad))
 
   -- An entry that has ended.
   entry : (r : Reserved) (end : ℕ) → r.from + r.len ≤ end → end ≤ size → end ≤ length bytes → (s : ReservationState) → r.state ≡ s → open_state s ≡ false → StandsBy s sum size number bytes r
       → (r.state ≡ state.Canceled → Contains messages (message_in site bytes r)) → HasRecords (r.from + r.len) end → HasRecords r.from end
   entry r end within short inside state.Open is never stands given more = absurd (let bad : true ≡ false = never in cc)
   entry r end within short inside state.Completed is ended stands given more =
-      one_more r end r.kind within inside (stands.text.is ∙ ap (text_as sum r.kind r.page number (body_in bytes r)) is) (λ bad. absurd ((kind_valid r.log_kind r.page (is_some r.blob) (length (body_in bytes r)) r.kind stands.text.known).1 bad)) more
+      one_more r end r.kind within inside (stands.text.is ∙ ap (text_as sum r.kind r.page number (body_in bytes r)) is) (of_message r (site.place + r.from) stands.text.known) more
   entry r end within short inside state.Canceled is ended stands given more =
       one_more r end kind.Canceled within inside (stands.text.is ∙ ap (text_as sum r.kind r.page number (body_in bytes r)) is)
-      (λ same. (message_in site bytes r, given is, refl, refl, own_body r.blob (site.slot + r.from) (body_in bytes r) stands.text.names)) more
+      (λ bad. cc, λ bad. cc, λ same. (message_in site bytes r, given is, refl, refl, own_body r.blob (site.slot + r.from) (body_in bytes r) stands.text.names)) more
   entry r end within short inside state.Manifest is ended stands given more =
-      one_more r end r.kind within inside (stands.text.is ∙ ap (text_as sum r.kind r.page number (body_in bytes r)) is) (λ bad. absurd ((kind_valid r.log_kind r.page (is_some r.blob) (length (body_in bytes r)) r.kind stands.text.known).1 bad)) more
+      one_more r end r.kind within inside (stands.text.is ∙ ap (text_as sum r.kind r.page number (body_in bytes r)) is) (of_message r (site.place + r.from) stands.text.known) more
   entry r end within short inside state.Padding is ended stands given more = filling r end stands.to_end stands.is within short inside
 
   has_records : (at end : ℕ) (rs : List Reserved) → IsChain at rs end → All Stand rs → AreAmong (given_up_in site bytes rs) messages → none_open rs ≡ true → end ≤ size → end ≤ length bytes → HasRecords at end
-  has_records at end [] chain stand given ended short inside = record { records = []; rest = []; canceled = tt; is = between_none bytes at end (let same : at ≡ end = chain in omega (arith, same)) inside; filled = inl refl }
+  has_records at end [] chain stand given ended short inside = record { records = []; rest = []; each = tt; is = between_none bytes at end (let same : at ≡ end = chain in omega (arith, same)) inside; filled = inl refl }
   has_records at end (r ∷ rs) chain stand given ended short inside =
       subst (λ n. HasRecords n end) chain.0
       (by (λ rest. has_records (r.from + r.len) end rs behind (All-tail Stand r rs stand) (λ m there. given m (given_rest site bytes r rs m there)) rest short inside) (open_state r.state) refl ended)
@@ -189,7 +196,7 @@ module _ (sum : List ℕ → ℕ) (size : ℕ) (messages : List Message) (heads 
           rest = here.rest;
           is = here.is;
           headed = inr (behind, refl);
-          canceled = subst (λ n. CanceledAreOf sum number messages n here.records) (let none : site.place + from ≡ site.place + from + 0 = omega arith in none) here.canceled;
+          each = subst (λ n. AreRecordsAmong sum number messages n here.records) (let none : site.place + from ≡ site.place + from + 0 = omega arith in none) here.each;
           filled = subst (λ n. IsFilling sum size number (n + length (records_text sum number here.records)) here.rest) (let none : from ≡ from + 0 = omega arith in none) here.filled;
         }
 
@@ -207,8 +214,8 @@ module _ (sum : List ℕ → ℕ) (size : ℕ) (messages : List Message) (heads 
           rest = here.rest;
           is = between_parted bytes from 20 end (omega (arith, none, up)) ∙ (λ i. front i ++ here.is i) ∙ sym (append_assoc (take 20 bytes) text here.rest);
           headed = inl (none, subst (λ n. Contains heads (record { place = n; bytes = take 20 bytes })) place one, mark, subst (λ n. mark <ℤ pos n) place below, header ∙ ap (λ n. short_header sum (pos n) mark) place);
-          canceled = subst (λ n. CanceledAreOf sum number messages n here.records)
-              (let behind : site.place + (from + 20) ≡ site.place + from + length (take 20 bytes) = omega (arith, length-take 20 bytes, begun) in behind) here.canceled;
+          each = subst (λ n. AreRecordsAmong sum number messages n here.records)
+              (let behind : site.place + (from + 20) ≡ site.place + from + length (take 20 bytes) = omega (arith, length-take 20 bytes, begun) in behind) here.each;
           filled = subst (λ n. IsFilling sum size number (from + n + length text) here.rest)
               (let long : 20 ≡ length (take 20 bytes) = omega (arith, length-take 20 bytes, begun) in long) here.filled;
         }

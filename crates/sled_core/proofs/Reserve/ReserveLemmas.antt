@@ -5,7 +5,7 @@ use Rattle.std.proofs.lemmas.List.{drop_at, take_all, drop-drop}
 use Rattle.sled_codec.specs.declared.serialization.message.LogKind.{LogKind}
 use Rattle.sled_codec.specs.declared.serialization.message.LogKind.TheVariants as does
 use Rattle.sled_codec.specs.declared.serialization.message.MessageKind.{MessageKind}
-use Rattle.sled_codec.specs.declared.serialization.message.MessageKind.TheVariants.{BatchManifest, Canceled, Corrupted}
+use Rattle.sled_codec.specs.declared.serialization.message.MessageKind.TheVariants.{BatchManifest, Canceled, Cap, Corrupted}
 use Rattle.sled_codec.specs.Kinds.{kind_written}
 use Rattle.sled_codec.specs.Places.{part}
 use Rattle.sled_codec.specs.Sums.{flipped}
@@ -20,9 +20,9 @@ use Rattle.sled_core.specs.inside.Buffers.{SpellsBlob, text_in, placeholder, pla
 use Rattle.sled_core.specs.Buffers.{body_in, item_as, pointer_as, message_in, record_size}
 use Rattle.sled_core.proofs.Reserve.Heads.{length-short_header_tail}
 
--- no message is written as damage, nor as one that was given up
+-- no message is written as damage, nor as one that was given up, nor as the end of a segment
 abbrev IsOwnKind : MessageKind → Type 0
-IsOwnKind k = (k ≢ Corrupted) × (k ≢ Canceled)
+IsOwnKind k = (k ≢ Corrupted) × (k ≢ Canceled) × (k ≢ Cap)
 
 some_kind : (b c : Bool) (x y z k : MessageKind) → IsOwnKind x → IsOwnKind y → IsOwnKind z → (if b then Some x else if c then Some y else Some z) ≡ Some k → IsOwnKind k
 some_kind true c x y z k own_x own_y own_z is = let same : x ≡ k = cc in subst IsOwnKind same own_x
@@ -30,20 +30,20 @@ some_kind false true x y z k own_x own_y own_z is = let same : y ≡ k = cc in s
 some_kind false false x y z k own_x own_y own_z is = let same : z ≡ k = cc in subst IsOwnKind same own_z
 
 written_valid : (does_it : LogKind) (page : ℕ) (blob : Bool) (kind : MessageKind) → kind_written does_it page blob ≡ Some kind → IsOwnKind kind
-written_valid does.Replace page true kind is = some_kind (page == 1) (page == 0) _ _ _ kind (λ e. cc, λ e. cc) (λ e. cc, λ e. cc) (λ e. cc, λ e. cc) is
-written_valid does.Replace page false kind is = some_kind (page == 1) (page == 0) _ _ _ kind (λ e. cc, λ e. cc) (λ e. cc, λ e. cc) (λ e. cc, λ e. cc) is
-written_valid does.Link page true kind is = (λ bad. cc, λ bad. cc)
-written_valid does.Link page false kind is = (λ bad. cc, λ bad. cc)
-written_valid does.Free page true kind is = (λ bad. cc, λ bad. cc)
-written_valid does.Free page false kind is = (λ bad. cc, λ bad. cc)
-written_valid does.Skip page blob kind is = (λ bad. cc, λ bad. cc)
-written_valid does.Corrupted page blob kind is = (λ bad. cc, λ bad. cc)
+written_valid does.Replace page true kind is = some_kind (page == 1) (page == 0) _ _ _ kind (λ e. cc, λ e. cc, λ e. cc) (λ e. cc, λ e. cc, λ e. cc) (λ e. cc, λ e. cc, λ e. cc) is
+written_valid does.Replace page false kind is = some_kind (page == 1) (page == 0) _ _ _ kind (λ e. cc, λ e. cc, λ e. cc) (λ e. cc, λ e. cc, λ e. cc) (λ e. cc, λ e. cc, λ e. cc) is
+written_valid does.Link page true kind is = (λ bad. cc, λ bad. cc, λ bad. cc)
+written_valid does.Link page false kind is = (λ bad. cc, λ bad. cc, λ bad. cc)
+written_valid does.Free page true kind is = (λ bad. cc, λ bad. cc, λ bad. cc)
+written_valid does.Free page false kind is = (λ bad. cc, λ bad. cc, λ bad. cc)
+written_valid does.Skip page blob kind is = (λ bad. cc, λ bad. cc, λ bad. cc)
+written_valid does.Corrupted page blob kind is = (λ bad. cc, λ bad. cc, λ bad. cc)
 
 -- nor is a manifest
 pub kind_valid : (does_it : LogKind) (page : ℕ) (blob : Bool) (n : ℕ) (kind : MessageKind) → kind_for does_it page blob n ≡ Some kind → IsOwnKind kind
 kind_valid does_it page blob n kind = by (is_manifest does_it page) (not blob && n == 8) where
   by : (o e : Bool) → (if o then (if e then Some BatchManifest else None) else kind_written does_it page blob) ≡ Some kind → IsOwnKind kind
-  by true true is = (λ bad. cc, λ bad. cc)
+  by true true is = (λ bad. cc, λ bad. cc, λ bad. cc)
   by true false is = cc
   by false e is = written_valid does_it page blob kind is
 

@@ -32,7 +32,7 @@ use Rattle.sled_core.specs.SealedBuffers.{writing}
 use Rattle.sled_core.specs.OpenBatches.{not_whole, stable_below}
 use Rattle.sled_core.specs.Waiting.{BufferAt, BufferStart, HasLength, Span, first_held, held_below, is_unheld, not_below, pending_in, spans, unless_held, without_pending, writes_below}
 use Rattle.sled_core.specs.inside.Waiting.{begun_below}
-use Rattle.sled_core.specs.WholeBuffers.{CanceledAreOf, IsWholeBuffer, RecordParts}
+use Rattle.sled_core.specs.WholeBuffers.{AreRecordsAmong, IsWholeBuffer, RecordParts}
 use Rattle.sled_core.proofs.Line.Entered.{filled_last}
 use Rattle.sled_core.proofs.Holds.Facts.{current_facts}
 use Rattle.sled_core.proofs.Line.Positions.{end_seen, next_seen}
@@ -67,10 +67,10 @@ was_free old new same none = by (fault_of old) refl where
   by (Some e) is = absurd (let both : Some e ≡ None = sym is ∙ ap fault_of (sym (same e is)) ∙ none in cc)
 
 -- A buffer that is whole where these were given up is where more were.
-more_records : (sum : List ℕ → ℕ) (number : ℕ) (these all : List Message) → AreAmong these all → (place : ℕ) (rs : List RecordParts) → CanceledAreOf sum number these place rs → CanceledAreOf sum number all place rs
+more_records : (sum : List ℕ → ℕ) (number : ℕ) (these all : List Message) → AreAmong these all → (place : ℕ) (rs : List RecordParts) → AreRecordsAmong sum number these place rs → AreRecordsAmong sum number all place rs
 more_records sum number these all among place [] are = tt
 more_records sum number these all among place (r ∷ rs) are = (
-  λ is. (let one = are.0 is in (one.0, among one.0 one.1, one.2, one.3, one.4)),
+  (are.0.0, are.0.1, λ is. (let one = are.0.2 is in (one.0, among one.0 one.1, one.2, one.3, one.4))),
   more_records sum number these all among (place + length (short_record sum r.kind r.page number r.body)) rs are.1,
 )
 
@@ -84,7 +84,7 @@ more_given sum size these all fewer heads b among further whole = record {
     | inl first ↦ inl (first.0, further (record { place = b.place; bytes = whole.head }) first.1, first.2, first.3, first.4)
     | inr behind ↦ inr behind
   ];
-  canceled = more_records sum (b.place / size) these all among (b.place + length whole.head) whole.records whole.canceled;
+  each = more_records sum (b.place / size) these all among (b.place + length whole.head) whole.records whole.each;
   filled = whole.filled;
 }
 
