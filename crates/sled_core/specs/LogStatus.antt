@@ -1,11 +1,13 @@
--- What a caller sees of a log at one moment, and what sealing and writing make of it. What they seal is told beside it: its bytes aren't part of what is seen.
-use Rattle.std.specs.Prelude.{◌∷◌, ℕ, List, [], Option}
+-- Where a log stands at one moment, and what sealing and writing make of that. The bytes of the current buffer, which they seal, aren't part of it, so they are
+-- told beside it.
+use Rattle.std.specs.Prelude.{ℕ, List, Option}
 use Rattle.std.specs.declared.io.Error.{Error as IoError}
 use Rattle.sled_codec.specs.History.{Batch}
 use Rattle.sled_core.specs.declared.logger.Log.{Log}
 use Rattle.sled_core.specs.Fits.{fault_of, noted_in, pins_of, position_of, reserved_end, start_of, synced_end, waiting_of}
 use Rattle.sled_core.specs.OpenBatches.{not_whole}
 use Rattle.sled_core.specs.Positions.{Position}
+use Rattle.sled_core.specs.Stable.{first_begin}
 use Rattle.sled_core.specs.Waiting.{BufferAt, BufferStart, not_below}
 
 -- Where a log stands.
@@ -34,11 +36,6 @@ status_of log = record {
   fault = fault_of log;
   pins = pins_of log;
 }
-
--- where the first of these buffers begins, or else the current one
-abbrev pub first_begin : List BufferAt → BufferStart → ℕ
-first_begin [] start = start.place
-first_begin (b ∷ bs) start = b.place
 
 -- the buffers are these, and the current one begins there
 abbrev pub rolled : List BufferAt → BufferStart → LogStatus → LogStatus

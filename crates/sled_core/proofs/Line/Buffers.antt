@@ -10,9 +10,10 @@ use Rattle.sled_core.specs.declared.iobuf.Reserved.{Reserved}
 use Rattle.sled_core.specs.declared.iobuf.Sealed.{Sealed}
 use Rattle.sled_core.specs.declared.iobuf.SegmentPosition.{SegmentPosition}
 use Rattle.sled_core.specs.declared.logger.Log.{Log}
-use Rattle.sled_core.specs.Fits.{FirstWaits, current_begin, synced_end, waiting_of}
+use Rattle.sled_core.specs.Fits.{FirstWaits, current_begin, start_of, synced_end, waiting_of}
 use Rattle.sled_core.specs.inside.SealedBuffers.{AreSealed, FirstUnwritten, behind_run, is_ready, now_written, ready_count, ready_marked, ready_write, run_count, run_end, written_at}
 use Rattle.sled_core.specs.SealedBuffers.{bytes_between, sealed_end, writing}
+use Rattle.sled_core.specs.Stable.{first_begin}
 use Rattle.sled_core.specs.inside.Turned.{IsReadyIn, promoted, write_in, written_now}
 use Rattle.sled_core.specs.Waiting.{BufferAt, buffer_at, is_unheld, last_of, pending_in, placed, unwritten, unwritten_in, unwritten_of, without_pending, write_pending}
 use Rattle.sled_core.proofs.Holds.Facts.{IsSegment}
@@ -223,3 +224,10 @@ first_waits log = by log.segments.first.buffer.sealed.items log.segments.first.b
         subst (λ (l : List BufferAt). FirstWaits (synced_end log) ((last_of (segment_view log.segments.first) ws).parts.site.place + begin_of (last_of (segment_view log.segments.first) ws)) (l ++ unwritten ws))
         (sym (ap (λ (l : List Sealed). unwritten_in log.segments.first.site log.segments.first.buffer.bytes.items log.segments.first.buffer.written_len l log.segments.first.buffer.reserved.items) is ∙ fresh_one log.segments.first.site log.segments.first.buffer.bytes.items log.segments.first.buffer.written_len b bs log.segments.first.buffer.reserved.items fresh))
         refl
+
+-- So what is on the device ends where the first of them begins, or else the current one.
+pub first_left : {D C : Type 0} (log : Log D C) → synced_end log ≡ first_begin (waiting_of log) (start_of log)
+first_left log = by_first (waiting_of log) (first_waits log) where
+  by_first : (bs : List BufferAt) → FirstWaits (synced_end log) (current_begin log) bs → synced_end log ≡ first_begin bs (start_of log)
+  by_first [] is = is
+  by_first (b ∷ bs) is = is

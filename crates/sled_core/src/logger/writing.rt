@@ -94,8 +94,8 @@ impl<D: Device, C: Checksum> Log<D, C> {
     /// is to be begun and would not end below 2^63 in the log and in the file; and `OutOfMemory`. The log is as it was.
     pub fn roll_iobuf(&mut self) -> Result<usize>
         ensures answer { IfOk result (λ n. n ≡ held_len self.old) }
-        ensures status { OnOk result (status_of self.new ≡ (if holds_any (current_of self.old)
-            then rolled (buffers_of C.sum_of self.old) (start_sealed self.old) (status_of self.old) else status_of self.old)) }
+        ensures status { OnOk result (status_of self.new ≡ rolled (buffers_of C.sum_of self.old)
+            (if holds_any (current_of self.old) then start_sealed self.old else start_of self.old) (status_of self.old)) }
         ensures marked { OnOk result (BeginsMarked C.sum_of self.old self.new) }
         ensures keeps { KeepsLog D.trace C.sum_of self.old self.new }
         ensures untouched { config_of self.new ≡ config_of self.old }

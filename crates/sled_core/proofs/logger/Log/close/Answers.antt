@@ -16,7 +16,7 @@ use Rattle.sled_core.specs.Waiting.{BufferAt}
 use Rattle.sled_core.specs.declared.logger.Log.{Log}
 use Rattle.sled_core.proofs.Flush.Settled.{leaves_less}
 use Rattle.sled_core.proofs.Holds.LastEnds.{acknowledged_up}
-use Rattle.sled_core.proofs.Line.Buffers.{first_waits}
+use Rattle.sled_core.proofs.Line.Buffers.{first_left}
 use Rattle.sled_core.proofs.Line.Outcomes.{on_both, on_err}
 use Rattle.sled_core.proofs.logger.Log.close.Goals as goal
 
@@ -30,17 +30,10 @@ close_answers (Err PlacesUsedUp) held used fault now before after (is, old, new,
 close_answers (Err (Held at)) held used fault now before after (place, unused, old, new, same) = (place, unused, old, same)
 close_answers (Err _) held used fault now before after answers = absurd answers
 
--- What is on the device ends where the first buffer begins that is left, or the current one.
-first_left : {D C : Type 0} (log : Log D C) → first_begin (waiting_of log) (start_of log) ≡ synced_end log
-first_left log = by_first (waiting_of log) (first_waits log) where
-  by_first : (bs : List BufferAt) → FirstWaits (synced_end log) (current_begin log) bs → first_begin bs (start_of log) ≡ synced_end log
-  by_first [] is = sym is
-  by_first (b ∷ bs) is = sym is
-
 -- By how much the stable end grew: what is left begins there.
 
 stable_left : {D C : Type 0} (sum : List ℕ → ℕ) (to : ℕ) (old new : Log D C) → LeavesAbove sum to old new → stable_behind sum to old ≡ synced_end new
-stable_left sum to old new above = (λ i. first_begin (sym above.left i) (sym above.start i)) ∙ first_left new
+stable_left sum to old new above = (λ i. first_begin (sym above.left i) (sym above.start i)) ∙ sym (first_left new)
 
 grown : {D C : Type 0} (r : Result ℕ Error) (P : Type 0) (old new : Log D C) (behind before : ℕ) → (P → behind ≡ synced_end new) → IfOk r (λ n. stable_end new ≡ before + n) → OnOk r P → OnOk r (SyncsAll old new) → IfOk r (λ n. behind ≡ before + n)
 grown (Ok n) P old new behind before left grows is all = left is ∙ sym all.stable ∙ grows
@@ -92,7 +85,7 @@ closes_part trace sum r old new sound never (inr front) = inr (record {
   count = front.count;
   synced = front.synced;
   whole = sound _ front.whole;
-  short = subst (λ n. n < reserved_end old) (sym ((λ i. first_begin (sym front.left i) (sym front.start i)) ∙ first_left new)) front.short;
+  short = subst (λ n. n < reserved_end old) (sym ((λ i. first_begin (sym front.left i) (sym front.start i)) ∙ sym (first_left new))) front.short;
 })
 
 pub returns-clause-came : goal.returns-clause-came

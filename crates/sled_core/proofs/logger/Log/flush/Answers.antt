@@ -6,10 +6,11 @@ use Rattle.sled_codec.specs.declared.result.Error.TheVariants.{Io}
 use Rattle.sled_core.specs.declared.logger.Log.{Log}
 use Rattle.sled_core.specs.Fits.{FirstWaits, fault_of, noted_in, reserved_end, stable_end, start_of, synced_end, waiting_of}
 use Rattle.sled_core.specs.Keeps.{LeavesAbove, SamePosition, sealed_for, start_for}
-use Rattle.sled_core.specs.LogStatus.{first_begin, flushed, status_of}
+use Rattle.sled_core.specs.LogStatus.{flushed, status_of}
 use Rattle.sled_core.specs.OpenBatches.{not_whole}
+use Rattle.sled_core.specs.Stable.{first_begin, stable_behind}
 use Rattle.sled_core.specs.Waiting.{BufferAt, BufferStart, not_below}
-use Rattle.sled_core.proofs.Line.Buffers.{first_waits}
+use Rattle.sled_core.proofs.Line.Buffers.{first_left}
 use Rattle.sled_core.specs.invariants.Running.{Fits}
 use Rattle.sled_core.specs.Running.{end_below}
 use Rattle.sled_core.proofs.Line.KeptCalls.{log_still}
@@ -49,19 +50,13 @@ stable g c = let did = c.in_ok-write_below.ensures in all_stable c.write_below.n
 pub returns-clause-synced : goal.returns-clause-synced
 returns-clause-synced g c = record { whole = (let did = c.in_ok-write_below.ensures in omega (arith, did.written)); stable = stable g c }
 
--- All before the first buffer that waits is on the device.
-first_is : (synced : ℕ) (bs : List BufferAt) (start : BufferStart) → FirstWaits synced start.place bs → synced ≡ first_begin bs start
-first_is synced [] start is = is
-first_is synced (b ∷ bs) start is = is
-
 -- What is written of a log makes this of what is seen of it.
 all_flushed : {D C : Type 0} (sum : List ℕ → ℕ) (old new : Log D C) → LeavesAbove sum (reserved_end old) old new → SamePosition old new → fault_of new ≡ fault_of old
     → noted_in new ≡ not_whole (synced_end new) (noted_in old)
     → status_of new ≡ flushed (sealed_for sum (reserved_end old) old) (start_for (reserved_end old) old) (status_of old)
 all_flushed sum old new left position fault noted =
-    let first : synced_end new ≡ first_begin (waiting_of new) (start_of new) = first_is (synced_end new) (waiting_of new) (start_of new) (first_waits new) in
     let l = left.left in let s = left.start in
-    let there : synced_end new ≡ first_begin (not_below (reserved_end old) (sealed_for sum (reserved_end old) old)) (start_for (reserved_end old) old) = first ∙ ap (λ bs. first_begin bs (start_of new)) l ∙ ap (first_begin (not_below (reserved_end old) (sealed_for sum (reserved_end old) old))) s in
+    let there : synced_end new ≡ stable_behind sum (reserved_end old) old = first_left new ∙ (λ i. first_begin (l i) (s i)) in
     let n = noted ∙ ap (λ k. not_whole k (noted_in old)) there in
     let a = position.position in let b = position.reserved in let e = fault in let f = position.pins in cc
 

@@ -1,50 +1,59 @@
 -- Where the current buffer holds nothing, nothing is done.
-use Rattle.std.proofs.Common.{◌≡◌, ◌<◌, ◌∙◌, ap, sym, arith, rules, length, if◌then◌else◌, Bool, true, false, List, ℕ, Err, None, Option, Some}
+use Rattle.std.proofs.Common.{◌≡◌, ◌<◌, ◌-◌, ◌∙◌, ap, sym, arith, rules, length, if◌then◌else◌, Bool, true, false, List, ℕ, Err, None, Option, Some}
 use Rattle.std.specs.declared.io.Error.{Error as IoError}
 use Rattle.std.proofs.lemmas.Bool.Decides.{nat_tests}
 use Rattle.std.proofs.lemmas.Result.{err_from_is_err_and}
 use Rattle.sled_codec.specs.declared.result.Error.{Error}
 use Rattle.sled_codec.specs.declared.result.Error.TheVariants.{Io, OutOfMemory, PlacesUsedUp}
 use Rattle.sled_core.specs.Causes.{FaultOrMemory}
-use Rattle.sled_core.specs.Begun.{SegmentView, begin_of}
+use Rattle.sled_core.specs.Begun.{SegmentView, begin_of, view_at}
 use Rattle.sled_core.specs.declared.iobuf.IoBuf.{IoBuf}
+use Rattle.sled_core.specs.declared.iobuf.SegmentPosition.{SegmentPosition}
 use Rattle.sled_core.specs.declared.logger.Log.{Log}
 use Rattle.sled_core.specs.Fits.{KeepsAll, buffers_of, current_of, held_len, start_of, waiting_of}
 use Rattle.sled_core.specs.Keeps.{SamePosition, start_sealed}
 use Rattle.sled_core.specs.LogStatus.{rolled, status_of}
-use Rattle.sled_core.specs.Waiting.{holds_any}
+use Rattle.sled_core.specs.Waiting.{BufferStart, holds_any}
 use Rattle.sled_core.proofs.Holds.Facts.{current_facts}
 use Rattle.sled_core.proofs.Line.KeptCalls.{log_still}
+use Rattle.sled_core.proofs.Line.Shows.{buffers_still}
 use Rattle.sled_core.proofs.logger.Log.roll_iobuf.Goals as goal
 
 pub returns-in-Some-clause-keeps : goal.returns-in-Some-clause-keeps
 returns-in-Some-clause-keeps g c = log_still g.D.Device.trace g.C.Checksum.sum_of c.args.self.now
 
+-- where the current buffer of a log begins behind it
+abbrev start_rolled : {D C : Type 0} → Log D C → BufferStart
+start_rolled log = if holds_any (current_of log) then start_sealed log else start_of log
+
 -- A log of which nothing is sealed is as it was.
-none_rolled : {D C : Type 0} (sum : List ℕ → ℕ) (log : Log D C) → held_len log ≡ 0
-    → status_of log ≡ (if holds_any (current_of log) then rolled (buffers_of sum log) (start_sealed log) (status_of log) else status_of log)
+none_rolled : {D C : Type 0} (sum : List ℕ → ℕ) (log : Log D C) → held_len log ≡ 0 → status_of log ≡ rolled (buffers_of sum log) (start_rolled log) (status_of log)
 none_rolled sum log none =
     let begins = (current_facts log).begins in
     let any : holds_any (current_of log) ≡ false = grind (arith, nat_tests, none, begins) in
-    sym (ap (λ (o : Bool). if o then rolled (buffers_of sum log) (start_sealed log) (status_of log) else status_of log) any)
+    let start : start_of log ≡ start_rolled log = sym (ap (λ (o : Bool). if o then start_sealed log else start_of log) any) in
+    λ i. record (status_of log) { waiting = sym (buffers_still sum log none) i; start = start i }
 
 -- One of which the current buffer is sealed has one more.
 one_rolled : {D C : Type 0} (sum : List ℕ → ℕ) (old new : Log D C) → holds_any (current_of old) ≡ true → waiting_of new ≡ buffers_of sum old → start_of new ≡ start_sealed old → SamePosition old new → KeepsAll old new
-    → status_of new ≡ (if holds_any (current_of old) then rolled (buffers_of sum old) (start_sealed old) (status_of old) else status_of old)
+    → status_of new ≡ rolled (buffers_of sum old) (start_rolled old) (status_of old)
 one_rolled sum old new any waits start position same =
-    let is : status_of new ≡ rolled (buffers_of sum old) (start_sealed old) (status_of old) =
-    let a = position.position in let b = position.reserved in let c = same.synced in let d = same.noted in let e = same.fault in let f = same.pins in cc in
-    is ∙ sym (ap (λ (o : Bool). if o then rolled (buffers_of sum old) (start_sealed old) (status_of old) else status_of old) any)
+    let begun : start_of new ≡ start_rolled old = start ∙ sym (ap (λ (o : Bool). if o then start_sealed old else start_of old) any) in
+    let a = position.position in let b = position.reserved in let c = same.synced in let d = same.noted in let e = same.fault in let f = same.pins in cc
+
+-- What the current buffer holds is counted behind where it begins.
+held_is : {D C : Type 0} (log : Log D C) (site : SegmentPosition) (b : IoBuf) → view_at site b ≡ current_of log → length b.bytes.items - b.begin ≡ held_len log
+held_is log site b view =
+    let long = ap (λ (v : SegmentView). length v.parts.bytes) view in
+    let begin = ap (λ (v : SegmentView). begin_of v) view in
+    cc
 
 pub returns-then-held-eq0-clause-status : goal.returns-then-held-eq0-clause-status
 returns-then-held-eq0-clause-status g c =
-    let b : IoBuf = c.current.result.1.now in
-    let begins = b.begins in
-    let count : c.len.result ≡ length b.bytes.items = search rules in
+    let count : c.len.result ≡ length c.current.result.1.now.bytes.items = search rules in
     let empty = c.if-held-eq0.true in
-    let long = ap (λ (v : SegmentView). length v.parts.bytes) c.current.ensures.view in
-    let begin = ap (λ (v : SegmentView). begin_of v) c.current.ensures.view in
-    none_rolled g.C.Checksum.sum_of c.args.self.now (omega (empty, count, begins, long, begin, arith))
+    let held = held_is c.args.self.now c.current.result.0 c.current.result.1.now c.current.ensures.view in
+    none_rolled g.C.Checksum.sum_of c.args.self.now (omega (arith, count, empty, held))
 
 pub returns-then-held-eq0-clause-keeps : goal.returns-then-held-eq0-clause-keeps
 returns-then-held-eq0-clause-keeps g c = log_still g.D.Device.trace g.C.Checksum.sum_of c.args.self.now
@@ -58,24 +67,18 @@ seal_refused T S _ here used fault there none is = absurd is
 
 pub returns-in_err-seal-clause-answers : goal.returns-in_err-seal-clause-answers
 returns-in_err-seal-clause-answers g c =
-    let b : IoBuf = c.current.result.1.now in
-    let begins = b.begins in
-    let count : c.len.result ≡ length b.bytes.items = search rules in
+    let count : c.len.result ≡ length c.current.result.1.now.bytes.items = search rules in
     let some = c.if-held-eq0.false in
-    let long = ap (λ (v : SegmentView). length v.parts.bytes) c.current.ensures.view in
-    let begin = ap (λ (v : SegmentView). begin_of v) c.current.ensures.view in
-    let more : 0 < held_len c.args.self.now = omega (arith, some, count, begins, long, begin) in
+    let held = held_is c.args.self.now c.current.result.0 c.current.result.1.now c.current.ensures.view in
+    let more : 0 < held_len c.args.self.now = omega (arith, count, some, held) in
     let e = err_from_is_err_and c.from_residual.result c.from_residual.ensures.1 in
     rw (e.1, e.2) (seal_refused (Unit {0}) ℕ c.in_err-seal.field-0.0 _ _ _ more c.in_default.is c.in_err-seal.ensures.answers)
 
 pub returns-clause-status : goal.returns-clause-status
 returns-clause-status g c =
-    let b : IoBuf = c.current.result.1.now in
-    let begins = b.begins in
-    let count : c.len.result ≡ length b.bytes.items = search rules in
+    let count : c.len.result ≡ length c.current.result.1.now.bytes.items = search rules in
     let some = c.if-held-eq0.false in
-    let long = ap (λ (v : SegmentView). length v.parts.bytes) c.current.ensures.view in
-    let begin = ap (λ (v : SegmentView). begin_of v) c.current.ensures.view in
-    let more : begin_of (current_of c.args.self.now) < length (current_of c.args.self.now).parts.bytes = omega (arith, some, count, begins, long, begin) in
+    let held = held_is c.args.self.now c.current.result.0 c.current.result.1.now c.current.ensures.view in
+    let more : 0 < held_len c.args.self.now = omega (arith, count, some, held) in
     let did = c.in_ok-seal.ensures in
     one_rolled g.C.Checksum.sum_of c.args.self.now c.seal.new.self (grind (arith, nat_tests, more)) did.waiting did.start did.keeps.position did.same
