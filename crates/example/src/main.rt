@@ -28,7 +28,7 @@ fn main(rt: HostRuntime) -> Result<()> {
     };
     // A log and a guard can't be dropped. So what may fail is a function of its own, and both end behind it,
     // whatever it returns. The pin stays out until then: after a crash a log can only be counted on if a pin
-    // was out while a completed message was unmarked, and nothing marks messages yet.
+    // was out while a completed message was unmarked, and this program marks none.
     let guard = log.pin();
     let read = put(&mut log, &guard, 0, &item);
     guard.abandon();

@@ -17,6 +17,7 @@ use sled_oracle::record::{is_record, sum_in_place};
 use sled_store::blob_io::{gc_blobs, read_blob, remove_blob, write_blob};
 use sled_store::header::{bump_offset, incr_writers, n_writers, offset};
 use sled_store::segment::accountant::{CacheInfo, SegmentAccountant};
+use sled_store::snapshot_file::{decode_file, encode_file};
 use slog_lines::run_lines;
 use std::alloc::{AllocError, Global};
 use std::io::{self, BufRead, ErrorKind, Read, Write};
@@ -49,6 +50,12 @@ pub fn run(alloc: Global, tally: &mut Tally<'_>) {
         27,
         "the header of a blob",
         known(sessions::heads_blob(alloc)),
+    );
+    holds(
+        tally,
+        28,
+        "the file of a snapshot",
+        known(spells_snapshot(alloc)),
     );
     hold_orders(alloc, tally);
     hold_identifiers(alloc, tally);
@@ -316,6 +323,29 @@ fn record_at(lsn: i64, lid: u64) -> CacheInfo {
         pointer: DiskPtr::Inline(lid),
         log_size: 10,
     }
+}
+
+// The file of the snapshot with the stable place 32, the active segment at 0, and one page, whose base is a record of 12
+// bytes at 20: its 21 bytes, their number, and their sum, 33 + 9 + 10 + 11 * 20 + 20 * 20 + 21 * 12 = 924.
+const SNAPSHOT_FILE: [u8; 33] = [
+    33, 0, 0, 0, 0, 0, 0, 0, 1, 1, 20, 0, 0, 0, 0, 0, 0, 0, 0, 20, 12, 21, 0, 0, 0, 0, 0, 0, 0, 156,
+    3, 0, 0,
+];
+
+// It is read, and written again as it is. With another length, another sum, or too short for them it is damage.
+fn spells_snapshot(alloc: Global) -> Result<bool> {
+    let snapshot = decode_file(alloc, &PlaceSum, &SNAPSHOT_FILE)?;
+    if !snapshot.can_serialize() || snapshot.serialized_size() >= 1 << 20 {
+        return Ok(false);
+    }
+    let is_written = encode_file(alloc, &PlaceSum, &snapshot)?.as_slice() == SNAPSHOT_FILE.as_slice();
+    let (mut long, mut torn) = (SNAPSHOT_FILE, SNAPSHOT_FILE);
+    long[21] = 22;
+    torn[29] = 157;
+    let are_damage = is_damage(&decode_file(alloc, &PlaceSum, &long), None)
+        && is_damage(&decode_file(alloc, &PlaceSum, &torn), None)
+        && is_damage(&decode_file(alloc, &PlaceSum, &SNAPSHOT_FILE[..11]), None);
+    Ok(snapshot.stable_lsn == Some(32) && is_written && are_damage)
 }
 
 // A write that no memory holds.

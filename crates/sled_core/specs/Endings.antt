@@ -21,6 +21,6 @@ pub record EndsTicket {T D C : Type 0} (trace : D → Trace) (sum : List ℕ →
   pub buffers : KeepsBuffers old new
   pub heads : AreAmong (heads_of new) (heads_of old)
 
--- The message that a ticket awaits is given up: what counts as given up then is that message, as the log has it, and what was given up before.
+-- The message that a ticket awaits is given up: each that counts as given up then is that message, as the log has it, or was given up before.
 abbrev pub GivesUp : {D C : Type 0} → Reservation → Log D C → Log D C → Type 0
 GivesUp ticket old new = (m : Message) → Awaits old ticket m → AreAmong (given_up_of new) (in_log m ∷ given_up_of old)

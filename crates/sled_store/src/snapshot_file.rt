@@ -55,7 +55,8 @@ pub fn decode_file<C: Checksum>(alloc: Global, checksum: &C, bytes: &[u8]) -> Re
     }
 }
 
-/// The bytes of the file of a snapshot.
+/// The bytes of the file of a snapshot. It asks that the snapshot has an encoding (`can_serialize` tests it), and one of fewer
+/// than 2^63 bytes with its trailer (`serialized_size`).
 ///
 /// # Errors
 ///

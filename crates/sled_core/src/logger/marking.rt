@@ -49,8 +49,8 @@ impl<D: Device, C: Checksum> Log<D, C> {
     }
 
     /// Marks a completed message of a page that is there in place of all that the page had, which is `old`: a Replace or
-    /// a Free. `lsn` is its place. The segments of these hold less then, and the blobs that they name go with the
-    /// segment of the new message.
+    /// a Free. `lsn` is its place. The segments of these hold less then, and the blobs that they name, but for the new
+    /// message's own, go once the segment of the new message is deactivated.
     ///
     /// # Errors
     ///
@@ -71,14 +71,16 @@ impl<D: Device, C: Checksum> Log<D, C> {
             → OnOk result (Fits D.trace C.sum_of self.new H A f V) }
         ensures answers { FaultOrMemory result ⊥ (fault_of self.old) }
     {
-        if let Some(e) = self.fault.kept {
-            return Err(Error::Io(e));
+        if let Some(kept) = self.fault.kept {
+            return Err(Error::Io(kept));
         }
         self.accountant
             .mark_replace(&mut self.config, pid, lsn, old, new)
     }
 
-    /// Returns a page that is to be written again, so that its segment comes free, with the offset of its slot.
+    /// Returns a page that is to be written again, so that its segment comes free, with the offset of its slot: the least
+    /// page of the lowest slot that is drained. Where none of that slot's is left, `None`, and a further call goes on with
+    /// the next slot.
     pub fn clean_pop(&mut self) -> Option<(PageId, LogOffset)>
         ensures page { result ≡ first_page (segment_size_of self.old) (machine_at self.old).cleaner }
         ensures pops { machine_at self.new ≡ record (machine_at self.old) { cleaner = popped (machine_at self.old).cleaner } }

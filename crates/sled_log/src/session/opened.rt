@@ -20,7 +20,7 @@ use sled_core::reservation::{Guard, Reservation};
 use sled_store::{CrashDevice, RunningConfig};
 use std::alloc::Global;
 
-/// A log that is open. A pin is out, since no message is marked yet.
+/// A log that is open. A pin is out, since a session marks no message.
 pub(crate) struct Opened<D, C> {
     pub(crate) alloc: Global,
     pub(crate) log: Log<D, C>,
