@@ -62,6 +62,13 @@ module _ (sum : List ℕ → ℕ) (size : ℕ) (v : SegmentView) (i : ℕ) (low 
     by true is = is
     by false is = refl
 
+-- A slot that is freed is free.
+pub freed_free : (size : ℕ) (m : Machine) (k : ℕ) → is_free (slot_at (freed size k m).machine k).state ≡ true
+freed_free size m k = elim (cases_lt k (length m.slots)) [
+  | inl inside ↦ ap (λ (s : SlotState). is_free s.state) (get_or-set_same m.slots k free_slot free_slot inside)
+  | inr past ↦ ap (λ (s : SlotState). is_free s.state) (get_or_past (set m.slots k free_slot) k free_slot (omega (arith, past, length-set m.slots k free_slot)))
+]
+
 -- So of all segments.
 
 module _ (size : ℕ) (m : Machine) (log : List ℕ) where
@@ -85,14 +92,8 @@ module _ (size : ℕ) (m : Machine) (log : List ℕ) where
 
   -- A slot is freed.
   pub cleared_freed : 0 < size → (k : ℕ) (line : List SegmentView) → IsEmptied size k (cleared size m line log) (cleared size (freed size k m).machine line log)
-  cleared_freed some k line = cleared_emptied size some m line log (freed size k m).machine k free
-      (λ j other. ap (λ (s : SlotState). is_free s.state) (get_or-set_other m.slots k j free_slot free_slot other)) where
-        free : is_free (slot_at (freed size k m).machine k).state ≡ true
-        free = elim (cases_lt k (length m.slots)) [
-          | inl inside ↦ ap (λ (s : SlotState). is_free s.state) (get_or-set_same m.slots k free_slot free_slot inside)
-          | inr past ↦
-              ap (λ (s : SlotState). is_free s.state) (get_or_past (set m.slots k free_slot) k free_slot (omega (arith, past, length-set m.slots k free_slot)))
-        ]
+  cleared_freed some k line = cleared_emptied size some m line log (freed size k m).machine k (freed_free size m k)
+      (λ j other. ap (λ (s : SlotState). is_free s.state) (get_or-set_other m.slots k j free_slot free_slot other))
 
   module _ (sum : List ℕ → ℕ) (v : SegmentView) (vs : List SegmentView) (low : begin_of (last_of v vs) ≤ length (last_of v vs).parts.bytes)
       (high : length (last_of v vs).parts.bytes ≤ size)

@@ -295,7 +295,8 @@ module _ (size : ℕ) (m : Machine) (line : List SegmentView) (log : List ℕ) (
   abbrev begin : ℕ
   begin = sealed_end v.parts.written_len (take k v.parts.sealed)
 
-  within : (v.parts.written_len ≤ begin) × (begin < b.end) × (b.end ≤ size)
+  -- it lies behind what is written without a gap, and within the segment
+  pub within : (v.parts.written_len ≤ begin) × (begin < b.end) × (b.end ≤ size)
   within = rises_at v.parts.written_len (take k v.parts.sealed) b (drop (suc k) v.parts.sealed) size
       (subst (λ (cs : List Sealed). EndsRise v.parts.written_len cs size) (there_split v.parts.sealed k b there) (rises n v among))
 

@@ -1,5 +1,5 @@
 -- What a log file has besides what is shown stays so where less is own, and each slot of a segment, and each that has a header that is own, keeps its bytes.
-use Rattle.std.proofs.Common.{◌≡◌, ◌∙◌, ◌+◌, ◌*◌, ◌≤◌, ℕ, ℤ, pos, false, List, [], ◌∷◌, length, refl, sym, ap, subst, arith}
+use Rattle.std.proofs.Common.{◌≡◌, ◌∙◌, ◌*◌, ◌≤◌, ℕ, ℤ, pos, false, List, [], ◌∷◌, length, refl, sym, ap, subst, arith}
 use Rattle.std.proofs.Math.Nat.{mul-mod_left}
 use Rattle.sled_codec.specs.History.{History}
 use Rattle.sled_codec.specs.Places.{part}
@@ -11,7 +11,7 @@ use Rattle.sled_core.specs.Begun.{SegmentView}
 use Rattle.sled_core.specs.Scan.{IsScan}
 use Rattle.sled_core.specs.Tail.{Scanned}
 use Rattle.sled_core.specs.inside.Cleared.{cleared}
-use Rattle.sled_core.specs.inside.Hides.{Hides, IsOwnHeader, IsReading}
+use Rattle.sled_core.specs.inside.Hides.{Hides, IsOwnHeader, IsReading, LiesInSlot}
 use Rattle.sled_core.specs.inside.Slots.{marked_at}
 use Rattle.sled_core.proofs.Freed.Hides.{KeepsShown, OwnLess, hides_less}
 use Rattle.sled_core.proofs.Reached.KeptStands.{alike_kept}
@@ -37,6 +37,20 @@ module _ (sum : List ℕ → ℕ) (size : ℕ) (old left : List ℕ) (k : ℕ) (
         caps = r.caps;
       }
 
+-- A text in a slot that keeps its bytes stands there still, and so does a header.
+module _ (sum : List ℕ → ℕ) (size : ℕ) (old new : List ℕ) (k : ℕ) (same : SameIn size old new k) where
+  pub text_kept : (at : ℕ) (text : List ℕ) → LiesInSlot size k at text → part old at (length text) ≡ text → part new at (length text) ≡ text
+  text_kept at [] inside is = refl
+  text_kept at (x ∷ xs) inside is =
+      same at (length (x ∷ xs)) inside.0 inside.1 (in_this_file sum size old old at (length (x ∷ xs)) (omega arith) (ap length is) refl) ∙ is
+
+  pub header_kept : 256 ≤ size → (place : ℕ) (mark : ℤ) → IsHeader sum (part old (k * size) 20) (pos place) mark
+      → IsHeader sum (part new (k * size) 20) (pos place) mark
+  header_kept some place mark is =
+      let whole = twenty sum size old (k * size) (pos place) mark is in
+      subst (λ (l : List ℕ). IsHeader sum l (pos place) mark)
+      (sym (same (k * size) 20 (omega arith) (omega (arith, some)) (in_this_file sum size old old (k * size) 20 (omega arith) whole refl))) is
+
 module _ (sum : List ℕ → ℕ) (size : ℕ) (some : 256 ≤ size) (s t : State) (m : Machine) (line : List SegmentView) where
   abbrev shown_before : List ℕ
   shown_before = cleared size m line s.log.bytes
@@ -44,32 +58,15 @@ module _ (sum : List ℕ → ℕ) (size : ℕ) (some : 256 ≤ size) (s t : Stat
   abbrev shown_now : List ℕ
   shown_now = cleared size m line t.log.bytes
 
-  -- a slot is the same in both files, and is shown the same
-  pub record KeepsSlot (k : ℕ) : Type 0 where
-    pub same : SameIn size s.log.bytes t.log.bytes k
-    pub back : SameIn size t.log.bytes s.log.bytes k
-    pub shown : SameIn size shown_before shown_now k
-
-  module _ (H : History) (used : (k : ℕ) → is_free (slot_at m k).state ≡ false → SameIn size shown_before shown_now k)
-      (headed : (k place : ℕ) (mark : ℤ) → IsOwnHeader sum size t k place mark → KeepsSlot k) where
-    text_kept : (k at : ℕ) (text : List ℕ) → SameIn size shown_before shown_now k → k * size ≤ at → at + length text ≤ k * size + size
-        → part shown_before at (length text) ≡ text → part shown_now at (length text) ≡ text
-    text_kept k at [] same low high is = refl
-    text_kept k at (x ∷ xs) same low high is =
-        same at (length (x ∷ xs)) low high (in_this_file sum size shown_before shown_before at (length (x ∷ xs)) (omega arith) (ap length is) refl) ∙ is
-
-    pub keeps_shown : KeepsShown sum size s t m line H
+  -- Each slot of a segment is shown the same, and so is each with a header that is own.
+  module _ (used : (k : ℕ) → is_free (slot_at m k).state ≡ false → SameIn size shown_before shown_now k)
+      (headed : (k place : ℕ) (mark : ℤ) → IsOwnHeader sum size t k place mark → SameIn size shown_before shown_now k) where
+    pub keeps_shown : KeepsShown sum size s t m line
     keeps_shown = record {
-      taken = λ k at text is inside. text_kept k at text (used k is) inside.0 inside.1;
-      headers = λ k place mark own is.
-          let whole = twenty sum size shown_before (k * size) (pos place) mark is in
-          subst (λ (l : List ℕ). IsHeader sum l (pos place) mark)
-          (sym ((headed k place mark own).shown (k * size) 20 (omega arith) (omega (arith, some))
-          (in_this_file sum size shown_before shown_before (k * size) 20 (omega arith) whole refl))) is;
-      gone = λ k place mark own.
-          let keeps = headed k place mark own in reading_same sum size s.log.bytes t.log.bytes k keeps.same keeps.back H place mark;
+      taken = λ k at text is inside. text_kept sum size shown_before shown_now k (used k is) at text inside;
+      headers = λ k place mark own. header_kept sum size shown_before shown_now k (headed k place mark own) some place mark;
     }
 
     -- So it stays.
-    pub hides_kept : (base : ℕ) → Hides sum size s m line base H → OwnLess sum size t s → Hides sum size t m line base H
-    hides_kept base hides less = hides_less sum size s m line base H hides t less keeps_shown
+    pub hides_kept : (least base : ℕ) (H : History) → Hides sum size s m line least base H → OwnLess sum size t s → Hides sum size t m line least base H
+    hides_kept least base H hides less = hides_less sum size s m line least base H hides t less keeps_shown

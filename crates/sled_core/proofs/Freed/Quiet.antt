@@ -80,6 +80,15 @@ begun_there (x ∷ xs) zero u there =
 begun_there (x ∷ xs) (suc n) u there =
     in_rest (begun_segment x.parts) (begun_segment u.parts) (map begun_segment (map parts_in xs)) (begun_there xs n u there)
 
+-- Each one's buffers end one behind another.
+pub line_rises : (size place : ℕ) (line : List SegmentView) → AreSegments size place line → LineRises size line
+line_rises size place line are j u at =
+    let s = nth_segment size place line are j u at in
+    let up = ends_up u.parts.written_len u.parts.reserved u.parts.sealed s.are in
+    let begins = s.begins in
+    let short = s.short in
+    ends_rise u.parts.written_len u.parts.reserved u.parts.sealed size s.are (omega (arith, up, begins, short)) (omega (arith, begins, short))
+
 -- A line, and the slots of its segments.
 module _ (sum : List ℕ → ℕ) (none : NoHeaderOfZeros sum) (size : ℕ) (some : 256 ≤ size) (m : Machine) (v : SegmentView) (vs : List SegmentView)
     (are : AreSegments size v.parts.site.place (v ∷ vs))
@@ -94,12 +103,7 @@ module _ (sum : List ℕ → ℕ) (none : NoHeaderOfZeros sum) (size : ℕ) (som
   aligned = let has = taken 0 v refl in ap (λ n. n % size) (sym has.is) ∙ own.aligned has.number has.taken
 
   rises : LineRises size line
-  rises j u at =
-      let s = nth_segment size place line are j u at in
-      let up = ends_up u.parts.written_len u.parts.reserved u.parts.sealed s.are in
-      let begins = s.begins in
-      let short = s.short in
-      ends_rise u.parts.written_len u.parts.reserved u.parts.sealed size s.are (omega (arith, up, begins, short)) (omega (arith, begins, short))
+  rises = line_rises size place line are
 
   waits : (n : ℕ) (u : SegmentView) → slice_get line n ≡ Some u → HeadWaits size u
   waits n u at fresh i low high =
@@ -146,7 +150,8 @@ module _ (sum : List ℕ → ℕ) (none : NoHeaderOfZeros sum) (size : ℕ) (som
       shown_read = reads_shown sum none size some m line log rises each_shows
 
   -- The real file is at rest, and nothing is foreign in it.
-  module _ (s : State) (base : ℕ) (H : History) (hides : Hides sum size s m line base H) (placed : ReadsPlaced sum size s) (first : SnapshotModel) (reach : ℕ)
+  module _ (s : State) (base : ℕ) (H : History) (first : SnapshotModel) (hides : Hides sum size s m line (least_place size first) base H)
+      (placed : ReadsPlaced sum size s) (reach : ℕ)
       (whole : AreWhole sum size (cleared size m line s.log.bytes) H place m)
       (among : StandsAmong sum size (cleared size m line s.log.bytes) v.parts.site v.parts.written_len (map begun_segment (map parts_in vs)) reach H first) where
     stands_each : (n : ℕ) (u : SegmentView) → slice_get line n ≡ Some u
@@ -162,6 +167,5 @@ module _ (sum : List ℕ → ℕ) (none : NoHeaderOfZeros sum) (size : ℕ) (som
     -- It reads as what is shown of it, but for segments that are gone.
     pub quiet_reads : ReadsAs sum size (least_place size first) H base (cleared size m line s.log.bytes) s.log.bytes
     quiet_reads =
-        reads_as_shown sum size s m line base H hides placed
+        reads_as_shown sum size s m line (least_place size first) base H hides placed
         (shown_read s.log.bytes H whole (least_place size first) among.stands.ordering among.stands.numbers among.stands.scanned among.stands.reads stands_each)
-        (least_place size first)

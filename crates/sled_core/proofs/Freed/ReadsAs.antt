@@ -1,12 +1,12 @@
 -- A log file at rest in which nothing is foreign reads as what is shown of it, but for segments that are gone.
-use Rattle.std.proofs.Common.{◌≡◌, ◌⊎◌, ◌∙◌, ◌+◌, ◌*◌, ◌/◌, ◌%◌, ◌≤◌, ℕ, ℤ, pos, List, [], ◌∷◌, length, sym, ap, subst, arith, inl, inr}
+use Rattle.std.proofs.Common.{◌≡◌, ◌⊎◌, ◌∙◌, ◌+◌, ◌*◌, ◌/◌, ◌%◌, ◌≤◌, ℕ, ℤ, pos, List, [], ◌∷◌, length, drop, length-take, sym, ap, subst, arith, inl, inr}
 use Rattle.std.proofs.Math.Nat.{mul-mod_left}
 use Rattle.sled_codec.specs.declared.serialization.message.MessageHeader.{MessageHeader}
 use Rattle.sled_codec.specs.History.{History}
 use Rattle.sled_codec.specs.Places.{part}
-use Rattle.sled_codec.specs.Record.{IsHeader}
+use Rattle.sled_codec.specs.Record.{IsHeader, IsRecord}
 use Rattle.sled_store.specs.Device.{State}
-use Rattle.sled_store.specs.Readers.{at_start}
+use Rattle.sled_store.specs.Readers.{Reads, at_start}
 use Rattle.sled_store.specs.SegmentStates.{Machine}
 use Rattle.sled_core.specs.declared.iterator.Segment.{Segment}
 use Rattle.sled_core.specs.declared.iterator.scan.ScannedRecord.{ScannedRecord}
@@ -16,14 +16,15 @@ use Rattle.sled_core.specs.Begun.{SegmentView}
 use Rattle.sled_core.specs.Reading.{StandsAt}
 use Rattle.sled_core.specs.Scan.{EndsThere, IsEnd, IsMet, IsPath, IsScan}
 use Rattle.sled_core.specs.inside.Cleared.{cleared, is_stale}
-use Rattle.sled_core.specs.inside.Hides.{Hides, IsGoneSegment, IsOwnRecord, ReadsShown}
+use Rattle.sled_core.specs.inside.Hides.{Hides, IsGoneSegment, IsOwnHeader, IsOwnRecord, ReadsShown}
 use Rattle.sled_core.specs.inside.OwnLog.{ReadsPlaced}
 use Rattle.sled_core.specs.inside.Scan.{IsFoundSegment}
 use Rattle.sled_core.proofs.Freed.Cleared.{zeroed_long}
 use Rattle.sled_core.proofs.Freed.Gone.{ReadsAs}
+use Rattle.sled_core.proofs.OwnLog.Kept.{part_in}
 use Rattle.sled_core.proofs.Tail.LogFileLemmas.{record_moved}
 use Rattle.sled_core.proofs.Torn.AlikeSlots.{slot_found}
-use Rattle.sled_core.proofs.Torn.TornRecords.{record_of_stands, record_read, says_plain}
+use Rattle.sled_core.proofs.Torn.TornRecords.{record_read, says_plain}
 use Rattle.sled_core.proofs.Torn.WrittenBeside.{found_moved}
 use Rattle.sled_core.proofs.Torn.WrittenParts.{ComesTo, all_there, comes_behind, in_segment}
 use Rattle.sled_core.proofs.Torn.WrittenRecords.{AlikeAlong}
@@ -64,13 +65,30 @@ module _ (sum : List ℕ → ℕ) (size : ℕ) (old new : List ℕ) (slot place 
   unfolding IsScan
   scan_read met stop why (path, end) = scan_from 20 at_start at_start met stop why path end
 
-module _ (sum : List ℕ → ℕ) (size : ℕ) (s : State) (m : Machine) (line : List SegmentView) (base : ℕ) (H : History)
-    (hides : Hides sum size s m line base H) (own : ReadsPlaced sum size s) where
+module _ (sum : List ℕ → ℕ) (size : ℕ) (s : State) (m : Machine) (line : List SegmentView) (least base : ℕ) (H : History)
+    (hides : Hides sum size s m line least base H) (own : ReadsPlaced sum size s) where
   abbrev log : List ℕ
   log = s.log.bytes
 
   abbrev shown : List ℕ
   shown = cleared size m line log
+
+  -- A header that stands in the file is own, and so is each record of its number that is read there.
+  own_header : (k place : ℕ) (mark : ℤ) → IsHeader sum (part log (k * size) 20) (pos place) mark → IsOwnHeader sum size s k place mark
+  own_header k place mark header = record { text = part log (k * size) 20; is = header; placed = (own k).header (pos place) mark header }
+
+  own_record : (k place : ℕ) (mark : ℤ) (at len : ℕ) → IsHeader sum (part log (k * size) 20) (pos place) mark
+      → Reads sum size (place / size) (part log (k * size) size) 20 at len
+      → IsOwnRecord sum size s (place / size) (k * size + at) (part log (k * size + at) len)
+  own_record k place mark at len header r =
+      let inside = r.inside in record {
+        kind = r.kind;
+        page = r.page;
+        body = r.body;
+        is = subst (λ (l : List ℕ). IsRecord sum l r.kind r.page (place / size) r.body)
+            (part_in size log (k * size) at len (omega (arith, inside, length-take size (drop (k * size) log)))) r.is;
+        placed = (own k).records place mark at len header r;
+      }
 
   module _ (reads : ReadsShown sum size m shown log) where
     long : length shown ≡ length log
@@ -105,14 +123,8 @@ module _ (sum : List ℕ → ℕ) (size : ℕ) (s : State) (m : Machine) (line :
           let whole = all_there sum size log lid (place / size) h body len stands in
           let fits = in_segment sum size log (k * size) aligned from (place / size) h body len (omega (arith, room)) stands in
           let its = reads.slots k place mark header in
-          let owned : IsOwnRecord sum size s (place / size) lid text = record {
-            kind = h.kind;
-            page = h.pid;
-            body = body;
-            is = record_of_stands sum size log lid (place / size) h body len stands;
-            placed = (own k).records place mark from len header_there
-                (record_read sum size log (record { place = place; slot = k * size }) aligned (place / size) 20 from h body len room stands comes);
-          } in
+          let owned = own_record k place mark from len header_there
+          (record_read sum size log (record { place = place; slot = k * size }) aligned (place / size) 20 from h body len room stands comes) in
           let same = (hides.taken k (place / size) lid text its.0 (omega arith, omega (arith, whole, fits)) owned).1 (ap (λ n. n / size) (sym its.1)) in
           record_moved sum size log shown lid (place / size) h body len (ap (part shown lid) (sym whole) ∙ same) (omega (arith, there, long)) stands
 
@@ -164,29 +176,32 @@ module _ (sum : List ℕ → ℕ) (size : ℕ) (s : State) (m : Machine) (line :
           subst (λ n. IsPath sum size shown n t.place 20 ms next → AlikeAlong shown log n 20 ms) (sym here)
           (alike_there slot t.place t.mark shown_header ms next)
 
-    -- One that is found in the file is shown, or gone.
-    pub shown_or_gone : (least : ℕ) (t : Segment) → IsFoundSegment sum size log least t
-        → IsFoundSegment sum size shown least t ⊎ IsGoneSegment sum size log H base t
-    shown_or_gone least t found =
+    -- One that is found in the file from there on is shown, or gone.
+    pub shown_or_gone : (t : Segment) → IsFoundSegment sum size log least t → IsFoundSegment sum size shown least t ⊎ IsGoneSegment sum size log H base t
+    shown_or_gone t found =
         let k : ℕ = t.slot / size in
         let here = slot_found sum size log least t found in
         let header = subst (λ n. IsHeader sum (part log n 20) (pos t.place) t.mark) here found.header in
-        elim (hides.headers k t.place t.mark
-        (record { text = part log (k * size) 20; is = header; placed = (own k).header (pos t.place) t.mark header })) [
+        elim (hides.headers k t.place t.mark found.not_below (own_header k t.place t.mark header)) [
           | inl is ↦ inl (record {
             slot = found.slot;
             header = subst (λ n. IsHeader sum (part shown n 20) (pos t.place) t.mark) (sym here) is;
             not_below = found.not_below;
           })
           | inr gone ↦ inr (
-              subst (λ n. IsGoneSegment sum size log H base (record { place = t.place; slot = n; mark = t.mark })) (sym here) gone.gone)
+              subst (λ n. IsGoneSegment sum size log H base (record { place = t.place; slot = n; mark = t.mark })) (sym here)
+              (record {
+                below = gone.below;
+                is_mark = gone.is_mark;
+                reading = gone.reading log (λ at len r. own_record k t.place t.mark at len header r);
+              }))
         ]
 
     -- So the file reads as what is shown of it, but for segments that are gone.
-    pub reads_as_shown : (least : ℕ) → ReadsAs sum size least H base shown log
-    reads_as_shown least = record {
+    pub reads_as_shown : ReadsAs sum size least H base shown log
+    reads_as_shown = record {
       kept = found_too;
       scans = λ t found. read_too t.segment found t.met t.stop t.why;
       bytes = λ t found ms next. alike_too t found ms next;
-      others = shown_or_gone least;
+      others = shown_or_gone;
     }

@@ -1,6 +1,6 @@
 -- What the log file has besides what is shown of it. The log's own of a segment that a slot has lies in its slot, and is shown; a header that isn't shown is
 -- that of a segment that is gone.
-use Rattle.std.specs.Prelude.{◌≡◌, ◌⊎◌, ◌+◌, ◌*◌, ◌/◌, ◌≤◌, ◌<◌, ℕ, ℤ, pos, false, List, length, Contains}
+use Rattle.std.specs.Prelude.{◌≡◌, ◌⊎◌, ◌+◌, ◌*◌, ◌/◌, ◌%◌, ◌≤◌, ◌<◌, ℕ, ℤ, pos, false, List, length, Contains}
 use Rattle.sled_codec.specs.declared.serialization.message.MessageKind.{MessageKind}
 use Rattle.sled_codec.specs.History.{History}
 use Rattle.sled_codec.specs.Places.{part}
@@ -54,13 +54,25 @@ LiesInSlot size k at text = (k * size ≤ at) × (at + length text ≤ k * size 
 abbrev pub HasSegment : Machine → ℕ → Type 0
 HasSegment m place = (j : ℕ) × (is_free (slot_at m j).state ≡ false) × ((slot_at m j).lsn ≡ place)
 
--- No slot has the segment with this header any more, and what is read of it in the file is of the history.
+-- In a slot of a file each record of a number that a reader reads is the log's own.
+abbrev pub ReadsOwnIn : (List ℕ → ℕ) → ℕ → State → ℕ → ℕ → List ℕ → Type 0
+ReadsOwnIn sum size s k number log =
+    (at len : ℕ) → Reads sum size number (part log (k * size) size) 20 at len
+    → IsOwnRecord sum size s number (k * size + at) (part log (k * size + at) len)
+
+-- No slot has the segment with this header any more, it began where one can, and what is read of it is of the history: in each file in which a reader reads
+-- nothing of it but what is the log's own. (The file itself may be another one. Where the slot was handed out again, and a buffer was written of the segment
+-- that has it now, but not yet the one with its header, a reader of the old segment may read on in bytes of an item.)
 pub record IsGone (sum : List ℕ → ℕ) (size : ℕ) (s : State) (m : Machine) (base : ℕ) (H : History) (k place : ℕ) (mark : ℤ) : Type 0 where
   pub no_slot : HasSegment m place → ⊥
-  pub gone : IsGoneSegment sum size s.log.bytes H base (marked_at (k * size) place mark)
+  pub aligned : place % size ≡ 0
+  pub below : place + size ≤ base
+  pub is_mark : IsMarkOf H (marked_at (k * size) place mark)
+  pub reading : (log : List ℕ) → ReadsOwnIn sum size s k (place / size) log → IsReading sum size log H (marked_at (k * size) place mark)
 
--- What the log file has besides what is shown of it, at rest.
-pub record Hides (sum : List ℕ → ℕ) (size : ℕ) (s : State) (m : Machine) (line : List SegmentView) (base : ℕ) (H : History) : Type 0 where
+-- What the log file has besides what is shown of it, at rest. Of headers it is said from a place on, that of the snapshot's segment: recovery passes over those
+-- below, and of their segments less is known.
+pub record Hides (sum : List ℕ → ℕ) (size : ℕ) (s : State) (m : Machine) (line : List SegmentView) (least base : ℕ) (H : History) : Type 0 where
   -- nothing of a number to come is the log's own
   pub to_come : (number at : ℕ) (text : List ℕ) → IsOwnRecord sum size s number at text → number * size < line_end size line
   -- in the slot of a segment nothing of a greater number is, and what is of its number is shown
@@ -71,8 +83,10 @@ pub record Hides (sum : List ℕ → ℕ) (size : ℕ) (s : State) (m : Machine)
   pub free : (k number at : ℕ) (text : List ℕ) → LiesInSlot size k at text → IsOwnRecord sum size s number at text
       → (j : ℕ) → is_free (slot_at m j).state ≡ false → number ≡ (slot_at m j).lsn / size → j ≡ k
   -- a header that isn't shown is that of a segment that is gone
-  pub headers : (k place : ℕ) (mark : ℤ) → IsOwnHeader sum size s k place mark
+  pub headers : (k place : ℕ) (mark : ℤ) → least ≤ place → IsOwnHeader sum size s k place mark
       → IsHeader sum (part (cleared size m line s.log.bytes) (k * size) 20) (pos place) mark ⊎ IsGone sum size s m base H k place mark
+  -- no two slots have headers of one segment
+  pub alone : (j k place : ℕ) (mark other : ℤ) → least ≤ place → IsOwnHeader sum size s j place mark → IsOwnHeader sum size s k place other → j ≡ k
 
 -- What is shown of a log file is read of bytes that count: a header that is shown is that of the segment that its slot has, and stands in the file, and so does
 -- each record that a reader of the segment reads.
