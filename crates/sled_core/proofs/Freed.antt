@@ -10,6 +10,7 @@ pub mod Emptied
 pub mod Gone
 pub mod Hides
 pub mod KeptHides
+pub mod LineHides
 pub mod NoHarm
 pub mod PassedOver
 pub mod Quiet
