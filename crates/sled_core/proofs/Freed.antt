@@ -7,6 +7,7 @@ pub mod ClearedMoves
 pub mod ClearedShows
 pub mod CutEnds
 pub mod Emptied
+pub mod FreedHides
 pub mod Gone
 pub mod Hides
 pub mod KeptHides
@@ -14,6 +15,7 @@ pub mod LineHides
 pub mod NoHarm
 pub mod PassedOver
 pub mod Quiet
+pub mod ReadLess
 pub mod ReadsAs
 pub mod ShownReads
 pub mod WrittenOwn
