@@ -18,4 +18,5 @@ pub mod Quiet
 pub mod ReadLess
 pub mod ReadsAs
 pub mod ShownReads
+pub mod WrittenHides
 pub mod WrittenOwn
