@@ -9,6 +9,7 @@ pub mod CutEnds
 pub mod Emptied
 pub mod FreedHides
 pub mod Gone
+pub mod GoneAlone
 pub mod Hides
 pub mod KeptHides
 pub mod LineHides
