@@ -6,6 +6,7 @@ pub mod ClearedCalls
 pub mod ClearedMoves
 pub mod ClearedShows
 pub mod CutEnds
+pub mod CutHides
 pub mod Emptied
 pub mod FreedHides
 pub mod Gone

@@ -1,0 +1,91 @@
+-- Slots at the end of the log file that are free are cut off, and the cut is synced: what the file has besides what is shown is what it may have.
+use Rattle.std.proofs.Common.{◌≡◌, ◌∙◌, ◌+◌, ◌*◌, ◌%◌, ◌≤◌, ◌<◌, ℕ, ℤ, pos, Bool, true, false, if◌then◌else◌, List, length, take, drop, get_or, sym, ap, subst, arith, inl, inr, length-take, length-drop}
+use Rattle.std.proofs.Math.Nat.{mul-mod_left}
+use Rattle.std.proofs.lemmas.Bool.{cases_lt}
+use Rattle.std.proofs.lemmas.List.{ext_get_or, get_or-drop, get_or-take}
+use Rattle.sled_codec.specs.History.{History}
+use Rattle.sled_codec.specs.Places.{part}
+use Rattle.sled_codec.specs.Record.{IsHeader}
+use Rattle.sled_codec.proofs.Segments.{length-short_header}
+use Rattle.sled_store.specs.Device.{Cut, State, Synced, step}
+use Rattle.sled_store.specs.SegmentStates.{Machine, is_free, slot_at}
+use Rattle.sled_core.specs.Begun.{SegmentView}
+use Rattle.sled_core.specs.inside.Cleared.{cleared, is_stale, zeroed}
+use Rattle.sled_core.specs.inside.Hides.{Hides, IsOwnHeader}
+use Rattle.sled_core.proofs.Freed.Cleared.{zeroed_get, zeroed_long}
+use Rattle.sled_core.proofs.Freed.Hides.{OwnLess, hides_less, less_cut, less_synced}
+use Rattle.sled_core.proofs.Freed.WrittenOwn.{header_synced}
+use Rattle.sled_core.proofs.Tail.Multiples.{apart}
+
+-- A file with zeros where a test says so keeps its parts in front of a cut.
+zeroed_part : (test : ℕ → Bool) (log : List ℕ) (to at len : ℕ) → at + len ≤ to → part (zeroed test (take to log)) at len ≡ part (zeroed test log) at len
+zeroed_part test log to at len below =
+    ext_get_or 0 (part short at len) (part (zeroed test log) at len) long (λ i lt. each i (omega (arith, lt, length-take len (drop at short)))) where
+      short : List ℕ
+      short = zeroed test (take to log)
+
+      long : length (part short at len) ≡ length (part (zeroed test log) at len)
+      long =
+          omega (
+            arith,
+            below,
+            length-take len (drop at short),
+            length-drop at short,
+            zeroed_long test (take to log),
+            length-take to log,
+            length-take len (drop at (zeroed test log)),
+            length-drop at (zeroed test log),
+            zeroed_long test log,
+          )
+
+      byte : (i : ℕ) → i < to → get_or short i 0 ≡ get_or (zeroed test log) i 0
+      byte i lower = zeroed_get test (take to log) i ∙ ap (λ (n : ℕ). if test i then 0 else n) (get_or-take to log i 0 lower) ∙ sym (zeroed_get test log i)
+
+      each : (i : ℕ) → i < len → get_or (part short at len) i 0 ≡ get_or (part (zeroed test log) at len) i 0
+      each i within =
+          get_or-take len (drop at short) i 0 within ∙ get_or-drop at short i 0 ∙ byte (at + i) (omega (arith, within, below))
+          ∙ sym (get_or-drop at (zeroed test log) i 0) ∙ sym (get_or-take len (drop at (zeroed test log)) i 0 within)
+
+module _ (sum : List ℕ → ℕ) (size : ℕ) (some : 0 < size) (s : State) (m : Machine) (line : List SegmentView) (least base : ℕ) (H : History)
+    (hides : Hides sum size s m line least base H) (to : ℕ) (whole : to % size ≡ 0) (free : (k : ℕ) → to ≤ k * size → is_free (slot_at m k).state ≡ true) where
+  abbrev under_way : State
+  under_way = step (Cut to to) s
+
+  -- the state behind the cut and its sync
+  abbrev pub cut_off : State
+  cut_off = step Synced under_way
+
+  -- Less is own behind it.
+  less : OwnLess sum size cut_off s
+  less = record {
+    records = λ number at text r. (less_cut sum size to to s).records number at text ((less_synced sum size under_way).records number at text r);
+    headers = λ k place mark h. (less_cut sum size to to s).headers k place mark ((less_synced sum size under_way).headers k place mark h);
+  }
+
+  -- A part below the end is shown as it was.
+  shown_still : (at len : ℕ) → at + len ≤ to → part (cleared size m line cut_off.log.bytes) at len ≡ part (cleared size m line s.log.bytes) at len
+  shown_still at len below = zeroed_part (is_stale size m line) s.log.bytes to at len below
+
+  -- The slot of a segment lies below it,
+  used_below : (k : ℕ) → is_free (slot_at m k).state ≡ false → k * size + size ≤ to
+  used_below k used = elim (cases_lt (k * size) to) [
+    | inl low ↦ apart size some (k * size) to (mul-mod_left k size) whole low
+    | inr high ↦ (let both : true ≡ false = sym (free k high) ∙ used in absurd cc)
+  ]
+
+  -- and so does a header that is own.
+  header_below : (k place : ℕ) (mark : ℤ) → IsOwnHeader sum size cut_off k place mark → k * size + 20 ≤ to
+  header_below k place mark h =
+      let twenty = ap length h.is.is ∙ length-short_header sum (pos place) mark in
+      let stands = header_synced sum size under_way k place mark h in
+      let short : List ℕ = take to s.log.bytes in
+      omega (arith, twenty, ap length stands, length-take (length h.text) (drop (k * size) short), length-drop (k * size) short, length-take to s.log.bytes)
+
+  -- So it stays.
+  pub hides_cut : Hides sum size cut_off m line least base H
+  hides_cut = hides_less sum size s m line least base H hides cut_off less (record {
+    taken = λ k at text used inside is.
+        let below = used_below k used in let high = inside.1 in shown_still at (length text) (omega (arith, below, high)) ∙ is;
+    headers = λ k place mark h is.
+        subst (λ (l : List ℕ). IsHeader sum l (pos place) mark) (sym (shown_still (k * size) 20 (header_below k place mark h))) is;
+  })
