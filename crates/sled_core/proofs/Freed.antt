@@ -19,6 +19,7 @@ pub mod PassedOver
 pub mod Quiet
 pub mod ReadLess
 pub mod ReadsAs
+pub mod RunningHides
 pub mod ShownReads
 pub mod WrittenHides
 pub mod WrittenOwn

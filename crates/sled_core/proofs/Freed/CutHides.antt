@@ -1,18 +1,22 @@
 -- Slots at the end of the log file that are free are cut off, and the cut is synced: what the file has besides what is shown is what it may have.
-use Rattle.std.proofs.Common.{◌≡◌, ◌∙◌, ◌+◌, ◌*◌, ◌%◌, ◌≤◌, ◌<◌, ℕ, ℤ, pos, Bool, true, false, if◌then◌else◌, List, length, take, drop, get_or, sym, ap, subst, arith, inl, inr, length-take, length-drop}
+use Rattle.std.proofs.Common.{◌≡◌, ◌∙◌, ◌+◌, ◌*◌, ◌%◌, ◌≤◌, ◌<◌, ℕ, zero, suc, ℤ, pos, nat_lt, Bool, true, false, if◌then◌else◌, List, [], ◌∷◌, length, take, drop, get_or, refl, sym, ap, subst, arith, inl, inr, length-take, length-drop}
 use Rattle.std.proofs.Math.Nat.{mul-mod_left}
-use Rattle.std.proofs.lemmas.Bool.{cases_lt}
-use Rattle.std.proofs.lemmas.List.{ext_get_or, get_or-drop, get_or-take}
+use Rattle.std.proofs.lemmas.Bool.{and_parts, cases_eq, cases_lt}
+use Rattle.std.proofs.lemmas.List.{ext_get_or, get_or-drop, get_or-set_other, get_or-take}
 use Rattle.sled_codec.specs.History.{History}
 use Rattle.sled_codec.specs.Places.{part}
 use Rattle.sled_codec.specs.Record.{IsHeader}
 use Rattle.sled_codec.proofs.Segments.{length-short_header}
-use Rattle.sled_store.specs.Device.{Cut, State, Synced, step}
-use Rattle.sled_store.specs.SegmentStates.{Machine, is_free, slot_at}
+use Rattle.sled_store.specs.Accounts.{AreSlots}
+use Rattle.sled_store.specs.Device.{Cut, State, Synced, Trace, state_of, step}
+use Rattle.sled_store.specs.Script.{after_all}
+use Rattle.sled_store.specs.SegmentStates.{Machine, SlotState, cutting, free_among, free_slot, freed, is_free, may_be_cut, slot_at}
+use Rattle.sled_store.proofs.Segments.FilledLemmas.{slot_before}
 use Rattle.sled_core.specs.Begun.{SegmentView}
 use Rattle.sled_core.specs.inside.Cleared.{cleared, is_stale, zeroed}
 use Rattle.sled_core.specs.inside.Hides.{Hides, IsOwnHeader}
 use Rattle.sled_core.proofs.Freed.Cleared.{zeroed_get, zeroed_long}
+use Rattle.sled_core.proofs.Freed.ClearedCalls.{freed_free}
 use Rattle.sled_core.proofs.Freed.Hides.{OwnLess, hides_less, less_cut, less_synced}
 use Rattle.sled_core.proofs.Freed.WrittenOwn.{header_synced}
 use Rattle.sled_core.proofs.Tail.Multiples.{apart}
@@ -89,3 +93,41 @@ module _ (sum : List ℕ → ℕ) (size : ℕ) (some : 0 < size) (s : State) (m 
     headers = λ k place mark h is.
         subst (λ (l : List ℕ). IsHeader sum l (pos place) mark) (sym (shown_still (k * size) 20 (header_below k place mark h))) is;
   })
+
+-- So it is with all slots that an accountant cuts off, one after another.
+module _ (sum : List ℕ → ℕ) (size : ℕ) (some : 0 < size) (line : List SegmentView) (least base : ℕ) (H : History) where
+  abbrev HidesAt : Machine → Trace → Type 0
+  HidesAt m trace = Hides sum size (state_of trace) m line least base H
+
+  abbrev FreeFrom : Machine → ℕ → Type 0
+  FreeFrom m n = (k : ℕ) → n ≤ k → is_free (slot_at m k).state ≡ true
+
+  pub hides_cutting : (m : Machine) (n : ℕ) (trace : Trace) → FreeFrom m n → HidesAt m trace → HidesAt m (after_all (cutting size n m.slots) trace)
+  hides_cutting m zero trace free hides = hides
+  hides_cutting m (suc n) trace free hides = by_test (may_be_cut n m.slots) refl (hides_cutting m n (Synced ∷ Cut (n * size) (n * size) ∷ trace)) where
+    free_from : may_be_cut n m.slots ≡ true → FreeFrom m n
+    free_from is k high = elim (cases_eq k n) [
+      | inl same ↦ ap (λ j. is_free (slot_at m j).state) same
+          ∙ (and_parts (is_free (slot_at m n).state) (nat_lt 1 (length (free_among (take (suc n) m.slots)))) is).0
+      | inr other ↦ free k (omega (arith, high, other))
+    ]
+
+    by_test : (t : Bool) → may_be_cut n m.slots ≡ t
+        → (FreeFrom m n → HidesAt m (Synced ∷ Cut (n * size) (n * size) ∷ trace)
+        → HidesAt m (after_all (cutting size n m.slots) (Synced ∷ Cut (n * size) (n * size) ∷ trace)))
+        → HidesAt m (after_all (if t then Cut (n * size) (n * size) ∷ Synced ∷ cutting size n m.slots else []) trace)
+    by_test false is on = hides
+    by_test true is on =
+        on (free_from is) (hides_cut sum size some (state_of trace) m line least base H hides (n * size) (mul-mod_left n size)
+        (λ k high. free_from is k (elim (cases_lt k n) [
+          | inl lower ↦ absurd (let row = slot_before size k n lower in omega (arith, row, high, some))
+          | inr above ↦ above
+        ])))
+
+  -- So it is with the calls that are due where a slot is freed.
+  pub hides_freed_calls : (m : Machine) (k : ℕ) (trace : Trace) → AreSlots m.tip m.slots → HidesAt (freed size k m).machine trace
+      → HidesAt (freed size k m).machine (after_all (freed size k m).calls trace)
+  hides_freed_calls m k trace slots = hides_cutting (freed size k m).machine m.tip trace (λ j past. elim (cases_eq j k) [
+    | inl same ↦ ap (λ i. is_free (slot_at (freed size k m).machine i).state) same ∙ freed_free size m k
+    | inr other ↦ ap (λ (x : SlotState). is_free x.state) (get_or-set_other m.slots k j free_slot free_slot other) ∙ slots.cut_off j past
+  ])

@@ -1,6 +1,7 @@
--- What a log file has besides what is shown stays so where nothing is asked of the device: a segment is begun in a free slot, segments that are wholly written
--- leave the line, and messages are marked.
-use Rattle.std.proofs.Common.{◌≡◌, ◌≢◌, ◌∙◌, ◌+◌, ◌*◌, ◌/◌, ◌%◌, ◌^◌, ◌≤◌, ◌<◌, ℕ, suc, pos, true, false, List, [], ◌∷◌, ◌++◌, length, length-append, refl, sym, ap, subst, arith, inl, inr}
+-- What a log file has besides what is shown stays so where nothing is asked of the device: reservations are made and end, buffers are sealed, a segment is
+-- begun in a free slot, segments that are wholly written leave the line, and messages are marked.
+use Rattle.std.proofs.Common.{◌≡◌, ◌≢◌, ◌∙◌, ◌+◌, ◌*◌, ◌/◌, ◌%◌, ◌^◌, ◌≤◌, ◌<◌, ℕ, suc, pos, Some, Bool, true, false, if◌then◌else◌, List, [], ◌∷◌, ◌++◌, length, length-append, set, refl, sym, ap, subst, arith, inl, inr}
+use Rattle.std.specs.List.{slice_get}
 use Rattle.std.proofs.Math.Nat.{mul-le-mul_right, suc-mul}
 use Rattle.std.proofs.lemmas.Bool.{cases_eq, cases_lt}
 use Rattle.sled_codec.specs.History.{History}
@@ -9,18 +10,21 @@ use Rattle.sled_codec.specs.Record.{IsHeader}
 use Rattle.sled_store.specs.Device.{State}
 use Rattle.sled_store.specs.SegmentStates.{Machine, SlotState, handed_out, is_free, next_slot, slot_at}
 use Rattle.sled_store.proofs.Marks.MarkSteps.{SameSegments}
+use Rattle.sled_core.specs.declared.iobuf.Reserved.{Reserved}
+use Rattle.sled_core.specs.declared.iobuf.ReservationState.{ReservationState}
 use Rattle.sled_core.specs.Begun.{SegmentView, begin_of}
-use Rattle.sled_core.specs.Waiting.{at_last, closed_now, last_of}
+use Rattle.sled_core.specs.Positions.{is_short}
+use Rattle.sled_core.specs.Waiting.{as_sealed, at_last, closed_now, holds_any, last_of, sealed_now, turned_now}
 use Rattle.sled_core.specs.inside.Begun.{line_end}
 use Rattle.sled_core.specs.inside.Cleared.{cleared}
 use Rattle.sled_core.specs.inside.Hides.{Hides, IsOwnRecord}
-use Rattle.sled_core.specs.inside.Turned.{begun_view, next_line, promoted}
-use Rattle.sled_core.proofs.Freed.ClearedCalls.{cleared_marked, cleared_next}
+use Rattle.sled_core.specs.inside.Turned.{begun_view, ended_now, next_line, promoted, reserved_now}
+use Rattle.sled_core.proofs.Freed.ClearedCalls.{cleared_ended, cleared_marked, cleared_next, cleared_reserved, cleared_sealed}
 use Rattle.sled_core.proofs.Freed.ClearedMoves.{cleared_promoted}
 use Rattle.sled_core.proofs.Freed.Hides.{gone_less}
 use Rattle.sled_core.proofs.Freed.Quiet.{line_rises}
 use Rattle.sled_core.proofs.Line.Closes.{filled_site}
-use Rattle.sled_core.proofs.Line.LineEnds.{end_at_last, end_left}
+use Rattle.sled_core.proofs.Line.LineEnds.{end_at_last, end_left, end_set}
 use Rattle.sled_core.proofs.Line.Segments.{AreSegments}
 use Rattle.sled_core.proofs.Start.OwnSlots.{handed_other, handed_there}
 use Rattle.sled_core.proofs.Tail.Multiples.{put_down}
@@ -38,6 +42,17 @@ end_put size [] v some = absurd (omega (arith, some))
 end_put size (x ∷ xs) v some =
     let long : length (xs ++ v ∷ []) ≡ suc (length xs) = length-append xs (v ∷ []) ∙ (let one : length xs + 1 ≡ suc (length xs) = omega arith in one) in
     omega (arith, ap (λ n. suc n * size) long, suc-mul (suc (length xs)) size)
+
+-- A segment whose current buffer is sealed lies where it lay.
+as_sealed_site : (sum : List ℕ → ℕ) (size : ℕ) (v : SegmentView) → (as_sealed sum size v).parts.site ≡ v.parts.site
+as_sealed_site sum size v = by (holds_any v) (turned (is_short size (length v.parts.bytes))) where
+  turned : (t : Bool) → (if t then closed_now sum size v else sealed_now v).parts.site ≡ v.parts.site
+  turned true = filled_site sum size v
+  turned false = refl
+
+  by : (t : Bool) → (turned_now sum size v).parts.site ≡ v.parts.site → (if t then turned_now sum size v else v).parts.site ≡ v.parts.site
+  by true is = is
+  by false is = refl
 
 module _ (sum : List ℕ → ℕ) (size : ℕ) (s : State) (least base : ℕ) (H : History) where
   -- Slots have the segments that they had, the same is shown, and what is to come is no less.
@@ -67,6 +82,26 @@ module _ (sum : List ℕ → ℕ) (size : ℕ) (s : State) (least base : ℕ) (H
       → Hides sum size s n line least base H
   hides_marked m n line same =
       hides_as m n line line (λ k. (same k).free) (λ k. (same k).lsn) (cleared_marked size m s.log.bytes n line same) (omega arith)
+
+  -- A reservation is made, one ends, and the current buffer is sealed.
+  pub hides_reserved : (m : Machine) (line : List SegmentView) (more : List ℕ) (r : Reserved) → Hides sum size s m line least base H
+      → Hides sum size s m (at_last (reserved_now more r) line) least base H
+  hides_reserved m line more r =
+      hides_as m m line (at_last (reserved_now more r) line) (λ k. refl) (λ k. refl) (cleared_reserved size m s.log.bytes more r line)
+      (omega (arith, end_at_last size (reserved_now more r) (λ x. refl) line))
+
+  pub hides_ended : (m : Machine) (line : List SegmentView) (n : ℕ) (v : SegmentView) (j : ℕ) (r : Reserved) (ending : List ℕ) (state : ReservationState)
+      → slice_get line n ≡ Some v → Hides sum size s m line least base H → Hides sum size s m (set line n (ended_now j r ending state v)) least base H
+  hides_ended m line n v j r ending state among =
+      hides_as m m line (set line n (ended_now j r ending state v)) (λ k. refl) (λ k. refl) (cleared_ended size m s.log.bytes line n v j r ending state among)
+      (omega (arith, end_set size line n v (ended_now j r ending state v) among refl))
+
+  pub hides_sealed : (m : Machine) (v : SegmentView) (vs : List SegmentView) → begin_of (last_of v vs) ≤ length (last_of v vs).parts.bytes
+      → length (last_of v vs).parts.bytes ≤ size → (last_of v vs).parts.site.place / size < 2 ^ 64 → Hides sum size s m (v ∷ vs) least base H
+      → Hides sum size s m (at_last (as_sealed sum size) (v ∷ vs)) least base H
+  hides_sealed m v vs low high small =
+      hides_as m m (v ∷ vs) (at_last (as_sealed sum size) (v ∷ vs)) (λ k. refl) (λ k. refl) (cleared_sealed size m s.log.bytes sum v vs low high small)
+      (omega (arith, end_at_last size (as_sealed sum size) (as_sealed_site sum size) (v ∷ vs)))
 
   -- The segments at the front that are wholly written leave the line.
   pub hides_left : (m : Machine) (line : List SegmentView) (place : ℕ) → AreSegments size place line → Hides sum size s m line least base H

@@ -1,5 +1,5 @@
 -- While no call is under way, and nothing is foreign in it, a log file reads as what is shown of it, but for segments that are gone.
-use Rattle.std.proofs.Common.{◌≡◌, ◌⊎◌, ◌∙◌, ◌+◌, ◌*◌, ◌%◌, ◌≤◌, ◌<◌, ◌&&◌, max, ℕ, zero, suc, Some, true, false, not, List, [], ◌∷◌, length, map, refl, sym, ap, subst, arith, inl, inr}
+use Rattle.std.proofs.Common.{◌≡◌, ◌⊎◌, ◌∙◌, ◌+◌, ◌*◌, ◌%◌, ◌≤◌, ◌<◌, ◌&&◌, max, ℕ, zero, suc, Option, Some, true, false, not, List, [], ◌∷◌, length, map, refl, sym, ap, subst, arith, inl, inr}
 use Rattle.std.specs.List.{Contains, slice_get}
 use Rattle.std.proofs.Math.Nat.{suc-mul}
 use Rattle.std.specs.Prelude.{take}
@@ -22,13 +22,16 @@ use Rattle.sled_core.specs.inside.Fits.{begun_segment, parts_in}
 use Rattle.sled_core.specs.inside.FreeSlots.{HasSlot, HaveOwn}
 use Rattle.sled_core.specs.inside.Hides.{Hides, ReadsShown}
 use Rattle.sled_core.specs.inside.OwnLog.{ReadsPlaced}
+use Rattle.sled_core.specs.inside.Recoverable.{IsRecoverableLog}
 use Rattle.sled_core.specs.inside.Reached.{StandsAmong, StandsIn}
 use Rattle.sled_core.specs.inside.SealedBuffers.{AreSealed, FirstUnwritten}
 use Rattle.sled_core.specs.inside.Slots.{AreWhole}
-use Rattle.sled_core.specs.inside.Tail.{AreScanned, IsOrdering, least_place}
+use Rattle.sled_core.specs.inside.Tail.{AreScanned, IsOrdering, least_place, tail_begins}
 use Rattle.sled_core.proofs.Freed.Cleared.{LineRises, OthersBeside, between_is, segments_apart, slot_apart}
 use Rattle.sled_core.proofs.Freed.Gone.{ReadsAs}
-use Rattle.sled_core.proofs.Freed.ReadsAs.{reads_as_shown}
+use Rattle.sled_core.proofs.Freed.GoneAlone.{found_alone}
+use Rattle.sled_core.proofs.Freed.NoHarm.{gone_do_no_harm}
+use Rattle.sled_core.proofs.Freed.ReadsAs.{own_header, reads_as_shown}
 use Rattle.sled_core.proofs.Freed.ShownReads.{HeadWaits, ShowsSlot, line_shows, older_shows, reads_shown}
 use Rattle.sled_core.proofs.Line.Segments.{AreSegments, first_below, nth_segment}
 use Rattle.sled_core.proofs.Reserve.Ranges.{chain_grows}
@@ -46,7 +49,7 @@ head_unwritten slot from rs (b ∷ bs) to long fresh are none i low high =
     (between_is (slot + from) (slot + b.end) i (omega (arith, low, none)) (omega (arith, high, grows))))
 
 -- where the n-th of segments one behind another begins
-nth_at : (size place : ℕ) (vs : List SegmentView) → AreSegments size place vs → (n : ℕ) (u : SegmentView) → slice_get vs n ≡ Some u
+pub nth_at : (size place : ℕ) (vs : List SegmentView) → AreSegments size place vs → (n : ℕ) (u : SegmentView) → slice_get vs n ≡ Some u
     → u.parts.site.place ≡ place + n * size
 nth_at size place [] are n u there = cc
 nth_at size place (x ∷ xs) are zero u there =
@@ -99,7 +102,8 @@ module _ (sum : List ℕ → ℕ) (none : NoHeaderOfZeros sum) (size : ℕ) (som
   abbrev place : ℕ
   place = v.parts.site.place
 
-  aligned : place % size ≡ 0
+  -- the first one begins at a multiple of the size
+  pub aligned : place % size ≡ 0
   aligned = let has = taken 0 v refl in ap (λ n. n % size) (sym has.is) ∙ own.aligned has.number has.taken
 
   rises : LineRises size line
@@ -110,7 +114,8 @@ module _ (sum : List ℕ → ℕ) (none : NoHeaderOfZeros sum) (size : ℕ) (som
       let s = nth_segment size place line are n u at in
       head_unwritten u.parts.site.slot u.parts.written_len u.parts.reserved u.parts.sealed size (omega (arith, some)) s.fresh s.are fresh i low high
 
-  others_beside : (n : ℕ) (u : SegmentView) → slice_get line n ≡ Some u → OthersBeside size line n u
+  -- they lie beside one another
+  pub others_beside : (n : ℕ) (u : SegmentView) → slice_get line n ≡ Some u → OthersBeside size line n u
   others_beside n u at j w at_j differs = segments_apart size m w u (taken j w at_j) (taken n u at) (λ same. elim (cases_order j n) [
     | inl is ↦ differs is
     | inr (inl lower) ↦ (
@@ -149,23 +154,31 @@ module _ (sum : List ℕ → ℕ) (none : NoHeaderOfZeros sum) (size : ℕ) (som
       pub shown_read : ReadsShown sum size m shown log
       shown_read = reads_shown sum none size some m line log rises each_shows
 
-  -- The real file is at rest, and nothing is foreign in it.
-  module _ (s : State) (base : ℕ) (H : History) (first : SnapshotModel) (hides : Hides sum size s m line (least_place size first) base H)
-      (placed : ReadsPlaced sum size s) (reach : ℕ)
-      (whole : AreWhole sum size (cleared size m line s.log.bytes) H place m)
-      (among : StandsAmong sum size (cleared size m line s.log.bytes) v.parts.site v.parts.written_len (map begun_segment (map parts_in vs)) reach H first) where
-    stands_each : (n : ℕ) (u : SegmentView) → slice_get line n ≡ Some u
-        → (records : ℕ) × StandsIn sum size (cleared size m line s.log.bytes) (least_place size first) among.stands.scanned u.parts.site u.parts.written_len records
-    stands_each zero u at =
-        let same : v ≡ u = cc in (
-          0,
-          subst (λ (y : SegmentView). StandsIn sum size (cleared size m line s.log.bytes) (least_place size first) among.stands.scanned y.parts.site
-              y.parts.written_len 0) same among.here,
-        )
-    stands_each (suc n) u at = (records_to u.parts.filled size, among.behind (begun_segment u.parts) (begun_there vs n u at))
+  -- The file of a log that runs, at rest: what is shown of it is read of bytes that count.
+  module _ (s : State) (H : History) (first : SnapshotModel) (reach : ℕ) (whole : AreWhole sum size (cleared size m line s.log.bytes) H place m)
+      (among : StandsAmong sum size (cleared size m line s.log.bytes) v.parts.site v.parts.written_len (map begun_segment (map parts_in vs)) reach H first)
+    where
+      abbrev Stands : SegmentView → ℕ → Type 0
+      Stands u = StandsIn sum size (cleared size m line s.log.bytes) (least_place size first) among.stands.scanned u.parts.site u.parts.written_len
 
-    -- It reads as what is shown of it, but for segments that are gone.
-    pub quiet_reads : ReadsAs sum size (least_place size first) H base (cleared size m line s.log.bytes) s.log.bytes
-    quiet_reads =
-        reads_as_shown sum size s m line (least_place size first) base H hides placed
-        (shown_read s.log.bytes H whole (least_place size first) among.stands.ordering among.stands.numbers among.stands.scanned among.stands.reads stands_each)
+      stands_each : (n : ℕ) (u : SegmentView) → slice_get line n ≡ Some u → (records : ℕ) × Stands u records
+      stands_each zero u at = let same : v ≡ u = cc in (0, subst (λ (y : SegmentView). Stands y 0) same among.here)
+      stands_each (suc n) u at = (records_to u.parts.filled size, among.behind (begun_segment u.parts) (begun_there vs n u at))
+
+      pub quiet_shown : ReadsShown sum size m (cleared size m line s.log.bytes) s.log.bytes
+      quiet_shown =
+          shown_read s.log.bytes H whole (least_place size first) among.stands.ordering among.stands.numbers among.stands.scanned among.stands.reads stands_each
+
+      -- Nothing is foreign in it.
+      module _ (base : ℕ) (hides : Hides sum size s m line (least_place size first) base H) (placed : ReadsPlaced sum size s) where
+        -- It reads as what is shown of it, but for segments that are gone.
+        pub quiet_reads : ReadsAs sum size (least_place size first) H base (cleared size m line s.log.bytes) s.log.bytes
+        quiet_reads = reads_as_shown sum size s m line (least_place size first) base H hides placed quiet_shown
+
+        -- So it can be recovered where that can, with the same cut.
+        pub quiet_recoverable : (A : ℕ) (cut : ℕ × Option ℕ) (is : IsRecoverableLog sum size (cleared size m line s.log.bytes) H A first cut)
+            → base ≤ tail_begins size (least_place size first) is.ordering → IsRecoverableLog sum size s.log.bytes H A first cut
+        quiet_recoverable A cut is low =
+            gone_do_no_harm sum size some (cleared size m line s.log.bytes) s.log.bytes H A first cut is base quiet_reads low
+            (λ t found gone. found_alone sum size s m line (least_place size first) base H hides quiet_shown (line_end size line) own s.log.bytes
+            (own_header sum size s s.log.bytes placed) t found)

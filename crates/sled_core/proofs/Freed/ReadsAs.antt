@@ -6,7 +6,8 @@ use Rattle.sled_codec.specs.History.{History}
 use Rattle.sled_codec.specs.Places.{part}
 use Rattle.sled_codec.specs.Record.{IsHeader, IsRecord}
 use Rattle.sled_store.specs.Device.{State}
-use Rattle.sled_store.specs.Readers.{Reads, at_start}
+use Rattle.sled_store.specs.Foreign.{HeaderWasPlaced, RecordWasPlaced}
+use Rattle.sled_store.specs.Readers.{at_start}
 use Rattle.sled_store.specs.SegmentStates.{Machine}
 use Rattle.sled_core.specs.declared.iterator.Segment.{Segment}
 use Rattle.sled_core.specs.declared.iterator.scan.ScannedRecord.{ScannedRecord}
@@ -16,8 +17,8 @@ use Rattle.sled_core.specs.Begun.{SegmentView}
 use Rattle.sled_core.specs.Reading.{StandsAt}
 use Rattle.sled_core.specs.Scan.{EndsThere, IsEnd, IsMet, IsPath, IsScan}
 use Rattle.sled_core.specs.inside.Cleared.{cleared, is_stale}
-use Rattle.sled_core.specs.inside.Hides.{Hides, IsGoneSegment, IsOwnHeader, IsOwnRecord, ReadsShown}
-use Rattle.sled_core.specs.inside.OwnLog.{ReadsPlaced}
+use Rattle.sled_core.specs.inside.Hides.{Hides, IsGoneSegment, IsOwnHeader, ReadsOwnIn, ReadsShown}
+use Rattle.sled_core.specs.inside.OwnLog.{ReadsOwn, ReadsPlaced}
 use Rattle.sled_core.specs.inside.Scan.{IsFoundSegment}
 use Rattle.sled_core.proofs.Freed.Cleared.{zeroed_long}
 use Rattle.sled_core.proofs.Freed.Gone.{ReadsAs}
@@ -65,22 +66,14 @@ module _ (sum : List ℕ → ℕ) (size : ℕ) (old new : List ℕ) (slot place 
   unfolding IsScan
   scan_read met stop why (path, end) = scan_from 20 at_start at_start met stop why path end
 
-module _ (sum : List ℕ → ℕ) (size : ℕ) (s : State) (m : Machine) (line : List SegmentView) (least base : ℕ) (H : History)
-    (hides : Hides sum size s m line least base H) (own : ReadsPlaced sum size s) where
-  abbrev log : List ℕ
-  log = s.log.bytes
-
-  abbrev shown : List ℕ
-  shown = cleared size m line log
-
-  -- A header that stands in the file is own, and so is each record of its number that is read there.
-  own_header : (k place : ℕ) (mark : ℤ) → IsHeader sum (part log (k * size) 20) (pos place) mark → IsOwnHeader sum size s k place mark
+-- A file in which a reader reads nothing but what is own: each header that stands there is own, and so is each record of its number that is read.
+module _ (sum : List ℕ → ℕ) (size : ℕ) (s : State) (log : List ℕ)
+    (own : (slot : ℕ) → ReadsOwn sum size (HeaderWasPlaced s.placed) (RecordWasPlaced sum size s.placed) log slot) where
+  pub own_header : (k place : ℕ) (mark : ℤ) → IsHeader sum (part log (k * size) 20) (pos place) mark → IsOwnHeader sum size s k place mark
   own_header k place mark header = record { text = part log (k * size) 20; is = header; placed = (own k).header (pos place) mark header }
 
-  own_record : (k place : ℕ) (mark : ℤ) (at len : ℕ) → IsHeader sum (part log (k * size) 20) (pos place) mark
-      → Reads sum size (place / size) (part log (k * size) size) 20 at len
-      → IsOwnRecord sum size s (place / size) (k * size + at) (part log (k * size + at) len)
-  own_record k place mark at len header r =
+  pub own_record : (k place : ℕ) (mark : ℤ) → IsHeader sum (part log (k * size) 20) (pos place) mark → ReadsOwnIn sum size s k (place / size) log
+  own_record k place mark header at len r =
       let inside = r.inside in record {
         kind = r.kind;
         page = r.page;
@@ -89,6 +82,14 @@ module _ (sum : List ℕ → ℕ) (size : ℕ) (s : State) (m : Machine) (line :
             (part_in size log (k * size) at len (omega (arith, inside, length-take size (drop (k * size) log)))) r.is;
         placed = (own k).records place mark at len header r;
       }
+
+module _ (sum : List ℕ → ℕ) (size : ℕ) (s : State) (m : Machine) (line : List SegmentView) (least base : ℕ) (H : History)
+    (hides : Hides sum size s m line least base H) (own : ReadsPlaced sum size s) where
+  abbrev log : List ℕ
+  log = s.log.bytes
+
+  abbrev shown : List ℕ
+  shown = cleared size m line log
 
   module _ (reads : ReadsShown sum size m shown log) where
     long : length shown ≡ length log
@@ -123,7 +124,7 @@ module _ (sum : List ℕ → ℕ) (size : ℕ) (s : State) (m : Machine) (line :
           let whole = all_there sum size log lid (place / size) h body len stands in
           let fits = in_segment sum size log (k * size) aligned from (place / size) h body len (omega (arith, room)) stands in
           let its = reads.slots k place mark header in
-          let owned = own_record k place mark from len header_there
+          let owned = own_record sum size s log own k place mark header_there from len
           (record_read sum size log (record { place = place; slot = k * size }) aligned (place / size) 20 from h body len room stands comes) in
           let same = (hides.taken k (place / size) lid text its.0 (omega arith, omega (arith, whole, fits)) owned).1 (ap (λ n. n / size) (sym its.1)) in
           record_moved sum size log shown lid (place / size) h body len (ap (part shown lid) (sym whole) ∙ same) (omega (arith, there, long)) stands
@@ -182,7 +183,7 @@ module _ (sum : List ℕ → ℕ) (size : ℕ) (s : State) (m : Machine) (line :
         let k : ℕ = t.slot / size in
         let here = slot_found sum size log least t found in
         let header = subst (λ n. IsHeader sum (part log n 20) (pos t.place) t.mark) here found.header in
-        elim (hides.headers k t.place t.mark found.not_below (own_header k t.place t.mark header)) [
+        elim (hides.headers k t.place t.mark found.not_below (own_header sum size s log own k t.place t.mark header)) [
           | inl is ↦ inl (record {
             slot = found.slot;
             header = subst (λ n. IsHeader sum (part shown n 20) (pos t.place) t.mark) (sym here) is;
@@ -193,7 +194,7 @@ module _ (sum : List ℕ → ℕ) (size : ℕ) (s : State) (m : Machine) (line :
               (record {
                 below = gone.below;
                 is_mark = gone.is_mark;
-                reading = gone.reading log (λ at len r. own_record k t.place t.mark at len header r);
+                reading = gone.reading log (own_record sum size s log own k t.place t.mark header);
               }))
         ]
 

@@ -294,7 +294,7 @@ module _ (sum : List ℕ → ℕ) (size : ℕ) (some : 256 ≤ size) (s : State)
           (had.0, λ same. stays lid text (had.1 same) (record_synced sum size under_way number lid text r)))
       | inr new ↦ (
         (let here = ap (λ i. (slot_at m i).lsn) (its_slot number lid text r new j lies) ∙ has.is in
-        omega (arith, its_number number lid text r new ∙ ap (λ i. i / size) (sym here))),
+            omega (arith, its_number number lid text r new ∙ ap (λ i. i / size) (sym here))),
         λ same. laid lid text (covered sum size at xs number lid text new),
       )
     ];

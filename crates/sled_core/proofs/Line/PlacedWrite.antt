@@ -25,7 +25,7 @@ use Rattle.sled_core.proofs.OwnLog.Placed.{header_laid, headers_stay, record_lai
 use Rattle.sled_core.proofs.Reserve.Ranges.{at_there, chain_grows}
 
 -- a buffer begins with the header of its segment, or behind it
-begins_so : (from : ℕ) (rs : List Reserved) (bs : List Sealed) → AreSealed from rs bs → (from ≡ 0) ⊎ (20 ≤ from) → (k : ℕ) → (sealed_end from (take k bs) ≡ 0) ⊎ (20 ≤ sealed_end from (take k bs))
+pub begins_so : (from : ℕ) (rs : List Reserved) (bs : List Sealed) → AreSealed from rs bs → (from ≡ 0) ⊎ (20 ≤ from) → (k : ℕ) → (sealed_end from (take k bs) ≡ 0) ⊎ (20 ≤ sealed_end from (take k bs))
 begins_so from rs bs are low zero = low
 begins_so from rs [] are low (suc k) = low
 begins_so from rs (b ∷ bs) are low (suc k) = begins_so b.end (drop b.count rs) bs are.1 (inr (let up = chain_grows (max 20 from) b.end (take b.count rs) are.0.chain in omega (arith, up))) k
