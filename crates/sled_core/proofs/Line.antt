@@ -25,6 +25,7 @@ pub mod Entered
 pub mod Faulty
 pub mod Filling
 pub mod Fillings
+pub mod Gathered
 pub mod GivenUp
 pub mod HeaderMarks
 pub mod Heads

@@ -1,5 +1,5 @@
 -- The messages that were given up: those of segments one behind another, with the last one changed, with one of them changed, and without those at the front that are wholly on the device; and once one more is.
-use Rattle.std.proofs.Common.{◌≡◌, ◌∙◌, ◌≤◌, ◌<◌, ◌+◌, ◌-◌, ◌/◌, nat_lt, ap, sym, refl, arith, subst, inl, inr, append_assoc, ℕ, zero, suc, Bool, true, false, if◌then◌else◌, List, [], ◌∷◌, ◌++◌, length, max, drop, take, set, get_or, Some}
+use Rattle.std.proofs.Common.{◌≡◌, ◌∙◌, ◌≤◌, ◌<◌, ◌+◌, ◌-◌, ◌/◌, ap, sym, refl, arith, subst, inl, inr, ℕ, suc, Bool, true, false, if◌then◌else◌, List, [], ◌∷◌, ◌++◌, length, max, drop, take, set, get_or, Some}
 use Rattle.std.specs.List.{All, Contains, slice_get}
 use Rattle.std.proofs.lemmas.Bool.{cases_lt}
 use Rattle.std.proofs.lemmas.List.{append-nil, set_split, take-append-drop}
@@ -20,11 +20,11 @@ use Rattle.sled_core.specs.declared.iobuf.SegmentPosition.{SegmentPosition}
 use Rattle.sled_core.specs.Among.{AreAmong}
 use Rattle.sled_core.specs.GivenUp.{canceled_state, given_up_along, given_up_in}
 use Rattle.sled_core.specs.inside.Turned.{ended_now, promoted, reserved_now}
-use Rattle.sled_core.specs.Positions.{is_short}
-use Rattle.sled_core.specs.Waiting.{as_sealed, at_last, closed_now, filled_now, holds_any, last_of, sealed_now, turned_now, with_filling}
+use Rattle.sled_core.specs.Waiting.{as_sealed, at_last, closed_now, last_of, sealed_now}
 use Rattle.sled_core.proofs.Holds.Facts.{IsSegment}
-use Rattle.sled_core.proofs.Line.Among.{among_before, among_behind, among_same}
-use Rattle.sled_core.proofs.Line.Segments.{AreSegments, by_front, full_empty}
+use Rattle.sled_core.proofs.Line.Among.{among_same}
+use Rattle.sled_core.proofs.Line.Gathered.{Gathers, as_sealed_keeps, closed_keeps, filled_up, gathered_begun, gathered_last, gathered_promoted, set_among}
+use Rattle.sled_core.proofs.Line.Segments.{AreSegments, last_segment}
 use Rattle.sled_core.proofs.Reserve.Ranges.{chain-split, chain_grows, chain_within, part-append, part-written_before, part-written_behind, there_split}
 use Rattle.sled_core.proofs.Sealed.Around.{whole_chain}
 
@@ -44,9 +44,9 @@ given-append site bytes (r ∷ rs) ss = by (canceled_state r.state) (given-appen
   by true rest = ap (λ (l : List Message). message_in site bytes r ∷ l) rest
   by false rest = rest
 
-along-append : (vs ws : List SegmentView) → given_up_along (vs ++ ws) ≡ given_up_along vs ++ given_up_along ws
-along-append [] ws = refl
-along-append (v ∷ vs) ws = ap (λ (l : List Message). given_in v ++ l) (along-append vs ws) ∙ sym (append_assoc (given_in v) (given_up_along vs) (given_up_along ws))
+-- Those given up along segments are gathered along them.
+given_gathers : Gathers given_in given_up_along
+given_gathers = record { nothing = refl; further = λ v vs. refl }
 
 -- The first ones are among all, and so are the others.
 given_parted : (site : SegmentPosition) (bytes : List ℕ) (n : ℕ) (rs : List Reserved) → given_up_in site bytes rs ≡ given_up_in site bytes (take n rs) ++ given_up_in site bytes (drop n rs)
@@ -110,57 +110,33 @@ given-same site old new (r ∷ rs) all =
 given_more : (site : SegmentPosition) (bytes more : List ℕ) (rs : List Reserved) → All (λ r. r.from + r.len ≤ length bytes) rs → given_up_in site (bytes ++ more) rs ≡ given_up_in site bytes rs
 given_more site bytes more rs within = given-same site bytes (bytes ++ more) rs (λ k d lt. body_more bytes more (get_or rs k d) (within k d lt))
 
--- The last of segments is changed: it has the same ones.
-at_last_given : (f : SegmentView → SegmentView) (v : SegmentView) (vs : List SegmentView) → given_in (f (last_of v vs)) ≡ given_in (last_of v vs) → given_up_along (at_last f (v ∷ vs)) ≡ given_up_along (v ∷ vs)
-at_last_given f v [] is = ap (λ (l : List Message). l ++ []) is
-at_last_given f v (w ∷ ws) is = ap (λ (l : List Message). given_in v ++ l) (at_last_given f w ws is)
-
--- the last one of segments is one
-pub last_segment : (size place : ℕ) (v : SegmentView) (vs : List SegmentView) → AreSegments size place (v ∷ vs) → (p : ℕ) × IsSegment size p (last_of v vs)
-last_segment size place v [] are = (place, are.0)
-last_segment size place v (w ∷ ws) are = last_segment size (place + size) w ws are.1
-
--- So it does where its current buffer is sealed,
+-- The last of segments has the same ones where its current buffer is sealed,
 pub given_sealed : (v : SegmentView) (vs : List SegmentView) → given_up_along (at_last sealed_now (v ∷ vs)) ≡ given_up_along (v ∷ vs)
-given_sealed v vs = at_last_given sealed_now v vs refl
+given_sealed v vs = gathered_last given_in given_up_along given_gathers sealed_now v vs refl
 
 -- where it is filled before,
-filled_given : (sum : List ℕ → ℕ) (size place : ℕ) (v : SegmentView) → IsSegment size place v → given_in (filled_now sum size v) ≡ given_in v
-filled_given sum size place v facts = by (nat_lt (length v.parts.bytes) size) where
-  by : (o : Bool)
-      → given_in (if o then with_filling size v (segment_rest sum size (v.parts.site.place / size) (length v.parts.bytes)) else v) ≡ given_in v
-  by true =
-      let more : List ℕ = segment_rest sum size (v.parts.site.place / size) (length v.parts.bytes) in
-      given_adds_none v.parts.site (v.parts.bytes ++ more) v.parts.reserved (padding_at size (length v.parts.bytes)) refl
-      ∙ given_more v.parts.site v.parts.bytes more v.parts.reserved facts.within
-  by false = refl
+filled_given : (sum : List ℕ → ℕ) (size place : ℕ) (v : SegmentView) → IsSegment size place v → given_in (filled_up sum size v) ≡ given_in v
+filled_given sum size place v facts =
+    let more : List ℕ = segment_rest sum size (v.parts.site.place / size) (length v.parts.bytes) in
+    given_adds_none v.parts.site (v.parts.bytes ++ more) v.parts.reserved (padding_at size (length v.parts.bytes)) refl
+    ∙ given_more v.parts.site v.parts.bytes more v.parts.reserved facts.within
 
 pub given_closed : (sum : List ℕ → ℕ) (size place : ℕ) (v : SegmentView) (vs : List SegmentView) → AreSegments size place (v ∷ vs) → given_up_along (at_last (closed_now sum size) (v ∷ vs)) ≡ given_up_along (v ∷ vs)
 given_closed sum size place v vs are =
     let last = last_segment size place v vs are in
-    at_last_given (closed_now sum size) v vs (filled_given sum size last.0 (last_of v vs) last.1)
+    gathered_last given_in given_up_along given_gathers (closed_now sum size) v vs
+    (closed_keeps given_in (λ w. refl) sum size (last_of v vs) (filled_given sum size last.0 (last_of v vs) last.1))
 
 -- and where its current buffer is as it would be sealed.
-as_sealed_one : (sum : List ℕ → ℕ) (size place : ℕ) (v : SegmentView) → IsSegment size place v → given_in (as_sealed sum size v) ≡ given_in v
-as_sealed_one sum size place v facts = by_any (by_short (is_short size (length v.parts.bytes))) (holds_any v) where
-  by_short : (o : Bool) → given_in (if o then closed_now sum size v else sealed_now v) ≡ given_in v
-  by_short true = filled_given sum size place v facts
-  by_short false = refl
-
-  by_any : given_in (turned_now sum size v) ≡ given_in v → (o : Bool) → given_in (if o then turned_now sum size v else v) ≡ given_in v
-  by_any turned true = turned
-  by_any turned false = refl
-
 pub as_sealed_given : (sum : List ℕ → ℕ) (size place : ℕ) (v : SegmentView) (vs : List SegmentView) → AreSegments size place (v ∷ vs) → given_up_along (at_last (as_sealed sum size) (v ∷ vs)) ≡ given_up_along (v ∷ vs)
 as_sealed_given sum size place v vs are =
     let last = last_segment size place v vs are in
-    at_last_given (as_sealed sum size) v vs (as_sealed_one sum size last.0 (last_of v vs) last.1)
+    gathered_last given_in given_up_along given_gathers (as_sealed sum size) v vs
+    (as_sealed_keeps given_in (λ w. refl) sum size (last_of v vs) (filled_given sum size last.0 (last_of v vs) last.1))
 
 -- A segment without reservations is put behind them.
 pub given_begun : (vs : List SegmentView) (x : SegmentView) → x.parts.reserved ≡ [] → given_up_along (vs ++ x ∷ []) ≡ given_up_along vs
-given_begun vs x none =
-    let own : given_in x ++ [] ≡ [] = ap (λ (rs : List Reserved). given_up_in x.parts.site x.parts.bytes rs ++ []) none in
-    along-append vs (x ∷ []) ∙ ap (λ (l : List Message). given_up_along vs ++ l) own ∙ append-nil (given_up_along vs)
+given_begun vs x none = gathered_begun given_in given_up_along given_gathers vs x (ap (given_up_in x.parts.site x.parts.bytes) none)
 
 -- A reservation is made in the last one.
 pub given_reserved : (more : List ℕ) (r : Reserved) (size place : ℕ) (v : SegmentView) (vs : List SegmentView) → AreSegments size place (v ∷ vs) → r.state ≡ Open
@@ -169,41 +145,21 @@ given_reserved more r size place v vs are is =
     let w : SegmentView = last_of v vs in
     let last = last_segment size place v vs are in
     let within = last.1.within in
-    at_last_given (reserved_now more r) v vs
+    gathered_last given_in given_up_along given_gathers (reserved_now more r) v vs
     (given_adds_none w.parts.site (w.parts.bytes ++ more) w.parts.reserved r (ap canceled_state is)
     ∙ given_more w.parts.site w.parts.bytes more w.parts.reserved within)
 
 -- Those at the front that are wholly on the device have no reservations.
 pub given_promoted : (size place : ℕ) (vs : List SegmentView) → 256 ≤ size → AreSegments size place vs → given_up_along (promoted size vs) ≡ given_up_along vs
-given_promoted size place vs big are =
-    (by_front size (λ l. ((p : ℕ) × AreSegments size p l) × (given_up_along l ≡ given_up_along vs))
-    (λ v w ws full has. ((has.0.0 + size, has.0.1.1), gone v w ws (full_empty size has.0.0 v big has.0.1.0 full) ∙ has.1))
-    vs ((place, are), refl)).1
-  where
-    gone : (v w : SegmentView) (ws : List SegmentView) → v.parts.reserved ≡ [] → given_up_along (w ∷ ws) ≡ given_up_along (v ∷ w ∷ ws)
-    gone v w ws none = sym (ap (λ (rs : List Reserved). given_up_in v.parts.site v.parts.bytes rs ++ given_up_along (w ∷ ws)) none)
+given_promoted size place vs big are = gathered_promoted given_in given_up_along given_gathers (λ v none. ap (given_up_in v.parts.site v.parts.bytes) none) size place vs big are
 
 -- One of the segments is another: it has no more,
 pub set_given : (vs : List SegmentView) (n : ℕ) (v w : SegmentView) → slice_get vs n ≡ Some v → AreAmong (given_in w) (given_in v) → AreAmong (given_up_along (set vs n w)) (given_up_along vs)
-set_given [] n v w there among = cc
-set_given (x ∷ xs) zero v w there among =
-    let one : x ≡ v = cc in
-    among_before (given_in w) (given_in x) (given_up_along xs) (subst (λ (y : SegmentView). AreAmong (given_in w) (given_in y)) (sym one) among)
-set_given (x ∷ xs) (suc n) v w there among = among_behind (given_in x) (given_up_along (set xs n w)) (given_up_along xs) (set_given xs n v w there among)
+set_given vs n v w there among = set_among given_in given_up_along given_gathers [] vs n v w there among
 
 -- or this one more.
 pub set_given_more : (vs : List SegmentView) (n : ℕ) (v w : SegmentView) (m : Message) → slice_get vs n ≡ Some v → AreAmong (given_in w) (m ∷ given_in v) → AreAmong (given_up_along (set vs n w)) (m ∷ given_up_along vs)
-set_given_more [] n v w m there among = cc
-set_given_more (x ∷ xs) zero v w m there among =
-    let one : x ≡ v = cc in
-    among_before (given_in w) (m ∷ given_in x) (given_up_along xs) (subst (λ (y : SegmentView). AreAmong (given_in w) (m ∷ given_in y)) (sym one) among)
-set_given_more (x ∷ xs) (suc n) v w m there among = λ k has. elim (Contains-append_cases (given_in x) (given_up_along (set xs n w)) k has) [
-  | inl own ↦ in_rest m k (given_in x ++ given_up_along xs) (Contains-append_left (given_in x) (given_up_along xs) k own)
-  | inr later ↦ (elim (in_cases m k (given_up_along xs) (set_given_more xs n v w m there among k later)) [
-    | inl same ↦ (subst (λ (y : Message). Contains (m ∷ given_in x ++ given_up_along xs) y) same (in_first m (given_in x ++ given_up_along xs)))
-    | inr others ↦ in_rest m k (given_in x ++ given_up_along xs) (Contains-append_right (given_in x) (given_up_along xs) k others)
-  ])
-]
+set_given_more vs n v w m there among = set_among given_in given_up_along given_gathers (m ∷ []) vs n v w there among
 
 -- A reservation of a segment has ended, with these bytes over the beginning of its record.
 module _ {size place : ℕ} (v : SegmentView) (facts : IsSegment size place v) (i : ℕ) (r : Reserved) (there : slice_get v.parts.reserved i ≡ Some r) (is_open : r.state ≡ Open) (text : List ℕ) (short : length text ≤ r.len) (state : ReservationState) where

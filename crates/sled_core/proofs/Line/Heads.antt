@@ -1,9 +1,9 @@
 -- The headers that aren't on the device: those of segments one behind another, with the last one changed, with one of them changed, with a further one behind them, and without those at the front that are wholly on the device.
-use Rattle.std.proofs.Common.{◌≡◌, ◌∙◌, ◌⊎◌, ◌≤◌, ◌+◌, ◌==◌, ◌/◌, nat_lt, ap, sym, refl, arith, subst, inl, inr, append_assoc, ℕ, zero, suc, Bool, true, false, if◌then◌else◌, List, [], ◌∷◌, ◌++◌, length, max, drop, take, set, Some}
+use Rattle.std.proofs.Common.{◌≡◌, ◌∙◌, ◌⊎◌, ◌≤◌, ◌+◌, ◌==◌, ◌/◌, ap, sym, refl, arith, subst, inl, inr, ℕ, zero, suc, Bool, true, false, if◌then◌else◌, List, [], ◌∷◌, ◌++◌, length, max, drop, take, set, Some}
 use Rattle.std.specs.List.{Contains, slice_get}
 use Rattle.std.proofs.lemmas.Bool.Decides.{nat_tests}
 use Rattle.std.proofs.lemmas.List.{take-append-le}
-use Rattle.std.proofs.lemmas.List.Elements.{Contains-append_cases, Contains-append_left, Contains-append_right}
+use Rattle.std.proofs.lemmas.List.Elements.{Contains-append_cases}
 use Rattle.sled_codec.specs.Written.{written}
 use Rattle.sled_store.proofs.Segments.Elements.{in_first, in_nothing, only_in}
 use Rattle.sled_core.specs.Among.{AreAmong}
@@ -15,12 +15,11 @@ use Rattle.sled_core.specs.declared.iobuf.Reserved.{Reserved}
 use Rattle.sled_core.specs.declared.iobuf.Sealed.{Sealed}
 use Rattle.sled_core.specs.inside.SealedBuffers.{AreSealed, run_end, written_at}
 use Rattle.sled_core.specs.inside.Turned.{ended_now, promoted, reserved_now, written_now}
-use Rattle.sled_core.specs.Positions.{is_short}
-use Rattle.sled_core.specs.Waiting.{as_sealed, at_last, closed_now, filled_now, holds_any, last_of, sealed_now, turned_now, with_filling}
+use Rattle.sled_core.specs.Waiting.{at_last, closed_now, last_of, sealed_now}
 use Rattle.sled_core.proofs.Holds.Facts.{IsSegment}
-use Rattle.sled_core.proofs.Line.Among.{among_before, among_behind, among_same}
-use Rattle.sled_core.proofs.Line.GivenUp.{last_segment}
-use Rattle.sled_core.proofs.Line.Segments.{AreSegments, by_front}
+use Rattle.sled_core.proofs.Line.Among.{among_same}
+use Rattle.sled_core.proofs.Line.Gathered.{Gathers, closed_keeps, filled_up, gathered-append, gathered_last, nth_among, promoted_among, set_among}
+use Rattle.sled_core.proofs.Line.Segments.{AreSegments, last_segment}
 use Rattle.sled_core.proofs.Reserve.Ranges.{at_there, chain_within, part-written_before}
 use Rattle.sled_core.proofs.Sealed.Around.{whole_chain}
 
@@ -36,90 +35,55 @@ heads_same v w place written bytes = λ i. with_head (written i == 0) (record { 
 heads_more : (size place : ℕ) (v w : SegmentView) (more : List ℕ) → IsSegment size place v → w.parts.site.place ≡ v.parts.site.place → w.parts.written_len ≡ v.parts.written_len → w.parts.bytes ≡ v.parts.bytes ++ more → heads_in w ≡ heads_in v
 heads_more size place v w more facts at written bytes = heads_same v w at written (ap (take 20) bytes ∙ take-append-le 20 v.parts.bytes more facts.begun)
 
-pub heads-append : (vs ws : List SegmentView) → heads_along (vs ++ ws) ≡ heads_along vs ++ heads_along ws
-heads-append [] ws = refl
-heads-append (v ∷ vs) ws = ap (λ (l : List HeadAt). heads_in v ++ l) (heads-append vs ws) ∙ sym (append_assoc (heads_in v) (heads_along vs) (heads_along ws))
+-- Those of segments are gathered along them.
+heads_gather : Gathers heads_in heads_along
+heads_gather = record { nothing = refl; further = λ v vs. refl }
 
--- The last of segments is changed: it has the same header.
-at_last_heads : (f : SegmentView → SegmentView) (v : SegmentView) (vs : List SegmentView) → heads_in (f (last_of v vs)) ≡ heads_in (last_of v vs) → heads_along (at_last f (v ∷ vs)) ≡ heads_along (v ∷ vs)
-at_last_heads f v [] is = ap (λ (l : List HeadAt). l ++ []) is
-at_last_heads f v (w ∷ ws) is = ap (λ (l : List HeadAt). heads_in v ++ l) (at_last_heads f w ws is)
-
--- So it does where its current buffer is sealed,
+-- The last of segments has the same one where its current buffer is sealed,
 pub heads_sealed : (v : SegmentView) (vs : List SegmentView) → heads_along (at_last sealed_now (v ∷ vs)) ≡ heads_along (v ∷ vs)
-heads_sealed v vs = at_last_heads sealed_now v vs refl
+heads_sealed v vs = gathered_last heads_in heads_along heads_gather sealed_now v vs refl
 
 -- where it is filled before,
-filled_heads : (sum : List ℕ → ℕ) (size place : ℕ) (v : SegmentView) → IsSegment size place v → heads_in (filled_now sum size v) ≡ heads_in v
-filled_heads sum size place v facts = by (nat_lt (length v.parts.bytes) size) where
-  by : (o : Bool) → heads_in (if o then with_filling size v (segment_rest sum size (v.parts.site.place / size) (length v.parts.bytes)) else v) ≡ heads_in v
-  by true =
-      let more : List ℕ = segment_rest sum size (v.parts.site.place / size) (length v.parts.bytes) in
-      heads_more size place v (with_filling size v more) more facts refl refl refl
-  by false = refl
+filled_heads : (sum : List ℕ → ℕ) (size place : ℕ) (v : SegmentView) → IsSegment size place v → heads_in (filled_up sum size v) ≡ heads_in v
+filled_heads sum size place v facts = heads_more size place v (filled_up sum size v) (segment_rest sum size (v.parts.site.place / size) (length v.parts.bytes)) facts refl refl refl
 
 pub heads_closed : (sum : List ℕ → ℕ) (size place : ℕ) (v : SegmentView) (vs : List SegmentView) → AreSegments size place (v ∷ vs) → heads_along (at_last (closed_now sum size) (v ∷ vs)) ≡ heads_along (v ∷ vs)
 heads_closed sum size place v vs are =
     let last = last_segment size place v vs are in
-    at_last_heads (closed_now sum size) v vs (filled_heads sum size last.0 (last_of v vs) last.1)
-
--- where its current buffer is as it would be sealed,
-as_sealed_one : (sum : List ℕ → ℕ) (size place : ℕ) (v : SegmentView) → IsSegment size place v → heads_in (as_sealed sum size v) ≡ heads_in v
-as_sealed_one sum size place v facts = by_any (by_short (is_short size (length v.parts.bytes))) (holds_any v) where
-  by_short : (o : Bool) → heads_in (if o then closed_now sum size v else sealed_now v) ≡ heads_in v
-  by_short true = filled_heads sum size place v facts
-  by_short false = refl
-
-  by_any : heads_in (turned_now sum size v) ≡ heads_in v → (o : Bool) → heads_in (if o then turned_now sum size v else v) ≡ heads_in v
-  by_any turned true = turned
-  by_any turned false = refl
-
-pub as_sealed_heads : (sum : List ℕ → ℕ) (size place : ℕ) (v : SegmentView) (vs : List SegmentView) → AreSegments size place (v ∷ vs) → heads_along (at_last (as_sealed sum size) (v ∷ vs)) ≡ heads_along (v ∷ vs)
-as_sealed_heads sum size place v vs are =
-    let last = last_segment size place v vs are in
-    at_last_heads (as_sealed sum size) v vs (as_sealed_one sum size last.0 (last_of v vs) last.1)
+    gathered_last heads_in heads_along heads_gather (closed_now sum size) v vs
+    (closed_keeps heads_in (λ w. refl) sum size (last_of v vs) (filled_heads sum size last.0 (last_of v vs) last.1))
 
 -- and where a reservation is made in it.
 pub heads_reserved : (more : List ℕ) (r : Reserved) (size place : ℕ) (v : SegmentView) (vs : List SegmentView) → AreSegments size place (v ∷ vs) → heads_along (at_last (reserved_now more r) (v ∷ vs)) ≡ heads_along (v ∷ vs)
 heads_reserved more r size place v vs are =
     let w : SegmentView = last_of v vs in
     let last = last_segment size place v vs are in
-    at_last_heads (reserved_now more r) v vs (heads_more size last.0 w (reserved_now more r w) more last.1 refl refl refl)
+    gathered_last heads_in heads_along heads_gather (reserved_now more r) v vs (heads_more size last.0 w (reserved_now more r w) more last.1 refl refl refl)
 
 -- A segment of which nothing is on the device is put behind them: each header is one that was there, or that one's.
 pub heads_begun : (vs : List SegmentView) (x : SegmentView) (h : HeadAt) → x.parts.written_len ≡ 0 → Contains (heads_along (vs ++ x ∷ [])) h → Contains (heads_along vs) h ⊎ (h ≡ head_of x)
 heads_begun vs x h none there =
     let fresh : (x.parts.written_len == 0) ≡ true = grind (arith, nat_tests, none) in
     let own : heads_in x ++ [] ≡ head_of x ∷ [] = ap (λ (o : Bool). with_head o (head_of x) ++ []) fresh in
-    elim (Contains-append_cases (heads_along vs) (heads_in x ++ []) h (subst (λ (l : List HeadAt). Contains l h) (heads-append vs (x ∷ [])) there)) [
+    elim (Contains-append_cases (heads_along vs) (heads_in x ++ []) h (subst (λ (l : List HeadAt). Contains l h) (gathered-append heads_in heads_along heads_gather vs (x ∷ [])) there)) [
       | inl had ↦ inl had
       | inr last ↦ inr (sym (only_in (head_of x) h (subst (λ (l : List HeadAt). Contains l h) own last)))
     ]
 
 -- That of each of them of which nothing is on the device is there.
 pub head_there : (vs : List SegmentView) (n : ℕ) (v : SegmentView) → slice_get vs n ≡ Some v → v.parts.written_len ≡ 0 → Contains (heads_along vs) (head_of v)
-head_there [] n v there none = cc
-head_there (x ∷ xs) zero v there none =
-    let one : x ≡ v = cc in
+head_there vs n v there none =
     let fresh : (v.parts.written_len == 0) ≡ true = grind (arith, nat_tests, none) in
-    let own : Contains (heads_in v) (head_of v) = subst (λ (o : Bool). Contains (with_head o (head_of v)) (head_of v)) (sym fresh) (in_first (head_of v) []) in
-    Contains-append_left (heads_in x) (heads_along xs) (head_of v) (subst (λ (y : SegmentView). Contains (heads_in y) (head_of v)) (sym one) own)
-head_there (x ∷ xs) (suc n) v there none = Contains-append_right (heads_in x) (heads_along xs) (head_of v) (head_there xs n v there none)
+    nth_among heads_in heads_along heads_gather vs n v there (head_of v)
+    (subst (λ (o : Bool). Contains (with_head o (head_of v)) (head_of v)) (sym fresh) (in_first (head_of v) []))
 
 -- Those at the front go.
 pub heads_promoted : (size : ℕ) (vs : List SegmentView) → AreAmong (heads_along (promoted size vs)) (heads_along vs)
-heads_promoted size vs =
-    by_front size (λ l. AreAmong (heads_along l) (heads_along vs))
-    (λ v w ws full among h there. among h (Contains-append_right (heads_in v) (heads_along (w ∷ ws)) h there))
-    vs (λ h there. there)
+heads_promoted size vs = promoted_among heads_in heads_along heads_gather size vs
 
 -- One of the segments is another: it has no other header.
 pub set_heads : (vs : List SegmentView) (n : ℕ) (v w : SegmentView) → slice_get vs n ≡ Some v → AreAmong (heads_in w) (heads_in v) → AreAmong (heads_along (set vs n w)) (heads_along vs)
-set_heads [] n v w there among = cc
-set_heads (x ∷ xs) zero v w there among =
-    let one : x ≡ v = cc in
-    among_before (heads_in w) (heads_in x) (heads_along xs) (subst (λ (y : SegmentView). AreAmong (heads_in w) (heads_in y)) (sym one) among)
-set_heads (x ∷ xs) (suc n) v w there among = among_behind (heads_in x) (heads_along (set xs n w)) (heads_along xs) (set_heads xs n v w there among)
+set_heads vs n v w there among = set_among heads_in heads_along heads_gather [] vs n v w there among
 
 -- One of its sealed buffers is written: those at the front that are end no lower.
 run_rises : (from : ℕ) (rs : List Reserved) (bs : List Sealed) → AreSealed from rs bs → from ≤ run_end from bs

@@ -1,9 +1,10 @@
 -- The last of segments one behind another is changed: what holds of them then, and which they are.
-use Rattle.std.proofs.Common.{◌≡◌, ◌⊎◌, ◌∙◌, ap, sym, refl, subst, inl, inr, append_assoc, ℕ, zero, suc, List, [], ◌∷◌, ◌++◌, Some}
+use Rattle.std.proofs.Common.{◌≡◌, ◌⊎◌, ap, sym, refl, subst, inl, inr, append_assoc, ℕ, zero, suc, List, [], ◌∷◌, ◌++◌, Some}
 use Rattle.std.specs.List.{All, slice_get}
 use Rattle.std.proofs.lemmas.List.Elements.{All-cons, All-head, All-nil, All-tail}
 use Rattle.sled_core.specs.Begun.{SegmentView}
-use Rattle.sled_core.specs.Waiting.{BufferAt, at_last, last_of, unwritten, unwritten_of}
+use Rattle.sled_core.specs.Waiting.{at_last, last_of, unwritten, unwritten_of}
+use Rattle.sled_core.proofs.Line.Gathered.{Gathers, gathered-append}
 
 -- What holds of segments holds once the last one is changed, where that is so of the first one alone, and of one behind it.
 pub by_last : (P : List SegmentView → Type 0) (Q : SegmentView → Type 0) (f : SegmentView → SegmentView) → ((v : SegmentView) → Q v → P (v ∷ []) → P (f v ∷ []))
@@ -57,7 +58,10 @@ All-at_last P f step [] all = all
 All-at_last P f step (v ∷ []) all = All-cons P (f v) [] (step v (All-head P v [] all)) (All-nil P)
 All-at_last P f step (v ∷ w ∷ ws) all = All-cons P v (at_last f (w ∷ ws)) (All-head P v (w ∷ ws) all) (All-at_last P f step (w ∷ ws) (All-tail P v (w ∷ ws) all))
 
--- The buffers of segments are those of these and of those behind them.
+-- The buffers of segments are gathered along them,
+pub unwritten_gather : Gathers (λ v. unwritten_of v.parts) unwritten
+unwritten_gather = record { nothing = refl; further = λ v vs. refl }
+
+-- so they are those of these and of those behind them.
 pub unwritten-append : (vs ws : List SegmentView) → unwritten (vs ++ ws) ≡ unwritten vs ++ unwritten ws
-unwritten-append [] ws = refl
-unwritten-append (v ∷ vs) ws = ap (λ (l : List BufferAt). unwritten_of v.parts ++ l) (unwritten-append vs ws) ∙ sym (append_assoc (unwritten_of v.parts) (unwritten vs) (unwritten ws))
+unwritten-append vs ws = gathered-append (λ v. unwritten_of v.parts) unwritten unwritten_gather vs ws

@@ -1,19 +1,19 @@
 -- How many reservations of manifests are open: in segments one behind another, with the last one changed, with one of them changed, and without those at the front that are wholly on the device.
-use Rattle.std.proofs.Common.{◌≡◌, ◌∙◌, ◌≤◌, ◌<◌, ◌+◌, ◌/◌, ◌&&◌, nat_lt, ap, refl, arith, ℕ, zero, suc, Bool, true, false, if◌then◌else◌, List, [], ◌∷◌, ◌++◌, length, drop, take, set, Some}
+use Rattle.std.proofs.Common.{◌≡◌, ◌∙◌, ◌≤◌, ◌<◌, ◌+◌, ◌&&◌, ap, refl, arith, ℕ, zero, suc, Bool, true, false, if◌then◌else◌, List, [], ◌∷◌, ◌++◌, length, drop, take, set, Some}
 use Rattle.std.specs.List.{slice_get}
 use Rattle.std.proofs.lemmas.List.{take-append-drop}
 use Rattle.sled_store.specs.SegmentStates.{Machine}
 use Rattle.sled_core.specs.Begun.{SegmentView}
 use Rattle.sled_core.specs.inside.Buffers.{ended}
 use Rattle.sled_core.specs.Buffers.{none_open, open_state, padding_at}
-use Rattle.sled_core.specs.invariants.Caps.{segment_rest}
 use Rattle.sled_core.specs.declared.iobuf.ReservationState.{ReservationState}
 use Rattle.sled_core.specs.declared.iobuf.ReservationState.TheVariants.{Open}
 use Rattle.sled_core.specs.declared.iobuf.Reserved.{Reserved}
 use Rattle.sled_core.specs.Manifests.{is_manifest}
 use Rattle.sled_core.specs.inside.OpenPlaces.{open_manifests, open_manifests_in}
 use Rattle.sled_core.specs.inside.Turned.{begun_view, ended_now, next_line, promoted, reserved_now}
-use Rattle.sled_core.specs.Waiting.{at_last, closed_now, filled_now, last_of, sealed_now, with_filling}
+use Rattle.sled_core.specs.Waiting.{at_last, closed_now, last_of, sealed_now}
+use Rattle.sled_core.proofs.Line.Gathered.{closed_keeps, filled_up}
 use Rattle.sled_core.proofs.Line.Segments.{AreSegments, by_front, full_empty}
 
 -- those of a segment
@@ -81,15 +81,11 @@ pub manifests_sealed : (line : List SegmentView) → open_manifests (at_last sea
 manifests_sealed line = at_last_same sealed_now (λ w. refl) line
 
 -- where it is filled before, since what fills it isn't open,
-filled_manifests : (sum : List ℕ → ℕ) (size : ℕ) (v : SegmentView) → manifests_of (filled_now sum size v) ≡ manifests_of v
-filled_manifests sum size v = by (nat_lt (length v.parts.bytes) size) where
-  by : (o : Bool)
-      → manifests_of (if o then with_filling size v (segment_rest sum size (v.parts.site.place / size) (length v.parts.bytes)) else v) ≡ manifests_of v
-  by true = closed_adds_none v.parts.reserved (padding_at size (length v.parts.bytes)) refl
-  by false = refl
+filled_manifests : (sum : List ℕ → ℕ) (size : ℕ) (v : SegmentView) → manifests_of (filled_up sum size v) ≡ manifests_of v
+filled_manifests sum size v = closed_adds_none v.parts.reserved (padding_at size (length v.parts.bytes)) refl
 
 pub manifests_closed : (sum : List ℕ → ℕ) (size : ℕ) (line : List SegmentView) → open_manifests (at_last (closed_now sum size) line) ≡ open_manifests line
-manifests_closed sum size line = at_last_same (closed_now sum size) (filled_manifests sum size) line
+manifests_closed sum size line = at_last_same (closed_now sum size) (λ v. closed_keeps manifests_of (λ w. refl) sum size v (filled_manifests sum size v)) line
 
 -- and where a further segment is begun behind it.
 pub manifests_next : (sum : List ℕ → ℕ) (size : ℕ) (m : Machine) (stable : ℕ) (line : List SegmentView) → open_manifests (next_line sum size m stable line) ≡ open_manifests line

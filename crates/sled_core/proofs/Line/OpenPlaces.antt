@@ -1,18 +1,17 @@
 -- The places of open reservations: those of segments one behind another, with the last one changed, with one of them changed, and without those at the front that are wholly on the device; and a place that is taken out.
-use Rattle.std.proofs.Common.{◌≡◌, ◌∙◌, ◌≤◌, ◌+◌, ◌/◌, nat_lt, ap, sym, refl, subst, append_assoc, ℕ, zero, suc, Bool, true, false, if◌then◌else◌, List, [], ◌∷◌, ◌++◌, length, drop, take, set, Some}
+use Rattle.std.proofs.Common.{◌≡◌, ◌∙◌, ◌≤◌, ◌+◌, ap, sym, refl, subst, append_assoc, ℕ, zero, suc, Bool, true, false, if◌then◌else◌, List, [], ◌∷◌, ◌++◌, length, drop, take, set, Some}
 use Rattle.std.specs.List.{slice_get}
 use Rattle.std.proofs.lemmas.List.{append-nil, take-append-drop}
 use Rattle.sled_core.specs.Begun.{SegmentView}
 use Rattle.sled_core.specs.Buffers.{none_open, open_state, padding_at}
-use Rattle.sled_core.specs.invariants.Caps.{segment_rest}
 use Rattle.sled_core.specs.declared.iobuf.ReservationState.{ReservationState}
 use Rattle.sled_core.specs.declared.iobuf.ReservationState.TheVariants.{Open}
 use Rattle.sled_core.specs.declared.iobuf.Reserved.{Reserved}
 use Rattle.sled_core.specs.OpenPlaces.{TakesOut, open_places_along, open_places_in}
 use Rattle.sled_core.specs.inside.Turned.{promoted, reserved_now}
-use Rattle.sled_core.specs.Waiting.{as_sealed, at_last, closed_now, filled_now, holds_any, last_of, sealed_now, turned_now, with_filling}
-use Rattle.sled_core.specs.Positions.{is_short}
-use Rattle.sled_core.proofs.Line.Segments.{AreSegments, by_front, full_empty}
+use Rattle.sled_core.specs.Waiting.{as_sealed, at_last, closed_now, last_of, sealed_now}
+use Rattle.sled_core.proofs.Line.Gathered.{Gathers, as_sealed_keeps, closed_keeps, filled_up, gathered_adds, gathered_begun, gathered_last, gathered_promoted, gathered_set}
+use Rattle.sled_core.proofs.Line.Segments.{AreSegments}
 
 -- those of a segment
 abbrev pub places_of : SegmentView → List ℕ
@@ -27,9 +26,9 @@ places-append base (r ∷ rs) ss = by (open_state r.state) (places-append base r
   by true rest = ap (λ (l : List ℕ). (base + r.from) ∷ l) rest
   by false rest = rest
 
-pub along-append : (vs ws : List SegmentView) → open_places_along (vs ++ ws) ≡ open_places_along vs ++ open_places_along ws
-along-append [] ws = refl
-along-append (v ∷ vs) ws = ap (λ (l : List ℕ). places_of v ++ l) (along-append vs ws) ∙ sym (append_assoc (places_of v) (open_places_along vs) (open_places_along ws))
+-- Those of segments are gathered along them.
+places_gather : Gathers places_of open_places_along
+places_gather = record { nothing = refl; further = λ v vs. refl }
 
 -- the first ones and the others
 pub places_parted : (base n : ℕ) (rs : List Reserved) → open_places_in base rs ≡ open_places_in base (take n rs) ++ open_places_in base (drop n rs)
@@ -62,69 +61,39 @@ open_adds_one base rs r is =
     places-append base rs (r ∷ [])
     ∙ ap (λ (o : Bool). open_places_in base rs ++ (if o then (base + r.from) ∷ [] else [])) is
 
--- The last of segments is changed: it has these places more.
-pub at_last_adds : (f : SegmentView → SegmentView) (more : List ℕ) (v : SegmentView) (vs : List SegmentView) → places_of (f (last_of v vs)) ≡ places_of (last_of v vs) ++ more
-    → open_places_along (at_last f (v ∷ vs)) ≡ open_places_along (v ∷ vs) ++ more
-at_last_adds f more v [] is = append-nil (places_of (f v)) ∙ is ∙ ap (λ (l : List ℕ). l ++ more) (sym (append-nil (places_of v)))
-at_last_adds f more v (w ∷ ws) is = ap (λ (l : List ℕ). places_of v ++ l) (at_last_adds f more w ws is) ∙ sym (append_assoc (places_of v) (open_places_along (w ∷ ws)) more)
-
--- It has the same ones.
-pub at_last_places : (f : SegmentView → SegmentView) (v : SegmentView) (vs : List SegmentView) → places_of (f (last_of v vs)) ≡ places_of (last_of v vs) → open_places_along (at_last f (v ∷ vs)) ≡ open_places_along (v ∷ vs)
-at_last_places f v vs is = at_last_adds f [] v vs (is ∙ sym (append-nil (places_of (last_of v vs)))) ∙ append-nil (open_places_along (v ∷ vs))
-
--- So it does where its current buffer is sealed,
+-- The last of segments has the same ones where its current buffer is sealed,
 pub places_sealed : (v : SegmentView) (vs : List SegmentView) → open_places_along (at_last sealed_now (v ∷ vs)) ≡ open_places_along (v ∷ vs)
-places_sealed v vs = at_last_places sealed_now v vs refl
+places_sealed v vs = gathered_last places_of open_places_along places_gather sealed_now v vs refl
 
 -- where it is filled before, since what fills it isn't open,
-pub filled_places : (sum : List ℕ → ℕ) (size : ℕ) (v : SegmentView) → places_of (filled_now sum size v) ≡ places_of v
-filled_places sum size v = by (nat_lt (length v.parts.bytes) size) where
-  by : (o : Bool)
-      → places_of (if o then with_filling size v (segment_rest sum size (v.parts.site.place / size) (length v.parts.bytes)) else v) ≡ places_of v
-  by true = closed_adds_none v.parts.site.place v.parts.reserved (padding_at size (length v.parts.bytes)) refl
-  by false = refl
+filled_places : (sum : List ℕ → ℕ) (size : ℕ) (v : SegmentView) → places_of (filled_up sum size v) ≡ places_of v
+filled_places sum size v = closed_adds_none v.parts.site.place v.parts.reserved (padding_at size (length v.parts.bytes)) refl
 
 pub places_closed : (sum : List ℕ → ℕ) (size : ℕ) (v : SegmentView) (vs : List SegmentView) → open_places_along (at_last (closed_now sum size) (v ∷ vs)) ≡ open_places_along (v ∷ vs)
-places_closed sum size v vs = at_last_places (closed_now sum size) v vs (filled_places sum size (last_of v vs))
+places_closed sum size v vs = gathered_last places_of open_places_along places_gather (closed_now sum size) v vs (closed_keeps places_of (λ w. refl) sum size (last_of v vs) (filled_places sum size (last_of v vs)))
 
 -- and where its current buffer is as it would be sealed.
-pub as_sealed_places : (sum : List ℕ → ℕ) (size : ℕ) (v : SegmentView) → places_of (as_sealed sum size v) ≡ places_of v
-as_sealed_places sum size v = by_any (by_short (is_short size (length v.parts.bytes))) (holds_any v) where
-  by_short : (o : Bool) → places_of (if o then closed_now sum size v else sealed_now v) ≡ places_of v
-  by_short true = filled_places sum size v
-  by_short false = refl
-
-  by_any : places_of (turned_now sum size v) ≡ places_of v → (o : Bool) → places_of (if o then turned_now sum size v else v) ≡ places_of v
-  by_any turned true = turned
-  by_any turned false = refl
+pub as_sealed_places : (sum : List ℕ → ℕ) (size : ℕ) (v : SegmentView) (vs : List SegmentView) → open_places_along (at_last (as_sealed sum size) (v ∷ vs)) ≡ open_places_along (v ∷ vs)
+as_sealed_places sum size v vs = gathered_last places_of open_places_along places_gather (as_sealed sum size) v vs (as_sealed_keeps places_of (λ w. refl) sum size (last_of v vs) (filled_places sum size (last_of v vs)))
 
 -- A segment without reservations is put behind them.
 pub places_begun : (vs : List SegmentView) (x : SegmentView) → x.parts.reserved ≡ [] → open_places_along (vs ++ x ∷ []) ≡ open_places_along vs
-places_begun vs x none =
-    let own : places_of x ++ [] ≡ [] = ap (λ (rs : List Reserved). open_places_in x.parts.site.place rs ++ []) none in
-    along-append vs (x ∷ []) ∙ ap (λ (l : List ℕ). open_places_along vs ++ l) own ∙ append-nil (open_places_along vs)
+places_begun vs x none = gathered_begun places_of open_places_along places_gather vs x (ap (open_places_in x.parts.site.place) none)
 
 -- A reservation is made in the last one.
 pub places_reserved : (more : List ℕ) (r : Reserved) (v : SegmentView) (vs : List SegmentView) → r.state ≡ Open
     → open_places_along (at_last (reserved_now more r) (v ∷ vs)) ≡ open_places_along (v ∷ vs) ++ ((last_of v vs).parts.site.place + r.from) ∷ []
 places_reserved more r v vs is =
-    at_last_adds (reserved_now more r) (((last_of v vs).parts.site.place + r.from) ∷ []) v vs (open_adds_one (last_of v vs).parts.site.place (last_of v vs).parts.reserved r (ap open_state is))
+    gathered_adds places_of open_places_along places_gather (reserved_now more r) (((last_of v vs).parts.site.place + r.from) ∷ []) v vs
+    (open_adds_one (last_of v vs).parts.site.place (last_of v vs).parts.reserved r (ap open_state is))
 
 -- Those at the front that are wholly on the device have no reservations.
 pub places_promoted : (size place : ℕ) (vs : List SegmentView) → 256 ≤ size → AreSegments size place vs → open_places_along (promoted size vs) ≡ open_places_along vs
-places_promoted size place vs big are =
-    (by_front size (λ l. ((p : ℕ) × AreSegments size p l) × (open_places_along l ≡ open_places_along vs))
-    (λ v w ws full has. ((has.0.0 + size, has.0.1.1), gone v w ws (full_empty size has.0.0 v big has.0.1.0 full) ∙ has.1))
-    vs ((place, are), refl)).1
-  where
-    gone : (v w : SegmentView) (ws : List SegmentView) → v.parts.reserved ≡ [] → open_places_along (w ∷ ws) ≡ open_places_along (v ∷ w ∷ ws)
-    gone v w ws none = sym (ap (λ (rs : List Reserved). open_places_in v.parts.site.place rs ++ open_places_along (w ∷ ws)) none)
+places_promoted size place vs big are = gathered_promoted places_of open_places_along places_gather (λ v none. ap (open_places_in v.parts.site.place) none) size place vs big are
 
 -- One of the segments has the same ones.
 pub set_places : (vs : List SegmentView) (n : ℕ) (v w : SegmentView) → slice_get vs n ≡ Some v → places_of w ≡ places_of v → open_places_along (set vs n w) ≡ open_places_along vs
-set_places [] n v w there same = refl
-set_places (x ∷ xs) zero v w there same = let one : x ≡ v = cc in ap (λ (l : List ℕ). l ++ open_places_along xs) (same ∙ ap places_of (sym one))
-set_places (x ∷ xs) (suc n) v w there same = ap (λ (l : List ℕ). places_of x ++ l) (set_places xs n v w there same)
+set_places vs n v w there same = gathered_set places_of open_places_along places_gather vs n v w there same
 
 -- A place is taken out: with others in front of all of them, and with others behind them.
 pub takes_behind : (place : ℕ) (front old new : List ℕ) → TakesOut place old new → TakesOut place (front ++ old) (front ++ new)

@@ -26,7 +26,7 @@ use Rattle.sled_core.proofs.Line.Closes.{by_filled, filled_up, more_of}
 use Rattle.sled_core.proofs.Line.EndedTickets.{segment_chain}
 use Rattle.sled_core.proofs.Holds.Facts.{IsSegment}
 use Rattle.sled_core.proofs.Line.OpenBetween.{AreBelow, AreFrom, between_before, between_behind, between_own, chain_below, chain_from, from_all, from_behind, places_count, places_first}
-use Rattle.sled_core.proofs.Line.OpenPlaces.{as_sealed_places, at_last_places, none_placed, placed_none_open, places_of, places_parted, takes_ended, takes_in}
+use Rattle.sled_core.proofs.Line.OpenPlaces.{as_sealed_places, none_placed, placed_none_open, places_of, places_parted, takes_ended, takes_in}
 use Rattle.sled_core.proofs.Line.Segments.{AreSegments, line_segments}
 use Rattle.sled_core.proofs.Line.Shows.{number_small}
 use Rattle.sled_core.proofs.Reached.CapStands.{length-segment_rest}
@@ -248,7 +248,7 @@ buffers_held sum log =
     let v : SegmentView = segment_view log.segments.first in
     let vs : List SegmentView = map segment_view log.segments.behind.items in
     let now : List SegmentView = at_last (as_sealed sum size) (line_of log) in
-    let same : open_places_along now ≡ open_places log = at_last_places (as_sealed sum size) v vs (as_sealed_places sum size (last_of v vs)) in
+    let same : open_places_along now ≡ open_places log = as_sealed_places sum size v vs in
     All-weaker (IsHeldFrom log.segments.first.site.place (open_places_along now)) (λ b. b.held ≡ first_between b.place b.end (open_places log)) (λ b is. is.held ∙ ap (first_between b.place b.end) same) (buffers_of sum log)
     (held_along size log.segments.first.site.place now (line_laid sum size log.segments.first.site.place (line_of log) (line_segments log)))
 

@@ -18,6 +18,7 @@ use Rattle.sled_core.specs.Fits.{line_of}
 use Rattle.sled_core.specs.inside.SealedBuffers.{AreSealed, behind_run, is_ready, run_count, written_at}
 use Rattle.sled_core.specs.SealedBuffers.{sealed_count, sealed_end}
 use Rattle.sled_core.specs.inside.Turned.{promoted, written_now}
+use Rattle.sled_core.specs.Waiting.{last_of}
 use Rattle.sled_core.proofs.Behind.FullHolds.{none_sealed}
 use Rattle.sled_core.proofs.Holds.Facts.{IsSegment, nth_facts}
 use Rattle.sled_core.proofs.Reserve.BeginBelow.{entered_left}
@@ -50,7 +51,12 @@ nth_segment size place [] are n v there = cc
 nth_segment size place (x ∷ xs) are zero v there = let same : x ≡ v = cc in subst (λ (y : SegmentView). IsSegment size y.parts.site.place y) same (subst (λ p. IsSegment size p x) (sym are.0.at) are.0)
 nth_segment size place (x ∷ xs) are (suc n) v there = nth_segment size (place + size) xs are.1 n v there
 
--- begins no lower than the first one
+-- the last one of them
+pub last_segment : (size place : ℕ) (v : SegmentView) (vs : List SegmentView) → AreSegments size place (v ∷ vs) → (p : ℕ) × IsSegment size p (last_of v vs)
+last_segment size place v [] are = (place, are.0)
+last_segment size place v (w ∷ ws) are = last_segment size (place + size) w ws are.1
+
+-- The n-th one begins no lower than the first one
 pub first_below : (size place : ℕ) (vs : List SegmentView) → AreSegments size place vs → (n : ℕ) (v : SegmentView) → slice_get vs n ≡ Some v
     → first_place vs ≤ v.parts.site.place
 first_below size place [] are n v there = cc

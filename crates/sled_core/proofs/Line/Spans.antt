@@ -1,5 +1,5 @@
 -- What is seen of the buffers of segments that aren't on the device, and where the current one begins: what the calls of a log make of that.
-use Rattle.std.proofs.Common.{◌≡◌, ◌∙◌, ◌<◌, ◌+◌, ◌-◌, ◌*◌, ◌/◌, ◌^◌, ap, sym, refl, arith, ℕ, zero, suc, Bool, true, false, nat_lt, if◌then◌else◌, List, [], ◌∷◌, ◌++◌, append_assoc, length, take, drop, set, Some}
+use Rattle.std.proofs.Common.{◌≡◌, ◌∙◌, ◌<◌, ◌+◌, ◌-◌, ◌*◌, ◌/◌, ◌^◌, ap, sym, refl, arith, ℕ, zero, suc, Bool, true, false, nat_lt, if◌then◌else◌, List, [], ◌∷◌, ◌++◌, length, take, drop, set, Some}
 use Rattle.std.specs.List.{slice_get}
 use Rattle.std.proofs.lemmas.List.{append-nil, map-append}
 use Rattle.sled_store.specs.SegmentStates.{Machine, next_slot}
@@ -15,7 +15,8 @@ use Rattle.sled_core.specs.Waiting.{BufferAt, Span, at_last, buffer_at, closed_n
 use Rattle.sled_core.proofs.Line.Closes.{filled_length}
 use Rattle.sled_core.proofs.Line.Current.{filled_same, unwritten_more, unwritten_one}
 use Rattle.sled_core.proofs.Holds.Facts.{IsSegment}
-use Rattle.sled_core.proofs.Line.Last.{last_behind_all, last_changed, unwritten-append}
+use Rattle.sled_core.proofs.Line.Gathered.{gathered_adds, gathered_last}
+use Rattle.sled_core.proofs.Line.Last.{last_behind_all, last_changed, unwritten-append, unwritten_gather}
 use Rattle.sled_core.proofs.Line.Promotes.{last_promoted, last_set}
 use Rattle.sled_core.proofs.Line.Segments.{written_begin}
 use Rattle.sled_core.proofs.Sealed.Appended.{end_one}
@@ -76,13 +77,11 @@ module _ (i : ℕ) (r : Reserved) (ending : List ℕ) (state : ReservationState)
 
 -- with as many buffers, they are those that they were
 pub at_last_unwritten : (f : SegmentView → SegmentView) (v : SegmentView) (vs : List SegmentView) → unwritten_of (f (last_of v vs)).parts ≡ unwritten_of (last_of v vs).parts → unwritten (at_last f (v ∷ vs)) ≡ unwritten (v ∷ vs)
-at_last_unwritten f v [] same = ap (λ (l : List BufferAt). l ++ []) same
-at_last_unwritten f v (w ∷ ws) same = ap (λ (l : List BufferAt). unwritten_of v.parts ++ l) (at_last_unwritten f w ws same)
+at_last_unwritten f v vs same = gathered_last (λ v. unwritten_of v.parts) unwritten unwritten_gather f v vs same
 
 -- with one more, that comes behind them all
 pub at_last_more : (f : SegmentView → SegmentView) (v : SegmentView) (vs : List SegmentView) (b : BufferAt) → unwritten_of (f (last_of v vs)).parts ≡ unwritten_of (last_of v vs).parts ++ b ∷ [] → unwritten (at_last f (v ∷ vs)) ≡ unwritten (v ∷ vs) ++ b ∷ []
-at_last_more f v [] b one = append-nil (unwritten_of (f v).parts) ∙ one ∙ ap (λ (l : List BufferAt). l ++ b ∷ []) (sym (append-nil (unwritten_of v.parts)))
-at_last_more f v (w ∷ ws) b one = ap (λ (l : List BufferAt). unwritten_of v.parts ++ l) (at_last_more f w ws b one) ∙ sym (append_assoc (unwritten_of v.parts) (unwritten (w ∷ ws)) (b ∷ []))
+at_last_more f v vs b one = gathered_adds (λ v. unwritten_of v.parts) unwritten unwritten_gather f (b ∷ []) v vs one
 
 -- A reservation is made: the sealed buffers are those that they were, and the current one begins where it did.
 module _ (more : List ℕ) (r : Reserved) where
