@@ -3,6 +3,7 @@ pub mod BufferPath
 pub mod BufferStands
 pub mod ByPlace
 pub mod CapStands
+pub mod GrowsAt
 pub mod Higher
 pub mod KeptStands
 pub mod LeftBeside

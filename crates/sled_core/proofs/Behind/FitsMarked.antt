@@ -29,7 +29,8 @@ use Rattle.sled_core.proofs.Behind.FitsMoved.{begun_same}
 use Rattle.sled_core.proofs.Flush.Completed.{grows}
 use Rattle.sled_core.proofs.Sealed.Padded.{padded_get}
 use Rattle.sled_core.proofs.Flush.Settled.{rests, settled_recoverable}
-use Rattle.sled_core.proofs.Reached.AddedBatch.{message_was, no_batch, no_end}
+use Rattle.sled_core.proofs.Reached.AddedBatch.{batch_grows, message_was, no_end}
+use Rattle.sled_core.proofs.Reached.GrowsAt.{no_batch_grown}
 use Rattle.sled_core.proofs.Holds.BegunMarks.{blobs-marks, entries-marks, names-marks}
 use Rattle.sled_core.proofs.Holds.PegLemmas.{IsOff, LiesBesideFilling, behind_beside, beside_padded}
 use Rattle.sled_core.proofs.Holds.StandsBatch.{other-marks}
@@ -124,7 +125,7 @@ module _ (sum : List ℕ → ℕ) (size : ℕ) (site : SegmentPosition) (device 
         reached = record {
           near = fits.reached.near;
           ends = λ x there below. fits.reached.ends x (message_was (logged H) (logged H') b put x there) below;
-          no_batch = no_batch (logged H) (logged H') b put reach (site.place + from) (inr past) fits.reached.no_batch;
+          no_batch = no_batch_grown (logged H) (logged H') b.low (batch_grows (logged H) (logged H') b put) reach (site.place + from) (inr past) fits.reached.no_batch;
           no_end = no_end (logged H) (logged H') b put reach (site.place + from) past fits.reached.no_end;
         };
         among = λ fine none. subst (λ (z : SnapshotModel). StandsAmong sum size device.log.bytes site from others' reach (logged H') z) same (alone_new none);

@@ -22,7 +22,8 @@ use Rattle.sled_core.specs.inside.SealedBuffers.{AreSealed, FirstUnwritten}
 use Rattle.sled_core.specs.SealedBuffers.{AreZeros}
 use Rattle.sled_core.proofs.Sealed.Padded.{padded_get}
 use Rattle.sled_core.proofs.Flush.Settled.{rests, settled_recoverable}
-use Rattle.sled_core.proofs.Reached.AddedBatch.{message_was, no_batch, no_end}
+use Rattle.sled_core.proofs.Reached.AddedBatch.{batch_grows, message_was, no_end}
+use Rattle.sled_core.proofs.Reached.GrowsAt.{no_batch_grown}
 use Rattle.sled_core.proofs.Holds.BegunMarks.{blobs-marks, entries-marks, names-marks}
 use Rattle.sled_core.proofs.Holds.PegLemmas.{IsOff, LiesBesideFilling, behind_beside, beside_padded}
 use Rattle.sled_core.proofs.Holds.StandsBatch.{alone-marks}
@@ -95,7 +96,7 @@ module _ (sum : List ℕ → ℕ) (size : ℕ) (site : SegmentPosition) (device 
         reached = record {
           near = let near = fits.reached.near in omega (arith, near, is);
           ends = λ x there below. fits.reached.ends x (message_was (logged H) (logged H') b put x there) (omega (arith, below, is));
-          no_batch = subst (λ n. NoBatchBegins (logged H') reach (site.place + n)) (sym is) (no_batch (logged H) (logged H') b put reach (site.place + from) (inr above) fits.reached.no_batch);
+          no_batch = subst (λ n. NoBatchBegins (logged H') reach (site.place + n)) (sym is) (no_batch_grown (logged H) (logged H') b.low (batch_grows (logged H) (logged H') b put) reach (site.place + from) (inr above) fits.reached.no_batch);
           no_end = subst (λ n. NoBatchEnds (logged H') reach (site.place + n)) (sym is) (no_end (logged H) (logged H') b put reach (site.place + from) above fits.reached.no_end);
         };
         among = λ fine none. subst (λ (s : SnapshotModel). StandsAmong sum size device.log.bytes site from' others reach (logged H') s) same (subst (λ n. StandsAmong sum size device.log.bytes site n others reach (logged H') first) (sym is) (alone_new none));

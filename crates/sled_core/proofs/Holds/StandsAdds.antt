@@ -18,7 +18,8 @@ use Rattle.sled_core.proofs.Reached.Marks.{less_than}
 use Rattle.sled_core.proofs.Reached.SegmentsBeside.{follows}
 use Rattle.sled_core.proofs.Sealed.HeadWritten.{reached_near}
 use Rattle.sled_core.proofs.Tail.GreatestMark.{mark_below}
-use Rattle.sled_core.proofs.Holds.Added.{was_or_added, batch_was, beside_message, no_batch, none_begins, reads_beside}
+use Rattle.sled_core.proofs.Holds.Added.{batch_was, message_grows, no_batch, was_or_added}
+use Rattle.sled_core.proofs.Reached.GrowsAt.{beside_grown, no_message_grown, reads_grown}
 use Rattle.sled_core.proofs.Holds.BegunLemmas.{entry_stays}
 use Rattle.sled_core.proofs.Holds.PlacesBeside.{LiesBeside, cap_beside, first_below, lies_beside, met_beside}
 
@@ -29,14 +30,14 @@ module _ (sum : List ℕ → ℕ) (size : ℕ) (log : List ℕ) (some : 256 ≤ 
   met_apart = met_beside sum size log some H A first reach is m.place beside
 
   of_new : (s : Scanned) (x : ScannedRecord) → Contains is.scanned s → Contains s.met x → IsOfHistory sum size log H x → IsOfHistory sum size log H' x
-  of_new s x here there = beside_message H H' m adds sum size log x (met_apart s x here there)
+  of_new s x here there = beside_grown H H' m.place (message_grows H H' m adds) sum size log x (met_apart s x here there)
 
   -- where a segment ended in a Cap, the message lies in another one
   capped_new : (s : Scanned) → Contains is.scanned s → s.why ≡ Capped → NoMessageBegins H' (s.segment.place + s.stop) (s.segment.place + size) × NoBatchBegins H' (s.segment.place + s.stop) (s.segment.place + size)
   capped_new s here capped =
       let had = (is.caps s here).0 capped in
       let other = cap_beside sum size log some H A first reach is m.place beside s here capped in
-      (none_begins H H' m adds (s.segment.place + s.stop) (s.segment.place + size) other had.0, no_batch H H' m adds (s.segment.place + s.stop) (s.segment.place + size) had.1)
+      (no_message_grown H H' m.place (message_grows H H' m adds) (s.segment.place + s.stop) (s.segment.place + size) other had.0, no_batch H H' m adds (s.segment.place + s.stop) (s.segment.place + size) had.1)
 
   caps_new : (s : Scanned) → Contains is.scanned s → NothingBehind size H' s.segment.place s.stop s.why
   caps_new s here = ((λ capped. capped_new s here capped), (λ goes b there. (is.caps s here).1 goes b (batch_was H H' m adds b there)))
@@ -47,7 +48,7 @@ module _ (sum : List ℕ → ℕ) (size : ℕ) (log : List ℕ) (some : 256 ≤ 
     | inl below ↦ inl below
     | inr (n, at, under, message, batch, ended) ↦ (
         let low : n < m.place = mark_below s.mark n m.place at (marks s there) in
-        inr (n, at, under, none_begins H H' m adds A (n + 1) (inr (omega (arith, low))) message, no_batch H H' m adds A (n + 1) batch, λ b at_b. ended b (batch_was H H' m adds b at_b)))
+        inr (n, at, under, no_message_grown H H' m.place (message_grows H H' m adds) A (n + 1) (inr (omega (arith, low))) message, no_batch H H' m adds A (n + 1) batch, λ b at_b. ended b (batch_was H H' m adds b at_b)))
   ]
 
   segment_of_new : (cut : ℕ) → cut ≤ reach → (n : Message) → IsSegmentOf sum size log H cut n → IsSegmentOf sum size log H' cut n
@@ -57,7 +58,7 @@ module _ (sum : List ℕ → ℕ) (size : ℕ) (log : List ℕ) (some : 256 ≤ 
     place = of.place;
     reached = of.reached;
     whole = λ x there same under. of.whole x (among H H' m cut adds (omega (arith, high, above)) x there under) same under;
-    full = λ under. reads_beside H H' m adds sum size log some of.segment of.found.slot (omega (arith, under, high, above)) (of.full under);
+    full = λ under. reads_grown H H' m.place (message_grows H H' m adds) sum size log some of.segment of.found.slot (omega (arith, under, high, above)) (of.full under);
   }
 
   needed_new : (cut : ℕ) → is.from ≤ cut → cut ≤ reach → (page : ℕ) (n : Message) → Contains (table H' cut page) n → IsSegmentOf sum size log H' cut n × StandsInline sum size log n n.pointer

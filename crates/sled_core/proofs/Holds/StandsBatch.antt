@@ -20,7 +20,8 @@ use Rattle.sled_core.specs.inside.Scan.{IsFoundSegment}
 use Rattle.sled_core.specs.Scan.{IsScan}
 use Rattle.sled_core.specs.inside.Tail.{least_place}
 use Rattle.sled_core.specs.Tail.{Scanned}
-use Rattle.sled_core.proofs.Reached.AddedBatch.{batch_there, beside_batch, entry_was, message_was, no_batch, no_end, no_message, reads_below, was_or_batch}
+use Rattle.sled_core.proofs.Reached.AddedBatch.{batch_grows, batch_there, entry_was, message_was, no_end, no_message, was_or_batch}
+use Rattle.sled_core.proofs.Reached.GrowsAt.{beside_grown, no_batch_grown, reads_grown}
 use Rattle.sled_core.proofs.Holds.PlacesBeside.{LiesBeside, cap_beside, first_below, lies_beside, met_beside}
 use Rattle.sled_core.proofs.Holds.PegLemmas.{LiesBesideFilling}
 use Rattle.sled_core.proofs.Reached.Marks.{less_than}
@@ -94,14 +95,14 @@ module _ (sum : List ℕ → ℕ) (size : ℕ) (log : List ℕ) (some : 256 ≤ 
 
   -- the batch begins in no record that is met
   of_new : (s : Scanned) (x : ScannedRecord) → Contains is.scanned s → Contains s.met x → IsOfHistory sum size log H x → IsOfHistory sum size log H' x
-  of_new s x here there = beside_batch H H' b adds sum size log x (met_apart s x here there)
+  of_new s x here there = beside_grown H H' b.low (batch_grows H H' b adds) sum size log x (met_apart s x here there)
 
   -- where a segment ended in a Cap, the batch begins in another one
   capped_new : (s : Scanned) → Contains is.scanned s → s.why ≡ Capped → NoMessageBegins H' (s.segment.place + s.stop) (s.segment.place + size) × NoBatchBegins H' (s.segment.place + s.stop) (s.segment.place + size)
   capped_new s here capped =
       let had = (is.caps s here).0 capped in
       let other = cap_beside sum size log some H A first reach is b.low beside s here capped in
-      (no_message H H' b adds (s.segment.place + s.stop) (s.segment.place + size) had.0, no_batch H H' b adds (s.segment.place + s.stop) (s.segment.place + size) other had.1)
+      (no_message H H' b adds (s.segment.place + s.stop) (s.segment.place + size) had.0, no_batch_grown H H' b.low (batch_grows H H' b adds) (s.segment.place + s.stop) (s.segment.place + size) other had.1)
 
   -- and its peg lies in nothing that fills a segment which leads on
   caps_new : (s : Scanned) → Contains is.scanned s → NothingBehind size H' s.segment.place s.stop s.why
@@ -131,7 +132,7 @@ module _ (sum : List ℕ → ℕ) (size : ℕ) (log : List ℕ) (some : 256 ≤ 
           at,
           under,
           no_message H H' b adds A (n + 1) message,
-          no_batch H H' b adds A (n + 1) (inr (omega (arith, low))) batch,
+          no_batch_grown H H' b.low (batch_grows H H' b adds) A (n + 1) (inr (omega (arith, low))) batch,
           no_end H H' b adds A (n + 1) (omega (arith, low)) ended,
         ))
   ]
@@ -143,7 +144,7 @@ module _ (sum : List ℕ → ℕ) (size : ℕ) (log : List ℕ) (some : 256 ≤ 
     place = of.place;
     reached = of.reached;
     whole = λ x there same under. of.whole x (message_was H H' b adds x there) same under;
-    full = λ under. reads_below H H' b adds sum size log some of.segment of.found.slot (omega (arith, under, high, above)) (of.full under);
+    full = λ under. reads_grown H H' b.low (batch_grows H H' b adds) sum size log some of.segment of.found.slot (omega (arith, under, high, above)) (of.full under);
   }
 
   needed_new : (cut : ℕ) → is.from ≤ cut → cut ≤ reach → (page : ℕ) (n : Message) → Contains (table H' cut page) n → IsSegmentOf sum size log H' cut n × StandsInline sum size log n n.pointer
@@ -211,7 +212,7 @@ among-marks sum size log site from reach H H' first some b adds above placed lat
             above = next.above;
             next = next.next;
             no_message = no_message H H' b adds reach site.place next.no_message;
-            no_batch = no_batch H H' b adds reach site.place (inr past) next.no_batch;
+            no_batch = no_batch_grown H H' b.low (batch_grows H H' b adds) reach site.place (inr past) next.no_batch;
             no_end = no_end H H' b adds reach site.place past next.no_end;
           },
         )

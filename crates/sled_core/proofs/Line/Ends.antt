@@ -27,7 +27,7 @@ use Rattle.sled_core.specs.Reading.{BlobIsBelow}
 use Rattle.sled_core.proofs.Behind.Calls.{behind-aborted, ended_long, held_here}
 use Rattle.sled_core.proofs.Behind.Completes.{adds_here, behind-complete, completed_history}
 use Rattle.sled_core.proofs.Behind.FitsCalls.{behind-fits-aborted, behind-fits-completed}
-use Rattle.sled_core.proofs.Holds.Added.{added_there}
+use Rattle.sled_core.proofs.Holds.Added.{added_there, message_grows}
 use Rattle.sled_core.proofs.Holds.CompletedLemmas.{behind_written, ends_within}
 use Rattle.sled_core.proofs.Holds.FitsBatches.{batches_completed, batches_up}
 use Rattle.sled_core.proofs.Holds.MessagesBeside.{batch_beside}
@@ -37,7 +37,7 @@ use Rattle.sled_core.proofs.Holds.WholeLemmas.{holds-aborted, holds-complete}
 use Rattle.sled_core.proofs.Holds.Facts.{IsSegment}
 use Rattle.sled_core.proofs.Line.LineEnds.{end_set, first_set}
 use Rattle.sled_core.proofs.Holds.Nth.{parts_set, parts_split}
-use Rattle.sled_core.proofs.Line.OlderSlots.{whole_adds}
+use Rattle.sled_core.proofs.Line.OlderSlots.{whole_grown}
 use Rattle.sled_core.proofs.Line.Segments.{first_below, from_each}
 use Rattle.sled_core.proofs.OwnLog.Calls.{own_ended}
 use Rattle.sled_core.proofs.Logged.Messages.{adds_logged, put_real}
@@ -240,7 +240,7 @@ module _ (sum : List ℕ → ℕ) (size : ℕ) (device : State) (fault : Option 
           batches = batches_set (ended_now i r (completing r) Completed v) refl refl (logged done.0) (batches_completed (written_to line) (line_end size line) noted (logged H) (logged done.0) (in_log x) put apart fits.batches);
           slots = slots_set size line device.log.bytes fault machine n v (ended_now i r (completing r) Completed v) there refl fits.slots;
           whole = λ none zeros. subst (λ p. AreWhole sum size device.log.bytes (logged done.0) p machine) (sym (first_set line n v (ended_now i r (completing r) Completed v) there refl))
-              (whole_adds sum size least device.log.bytes (logged H) (logged done.0) (in_log x) (first_place line) machine put past (fits.whole none zeros));
+              (whole_grown sum size least device.log.bytes (logged H) (logged done.0) x.place (first_place line) machine (message_grows (logged H) (logged done.0) (in_log x) put) past (fits.whole none zeros));
           own = λ none zeros. own_ended sum size (HeaderWasPlaced device.placed) (RecordWasPlaced sum size device.placed) device.log.bytes line n v i r (completing r) Completed there (fits.own none zeros);
           account = account_completed sum size device.snapshots.file H U machine fits.account done.0 x done.1;
         },

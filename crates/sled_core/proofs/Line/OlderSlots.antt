@@ -1,7 +1,7 @@
--- The slots that are older than the segments of a log, as a message is added, a batch is noted and a slot is handed out: their segments are whole still.
-use Rattle.std.proofs.Common.{◌*◌, ◌%◌, ◌<◌, ◌≤◌, refl, ap, subst, arith, inl, inr, ℕ, List, [], ◌∷◌, length, Option}
+-- The slots that are older than the segments of a log, as its history grows behind them and a slot is handed out: their segments are whole still.
+use Rattle.std.proofs.Common.{◌*◌, ◌%◌, ◌<◌, ◌≤◌, refl, subst, arith, inl, inr, ℕ, List, [], ◌∷◌, length, Option}
 use Rattle.std.specs.declared.io.Error.{Error as IoError}
-use Rattle.sled_codec.specs.History.{AddsBatch, AddsMessage, Batch, History, Message}
+use Rattle.sled_codec.specs.History.{History}
 use Rattle.sled_codec.specs.Snapshots.{SnapshotModel}
 use Rattle.sled_store.specs.Device.{State}
 use Rattle.sled_store.specs.SegmentStates.{Machine, handed_out, next_slot, slot_at}
@@ -12,8 +12,7 @@ use Rattle.sled_core.specs.inside.Begun.{first_place}
 use Rattle.sled_core.specs.inside.Fits.{HoldsLine}
 use Rattle.sled_core.specs.inside.Slots.{AreWhole, marked_at}
 use Rattle.sled_core.specs.inside.Tail.{least_place}
-use Rattle.sled_core.proofs.Holds.Added.{reads_beside, was_or_added}
-use Rattle.sled_core.proofs.Reached.AddedBatch.{message_was, reads_below}
+use Rattle.sled_core.proofs.Reached.GrowsAt.{GrowsAt, reads_grown}
 use Rattle.sled_core.proofs.Reached.WholeSegments.{whole_at}
 use Rattle.sled_core.proofs.Start.OwnSlots.{taken_cases}
 use Rattle.sled_core.proofs.Tail.Multiples.{put_down}
@@ -27,36 +26,23 @@ module _ (sum : List ℕ → ℕ) (size : ℕ) where
       let own = holds.begun in
       subst (λ (s : SnapshotModel). least_place size s ≤ v.parts.site.place) (one_begin sum device.snapshots.file own.first first own.begins begins) own.least
 
-  -- A message is added at this place or above it: those below are whole still.
-  pub whole_adds : 256 ≤ size → (log : List ℕ) (H H' : History) (m : Message) (below : ℕ) (machine : Machine) → AddsMessage H m H' → below ≤ m.place
+  -- The history has more, at this place or above it: the segments of those below are whole still.
+  pub whole_grown : 256 ≤ size → (log : List ℕ) (H H' : History) (at below : ℕ) (machine : Machine) → GrowsAt H H' at → below ≤ at
       → AreWhole sum size log H below machine → AreWhole sum size log H' below machine
-  whole_adds big log H H' m below machine adds above are k taken ends =
+  whole_grown big log H H' at below machine grows above are k taken ends =
       let whole = are k taken ends in
       record {
         mark = whole.mark;
         found = whole.found;
-        read_on = reads_beside H H' m adds sum size log big (marked_at (k * size) (slot_at machine k).lsn whole.mark) whole.found.slot
+        read_on = reads_grown H H' at grows sum size log big (marked_at (k * size) (slot_at machine k).lsn whole.mark) whole.found.slot
             (omega (arith, ends, above)) whole.read_on;
-        reached = λ n there own. elim (was_or_added H H' m adds n there) [
+        reached = λ n there own. elim (grows.message_was n there) [
           | inl had ↦ whole.reached n had own
           | inr is ↦ absurd (
               let parts = put_down size n.place in
               let inside : n.place % size < size = omega (arith, big) in
-              omega (arith, parts.0, own, inside, ends, above, ap (λ (x : Message). x.place) is))
+              omega (arith, parts.0, own, inside, ends, above, is))
         ];
-      }
-
-  -- A batch is noted that begins there or above: they are too.
-  pub whole_noted : 256 ≤ size → (log : List ℕ) (H H' : History) (b : Batch) (below : ℕ) (machine : Machine) → AddsBatch H b H' → below ≤ b.low
-      → AreWhole sum size log H below machine → AreWhole sum size log H' below machine
-  whole_noted big log H H' b below machine adds above are k taken ends =
-      let whole = are k taken ends in
-      record {
-        mark = whole.mark;
-        found = whole.found;
-        read_on = reads_below H H' b adds sum size log big (marked_at (k * size) (slot_at machine k).lsn whole.mark) whole.found.slot
-            (omega (arith, ends, above)) whole.read_on;
-        reached = λ n there own. whole.reached n (message_was H H' b adds n there) own;
       }
 
   -- A slot is handed out for a segment that isn't older.

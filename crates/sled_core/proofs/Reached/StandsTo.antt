@@ -14,7 +14,7 @@ use Rattle.sled_core.specs.inside.Tail.{GoesOn, IsTail, greatest_mark, tail_begi
 use Rattle.sled_core.proofs.Tail.OneTail.{segment_there}
 use Rattle.sled_core.proofs.Tail.GreatestMark.{greatest_is, mark_below}
 use Rattle.sled_core.proofs.Tail.Multiples.{put_down, one_multiple, next_multiple, lower_multiple}
-use Rattle.sled_core.proofs.Tail.Tails.{known, one_reading, tail_some, tail_there}
+use Rattle.sled_core.proofs.Tail.Tails.{known, one_reading, tail_behind, tail_some, tail_there}
 use Rattle.sled_core.proofs.Tail.SegmentsFrom.{greatest_above, tail_low}
 pub use Rattle.sled_core.specs.inside.Reached.{StandsTo}
 
@@ -77,23 +77,12 @@ module _ (sum : List ℕ → ℕ) (size : ℕ) (log : List ℕ) (some : 256 ≤ 
       no_end Broken none other u there at = other refl
       no_end Full none other u there at = none u there at
       no_end Capped none other u there at = none u there at
-  tail_reaches z (x ∷ y ∷ ys) tail aligned low under = by x.why tail.3 (tail_reaches (z + size) (y ∷ ys)) where
-    Rest : Type 0
-    Rest = IsTail sum size log is.ordering (z + size) (y ∷ ys) → (z + size) % size ≡ 0 → is.from / size * size ≤ z + size → z + size < reach → Reaches (y ∷ ys)
-
-    next : IsTail sum size log is.ordering (z + size) (y ∷ ys) → Rest → Reaches (x ∷ y ∷ ys)
-    next on rest = elim (cases_lt (z + size) reach) [
-      | inl below ↦ rest on (next_multiple size z aligned) (omega (arith, low)) below
-      | inr past ↦ (let e = tail_some sum size log some least is.ordering is.numbers is.scanned is.reads (z + size) y ys on in (e.0, e.1, omega (arith, e.2, past)))
-    ]
-
-    by : (why : ScanEnd) → GoesOn why (y ∷ ys) (IsTail sum size log is.ordering (z + size) (y ∷ ys)) → Rest → Reaches (x ∷ y ∷ ys)
-    by Broken none rest = absurd (no_more none)
-      where
-        no_more : (y ∷ ys) ≡ [] → ⊥
-        no_more none = cc
-    by Full on rest = next on rest
-    by Capped on rest = next on rest
+  tail_reaches z (x ∷ y ∷ ys) tail aligned low under =
+      let on = (tail_behind sum size log some least is.ordering is.numbers is.scanned is.reads z x y ys tail).1 in
+      elim (cases_lt (z + size) reach) [
+        | inl below ↦ tail_reaches (z + size) (y ∷ ys) on (next_multiple size z aligned) (omega (arith, low)) below
+        | inr past ↦ (let e = tail_some sum size log some least is.ordering is.numbers is.scanned is.reads (z + size) y ys on in (e.0, e.1, omega (arith, e.2, past)))
+      ]
 
   -- Where the tail begins: at the segment of the snapshot or above it, and no higher than the place that was reached.
 

@@ -1,5 +1,5 @@
 -- The tail over segments that are found: it has each of them from its beginning on, up to one that is broken, and where it ends.
-use Rattle.std.proofs.Common.{⊎_elim, ◌≡◌, ◌∙◌, ◌+◌, ◌%◌, ◌<◌, ◌≤◌, ℕ, List, [], ◌∷◌, Some, refl, sym, ap, subst, arith, inl, inr}
+use Rattle.std.proofs.Common.{⊎_elim, ◌≡◌, ◌≢◌, ◌∙◌, ◌+◌, ◌%◌, ◌<◌, ◌≤◌, ℕ, List, [], ◌∷◌, Some, refl, sym, ap, subst, arith, inl, inr}
 use Rattle.std.specs.List.{Contains}
 use Rattle.std.proofs.lemmas.Bool.{cases_lt, cases_order}
 use Rattle.sled_store.proofs.Segments.Elements.{in_first, in_rest, in_cases, in_nothing}
@@ -42,20 +42,22 @@ module _ (sum : List ℕ → ℕ) (size : ℕ) (log : List ℕ) (some : 256 ≤ 
       let b = segment_there sum size log ordering scanned reads t there in
       one_scan sum size log s t (one_at_place ordering rises s.segment t.segment a.0 b.0 places) a.1 b.1
 
+  -- Where another segment follows in the tail, the first one isn't broken, and behind it the tail goes on.
+  pub tail_behind : (place : ℕ) (x y : Scanned) (ys : List Scanned) → IsTail sum size log ordering place (x ∷ y ∷ ys) → (x.why ≢ Broken) × IsTail sum size log ordering (place + size) (y ∷ ys)
+  tail_behind place x y ys tail = by x.why tail.3 where
+    by : (why : ScanEnd) → GoesOn why (y ∷ ys) (IsTail sum size log ordering (place + size) (y ∷ ys)) → (why ≢ Broken) × IsTail sum size log ordering (place + size) (y ∷ ys)
+    by Broken none = absurd (no_more none)
+      where
+        no_more : (y ∷ ys) ≡ [] → ⊥
+        no_more none = cc
+    by Full on = (λ broken. cc, on)
+    by Capped on = (λ broken. cc, on)
+
   -- The last segment of the tail.
   pub tail_last : (place : ℕ) (tail : List Scanned) → IsTail sum size log ordering place tail → (end : ℕ) → tail_end tail ≡ Some end → (t : Scanned) × Contains scanned t × (end ≡ t.segment.place + t.stop)
   tail_last place [] tail end ends = cc
   tail_last place (x ∷ []) tail end ends = (x, known x tail.0 tail.2, some_is end (x.segment.place + x.stop) (sym ends))
-  tail_last place (x ∷ y ∷ ys) tail end ends = by x.why tail.3 (tail_last (place + size) (y ∷ ys)) where
-    by : (why : ScanEnd) → GoesOn why (y ∷ ys) (IsTail sum size log ordering (place + size) (y ∷ ys))
-        → (IsTail sum size log ordering (place + size) (y ∷ ys) → (e : ℕ) → tail_end (y ∷ ys) ≡ Some e → (t : Scanned) × Contains scanned t × (e ≡ t.segment.place + t.stop))
-        → (t : Scanned) × Contains scanned t × (end ≡ t.segment.place + t.stop)
-    by Broken none rest = absurd (no_more none)
-      where
-        no_more : (y ∷ ys) ≡ [] → ⊥
-        no_more none = cc
-    by Full on rest = rest on end ends
-    by Capped on rest = rest on end ends
+  tail_last place (x ∷ y ∷ ys) tail end ends = tail_last (place + size) (y ∷ ys) (tail_behind place x y ys tail).1 end ends
 
   -- The tail has each segment from its beginning on. One that is broken is the last.
   abbrev pub IsTailAt : ℕ → ℕ → Scanned → Type 0
@@ -71,43 +73,19 @@ module _ (sum : List ℕ → ℕ) (size : ℕ) (log : List ℕ) (some : 256 ≤ 
         | inl higher ↦ (let far = further place z aligned at higher in absurd (omega (arith, far, below, is_end, inside, tail.1)))
         | inr le ↦ (x, (there, omega (arith, tail.1, le, above), λ broken. sym is_end))
       ]
-  tail_has place (x ∷ y ∷ ys) tail aligned end ends z at above below = by x.why refl tail.3 (tail_has (place + size) (y ∷ ys)) where
-    Rest : Type 0
-    Rest = IsTail sum size log ordering (place + size) (y ∷ ys) → (place + size) % size ≡ 0 → (e : ℕ) → tail_end (y ∷ ys) ≡ Some e → (w : ℕ) → w % size ≡ 0 → place + size ≤ w → w < e → (t : Scanned) × IsTailAt e w t
-
-    on_from : (x.why ≡ Broken → ⊥) → IsTail sum size log ordering (place + size) (y ∷ ys) → Rest → (t : Scanned) × IsTailAt end z t
-    on_from whole_one on rest = elim (cases_lt place z) [
-      | inl higher ↦ (
-          let far = further place z aligned at higher in
-          rest on (next_multiple size place aligned) end ends z at far below)
-      | inr le ↦ (x, (known x tail.0 tail.2, omega (arith, tail.1, le, above), λ broken. absurd (whole_one broken)))
-    ]
-
-    by : (why : ScanEnd) → x.why ≡ why → GoesOn why (y ∷ ys) (IsTail sum size log ordering (place + size) (y ∷ ys)) → Rest → (t : Scanned) × IsTailAt end z t
-    by Broken test none rest = absurd (no_more none)
-      where
-        no_more : (y ∷ ys) ≡ [] → ⊥
-        no_more none = cc
-    by Full test on rest = on_from (λ broken. let no : Full ≡ Broken = sym test ∙ broken in cc) on rest
-    by Capped test on rest = on_from (λ broken. let no : Capped ≡ Broken = sym test ∙ broken in cc) on rest
+  tail_has place (x ∷ y ∷ ys) tail aligned end ends z at above below =
+      let on = tail_behind place x y ys tail in
+      elim (cases_lt place z) [
+        | inl higher ↦ (
+            let far = further place z aligned at higher in
+            tail_has (place + size) (y ∷ ys) on.1 (next_multiple size place aligned) end ends z at far below)
+        | inr le ↦ (x, (known x tail.0 tail.2, omega (arith, tail.1, le, above), λ broken. absurd (on.0 broken)))
+      ]
 
   -- It ends at or above the place where it begins.
   pub tail_some : (place : ℕ) (x : Scanned) (xs : List Scanned) → IsTail sum size log ordering place (x ∷ xs) → (end : ℕ) × (tail_end (x ∷ xs) ≡ Some end) × (place ≤ end)
   tail_some place x [] tail = (x.segment.place + x.stop, refl, omega (arith, tail.1))
-  tail_some place x (y ∷ ys) tail = by x.why tail.3 (tail_some (place + size) y ys) where
-    Rest : Type 0
-    Rest = IsTail sum size log ordering (place + size) (y ∷ ys) → (end : ℕ) × (tail_end (y ∷ ys) ≡ Some end) × (place + size ≤ end)
-
-    next : IsTail sum size log ordering (place + size) (y ∷ ys) → Rest → (end : ℕ) × (tail_end (y ∷ ys) ≡ Some end) × (place ≤ end)
-    next on rest = let e = rest on in (e.0, e.1, omega (arith, e.2))
-
-    by : (why : ScanEnd) → GoesOn why (y ∷ ys) (IsTail sum size log ordering (place + size) (y ∷ ys)) → Rest → (end : ℕ) × (tail_end (y ∷ ys) ≡ Some end) × (place ≤ end)
-    by Broken none rest = absurd (no_more none)
-      where
-        no_more : (y ∷ ys) ≡ [] → ⊥
-        no_more none = cc
-    by Full on rest = next on rest
-    by Capped on rest = next on rest
+  tail_some place x (y ∷ ys) tail = let e = tail_some (place + size) y ys (tail_behind place x y ys tail).1 in (e.0, e.1, omega (arith, e.2))
 
   -- It begins with a segment that is there, and ends behind that one's beginning.
   pub tail_first : (place : ℕ) (tail : List Scanned) → IsTail sum size log ordering place tail → (end : ℕ) → tail_end tail ≡ Some end
@@ -117,25 +95,9 @@ module _ (sum : List ℕ → ℕ) (size : ℕ) (log : List ℕ) (some : 256 ≤ 
       let there = known x tail.0 tail.2 in
       let long = stand_rises (x.segment.place + 20) x.met (x.segment.place + x.stop) (met_stand sum size log some x (whole x there)) in
       (x, there, tail.1, omega (arith, long, tail.1, some_is (x.segment.place + x.stop) end ends))
-  tail_first place (x ∷ y ∷ ys) tail end ends = by x.why tail.3 (tail_some (place + size) y ys) where
-    Rest : Type 0
-    Rest = IsTail sum size log ordering (place + size) (y ∷ ys) → (e : ℕ) × (tail_end (y ∷ ys) ≡ Some e) × (place + size ≤ e)
-
-    First : Type 0
-    First = (t : Scanned) × Contains scanned t × (t.segment.place ≡ place) × (place < end)
-
-    next : IsTail sum size log ordering (place + size) (y ∷ ys) → Rest → First
-    next on rest =
-        let e = rest on in
-        (x, known x tail.0 tail.2, tail.1, omega (arith, some, e.2, some_is e.0 end (sym e.1 ∙ ends)))
-
-    by : (why : ScanEnd) → GoesOn why (y ∷ ys) (IsTail sum size log ordering (place + size) (y ∷ ys)) → Rest → First
-    by Broken none rest = absurd (no_more none)
-      where
-        no_more : (y ∷ ys) ≡ [] → ⊥
-        no_more none = cc
-    by Full on rest = next on rest
-    by Capped on rest = next on rest
+  tail_first place (x ∷ y ∷ ys) tail end ends =
+      let e = tail_some (place + size) y ys (tail_behind place x y ys tail).1 in
+      (x, known x tail.0 tail.2, tail.1, omega (arith, some, e.2, some_is e.0 end (sym e.1 ∙ ends)))
 
   -- A segment that begins below its end ends no higher.
   pub ends_low : (place : ℕ) (tail : List Scanned) → IsTail sum size log ordering place tail → (end : ℕ) → tail_end tail ≡ Some end
