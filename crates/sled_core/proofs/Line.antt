@@ -76,6 +76,7 @@ pub mod Shows
 pub mod Slots
 pub mod Spans
 pub mod Targets
+pub mod TicketEnds
 pub mod Turns
 pub mod Unchanged
 pub mod WholeBuffers

@@ -1,5 +1,5 @@
 -- The manifest of a ticket ends, and its batch is noted: what is seen of the log then, and that it holds and fits the history with the batch.
-use Rattle.std.proofs.Common.{◌≡◌, ◌∙◌, ◌⊎◌, ◌≤◌, ◌<◌, ◌+◌, ◌-◌, ◌*◌, ◌/◌, ◌<ℤ◌, ap, sym, refl, arith, subst, inl, inr, ℕ, pos, Bool, true, List, length, map, set, None, Some}
+use Rattle.std.proofs.Common.{◌≡◌, ◌∙◌, ◌⊎◌, ◌≤◌, ◌<◌, ◌+◌, ◌-◌, ◌*◌, ◌<ℤ◌, ap, sym, refl, arith, subst, inl, inr, ℕ, pos, Bool, true, List, length, map, set, None, Some}
 use Rattle.std.specs.Prelude.{int_lt, unsigned_abs, if◌then◌else◌}
 use Rattle.std.specs.List.{Contains, slice_get}
 use Rattle.std.proofs.lemmas.Int.{ints}
@@ -7,7 +7,6 @@ use Rattle.sled_codec.specs.History.{AddsBatch, Batch, Batched, History, Message
 use Rattle.sled_store.specs.Accounts.{machine_of}
 use Rattle.sled_store.specs.Device.{Trace, state_of}
 use Rattle.sled_store.specs.declared.config.RunningConfig.{RunningConfig}
-use Rattle.sled_core.specs.Heads.{heads_along}
 use Rattle.sled_core.specs.Batches.{LiesInNoFilling, NotesBatchOf, batch_for}
 use Rattle.sled_core.specs.Begun.{SegmentView, line_in, segment_view}
 use Rattle.sled_core.specs.inside.Buffers.{IsHeaded, marking}
@@ -15,25 +14,23 @@ use Rattle.sled_core.specs.declared.iobuf.ReservationState.TheVariants.{Manifest
 use Rattle.sled_core.specs.declared.iobuf.Reserved.{Reserved}
 use Rattle.sled_core.specs.declared.logger.Log.{Log}
 use Rattle.sled_core.specs.declared.reservation.Reservation.{Reservation}
-use Rattle.sled_core.specs.Fits.{Awaits, AwaitsIn, KeepsAll, KeepsBuffers, config_of, current_of, fault_of, given_up_of, kept_batches, line_of, noted_in, open_places, reserved_end, synced_end, heads_of}
+use Rattle.sled_core.specs.Fits.{KeepsAll, KeepsBuffers, config_of, current_of, fault_of, given_up_of, kept_batches, line_of, noted_in, open_places, reserved_end, synced_end, heads_of}
 use Rattle.sled_core.specs.invariants.Fits.{Holds}
 use Rattle.sled_core.specs.Among.{AreAmong}
-use Rattle.sled_core.specs.GivenUp.{given_up_along}
 use Rattle.sled_core.specs.Keeps.{GoesOn, KeepsOthers, SamePosition}
-use Rattle.sled_core.specs.Logged.{logged, in_log}
+use Rattle.sled_core.specs.Logged.{logged}
 use Rattle.sled_core.specs.Manifests.{is_manifest}
 use Rattle.sled_core.specs.OpenBatches.{stable_below, with_batch}
-use Rattle.sled_core.specs.OpenPlaces.{TakesOut, open_places_along}
+use Rattle.sled_core.specs.OpenPlaces.{TakesOut}
 use Rattle.sled_core.specs.Positions.{position_in}
 use Rattle.sled_core.specs.invariants.Running.{Fits}
-use Rattle.sled_core.specs.Tickets.{IsFor, index_of, is_manifest_of, place_of}
+use Rattle.sled_core.specs.Tickets.{is_manifest_of, place_of}
 use Rattle.sled_core.specs.inside.Turned.{ChangesLine, NotesBatch, ended_now}
 use Rattle.sled_core.specs.Waiting.{last_of, spans, start_in, unwritten}
 use Rattle.sled_core.proofs.Behind.FirstHoldsMarked.{noted_adds, noted_history}
 use Rattle.sled_core.proofs.Line.KeptCalls.{goes_on_quietly, position_further}
 use Rattle.sled_core.proofs.Line.EndedKeeps.{keeps_ended, position_ended}
 use Rattle.sled_core.proofs.Line.EndedLine.{marking_short}
-use Rattle.sled_core.proofs.Line.EndedTickets.{ended_keeps_given, ended_takes, others_await, ticket_among, ticket_there, ended_heads}
 use Rattle.sled_core.proofs.Line.EndsBatch.{fits_noted, holds_noted, line_unwritten}
 use Rattle.sled_core.proofs.Holds.Facts.{IsSegment, nth_facts}
 use Rattle.sled_core.proofs.Line.Fillings.{log_off}
@@ -42,6 +39,7 @@ use Rattle.sled_core.proofs.Line.Moves.{fits_as, holds_as}
 use Rattle.sled_core.proofs.Reached.ByPlace.{stable_with_batch}
 use Rattle.sled_core.proofs.Reserve.Ranges.{at_there}
 use Rattle.sled_core.proofs.Line.Places.{reserved_ends, reserved_in_reach}
+use Rattle.sled_core.proofs.Line.TicketEnds.{EndsAt, IsReservedAt, is_there, ticket_given, ticket_heads, ticket_opens, ticket_others}
 
 -- A log has noted a batch, and is otherwise what it was.
 module _ {D C : Type 0} (mid new : Log D C) (rest : NotesBatch mid new) where
@@ -67,37 +65,6 @@ module _ {D C : Type 0} (mid new : Log D C) (rest : NotesBatch mid new) where
   -- its buffers are the same,
   pub noted_buffers : KeepsBuffers mid new
   noted_buffers = record { waiting = ap (λ (l : List SegmentView). spans (unwritten l)) noted_line; start = ap start_in noted_current }
-
--- The reservation of a ticket, by numbers.
-pub record IsReservedAt {D C : Type 0} (log : Log D C) (ticket : Reservation) (n index : ℕ) : Type 0 where
-  pub segment : SegmentView
-  pub reserved : Reserved
-  pub among : slice_get (line_of log) n ≡ Some segment
-  pub there : slice_get segment.parts.reserved (index - segment.gone) ≡ Some reserved
-  pub own : IsFor segment.parts.site reserved ticket
-
-pub reserved_at : {D C : Type 0} (log : Log D C) (ticket : Reservation) (m : Message) → Awaits log ticket m → (place n index : ℕ) → place ≡ unsigned_abs (place_of ticket) → n ≡ (place - log.segments.first.site.place) / log.config.config.segment_size → index ≡ index_of ticket
-    → IsReservedAt log ticket n index
-reserved_at log ticket m awaits place n index place_is n_is index_is = record {
-  segment = awaits.segment;
-  reserved = awaits.reserved;
-  among = ticket_among log ticket m awaits place n index place_is n_is index_is;
-  there = ticket_there log ticket m awaits place n index place_is n_is index_is;
-  own = awaits.own;
-}
-
--- It is whichever reservation is there,
-module _ {D C : Type 0} (log : Log D C) (ticket : Reservation) (n index : ℕ) (f : IsReservedAt log ticket n index) (v : SegmentView) (r : Reserved) (among : slice_get (line_of log) n ≡ Some v) (there : slice_get v.parts.reserved (index - v.gone) ≡ Some r) where
-  is_there : f.reserved ≡ r
-  is_there =
-      let both : Some f.segment ≡ Some v = sym f.among ∙ among in
-      let same : f.segment ≡ v = cc in
-      let both_there : Some f.reserved ≡ Some r = sym f.there ∙ ap (λ (x : SegmentView). slice_get x.parts.reserved (index - x.gone)) same ∙ there in
-      cc
-
-  -- and the ticket says whether that is of a manifest.
-  pub kind_there : is_manifest r.log_kind r.page ≡ is_manifest_of ticket
-  kind_there = ap (λ (x : Reserved). is_manifest x.log_kind x.page) (sym is_there) ∙ sym f.own.manifest
 
 -- A manifest has 8 bytes behind its header.
 module _ {D C : Type 0} (log : Log D C) (ticket : Reservation) (n index : ℕ) (f : IsReservedAt log ticket n index) (manifest : is_manifest_of ticket ≡ true) where
@@ -173,6 +140,9 @@ module _ {D C : Type 0} (trace : D → Trace) (sum : List ℕ → ℕ) (old mid 
     now_synced : synced_end new ≡ synced_end old
     now_synced = noted_synced mid new rest ∙ ended_same.synced
 
+    now_ended : EndsAt old new ticket n index Manifest
+    now_ended = record { at = f; text = marking sum v.parts.bytes r peg; short = short; line = noted_line mid new rest ∙ line }
+
     now_config : config_of new ≡ config_of old
     now_config = rest.config ∙ ended.config
 
@@ -209,28 +179,16 @@ module _ {D C : Type 0} (trace : D → Trace) (sum : List ℕ → ℕ) (old mid 
 
     -- the reservation isn't open any more, and the others are for what they were for,
     batch_opens : (place : ℕ) → pos place ≡ place_of ticket → TakesOut place (open_places old) (open_places new)
-    batch_opens place is =
-        let here : v.parts.site.place + r.from ≡ place = sym (ap unsigned_abs (is ∙ f.own.place)) in
-        subst (λ (p : ℕ). TakesOut p (open_places old) (open_places new)) here
-        (subst (λ (l : List SegmentView). TakesOut (v.parts.site.place + r.from) (open_places old) (open_places_along l)) (sym (noted_line mid new rest ∙ line))
-        (ended_takes old.config.config.segment_size (line_of old) old.segments.first.site.place n v f.among (nth_facts old) i r f.there f.own.open_yet (marking sum v.parts.bytes r peg) short Manifest refl))
+    batch_opens place is = ticket_opens now_ended refl place is
 
     batch_given : AreAmong (given_up_of new) (given_up_of old)
-    batch_given =
-        subst (λ (l : List SegmentView). AreAmong (given_up_along l) (given_up_of old)) (sym (noted_line mid new rest ∙ line))
-        (ended_keeps_given old.config.config.segment_size (line_of old) old.segments.first.site.place n v f.among (nth_facts old) i r f.there f.own.open_yet (marking sum v.parts.bytes r peg) short Manifest refl)
+    batch_given = ticket_given now_ended refl
 
     batch_heads : AreAmong (heads_of new) (heads_of old)
-    batch_heads =
-        subst (λ (l : List SegmentView). AreAmong (heads_along l) (heads_of old)) (sym (noted_line mid new rest ∙ line))
-        (ended_heads old.config.config.segment_size (line_of old) old.segments.first.site.place n v f.among (nth_facts old) i r f.there f.own.open_yet (marking sum v.parts.bytes r peg) short Manifest)
+    batch_heads = ticket_heads now_ended
 
     batch_others : KeepsOthers trace sum ticket old new
-    unfolding Holds
-    batch_others H other m holds awaits elsewhere =
-        subst (λ (l : List SegmentView). AwaitsIn l other (in_log m)) (sym (noted_line mid new rest ∙ line))
-        (others_await old.config.config.segment_size (line_of old) old.segments.first.site.place n v f.among (nth_facts old) i r f.there f.own.open_yet (marking sum v.parts.bytes r peg) short Manifest sum (state_of (trace old.config.device)) old.fault.kept
-        (logged H) holds.holds ticket other (in_log m) f.own.place awaits elsewhere)
+    batch_others = ticket_others now_ended trace sum
 
     -- so much is seen,
     pub batch_seen : kept_batches new ≤ 2 * length (noted_in new) → IsBatchNoted trace sum old new ticket peg

@@ -3,8 +3,9 @@ use Rattle.std.proofs.Common.{◌≡◌, ◌∙◌, arith}
 use Rattle.std.specs.Prelude.{unsigned_abs}
 use Rattle.sled_core.specs.Tickets.{place_of}
 use Rattle.sled_core.proofs.Line.KeptCalls.{goes_on_still}
-use Rattle.sled_core.proofs.Line.BatchNoted.{IsBatchNoted, IsReservedAt, batch_fits, batch_holds, batch_seen, body_there, note_above, note_apart, note_unwritten, kind_there, reserved_at}
+use Rattle.sled_core.proofs.Line.BatchNoted.{IsBatchNoted, batch_fits, batch_holds, batch_seen, body_there, note_above, note_apart, note_unwritten}
 use Rattle.sled_core.proofs.Line.EndedTickets.{says_place, ticket_above, ticket_open}
+use Rattle.sled_core.proofs.Line.TicketEnds.{IsReservedAt, kind_there, reserved_at}
 use Rattle.sled_core.proofs.logger.Log.end_batch.Given as given
 use Rattle.sled_core.proofs.logger.Log.end_batch.Goals as goal
 

@@ -1,7 +1,7 @@
 -- The message of a ticket is given up, in whichever segment it lies: its record there is one that is passed over, and nothing else changes.
 use Rattle.std.proofs.Common.{◌≡◌, ◌∙◌, ◌≤◌, ◌+◌, ◌-◌, ◌/◌, ◌∷◌, ◌++◌, ap, sym, subst, arith, refl, ℕ, List, length, set, Some, Option, ℤ, None}
 use Rattle.std.specs.Prelude.{unsigned_abs}
-use Rattle.std.specs.List.{Contains, slice_get}
+use Rattle.std.specs.List.{Contains}
 use Rattle.sled_codec.specs.declared.serialization.message.MessageKind.TheVariants as kind
 use Rattle.sled_codec.specs.History.{Message}
 use Rattle.sled_codec.specs.Kinds.{code_of}
@@ -9,20 +9,17 @@ use Rattle.sled_codec.specs.Places.{part}
 use Rattle.sled_store.specs.Accounts.{machine_of}
 use Rattle.sled_store.specs.Device.{state_of}
 use Rattle.sled_store.specs.declared.config.RunningConfig.{RunningConfig}
-use Rattle.sled_core.specs.Heads.{heads_along}
 use Rattle.sled_core.specs.declared.iobuf.ReservationState.TheVariants.{Canceled}
 use Rattle.sled_core.specs.declared.iobuf.Reserved.{Reserved}
 use Rattle.sled_core.specs.Begun.{SegmentView}
 use Rattle.sled_core.specs.inside.Buffers.{Stands, canceling, SpellsBlob}
 use Rattle.sled_core.specs.Buffers.{body_in, item_as, pointer_as}
 use Rattle.sled_core.specs.Canceled.{canceled_record, IsBodyAt, IsBodyOf}
-use Rattle.sled_core.specs.Fits.{AwaitsIn, line_of, noted_in, open_places}
+use Rattle.sled_core.specs.Fits.{Awaits, line_of, noted_in}
 use Rattle.sled_core.specs.invariants.Fits.{Holds}
 use Rattle.sled_core.specs.Among.{AreAmong}
 use Rattle.sled_core.specs.GivenUp.{given_up_along}
 use Rattle.sled_core.specs.Logged.{logged, in_log, item_in_log}
-use Rattle.sled_core.specs.Manifests.{is_manifest}
-use Rattle.sled_core.specs.OpenPlaces.{TakesOut, open_places_along}
 use Rattle.sled_core.specs.invariants.Running.{Fits}
 use Rattle.sled_core.specs.Tickets.{place_of}
 use Rattle.sled_core.specs.inside.Turned.{ended_now}
@@ -30,12 +27,11 @@ use Rattle.sled_core.specs.Waiting.{BufferAt, buffers_in}
 use Rattle.sled_core.proofs.Holds.CanceledLemmas.{canceled_long, canceled_there}
 use Rattle.sled_core.proofs.Line.KeptCalls.{ends_none, gives_none, kept_still}
 use Rattle.sled_core.proofs.Line.Canceled.{ended_stands}
-use Rattle.sled_core.proofs.Line.EndedKeeps.{fits_ended, goes_on_ended, left_ended, holds_ended, keeps_ended, position_ended}
-use Rattle.sled_core.proofs.Line.EndedTickets.{ended_gives, ended_takes, others_await, says_place, ticket_above, ticket_among, ticket_open, ticket_there, ended_heads}
+use Rattle.sled_core.proofs.Line.EndedTickets.{ended_gives, says_place, ticket_above, ticket_open}
 use Rattle.sled_core.proofs.Line.Ends.{fits_aborted, holds_aborted, with_segment}
 use Rattle.sled_core.proofs.Line.EndedLine.{canceling_head, canceling_short}
 use Rattle.sled_core.proofs.Holds.Facts.{nth_facts}
-use Rattle.sled_core.proofs.Line.LogSpans.{ended_buffers}
+use Rattle.sled_core.proofs.Line.TicketEnds.{EndsAt, kind_there, reserved_at, ticket_ends, ticket_fits, ticket_goes_on, ticket_holds, ticket_keeps, ticket_left}
 use Rattle.sled_core.proofs.Reserve.Entries.{open_plain, reserved_in}
 use Rattle.sled_core.proofs.Reserve.Ranges.{at_there}
 use Rattle.sled_core.proofs.Line.LineEnds.{kept_same}
@@ -60,48 +56,49 @@ segment_of-n-requires g c =
 pub abort_in-requires-clause-kind : goal.abort_in-requires-clause-kind
 abort_in-requires-clause-kind g c = λ v r at there.
     let place : c.unsigned_abs.result ≡ unsigned_abs (place_of c.args.ticket) = c.unsigned_abs.ensures.value ∙ says_place c.lsn-place.result (place_of c.args.ticket) c.lsn-place.type_inv c.lsn-place.ensures in
-    let own : AwaitsIn (line_of c.args.self.now) c.args.ticket (in_log c.requires.0) = c.requires.1 in
-    let its_at = ticket_among c.args.self.now c.args.ticket c.requires.0 own c.unsigned_abs.result c.segment_of-n.result c.index-index.result place c.segment_of-n.ensures c.index-index.ensures in
-    let its_there = ticket_there c.args.self.now c.args.ticket c.requires.0 own c.unsigned_abs.result c.segment_of-n.result c.index-index.result place c.segment_of-n.ensures c.index-index.ensures in
-    let both : Some own.segment ≡ Some v = sym its_at ∙ at in
-    let same : own.segment ≡ v = cc in
-    let both_there : Some own.reserved ≡ Some r = sym its_there ∙ ap (λ (x : SegmentView). slice_get x.parts.reserved (c.index-index.result - x.gone)) same ∙ there in
-    let is : own.reserved ≡ r = cc in
-    ap (λ (x : Reserved). is_manifest x.log_kind x.page) (sym is) ∙ sym own.own.manifest ∙ sym c.is_manifest-manifest.ensures
+    kind_there c.args.self.now c.args.ticket c.segment_of-n.result c.index-index.result
+    (reserved_at c.args.self.now c.args.ticket c.requires.0 c.requires.1 c.unsigned_abs.result c.segment_of-n.result c.index-index.result place c.segment_of-n.ensures c.index-index.ensures) v r at there
+    ∙ sym c.is_manifest-manifest.ensures
 
 pub abort_in-requires-clause-awaited : goal.abort_in-requires-clause-awaited
 abort_in-requires-clause-awaited g c =
     let place : c.unsigned_abs.result ≡ unsigned_abs (place_of c.args.ticket) = c.unsigned_abs.ensures.value ∙ says_place c.lsn-place.result (place_of c.args.ticket) c.lsn-place.type_inv c.lsn-place.ensures in
     ticket_open c.args.self.now c.args.ticket c.requires.0 c.requires.1 c.unsigned_abs.result c.segment_of-n.result c.index-index.result place c.segment_of-n.ensures c.index-index.ensures
 
-among : (g : Over) (c : goal.After-abort_in g) (m : Message) (awaits : AwaitsIn (line_of c.args.self.now) c.args.ticket (in_log m)) → slice_get (line_of c.args.self.now) c.segment_of-n.result ≡ Some awaits.segment
-among g c m awaits =
+-- It ends as that of a message that was given up, for whichever message the ticket awaits,
+abbrev ended : (g : Over) (c : goal.After-abort_in g) (m : Message) → Awaits c.args.self.now c.args.ticket m
+    → EndsAt c.args.self.now c.abort_in.new.self c.args.ticket c.segment_of-n.result c.index-index.result Canceled
+ended g c m awaits =
     let place : c.unsigned_abs.result ≡ unsigned_abs (place_of c.args.ticket) = c.unsigned_abs.ensures.value ∙ says_place c.lsn-place.result (place_of c.args.ticket) c.lsn-place.type_inv c.lsn-place.ensures in
-    ticket_among c.args.self.now c.args.ticket m awaits c.unsigned_abs.result c.segment_of-n.result c.index-index.result place c.segment_of-n.ensures c.index-index.ensures
+    let f = reserved_at c.args.self.now c.args.ticket m awaits c.unsigned_abs.result c.segment_of-n.result c.index-index.result place c.segment_of-n.ensures c.index-index.ensures in
+    record {
+      at = f;
+      text = canceling g.C.Checksum.sum_of f.segment.parts.bytes f.reserved;
+      short = canceling_short g.C.Checksum.sum_of f.segment (c.index-index.result - f.segment.gone) f.reserved (nth_facts c.args.self.now c.segment_of-n.result f.segment f.among) f.there f.own.open_yet;
+      line = c.abort_in.ensures.line f.segment f.reserved f.among f.there;
+    }
 
-there : (g : Over) (c : goal.After-abort_in g) (m : Message) (awaits : AwaitsIn (line_of c.args.self.now) c.args.ticket (in_log m)) → slice_get awaits.segment.parts.reserved (c.index-index.result - awaits.segment.gone) ≡ Some awaits.reserved
-there g c m awaits =
-    let place : c.unsigned_abs.result ≡ unsigned_abs (place_of c.args.ticket) = c.unsigned_abs.ensures.value ∙ says_place c.lsn-place.result (place_of c.args.ticket) c.lsn-place.type_inv c.lsn-place.ensures in
-    ticket_there c.args.self.now c.args.ticket m awaits c.unsigned_abs.result c.segment_of-n.result c.index-index.result place c.segment_of-n.ensures c.index-index.ensures
+-- and it is open, so the ticket awaits one.
+abbrev own : (g : Over) (c : goal.After-abort_in g) → EndsAt c.args.self.now c.abort_in.new.self c.args.ticket c.segment_of-n.result c.index-index.result Canceled
+own g c = ended g c c.requires.0 c.requires.1
 
 -- The log holds and fits what it did.
 pub returns-clause-keeps : goal.returns-clause-keeps
 unfolding Fits Holds
 returns-clause-keeps g c =
     let old = c.args.self.now in
-    let own : AwaitsIn (line_of old) c.args.ticket (in_log c.requires.0) = c.requires.1 in
-    let v : SegmentView = own.segment in
-    let r : Reserved = own.reserved in
-    let i : ℕ = c.index-index.result - v.gone in
-    let at = among g c c.requires.0 own in
-    let its = there g c c.requires.0 own in
+    let n : ℕ = c.segment_of-n.result in
+    let f = (own g c).at in
+    let i : ℕ = c.index-index.result - f.segment.gone in
     record {
-      goes_on = goes_on_ended old c.abort_in.new.self c.segment_of-n.result v at i r its own.own.open_yet (canceling g.C.Checksum.sum_of v.parts.bytes r) (canceling_short g.C.Checksum.sum_of v i r (nth_facts old c.segment_of-n.result v at) its own.own.open_yet) Canceled (c.abort_in.ensures.line v r at its) c.abort_in.ensures.rest g.D.Device.trace g.C.Checksum.sum_of;
-      history = λ H holds. holds_ended old c.abort_in.new.self c.segment_of-n.result v at i r its own.own.open_yet (canceling g.C.Checksum.sum_of v.parts.bytes r) (canceling_short g.C.Checksum.sum_of v i r (nth_facts old c.segment_of-n.result v at) its own.own.open_yet) Canceled (c.abort_in.ensures.line v r at its) c.abort_in.ensures.rest g.D.Device.trace g.C.Checksum.sum_of H
-          (holds_aborted g.C.Checksum.sum_of old.config.config.segment_size (state_of (g.D.Device.trace old.config.device)) old.fault.kept (line_of old) c.segment_of-n.result v at old.segments.first.site.place (nth_facts old) i r its own.own.open_yet (machine_of old.accountant) (noted_in old) (logged H) holds);
-      fits = λ H A f U fits. fits_ended old c.abort_in.new.self c.segment_of-n.result v at i r its own.own.open_yet (canceling g.C.Checksum.sum_of v.parts.bytes r) (canceling_short g.C.Checksum.sum_of v i r (nth_facts old c.segment_of-n.result v at) its own.own.open_yet) Canceled (c.abort_in.ensures.line v r at its) c.abort_in.ensures.rest g.D.Device.trace g.C.Checksum.sum_of H A f U
-          (fits_aborted g.C.Checksum.sum_of old.config.config.segment_size (state_of (g.D.Device.trace old.config.device)) old.fault.kept (line_of old) c.segment_of-n.result v at old.segments.first.site.place (nth_facts old) i r its own.own.open_yet (machine_of old.accountant) (noted_in old) old.pins H A f U fits);
-      noted = left_ended old c.abort_in.new.self c.segment_of-n.result v at i r its own.own.open_yet (canceling g.C.Checksum.sum_of v.parts.bytes r) (canceling_short g.C.Checksum.sum_of v i r (nth_facts old c.segment_of-n.result v at) its own.own.open_yet) Canceled (c.abort_in.ensures.line v r at its) c.abort_in.ensures.rest;
+      goes_on = ticket_goes_on (own g c) c.abort_in.ensures.rest g.D.Device.trace g.C.Checksum.sum_of;
+      history = λ H holds. ticket_holds (own g c) c.abort_in.ensures.rest g.D.Device.trace g.C.Checksum.sum_of H
+          (holds_aborted g.C.Checksum.sum_of old.config.config.segment_size (state_of (g.D.Device.trace old.config.device)) old.fault.kept (line_of old) n f.segment f.among
+          old.segments.first.site.place (nth_facts old) i f.reserved f.there f.own.open_yet (machine_of old.accountant) (noted_in old) (logged H) holds);
+      fits = λ H A r U fits. ticket_fits (own g c) c.abort_in.ensures.rest g.D.Device.trace g.C.Checksum.sum_of H A r U
+          (fits_aborted g.C.Checksum.sum_of old.config.config.segment_size (state_of (g.D.Device.trace old.config.device)) old.fault.kept (line_of old) n f.segment f.among
+          old.segments.first.site.place (nth_facts old) i f.reserved f.there f.own.open_yet (machine_of old.accountant) (noted_in old) old.pins H A r U fits);
+      noted = ticket_left (own g c) c.abort_in.ensures.rest;
       kept = kept_same old c.abort_in.new.self c.abort_in.ensures.rest.noted;
     }
 
@@ -120,8 +117,9 @@ returns-clause-canceled g c = λ H m holds awaits.
     let v : SegmentView = awaits.segment in
     let r : Reserved = awaits.reserved in
     let i : ℕ = c.index-index.result - v.gone in
-    let at = among g c m awaits in
-    let its = there g c m awaits in
+    let f = (ended g c m awaits).at in
+    let at = f.among in
+    let its = f.there in
     let line = c.abort_in.ensures.line v r at its in
     let facts = nth_facts old c.segment_of-n.result v at in
     let inside = at_there (λ (x : Reserved). x.from + x.len ≤ length v.parts.bytes) v.parts.reserved i r its facts.within in
@@ -155,59 +153,10 @@ returns-clause-canceled g c = λ H m holds awaits.
 -- Other tickets stay, and nothing else changes.
 
 pub returns-clause-ends : goal.returns-clause-ends
-unfolding Holds
-returns-clause-ends g c = record {
-  others = (
-      λ H other m holds awaits apart.
-      let old = c.args.self.now in
-      let own : AwaitsIn (line_of old) c.args.ticket (in_log c.requires.0) = c.requires.1 in
-      let at = among g c c.requires.0 own in
-      let its = there g c c.requires.0 own in
-      subst (λ (l : List SegmentView). AwaitsIn l other (in_log m)) (sym (c.abort_in.ensures.line own.segment own.reserved at its))
-      (others_await old.config.config.segment_size (line_of old) old.segments.first.site.place c.segment_of-n.result own.segment at (nth_facts old) (c.index-index.result - own.segment.gone) own.reserved its own.own.open_yet (canceling g.C.Checksum.sum_of own.segment.parts.bytes own.reserved)
-      (canceling_short g.C.Checksum.sum_of own.segment (c.index-index.result - own.segment.gone) own.reserved (nth_facts c.args.self.now c.segment_of-n.result own.segment at) its own.own.open_yet) Canceled g.C.Checksum.sum_of (state_of (g.D.Device.trace old.config.device)) old.fault.kept
-      (logged H) holds.holds c.args.ticket other (in_log m) own.own.place awaits apart)
-      );
-  opens = (
-      λ place is.
-      let old = c.args.self.now in
-      let own : AwaitsIn (line_of old) c.args.ticket (in_log c.requires.0) = c.requires.1 in
-      let at = among g c c.requires.0 own in
-      let its = there g c c.requires.0 own in
-      let here : own.segment.parts.site.place + own.reserved.from ≡ place = sym (ap unsigned_abs (is ∙ own.own.place)) in
-      subst (λ (p : ℕ). TakesOut p (open_places old) (open_places c.abort_in.new.self)) here
-      (subst (λ (l : List SegmentView). TakesOut (own.segment.parts.site.place + own.reserved.from) (open_places old) (open_places_along l)) (sym (c.abort_in.ensures.line own.segment own.reserved at its))
-      (ended_takes old.config.config.segment_size (line_of old) old.segments.first.site.place c.segment_of-n.result own.segment at (nth_facts old) (c.index-index.result - own.segment.gone) own.reserved its own.own.open_yet (canceling g.C.Checksum.sum_of own.segment.parts.bytes own.reserved) (canceling_short g.C.Checksum.sum_of own.segment (c.index-index.result - own.segment.gone) own.reserved (nth_facts c.args.self.now c.segment_of-n.result own.segment at) its own.own.open_yet) Canceled refl))
-      );
-  position = (
-      let own : AwaitsIn (line_of c.args.self.now) c.args.ticket (in_log c.requires.0) = c.requires.1 in
-      let at = among g c c.requires.0 own in
-      let its = there g c c.requires.0 own in
-      position_ended c.args.self.now c.abort_in.new.self c.segment_of-n.result own.segment at (c.index-index.result - own.segment.gone) own.reserved its own.own.open_yet (canceling g.C.Checksum.sum_of own.segment.parts.bytes own.reserved) (canceling_short g.C.Checksum.sum_of own.segment (c.index-index.result - own.segment.gone) own.reserved (nth_facts c.args.self.now c.segment_of-n.result own.segment at) its own.own.open_yet) Canceled (c.abort_in.ensures.line own.segment own.reserved at its) c.abort_in.ensures.rest
-      );
-  buffers = (
-      let own : AwaitsIn (line_of c.args.self.now) c.args.ticket (in_log c.requires.0) = c.requires.1 in
-      let at = among g c c.requires.0 own in
-      let its = there g c c.requires.0 own in
-      ended_buffers c.args.self.now c.abort_in.new.self c.segment_of-n.result own.segment (c.index-index.result - own.segment.gone) own.reserved (canceling g.C.Checksum.sum_of own.segment.parts.bytes own.reserved) Canceled at (c.abort_in.ensures.line own.segment own.reserved at its)
-      );
-  heads = (
-      let old = c.args.self.now in
-      let own : AwaitsIn (line_of old) c.args.ticket (in_log c.requires.0) = c.requires.1 in
-      let at = among g c c.requires.0 own in
-      let its = there g c c.requires.0 own in
-      subst (λ (l : List SegmentView). AreAmong (heads_along l) (heads_along (line_of old))) (sym (c.abort_in.ensures.line own.segment own.reserved at its))
-      (ended_heads old.config.config.segment_size (line_of old) old.segments.first.site.place c.segment_of-n.result own.segment at (nth_facts old) (c.index-index.result - own.segment.gone) own.reserved its own.own.open_yet (canceling g.C.Checksum.sum_of own.segment.parts.bytes own.reserved)
-      (canceling_short g.C.Checksum.sum_of own.segment (c.index-index.result - own.segment.gone) own.reserved (nth_facts old c.segment_of-n.result own.segment at) its own.own.open_yet) Canceled)
-      );
-}
+returns-clause-ends g c = ticket_ends (own g c) c.abort_in.ensures.rest g.D.Device.trace g.C.Checksum.sum_of _ refl
 
 pub returns-clause-same : goal.returns-clause-same
-returns-clause-same g c =
-    let own : AwaitsIn (line_of c.args.self.now) c.args.ticket (in_log c.requires.0) = c.requires.1 in
-    let at = among g c c.requires.0 own in
-    let its = there g c c.requires.0 own in
-    keeps_ended c.args.self.now c.abort_in.new.self c.segment_of-n.result own.segment at (c.index-index.result - own.segment.gone) own.reserved its own.own.open_yet (canceling g.C.Checksum.sum_of own.segment.parts.bytes own.reserved) (canceling_short g.C.Checksum.sum_of own.segment (c.index-index.result - own.segment.gone) own.reserved (nth_facts c.args.self.now c.segment_of-n.result own.segment at) its own.own.open_yet) Canceled (c.abort_in.ensures.line own.segment own.reserved at its) c.abort_in.ensures.rest
+returns-clause-same g c = ticket_keeps (own g c) c.abort_in.ensures.rest
 
 pub returns-in-Some-clause-ends : goal.returns-in-Some-clause-ends
 returns-in-Some-clause-ends g c = ends_none g.D.Device.trace g.C.Checksum.sum_of c.args.ticket c.args.self.now _
@@ -220,8 +169,9 @@ returns-clause-given_up g c = λ m awaits.
     let v : SegmentView = awaits.segment in
     let r : Reserved = awaits.reserved in
     let i : ℕ = c.index-index.result - v.gone in
-    let at = among g c m awaits in
-    let its = there g c m awaits in
+    let f = (ended g c m awaits).at in
+    let at = f.among in
+    let its = f.there in
     let facts = nth_facts old c.segment_of-n.result v at in
     subst (λ (l : List SegmentView). AreAmong (given_up_along l) (in_log m ∷ given_up_along (line_of old))) (sym (c.abort_in.ensures.line v r at its))
     (subst (λ (x : Message). AreAmong (given_up_along (set (line_of old) c.segment_of-n.result (ended_now i r (canceling sum v.parts.bytes r) Canceled v))) (x ∷ given_up_along (line_of old))) (sym awaits.message)
