@@ -1,26 +1,39 @@
 -- A call that marks a message: where it succeeds the log fits the history with the others unmarked, and where it fails as before.
-use Rattle.std.proofs.Common.{◌≡◌, ◌∙◌, ◌<◌, ℕ, true, List, [], Result, Ok, Err, OnOk, refl, sym, ap, subst, arith, inl, inr}
+use Rattle.std.proofs.Common.{◌≡◌, ◌∙◌, ◌<◌, ℕ, true, List, [], Result, Ok, Err, OnErr, OnOk, refl, sym, ap, subst, arith, inl, inr}
 use Rattle.std.proofs.lemmas.Bool.{false≢true}
 use Rattle.std.proofs.lemmas.List.Elements.{All-nil}
 use Rattle.sled_codec.specs.declared.result.Error.{Error}
 use Rattle.sled_codec.specs.declared.serialization.message.LogKind.{LogKind}
 use Rattle.sled_codec.specs.declared.serialization.message.LogKind.TheVariants.{Corrupted, Free, Link, Replace, Skip}
 use Rattle.sled_codec.specs.History.{ChangesPage, History, Message, begins_page}
+use Rattle.sled_store.specs.Accounts.{IsAccountant, machine_of}
 use Rattle.sled_store.specs.Device.{Trace, state_of}
 use Rattle.sled_store.specs.Marks.{IsFormerState}
 use Rattle.sled_store.specs.SegmentStates.{LiesIn, Machine, MayMark, linked, replaced}
+use Rattle.sled_store.specs.declared.config.RunningConfig.{RunningConfig}
+use Rattle.sled_store.specs.declared.segment.accountant.SegmentAccountant.{SegmentAccountant}
 use Rattle.sled_store.specs.declared.segment.slot.CacheInfo.{CacheInfo}
 use Rattle.sled_store.proofs.Marks.MarkSteps.{SameSegments, same_segment}
 use Rattle.sled_store.proofs.Marks.TableLemmas.{apart_ascends}
-use Rattle.sled_core.specs.declared.logger.Log.{Log}
+use Rattle.sled_core.specs.declared.logger.Log.{Log, line-type}
 use Rattle.sled_core.specs.Fits.{device_of, machine_at, segment_size_of}
 use Rattle.sled_core.specs.Marking.{ChangesAccount, IsOfMessage, KeepsMarked, Marks, TakesMark, but_for}
 use Rattle.sled_core.specs.Unmarked.{without}
+use Rattle.sled_core.specs.inside.LogFacts.{AreNotedBatches}
 use Rattle.sled_core.specs.inside.Slots.{HasAccount}
 use Rattle.sled_core.specs.invariants.Running.{Fits}
 use Rattle.sled_core.proofs.Holds.ReachLemmas.{fits_apart}
 use Rattle.sled_core.proofs.Line.Accounts.{account_linked, account_replaced}
 use Rattle.sled_core.proofs.Line.MarkedSlots.{fits_marked, goes_on_marked, holds_marked}
+
+-- What a mark makes of the account of a log it makes of the log, whose configuration is the same one.
+pub account_marks : {D C T : Type 0} (log : Log D C) {config : RunningConfig D C} (accountant : SegmentAccountant)
+    {line : line-type D C config log.segments log.ready accountant log.reserved_to log.fault log.pins log.batches} {account : IsAccountant config.config.segment_size accountant}
+    {noted : AreNotedBatches log.reserved_to log.segments log.batches}
+    (step : Machine → Machine) (result : Result T Error) → OnOk result (machine_of accountant ≡ step (machine_at log)) → OnErr result (machine_of accountant ≡ machine_at log)
+    → config ≡ log.config → Marks result step log (record log { config = config; accountant = accountant; line = line; account = account; noted = noted })
+account_marks log accountant step result made refused same =
+    record { made = made; refused = refused; rest = record { config = same; segments = refl; reserved = refl; fault = refl; pins = refl; batches = refl } }
 
 -- where nothing was marked the log fits what it did
 unmarked_fits : {D C : Type 0} (trace : D → Trace) (sum : List ℕ → ℕ) (old new : Log D C) → ChangesAccount old new → machine_at new ≡ machine_at old

@@ -1,9 +1,8 @@
-use Rattle.std.proofs.Common.{refl}
 use Rattle.sled_store.specs.SegmentStates.{linked}
 use Rattle.sled_store.proofs.Marks.MarkSteps.{linked_same}
 use Rattle.sled_core.specs.Fits.{machine_at, segment_size_of}
 use Rattle.sled_core.proofs.Line.KeptCalls.{goes_on_still}
-use Rattle.sled_core.proofs.Line.MarkCalls.{link_account, marks_fit, marks_keep}
+use Rattle.sled_core.proofs.Line.MarkCalls.{account_marks, link_account, marks_fit, marks_keep}
 use Rattle.sled_core.proofs.logger.Log.mark_link.Goals as goal
 
 -- The log keeps a failure.
@@ -16,12 +15,12 @@ returns-clause-keeps g c =
     let log = c.args.self.now in
     marks_keep g.D.Device.trace g.C.Checksum.sum_of log _ (linked (segment_size_of log) c.args.pid c.args.info)
     (linked_same (segment_size_of log) (machine_at log) c.args.info c.requires.may.lies.taken c.args.pid) c.mark_link.result
-    (record { made = c.mark_link.ensures.done; refused = c.mark_link.ensures.unchanged; rest = record { config = c.mark_link.ensures.config; segments = refl; reserved = refl; fault = refl; pins = refl; batches = refl } })
+    (account_marks log c.mark_link.new.self (linked (segment_size_of log) c.args.pid c.args.info) c.mark_link.result c.mark_link.ensures.done c.mark_link.ensures.unchanged c.mark_link.ensures.config)
 
 pub returns-clause-fits : goal.returns-clause-fits
 returns-clause-fits g c = λ H A f U V m fits takes of link.
     let log = c.args.self.now in
     marks_fit g.D.Device.trace g.C.Checksum.sum_of log _ (linked (segment_size_of log) c.args.pid c.args.info)
     (linked_same (segment_size_of log) (machine_at log) c.args.info c.requires.may.lies.taken c.args.pid) c.mark_link.result
-    (record { made = c.mark_link.ensures.done; refused = c.mark_link.ensures.unchanged; rest = record { config = c.mark_link.ensures.config; segments = refl; reserved = refl; fault = refl; pins = refl; batches = refl } })
+    (account_marks log c.mark_link.new.self (linked (segment_size_of log) c.args.pid c.args.info) c.mark_link.result c.mark_link.ensures.done c.mark_link.ensures.unchanged c.mark_link.ensures.config)
     H A f U V m fits takes (link_account g.D.Device.trace g.C.Checksum.sum_of log H A f U V m fits takes c.args.pid c.args.info of link c.requires.may)

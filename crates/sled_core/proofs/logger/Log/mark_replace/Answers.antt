@@ -1,9 +1,8 @@
-use Rattle.std.proofs.Common.{refl}
 use Rattle.sled_store.specs.SegmentStates.{replaced}
 use Rattle.sled_store.proofs.Marks.SameSlots.{replaced_segments}
 use Rattle.sled_core.specs.Fits.{machine_at, segment_size_of}
 use Rattle.sled_core.proofs.Line.KeptCalls.{goes_on_still}
-use Rattle.sled_core.proofs.Line.MarkCalls.{marks_fit, marks_keep, replace_account}
+use Rattle.sled_core.proofs.Line.MarkCalls.{account_marks, marks_fit, marks_keep, replace_account}
 use Rattle.sled_core.proofs.logger.Log.mark_replace.Goals as goal
 
 -- The log keeps a failure.
@@ -16,12 +15,12 @@ returns-clause-keeps g c =
     let log = c.args.self.now in
     marks_keep g.D.Device.trace g.C.Checksum.sum_of log _ (replaced (segment_size_of log) c.args.pid c.args.new c.args.old.now)
     (replaced_segments (segment_size_of log) c.args.pid c.args.new c.args.old.now (machine_at log) c.requires.may) c.mark_replace.result
-    (record { made = c.mark_replace.ensures.done; refused = c.mark_replace.ensures.unchanged; rest = record { config = c.mark_replace.ensures.config; segments = refl; reserved = refl; fault = refl; pins = refl; batches = refl } })
+    (account_marks log c.mark_replace.new.self (replaced (segment_size_of log) c.args.pid c.args.new c.args.old.now) c.mark_replace.result c.mark_replace.ensures.done c.mark_replace.ensures.unchanged c.mark_replace.ensures.config)
 
 pub returns-clause-fits : goal.returns-clause-fits
 returns-clause-fits g c = λ H A f U V m fits takes of begins former.
     let log = c.args.self.now in
     marks_fit g.D.Device.trace g.C.Checksum.sum_of log _ (replaced (segment_size_of log) c.args.pid c.args.new c.args.old.now)
     (replaced_segments (segment_size_of log) c.args.pid c.args.new c.args.old.now (machine_at log) c.requires.may) c.mark_replace.result
-    (record { made = c.mark_replace.ensures.done; refused = c.mark_replace.ensures.unchanged; rest = record { config = c.mark_replace.ensures.config; segments = refl; reserved = refl; fault = refl; pins = refl; batches = refl } })
+    (account_marks log c.mark_replace.new.self (replaced (segment_size_of log) c.args.pid c.args.new c.args.old.now) c.mark_replace.result c.mark_replace.ensures.done c.mark_replace.ensures.unchanged c.mark_replace.ensures.config)
     H A f U V m fits takes (replace_account g.D.Device.trace g.C.Checksum.sum_of log H A f U V m fits takes c.args.pid c.args.new of c.args.old.now begins c.requires.may former)
