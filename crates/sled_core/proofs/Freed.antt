@@ -1,6 +1,5 @@
 pub mod AlikeRecords
 pub mod AnyOrdering
-pub mod BufferPlaces
 pub mod Cleared
 pub mod ClearedCalls
 pub mod ClearedMoves
@@ -22,4 +21,3 @@ pub mod ReadsAs
 pub mod RunningHides
 pub mod ShownReads
 pub mod WrittenHides
-pub mod WrittenOwn

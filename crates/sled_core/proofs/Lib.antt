@@ -8,6 +8,7 @@ pub mod Iterated
 pub mod Iterates
 pub mod Line
 pub mod Logged
+pub mod Numbers
 pub mod OwnLog
 pub mod Pending
 pub mod PublicLaws

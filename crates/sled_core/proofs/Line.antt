@@ -22,6 +22,7 @@ pub mod EndedTickets
 pub mod Ends
 pub mod EndsBatch
 pub mod Entered
+pub mod EntryPlaces
 pub mod Faulty
 pub mod Filling
 pub mod Fillings
@@ -43,9 +44,12 @@ pub mod MarkCalls
 pub mod MarkedSlots
 pub mod Marks
 pub mod Moves
+pub mod NeededSlots
 pub mod Nexts
 pub mod NoneLeft
 pub mod Noted
+pub mod NumbersKept
+pub mod NumbersWritten
 pub mod NthOpen
 pub mod OfLog
 pub mod OlderSlots

@@ -1,5 +1,6 @@
 pub mod AllSlots
 pub mod Buffer
+pub mod BufferPlaces
 pub mod Calls
 pub mod Kept
 pub mod Line
@@ -14,8 +15,10 @@ pub mod SealedRanges
 pub mod SlotEnds
 pub mod SlotOfRange
 pub mod SlotOfSegment
+pub mod SlotWritten
 pub mod Started
 pub mod StartedDevice
 pub mod Starting
 pub mod Written
+pub mod WrittenOwn
 pub mod Zeroed

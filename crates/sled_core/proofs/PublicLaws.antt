@@ -150,6 +150,7 @@ ready_with_less sum size device s H A less f le ready = record {
   own_names = ready.own_names;
   passes = (let passes = ready.passes in omega (arith, le, passes));
   left = leaves_less sum size H less A f device le ready.left;
+  numbers = ready.numbers;
 }
 
 module _ (sum : List ℕ → ℕ) (size : ℕ) (H : History) (A f : ℕ) where

@@ -4,6 +4,7 @@ pub mod FreeSlots
 pub mod FreshLemmas
 pub mod FreshReady
 pub mod GoodStarted
+pub mod HandedNumbers
 pub mod KeptActive
 pub mod OlderStarted
 pub mod OpenLemmas
@@ -19,6 +20,7 @@ pub mod StartFits
 pub mod StartedAccount
 pub mod StartedActive
 pub mod StartedMoments
+pub mod StartedNumbers
 pub mod UsedEntries
 pub mod UsedLemmas
 pub mod ZeroHeader

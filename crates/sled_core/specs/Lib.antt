@@ -22,6 +22,7 @@ pub mod Logged
 pub mod Manifests
 pub mod Marked
 pub mod Marking
+pub mod NoForeign
 pub mod OnFile
 pub mod OpenBatches
 pub mod OpenPlaces

@@ -1,30 +1,13 @@
 -- When a recovery can go on from a content without losing what was acknowledged: the invariant behind the headline.
 -- Its parts, over snapshots, the log file and blobs, share only the history, the end of what was acknowledged, the floor and the cuts.
-use Rattle.std.specs.Prelude.{ℕ, ℤ, List, replicate}
-use Rattle.sled_codec.specs.declared.serialization.message.MessageKind.{MessageKind}
-use Rattle.sled_codec.specs.Record.{IsHeader}
+use Rattle.std.specs.Prelude.{ℕ, List}
 use Rattle.sled_codec.specs.History.{History}
-use Rattle.sled_codec.specs.Snapshots.{SnapshotModel}
-use Rattle.sled_store.specs.Blobs.{IsBlob}
 use Rattle.sled_store.specs.Device.{Content, State}
-use Rattle.sled_store.specs.Foreign.{NoForeignLog, NoForeignNames}
+use Rattle.sled_store.specs.Foreign.{NoForeignLog}
 use Rattle.sled_store.specs.Moments.{AllLeft}
-use Rattle.sled_store.specs.SnapshotFiles.{IsSnapshotFile}
+pub use Rattle.sled_core.specs.NoForeign.{NoForeign, NoHeaderOfZeros}
 use Rattle.sled_core.specs.OwnNames.{ReadsStayOwn}
 use Rattle.sled_core.specs.invariants.Recoverable.{Recoverable}
-
--- The premise on a checksum.
-
--- twenty zeros pass as no header
-abbrev pub NoHeaderOfZeros : (List ℕ → ℕ) → Type 0
-NoHeaderOfZeros sum = (lsn mark : ℤ) → IsHeader sum (replicate 20 0) lsn mark → ⊥
-
--- Only what the log itself wrote passes as its own, in all parts of a content, and zeros pass as no header.
-pub record NoForeign (sum : List ℕ → ℕ) (size : ℕ) (past : State) (left : Content) : Type 0 where
-  pub log : NoForeignLog sum size past.log past.placed left.log
-  pub blobs : NoForeignNames (λ bytes. (k : MessageKind) × (item : List ℕ) × IsBlob sum bytes k item) past.blobs left.blobs
-  pub snapshots : NoForeignNames (λ bytes. (s : SnapshotModel) × IsSnapshotFile sum bytes s) past.snapshots left.snapshots
-  pub zeros : NoHeaderOfZeros sum
 
 -- What is read now is the log's own: only what the log itself wrote passes as its own in the log file, and under the names whose bytes are synced; and
 -- zeros pass as no header. So it is where nothing that is read is foreign. (Of a file that was never synced nothing is asked: a call that failed may have

@@ -16,6 +16,7 @@ pub mod LogFacts
 pub mod LogFile
 pub mod LogSegments
 pub mod Marked
+pub mod Numbers
 pub mod OpenBatches
 pub mod OpenPlaces
 pub mod OwnLog

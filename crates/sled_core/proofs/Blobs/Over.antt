@@ -15,10 +15,14 @@ use Rattle.sled_core.specs.LogFile.{StaysFrom}
 use Rattle.sled_core.specs.Logged.{logged}
 use Rattle.sled_core.specs.OpenBatches.{stable_below}
 use Rattle.sled_core.specs.inside.Running.{FitsIn, FitsLine, FitsWith}
+use Rattle.sled_core.specs.inside.Begun.{line_end}
+use Rattle.sled_core.specs.inside.Numbers.{HaveSlotsFrom}
 use Rattle.sled_core.specs.inside.Slots.{HasAccount}
 use Rattle.sled_core.proofs.Blobs.Leaves.{ChangesAt, with_names, blobs_fit_beside, names_fit_beside, leaves_beside, entries_beside, stored_beside}
 use Rattle.sled_core.proofs.Blobs.Unnamed.{IsUnnamed}
 use Rattle.sled_core.proofs.Flush.FlushLemmas.{holds_over}
+use Rattle.sled_core.proofs.Numbers.OwnLess.{less_same}
+use Rattle.sled_core.proofs.Numbers.Stay.{numbers_less}
 
 module _ (sum : List ℕ → ℕ) (size : ℕ) (device : State) (blobs snapshots : NamesState) (fault : Option IoError) where
   abbrev new : State
@@ -105,4 +109,6 @@ module _ (sum : List ℕ → ℕ) (size : ℕ) (device : State) (blobs snapshots
       whole = fits.whole;
       own = fits.own;
       account = subst (λ (file : ℤ → Option (List ℕ)). HasAccount sum size file H U m) (sym changes.same_files) fits.account;
+      numbers = λ zeros. numbers_less sum size new device (less_same sum size new device (λ i. device.placed)) m (line_end size line) (fits.numbers zeros);
+      in_slots = subst (λ (file : ℤ → Option (List ℕ)). HaveSlotsFrom sum size file H (stable_below fits.reach H.batches) m) (sym changes.same_files) fits.in_slots;
     }

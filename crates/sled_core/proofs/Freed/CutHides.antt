@@ -17,8 +17,9 @@ use Rattle.sled_core.specs.inside.Cleared.{cleared, is_stale, zeroed}
 use Rattle.sled_core.specs.inside.Hides.{Hides, IsOwnHeader}
 use Rattle.sled_core.proofs.Freed.Cleared.{zeroed_get, zeroed_long}
 use Rattle.sled_core.proofs.Freed.ClearedCalls.{freed_free}
-use Rattle.sled_core.proofs.Freed.Hides.{OwnLess, hides_less, less_cut, less_synced}
-use Rattle.sled_core.proofs.Freed.WrittenOwn.{header_synced}
+use Rattle.sled_core.proofs.Freed.Hides.{hides_less}
+use Rattle.sled_core.proofs.Numbers.OwnLess.{OwnLess, less_cut, less_synced}
+use Rattle.sled_core.proofs.OwnLog.WrittenOwn.{header_synced}
 use Rattle.sled_core.proofs.Tail.Multiples.{apart}
 
 -- A file with zeros where a test says so keeps its parts in front of a cut.

@@ -52,6 +52,7 @@ module _ (sum : List ℕ → ℕ) (size f lower : ℕ) (low : lower ≤ f) where
       own_names = ready.own_names;
       passes = (let passes = ready.passes in omega (arith, le, passes));
       left = leaves_claimed device ready.left;
+      numbers = ready.numbers;
     }
 
 module _ (sum : List ℕ → ℕ) (H : History) (A less f lower : ℕ) (U : List Message) (le : less ≤ A) (low : lower ≤ f) where
@@ -87,4 +88,6 @@ module _ (sum : List ℕ → ℕ) (H : History) (A less f lower : ℕ) (U : List
     whole = fits.whole;
     own = fits.own;
     account = fits.account;
+    numbers = fits.numbers;
+    in_slots = fits.in_slots;
   }

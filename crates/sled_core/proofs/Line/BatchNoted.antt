@@ -31,7 +31,8 @@ use Rattle.sled_core.proofs.Behind.FirstHoldsMarked.{noted_adds, noted_history}
 use Rattle.sled_core.proofs.Line.KeptCalls.{goes_on_quietly, position_further}
 use Rattle.sled_core.proofs.Line.EndedKeeps.{keeps_ended, position_ended}
 use Rattle.sled_core.proofs.Line.EndedLine.{marking_short}
-use Rattle.sled_core.proofs.Line.EndsBatch.{fits_noted, holds_noted, line_unwritten}
+use Rattle.sled_core.proofs.Line.EndsBatch.{fits_noted, holds_noted}
+use Rattle.sled_core.proofs.Line.EntryPlaces.{line_unwritten}
 use Rattle.sled_core.proofs.Holds.Facts.{IsSegment, nth_facts}
 use Rattle.sled_core.proofs.Line.Fillings.{log_off}
 use Rattle.sled_core.proofs.Line.LogSpans.{ended_buffers}
@@ -111,7 +112,7 @@ module _ {D C : Type 0} (trace : D → Trace) (sum : List ℕ → ℕ) (old mid 
   ended_same = keeps_ended old mid n v f.among i r f.there f.own.open_yet (marking sum v.parts.bytes r peg) short Manifest line ended
 
   low_unwritten : synced_end old ≤ v.parts.site.place + r.from
-  low_unwritten = line_unwritten sum old.config.config.segment_size (state_of (trace old.config.device)) old.fault.kept v i r f.there f.own.open_yet facts (line_of old) n old.segments.first.site.place f.among (nth_facts old)
+  low_unwritten = line_unwritten old.config.config.segment_size v i r f.there facts (line_of old) n old.segments.first.site.place f.among (nth_facts old)
 
   -- The batch begins behind what is written, ends no further in front than there, and has no place in common with those that were noted.
   module _ (low : ℕ) (low_is : low ≡ unsigned_abs (place_of ticket)) where

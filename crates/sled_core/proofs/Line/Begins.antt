@@ -69,6 +69,8 @@ use Rattle.sled_core.proofs.Flush.Completed.{grows}
 use Rattle.sled_core.proofs.Line.Entered.{filled_last}
 use Rattle.sled_core.proofs.OwnLog.Calls.{own_next}
 use Rattle.sled_core.proofs.Line.Accounts.{account_handed}
+use Rattle.sled_core.proofs.Start.HandedNumbers.{numbers_handed, slots_handed}
+use Rattle.sled_core.specs.inside.Numbers.{HasNumbers}
 use Rattle.sled_store.specs.Marks.{IsNewPlace}
 
 -- the first of them is no longer than this
@@ -260,6 +262,11 @@ module _ (sum : List ℕ → ℕ) (size : ℕ) where
             let long : suc (length (xs ++ w ∷ [])) ≡ suc (suc (length xs)) = ap suc (length-append xs (w ∷ []) ∙ (let one : length xs + 1 ≡ suc (length xs) = omega arith in one)) in
             omega (arith, lies_there, ends_there, ap (λ n. n * size) long, suc-mul (suc (length xs)) size)
 
+      numbers_next : HasNumbers sum size device m (line_end size (v ∷ vs)) → HasNumbers sum size device (handed_out place m) (line_end size next)
+      numbers_next has =
+          numbers_handed sum size (omega (arith, big)) m (next_within m slots) (next_free m slots) place device (line_end size next)
+          (let same = ends_there in let up = next_end in omega (arith, same, up)) (subst (HasNumbers sum size device m) (sym ends_there) has)
+
       low : stable ≤ written_to (closed (v ∷ vs))
       low = let is = stable_low (written_to (v ∷ vs)) noted in omega (arith, is, closed_written v vs)
 
@@ -293,6 +300,8 @@ module _ (sum : List ℕ → ℕ) (size : ℕ) where
         whole = λ none zeros. whole_next (logged H) (fits.whole none zeros);
         own = λ none zeros. own_next sum size (HeaderWasPlaced device.placed) (RecordWasPlaced sum size device.placed) device.log.bytes m stable (v ∷ vs) (fits.own none zeros);
         account = account_next H U fits.slots fits.account;
+        numbers = λ zeros. numbers_next (fits.numbers zeros);
+        in_slots = λ first begins. slots_handed sum size (omega (arith, big)) m (next_within m slots) (next_free m slots) place _ H _ (fits.in_slots first begins);
       }
 
   -- Tickets are for what they were for,

@@ -29,24 +29,13 @@ use Rattle.sled_core.specs.Tickets.{IsFor, index_of, place_of}
 use Rattle.sled_core.specs.inside.Turned.{HasOpenIn, ended_now}
 use Rattle.sled_core.proofs.Holds.CompletedLemmas.{others_stay}
 use Rattle.sled_core.proofs.Line.Ends.{with_segment}
+use Rattle.sled_core.proofs.Line.EntryPlaces.{entry_low, segment_chain}
 use Rattle.sled_core.proofs.Holds.Facts.{IsSegment, nth_facts}
 use Rattle.sled_core.proofs.Holds.Nth.{set_get, set_other}
 use Rattle.sled_core.proofs.Line.GivenUp.{canceled_given, ended_given, set_given, set_given_more}
 use Rattle.sled_core.proofs.Line.OpenPlaces.{takes_ended, takes_in}
 use Rattle.sled_core.proofs.Reserve.Ranges.{at_there}
 use Rattle.sled_core.proofs.Sealed.Around.{whole_chain}
-
--- all entries of a segment are one chain
-pub segment_chain : {size place : ℕ} (v : SegmentView) → IsSegment size place v → IsChain (max 20 v.parts.written_len) v.parts.reserved (length v.parts.bytes)
-segment_chain v facts = whole_chain v.parts.written_len v.parts.reserved v.parts.sealed (length v.parts.bytes) facts.are facts.chain
-
--- an entry begins in its segment
-pub entry_low : {size place : ℕ} (v : SegmentView) (i : ℕ) (r : Reserved) → IsSegment size place v → slice_get v.parts.reserved i ≡ Some r → r.from < size
-entry_low v i r facts there =
-    let inside = at_there (λ (x : Reserved). x.from + x.len ≤ length v.parts.bytes) v.parts.reserved i r there facts.within in
-    let headed = at_there IsHeaded v.parts.reserved i r there facts.headed in
-    let some = headed.0 in let short = facts.short in
-    omega (arith, inside, some, short)
 
 -- The place of an entry says which segment it is of.
 pub number_is : {size : ℕ} (base n : ℕ) (v : SegmentView) (i : ℕ) (r : Reserved) → IsSegment size (base + n * size) v → slice_get v.parts.reserved i ≡ Some r → (v.parts.site.place + r.from - base) / size ≡ n

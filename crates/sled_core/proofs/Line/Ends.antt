@@ -1,10 +1,11 @@
 -- One of the reservations of the n-th of a log's segments ends, whichever that is: what the log holds and fits then, and what it keeps.
-use Rattle.std.proofs.Common.{◌⊎◌, ◌≡◌, ◌∙◌, ◌≤◌, ◌<◌, ◌+◌, ◌*◌, ap, sym, refl, arith, subst, ℕ, zero, suc, List, [], ◌∷◌, ◌++◌, length, take, drop, set, map, Option, None, Some, false}
+use Rattle.std.proofs.Common.{◌⊎◌, ◌≡◌, ◌∙◌, ◌≤◌, ◌<◌, ◌+◌, ◌*◌, ◌%◌, ap, sym, refl, arith, subst, ℕ, zero, suc, List, [], ◌∷◌, ◌++◌, length, take, drop, set, map, Option, None, Some, false}
 use Rattle.std.specs.declared.io.Error.{Error as IoError}
 use Rattle.std.specs.List.{Contains, slice_get}
 use Rattle.std.proofs.lemmas.List.Elements.{All-set}
 use Rattle.sled_codec.specs.Written.{written}
 use Rattle.sled_codec.specs.History.{Batch, AddsMessage, History, Message}
+use Rattle.sled_codec.specs.Snapshots.{stable_place}
 use Rattle.sled_store.specs.Foreign.{HeaderWasPlaced, RecordWasPlaced}
 use Rattle.sled_store.specs.Device.{State}
 use Rattle.sled_store.specs.SegmentStates.{Machine}
@@ -19,7 +20,9 @@ use Rattle.sled_core.specs.Buffers.{message_in}
 use Rattle.sled_core.specs.inside.Fits.{FitsBatches, written_to, HoldsIn, HoldsLine, HoldsSegment, HoldsWith, LogParts, log_parts, parts_in}
 use Rattle.sled_core.specs.inside.Begun.{first_place, line_end}
 use Rattle.sled_core.specs.inside.FreeSlots.{HasSlot, HasSlots, HaveOwn}
+use Rattle.sled_core.specs.inside.Numbers.{HasNumbers, HaveSlots, HaveSlotsFrom}
 use Rattle.sled_core.specs.inside.Running.{FitsIn, FitsLine, FitsWith}
+use Rattle.sled_core.specs.OpenBatches.{stable_below}
 use Rattle.sled_core.specs.Running.{KeepsItem}
 use Rattle.sled_core.specs.inside.Slots.{AreWhole}
 use Rattle.sled_core.specs.inside.Turned.{ended_now}
@@ -37,6 +40,8 @@ use Rattle.sled_core.proofs.Holds.WholeLemmas.{holds-aborted, holds-complete}
 use Rattle.sled_core.proofs.Holds.Facts.{IsSegment}
 use Rattle.sled_core.proofs.Line.LineEnds.{end_set, first_set}
 use Rattle.sled_core.proofs.Holds.Nth.{parts_set, parts_split}
+use Rattle.sled_core.proofs.Line.EntryPlaces.{line_unwritten}
+use Rattle.sled_core.proofs.Line.NeededSlots.{message_in_slot, newest_written, slots_added}
 use Rattle.sled_core.proofs.Line.OlderSlots.{whole_grown}
 use Rattle.sled_core.proofs.Line.Segments.{first_below, from_each}
 use Rattle.sled_core.proofs.OwnLog.Calls.{own_ended}
@@ -211,6 +216,8 @@ module _ (sum : List ℕ → ℕ) (size : ℕ) (device : State) (fault : Option 
     whole = λ none zeros. subst (λ p. AreWhole sum size device.log.bytes (logged H) p machine) (sym (first_set line n v (ended_now i r (canceling sum v.parts.bytes r) Canceled v) there refl)) (fits.whole none zeros);
     own = λ none zeros. own_ended sum size (HeaderWasPlaced device.placed) (RecordWasPlaced sum size device.placed) device.log.bytes line n v i r (canceling sum v.parts.bytes r) Canceled there (fits.own none zeros);
     account = fits.account;
+    numbers = λ zeros. subst (HasNumbers sum size device machine) (sym (end_set size line n v (ended_now i r (canceling sum v.parts.bytes r) Canceled v) there refl)) (fits.numbers zeros);
+    in_slots = fits.in_slots;
   }
 
   -- It begins no lower than the first segment.
@@ -222,6 +229,21 @@ module _ (sum : List ℕ → ℕ) (size : ℕ) (device : State) (fault : Option 
   holds_completed none H holds =
       let done = complete_holds sum size device fault v i r at is_open none line n place H there facts holds.holds in
       (done.0, done.1, record { holds = done.2; batches = batches_set (ended_now i r (completing r) Completed v) refl refl done.0 (batches_completed (written_to line) (line_end size line) noted H done.0 (message_in v.parts.site v.parts.bytes r) done.1 (beside H holds.holds) holds.batches); slots = slots_set size line device.log.bytes fault machine n v (ended_now i r (completing r) Completed v) there refl holds.slots })
+
+  -- What tables need is in the slots with that message, too.
+  slots_completed : (H : History) (reach : ℕ) (x : Message) → in_log x ≡ message_in v.parts.site v.parts.bytes r → HoldsLine sum size device fault line (logged H)
+      → HasSlots size line device.log.bytes fault machine → (H' : History) → AddsMessage H x H'
+      → HaveSlotsFrom sum size device.snapshots.file H (stable_below reach H.batches) machine
+      → HaveSlotsFrom sum size device.snapshots.file H' (stable_below reach H'.batches) machine
+  slots_completed H reach x is held slots H' adds has first begins =
+      let its : HasSlot size machine v = at_there (HasSlot size machine) line n v there slots.taken in
+      let aligned : v.parts.site.place % size ≡ 0 = ap (λ (p : ℕ). p % size) (sym its.is) ∙ slots.own.aligned its.number its.taken in
+      let low = newest_written sum size device fault line (logged H) held first begins in
+      let unwritten = line_unwritten size v i r at (facts n v there) line n place there facts in
+      let here = ap (λ (y : Message). y.place) is in
+      subst (λ (bs : List Batch). HaveSlots sum size (stable_place first.stable) H' (stable_below reach bs) machine) (sym adds.batches)
+      (slots_added sum size (stable_place first.stable) (stable_below reach H.batches) H machine (has first begins) H' x adds (omega (arith, low, unwritten, here))
+      (message_in_slot sum size machine v its aligned (facts n v there) i r at x is))
 
   pub fits_completed : (x : Message) → in_log x ≡ message_in v.parts.site v.parts.bytes r → BlobIsBelow x x.pointer → KeepsItem sum device.blobs x x.pointer → is_manifest r.log_kind r.page ≡ false → (pins : ℕ) (H : History) (A f : ℕ) (U : List Message) → 256 ≤ size → fault ≡ None → 0 < pins
       → FitsWith sum noted size device fault line machine pins H A f U
@@ -243,5 +265,7 @@ module _ (sum : List ℕ → ℕ) (size : ℕ) (device : State) (fault : Option 
               (whole_grown sum size least device.log.bytes (logged H) (logged done.0) x.place (first_place line) machine (message_grows (logged H) (logged done.0) (in_log x) put) past (fits.whole none zeros));
           own = λ none zeros. own_ended sum size (HeaderWasPlaced device.placed) (RecordWasPlaced sum size device.placed) device.log.bytes line n v i r (completing r) Completed there (fits.own none zeros);
           account = account_completed sum size device.snapshots.file H U machine fits.account done.0 x done.1;
+          numbers = λ zeros. subst (HasNumbers sum size device machine) (sym (end_set size line n v (ended_now i r (completing r) Completed v) there refl)) (fits.numbers zeros);
+          in_slots = slots_completed H fits.reach x its_message held fits.slots done.0 done.1 fits.in_slots;
         },
       )

@@ -5,7 +5,8 @@ use Rattle.std.specs.declared.io.Error.{Error as IoError}
 use Rattle.std.proofs.Math.Nat.{suc-mul}
 use Rattle.std.proofs.lemmas.Bool.{cases_lt}
 use Rattle.std.proofs.lemmas.List.Elements.{All-contains, Contains-append_cases}
-use Rattle.sled_codec.specs.History.{Batch, History, Message}
+use Rattle.sled_codec.specs.History.{Batch, History, Message, table}
+use Rattle.sled_codec.specs.Snapshots.{stable_place}
 use Rattle.sled_store.specs.Foreign.{HeaderWasPlaced, RecordWasPlaced}
 use Rattle.sled_store.specs.Device.{State}
 use Rattle.sled_store.specs.SegmentStates.{Machine}
@@ -18,7 +19,9 @@ use Rattle.sled_core.specs.inside.Fits.{FitsBatches, HoldBehind, HoldsLine, Hold
 use Rattle.sled_core.specs.inside.Begun.{first_place, line_end}
 use Rattle.sled_core.specs.Logged.{logged}
 use Rattle.sled_core.specs.Manifests.{is_manifest}
-use Rattle.sled_core.specs.OpenBatches.{with_batch}
+use Rattle.sled_core.specs.NoForeign.{NoHeaderOfZeros}
+use Rattle.sled_core.specs.OpenBatches.{stable_below, with_batch}
+use Rattle.sled_core.specs.inside.Numbers.{HasNumbers, HaveSlots}
 use Rattle.sled_core.specs.inside.Running.{FitsWith}
 use Rattle.sled_core.specs.inside.Slots.{AreWhole}
 use Rattle.sled_core.specs.inside.Turned.{ended_now}
@@ -28,10 +31,11 @@ use Rattle.sled_core.proofs.Behind.FirstHoldsMarked.{begin_from, noted_adds, not
 use Rattle.sled_core.proofs.Holds.MessagesBeside.{message_before}
 use Rattle.sled_core.proofs.Holds.WholeHistory.{behind_above}
 use Rattle.sled_core.proofs.Holds.PegLemmas.{IsOff}
-use Rattle.sled_core.proofs.Line.EndedTickets.{entry_low, segment_chain}
+use Rattle.sled_core.proofs.Line.EntryPlaces.{entry_low, line_unwritten}
 use Rattle.sled_core.proofs.Line.Ends.{first_before, line_holds, slots_set, written_inside, written_set}
 use Rattle.sled_core.proofs.Holds.Facts.{IsSegment}
 use Rattle.sled_core.proofs.Line.LineEnds.{end_set, first_set}
+use Rattle.sled_core.proofs.Line.NeededSlots.{newest_stable}
 use Rattle.sled_core.proofs.Line.Noted.{mark_fits, mark_holds, mark_placed}
 use Rattle.sled_core.proofs.Line.OlderSlots.{whole_grown}
 use Rattle.sled_core.proofs.Reached.AddedBatch.{batch_grows}
@@ -103,23 +107,6 @@ module _ (sum : List ℕ → ℕ) (size : ℕ) (device : State) (fault : Option 
         | inr behind ↦ behind_before (w.parts.site.place + size) ws _ H.batches holds.later holds.others k there m behind lower
       ]
 
-  -- It begins where nothing is written yet.
-  pub line_unwritten : (line : List SegmentView) (n place : ℕ) → slice_get line n ≡ Some v → ((k : ℕ) (x : SegmentView) → slice_get line k ≡ Some x → IsSegment size (place + k * size) x) → written_to line ≤ low
-  line_unwritten [] n place there facts = cc
-  line_unwritten (w ∷ ws) zero place there facts =
-      let same : w ≡ v = cc in
-      let inside = at_there (λ (z : Reserved). (max 20 v.parts.written_len ≤ z.from) × (z.from + z.len ≤ length v.parts.bytes)) v.parts.reserved i r at (chain_within (max 20 v.parts.written_len) (length v.parts.bytes) v.parts.reserved (segment_chain v own_facts)) in
-      let begins = ap (λ (x : SegmentView). x.parts.site.place + x.parts.written_len) same in
-      omega (arith, inside.0, begins)
-  line_unwritten (w ∷ ws) (suc k) place there facts =
-      let first = facts zero w refl in
-      let its = facts (suc k) v there in
-      let one = first.at in
-      let other = its.at in
-      let grown = written_inside w first in
-      let short = first.short in
-      omega (arith, one, other, grown, short, suc-mul k size)
-
 -- The record of a manifest has ended with its peg.
 module _ (sum : List ℕ → ℕ) (size : ℕ) (device : State) (fault : Option IoError) (line : List SegmentView) (n : ℕ) (v : SegmentView) (there : slice_get line n ≡ Some v) (place : ℕ)
     (facts : (k : ℕ) (x : SegmentView) → slice_get line k ≡ Some x → IsSegment size (place + k * size) x) (i : ℕ) (r : Reserved) (at : slice_get v.parts.reserved i ≡ Some r) (is_open : r.state ≡ Open)
@@ -129,7 +116,7 @@ module _ (sum : List ℕ → ℕ) (size : ℕ) (device : State) (fault : Option 
   b = record { low = v.parts.site.place + r.from; peg = peg }
 
   unwritten : written_to line ≤ b.low
-  unwritten = line_unwritten sum size device fault v i r at is_open (facts n v there) line n place there facts
+  unwritten = line_unwritten size v i r at (facts n v there) line n place there facts
 
   -- The others lie apart from it: those that are noted, and those that end in front of it.
   others : (H : History) → FitsBatches (written_to line) (line_end size line) noted H → (c : Batch) → Contains H.batches c → (c.peg < b.low) ⊎ (peg < c.low)
@@ -159,14 +146,21 @@ module _ (sum : List ℕ → ℕ) (size : ℕ) (device : State) (fault : Option 
     slots = slots_set size line device.log.bytes fault machine n v (ended_now i r (marking sum v.parts.bytes r peg) Manifest v) there (λ j. v.parts.site) holds.slots;
   }
 
+  -- What tables need is in the slots still, with the stable place that it has.
+  slots_noted : (base A : ℕ) (H : History) → HaveSlots sum size base H A machine → (B : ℕ) → (NoHeaderOfZeros sum → base ≤ B) → HaveSlots sum size base (noted_history H b) B machine
+  unfolding table
+  slots_noted base A H has B low = record { later = has.later; older = has.older; not_above = low }
+
   pub fits_noted : (pins : ℕ) (H : History) (A f : ℕ) (U : List Message) → 256 ≤ size → fault ≡ None → ((k : ℕ) (x : SegmentView) → slice_get line k ≡ Some x → IsOff size peg x.parts) → FitsWith sum noted size device fault line machine pins H A f U
       → FitsWith sum (with_batch (record { low = v.parts.site.place + r.from; peg = peg }) noted) size device fault (set line n (ended_now i r (marking sum v.parts.bytes r peg) Manifest v)) machine pins (noted_history H (record { low = v.parts.site.place + r.from; peg = peg })) A f U
   fits_noted pins H A f U least ok offs fits =
       let holds = line_holds sum size device fault line fits.reach pins H A f U fits.parts in
+      let fitted =
+      mark_fits sum size device fault v i r at is_open manifest peg small later line n place fits.reach pins H A f U least ok there facts offs
+      (λ placed. mark_placed sum size device fault v i r at is_open manifest peg small later line n place (logged H) there facts offs holds placed (others (logged H) fits.batches)) fits.parts in
       record {
         reach = fits.reach;
-        parts = mark_fits sum size device fault v i r at is_open manifest peg small later line n place fits.reach pins H A f U least ok there facts offs
-            (λ placed. mark_placed sum size device fault v i r at is_open manifest peg small later line n place (logged H) there facts offs holds placed (others (logged H) fits.batches)) fits.parts;
+        parts = fitted;
         batches = batches_now (logged H) holds fits.batches;
         slots = slots_set size line device.log.bytes fault machine n v (ended_now i r (marking sum v.parts.bytes r peg) Manifest v) there (λ j. v.parts.site) fits.slots;
         whole = λ none zeros. subst (λ p. AreWhole sum size device.log.bytes (noted_history (logged H) b) p machine) (sym (first_set line n v (ended_now i r (marking sum v.parts.bytes r peg) Manifest v) there (λ j. v.parts.site)))
@@ -174,4 +168,7 @@ module _ (sum : List ℕ → ℕ) (size : ℕ) (device : State) (fault : Option 
             (first_before sum size device fault line n v there place facts i r at is_open machine noted) (fits.whole none zeros));
         own = λ none zeros. own_ended sum size (HeaderWasPlaced device.placed) (RecordWasPlaced sum size device.placed) device.log.bytes line n v i r (marking sum v.parts.bytes r peg) Manifest there (fits.own none zeros);
         account = account_noted sum size device.snapshots.file H U machine fits.account (noted_history H b) refl;
+        numbers = λ zeros. subst (HasNumbers sum size device machine) (sym (end_set size line n v (ended_now i r (marking sum v.parts.bytes r peg) Manifest v) there refl)) (fits.numbers zeros);
+        in_slots = λ first begins. slots_noted (stable_place first.stable) (stable_below fits.reach H.batches) H (fits.in_slots first begins) (stable_below fits.reach (noted_history H b).batches)
+            (λ zeros. newest_stable sum size device fault ok (set line n (ended_now i r (marking sum v.parts.bytes r peg) Manifest v)) fits.reach pins (noted_history H b) A f U fitted zeros first begins);
       }

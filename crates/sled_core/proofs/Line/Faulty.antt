@@ -14,6 +14,8 @@ use Rattle.sled_core.specs.inside.FreeSlots.{HasSlots}
 use Rattle.sled_core.specs.OpenBatches.{stable_below}
 use Rattle.sled_core.specs.Recoverable.{LeavesRecoverable}
 use Rattle.sled_core.specs.inside.Running.{FitsLine, FitsWith}
+use Rattle.sled_core.specs.inside.Begun.{line_end}
+use Rattle.sled_core.specs.inside.Numbers.{HasNumbers, HaveSlotsFrom}
 use Rattle.sled_core.specs.inside.Slots.{HasAccount}
 use Rattle.sled_core.proofs.Flush.FlushLemmas.{fault_or_none, holds-faulty}
 use Rattle.sled_core.proofs.Flush.SameFits.{fits_faulty}
@@ -86,6 +88,8 @@ fits_with_kept sum noted size size' device new fault now line line' m m' pins pi
     whole = λ none zeros. cc;
     own = λ none zeros. cc;
     account = subst (λ (s : State). HasAccount sum size s.snapshots.file H U m) (sym d) fits.account;
+    numbers = λ zeros. subst (λ (s : State). HasNumbers sum size s m (line_end size line)) (sym d) (fits.numbers zeros);
+    in_slots = subst (λ (s : State). HaveSlotsFrom sum size s.snapshots.file H (stable_below fits.reach H.batches) m) (sym d) fits.in_slots;
   }
 ])
 

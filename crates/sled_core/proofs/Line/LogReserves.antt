@@ -14,6 +14,7 @@ use Rattle.sled_store.specs.Device.{Trace, state_of}
 use Rattle.sled_store.specs.SegmentStates.{Machine}
 use Rattle.sled_store.specs.declared.config.RunningConfig.{RunningConfig}
 use Rattle.sled_core.specs.Begun.{SegmentView, segment_view}
+use Rattle.sled_core.specs.inside.Numbers.{HasNumbers}
 use Rattle.sled_core.specs.inside.Buffers.{SpellsBlob, placeholder_head, reserved_for}
 use Rattle.sled_core.specs.Buffers.{record_size}
 use Rattle.sled_core.specs.declared.iobuf.Purpose.{Purpose}
@@ -39,7 +40,7 @@ use Rattle.sled_core.proofs.Line.GivenUp.{given_reserved}
 use Rattle.sled_core.proofs.Line.KeptCalls.{goes_on_quietly}
 use Rattle.sled_core.proofs.Holds.Facts.{current_facts}
 use Rattle.sled_core.proofs.Line.Last.{last_changed}
-use Rattle.sled_core.proofs.Line.LineEnds.{end_last, first_at_last, kept_same, noted_later, noted_same}
+use Rattle.sled_core.proofs.Line.LineEnds.{end_at_last, end_last, first_at_last, kept_same, noted_later, noted_same}
 use Rattle.sled_core.proofs.Line.Moves.{fits_as, holds_as}
 use Rattle.sled_core.proofs.Line.OpenPlaces.{places_reserved}
 use Rattle.sled_core.proofs.Line.Reserves.{HasPlaceFor, awaits_reserved, line_fits_reserved, line_reserved, slots_reserved}
@@ -219,6 +220,8 @@ module _ {D C : Type 0} (trace : D → Trace) (sum : List ℕ → ℕ) (old new 
           whole = λ none zeros. subst (λ p. AreWhole sum its_size (state_of (trace (device_of old))).log.bytes (logged H) p (machine_at old)) (sym (first_at_last (reserved_now more r) (λ _. refl) (line_of old))) (its.whole none zeros);
           own = λ none zeros. own_reserved sum its_size (HeaderWasPlaced (state_of (trace (device_of old))).placed) (RecordWasPlaced sum its_size (state_of (trace (device_of old))).placed) (state_of (trace (device_of old))).log.bytes more r (line_of old) (its.own none zeros);
           account = its.account;
+          numbers = λ zeros. subst (HasNumbers sum its_size (state_of (trace (device_of old))) (machine_at old)) (sym (end_at_last its_size (reserved_now more r) (λ _. refl) (line_of old))) (its.numbers zeros);
+          in_slots = its.in_slots;
         });
     noted = noted_later old new rest.noted (let same = reserves_synced in omega (arith, same));
     kept = kept_same old new rest.noted;

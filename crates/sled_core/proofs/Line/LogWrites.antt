@@ -4,6 +4,7 @@ use Rattle.std.specs.List.{slice_get}
 use Rattle.std.specs.declared.io.Error.{Error as IoError}
 use Rattle.std.proofs.lemmas.List.{length-map}
 use Rattle.sled_codec.specs.History.{Batch, Message, History}
+use Rattle.sled_codec.specs.Snapshots.{stable_place}
 use Rattle.sled_store.specs.Accounts.{machine_of}
 use Rattle.sled_store.specs.Device.{Event, NamesState, State, Trace, state_of}
 use Rattle.sled_store.specs.Moments.{Throughout}
@@ -21,13 +22,14 @@ use Rattle.sled_core.specs.declared.iobuf.SegmentPosition.{SegmentPosition}
 use Rattle.sled_core.specs.declared.logger.Log.{Log}
 use Rattle.sled_core.specs.declared.logger.io_bufs.IoBufs.{IoBufs}
 use Rattle.sled_core.specs.declared.logger.io_bufs.SegmentBuffer.{SegmentBuffer}
-use Rattle.sled_core.specs.inside.Fits.{FitsBatches, written_to, HoldsWith}
+use Rattle.sled_core.specs.inside.Fits.{FitsBatches, HoldsLine, HoldsWith, written_to}
 use Rattle.sled_core.specs.invariants.Fits.{Holds}
 use Rattle.sled_core.specs.Fits.{device_of, fault_of, line_of, noted_in, segment_size_of}
 use Rattle.sled_core.specs.inside.Begun.{line_end}
-use Rattle.sled_core.specs.Recoverable.{LeavesRecoverable}
+use Rattle.sled_core.specs.Recoverable.{LeavesRecoverable, NoHeaderOfZeros}
 use Rattle.sled_core.specs.invariants.Running.{Fits}
 use Rattle.sled_core.specs.inside.Running.{FitsLine, FitsWith}
+use Rattle.sled_core.specs.inside.Numbers.{HasNumbers, HaveSlotsFrom}
 use Rattle.sled_core.specs.inside.Slots.{HasAccount}
 use Rattle.sled_core.specs.inside.Turned.{ChangesDevice, IsReadyIn, promoted, write_in, written_now}
 use Rattle.sled_core.proofs.Flush.FlushLemmas.{fault_or_none}
@@ -44,6 +46,8 @@ use Rattle.sled_core.proofs.Line.Fillings.{log_recorded}
 use Rattle.sled_core.proofs.Line.Segments.{AreSegments, filled_promoted, filled_written, follow_segments, line_segments, promoted_waits, run_written, segments_promoted, set_segment, written_segment}
 use Rattle.sled_core.proofs.Line.Writes.{along_write, buffer_begin, buffer_bytes, buffer_calls, buffer_synced, calls_are, fits_write, holds_write, passes_line, slots_write}
 use Rattle.sled_core.proofs.Line.WrittenSlots.{whole_write}
+use Rattle.sled_core.proofs.Line.NeededSlots.{newest_stable, slots_at}
+use Rattle.sled_core.proofs.Line.NumbersWritten.{numbers_along, numbers_behind}
 use Rattle.sled_core.proofs.Line.PlacedWrite.{placed_left}
 
 module _ {D C : Type 0} (log : Log D C) (n k : ℕ) (r : IsReadyIn (line_of log) n k) where
@@ -179,6 +183,26 @@ module _ {D C : Type 0} (log : Log D C) (n k : ℕ) (r : IsReadyIn (line_of log)
       }
     ]
 
+    -- Made or not, in the slots nothing that is the log's own has a greater number.
+    abbrev Numbered : State → Type 0
+    Numbered s = HasNumbers sum size s slots (line_end size line)
+
+    module _ (H : History) (A f : ℕ) (U : List Message) (fits : FitsWith sum (noted_in log) size device log.fault.kept line slots log.pins H A f U)
+        (zeros : NoHeaderOfZeros sum) where
+      held : HoldsLine sum size device log.fault.kept line (logged H)
+      held = line_holds sum size device log.fault.kept line fits.reach log.pins H A f U fits.parts
+
+      numbers_throughout : (new : Trace) → Performs (write_in line n k) before new → Throughout Numbered before new
+      numbers_throughout new came =
+          performs_throughout Numbered (write_in line n k) before new came
+          (subst (λ (es : List Event). Along Numbered es device) (sym calls)
+          (numbers_along sum size log.config.config.least device log.fault.kept whole v k r.buffer r.there r.ready log.segments.first.site.place line
+          (line_segments log) n r.among slots fits.slots (logged H) held zeros (fits.own whole zeros) (fits.numbers zeros)))
+
+    numbers_left : (new : Trace) → Performs (write_in line n k) before new → (H : History) (A f : ℕ) (U : List Message)
+        → FitsWith sum (noted_in log) size device log.fault.kept line slots log.pins H A f U → NoHeaderOfZeros sum → Numbered (state_of new)
+    numbers_left new came H A f U fits zeros = at_last Numbered before new (numbers_throughout H A f U fits zeros new came)
+
     pub fits_failed : (new : Trace) → Performs (write_in line n k) before new → (now : Option IoError) → (now ≡ None → new ≡ before) → (H : History) (A f : ℕ) (U : List Message) → Fits trace sum log H A f U → FitsWith sum (noted_in log) size (state_of new) now line slots log.pins H A f U
     unfolding Fits
     fits_failed new came now same H A f U fits = elim (fault_or_none now) [
@@ -192,6 +216,8 @@ module _ {D C : Type 0} (log : Log D C) (n k : ℕ) (r : IsReadyIn (line_of log)
         whole = λ none zeros. let never = some.1 in cc;
         own = λ none zeros. let never = some.1 in cc;
         account = subst (λ (s : NamesState). HasAccount sum size s.file H U slots) (sym (names new came).1) fits.account;
+        numbers = λ zeros. numbers_left new came H A f U fits zeros;
+        in_slots = subst (λ (s : NamesState). HaveSlotsFrom sum size s.file H (stable_below fits.reach H.batches) slots) (sym (names new came).1) fits.in_slots;
       }
     ]
 
@@ -225,6 +251,12 @@ module _ {D C : Type 0} (log : Log D C) (n k : ℕ) (r : IsReadyIn (line_of log)
           own = λ none zeros. placed_left sum size log.config.config.least device log.fault.kept whole v k r.buffer r.there r.ready log.segments.first.site.place line (line_segments log) n r.among slots fits.slots (logged H)
               (line_holds sum size device log.fault.kept line fits.reach log.pins H A f U fits.parts) zeros (fits.own whole zeros);
           account = fits.account;
+          numbers = λ zeros.
+              subst (HasNumbers sum size (buffer_synced sum size log.config.config.least device log.fault.kept whole v k r.buffer r.there r.ready) slots) (sym end_stays)
+              (numbers_behind sum size log.config.config.least device log.fault.kept whole v k r.buffer r.there r.ready log.segments.first.site.place line
+              (line_segments log) n r.among slots fits.slots (logged H) (held H A f U fits zeros) zeros (fits.own whole zeros) (fits.numbers zeros));
+          in_slots = λ first begins. slots_at sum size (stable_place first.stable) (stable_below fits.reach H.batches) H slots (fits.in_slots first begins) (stable_below after.0 H.batches)
+              (λ zeros. newest_stable sum size _ None (λ i. None) line_left after.0 log.pins H A f U after.1 zeros first begins);
         }))
 
 -- A call that changed the device alone left the line as it was.

@@ -99,19 +99,19 @@ module _ (sum : List ℕ → ℕ) (size : ℕ) (big : 256 ≤ size) (device : St
   rise_size : EndsRise v.parts.written_len v.parts.sealed size
   rise_size = rise_further v.parts.written_len v.parts.sealed (length v.parts.bytes) size is.short rise_bytes
 
-  split : v.parts.sealed ≡ take k v.parts.sealed ++ b ∷ drop (suc k) v.parts.sealed
+  pub split : v.parts.sealed ≡ take k v.parts.sealed ++ b ∷ drop (suc k) v.parts.sealed
   split = there_split v.parts.sealed k b there
 
-  rise_split : EndsRise v.parts.written_len (take k v.parts.sealed ++ b ∷ drop (suc k) v.parts.sealed) size
+  pub rise_split : EndsRise v.parts.written_len (take k v.parts.sealed ++ b ∷ drop (suc k) v.parts.sealed) size
   rise_split = subst (λ (cs : List Sealed). EndsRise v.parts.written_len cs size) split rise_size
 
-  are_split : AreSealed v.parts.written_len v.parts.reserved (take k v.parts.sealed ++ b ∷ drop (suc k) v.parts.sealed)
+  pub are_split : AreSealed v.parts.written_len v.parts.reserved (take k v.parts.sealed ++ b ∷ drop (suc k) v.parts.sealed)
   are_split = subst (λ (cs : List Sealed). AreSealed v.parts.written_len v.parts.reserved cs) split is.are
 
-  lies : (v.parts.written_len ≤ begin) × (begin < b.end) × (b.end ≤ size)
+  pub lies : (v.parts.written_len ≤ begin) × (begin < b.end) × (b.end ≤ size)
   lies = rises_at v.parts.written_len (take k v.parts.sealed) b (drop (suc k) v.parts.sealed) size rise_split
 
-  inside : b.end ≤ length v.parts.bytes
+  pub inside : b.end ≤ length v.parts.bytes
   inside = (rises_at v.parts.written_len (take k v.parts.sealed) b (drop (suc k) v.parts.sealed) (length v.parts.bytes) (subst (λ (cs : List Sealed). EndsRise v.parts.written_len cs (length v.parts.bytes)) split rise_bytes)).2
 
   pub ends : b.end ≡ begin + length asked

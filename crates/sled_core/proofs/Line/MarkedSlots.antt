@@ -23,6 +23,7 @@ use Rattle.sled_core.proofs.Holds.RunningLemmas.{fits-pinned}
 use Rattle.sled_core.proofs.Line.KeptCalls.{goes_on_quietly}
 use Rattle.sled_core.proofs.Line.LineEnds.{noted_still}
 use Rattle.sled_core.proofs.Line.Moves.{fits_as, holds_as}
+use Rattle.sled_core.proofs.Numbers.Stay.{numbers_marked, slots_marked}
 use Rattle.sled_core.proofs.Reached.WholeSegments.{whole_at}
 use Rattle.sled_core.proofs.Line.Accounts.{account_popped}
 
@@ -97,6 +98,8 @@ module _ {D C : Type 0} (trace : D → Trace) (sum : List ℕ → ℕ) (old new 
           whole = λ none zeros. whole_same (segment_size_of old) (machine_at old) m same sum _ _ _ (fits.whole none zeros);
           own = fits.own;
           account = account;
+          numbers = λ zeros. numbers_marked sum (segment_size_of old) (machine_at old) m same _ _ (fits.numbers zeros);
+          in_slots = λ first begins. slots_marked sum (segment_size_of old) (machine_at old) m same _ H _ (fits.in_slots first begins);
         })
 
 -- A page was asked for: that changes nothing of the slots.

@@ -23,7 +23,7 @@ use Rattle.sled_core.specs.SealedBuffers.{sealed_count, sealed_end}
 use Rattle.sled_core.specs.Tickets.{index_of}
 use Rattle.sled_core.specs.Waiting.{BufferAt, as_sealed, at_last, buffer_at, closed_now, holds_any, last_of, sealed_now, turned_now, unwritten, unwritten_in, unwritten_of}
 use Rattle.sled_core.proofs.Line.Closes.{by_filled, filled_up, more_of}
-use Rattle.sled_core.proofs.Line.EndedTickets.{segment_chain}
+use Rattle.sled_core.proofs.Line.EntryPlaces.{segment_chain}
 use Rattle.sled_core.proofs.Holds.Facts.{IsSegment}
 use Rattle.sled_core.proofs.Line.OpenBetween.{AreBelow, AreFrom, between_before, between_behind, between_own, chain_below, chain_from, from_all, from_behind, places_count, places_first}
 use Rattle.sled_core.proofs.Line.OpenPlaces.{as_sealed_places, none_placed, placed_none_open, places_of, places_parted, takes_ended, takes_in}

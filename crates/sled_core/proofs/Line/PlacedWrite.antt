@@ -34,16 +34,16 @@ module _ (sum : List ℕ → ℕ) (size : ℕ) (big : 256 ≤ size) (device : St
     (place : ℕ) (line : List SegmentView) (are : AreSegments size place line) (n : ℕ) (among : slice_get line n ≡ Some v) (m : Machine) (slots : HasSlots size line device.log.bytes fault m) (H : History) (holds : HoldsLine sum size device fault line H)
     (none : NoHeaderOfZeros sum) (own : HasPlacedFile sum size device line) where
   -- where it is written, and the device behind that
-  abbrev slot : ℕ
+  abbrev pub slot : ℕ
   slot = v.parts.site.slot
 
-  abbrev begin : ℕ
+  abbrev pub begin : ℕ
   begin = buffer_begin sum size big device fault whole v k b there ready
 
-  abbrev asked : List ℕ
+  abbrev pub asked : List ℕ
   asked = buffer_bytes sum size big device fault whole v k b there ready
 
-  abbrev after : State
+  abbrev pub after : State
   after = buffer_synced sum size big device fault whole v k b there ready
 
   abbrev Header : ℕ → List ℕ → Type 0
@@ -58,13 +58,13 @@ module _ (sum : List ℕ → ℕ) (size : ℕ) (big : 256 ≤ size) (device : St
   abbrev Own' : ℕ → ℕ → List ℕ → Type 0
   Own' = RecordWasPlaced sum size after.placed
 
-  some : 0 < length asked
+  pub some : 0 < length asked
   some = some_bytes sum size big device fault whole v k b there ready place line are n among m slots H holds none Header Header' Own Own'
 
   big_enough : 20 ≤ size
   big_enough = twenty sum size big device fault whole v k b there ready place line are n among m slots H holds none Header Header' Own Own'
 
-  inside : begin + length asked ≤ size
+  pub inside : begin + length asked ≤ size
   inside = fits sum size big device fault whole v k b there ready place line are n among m slots H holds none Header Header' Own Own'
 
   -- it has bytes behind a header
@@ -82,10 +82,10 @@ module _ (sum : List ℕ → ℕ) (size : ℕ) (big : 256 ≤ size) (device : St
     | inr zero_long ↦ inl (omega (arith, zero_long))
   ]
 
-  begins : (begin ≡ 0) ⊎ (20 ≤ begin)
+  pub begins : (begin ≡ 0) ⊎ (20 ≤ begin)
   begins = let facts = nth_segment size place line are n v among in begins_so v.parts.written_len v.parts.reserved v.parts.sealed facts.are written_so k
 
-  aligned : slot % size ≡ 0
+  pub aligned : slot % size ≡ 0
   aligned = with_part sum size device fault line n v H holds among (λ stays its segment. segment.records.slot_begins)
 
   pub placed_left : HasPlacedFile sum size after (promoted size (set line n (written_now k v)))

@@ -15,6 +15,7 @@ use Rattle.sled_core.specs.Among.{AreAmong}
 use Rattle.sled_core.specs.Begun.{SegmentParts, SegmentView, begin_of, segment_view}
 use Rattle.sled_core.specs.declared.logger.Log.{Log}
 use Rattle.sled_core.specs.declared.reservation.Reservation.{Reservation}
+use Rattle.sled_core.specs.inside.Numbers.{HasNumbers}
 use Rattle.sled_core.specs.inside.Fits.{written_to, HoldsIn, HoldsLine, log_parts, parts_in}
 use Rattle.sled_core.specs.Fits.{AwaitsIn, KeepsAll, KeepsTickets, buffers_of, current_begin, current_of, device_of, fault_of, given_up_of, line_of, noted_in, machine_at, pins_of, segment_size_of, synced_end, waiting_of, heads_of}
 use Rattle.sled_core.specs.invariants.Fits.{Holds}
@@ -179,6 +180,8 @@ module _ {D C : Type 0} (trace : D → Trace) (sum : List ℕ → ℕ) (old new 
           whole = λ none zeros. subst (λ p. AreWhole sum size (state_of (trace (device_of old))).log.bytes (logged H) p (machine_at old)) (sym (first_at_last sealed_now (λ _. refl) (line_of old))) (fits.whole none zeros);
           own = λ none zeros. own_sealed sum size (HeaderWasPlaced (state_of (trace (device_of old))).placed) (RecordWasPlaced sum size (state_of (trace (device_of old))).placed) (state_of (trace (device_of old))).log.bytes (line_of old) (fits.own none zeros);
           account = fits.account;
+          numbers = λ zeros. subst (HasNumbers sum size (state_of (trace (device_of old))) (machine_at old)) (sym (end_at_last size sealed_now (λ _. refl) (line_of old))) (fits.numbers zeros);
+          in_slots = fits.in_slots;
         });
     noted = noted_later old new rest.noted (let same = sealed_synced in omega (arith, same));
     kept = kept_same old new rest.noted;

@@ -37,7 +37,7 @@ use Rattle.sled_core.specs.SealedBuffers.{bytes_between}
 use Rattle.sled_core.specs.Waiting.{BufferAt, as_sealed, at_last, buffer_at, closed_now, holds_any, placed, sealed_now, turned_now, unwritten, unwritten_in, unwritten_of}
 use Rattle.sled_core.specs.WholeBuffers.{AreRecordsAmong, IsFilling, IsRecordAmong, IsWholeBuffer, IsWholeText, RecordParts, records_text}
 use Rattle.sled_core.proofs.Line.Closes.{by_filled, filled_up, more_of}
-use Rattle.sled_core.proofs.Line.EndedTickets.{segment_chain}
+use Rattle.sled_core.proofs.Line.EntryPlaces.{segment_chain}
 use Rattle.sled_core.proofs.Line.Ends.{with_part}
 use Rattle.sled_core.proofs.Holds.Facts.{IsSegment}
 use Rattle.sled_core.proofs.Line.Among.{among_same}

@@ -9,7 +9,10 @@ use Rattle.sled_store.specs.Device.{Content, State, fresh, at_rest, names_at_res
 use Rattle.sled_store.proofs.LogFile.LogLemmas.{at_rest_left}
 use Rattle.sled_store.proofs.Names.NamesLemmas.{settled_name_left, settled_name_at_rest}
 use Rattle.sled_store.proofs.Segments.Elements.{in_nothing}
+use Rattle.sled_store.specs.Foreign.{RecordWasPlaced}
 use Rattle.sled_core.specs.OwnNames.{IsAnyBlob, IsAnySnapshot}
+use Rattle.sled_core.specs.inside.Hides.{IsOwnRecord}
+use Rattle.sled_core.specs.inside.Numbers.{NumbersStay}
 use Rattle.sled_core.specs.invariants.Recoverable.{Recoverable}
 use Rattle.sled_core.specs.Recoverable.{LeavesRecoverable}
 use Rattle.sled_core.specs.inside.Recoverable.{AreRecoverableSnapshots, AreRecoverableBlobs}
@@ -55,6 +58,18 @@ nothing_recoverable sum size content long log snapshots =
 pub fresh_leaves : (sum : List ℕ → ℕ) (size : ℕ) → 256 ≤ size → size < 2 ^ 63 → LeavesRecoverable sum size no_history 0 0 fresh
 fresh_leaves sum size large small left leaves own = nothing_recoverable sum size left large (at_rest_left [] left.log leaves.log) (λ n. none_left n (left.snapshots n) (leaves.snapshots n))
 
+-- Nothing is the log's own where nothing was written.
+none_own : (sum : List ℕ → ℕ) (size number at : ℕ) (text : List ℕ) → IsOwnRecord sum size fresh number at text → ⊥
+unfolding RecordWasPlaced
+none_own sum size number at text own = let laid = own.placed in in_nothing laid.0 laid.1
+
+fresh_numbers : (sum : List ℕ → ℕ) (size : ℕ) → NumbersStay sum size fresh no_history 0
+fresh_numbers sum size = record {
+  entries = λ cut page e up entry n at text inside own. absurd (none_own sum size n at text own);
+  later = λ k place mark own up n at text inside record_own. absurd (none_own sum size n at text record_own);
+  lie = λ number at text own. absurd (none_own sum size number at text own);
+}
+
 pub fresh_ready : (sum : List ℕ → ℕ) (size : ℕ) → 256 ≤ size → size < 2 ^ 63 → Ready sum size fresh empty_model no_history 0 0
 unfolding Ready
 fresh_ready sum size large small = record {
@@ -69,6 +84,7 @@ fresh_ready sum size large small = record {
   own_names = record { of_blobs = own_at_rest (IsAnyBlob sum) (λ n. None); of_snapshots = own_at_rest (IsAnySnapshot sum) (λ n. None) };
   passes = omega arith;
   left = fresh_leaves sum size large small;
+  numbers = λ zeros. fresh_numbers sum size;
 }
 
 -- An empty log file without a snapshot is ready, whatever blobs there are.

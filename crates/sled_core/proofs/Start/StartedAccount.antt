@@ -23,7 +23,8 @@ use Rattle.sled_store.specs.Started.{all_entries, found, found_slot, pages_in, s
 use Rattle.sled_store.specs.Tracked.{IsAccountOf, IsHeld, IsNoEntry}
 use Rattle.sled_store.proofs.Accounts.StartNext.{cut_free}
 use Rattle.sled_store.proofs.Histories.Ascending.{Ascends, one_at_place}
-use Rattle.sled_store.proofs.Marks.AccountSteps.{handed_out_account, past_table, same_account}
+use Rattle.sled_store.proofs.Names.OneBegin.{one_begin}
+use Rattle.sled_store.proofs.Marks.AccountSteps.{entry_in_slot, handed_out_account, past_table, same_account}
 use Rattle.sled_store.proofs.Marks.DeactivationSteps.{any_in}
 use Rattle.sled_store.proofs.Marks.TableLemmas.{apart_ascends}
 use Rattle.sled_store.proofs.Segments.Elements.{in_cases, in_first, in_nothing, in_rest}
@@ -36,6 +37,8 @@ use Rattle.sled_core.specs.Logged.{logged}
 use Rattle.sled_core.specs.Unmarked.{is_among, without}
 use Rattle.sled_core.specs.inside.Recoverable.{ActiveFits}
 use Rattle.sled_core.specs.inside.Running.{IsReadyFor}
+use Rattle.sled_core.specs.NoForeign.{NoHeaderOfZeros}
+use Rattle.sled_core.specs.inside.Numbers.{HaveSlots, HaveSlotsFrom}
 use Rattle.sled_core.specs.inside.Slots.{HasAccount}
 use Rattle.sled_core.proofs.Logged.Alike.{table_alike}
 use Rattle.sled_core.proofs.Logged.Messages.{logged_apart, logged_below, logged_twice}
@@ -264,3 +267,26 @@ module _ (sum : List ℕ → ℕ) (size : ℕ) (some : 0 < size) (old : State) (
         account = subst (λ (o : Option ℤ). IsAccountOf size (stable_place o) (without [] H) (begun_machine size (length old.log.bytes) s)) (sym ready.ready.same_place)
             (same_account size (stable_place s.stable) H (begun_machine size (length old.log.bytes) s) begun_now (without [] H) (all_marked H.messages));
       }))
+
+  -- What tables need from the snapshot on is in the slots: all of the history lies below that.
+  begun_slots_from : (A' : ℕ) → (NoHeaderOfZeros sum → stable_place s.stable ≤ A') → HaveSlots sum size (stable_place s.stable) H A' (begun_machine size (length old.log.bytes) s)
+  begun_slots_from A' low = record {
+    later = λ e there up. absurd (
+        let all : EndBelow (stable_place s.stable) H.messages = logged_below (stable_place s.stable) H ready.ready.below in
+        let under = All-contains (λ (x : Message). (x.place < stable_place s.stable) × (x.place + x.size ≤ stable_place s.stable)) H.messages e all there in
+        omega (arith, up, under.0));
+    older = λ page e entry.
+        let held = entry_in_slot size (stable_place s.stable) H (begun_machine size (length old.log.bytes) s) begun_now (stable_place s.stable) page e (omega arith) entry in
+        record { taken = held.taken; lsn = sym held.lsn };
+    not_above = low;
+  }
+
+  pub start_in_slots : {size' : ℕ} → size' ≡ size → (snapshots : ℤ → Option (List ℕ)) → snapshots ≡ old.snapshots.file → {m : Machine} → m ≡ begun_machine size (length old.log.bytes) s
+      → (A' : ℕ) → ((first : SnapshotModel) → BeginsFrom sum snapshots first → NoHeaderOfZeros sum → stable_place first.stable ≤ A') → HaveSlotsFrom sum size' snapshots H A' m
+  start_in_slots same snapshots names {m} machine A' low first begins =
+      let one : first ≡ ready.ready.first = one_begin sum old.snapshots.file first ready.ready.first (subst (λ (file : ℤ → Option (List ℕ)). BeginsFrom sum file first) names begins) ready.ready.begins in
+      let place : stable_place first.stable ≡ stable_place s.stable = ap (λ (x : SnapshotModel). stable_place x.stable) one ∙ ap stable_place ready.ready.same_place in
+      subst (λ n. HaveSlots sum n (stable_place first.stable) H A' m) (sym same)
+      (subst (λ (x : Machine). HaveSlots sum size (stable_place first.stable) H A' x) (sym machine)
+      (subst (λ n. HaveSlots sum size n H A' (begun_machine size (length old.log.bytes) s)) (sym place)
+      (begun_slots_from A' (λ zeros. let up = low first begins zeros in omega (arith, place, up)))))

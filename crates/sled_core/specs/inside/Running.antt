@@ -14,6 +14,7 @@ use Rattle.sled_core.specs.inside.Begun.{first_place, line_end}
 use Rattle.sled_core.specs.inside.Fits.{FitsBatches, LogParts, begun_segment, log_parts, parts_in, HoldsIn, written_to}
 use Rattle.sled_core.specs.inside.FreeSlots.{HasSlots}
 use Rattle.sled_core.specs.Logged.{logged}
+use Rattle.sled_core.specs.inside.Numbers.{HasNumbers, HaveSlotsFrom, NumbersStay}
 use Rattle.sled_core.specs.OpenBatches.{stable_below}
 use Rattle.sled_core.specs.inside.OwnLog.{HasPlacedFile, ReadsPlaced}
 use Rattle.sled_core.specs.OwnNames.{ReadsStayOwn}
@@ -106,6 +107,10 @@ pub record FitsWith (sum : List ℕ → ℕ) (noted : List Batch) (size : ℕ) (
   -- all that a reader reads in them was placed by the log
   pub own : fault ≡ None → NoHeaderOfZeros sum → HasPlacedFile sum size device line
   pub account : HasAccount sum size device.snapshots.file H U m
+  -- nothing that is the log's own is of a number that is still to come, nor, in the slot of a segment, of a greater one
+  pub numbers : NoHeaderOfZeros sum → HasNumbers sum size device m (line_end size line)
+  -- what a table from the stable place on may need is in the slots
+  pub in_slots : HaveSlotsFrom sum size device.snapshots.file H (stable_below reach H.batches) m
 
 -- Snapshot and device are ready for a log that fits this history, the end of what was acknowledged and the floor. Log file and snapshots have records and
 -- tables, so they are ready for the history as the log has it; the blobs have the items of the history itself.
@@ -124,3 +129,5 @@ pub record IsReadyFor (sum : List ℕ → ℕ) (size : ℕ) (device : State) (s 
   pub own_names : ReadsStayOwn sum device
   pub passes : A ≤ stable_place s.stable
   pub left : LeavesRecoverable sum size H A f device
+  -- in the slots that it needs nothing that is the log's own has a greater number
+  pub numbers : NoHeaderOfZeros sum → NumbersStay sum size device H (stable_place s.stable)

@@ -175,7 +175,7 @@ pub returns-clause-acknowledges : goal.returns-clause-acknowledges
 unfolding Fits
 returns-clause-acknowledges g c = λ H A f U fits.
     let later = c.write_below.ensures.keeps.preserves.fits H A f U fits in
-    record { reach = later.reach; parts = fits-acknowledged g.C.Checksum.sum_of _ _ _ _ _ _ _ _ _ H A f U later.parts _ _ later.batches; batches = later.batches; slots = later.slots; whole = later.whole; own = later.own; account = later.account }
+    record { reach = later.reach; parts = fits-acknowledged g.C.Checksum.sum_of _ _ _ _ _ _ _ _ _ H A f U later.parts _ _ later.batches; batches = later.batches; slots = later.slots; whole = later.whole; own = later.own; account = later.account; numbers = later.numbers; in_slots = later.in_slots }
 
 pub returns-clause-answers : goal.returns-clause-answers
 returns-clause-answers g c =

@@ -28,6 +28,7 @@ use Rattle.sled_core.specs.declared.iobuf.Reserved.{Reserved}
 use Rattle.sled_core.specs.declared.iobuf.Sealed.{Sealed}
 use Rattle.sled_core.specs.declared.logger.batches.NotedBatch.{NotedBatch}
 use Rattle.sled_core.specs.declared.logger.io_bufs.SegmentBuffer.{SegmentBuffer}
+use Rattle.sled_core.specs.inside.Numbers.{HasNumbers}
 use Rattle.sled_core.specs.inside.Begun.{AreEntered, AreFilled, FollowOn, IsUnfilled, IsUsed}
 use Rattle.sled_core.specs.Begun.{SegmentView, begin_of, line_at, segment_view, view_at}
 use Rattle.sled_core.specs.Fits.{CloseBelow, NoneOpenIn}
@@ -52,6 +53,8 @@ use Rattle.sled_core.specs.declared.iobuf.SegmentPosition.{SegmentPosition}
 use Rattle.sled_core.specs.invariants.Running.{Ready, Fits}
 use Rattle.sled_core.specs.inside.Running.{FitsIn, FitsLine}
 use Rattle.sled_store.proofs.Accounts.StartedFile.{started_file, started-log, started-snapshots, started-blobs}
+use Rattle.sled_core.proofs.Line.NeededSlots.{newest_stable}
+use Rattle.sled_core.proofs.Start.StartedNumbers.{start_numbers}
 use Rattle.sled_core.proofs.Holds.FitsBatches.{batches_begun}
 use Rattle.sled_core.proofs.Logged.Messages.{logged_twice}
 use Rattle.sled_core.proofs.Logged.Names.{ready_alike}
@@ -59,7 +62,7 @@ use Rattle.sled_core.proofs.OwnLog.Started.{started_own}
 use Rattle.sled_core.proofs.OwnLog.StartedDevice.{started_placed}
 use Rattle.sled_core.proofs.Start.BegunSlots.{begun_slots}
 use Rattle.sled_core.proofs.Start.OlderStarted.{start_whole}
-use Rattle.sled_core.proofs.Start.StartedAccount.{start_account}
+use Rattle.sled_core.proofs.Start.StartedAccount.{start_account, start_in_slots}
 use Rattle.sled_core.proofs.Start.StartedMoments.{started_throughout}
 use Rattle.sled_core.proofs.Start.ReadyStarts.{ready_starts}
 use Rattle.sled_core.proofs.Start.StartFits.{start_fits}
@@ -212,13 +215,16 @@ returns-in-Ok-clause-fits g c = λ H A f ready.
     let site : SegmentPosition = record { place = c.in-Ok.beginning.place; slot = c.in-Ok.beginning.slot } in
     let first = c.in-Ok.ensures.buffer in
     let log_now = started_log size some s old (g.D.Device.trace c.begin.new.config.device) c.in-Ok.ensures.made ready.ready.log ready.ready.settled in
+    let names = ap (λ (t : Trace). (state_of t).snapshots.file) c.in-Ok.ensures.made ∙ ap (λ (n : NamesState). n.file) (started-snapshots size some (state_of old).log.bytes s old) in
+    let parts =
+    subst (λ (ss : List SegmentBuffer). FitsLine g.C.Checksum.sum_of c.begin.new.config.config.segment_size now None (line_at site c.in-Ok.buffer ss) (c.in-Ok.beginning.place + c.in-Ok.beginning.offset) 0 H A f []) (sym c.no_segments.ensures)
+    (subst (λ n. FitsIn g.C.Checksum.sum_of (log_parts n site now None c.in-Ok.buffer.bytes.items c.in-Ok.buffer.written_len c.in-Ok.buffer.sealed.items c.in-Ok.buffer.reserved.items) [] (c.in-Ok.beginning.place + c.in-Ok.beginning.offset) 0 H A f []) (sym same)
+    (start_fits g.C.Checksum.sum_of size (state_of old) now s H A f c.args.config.config.least ready c.in-Ok.ensures.answers.0
+    log_now (ap (λ (t : Trace). (state_of t).blobs) c.in-Ok.ensures.made ∙ started-blobs size some (state_of old).log.bytes s old) (ap (λ (t : Trace). (state_of t).snapshots) c.in-Ok.ensures.made ∙ started-snapshots size some (state_of old).log.bytes s old)
+    c.in-Ok.beginning c.in-Ok.ensures.beginning c.in-Ok.buffer.bytes.items c.in-Ok.buffer.written_len c.in-Ok.buffer.sealed.items c.in-Ok.buffer.reserved.items first.header first.resumed first.from first.sealed first.reserved)) in
     record {
       reach = c.in-Ok.beginning.place + c.in-Ok.beginning.offset;
-      parts = subst (λ (ss : List SegmentBuffer). FitsLine g.C.Checksum.sum_of c.begin.new.config.config.segment_size now None (line_at site c.in-Ok.buffer ss) (c.in-Ok.beginning.place + c.in-Ok.beginning.offset) 0 H A f []) (sym c.no_segments.ensures)
-          (subst (λ n. FitsIn g.C.Checksum.sum_of (log_parts n site now None c.in-Ok.buffer.bytes.items c.in-Ok.buffer.written_len c.in-Ok.buffer.sealed.items c.in-Ok.buffer.reserved.items) [] (c.in-Ok.beginning.place + c.in-Ok.beginning.offset) 0 H A f []) (sym same)
-          (start_fits g.C.Checksum.sum_of size (state_of old) now s H A f c.args.config.config.least ready c.in-Ok.ensures.answers.0
-          log_now (ap (λ (t : Trace). (state_of t).blobs) c.in-Ok.ensures.made ∙ started-blobs size some (state_of old).log.bytes s old) (ap (λ (t : Trace). (state_of t).snapshots) c.in-Ok.ensures.made ∙ started-snapshots size some (state_of old).log.bytes s old)
-          c.in-Ok.beginning c.in-Ok.ensures.beginning c.in-Ok.buffer.bytes.items c.in-Ok.buffer.written_len c.in-Ok.buffer.sealed.items c.in-Ok.buffer.reserved.items first.header first.resumed first.from first.sealed first.reserved));
+      parts = parts;
       batches = started_batches c.begin.new.config.config.segment_size (view_at (record { place = c.in-Ok.beginning.place; slot = c.in-Ok.beginning.slot }) c.in-Ok.buffer) (map segment_view c.no_segments.result.items) (logged H) c.new-in-Ok.ensures.noted
           (let low = offset_low c.args.config.config.segment_size (length (state_of (g.D.Device.trace c.args.config.device)).log.bytes) s c.in-Ok.beginning c.in-Ok.ensures.beginning some in let from = first.from in let same = ap (λ (x : Config). x.segment_size) c.begin.ensures.config in omega (arith, low, from, same))
           (subst (λ n. CloseBelow (c.in-Ok.beginning.place + n) (logged H).batches) (sym first.from)
@@ -237,8 +243,13 @@ returns-in-Ok-clause-fits g c = λ H A f ready.
           (subst (λ (ss : List SegmentBuffer). HasPlacedFile g.C.Checksum.sum_of size now (line_at site c.in-Ok.buffer ss)) (sym c.no_segments.ensures)
           (started_own g.C.Checksum.sum_of size c.args.config.config.least zeros (state_of old) now s H A f ready c.in-Ok.ensures.answers.0 (ap (λ (l : LogState). l.bytes) log_now) behind (view_at site c.in-Ok.buffer)
           (ap (λ (x : Beginning). record { place = x.place; slot = x.slot }) c.in-Ok.ensures.beginning) (first.from ∙ offset) first.sealed)));
-      account = start_account g.C.Checksum.sum_of size some (state_of old) s H A f ready c.in-Ok.ensures.answers.0 same now.snapshots.file
-          (ap (λ (t : Trace). (state_of t).snapshots.file) c.in-Ok.ensures.made ∙ ap (λ (n : NamesState). n.file) (started-snapshots size some (state_of old).log.bytes s old)) c.in-Ok.ensures.machine;
+      account = start_account g.C.Checksum.sum_of size some (state_of old) s H A f ready c.in-Ok.ensures.answers.0 same now.snapshots.file names c.in-Ok.ensures.machine;
+      numbers = λ zeros. subst (λ (ss : List SegmentBuffer). HasNumbers g.C.Checksum.sum_of c.begin.new.config.config.segment_size now (machine_of c.in-Ok.accountant)
+              (line_end c.begin.new.config.config.segment_size (line_at site c.in-Ok.buffer ss))) (sym c.no_segments.ensures)
+          (start_numbers g.C.Checksum.sum_of size c.args.config.config.least zeros old (g.D.Device.trace c.begin.new.config.device) s H A f ready c.in-Ok.ensures.answers.0 c.begin.ensures.calls
+          log_now same c.in-Ok.ensures.machine (view_at site c.in-Ok.buffer) (ap (λ (x : Beginning). record { place = x.place; slot = x.slot }) c.in-Ok.ensures.beginning));
+      in_slots = start_in_slots g.C.Checksum.sum_of size some (state_of old) s H A f ready c.in-Ok.ensures.answers.0 same now.snapshots.file names c.in-Ok.ensures.machine _
+          (λ newest begins zeros. newest_stable g.C.Checksum.sum_of c.begin.new.config.config.segment_size now None refl (line_at site c.in-Ok.buffer c.no_segments.result.items) (c.in-Ok.beginning.place + c.in-Ok.beginning.offset) 0 H A f [] parts zeros newest begins);
     }
 
 -- damage comes only where a log can't begin

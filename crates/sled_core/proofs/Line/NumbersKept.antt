@@ -1,0 +1,42 @@
+-- A log that fits a history keeps its numbers: in the slots that tables need from the stable place on nothing that is the log's own has a greater number.
+use Rattle.std.specs.declared.io.Error.{Error as IoError}
+use Rattle.std.proofs.Common.{◌<◌, ◌≤◌, ℕ, List, Option, arith}
+use Rattle.sled_codec.specs.History.{Batch, History, Message}
+use Rattle.sled_codec.specs.Snapshots.{stable_place}
+use Rattle.sled_store.specs.Device.{State, Trace, state_of}
+use Rattle.sled_store.specs.SegmentStates.{Machine}
+use Rattle.sled_store.proofs.Histories.Ascending.{Ascends, apart_ascends}
+use Rattle.sled_core.specs.Begun.{SegmentView}
+use Rattle.sled_core.specs.declared.logger.Log.{Log}
+use Rattle.sled_core.specs.Fits.{device_of, fault_of, line_of, machine_at, noted_in, pins_of, segment_size_of}
+use Rattle.sled_core.specs.NoForeign.{NoHeaderOfZeros}
+use Rattle.sled_core.specs.OpenBatches.{stable_below}
+use Rattle.sled_core.specs.inside.Begun.{line_end}
+use Rattle.sled_core.specs.inside.Numbers.{HasNumbers, NumbersStay}
+use Rattle.sled_core.specs.inside.Running.{FitsWith}
+use Rattle.sled_core.specs.invariants.Running.{Fits}
+use Rattle.sled_core.proofs.Holds.ReachLemmas.{fits_apart}
+use Rattle.sled_core.proofs.Numbers.Stay.{numbers_stay}
+
+-- So it is of each state of the device in which no slot has a greater number.
+pub stays_in : (sum : List ℕ → ℕ) (noted : List Batch) (size : ℕ) → 0 < size → (device : State) (fault : Option IoError) (line : List SegmentView) (m : Machine)
+    (pins : ℕ) (H : History) (A f : ℕ) (U : List Message) → (fits : FitsWith sum noted size device fault line m pins H A f U) → Ascends H.messages
+    → NoHeaderOfZeros sum → (s : State) → HasNumbers sum size s m (line_end size line) → NumbersStay sum size s H (stable_below fits.reach H.batches)
+stays_in sum noted size some device fault line m pins H A f U fits order zeros s has =
+    let slots = fits.in_slots fits.account.first fits.account.begins in
+    numbers_stay sum size some s m (line_end size line) has H order (stable_place fits.account.first.stable) (stable_below fits.reach H.batches) slots
+    (slots.not_above zeros)
+
+-- A log that fits a history: so it is now.
+module _ {D C : Type 0} (trace : D → Trace) (sum : List ℕ → ℕ) (log : Log D C) (H : History) (A f : ℕ) (U : List Message) where
+  pub fits_ascends : Fits trace sum log H A f U → Ascends H.messages
+  fits_ascends fits = apart_ascends H.messages (fits_apart trace sum log H A f U fits)
+
+  pub fits_numbers : (fits : FitsWith sum (noted_in log) (segment_size_of log) (state_of (trace (device_of log))) (fault_of log) (line_of log) (machine_at log)
+      (pins_of log) H A f U) → NoHeaderOfZeros sum
+      → NumbersStay sum (segment_size_of log) (state_of (trace (device_of log))) H (stable_below fits.reach H.batches)
+  unfolding Fits
+  fits_numbers fits zeros =
+      let least = log.config.config.least in
+      stays_in sum (noted_in log) (segment_size_of log) (omega (arith, least)) (state_of (trace (device_of log))) (fault_of log) (line_of log) (machine_at log)
+      (pins_of log) H A f U fits (fits_ascends fits) zeros (state_of (trace (device_of log))) (fits.numbers zeros)

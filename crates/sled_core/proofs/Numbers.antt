@@ -1,0 +1,3 @@
+pub mod OwnLess
+pub mod Stay
+pub mod Stood

@@ -1,0 +1,77 @@
+-- A write into the slot of a segment, of records of its number alone, and of its header where it begins there: nothing own has a greater number behind it than
+-- before.
+use Rattle.std.proofs.Common.{◌≡◌, ◌∙◌, ◌+◌, ◌*◌, ◌/◌, ◌<◌, ◌≤◌, ℕ, ℤ, pos, false, List, [], ◌∷◌, length, sym, ap, subst, arith, inl, inr}
+use Rattle.std.proofs.lemmas.Bool.{cases_order}
+use Rattle.sled_codec.specs.declared.serialization.message.MessageKind.{MessageKind}
+use Rattle.sled_codec.specs.Record.{IsHeader, IsRecord}
+use Rattle.sled_store.specs.Device.{Placement, State, Wrote, step}
+use Rattle.sled_store.specs.Foreign.{Covers, HeaderWasPlaced, RecordWasPlaced}
+use Rattle.sled_store.specs.SegmentStates.{Machine, is_free, slot_at}
+use Rattle.sled_store.proofs.Own.ReachedLemmas.{record_some}
+use Rattle.sled_store.proofs.Segments.Elements.{in_cases, in_nothing}
+use Rattle.sled_store.proofs.Segments.FilledLemmas.{slot_before}
+use Rattle.sled_core.specs.inside.Hides.{IsOwnHeader, IsOwnRecord, LiesInSlot}
+use Rattle.sled_core.specs.inside.Numbers.{HasNumbers}
+use Rattle.sled_core.proofs.OwnLog.WrittenOwn.{header_or_written, new, record_or_written}
+
+-- what has some length lies in one slot
+one_slot : (size j k at : ℕ) (text : List ℕ) → 0 < length text → LiesInSlot size j at text → LiesInSlot size k at text → j ≡ k
+one_slot size j k at text some here there = elim (cases_order j k) [
+  | inl same ↦ same
+  | inr (inl lower) ↦ absurd (let far = slot_before size j k lower in omega (arith, far, here.1, there.0, some))
+  | inr (inr higher) ↦ absurd (let far = slot_before size k j higher in omega (arith, far, there.1, here.0, some))
+]
+
+-- a record that a write placed lies in it
+placed_covers : (sum : List ℕ → ℕ) (size : ℕ) (p : Placement) (number lid : ℕ) (text : List ℕ) → RecordWasPlaced sum size (p ∷ []) number lid text
+    → Covers (p.at, p.bytes) lid text
+unfolding RecordWasPlaced
+placed_covers sum size p number lid text laid = elim (in_cases p laid.0 [] laid.1) [
+  | inl same ↦ subst (λ (w : Placement). Covers (w.at, w.bytes) lid text) (sym same) laid.2
+  | inr none ↦ absurd (in_nothing laid.0 none)
+]
+
+module _ (sum : List ℕ → ℕ) (size : ℕ) (s : State) (m : Machine) (end : ℕ) (has : HasNumbers sum size s m end) (at : ℕ) (asked now : List ℕ)
+    (k place : ℕ) (used : is_free (slot_at m k).state ≡ false) (lsn : (slot_at m k).lsn ≡ place) (below : place < end) (begins : place / size * size ≡ place)
+    (low : k * size ≤ at) (high : at + length asked ≤ k * size + size) where
+  abbrev its : Placement
+  its = new sum size s at asked now
+
+  -- what the write placed lies in the slot
+  lies_there : (number lid : ℕ) (text : List ℕ) → RecordWasPlaced sum size (its ∷ []) number lid text → LiesInSlot size k lid text
+  lies_there number lid text laid =
+      let covers = placed_covers sum size its number lid text laid in
+      let from = covers.begins in
+      let to = covers.ends in
+      (omega (arith, from, low), omega (arith, to, high))
+
+  pub numbers_written : ((number lid : ℕ) (text : List ℕ) → RecordWasPlaced sum size (its ∷ []) number lid text
+          → (kind : MessageKind) (page : ℕ) (body : List ℕ) → IsRecord sum text kind page number body → number ≡ place / size)
+      → ((j p : ℕ) (mark : ℤ) (text : List ℕ) → IsHeader sum text (pos p) mark → HeaderWasPlaced (its ∷ []) (j * size) text → (j ≡ k) × (p ≡ place))
+      → HasNumbers sum size (step (Wrote at asked now) s) m end
+  numbers_written records headers = record {
+    to_come = λ number lid text own. elim (record_or_written sum size s at asked now number lid text own) [
+      | inl had ↦ has.to_come number lid text had
+      | inr laid ↦ (
+          let is = records number lid text laid own.kind own.page own.body own.is in
+          omega (arith, below, begins, ap (λ n. n * size) is))
+    ];
+    taken = λ j taken n lid text inside own. elim (record_or_written sum size s at asked now n lid text own) [
+      | inl had ↦ has.taken j taken n lid text inside had
+      | inr laid ↦ (
+          let is = records n lid text laid own.kind own.page own.body own.is in
+          let some = record_some sum text own.kind own.page n own.body own.is in
+          let here : j ≡ k = one_slot size j k lid text (omega (arith, some)) inside (lies_there n lid text laid) in
+          omega (arith, is, ap (λ p. p / size) (ap (λ i. (slot_at m i).lsn) here ∙ lsn)))
+    ];
+    headers = λ j p mark own. elim (header_or_written sum size s at asked now j p mark own) [
+      | inl had ↦ has.headers j p mark had
+      | inr laid ↦ (
+          let is = headers j p mark own.text own.is laid in
+          (ap (λ i. is_free (slot_at m i).state) is.0 ∙ used, ap (λ i. (slot_at m i).lsn) is.0 ∙ lsn ∙ sym is.1))
+    ];
+    lie = λ number lid text own. elim (record_or_written sum size s at asked now number lid text own) [
+      | inl had ↦ has.lie number lid text had
+      | inr laid ↦ (k, lies_there number lid text laid)
+    ];
+  }

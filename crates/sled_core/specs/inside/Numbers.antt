@@ -1,0 +1,50 @@
+-- What keeps the numbers of segments apart, from one start to the next: in the slot of a segment that is needed nothing that is the log's own has a greater
+-- number. So a number that is forgotten, and comes again, meets nothing that looks like it.
+use Rattle.std.specs.Prelude.{◌≡◌, ◌*◌, ◌/◌, ◌≤◌, ◌<◌, ℕ, ℤ, false, List, Option, Contains}
+use Rattle.sled_codec.specs.History.{Message, History, table}
+use Rattle.sled_codec.specs.Snapshots.{SnapshotModel, stable_place}
+use Rattle.sled_store.specs.Device.{State}
+use Rattle.sled_store.specs.Marks.{slot_with}
+use Rattle.sled_store.specs.SegmentStates.{Machine, is_free, slot_at}
+use Rattle.sled_store.specs.SnapshotFiles.{BeginsFrom}
+use Rattle.sled_core.specs.NoForeign.{NoHeaderOfZeros}
+use Rattle.sled_core.specs.inside.Hides.{IsOwnHeader, IsOwnRecord, LiesInSlot}
+
+-- nothing that is the log's own in a slot has a greater number
+abbrev pub NoGreater : (List ℕ → ℕ) → ℕ → State → ℕ → ℕ → Type 0
+NoGreater sum size s k number = (n at : ℕ) (text : List ℕ) → LiesInSlot size k at text → IsOwnRecord sum size s n at text → n ≤ number
+
+-- each record that is the log's own lies in one slot
+abbrev pub LieInSlots : (List ℕ → ℕ) → ℕ → State → Type 0
+LieInSlots sum size s = (number at : ℕ) (text : List ℕ) → IsOwnRecord sum size s number at text → (k : ℕ) × LiesInSlot size k at text
+
+-- In the slot of an entry of some table at a place or above it nothing own has a greater number, and so in the slot of a header that is own, of a segment
+-- from that of the place on. (In a content in which nothing is foreign each header is own.)
+pub record NumbersStay (sum : List ℕ → ℕ) (size : ℕ) (s : State) (H : History) (A : ℕ) : Type 0 where
+  pub entries : (cut page : ℕ) (e : Message) → A ≤ cut → Contains (table H cut page) e → NoGreater sum size s (slot_with size e) (e.place / size)
+  pub later : (k place : ℕ) (mark : ℤ) → IsOwnHeader sum size s k place mark → A / size * size ≤ place → NoGreater sum size s k (place / size)
+  pub lie : LieInSlots sum size s
+
+-- While a log runs with these slots, and its segments end at a place: nothing own is of a number that is still to come, and in the slot of a segment nothing
+-- own has a greater number.
+pub record HasNumbers (sum : List ℕ → ℕ) (size : ℕ) (s : State) (m : Machine) (end : ℕ) : Type 0 where
+  pub to_come : (number at : ℕ) (text : List ℕ) → IsOwnRecord sum size s number at text → number * size < end
+  pub taken : (k : ℕ) → is_free (slot_at m k).state ≡ false → NoGreater sum size s k ((slot_at m k).lsn / size)
+  -- as yet each header that is own is that of the segment that its slot has
+  pub headers : (k place : ℕ) (mark : ℤ) → IsOwnHeader sum size s k place mark → (is_free (slot_at m k).state ≡ false) × ((slot_at m k).lsn ≡ place)
+  pub lie : LieInSlots sum size s
+
+-- the slot of a message has its segment
+pub record IsInSlot (size : ℕ) (m : Machine) (e : Message) : Type 0 where
+  pub taken : is_free (slot_at m (slot_with size e)).state ≡ false
+  pub lsn : (slot_at m (slot_with size e)).lsn ≡ e.place / size * size
+
+-- From a place on, which isn't above another, each message is in the slot of its segment, and so is each entry of the table there.
+pub record HaveSlots (sum : List ℕ → ℕ) (size base : ℕ) (H : History) (A : ℕ) (m : Machine) : Type 0 where
+  pub later : (e : Message) → Contains H.messages e → base ≤ e.place → IsInSlot size m e
+  pub older : (page : ℕ) (e : Message) → Contains (table H base page) e → IsInSlot size m e
+  pub not_above : NoHeaderOfZeros sum → base ≤ A
+
+-- So it is from the place of the snapshot on with which a log began.
+abbrev pub HaveSlotsFrom : (List ℕ → ℕ) → ℕ → (ℤ → Option (List ℕ)) → History → ℕ → Machine → Type 0
+HaveSlotsFrom sum size snapshots H A m = (first : SnapshotModel) → BeginsFrom sum snapshots first → HaveSlots sum size (stable_place first.stable) H A m
