@@ -1,3 +1,4 @@
+pub mod Lasting
 pub mod OwnLess
 pub mod Stay
 pub mod Stood

@@ -20,6 +20,11 @@ use Rattle.sled_core.specs.Logged.{logged}
 use Rattle.sled_core.specs.Waiting.{BufferAt, BufferStart, at_last, closed_now, first_held, held_below, spans, unwritten}
 use Rattle.sled_store.specs.SegmentStates.{next_slot}
 use Rattle.sled_core.specs.Recoverable.{NoForeign, LeavesRecoverable}
+use Rattle.sled_core.specs.inside.Lasting.{IsLasting, LeavesRecovering}
+use Rattle.sled_core.specs.invariants.Lasting.{Lasts}
+use Rattle.sled_core.proofs.Numbers.Lasting.{lasting_leaves}
+use Rattle.sled_core.proofs.Numbers.OwnLess.{less_crashed}
+use Rattle.sled_core.proofs.Numbers.Stay.{stay_less}
 use Rattle.sled_core.specs.invariants.Recoverable.{Recoverable}
 use Rattle.sled_core.specs.invariants.Running.{Fits, Ready}
 use Rattle.sled_core.specs.Running.{IsStored}
@@ -43,7 +48,7 @@ pub use Rattle.sled_core.proofs.Holds.LastEnds.{message_acknowledged, batch_ackn
 pub use Rattle.sled_core.proofs.Holds.LessClaimed.{fits_claimed, leaves_claimed, ready_claimed, recoverable_claimed}
 pub use Rattle.sled_core.proofs.Holds.ReachLemmas.{fits_holds, fits_stable, fits_reach, fits_apart, awaited, awaited_small, inline_stored, reserved_small}
 pub use Rattle.sled_core.proofs.Holds.Reasons.{end_fails, end_succeeds, reserve_fails, write_fails}
-pub use Rattle.sled_core.proofs.Holds.RunningLemmas.{fits_leaves}
+pub use Rattle.sled_core.proofs.Line.NumbersKept.{fits_leaves}
 pub use Rattle.sled_core.proofs.Iterated.StillThere.{still_there}
 pub use Rattle.sled_core.proofs.Line.Buffers.{first_waits}
 pub use Rattle.sled_core.proofs.Line.Fillings.{end_off}
@@ -155,7 +160,7 @@ ready_with_less sum size device s H A less f le ready = record {
 
 module _ (sum : List ℕ → ℕ) (size : ℕ) (H : History) (A f : ℕ) where
   -- Behind a crash another one leaves just what it left.
-  pub crashed_leaves : (left : Left) (s : State) → Recoverable sum size (content_left left s) H A f → LeavesRecoverable sum size H A f (step (Crashed left) s)
+  crashed_leaves : (left : Left) (s : State) → Recoverable sum size (content_left left s) H A f → LeavesRecovering sum size H A f (step (Crashed left) s)
   crashed_leaves left s can content leaves own =
       let now : Content = content_left left s in
       let logs : content.log ≡ now.log = at_rest_left now.log content.log leaves.log in
@@ -164,10 +169,28 @@ module _ (sum : List ℕ → ℕ) (size : ℕ) (H : History) (A f : ℕ) where
       let same : now ≡ content = λ i. record { log = sym logs i; blobs = λ n. sym (blobs n) i; snapshots = λ n. sym (snapshots n) i } in
       subst (λ (c : Content). Recoverable sum size c H A f) same can
 
-  -- What a crash leaves can be recovered, and so can what is left by the next one.
+-- What a crash leaves can be recovered, and so can what is left by the next one.
+module _ (sum : List ℕ → ℕ) (size : ℕ) (H : History) (A f : ℕ) where
+  -- what lasts does so behind a crash
+  crashed_lasts : (left : Left) (s : State) → Leaves s (content_left left s) → NoForeign sum size s (content_left left s) → IsLasting sum size s H A f
+      → IsLasting sum size (step (Crashed left) s) H A f
+  crashed_lasts left s may own is = record {
+    stable = is.stable;
+    passes = is.passes;
+    lasts = record {
+      can = crashed_leaves sum size H is.stable f left s (is.lasts.can (content_left left s) may own);
+      numbers = λ zeros. stay_less sum size (step (Crashed left) s) s (less_crashed sum size left s) H is.stable (is.lasts.numbers zeros);
+    };
+  }
+
   pub crash_recoverable : (trace : Trace) (left : Left) → LeavesRecoverable sum size H A f (state_of trace) → Leaves (state_of trace) (content_left left (state_of trace)) → NoForeign sum size (state_of trace) (content_left left (state_of trace))
       → Recoverable sum size (content_left left (state_of trace)) H A f × LeavesRecoverable sum size H A f (state_of (Crashed left ∷ trace))
-  crash_recoverable trace left leaves may own = let can = leaves (content_left left (state_of trace)) may own in (can, crashed_leaves left (state_of trace) can)
+  unfolding Lasts
+  crash_recoverable trace left leaves may own =
+      let both = leaves (content_left left (state_of trace)) may own in (
+        both.0,
+        lasting_leaves sum size H A f (state_of (Crashed left ∷ trace)) (crashed_lasts left (state_of trace) may own both.1),
+      )
 
 -- A log that is started on what is ready goes on at the place of its snapshot.
 pub ready_place : (sum : List ℕ → ℕ) (size : ℕ) (device : State) (s : SnapshotModel) (H : History) (A f : ℕ) → 0 < size → Ready sum size device s H A f

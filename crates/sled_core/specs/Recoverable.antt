@@ -7,6 +7,7 @@ use Rattle.sled_store.specs.Foreign.{NoForeignLog}
 use Rattle.sled_store.specs.Moments.{AllLeft}
 pub use Rattle.sled_core.specs.NoForeign.{NoForeign, NoHeaderOfZeros}
 use Rattle.sled_core.specs.OwnNames.{ReadsStayOwn}
+use Rattle.sled_core.specs.invariants.Lasting.{Lasts}
 use Rattle.sled_core.specs.invariants.Recoverable.{Recoverable}
 
 -- What is read now is the log's own: only what the log itself wrote passes as its own in the log file, and under the names whose bytes are synced; and
@@ -17,9 +18,10 @@ pub record ReadsOnlyOwn (sum : List ℕ → ℕ) (size : ℕ) (s : State) : Type
   pub names : ReadsStayOwn sum s
   pub zeros : NoHeaderOfZeros sum
 
--- a content in which only what the log itself wrote passes as its own is recoverable
+-- A content in which only what the log itself wrote passes as its own is recoverable. And what goes on from it lasts: in no slot that it needs comes a number
+-- again that the log had used there.
 abbrev pub RecoverableIfOwn : (List ℕ → ℕ) → ℕ → History → ℕ → ℕ → State → Content → Type 0
-RecoverableIfOwn sum size H A f past left = NoForeign sum size past left → Recoverable sum size left H A f
+RecoverableIfOwn sum size H A f past left = NoForeign sum size past left → Recoverable sum size left H A f × Lasts sum size past H A f
 
 -- What a crash now may leave can be recovered.
 abbrev pub LeavesRecoverable : (List ℕ → ℕ) → ℕ → History → ℕ → ℕ → State → Type 0

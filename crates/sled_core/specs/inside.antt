@@ -11,6 +11,7 @@ pub mod FreeSlots
 pub mod Full
 pub mod Hides
 pub mod Iterators
+pub mod Lasting
 pub mod Lending
 pub mod LogFacts
 pub mod LogFile

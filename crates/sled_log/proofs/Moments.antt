@@ -4,6 +4,7 @@ pub mod BlobsRemoved
 pub mod CutSegment
 pub mod ForgottenAbove
 pub mod FromCut
+pub mod LessOwn
 pub mod LogAlong
 pub mod OneCut
 pub mod PassStops

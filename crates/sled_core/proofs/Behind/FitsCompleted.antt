@@ -17,7 +17,8 @@ use Rattle.sled_core.specs.inside.LogFile.{padded}
 use Rattle.sled_core.specs.Logged.{logged, in_log}
 use Rattle.sled_core.specs.OpenBatches.{stable_below}
 use Rattle.sled_core.specs.inside.Reached.{BegunSegment, StandsAmong}
-use Rattle.sled_core.specs.Recoverable.{LeavesRecoverable, NoHeaderOfZeros}
+use Rattle.sled_core.specs.Recoverable.{NoHeaderOfZeros}
+use Rattle.sled_core.specs.inside.Lasting.{LeavesRecovering}
 use Rattle.sled_core.specs.Reading.{BlobIsBelow}
 use Rattle.sled_core.specs.inside.Recoverable.{BlobsAreBelow}
 use Rattle.sled_core.specs.inside.Running.{BlobsFit, FitsIn, KeepsEntries, KeepsItems, NamesFit}
@@ -178,7 +179,7 @@ module _ (sum : List ℕ → ℕ) (size : ℕ) (site : SegmentPosition) (device 
   below_new : BlobsAreBelow H'
   below_new x there = elim (was_or_added H H' m adds x there) [ inl was ↦ fits.items.below x was | inr own ↦ subst (λ (y : Message). BlobIsBelow y y.pointer) own below ]
 
-  left_new : LeavesRecoverable sum size H' (stable_below reach H'.batches) f device
+  left_new : LeavesRecovering sum size H' (stable_below reach H'.batches) f device
   left_new =
       let on = fits.holds.own.written ok in
       settled_recoverable sum size least device H' (stable_below reach H'.batches) f first reach (whole_ascends sum size site device fault bytes from bs rs (logged H') holds short) stored_behind (rests device.log on.log on.settled) names_new blobs_new (λ none. (alone_new none).stands)

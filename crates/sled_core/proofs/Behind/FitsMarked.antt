@@ -18,7 +18,8 @@ use Rattle.sled_core.specs.Logged.{logged}
 use Rattle.sled_core.specs.OpenBatches.{stable_below}
 use Rattle.sled_core.specs.inside.Reached.{BegunSegment, StandsAmong}
 use Rattle.sled_core.specs.inside.Recoverable.{IsPlacedBatch}
-use Rattle.sled_core.specs.Recoverable.{LeavesRecoverable, NoHeaderOfZeros}
+use Rattle.sled_core.specs.Recoverable.{NoHeaderOfZeros}
+use Rattle.sled_core.specs.inside.Lasting.{LeavesRecovering}
 use Rattle.sled_core.specs.inside.Running.{BlobsFit, FitsIn, KeepsEntries, KeepsItems, NamesFit}
 use Rattle.sled_core.specs.SealedBuffers.{AreZeros}
 use Rattle.sled_core.specs.inside.SealedBuffers.{FirstUnwritten}
@@ -111,7 +112,7 @@ module _ (sum : List ℕ → ℕ) (size : ℕ) (site : SegmentPosition) (device 
   entries_new : KeepsEntries sum device.blobs H' (stable_below reach H'.batches)
   entries_new = subst (KeepsEntries sum device.blobs H') (sym same_stable) (entries-marks H H' b adds sum device.blobs (stable_below reach H.batches) fits.items.entries)
 
-  left_new : LeavesRecoverable sum size H' (stable_below reach H'.batches) f device
+  left_new : LeavesRecovering sum size H' (stable_below reach H'.batches) f device
   left_new =
       let on = fits.holds.own.written ok in
       settled_recoverable sum size least device H' (stable_below reach H'.batches) f first reach (whole_ascends sum size site device fault bytes from bs rs (logged H') holds short) stored_behind (rests device.log on.log on.settled) names_new blobs_new (λ none. (alone_new none).stands)

@@ -20,7 +20,8 @@ use Rattle.sled_core.specs.inside.Buffers.{records_end}
 use Rattle.sled_core.specs.inside.Fits.{HoldsIn, begun_segment, log_parts}
 use Rattle.sled_core.specs.inside.LogFile.{padded}
 use Rattle.sled_core.specs.inside.Reached.{BegunSegment, StandsAmong}
-use Rattle.sled_core.specs.Recoverable.{LeavesRecoverable, NoHeaderOfZeros}
+use Rattle.sled_core.specs.Recoverable.{NoHeaderOfZeros}
+use Rattle.sled_core.specs.inside.Lasting.{LeavesRecovering}
 use Rattle.sled_core.specs.inside.Running.{FitsIn}
 use Rattle.sled_core.specs.inside.SealedBuffers.{AreSealed, FirstUnwritten, behind_run, is_ready, now_written, run_count, run_end, written_at}
 use Rattle.sled_core.specs.SealedBuffers.{bytes_between, sealed_end}
@@ -149,7 +150,7 @@ module _ (sum : List ℕ → ℕ) (size : ℕ) (site : SegmentPosition) (device 
   ordered = whole_ascends sum size site device fault bytes from bs rs (logged H) fits.holds short
 
   -- At each moment of the write, and of the sync, a crash leaves what can be recovered.
-  pub behind-along : Along (LeavesRecoverable sum size H (stable_below reach H.batches) f) (Wrote (s.site.slot + at) asked asked ∷ Synced ∷ []) device
+  pub behind-along : Along (LeavesRecovering sum size H (stable_below reach H.batches) f) (Wrote (s.site.slot + at) asked asked ∷ Synced ∷ []) device
   behind-along = moments.write_along sum size big device rest_now H f first reach reach (omega arith) ordered fits.items.stored fits.named.names fits.items.blobs fits.left (s.site.slot + at) asked torn stands_new
 
   holds_new : HoldsIn sum (log_parts size site after_sync fault bytes from bs rs) (pre ++ grown ∷ post) (logged H)

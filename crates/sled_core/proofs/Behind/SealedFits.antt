@@ -20,7 +20,8 @@ use Rattle.sled_core.specs.inside.Full.{StandsFull}
 use Rattle.sled_core.specs.LogFile.{IsLogFile}
 use Rattle.sled_core.specs.inside.LogFile.{padded}
 use Rattle.sled_core.specs.inside.Reached.{BegunSegment, StandsAmong}
-use Rattle.sled_core.specs.Recoverable.{LeavesRecoverable, NoHeaderOfZeros}
+use Rattle.sled_core.specs.Recoverable.{NoHeaderOfZeros}
+use Rattle.sled_core.specs.inside.Lasting.{LeavesRecovering}
 use Rattle.sled_core.specs.inside.Running.{FitsIn}
 use Rattle.sled_core.specs.inside.SealedBuffers.{AreSealed, FirstUnwritten, Laid, now_written, written_at, run_end, run_count, behind_run, is_ready}
 use Rattle.sled_core.specs.SealedBuffers.{sealed_end, bytes_between}
@@ -139,7 +140,7 @@ module _ (sum : List ℕ → ℕ) (size : ℕ) (site : SegmentPosition) (device 
 
   -- At each moment of the two calls a crash leaves what can be recovered.
   along_around : (front : List Sealed) (fits : FitsIn sum (log_parts size site device fault bytes from (front ++ b ∷ rest) rs) behind reach pins H A f U) → AreSealed from rs (front ++ b ∷ rest) → FirstUnwritten (front ++ b ∷ rest) → EndsRise from (front ++ b ∷ rest) (length bytes)
-      → Along (LeavesRecoverable sum size H (stable_below reach H.batches) f) (Wrote (site.slot + sealed_end from front) (asked_behind front) (asked_behind front) ∷ Synced ∷ []) device
+      → Along (LeavesRecovering sum size H (stable_below reach H.batches) f) (Wrote (site.slot + sealed_end from front) (asked_behind front) (asked_behind front) ∷ Synced ∷ []) device
   along_around [] fits are fresh rise = elim (cases_lt (run_end b.end rest) size) [
     | inl below ↦ along_behind sum size site device fault bytes from (b ∷ rest) rs pins H A f U fits short big whole (run_end b.end rest) (stop_up from rs b rest closed are).0 (site.place + run_end b.end rest) (let near = fits.reached.near in let above = (stop_up from rs b rest closed are).0 in omega (arith, near, above)) (omega arith)
         (ends_first sum size site device fault bytes from b rest rs (logged H) fits.holds short big place_small slot_small are fresh closed rise whole)
@@ -276,7 +277,7 @@ module _ (sum : List ℕ → ℕ) (size : ℕ) (site : SegmentPosition) (device 
   rise_split = subst (λ (cs : List Sealed). EndsRise from cs (length bytes)) split_one rise
 
   -- At each moment of the write of one that is ready, and of the sync, a crash leaves what can be recovered.
-  pub write_along : Along (LeavesRecoverable sum size H (stable_below reach H.batches) f) (Wrote (site.slot + at_one) asked_one asked_one ∷ Synced ∷ []) device
+  pub write_along : Along (LeavesRecovering sum size H (stable_below reach H.batches) f) (Wrote (site.slot + at_one) asked_one asked_one ∷ Synced ∷ []) device
   write_along = along_around sum size site device fault bytes from b (drop (suc k) bs) rs behind reach pins H A f U short big place_small slot_small (ready_closed b ready) whole (take k bs) fits_split are_split (subst FirstUnwritten split_one fresh) rise_split
 
   -- Behind them the log fits, where nothing fills its first segment.

@@ -10,17 +10,22 @@ use Rattle.sled_store.specs.Script.{Performs}
 use Rattle.sled_store.specs.SegmentStates.{Machine}
 use Rattle.sled_store.proofs.Traces.ScriptLemmas.{performs_throughout}
 use Rattle.sled_core.specs.Begun.{SegmentView}
-use Rattle.sled_core.specs.Recoverable.{LeavesRecoverable}
+use Rattle.sled_core.specs.inside.Lasting.{LastsFrom}
 use Rattle.sled_core.specs.inside.Running.{FitsWith}
 use Rattle.sled_core.proofs.Blobs.Events.{KeepsBeside, ReadsNames, making_keeps, removing_keeps}
-use Rattle.sled_core.proofs.Blobs.Leaves.{leaves_beside}
+use Rattle.sled_core.proofs.Blobs.Leaves.{leaves_beside, with_names}
 use Rattle.sled_core.proofs.Blobs.Over.{fits_over_names}
 use Rattle.sled_core.proofs.Blobs.Unnamed.{IsUnnamed}
+use Rattle.sled_core.proofs.Numbers.OwnLess.{less_same}
+use Rattle.sled_core.proofs.Numbers.Stay.{stay_less}
 
 module _ (sum : List ℕ → ℕ) (size : ℕ) (p : ℤ) (H : History) where
-  -- what can be recovered
-  pub leaves_keeps : IsUnnamed H p → (A f : ℕ) → KeepsBeside sum p (LeavesRecoverable sum size H A f)
-  leaves_keeps unnamed A f s blobs snapshots changes leaves = leaves_beside sum p s blobs snapshots changes H unnamed size A f leaves
+  -- what can be recovered, and lasts
+  pub leaves_keeps : IsUnnamed H p → (A f : ℕ) → KeepsBeside sum p (LastsFrom sum size H A f)
+  leaves_keeps unnamed A f s blobs snapshots changes lasts = record {
+    can = leaves_beside sum p s blobs snapshots changes H unnamed size A f lasts.can;
+    numbers = λ zeros. stay_less sum size (with_names s blobs snapshots) s (less_same sum size (with_names s blobs snapshots) s (λ i. s.placed)) H A (lasts.numbers zeros);
+  }
 
   -- what it fits
   pub fits_keeps : IsUnnamed H p → (noted : List Batch) (fault : Option IoError) (line : List SegmentView) (m : Machine) (pins A f : ℕ) (U : List Message) → KeepsBeside sum p (λ s. FitsWith sum noted size s fault line m pins H A f U)
@@ -28,8 +33,8 @@ module _ (sum : List ℕ → ℕ) (size : ℕ) (p : ℤ) (H : History) where
 
   -- Along the calls that make a blob.
   module _ (bytes : List ℕ) (device : State) (reads : ReadsNames sum p device) where
-    pub leaves_making : IsUnnamed H p → (A f : ℕ) → LeavesRecoverable sum size H A f device → Along (LeavesRecoverable sum size H A f) (making p bytes) device
-    leaves_making unnamed A f = making_keeps sum p bytes device (LeavesRecoverable sum size H A f) (leaves_keeps unnamed A f) reads
+    pub leaves_making : IsUnnamed H p → (A f : ℕ) → LastsFrom sum size H A f device → Along (LastsFrom sum size H A f) (making p bytes) device
+    leaves_making unnamed A f = making_keeps sum p bytes device (LastsFrom sum size H A f) (leaves_keeps unnamed A f) reads
 
     pub fits_making : IsUnnamed H p → (noted : List Batch) (fault : Option IoError) (line : List SegmentView) (m : Machine) (pins A f : ℕ) (U : List Message) → FitsWith sum noted size device fault line m pins H A f U
         → Along (λ s. FitsWith sum noted size s fault line m pins H A f U) (making p bytes) device
@@ -37,8 +42,8 @@ module _ (sum : List ℕ → ℕ) (size : ℕ) (p : ℤ) (H : History) where
 
   -- Along the call that removes it.
   module _ (device : State) where
-    pub leaves_removing : IsUnnamed H p → (A f : ℕ) → LeavesRecoverable sum size H A f device → Along (LeavesRecoverable sum size H A f) (removing_blobs (p ∷ [])) device
-    leaves_removing unnamed A f = removing_keeps sum p device (LeavesRecoverable sum size H A f) (leaves_keeps unnamed A f)
+    pub leaves_removing : IsUnnamed H p → (A f : ℕ) → LastsFrom sum size H A f device → Along (LastsFrom sum size H A f) (removing_blobs (p ∷ [])) device
+    leaves_removing unnamed A f = removing_keeps sum p device (LastsFrom sum size H A f) (leaves_keeps unnamed A f)
 
     pub fits_removing : IsUnnamed H p → (noted : List Batch) (fault : Option IoError) (line : List SegmentView) (m : Machine) (pins A f : ℕ) (U : List Message) → FitsWith sum noted size device fault line m pins H A f U
         → Along (λ s. FitsWith sum noted size s fault line m pins H A f U) (removing_blobs (p ∷ [])) device

@@ -88,7 +88,7 @@ module _ (sum : List ℕ → ℕ) (size : ℕ) (trace : Trace) (own : ReadsOnlyO
   pub read_recoverable : (H : History) (A f : ℕ) → LeavesRecoverable sum size H A f device → Recoverable sum size (content_of device) H A f
   unfolding Recoverable
   read_recoverable H A f leaves =
-      let is = leaves firm_content content_leaves content_own in
+      let is = (leaves firm_content content_leaves content_own).0 in
       record { first = is.first; cut = is.cut; snapshots = is.snapshots; log = is.log; blobs = blobs_read sum device.blobs H is.cut.0 is.blobs }
 
 -- Where nothing that is read is foreign, it is the log's own.

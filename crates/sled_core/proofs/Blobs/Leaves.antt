@@ -12,7 +12,7 @@ use Rattle.sled_store.specs.Device.{Content, NamesState, State}
 use Rattle.sled_store.proofs.Segments.TableEntries.{from_table}
 use Rattle.sled_core.specs.OwnNames.{IsAnyBlob, IsAnySnapshot, ReadsStayOwn}
 use Rattle.sled_core.specs.invariants.Recoverable.{Recoverable}
-use Rattle.sled_core.specs.Recoverable.{LeavesRecoverable}
+use Rattle.sled_core.specs.inside.Lasting.{LeavesRecovering}
 use Rattle.sled_core.specs.inside.Running.{BlobsFit, KeepsEntries, KeepsItems, NamesFit}
 use Rattle.sled_core.specs.Running.{KeepsItem}
 use Rattle.sled_core.proofs.Blobs.ChangesBack.{GoesBack, before, before_same, before_left, before_own}
@@ -75,7 +75,7 @@ module _ (sum : List ℕ → ℕ) (p : ℤ) (s : State) (blobs snapshots : Names
       fit left (before_left (IsAnySnapshot sum) no_name s.snapshots snapshots back left leaves) (before_own (IsAnySnapshot sum) no_name s.snapshots snapshots back left own)
 
   -- what a crash leaves
-  pub leaves_beside : IsUnnamed H p → (size A f : ℕ) → LeavesRecoverable sum size H A f s → LeavesRecoverable sum size H A f (with_names s blobs snapshots)
+  pub leaves_beside : IsUnnamed H p → (size A f : ℕ) → LeavesRecovering sum size H A f s → LeavesRecovering sum size H A f (with_names s blobs snapshots)
   unfolding Recoverable
   leaves_beside unnamed size A f recoverable left leaves own =
       let back = changes.of_blobs in

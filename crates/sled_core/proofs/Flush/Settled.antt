@@ -13,7 +13,8 @@ use Rattle.sled_store.proofs.LogFile.LogLemmas.{at_rest_left}
 use Rattle.sled_store.proofs.Segments.TableEntries.{from_table}
 use Rattle.sled_core.specs.Logged.{logged}
 use Rattle.sled_core.specs.inside.Recoverable.{AreRecoverableSnapshots, AreRecoverableBlobs, HasItem}
-use Rattle.sled_core.specs.Recoverable.{NoHeaderOfZeros, LeavesRecoverable}
+use Rattle.sled_core.specs.Recoverable.{NoHeaderOfZeros}
+use Rattle.sled_core.specs.inside.Lasting.{LeavesRecovering}
 use Rattle.sled_core.specs.invariants.Recoverable.{Recoverable}
 use Rattle.sled_core.specs.inside.Running.{NamesFit, BlobsFit, KeepsEntries, KeepsItems}
 use Rattle.sled_core.specs.Running.{KeepsItem}
@@ -76,7 +77,7 @@ rests device log is = is ∙ sym (ap (λ (s : LogState). at_rest s.bytes) is)
 
 -- A device at rest whose log file stands up to a place leaves only contents that can be recovered.
 pub settled_recoverable : (sum : List ℕ → ℕ) (size : ℕ) → 256 ≤ size → (device : State) (H : History) (A f : ℕ) (first : SnapshotModel) (reach : ℕ) → Ascends (logged H).messages → KeepsItems sum device.blobs H A → device.log ≡ at_rest device.log.bytes
-    → NamesFit sum size device.snapshots (logged H) f first → BlobsFit sum device.blobs H A → (NoHeaderOfZeros sum → StandsTo sum size device.log.bytes (logged H) A first reach) → LeavesRecoverable sum size H A f device
+    → NamesFit sum size device.snapshots (logged H) f first → BlobsFit sum device.blobs H A → (NoHeaderOfZeros sum → StandsTo sum size device.log.bytes (logged H) A first reach) → LeavesRecovering sum size H A f device
 settled_recoverable sum size some device H A f first reach ordered stored rest names blobs stands = λ left leaves only_own.
     let same : left.log ≡ device.log.bytes = at_rest_left device.log.bytes left.log (subst (λ (s : LogState). LeavesLog s left.log) rest leaves.log) in
     stands_recoverable sum size some left H A f first reach ordered (left_items sum device.blobs left.blobs H A leaves.blobs stored) (names left.snapshots leaves.snapshots only_own.snapshots) (blobs left.blobs leaves.blobs only_own.blobs)
@@ -114,5 +115,5 @@ recoverable_less sum size content H A B f le is =
       blobs = is.blobs;
     }
 
-pub leaves_less : (sum : List ℕ → ℕ) (size : ℕ) (H : History) (A B f : ℕ) (device : State) → A ≤ B → LeavesRecoverable sum size H B f device → LeavesRecoverable sum size H A f device
+pub leaves_less : (sum : List ℕ → ℕ) (size : ℕ) (H : History) (A B f : ℕ) (device : State) → A ≤ B → LeavesRecovering sum size H B f device → LeavesRecovering sum size H A f device
 leaves_less sum size H A B f device le leaves = λ left may only_own. recoverable_less sum size left H A B f le (leaves left may only_own)

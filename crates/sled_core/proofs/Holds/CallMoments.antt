@@ -7,7 +7,8 @@ use Rattle.sled_store.specs.inside.Script.{Along}
 use Rattle.sled_store.proofs.Crashes.LeavesLemmas.{Asked, before_leaves, torn_leaves}
 use Rattle.sled_store.proofs.Crashes.ForeignLemmas.{Knows, own_log, own_names, before_knows, torn_knows, own_log_at_rest, own_names_at_rest}
 use Rattle.sled_store.proofs.Traces.ScriptLemmas.{along_first}
-use Rattle.sled_core.specs.Recoverable.{NoForeign, LeavesRecoverable}
+use Rattle.sled_core.specs.Recoverable.{NoForeign}
+use Rattle.sled_core.specs.inside.Lasting.{LeavesRecovering}
 
 -- A content in which only the log's own writes pass by one state is such a one by each that knows more.
 pub own_still : (sum : List ℕ → ℕ) (size : ℕ) (s t : State) (left : Content) → Knows s t → NoForeign sum size s left → NoForeign sum size t left
@@ -30,7 +31,7 @@ own_after_crash sum size left s own = record {
 module _ (sum : List ℕ → ℕ) (size : ℕ) (H : History) (A f : ℕ) where
   -- what a crash leaves is recoverable
   abbrev P : State → Type 0
-  P = LeavesRecoverable sum size H A f
+  P = LeavesRecovering sum size H A f
 
   -- before the call
   pub recoverable_before : (e : Event) (s : State) → Asked e → P (step e s) → P s

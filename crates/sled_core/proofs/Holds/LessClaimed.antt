@@ -12,6 +12,8 @@ use Rattle.sled_core.specs.Logged.{logged}
 use Rattle.sled_core.specs.OpenBatches.{stable_below}
 use Rattle.sled_core.specs.inside.Recoverable.{AreRecoverableSnapshots}
 use Rattle.sled_core.specs.Recoverable.{LeavesRecoverable}
+use Rattle.sled_core.specs.inside.Lasting.{LastsFrom, LeavesRecovering}
+use Rattle.sled_core.specs.invariants.Lasting.{Lasts}
 use Rattle.sled_core.specs.invariants.Recoverable.{Recoverable}
 use Rattle.sled_core.specs.invariants.Running.{Fits, Ready}
 use Rattle.sled_core.specs.inside.Running.{FitsIn, FitsLine, NamesFit}
@@ -26,6 +28,16 @@ module _ (sum : List ℕ → ℕ) (size f lower : ℕ) (low : lower ≤ f) where
   names_low : (H : History) (names : NamesState) (first : SnapshotModel) → NamesFit sum size names H f first → NamesFit sum size names H lower first
   names_low H names first fit = λ left leaves own. snapshots_low H left first (fit left leaves own)
 
+  -- So what lasts does so where the floor is lower.
+  lasts_low : {H : History} (stable : ℕ) (device : State) → LastsFrom sum size H stable f device → LastsFrom sum size H stable lower device
+  unfolding Recoverable
+  lasts_low {H} stable device lasts = record {
+    can = λ left may own.
+        let is = lasts.can left may own in
+        record { first = is.first; cut = is.cut; snapshots = snapshots_low H left.snapshots is.first is.snapshots; log = is.log; blobs = is.blobs };
+    numbers = lasts.numbers;
+  }
+
   module _ (H : History) (A less : ℕ) (le : less ≤ A) where
     -- so what can be recovered can be,
     pub recoverable_claimed : (content : Content) → Recoverable sum size content H A f → Recoverable sum size content H less lower
@@ -34,9 +46,23 @@ module _ (sum : List ℕ → ℕ) (size f lower : ℕ) (low : lower ≤ f) where
         let fewer = recoverable_less sum size content H less A f le is in
         record { first = fewer.first; cut = fewer.cut; snapshots = snapshots_low H content.snapshots fewer.first fewer.snapshots; log = fewer.log; blobs = fewer.blobs }
 
-    -- and so does what a crash leaves.
+    -- and so can what a crash leaves,
+    recovering_claimed : (device : State) → LeavesRecovering sum size H A f device → LeavesRecovering sum size H less lower device
+    recovering_claimed device leaves = λ left may own. recoverable_claimed left (leaves left may own)
+
+    -- also where it has to last.
     pub leaves_claimed : (device : State) → LeavesRecoverable sum size H A f device → LeavesRecoverable sum size H less lower device
-    leaves_claimed device leaves = λ left may own. recoverable_claimed left (leaves left may own)
+    unfolding Lasts
+    leaves_claimed device leaves = λ left may own.
+        let both = leaves left may own in
+        let passes = both.1.passes in (
+          recoverable_claimed left both.0,
+          record {
+            stable = both.1.stable;
+            passes = omega (arith, le, passes);
+            lasts = lasts_low both.1.stable device both.1.lasts;
+          },
+        )
 
     pub ready_claimed : (device : State) (s : SnapshotModel) → Ready sum size device s H A f → Ready sum size device s H less lower
     unfolding Ready
@@ -51,7 +77,7 @@ module _ (sum : List ℕ → ℕ) (size f lower : ℕ) (low : lower ≤ f) where
       own = ready.own;
       own_names = ready.own_names;
       passes = (let passes = ready.passes in omega (arith, le, passes));
-      left = leaves_claimed device ready.left;
+      left = recovering_claimed device ready.left;
       numbers = ready.numbers;
     }
 
@@ -70,7 +96,7 @@ module _ (sum : List ℕ → ℕ) (H : History) (A less f lower : ℕ) (U : List
     };
     passes = (let passes = fits.passes in omega (arith, le, passes));
     pinned = fits.pinned;
-    left = (let stable = stable_below reach H.batches in leaves_claimed sum parts.size f lower low H stable stable (omega arith) parts.device fits.left);
+    left = (let stable = stable_below reach H.batches in recovering_claimed sum parts.size f lower low H stable stable (omega arith) parts.device fits.left);
   }
 
   fits_line_claimed : (size : ℕ) (device : State) (fault : Option IoError) (line : List SegmentView) (reach pins : ℕ) → FitsLine sum size device fault line reach pins H A f U → FitsLine sum size device fault line reach pins H less lower U

@@ -20,7 +20,8 @@ use Rattle.sled_core.specs.invariants.Running.{Fits}
 use Rattle.sled_core.specs.Running.{KeepsItem, end_below}
 use Rattle.sled_core.specs.inside.Reached.{BegunSegment, StandsAmong}
 use Rattle.sled_core.specs.OpenBatches.{stable_below}
-use Rattle.sled_core.specs.Recoverable.{LeavesRecoverable, NoHeaderOfZeros}
+use Rattle.sled_core.specs.Recoverable.{NoHeaderOfZeros}
+use Rattle.sled_core.specs.inside.Lasting.{LeavesRecovering}
 use Rattle.sled_core.specs.inside.Recoverable.{NoBatchBegins, NoBatchEnds, BlobsAreBelow}
 use Rattle.sled_core.specs.Reading.{BlobIsBelow}
 use Rattle.sled_core.specs.inside.SealedBuffers.{AreSealed, FirstUnwritten}
@@ -75,9 +76,6 @@ module _ (sum : List ℕ → ℕ) (size : ℕ) (site : SegmentPosition) (device 
         left = fits.left;
       }
 
-  -- A crash leaves what can be recovered with no more counted as acknowledged than was.
-  pub fits-leaves : LeavesRecoverable sum size H A f device
-  fits-leaves = leaves_less sum size H A (stable_below reach H.batches) f device fits.passes fits.left
 
   -- Up to the stable place all may count as acknowledged,
   pub fits-synced : (end : ℕ) → end ≤ stable_below reach H.batches → FitsIn sum (log_parts size site device fault bytes from bs rs) behind reach pins H end f U
@@ -177,7 +175,7 @@ module _ (sum : List ℕ → ℕ) (size : ℕ) (site : SegmentPosition) (device 
     below_new : BlobsAreBelow H'
     below_new x there = elim (was_or_added H H' m adds x there) [ inl was ↦ fits.items.below x was | inr own ↦ subst (λ (y : Message). BlobIsBelow y y.pointer) own below ]
 
-    left_new : LeavesRecoverable sum size H' (stable_below reach H'.batches) f device
+    left_new : LeavesRecovering sum size H' (stable_below reach H'.batches) f device
     left_new =
         let on = fits.holds.own.written ok in
         settled_recoverable sum size least device H' (stable_below reach H'.batches) f first reach (whole_ascends sum size site device fault bytes' from' bs' rs' (logged H') holds in_segment) stored_behind (rests device.log on.log on.settled) names_new blobs_new (λ none. (alone_new none).stands)
@@ -210,8 +208,3 @@ module _ (sum : List ℕ → ℕ) (size : ℕ) (site : SegmentPosition) (device 
           pinned = λ some. out;
           left = left_new;
         }
-
--- What a crash leaves of the device of a log can be recovered.
-pub fits_leaves : {D C : Type 0} (trace : D → Trace) (sum : List ℕ → ℕ) (log : Log D C) (H : History) (A f : ℕ) (U : List Message) → Fits trace sum log H A f U → LeavesRecoverable sum (segment_size_of log) H A f (state_of (trace (device_of log)))
-unfolding Fits
-fits_leaves trace sum log H A f U fits = fits-leaves sum log.config.config.segment_size log.segments.first.site _ log.fault.kept log.segments.first.buffer.bytes.items log.segments.first.buffer.written_len log.segments.first.buffer.sealed.items log.segments.first.buffer.reserved.items log.pins H A f U fits.parts

@@ -19,7 +19,8 @@ use Rattle.sled_core.specs.inside.Fits.{log_parts, begun_segment, HoldsIn}
 use Rattle.sled_core.specs.inside.Full.{FitsFull, StandsFull}
 use Rattle.sled_core.specs.inside.LogFile.{padded}
 use Rattle.sled_core.specs.inside.Reached.{StandsAmong}
-use Rattle.sled_core.specs.Recoverable.{LeavesRecoverable, NoHeaderOfZeros}
+use Rattle.sled_core.specs.Recoverable.{NoHeaderOfZeros}
+use Rattle.sled_core.specs.inside.Lasting.{LeavesRecovering}
 use Rattle.sled_core.specs.inside.Recoverable.{NoBatchBegins, NoBatchEnds}
 use Rattle.sled_core.specs.inside.Running.{BlobsFit, FitsIn, KeepsEntries, KeepsItems, NamesFit}
 use Rattle.sled_core.proofs.Blobs.StaysOwn.{own_same}
@@ -63,7 +64,7 @@ module _ (sum : List ℕ → ℕ) (size : ℕ) (site : SegmentPosition) (device 
   stands_now : NoHeaderOfZeros sum → StandsTo sum size (overwritten device.log.bytes at asked) (logged H) (stable_below reach' H.batches) fits.holds.begun.first reach'
   stands_now zeros = standing (overwritten device.log.bytes at asked) (alone_now zeros)
 
-  pub along_behind : Along (LeavesRecoverable sum size H (stable_below reach H.batches) f) (Wrote at asked asked ∷ Synced ∷ []) device
+  pub along_behind : Along (LeavesRecovering sum size H (stable_below reach H.batches) f) (Wrote at asked asked ∷ Synced ∷ []) device
   along_behind = moments.write_along sum size big device rest_now H f fits.holds.begun.first reach reach' up ordered fits.items.stored fits.named.names fits.items.blobs fits.left at asked torn_now stands_now
 
   -- With zeros behind its end the file stands too, any number of them.
@@ -82,7 +83,7 @@ module _ (sum : List ℕ → ℕ) (size : ℕ) (site : SegmentPosition) (device 
   entries_now : KeepsEntries sum device.blobs H (stable_below reach' H.batches)
   entries_now = entries_higher sum device.blobs H (stable_below reach H.batches) (stable_below reach' H.batches) ordered (stable_rises reach reach' up H.batches) fits.items.stored fits.items.entries
 
-  left_now : LeavesRecoverable sum size H (stable_below reach' H.batches) f after_sync
+  left_now : LeavesRecovering sum size H (stable_below reach' H.batches) f after_sync
   left_now = moments.synced_leaves sum size big device rest_now H f fits.holds.begun.first reach reach' up ordered fits.items.stored fits.named.names fits.items.blobs fits.left at asked torn_now stands_now
 
   -- Where it stands up to there in the first segment.

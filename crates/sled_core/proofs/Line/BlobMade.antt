@@ -10,11 +10,12 @@ use Rattle.sled_store.specs.Moments.{LeavesOnly}
 use Rattle.sled_store.specs.inside.Script.{Along}
 use Rattle.sled_store.specs.Script.{Performs, after_all}
 use Rattle.sled_store.specs.SegmentStates.{Machine}
-use Rattle.sled_store.proofs.Traces.MomentLemmas.{at_last}
+use Rattle.sled_store.proofs.Traces.MomentLemmas.{at_last, weaker}
 use Rattle.sled_store.proofs.Traces.ScriptLemmas.{later_performed, performs_throughout}
 use Rattle.sled_core.specs.declared.logger.Log.{Log}
 use Rattle.sled_core.specs.Begun.{SegmentView}
 use Rattle.sled_core.specs.invariants.Fits.{Holds}
+use Rattle.sled_core.specs.inside.Lasting.{LastsFrom}
 use Rattle.sled_core.specs.inside.Fits.{HoldsWith}
 use Rattle.sled_core.specs.Fits.{device_of, fault_of, line_of, machine_at, next_place, noted_in, pins_of, segment_size_of}
 use Rattle.sled_core.specs.Keeps.{Preserves}
@@ -32,7 +33,8 @@ use Rattle.sled_core.proofs.Blobs.ItemsStay.{items_made}
 use Rattle.sled_core.proofs.Blobs.Unnamed.{IsUnnamed}
 use Rattle.sled_core.proofs.Holds.StoredItems.{items_same}
 use Rattle.sled_core.proofs.Holds.ReachLemmas.{fits_reach}
-use Rattle.sled_core.proofs.Holds.RunningLemmas.{fits_leaves}
+use Rattle.sled_core.proofs.Line.NumbersKept.{fits_lasts}
+use Rattle.sled_core.proofs.Numbers.Lasting.{lasts_leaves}
 use Rattle.sled_core.proofs.Line.DeviceChanged.{device_fits, device_holds, device_kept, device_noted, device_stable}
 
 -- Where no failure is kept the blob was made, where there was none, or nothing was changed.
@@ -75,8 +77,12 @@ module _ {D C : Type 0} (trace : D → Trace) (sum : List ℕ → ℕ) (old new 
 
   leaves : (H : History) (A f : ℕ) (U : List Message) → Fits trace sum old H A f U → LeavesOnly (RecoverableIfOwn sum (segment_size_of old) H A f) (trace (device_of old)) (trace (device_of new))
   leaves H A f U fits =
-      performs_throughout (LeavesRecoverable sum (segment_size_of old) H A f) (making p bytes) (trace (device_of old)) (trace (device_of new)) calls
-      (leaves_making sum (segment_size_of old) p H bytes before (reads H A f U fits) (unnamed H A f U fits) A f (fits_leaves trace sum old H A f U fits))
+      let size : ℕ = segment_size_of old in
+      let is = fits_lasts trace sum old H A f U fits in
+      weaker (LastsFrom sum size H is.stable f) (LeavesRecoverable sum size H A f) (λ s lasts. lasts_leaves sum size H A f s is.stable is.passes lasts)
+      (trace (device_of old)) (trace (device_of new))
+      (performs_throughout (LastsFrom sum size H is.stable f) (making p bytes) (trace (device_of old)) (trace (device_of new)) calls
+      (leaves_making sum size p H bytes before (reads H A f U fits) (unnamed H A f U fits) is.stable f is.lasts))
 
   holds : (H : History) → Holds trace sum old H → Holds trace sum new H
   unfolding Holds

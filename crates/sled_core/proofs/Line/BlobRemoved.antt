@@ -12,10 +12,11 @@ use Rattle.sled_store.specs.inside.Script.{Along}
 use Rattle.sled_store.specs.Script.{Performs, Stops}
 use Rattle.sled_store.specs.SegmentStates.{Machine}
 use Rattle.sled_store.specs.declared.config.RunningConfig.{RunningConfig}
-use Rattle.sled_store.proofs.Traces.MomentLemmas.{at_last}
+use Rattle.sled_store.proofs.Traces.MomentLemmas.{at_last, weaker}
 use Rattle.sled_store.proofs.Traces.ScriptLemmas.{later_performed, performs_throughout}
 use Rattle.sled_core.specs.declared.logger.Log.{Log}
 use Rattle.sled_core.specs.Begun.{SegmentView}
+use Rattle.sled_core.specs.inside.Lasting.{LastsFrom}
 use Rattle.sled_core.specs.inside.Causes.{fault_in}
 use Rattle.sled_core.specs.invariants.Fits.{Holds}
 use Rattle.sled_core.specs.inside.Fits.{HoldsWith}
@@ -30,7 +31,8 @@ use Rattle.sled_core.specs.inside.Turned.{ChangesDevice}
 use Rattle.sled_core.proofs.Blobs.Along.{fits_removed, leaves_removing}
 use Rattle.sled_core.proofs.Blobs.ItemsStay.{items_removed}
 use Rattle.sled_core.proofs.Blobs.Over.{holds_over_names}
-use Rattle.sled_core.proofs.Holds.RunningLemmas.{fits_leaves}
+use Rattle.sled_core.proofs.Line.NumbersKept.{fits_lasts}
+use Rattle.sled_core.proofs.Numbers.Lasting.{lasts_leaves}
 use Rattle.sled_core.proofs.Line.DeviceChanged.{device_fits, device_holds, device_kept, device_noted, device_stable}
 use Rattle.sled_core.proofs.Line.MadeAnswers.{kept_by}
 
@@ -63,8 +65,12 @@ module _ {D C : Type 0} (trace : D → Trace) (sum : List ℕ → ℕ) (old new 
 
   leaves : (H : History) (A f : ℕ) (U : List Message) → Fits trace sum old H A f U → AreBeside (Some p) H → LeavesOnly (RecoverableIfOwn sum (segment_size_of old) H A f) (trace (device_of old)) (trace (device_of new))
   leaves H A f U fits beside =
-      performs_throughout (LeavesRecoverable sum (segment_size_of old) H A f) (removing_blobs (p ∷ [])) (trace (device_of old)) (trace (device_of new)) calls
-      (leaves_removing sum (segment_size_of old) p H before beside A f (fits_leaves trace sum old H A f U fits))
+      let size : ℕ = segment_size_of old in
+      let is = fits_lasts trace sum old H A f U fits in
+      weaker (LastsFrom sum size H is.stable f) (LeavesRecoverable sum size H A f) (λ s lasts. lasts_leaves sum size H A f s is.stable is.passes lasts)
+      (trace (device_of old)) (trace (device_of new))
+      (performs_throughout (LastsFrom sum size H is.stable f) (removing_blobs (p ∷ [])) (trace (device_of old)) (trace (device_of new)) calls
+      (leaves_removing sum size p H before beside is.stable f is.lasts))
 
   holds : (H : History) → Holds trace sum old H → Holds trace sum new H
   unfolding Holds

@@ -12,7 +12,7 @@ use Rattle.sled_core.specs.Begun.{SegmentView}
 use Rattle.sled_core.specs.inside.Fits.{HoldsLine, HoldsWith}
 use Rattle.sled_core.specs.inside.FreeSlots.{HasSlots}
 use Rattle.sled_core.specs.OpenBatches.{stable_below}
-use Rattle.sled_core.specs.Recoverable.{LeavesRecoverable}
+use Rattle.sled_core.specs.inside.Lasting.{LeavesRecovering}
 use Rattle.sled_core.specs.inside.Running.{FitsLine, FitsWith}
 use Rattle.sled_core.specs.inside.Begun.{line_end}
 use Rattle.sled_core.specs.inside.Numbers.{HasNumbers, HaveSlotsFrom}
@@ -28,7 +28,7 @@ holds_line_faulty sum size device fault (v ∷ vs) H holds new e now is names =
     holds-faulty sum size v.parts.site device fault v.parts.bytes v.parts.written_len v.parts.sealed v.parts.reserved H holds new e now is (ap (λ (s : NamesState). s.file) names)
 
 pub fits_line_faulty : (sum : List ℕ → ℕ) (size : ℕ) (device : State) (fault : Option IoError) (line : List SegmentView) (reach pins : ℕ) (H : History) (A f : ℕ) (U : List Message) → FitsLine sum size device fault line reach pins H A f U → (new : State) (e : IoError) (now : Option IoError)
-    → now ≡ Some e → new.blobs ≡ device.blobs → new.snapshots ≡ device.snapshots → LeavesRecoverable sum size H (stable_below reach H.batches) f new → FitsLine sum size new now line reach pins H A f U
+    → now ≡ Some e → new.blobs ≡ device.blobs → new.snapshots ≡ device.snapshots → LeavesRecovering sum size H (stable_below reach H.batches) f new → FitsLine sum size new now line reach pins H A f U
 fits_line_faulty sum size device fault [] reach pins H A f U fits new e now is blobs names left = fits
 fits_line_faulty sum size device fault (v ∷ vs) reach pins H A f U fits new e now is blobs names left =
     fits_faulty sum size v.parts.site device fault v.parts.bytes v.parts.written_len v.parts.sealed v.parts.reserved pins H A f U fits new e now is blobs names left
@@ -71,7 +71,7 @@ holds_with_kept sum noted size size' device new fault now line line' m m' H s l 
 ])
 
 -- what a log fits a crash leaves
-line_leaves : (sum : List ℕ → ℕ) (size : ℕ) (device : State) (fault : Option IoError) (line : List SegmentView) (reach pins : ℕ) (H : History) (A f : ℕ) (U : List Message) → FitsLine sum size device fault line reach pins H A f U → LeavesRecoverable sum size H (stable_below reach H.batches) f device
+pub line_leaves : (sum : List ℕ → ℕ) (size : ℕ) (device : State) (fault : Option IoError) (line : List SegmentView) (reach pins : ℕ) (H : History) (A f : ℕ) (U : List Message) → FitsLine sum size device fault line reach pins H A f U → LeavesRecovering sum size H (stable_below reach H.batches) f device
 line_leaves sum size device fault [] reach pins H A f U fits = absurd fits
 line_leaves sum size device fault (v ∷ vs) reach pins H A f U fits = fits.left
 
@@ -82,7 +82,7 @@ fits_with_kept sum noted size size' device new fault now line line' m m' pins pi
   | inr (e, is) ↦ record {
     reach = fits.reach;
     parts = fits_line_faulty sum size device fault line fits.reach pins H A f U fits.parts new e now is (ap (λ (x : State). x.blobs) d) (ap (λ (x : State). x.snapshots) d)
-        (subst (LeavesRecoverable sum size H (stable_below fits.reach H.batches) f) (sym d) (line_leaves sum size device fault line fits.reach pins H A f U fits.parts));
+        (subst (LeavesRecovering sum size H (stable_below fits.reach H.batches) f) (sym d) (line_leaves sum size device fault line fits.reach pins H A f U fits.parts));
     batches = fits.batches;
     slots = slots_line_faulty size line device.log.bytes new.log.bytes fault m fits.slots e now is;
     whole = λ none zeros. cc;

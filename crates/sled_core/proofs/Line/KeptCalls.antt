@@ -17,7 +17,7 @@ use Rattle.sled_core.specs.Keeps.{ConfigKept, GoesOn, KeepsLog, Preserves, SameP
 use Rattle.sled_core.specs.Logged.{in_log}
 use Rattle.sled_core.specs.Recoverable.{RecoverableIfOwn}
 use Rattle.sled_core.specs.invariants.Running.{Fits}
-use Rattle.sled_core.proofs.Holds.RunningLemmas.{fits_leaves}
+use Rattle.sled_core.proofs.Line.NumbersKept.{fits_leaves}
 use Rattle.sled_core.proofs.Holds.StoredItems.{items_same}
 use Rattle.sled_core.proofs.Line.LineEnds.{noted_further, noted_still}
 

@@ -27,6 +27,7 @@ use Rattle.sled_core.specs.invariants.Fits.{Holds}
 use Rattle.sled_core.specs.Fits.{device_of, fault_of, line_of, noted_in, segment_size_of}
 use Rattle.sled_core.specs.inside.Begun.{line_end}
 use Rattle.sled_core.specs.Recoverable.{LeavesRecoverable, NoHeaderOfZeros}
+use Rattle.sled_core.specs.inside.Lasting.{LeavesRecovering}
 use Rattle.sled_core.specs.invariants.Running.{Fits}
 use Rattle.sled_core.specs.inside.Running.{FitsLine, FitsWith}
 use Rattle.sled_core.specs.inside.Numbers.{HasNumbers, HaveSlotsFrom}
@@ -47,7 +48,11 @@ use Rattle.sled_core.proofs.Line.Segments.{AreSegments, filled_promoted, filled_
 use Rattle.sled_core.proofs.Line.Writes.{along_write, buffer_begin, buffer_bytes, buffer_calls, buffer_synced, calls_are, fits_write, holds_write, passes_line, slots_write}
 use Rattle.sled_core.proofs.Line.WrittenSlots.{whole_write}
 use Rattle.sled_core.proofs.Line.NeededSlots.{newest_stable, slots_at}
+use Rattle.sled_core.proofs.Line.NumbersKept.{fits_ascends, stays_in}
 use Rattle.sled_core.proofs.Line.NumbersWritten.{numbers_along, numbers_behind}
+use Rattle.sled_core.proofs.Numbers.Lasting.{lasts_leaves}
+use Rattle.sled_core.proofs.Reached.StartedStands.{both_along}
+use Rattle.sled_core.proofs.Start.StartedMoments.{along_if}
 use Rattle.sled_core.proofs.Line.PlacedWrite.{placed_left}
 
 module _ {D C : Type 0} (log : Log D C) (n k : ℕ) (r : IsReadyIn (line_of log) n k) where
@@ -152,18 +157,14 @@ module _ {D C : Type 0} (log : Log D C) (n k : ℕ) (r : IsReadyIn (line_of log)
     calls : write_in line n k ≡ buffer_calls sum size log.config.config.least device log.fault.kept whole v k r.buffer r.there r.ready
     calls = calls_are sum size log.config.config.least device log.fault.kept whole v k r.buffer r.there r.ready line n r.among
 
-    left : (new : Trace) → Performs (write_in line n k) before new → (reach : ℕ) (H : History) (A f : ℕ) (U : List Message) → FitsLine sum size device log.fault.kept line reach log.pins H A f U → Throughout (LeavesRecoverable sum size H (stable_below reach H.batches) f) before new
-    left new came reach H A f U fits =
-        performs_throughout (LeavesRecoverable sum size H (stable_below reach H.batches) f) (write_in line n k) before new came
-        (subst (λ (es : List Event). Along (LeavesRecoverable sum size H (stable_below reach H.batches) f) es device) (sym calls)
-        (along_write sum size log.config.config.least device log.fault.kept whole v k r.buffer r.there r.ready log.pins H A f U (log_recorded log n v r.among) log.segments.first.site.place reach line (line_segments log) n r.among fits))
+    left_along : (reach : ℕ) (H : History) (A f : ℕ) (U : List Message) → FitsLine sum size device log.fault.kept line reach log.pins H A f U → Along (LeavesRecovering sum size H (stable_below reach H.batches) f) (write_in line n k) device
+    left_along reach H A f U fits =
+        subst (λ (es : List Event). Along (LeavesRecovering sum size H (stable_below reach H.batches) f) es device) (sym calls)
+        (along_write sum size log.config.config.least device log.fault.kept whole v k r.buffer r.there r.ready log.pins H A f U (log_recorded log n v r.among) log.segments.first.site.place reach line (line_segments log) n r.among fits)
 
-    -- At each moment of the calls a crash leaves what can be recovered.
-    pub crash_write : (new : Trace) → Performs (write_in line n k) before new → (H : History) (A f : ℕ) (U : List Message) → Fits trace sum log H A f U → Throughout (LeavesRecoverable sum size H A f) before new
-    unfolding Fits
-    crash_write new came H A f U fits =
-        weaker (LeavesRecoverable sum size H (stable_below fits.reach H.batches) f) (LeavesRecoverable sum size H A f) (λ s. leaves_less sum size H A (stable_below fits.reach H.batches) f s (passes_line sum size device log.fault.kept line fits.reach log.pins H A f U fits.parts)) before new
-        (left new came fits.reach H A f U fits.parts)
+    left : (new : Trace) → Performs (write_in line n k) before new → (reach : ℕ) (H : History) (A f : ℕ) (U : List Message) → FitsLine sum size device log.fault.kept line reach log.pins H A f U → Throughout (LeavesRecovering sum size H (stable_below reach H.batches) f) before new
+    left new came reach H A f U fits =
+        performs_throughout (LeavesRecovering sum size H (stable_below reach H.batches) f) (write_in line n k) before new came (left_along reach H A f U fits)
 
     -- Made or not, they leave blobs and snapshots as they were.
     pub names : (new : Trace) → Performs (write_in line n k) before new → ((state_of new).blobs ≡ device.blobs) × ((state_of new).snapshots ≡ device.snapshots)
@@ -192,16 +193,33 @@ module _ {D C : Type 0} (log : Log D C) (n k : ℕ) (r : IsReadyIn (line_of log)
       held : HoldsLine sum size device log.fault.kept line (logged H)
       held = line_holds sum size device log.fault.kept line fits.reach log.pins H A f U fits.parts
 
-      numbers_throughout : (new : Trace) → Performs (write_in line n k) before new → Throughout Numbered before new
-      numbers_throughout new came =
-          performs_throughout Numbered (write_in line n k) before new came
-          (subst (λ (es : List Event). Along Numbered es device) (sym calls)
+      write_numbers : Along Numbered (write_in line n k) device
+      write_numbers =
+          subst (λ (es : List Event). Along Numbered es device) (sym calls)
           (numbers_along sum size log.config.config.least device log.fault.kept whole v k r.buffer r.there r.ready log.segments.first.site.place line
-          (line_segments log) n r.among slots fits.slots (logged H) held zeros (fits.own whole zeros) (fits.numbers zeros)))
+          (line_segments log) n r.among slots fits.slots (logged H) held zeros (fits.own whole zeros) (fits.numbers zeros))
 
     numbers_left : (new : Trace) → Performs (write_in line n k) before new → (H : History) (A f : ℕ) (U : List Message)
         → FitsWith sum (noted_in log) size device log.fault.kept line slots log.pins H A f U → NoHeaderOfZeros sum → Numbered (state_of new)
-    numbers_left new came H A f U fits zeros = at_last Numbered before new (numbers_throughout H A f U fits zeros new came)
+    numbers_left new came H A f U fits zeros =
+        at_last Numbered before new (performs_throughout Numbered (write_in line n k) before new came (write_numbers H A f U fits zeros))
+
+    -- At each moment of the calls a crash leaves what can be recovered, and lasts.
+    pub crash_write : (new : Trace) → Performs (write_in line n k) before new → (H : History) (A f : ℕ) (U : List Message) → Fits trace sum log H A f U → Throughout (LeavesRecoverable sum size H A f) before new
+    unfolding Fits
+    crash_write new came H A f U fits =
+        let stable : ℕ = stable_below fits.reach H.batches in
+        let least = log.config.config.least in
+        performs_throughout (LeavesRecoverable sum size H A f) (write_in line n k) before new came
+        (both_along (LeavesRecovering sum size H stable f) (λ s. NoHeaderOfZeros sum → Numbered s) (LeavesRecoverable sum size H A f)
+        (λ s can has. lasts_leaves sum size H A f s stable (passes_line sum size device log.fault.kept line fits.reach log.pins H A f U fits.parts) (record {
+          can = can;
+          numbers = λ zeros.
+              stays_in sum (noted_in log) size (omega (arith, least)) device log.fault.kept line slots log.pins H A f U fits (fits_ascends trace sum log H A f U fits)
+              zeros s (has zeros);
+        }))
+        (write_in line n k) device (left_along fits.reach H A f U fits.parts)
+        (along_if (NoHeaderOfZeros sum) Numbered (write_in line n k) device (λ zeros. write_numbers H A f U fits zeros)))
 
     pub fits_failed : (new : Trace) → Performs (write_in line n k) before new → (now : Option IoError) → (now ≡ None → new ≡ before) → (H : History) (A f : ℕ) (U : List Message) → Fits trace sum log H A f U → FitsWith sum (noted_in log) size (state_of new) now line slots log.pins H A f U
     unfolding Fits
@@ -210,7 +228,7 @@ module _ {D C : Type 0} (log : Log D C) (n k : ℕ) (r : IsReadyIn (line_of log)
       | inr some ↦ record {
         reach = fits.reach;
         parts = fits_line_faulty sum size device log.fault.kept line fits.reach log.pins H A f U fits.parts (state_of new) some.0 now some.1 (names new came).0 (names new came).1
-            (at_last (LeavesRecoverable sum size H (stable_below fits.reach H.batches) f) before new (left new came fits.reach H A f U fits.parts));
+            (at_last (LeavesRecovering sum size H (stable_below fits.reach H.batches) f) before new (left new came fits.reach H A f U fits.parts));
         batches = fits.batches;
         slots = slots_line_faulty size line device.log.bytes (state_of new).log.bytes log.fault.kept slots fits.slots some.0 now some.1;
         whole = λ none zeros. let never = some.1 in cc;

@@ -1,4 +1,5 @@
--- A log that fits a history keeps its numbers: in the slots that tables need from the stable place on nothing that is the log's own has a greater number.
+-- A log that fits a history keeps its numbers: in the slots that tables need from the stable place on nothing that is the log's own has a greater number. So
+-- what a crash leaves of its device can be recovered, and lasts.
 use Rattle.std.specs.declared.io.Error.{Error as IoError}
 use Rattle.std.proofs.Common.{◌<◌, ◌≤◌, ℕ, List, Option, arith}
 use Rattle.sled_codec.specs.History.{Batch, History, Message}
@@ -12,10 +13,15 @@ use Rattle.sled_core.specs.Fits.{device_of, fault_of, line_of, machine_at, noted
 use Rattle.sled_core.specs.NoForeign.{NoHeaderOfZeros}
 use Rattle.sled_core.specs.OpenBatches.{stable_below}
 use Rattle.sled_core.specs.inside.Begun.{line_end}
+use Rattle.sled_core.specs.Recoverable.{LeavesRecoverable}
+use Rattle.sled_core.specs.inside.Lasting.{IsLasting}
 use Rattle.sled_core.specs.inside.Numbers.{HasNumbers, NumbersStay}
 use Rattle.sled_core.specs.inside.Running.{FitsWith}
 use Rattle.sled_core.specs.invariants.Running.{Fits}
 use Rattle.sled_core.proofs.Holds.ReachLemmas.{fits_apart}
+use Rattle.sled_core.proofs.Line.Faulty.{line_leaves}
+use Rattle.sled_core.proofs.Line.Writes.{passes_line}
+use Rattle.sled_core.proofs.Numbers.Lasting.{lasting_leaves}
 use Rattle.sled_core.proofs.Numbers.Stay.{numbers_stay}
 
 -- So it is of each state of the device in which no slot has a greater number.
@@ -40,3 +46,20 @@ module _ {D C : Type 0} (trace : D → Trace) (sum : List ℕ → ℕ) (log : Lo
       let least = log.config.config.least in
       stays_in sum (noted_in log) (segment_size_of log) (omega (arith, least)) (state_of (trace (device_of log))) (fault_of log) (line_of log) (machine_at log)
       (pins_of log) H A f U fits (fits_ascends fits) zeros (state_of (trace (device_of log))) (fits.numbers zeros)
+
+  pub fits_lasts : Fits trace sum log H A f U → IsLasting sum (segment_size_of log) (state_of (trace (device_of log))) H A f
+  unfolding Fits
+  fits_lasts fits =
+      let size : ℕ = segment_size_of log in
+      let device : State = state_of (trace (device_of log)) in record {
+        stable = stable_below fits.reach H.batches;
+        passes = passes_line sum size device (fault_of log) (line_of log) fits.reach (pins_of log) H A f U fits.parts;
+        lasts = record {
+          can = line_leaves sum size device (fault_of log) (line_of log) fits.reach (pins_of log) H A f U fits.parts;
+          numbers = fits_numbers fits;
+        };
+      }
+
+  -- What a crash leaves of its device can be recovered, and lasts.
+  pub fits_leaves : Fits trace sum log H A f U → LeavesRecoverable sum (segment_size_of log) H A f (state_of (trace (device_of log)))
+  fits_leaves fits = lasting_leaves sum (segment_size_of log) H A f (state_of (trace (device_of log))) (fits_lasts fits)

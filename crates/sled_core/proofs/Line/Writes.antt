@@ -16,7 +16,7 @@ use Rattle.sled_core.specs.declared.iobuf.Sealed.{Sealed}
 use Rattle.sled_core.specs.inside.Fits.{HoldsIn, HoldsLine, log_parts, parts_in}
 use Rattle.sled_core.specs.inside.FreeSlots.{FreeAreZeros, HasSlot, HasSlots, HaveOwn}
 use Rattle.sled_core.specs.inside.Full.{FitsFull}
-use Rattle.sled_core.specs.Recoverable.{LeavesRecoverable}
+use Rattle.sled_core.specs.inside.Lasting.{LeavesRecovering}
 use Rattle.sled_core.specs.inside.Running.{FitsIn, FitsLine}
 use Rattle.sled_core.specs.SealedBuffers.{bytes_between, sealed_end, writing}
 use Rattle.sled_core.specs.inside.SealedBuffers.{is_ready, run_end, written_at}
@@ -87,7 +87,7 @@ module _ (sum : List ℕ → ℕ) (size : ℕ) (big : 256 ≤ size) (device : St
 
   module _ (pins : ℕ) (H : History) (A f : ℕ) (U : List Message) (recorded : records_to v.parts.filled (length v.parts.bytes) ≤ records_end v.parts.reserved (length v.parts.bytes)) where
     -- At each moment of the calls a crash leaves what can be recovered.
-    pub along_write : (place reach : ℕ) (line : List SegmentView) → AreSegments size place line → (n : ℕ) → slice_get line n ≡ Some v → FitsLine sum size device fault line reach pins H A f U → Along (LeavesRecoverable sum size H (stable_below reach H.batches) f) buffer_calls device
+    pub along_write : (place reach : ℕ) (line : List SegmentView) → AreSegments size place line → (n : ℕ) → slice_get line n ≡ Some v → FitsLine sum size device fault line reach pins H A f U → Along (LeavesRecovering sum size H (stable_below reach H.batches) f) buffer_calls device
     along_write place reach [] are n among fits = absurd fits
     along_write place reach (x ∷ xs) are zero among fits =
         let same : x ≡ v = cc in

@@ -15,12 +15,14 @@ use Rattle.sled_core.specs.inside.Hides.{IsOwnRecord}
 use Rattle.sled_core.specs.inside.Numbers.{NumbersStay}
 use Rattle.sled_core.specs.invariants.Recoverable.{Recoverable}
 use Rattle.sled_core.specs.Recoverable.{LeavesRecoverable}
+use Rattle.sled_core.specs.inside.Lasting.{LeavesRecovering}
 use Rattle.sled_core.specs.inside.Recoverable.{AreRecoverableSnapshots, AreRecoverableBlobs}
 use Rattle.sled_core.specs.Ready.{IsReady}
 use Rattle.sled_core.specs.invariants.Running.{Ready}
 use Rattle.sled_core.specs.inside.Reached.{StandsTo}
 use Rattle.sled_core.proofs.Blobs.StaysOwn.{own_at_rest}
 use Rattle.sled_core.proofs.Start.FreshLemmas.{no_entry, ready_fresh, nothing_stands, nothing_active}
+use Rattle.sled_core.proofs.Numbers.Lasting.{lasts_leaves}
 use Rattle.sled_core.proofs.Start.Recoverable.{stands_recoverable}
 use Rattle.sled_core.proofs.Read.FoundLemmas.{zero_mod}
 
@@ -55,8 +57,8 @@ nothing_recoverable sum size content long log snapshots =
     stands_recoverable sum size content no_history 0 0 empty_model 0 long tt (λ k d lt. absurd (omega (arith, lt)))
     (subst (λ (l : List ℕ). StandsTo sum size l no_history 0 empty_model 0) (sym log) (nothing_stands sum size)) (omega arith) (none_listed sum size content.snapshots snapshots) (no_blobs sum content.blobs)
 
-pub fresh_leaves : (sum : List ℕ → ℕ) (size : ℕ) → 256 ≤ size → size < 2 ^ 63 → LeavesRecoverable sum size no_history 0 0 fresh
-fresh_leaves sum size large small left leaves own = nothing_recoverable sum size left large (at_rest_left [] left.log leaves.log) (λ n. none_left n (left.snapshots n) (leaves.snapshots n))
+fresh_recovering : (sum : List ℕ → ℕ) (size : ℕ) → 256 ≤ size → size < 2 ^ 63 → LeavesRecovering sum size no_history 0 0 fresh
+fresh_recovering sum size large small left leaves own = nothing_recoverable sum size left large (at_rest_left [] left.log leaves.log) (λ n. none_left n (left.snapshots n) (leaves.snapshots n))
 
 -- Nothing is the log's own where nothing was written.
 none_own : (sum : List ℕ → ℕ) (size number at : ℕ) (text : List ℕ) → IsOwnRecord sum size fresh number at text → ⊥
@@ -69,6 +71,10 @@ fresh_numbers sum size = record {
   later = λ k place mark own up n at text inside record_own. absurd (none_own sum size n at text record_own);
   lie = λ number at text own. absurd (none_own sum size number at text own);
 }
+
+pub fresh_leaves : (sum : List ℕ → ℕ) (size : ℕ) → 256 ≤ size → size < 2 ^ 63 → LeavesRecoverable sum size no_history 0 0 fresh
+fresh_leaves sum size large small =
+    lasts_leaves sum size no_history 0 0 fresh 0 (omega arith) (record { can = fresh_recovering sum size large small; numbers = λ zeros. fresh_numbers sum size })
 
 pub fresh_ready : (sum : List ℕ → ℕ) (size : ℕ) → 256 ≤ size → size < 2 ^ 63 → Ready sum size fresh empty_model no_history 0 0
 unfolding Ready
@@ -83,7 +89,7 @@ fresh_ready sum size large small = record {
   own = λ zeros slot. record { header = λ lsn mark is. absurd (no_header sum (slot * size) lsn mark is); records = λ lsn mark at len is r. absurd (no_header sum (slot * size) (pos lsn) mark is) };
   own_names = record { of_blobs = own_at_rest (IsAnyBlob sum) (λ n. None); of_snapshots = own_at_rest (IsAnySnapshot sum) (λ n. None) };
   passes = omega arith;
-  left = fresh_leaves sum size large small;
+  left = fresh_recovering sum size large small;
   numbers = λ zeros. fresh_numbers sum size;
 }
 

@@ -12,7 +12,8 @@ use Rattle.sled_store.proofs.Histories.TableParts.{from_table}
 use Rattle.sled_core.specs.Fits.{EndBelow}
 use Rattle.sled_core.specs.Logged.{logged}
 use Rattle.sled_core.specs.invariants.Recoverable.{Recoverable}
-use Rattle.sled_core.specs.Recoverable.{LeavesRecoverable, NoHeaderOfZeros}
+use Rattle.sled_core.specs.Recoverable.{NoHeaderOfZeros}
+use Rattle.sled_core.specs.inside.Lasting.{LeavesRecovering}
 use Rattle.sled_core.specs.inside.Recoverable.{IsMarkBelow, AreRecoverableSnapshots, AreRecoverableBlobs}
 use Rattle.sled_core.specs.inside.Running.{BlobsFit, NamesFit}
 use Rattle.sled_core.specs.inside.Tail.{IsOrdering, tail_begins}
@@ -81,7 +82,7 @@ stands_recoverable sum size left H A f first reach long apart below stands passe
 
 -- So it is with whatever a crash leaves of a settled log file that stands so.
 pub settled_leaves : (sum : List ℕ → ℕ) (size : ℕ) (device : State) (log : List ℕ) (H : History) (A f : ℕ) (first : SnapshotModel) (reach : ℕ) → 256 ≤ size → LieApart (logged H).messages → EndBelow reach (logged H).messages → device.log ≡ at_rest log
-    → (NoHeaderOfZeros sum → StandsTo sum size log (logged H) reach first reach) → A ≤ reach → NamesFit sum size device.snapshots (logged H) f first → BlobsFit sum device.blobs H reach → LeavesRecoverable sum size H A f device
+    → (NoHeaderOfZeros sum → StandsTo sum size log (logged H) reach first reach) → A ≤ reach → NamesFit sum size device.snapshots (logged H) f first → BlobsFit sum device.blobs H reach → LeavesRecovering sum size H A f device
 settled_leaves sum size device log H A f first reach long apart below settled stands passes names blobs left leaves own =
     let here : left.log ≡ log = at_rest_left log left.log (subst (λ (l : LogState). LeavesLog l left.log) settled leaves.log) in
     stands_recoverable sum size left H A f first reach long apart below (subst (λ (l : List ℕ). StandsTo sum size l (logged H) reach first reach) (sym here) (stands own.zeros)) passes

@@ -19,7 +19,8 @@ use Rattle.sled_core.specs.inside.LogFile.{padded}
 use Rattle.sled_core.specs.Logged.{in_log, logged}
 use Rattle.sled_core.specs.OpenBatches.{stable_below}
 use Rattle.sled_core.specs.Ready.{HasFile}
-use Rattle.sled_core.specs.Recoverable.{LeavesRecoverable, NoHeaderOfZeros}
+use Rattle.sled_core.specs.Recoverable.{NoHeaderOfZeros}
+use Rattle.sled_core.specs.inside.Lasting.{LeavesRecovering}
 use Rattle.sled_core.specs.inside.Running.{BlobsFit, KeepsEntries, NamesFit, FitsIn, IsReadyFor}
 use Rattle.sled_core.specs.inside.Reached.{StandsActive, StandsAlone}
 use Rattle.sled_core.proofs.Blobs.StaysOwn.{own_same}
@@ -62,7 +63,7 @@ module _ (sum : List ℕ → ℕ) (size : ℕ) (device now : State) (s : Snapsho
   active_now zeros = started_active sum size long zeros log s (logged H) ready.ready.table ready.alone
 
   -- Whatever a crash leaves now can be recovered.
-  left_now : LeavesRecoverable sum size H stable f now
+  left_now : LeavesRecovering sum size H stable f now
   left_now =
       settled_leaves sum size now new H stable f ready.ready.first stable long ready.ready.apart ready.ready.below log_is
       (λ zeros. (same_place sum size new (logged H) s ready.ready.first stable stable stable same_stable refl refl (active_now zeros).stands).0) (omega arith)
@@ -100,7 +101,7 @@ module _ (sum : List ℕ → ℕ) (size : ℕ) (device now : State) (s : Snapsho
           };
           passes = let passes = ready.passes in omega (arith, passes, open_none);
           pinned = λ some. absurd (some refl);
-          left = subst (λ n. LeavesRecoverable sum size H n f now) (sym open_none) left_now;
+          left = subst (λ n. LeavesRecovering sum size H n f now) (sym open_none) left_now;
         }
 
   -- It fits where it begins.

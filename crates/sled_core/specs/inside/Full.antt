@@ -13,7 +13,8 @@ use Rattle.sled_core.specs.inside.LogFile.{padded}
 use Rattle.sled_core.specs.Logged.{logged}
 use Rattle.sled_core.specs.inside.Reached.{BeginsNext, BeginsOne, BegunSegment, LeadsTo, StandsIn, StandsTo}
 use Rattle.sled_core.specs.OpenBatches.{stable_below}
-use Rattle.sled_core.specs.Recoverable.{LeavesRecoverable, NoHeaderOfZeros}
+use Rattle.sled_core.specs.Recoverable.{NoHeaderOfZeros}
+use Rattle.sled_core.specs.inside.Lasting.{LeavesRecovering}
 use Rattle.sled_core.specs.inside.Running.{HaveItems, HaveNames, ReachesTo}
 use Rattle.sled_core.specs.inside.Scan.{IsFoundSegment}
 use Rattle.sled_core.specs.inside.Tail.{least_place}
@@ -52,4 +53,4 @@ pub record FitsFull (sum : List ℕ → ℕ) (size : ℕ) (device : State) (faul
   -- a pin is out while a completed message is not marked
   pub pinned : U ≢ [] → 0 < pins
   -- what a crash leaves now can be recovered, with all that is stable counted as acknowledged
-  pub left : LeavesRecoverable sum size H (stable_below reach H.batches) f device
+  pub left : LeavesRecovering sum size H (stable_below reach H.batches) f device

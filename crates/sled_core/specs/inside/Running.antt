@@ -19,7 +19,8 @@ use Rattle.sled_core.specs.OpenBatches.{stable_below}
 use Rattle.sled_core.specs.inside.OwnLog.{HasPlacedFile, ReadsPlaced}
 use Rattle.sled_core.specs.OwnNames.{ReadsStayOwn}
 use Rattle.sled_core.specs.inside.Recoverable.{ActiveFits, AreRecoverableSnapshots, AreRecoverableBlobs, NoBatchBegins, NoBatchEnds, BlobsAreBelow}
-use Rattle.sled_core.specs.Recoverable.{NoHeaderOfZeros, LeavesRecoverable}
+use Rattle.sled_core.specs.Recoverable.{NoHeaderOfZeros}
+use Rattle.sled_core.specs.inside.Lasting.{LeavesRecovering}
 use Rattle.sled_core.specs.inside.Reached.{StandsAmong, StandsActive}
 use Rattle.sled_core.specs.inside.LogFile.{padded}
 use Rattle.sled_core.specs.Ready.{IsReady}
@@ -87,7 +88,7 @@ pub record FitsIn (sum : List ℕ → ℕ) (parts : LogParts) (behind : List Seg
   -- a pin is out while a completed message is not marked
   pub pinned : U ≢ [] → 0 < pins
   -- what a crash leaves now can be recovered, with all that is stable counted as acknowledged
-  pub left : LeavesRecoverable sum parts.size H (stable_below reach H.batches) f parts.device
+  pub left : LeavesRecovering sum parts.size H (stable_below reach H.batches) f parts.device
 
 -- Segments one behind another fit them, as far as a reader comes.
 abbrev pub FitsLine : (List ℕ → ℕ) → ℕ → State → Option IoError → List SegmentView → ℕ → ℕ → History → ℕ → ℕ → List Message → Type 0
@@ -128,6 +129,6 @@ pub record IsReadyFor (sum : List ℕ → ℕ) (size : ℕ) (device : State) (s 
   pub own : NoHeaderOfZeros sum → ReadsPlaced sum size device
   pub own_names : ReadsStayOwn sum device
   pub passes : A ≤ stable_place s.stable
-  pub left : LeavesRecoverable sum size H A f device
+  pub left : LeavesRecovering sum size H A f device
   -- in the slots that it needs nothing that is the log's own has a greater number
   pub numbers : NoHeaderOfZeros sum → NumbersStay sum size device H (stable_place s.stable)

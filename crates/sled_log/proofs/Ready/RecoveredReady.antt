@@ -1,5 +1,5 @@
 -- Behind a recovery, over any number of segments, snapshot and device are ready for a log that holds what lies below the cut, with the cut for the floor.
-use Rattle.std.proofs.Common.{◌≡◌, ◌∙◌, ◌≤◌, ◌<◌, ◌+◌, ℕ, true, false, List, ◌∷◌, sym, ap, subst}
+use Rattle.std.proofs.Common.{◌≡◌, ◌∙◌, ◌≤◌, ◌<◌, ◌+◌, ℕ, true, false, List, ◌∷◌, sym, ap, subst, arith}
 use Rattle.std.specs.Bool.{MatchBool}
 use Rattle.std.specs.List.{Contains}
 use Rattle.sled_codec.specs.History.{Message, Batch, History, CutFits, below}
@@ -8,15 +8,20 @@ use Rattle.sled_codec.specs.Snapshots.{SnapshotModel, stable_place}
 use Rattle.sled_store.specs.Device.{Synced, NamesSynced, LogState, State, Content, Trace, state_of, content_of}
 use Rattle.sled_store.specs.SnapshotFiles.{BeginsFrom}
 use Rattle.sled_store.proofs.Histories.Ascending.{apart_ascends, all_from_in}
+use Rattle.sled_store.proofs.Marks.AccountSteps.{past_table}
 use Rattle.sled_core.specs.Fits.{EndBelow, CloseBelow}
 use Rattle.sled_core.specs.Logged.{logged}
 use Rattle.sled_core.specs.Ready.{HasFile, IsReady}
+use Rattle.sled_core.specs.inside.Lasting.{IsLasting}
+use Rattle.sled_core.specs.inside.Numbers.{NumbersStay}
 use Rattle.sled_core.specs.inside.Running.{BlobsFit, KeepsEntries, NamesFit, IsReadyFor}
 use Rattle.sled_core.specs.invariants.Running.{Ready}
 use Rattle.sled_core.specs.inside.Reached.{StandsActive}
 use Rattle.sled_core.specs.Recoverable.{NoHeaderOfZeros, ReadsOnlyOwn}
 use Rattle.sled_core.specs.inside.Recoverable.{IsRecoverableLog, AreRecoverableSnapshots}
+use Rattle.sled_core.proofs.Numbers.Stay.{stay_higher, stay_less}
 use Rattle.sled_log.proofs.Recovers.Readable.{CanRead, LeavesReadable}
+use Rattle.sled_log.specs.Orderly.{IsOrderly}
 use Rattle.sled_log.specs.Recovery.{RecoveryResult, Recovered, Recovers}
 use Rattle.sled_log.specs.Restores.{BeginsAgain}
 use Rattle.sled_log.specs.WritesBack.{FitsIfNew, HasWrittenBack, IsWrittenBack, IsOnlySnapshot, short_file, snapshot_number_of}
@@ -28,10 +33,11 @@ use Rattle.sled_log.proofs.Afterwards.LeftGood.{left_log, log_is, stops_left, no
 use Rattle.sled_log.proofs.Afterwards.LogOwn.{log_end}
 use Rattle.sled_log.proofs.Afterwards.OrderlyBelow.{orderly_below}
 use Rattle.sled_log.proofs.Moments.ForgottenAbove.{message_from, batch_from, blobs_forget, table_kept}
+use Rattle.sled_log.proofs.Moments.LessOwn.{written_less}
 use Rattle.sled_log.proofs.Moments.RecoveryAlong.{can_read, concluded}
 use Rattle.sled_log.proofs.PageTable.BelowLemmas.{fits_below}
 use Rattle.sled_log.proofs.PageTable.TableCuts.{table_below}
-use Rattle.sled_log.proofs.Ready.Convertible.{leaves_recoverable}
+use Rattle.sled_log.proofs.Ready.Convertible.{leaves_readable, leaves_recoverable}
 use Rattle.sled_log.proofs.Ready.FileThere.{has_file}
 use Rattle.sled_log.proofs.Ready.ReadToPlace.{EndsThere, ends_there, stands_active}
 use Rattle.sled_log.proofs.Ready.ZerosStay.{zeros_behind}
@@ -87,7 +93,7 @@ module _ (sum : List ℕ → ℕ) (size : ℕ) (content : Content) (H : History)
 
 -- All was written back.
 module _ (sum : List ℕ → ℕ) (size : ℕ) (H : History) (A f : ℕ) (some : 256 ≤ size) (old : Trace) (readable : LeavesReadable sum size H A f (state_of old)) (own : ReadsOnlyOwn sum size (state_of old))
-    (x : RecoveryResult) (recovers : Recovers sum size (content_of (state_of old)) (Recovered x)) (spelled : FitsIfNew x) (new : Trace) (has : HasWrittenBack sum size x (NamesSynced ∷ Synced ∷ old) new)
+    (orderly : IsOrderly H) (lasting : IsLasting sum size (state_of old) H A f) (x : RecoveryResult) (recovers : Recovers sum size (content_of (state_of old)) (Recovered x)) (spelled : FitsIfNew x) (new : Trace) (has : HasWrittenBack sum size x (NamesSynced ∷ Synced ∷ old) new)
     (again : BeginsAgain sum (state_of old).snapshots.file (state_of new) x.model) where
   abbrev content : Content
   content = content_of (state_of old)
@@ -169,6 +175,32 @@ module _ (sum : List ℕ → ℕ) (size : ℕ) (H : History) (A f : ℕ) (some :
   of_log : logged kept ≡ logged (logged kept)
   of_log = sym (logged_twice kept)
 
+  -- The place from which on all lasts isn't above the cut.
+  lasting_low : lasting.stable ≤ cut
+  lasting_low =
+      let readable = leaves_readable sum size H lasting.stable f (state_of old) orderly lasting.lasts.can in
+      let there = can_read sum size H lasting.stable f some old readable own in
+      let its = well_of sum size content H lasting.stable f some there x recovers in
+      let passes = there.log.passes in
+      let one = its.place in
+      let other = well.place in
+      omega (arith, passes, one, other)
+
+  -- In the slots that are needed nothing that is the log's own has a greater number.
+  numbers : NumbersStay sum size now H cut
+  numbers =
+      stay_higher sum size some now H lasting.stable cut lasting_low
+      (stay_less sum size now (state_of old) (written_less sum size own.zeros old new x has) H lasting.stable (lasting.lasts.numbers own.zeros))
+
+  numbers_kept : NumbersStay sum size now kept cut
+  numbers_kept = record {
+    entries = λ high page e up entry. numbers.entries cut page e (omega arith)
+        (subst (λ (l : List Message). Contains l e) (table_kept H cut page)
+        (subst (λ (l : List Message). Contains l e) (sym (past_table kept (apart_ascends kept.messages (orderly_below H cut can.orderly).formed.apart) cut high page (λ m there. (message_from H cut m there).1) up)) entry));
+    later = numbers.later;
+    lie = numbers.lie;
+  }
+
   at_cut : IsReadyFor sum size now x.model kept A cut
   unfolding ready ready_alike
   at_cut = record {
@@ -183,6 +215,7 @@ module _ (sum : List ℕ → ℕ) (size : ℕ) (H : History) (A f : ℕ) (some :
     own_names = own_end sum size x old new has;
     passes = subst (λ n. A ≤ n) (sym well.place) can.log.passes;
     left = leaves_recoverable sum size kept A cut now (below_cut sum size H A f some old readable own x recovers spelled new has);
+    numbers = λ zeros. subst (NumbersStay sum size now kept) (sym well.place) numbers_kept;
   }
 
   -- So all is ready.

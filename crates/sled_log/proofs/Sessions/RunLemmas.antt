@@ -21,7 +21,8 @@ use Rattle.sled_core.specs.Fits.{config_of, device_of, segment_size_of}
 use Rattle.sled_core.specs.Recoverable.{NoForeign, LeavesRecoverable}
 use Rattle.sled_core.specs.invariants.Recoverable.{Recoverable}
 use Rattle.sled_core.proofs.Start.FreshReady.{fresh_leaves}
-use Rattle.sled_core.proofs.Holds.RunningLemmas.{fits_leaves}
+use Rattle.sled_core.proofs.Line.NumbersKept.{fits_leaves}
+use Rattle.sled_core.proofs.PublicLaws.{crash_recoverable as again}
 use Rattle.sled_core.proofs.Line.OfLog.{fits_reads_own}
 use Rattle.sled_log.specs.declared.session.Phase.{Phase}
 use Rattle.sled_log.specs.declared.session.Phase.TheVariants as phase
@@ -85,19 +86,10 @@ runs_on_same trace old new is = record {
 
 module _ (sum : List ℕ → ℕ) (size : ℕ) where
   -- Behind a crash just what it left can be left by another one.
-  crashed_leaves : (H : History) (A f : ℕ) (left : Left) (s : State) → Recoverable sum size (content_left left s) H A f → LeavesRecoverable sum size H A f (step (Crashed left) s)
-  crashed_leaves H A f left s can content leaves own =
-      let now : Content = content_left left s in
-      let logs : content.log ≡ now.log = at_rest_left now.log content.log leaves.log in
-      let blobs : (n : ℤ) → content.blobs n ≡ now.blobs n = λ n. settled_name_left (names_at_rest now.blobs) n (content.blobs n) (settled_name_at_rest now.blobs n) (leaves.blobs n) in
-      let snapshots : (n : ℤ) → content.snapshots n ≡ now.snapshots n = λ n. settled_name_left (names_at_rest now.snapshots) n (content.snapshots n) (settled_name_at_rest now.snapshots n) (leaves.snapshots n) in
-      let same : now ≡ content = λ i. record { log = sym logs i; blobs = λ n. sym (blobs n) i; snapshots = λ n. sym (snapshots n) i } in
-      subst (λ (c : Content). Recoverable sum size c H A f) same can
-
   pub crash_recoverable : (H : History) (A f : ℕ) (old new : Trace) (left : Left) → LeavesRecoverable sum size H A f (state_of old) → new ≡ Crashed left ∷ old → Leaves (state_of old) (content_left left (state_of old))
       → NoForeign sum size (state_of old) (content_left left (state_of old)) → LeavesRecoverable sum size H A f (state_of new)
   crash_recoverable H A f old new left leaves is may own =
-      subst (λ (t : Trace). LeavesRecoverable sum size H A f (state_of t)) (sym is) (crashed_leaves H A f left (state_of old) (leaves (content_left left (state_of old)) may own))
+      subst (λ (t : Trace). LeavesRecoverable sum size H A f (state_of t)) (sym is) (again sum size H A f old left leaves may own).1
 
   -- An empty device, no log on it.
   pub fresh_closed : 256 ≤ size → size < 2 ^ 63 → (trace : Trace) → state_of trace ≡ fresh → IsClosedAt sum size trace (record { history = no_history; acknowledged = 0; floor = 0; tickets = []; given_up = []; heads = [] })

@@ -8,7 +8,7 @@ use Rattle.sled_core.specs.declared.logger.Log.{Log}
 use Rattle.sled_core.specs.Fits.{device_of, segment_size_of}
 use Rattle.sled_core.specs.Keeps.{GoesOn}
 use Rattle.sled_core.specs.Recoverable.{LeavesRecoverable, RecoverableIfOwn}
-use Rattle.sled_core.proofs.Holds.RunningLemmas.{fits_leaves}
+use Rattle.sled_core.proofs.Line.NumbersKept.{fits_leaves}
 use Rattle.sled_log.specs.declared.session.opened.Opened.{Opened}
 use Rattle.sled_log.specs.RunPhases.{IsOpenAt, Unstored}
 

@@ -11,7 +11,7 @@ use Rattle.sled_core.specs.Causes.{HeldAnswers}
 use Rattle.sled_core.specs.Fits.{device_of, fault_of, segment_size_of}
 use Rattle.sled_core.specs.Recoverable.{LeavesRecoverable, ReadsOnlyOwn}
 use Rattle.sled_core.specs.invariants.Running.{Fits}
-use Rattle.sled_core.proofs.Holds.RunningLemmas.{fits_leaves}
+use Rattle.sled_core.proofs.Line.NumbersKept.{fits_leaves}
 use Rattle.sled_core.proofs.Line.OfLog.{fits_reads_own}
 use Rattle.sled_log.specs.Orderly.{CanRecover}
 use Rattle.sled_log.specs.Restarts.{CanRestart, FlushFails}

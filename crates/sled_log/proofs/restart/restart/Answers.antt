@@ -21,7 +21,7 @@ use Rattle.sled_core.proofs.Blobs.FirmContent.{read_recoverable}
 use Rattle.sled_core.specs.invariants.Running.{Ready}
 use Rattle.sled_core.specs.Running.{end_below}
 use Rattle.sled_core.proofs.Holds.ReachLemmas.{fits_holds}
-use Rattle.sled_core.proofs.Holds.RunningLemmas.{fits_leaves}
+use Rattle.sled_core.proofs.Line.NumbersKept.{fits_leaves}
 use Rattle.sled_core.proofs.Line.OfLog.{fits_reads_own}
 use Rattle.sled_core.proofs.Read.ReadingLemmas.{if_ok}
 use Rattle.sled_log.specs.Orderly.{CanRecover}

@@ -5,7 +5,9 @@ use Rattle.sled_store.specs.Device.{Content, Trace, state_of, content_of}
 use Rattle.sled_core.specs.Good.{IsGood}
 use Rattle.sled_core.specs.Recoverable.{LeavesRecoverable}
 use Rattle.sled_core.specs.invariants.Running.{Ready}
+use Rattle.sled_core.proofs.Numbers.Lasting.{lasting_leaves}
 use Rattle.sled_core.proofs.Read.ReadingLemmas.{if_ok}
+use Rattle.sled_core.proofs.Start.StartedMoments.{ready_lasts}
 use Rattle.sled_log.proofs.Afterwards.LeftGood.{good_left}
 use Rattle.sled_log.proofs.Moments.RecoveryAlong.{can_read}
 use Rattle.sled_log.proofs.Ready.ComesBack.{holds_throughout, is_ready, reads_back}
@@ -60,7 +62,9 @@ returns-clause-kept g c = λ H A f can.
     let sum = g.C.Checksum.sum_of in
     let size : ℕ = c.args.config.now.config.segment_size in
     let new : Trace = g.D.Device.trace c.read_and_write_back.new.config.device in
-    if_ok c.read_and_write_back.result _ (λ s. LeavesRecoverable sum size (below H (stable_place s.stable_lsn)) A (stable_place s.stable_lsn) (state_of new)) (λ s ready. ready.left)
+    if_ok c.read_and_write_back.result _ (λ s. LeavesRecoverable sum size (below H (stable_place s.stable_lsn)) A (stable_place s.stable_lsn) (state_of new)) (λ s ready.
+    let cut : ℕ = stable_place s.stable_lsn in
+    lasting_leaves sum size (below H cut) A cut (state_of new) (ready_lasts sum size new (model_of s) (below H cut) A cut c.args.config.now.config.least ready))
     (returns-clause-ready g c H A f can)
 
 pub returns-clause-later : goal.returns-clause-later

@@ -14,7 +14,7 @@ use Rattle.sled_core.specs.Running.{end_below}
 use Rattle.sled_core.specs.Stable.{CloseAnswers, SyncsAll, first_begin, stable_behind}
 use Rattle.sled_core.specs.Waiting.{BufferAt}
 use Rattle.sled_core.specs.declared.logger.Log.{Log}
-use Rattle.sled_core.proofs.Flush.Settled.{leaves_less}
+use Rattle.sled_core.proofs.Holds.LessClaimed.{leaves_claimed}
 use Rattle.sled_core.proofs.Holds.LastEnds.{acknowledged_up}
 use Rattle.sled_core.proofs.Line.Buffers.{first_left}
 use Rattle.sled_core.proofs.Line.Outcomes.{on_both, on_err}
@@ -116,7 +116,7 @@ returns-clause-acknowledges g c = λ H A f U fits.
     on_both c.flush-flushed.result _ _ (LeavesRecoverable sum (segment_size_of old) H (max A (end_below (reserved_end old) H)) f left)
     (λ flushed synced.
     let up = acknowledged_up (reserved_end old) (synced_end new) H synced.whole in
-    leaves_less sum (segment_size_of old) H (max A (end_below (reserved_end old) H)) (max A (end_below (synced_end new) H)) f left (omega (arith, up))
+    leaves_claimed sum (segment_size_of old) f f (omega arith) H (max A (end_below (synced_end new) H)) (max A (end_below (reserved_end old) H)) (omega (arith, up)) left
     (subst (λ n. LeavesRecoverable sum n H (max A (end_below (synced_end new) H)) f left) c.flush-flushed.ensures.keeps.position.size
     (c.halt.ensures.recoverable H (max A (end_below (synced_end new) H)) f U flushed)))
     (c.flush-flushed.ensures.acknowledges H A f U fits) c.flush-flushed.ensures.synced

@@ -1,7 +1,5 @@
-use Rattle.sled_core.specs.invariants.Running.{Fits}
-use Rattle.sled_core.proofs.Holds.RunningLemmas.{fits-leaves}
+use Rattle.sled_core.proofs.Line.NumbersKept.{fits_leaves}
 use Rattle.sled_core.proofs.logger.Log.halt.Goals as goal
 
 pub returns-clause-recoverable : goal.returns-clause-recoverable
-unfolding Fits
-returns-clause-recoverable g c = λ H A f U fits. fits-leaves _ _ _ _ _ _ _ _ _ _ H A f U fits.parts
+returns-clause-recoverable g c = λ H A f U fits. fits_leaves g.D.Device.trace g.C.Checksum.sum_of c.args.self H A f U fits
