@@ -17,7 +17,7 @@ use Rattle.sled_core.proofs.Line.EndedTickets.{says_place, ticket_above, ticket_
 use Rattle.sled_core.proofs.Line.Ends.{fits_completed, holds_completed}
 use Rattle.sled_core.proofs.Line.EndedLine.{completing_short}
 use Rattle.sled_core.proofs.Holds.Facts.{nth_facts}
-use Rattle.sled_core.proofs.Line.TicketEnds.{EndsAt, kind_there, reserved_at, ticket_ends, ticket_fits, ticket_given, ticket_goes_on, ticket_holds, ticket_keeps}
+use Rattle.sled_core.proofs.Line.TicketEnds.{EndsAt, IsReservedAt, kind_there, reserved_at, ticket_ends, ticket_fits, ticket_given, ticket_goes_on, ticket_holds, ticket_keeps}
 use Rattle.sled_core.proofs.Logged.Messages.{put_real}
 use Rattle.sled_core.proofs.logger.Log.complete.Given.{Over}
 use Rattle.sled_core.proofs.logger.Log.complete.Goals as goal
@@ -33,33 +33,43 @@ segment_of-n-requires g c =
     let place : c.unsigned_abs.result ≡ unsigned_abs (place_of c.args.ticket) = c.unsigned_abs.ensures.value ∙ says_place c.lsn-place.result (place_of c.args.ticket) c.lsn-place.type_inv c.lsn-place.ensures in
     omega (arith, above, place)
 
+-- what code reads of the ticket is its place
+place : (g : Over) (c : goal.After-complete_in-arg-1 g) → c.unsigned_abs.result ≡ unsigned_abs (place_of c.args.ticket)
+place g c = c.unsigned_abs.ensures.value ∙ says_place c.lsn-place.result (place_of c.args.ticket) c.lsn-place.type_inv c.lsn-place.ensures
+
+-- it is that of whichever message the ticket awaits,
+abbrev at : (g : Over) (c : goal.After-complete_in-arg-1 g) (m : Message) → Awaits c.args.self.now c.args.ticket m
+    → IsReservedAt c.args.self.now c.args.ticket c.segment_of-n.result c.index-index.result
+at g c m awaits = reserved_at c.args.self.now c.args.ticket m awaits c.unsigned_abs.result c.segment_of-n.result c.index-index.result (place g c)
+    c.segment_of-n.ensures c.index-index.ensures
+
 pub complete_in-requires-clause-message : goal.complete_in-requires-clause-message
-complete_in-requires-clause-message g c = λ v r at there.
-    let place : c.unsigned_abs.result ≡ unsigned_abs (place_of c.args.ticket) = c.unsigned_abs.ensures.value ∙ says_place c.lsn-place.result (place_of c.args.ticket) c.lsn-place.type_inv c.lsn-place.ensures in
+complete_in-requires-clause-message g c = λ v r among there.
     kind_there c.args.self.now c.args.ticket c.segment_of-n.result c.index-index.result
-    (reserved_at c.args.self.now c.args.ticket c.requires.awaited.0 c.requires.awaited.1 c.unsigned_abs.result c.segment_of-n.result c.index-index.result place c.segment_of-n.ensures c.index-index.ensures) v r at there
+    (at g c c.requires.awaited.0 c.requires.awaited.1) v r among there
     ∙ c.requires.message
 
 pub complete_in-requires-clause-awaited : goal.complete_in-requires-clause-awaited
 complete_in-requires-clause-awaited g c =
-    let place : c.unsigned_abs.result ≡ unsigned_abs (place_of c.args.ticket) = c.unsigned_abs.ensures.value ∙ says_place c.lsn-place.result (place_of c.args.ticket) c.lsn-place.type_inv c.lsn-place.ensures in
-    ticket_open c.args.self.now c.args.ticket c.requires.awaited.0 c.requires.awaited.1 c.unsigned_abs.result c.segment_of-n.result c.index-index.result place c.segment_of-n.ensures c.index-index.ensures
+    ticket_open c.args.self.now c.args.ticket c.requires.awaited.0 c.requires.awaited.1 c.unsigned_abs.result c.segment_of-n.result c.index-index.result
+    (place g c) c.segment_of-n.ensures c.index-index.ensures
 
 -- It ends as that of a completed message, for whichever message the ticket awaits,
 abbrev ended : (g : Over) (c : goal.After-complete_in g) (m : Message) → Awaits c.args.self.now c.args.ticket m
     → EndsAt c.args.self.now c.complete_in.new.self c.args.ticket c.segment_of-n.result c.index-index.result Completed
 ended g c m awaits =
-    let place : c.unsigned_abs.result ≡ unsigned_abs (place_of c.args.ticket) = c.unsigned_abs.ensures.value ∙ says_place c.lsn-place.result (place_of c.args.ticket) c.lsn-place.type_inv c.lsn-place.ensures in
-    let f = reserved_at c.args.self.now c.args.ticket m awaits c.unsigned_abs.result c.segment_of-n.result c.index-index.result place c.segment_of-n.ensures c.index-index.ensures in
+    let f = at g c.before m awaits in
     record {
       at = f;
       text = completing f.reserved;
-      short = completing_short f.segment (c.index-index.result - f.segment.gone) f.reserved (nth_facts c.args.self.now c.segment_of-n.result f.segment f.among) f.there f.own.open_yet;
+      short = completing_short f.segment (c.index-index.result - f.segment.gone) f.reserved
+          (nth_facts c.args.self.now c.segment_of-n.result f.segment f.among) f.there f.own.open_yet;
       line = c.complete_in.ensures.line f.segment f.reserved f.among f.there;
     }
 
 -- and it is open, so the ticket awaits one.
-own : (g : Over) (c : goal.After-complete_in g) → EndsAt c.args.self.now c.complete_in.new.self c.args.ticket c.segment_of-n.result c.index-index.result Completed
+own : (g : Over) (c : goal.After-complete_in g)
+    → EndsAt c.args.self.now c.complete_in.new.self c.args.ticket c.segment_of-n.result c.index-index.result Completed
 own g c = ended g c c.requires.awaited.0 c.requires.awaited.1
 
 -- The log holds the history with the message.
@@ -72,7 +82,8 @@ returns-clause-history g c = λ H m holds awaits.
     let e = ended g c m awaits in
     let f = e.at in
     let i : ℕ = c.index-index.result - f.segment.gone in
-    let done = holds_completed g.C.Checksum.sum_of old.config.config.segment_size (state_of (g.D.Device.trace old.config.device)) old.fault.kept (line_of old) n f.segment f.among
+    let done = holds_completed g.C.Checksum.sum_of old.config.config.segment_size (state_of (g.D.Device.trace old.config.device))
+    old.fault.kept (line_of old) n f.segment f.among
     old.segments.first.site.place (nth_facts old) i f.reserved f.there f.own.open_yet (machine_of old.accountant) (noted_in old)
     (sym f.own.manifest ∙ c.requires.message) (logged H) holds in
     let real = put_real (HoldsWith g.C.Checksum.sum_of (noted_in old) old.config.config.segment_size (state_of (g.D.Device.trace old.config.device)) old.fault.kept _ (machine_of old.accountant)) H m done.0 (subst (λ (x : Message). AddsMessage (logged H) x done.0) (sym awaits.message) done.1) done.2 in (
@@ -89,7 +100,8 @@ returns-clause-fits g c = λ H A f U m fits awaits stored out.
     let e = ended g c m awaits in
     let its = e.at in
     let i : ℕ = c.index-index.result - its.segment.gone in
-    let done = fits_completed g.C.Checksum.sum_of old.config.config.segment_size (state_of (g.D.Device.trace old.config.device)) old.fault.kept (line_of old) n its.segment its.among
+    let done = fits_completed g.C.Checksum.sum_of old.config.config.segment_size (state_of (g.D.Device.trace old.config.device))
+    old.fault.kept (line_of old) n its.segment its.among
     old.segments.first.site.place (nth_facts old) i its.reserved its.there its.own.open_yet (machine_of old.accountant) (noted_in old) m awaits.message
     stored.below stored.item (sym its.own.manifest ∙ c.requires.message) old.pins H A f U old.config.config.least c.in_default.is out fits in (
       done.0,

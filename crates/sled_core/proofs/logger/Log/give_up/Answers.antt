@@ -31,7 +31,7 @@ use Rattle.sled_core.proofs.Line.EndedTickets.{ended_gives, says_place, ticket_a
 use Rattle.sled_core.proofs.Line.Ends.{fits_aborted, holds_aborted, with_segment}
 use Rattle.sled_core.proofs.Line.EndedLine.{canceling_head, canceling_short}
 use Rattle.sled_core.proofs.Holds.Facts.{nth_facts}
-use Rattle.sled_core.proofs.Line.TicketEnds.{EndsAt, kind_there, reserved_at, ticket_ends, ticket_fits, ticket_goes_on, ticket_holds, ticket_keeps, ticket_left}
+use Rattle.sled_core.proofs.Line.TicketEnds.{EndsAt, IsReservedAt, kind_there, reserved_at, ticket_ends, ticket_fits, ticket_goes_on, ticket_holds, ticket_keeps, ticket_left}
 use Rattle.sled_core.proofs.Reserve.Entries.{open_plain, reserved_in}
 use Rattle.sled_core.proofs.Reserve.Ranges.{at_there}
 use Rattle.sled_core.proofs.Line.LineEnds.{kept_same}
@@ -53,33 +53,43 @@ segment_of-n-requires g c =
     let place : c.unsigned_abs.result ≡ unsigned_abs (place_of c.args.ticket) = c.unsigned_abs.ensures.value ∙ says_place c.lsn-place.result (place_of c.args.ticket) c.lsn-place.type_inv c.lsn-place.ensures in
     omega (arith, above, place)
 
+-- what code reads of the ticket is its place
+place : (g : Over) (c : goal.After-abort_in-arg-1 g) → c.unsigned_abs.result ≡ unsigned_abs (place_of c.args.ticket)
+place g c = c.unsigned_abs.ensures.value ∙ says_place c.lsn-place.result (place_of c.args.ticket) c.lsn-place.type_inv c.lsn-place.ensures
+
+-- it is that of whichever message the ticket awaits,
+abbrev at : (g : Over) (c : goal.After-abort_in-arg-1 g) (m : Message) → Awaits c.args.self.now c.args.ticket m
+    → IsReservedAt c.args.self.now c.args.ticket c.segment_of-n.result c.index-index.result
+at g c m awaits = reserved_at c.args.self.now c.args.ticket m awaits c.unsigned_abs.result c.segment_of-n.result c.index-index.result (place g c)
+    c.segment_of-n.ensures c.index-index.ensures
+
 pub abort_in-requires-clause-kind : goal.abort_in-requires-clause-kind
-abort_in-requires-clause-kind g c = λ v r at there.
-    let place : c.unsigned_abs.result ≡ unsigned_abs (place_of c.args.ticket) = c.unsigned_abs.ensures.value ∙ says_place c.lsn-place.result (place_of c.args.ticket) c.lsn-place.type_inv c.lsn-place.ensures in
+abort_in-requires-clause-kind g c = λ v r among there.
     kind_there c.args.self.now c.args.ticket c.segment_of-n.result c.index-index.result
-    (reserved_at c.args.self.now c.args.ticket c.requires.0 c.requires.1 c.unsigned_abs.result c.segment_of-n.result c.index-index.result place c.segment_of-n.ensures c.index-index.ensures) v r at there
+    (at g c c.requires.0 c.requires.1) v r among there
     ∙ sym c.is_manifest-manifest.ensures
 
 pub abort_in-requires-clause-awaited : goal.abort_in-requires-clause-awaited
 abort_in-requires-clause-awaited g c =
-    let place : c.unsigned_abs.result ≡ unsigned_abs (place_of c.args.ticket) = c.unsigned_abs.ensures.value ∙ says_place c.lsn-place.result (place_of c.args.ticket) c.lsn-place.type_inv c.lsn-place.ensures in
-    ticket_open c.args.self.now c.args.ticket c.requires.0 c.requires.1 c.unsigned_abs.result c.segment_of-n.result c.index-index.result place c.segment_of-n.ensures c.index-index.ensures
+    ticket_open c.args.self.now c.args.ticket c.requires.0 c.requires.1 c.unsigned_abs.result c.segment_of-n.result c.index-index.result
+    (place g c) c.segment_of-n.ensures c.index-index.ensures
 
 -- It ends as that of a message that was given up, for whichever message the ticket awaits,
 abbrev ended : (g : Over) (c : goal.After-abort_in g) (m : Message) → Awaits c.args.self.now c.args.ticket m
     → EndsAt c.args.self.now c.abort_in.new.self c.args.ticket c.segment_of-n.result c.index-index.result Canceled
 ended g c m awaits =
-    let place : c.unsigned_abs.result ≡ unsigned_abs (place_of c.args.ticket) = c.unsigned_abs.ensures.value ∙ says_place c.lsn-place.result (place_of c.args.ticket) c.lsn-place.type_inv c.lsn-place.ensures in
-    let f = reserved_at c.args.self.now c.args.ticket m awaits c.unsigned_abs.result c.segment_of-n.result c.index-index.result place c.segment_of-n.ensures c.index-index.ensures in
+    let f = at g c.before m awaits in
     record {
       at = f;
       text = canceling g.C.Checksum.sum_of f.segment.parts.bytes f.reserved;
-      short = canceling_short g.C.Checksum.sum_of f.segment (c.index-index.result - f.segment.gone) f.reserved (nth_facts c.args.self.now c.segment_of-n.result f.segment f.among) f.there f.own.open_yet;
+      short = canceling_short g.C.Checksum.sum_of f.segment (c.index-index.result - f.segment.gone) f.reserved
+          (nth_facts c.args.self.now c.segment_of-n.result f.segment f.among) f.there f.own.open_yet;
       line = c.abort_in.ensures.line f.segment f.reserved f.among f.there;
     }
 
 -- and it is open, so the ticket awaits one.
-abbrev own : (g : Over) (c : goal.After-abort_in g) → EndsAt c.args.self.now c.abort_in.new.self c.args.ticket c.segment_of-n.result c.index-index.result Canceled
+abbrev own : (g : Over) (c : goal.After-abort_in g)
+    → EndsAt c.args.self.now c.abort_in.new.self c.args.ticket c.segment_of-n.result c.index-index.result Canceled
 own g c = ended g c c.requires.0 c.requires.1
 
 -- The log holds and fits what it did.
@@ -93,10 +103,12 @@ returns-clause-keeps g c =
     record {
       goes_on = ticket_goes_on (own g c) c.abort_in.ensures.rest g.D.Device.trace g.C.Checksum.sum_of;
       history = λ H holds. ticket_holds (own g c) c.abort_in.ensures.rest g.D.Device.trace g.C.Checksum.sum_of H
-          (holds_aborted g.C.Checksum.sum_of old.config.config.segment_size (state_of (g.D.Device.trace old.config.device)) old.fault.kept (line_of old) n f.segment f.among
+          (holds_aborted g.C.Checksum.sum_of old.config.config.segment_size (state_of (g.D.Device.trace old.config.device))
+          old.fault.kept (line_of old) n f.segment f.among
           old.segments.first.site.place (nth_facts old) i f.reserved f.there f.own.open_yet (machine_of old.accountant) (noted_in old) (logged H) holds);
       fits = λ H A r U fits. ticket_fits (own g c) c.abort_in.ensures.rest g.D.Device.trace g.C.Checksum.sum_of H A r U
-          (fits_aborted g.C.Checksum.sum_of old.config.config.segment_size (state_of (g.D.Device.trace old.config.device)) old.fault.kept (line_of old) n f.segment f.among
+          (fits_aborted g.C.Checksum.sum_of old.config.config.segment_size (state_of (g.D.Device.trace old.config.device))
+          old.fault.kept (line_of old) n f.segment f.among
           old.segments.first.site.place (nth_facts old) i f.reserved f.there f.own.open_yet (machine_of old.accountant) (noted_in old) old.pins H A r U fits);
       noted = ticket_left (own g c) c.abort_in.ensures.rest;
       kept = kept_same old c.abort_in.new.self c.abort_in.ensures.rest.noted;
