@@ -126,7 +126,8 @@ module _ (sum : List ℕ → ℕ) (size : ℕ) (site : SegmentPosition) (device 
         reached = record {
           near = fits.reached.near;
           ends = λ x there below. fits.reached.ends x (message_was (logged H) (logged H') b put x there) below;
-          no_batch = no_batch_grown (logged H) (logged H') b.low (batch_grows (logged H) (logged H') b put) reach (site.place + from) (inr past) fits.reached.no_batch;
+          no_batch = no_batch_grown (logged H) (logged H') b.low (batch_grows (logged H) (logged H') b put)
+              reach (site.place + from) (inr past) fits.reached.no_batch;
           no_end = no_end (logged H) (logged H') b put reach (site.place + from) past fits.reached.no_end;
         };
         among = λ fine none. subst (λ (z : SnapshotModel). StandsAmong sum size device.log.bytes site from others' reach (logged H') z) same (alone_new none);

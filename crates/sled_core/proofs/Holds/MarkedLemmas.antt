@@ -97,7 +97,9 @@ module _ (sum : List ℕ → ℕ) (size : ℕ) (site : SegmentPosition) (device 
         reached = record {
           near = let near = fits.reached.near in omega (arith, near, is);
           ends = λ x there below. fits.reached.ends x (message_was (logged H) (logged H') b put x there) (omega (arith, below, is));
-          no_batch = subst (λ n. NoBatchBegins (logged H') reach (site.place + n)) (sym is) (no_batch_grown (logged H) (logged H') b.low (batch_grows (logged H) (logged H') b put) reach (site.place + from) (inr above) fits.reached.no_batch);
+          no_batch = subst (λ n. NoBatchBegins (logged H') reach (site.place + n)) (sym is)
+              (no_batch_grown (logged H) (logged H') b.low (batch_grows (logged H) (logged H') b put) reach (site.place + from)
+              (inr above) fits.reached.no_batch);
           no_end = subst (λ n. NoBatchEnds (logged H') reach (site.place + n)) (sym is) (no_end (logged H) (logged H') b put reach (site.place + from) above fits.reached.no_end);
         };
         among = λ fine none. subst (λ (s : SnapshotModel). StandsAmong sum size device.log.bytes site from' others reach (logged H') s) same (subst (λ n. StandsAmong sum size device.log.bytes site n others reach (logged H') first) (sym is) (alone_new none));

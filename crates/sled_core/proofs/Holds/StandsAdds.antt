@@ -36,8 +36,10 @@ module _ (sum : List ℕ → ℕ) (size : ℕ) (log : List ℕ) (some : 256 ≤ 
   capped_new : (s : Scanned) → Contains is.scanned s → s.why ≡ Capped → NoMessageBegins H' (s.segment.place + s.stop) (s.segment.place + size) × NoBatchBegins H' (s.segment.place + s.stop) (s.segment.place + size)
   capped_new s here capped =
       let had = (is.caps s here).0 capped in
-      let other = cap_beside sum size log some H A first reach is m.place beside s here capped in
-      (no_message_grown H H' m.place (message_grows H H' m adds) (s.segment.place + s.stop) (s.segment.place + size) other had.0, no_batch H H' m adds (s.segment.place + s.stop) (s.segment.place + size) had.1)
+      let other = cap_beside sum size log some H A first reach is m.place beside s here capped in (
+        no_message_grown H H' m.place (message_grows H H' m adds) (s.segment.place + s.stop) (s.segment.place + size) other had.0,
+        no_batch H H' m adds (s.segment.place + s.stop) (s.segment.place + size) had.1,
+      )
 
   caps_new : (s : Scanned) → Contains is.scanned s → NothingBehind size H' s.segment.place s.stop s.why
   caps_new s here = ((λ capped. capped_new s here capped), (λ goes b there. (is.caps s here).1 goes b (batch_was H H' m adds b there)))
@@ -48,7 +50,14 @@ module _ (sum : List ℕ → ℕ) (size : ℕ) (log : List ℕ) (some : 256 ≤ 
     | inl below ↦ inl below
     | inr (n, at, under, message, batch, ended) ↦ (
         let low : n < m.place = mark_below s.mark n m.place at (marks s there) in
-        inr (n, at, under, no_message_grown H H' m.place (message_grows H H' m adds) A (n + 1) (inr (omega (arith, low))) message, no_batch H H' m adds A (n + 1) batch, λ b at_b. ended b (batch_was H H' m adds b at_b)))
+        inr (
+          n,
+          at,
+          under,
+          no_message_grown H H' m.place (message_grows H H' m adds) A (n + 1) (inr (omega (arith, low))) message,
+          no_batch H H' m adds A (n + 1) batch,
+          λ b at_b. ended b (batch_was H H' m adds b at_b),
+        ))
   ]
 
   segment_of_new : (cut : ℕ) → cut ≤ reach → (n : Message) → IsSegmentOf sum size log H cut n → IsSegmentOf sum size log H' cut n
@@ -58,7 +67,8 @@ module _ (sum : List ℕ → ℕ) (size : ℕ) (log : List ℕ) (some : 256 ≤ 
     place = of.place;
     reached = of.reached;
     whole = λ x there same under. of.whole x (among H H' m cut adds (omega (arith, high, above)) x there under) same under;
-    full = λ under. reads_grown H H' m.place (message_grows H H' m adds) sum size log some of.segment of.found.slot (omega (arith, under, high, above)) (of.full under);
+    full = λ under. reads_grown H H' m.place (message_grows H H' m adds) sum size log some of.segment of.found.slot
+        (omega (arith, under, high, above)) (of.full under);
   }
 
   needed_new : (cut : ℕ) → is.from ≤ cut → cut ≤ reach → (page : ℕ) (n : Message) → Contains (table H' cut page) n → IsSegmentOf sum size log H' cut n × StandsInline sum size log n n.pointer

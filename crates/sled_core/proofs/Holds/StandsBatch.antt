@@ -101,8 +101,10 @@ module _ (sum : List ℕ → ℕ) (size : ℕ) (log : List ℕ) (some : 256 ≤ 
   capped_new : (s : Scanned) → Contains is.scanned s → s.why ≡ Capped → NoMessageBegins H' (s.segment.place + s.stop) (s.segment.place + size) × NoBatchBegins H' (s.segment.place + s.stop) (s.segment.place + size)
   capped_new s here capped =
       let had = (is.caps s here).0 capped in
-      let other = cap_beside sum size log some H A first reach is b.low beside s here capped in
-      (no_message H H' b adds (s.segment.place + s.stop) (s.segment.place + size) had.0, no_batch_grown H H' b.low (batch_grows H H' b adds) (s.segment.place + s.stop) (s.segment.place + size) other had.1)
+      let other = cap_beside sum size log some H A first reach is b.low beside s here capped in (
+        no_message H H' b adds (s.segment.place + s.stop) (s.segment.place + size) had.0,
+        no_batch_grown H H' b.low (batch_grows H H' b adds) (s.segment.place + s.stop) (s.segment.place + size) other had.1,
+      )
 
   -- and its peg lies in nothing that fills a segment which leads on
   caps_new : (s : Scanned) → Contains is.scanned s → NothingBehind size H' s.segment.place s.stop s.why
@@ -144,7 +146,8 @@ module _ (sum : List ℕ → ℕ) (size : ℕ) (log : List ℕ) (some : 256 ≤ 
     place = of.place;
     reached = of.reached;
     whole = λ x there same under. of.whole x (message_was H H' b adds x there) same under;
-    full = λ under. reads_grown H H' b.low (batch_grows H H' b adds) sum size log some of.segment of.found.slot (omega (arith, under, high, above)) (of.full under);
+    full = λ under. reads_grown H H' b.low (batch_grows H H' b adds) sum size log some of.segment of.found.slot
+        (omega (arith, under, high, above)) (of.full under);
   }
 
   needed_new : (cut : ℕ) → is.from ≤ cut → cut ≤ reach → (page : ℕ) (n : Message) → Contains (table H' cut page) n → IsSegmentOf sum size log H' cut n × StandsInline sum size log n n.pointer

@@ -262,7 +262,8 @@ module _ (sum : List ℕ → ℕ) (size : ℕ) (device : State) (fault : Option 
           batches = batches_set (ended_now i r (completing r) Completed v) refl refl (logged done.0) (batches_completed (written_to line) (line_end size line) noted (logged H) (logged done.0) (in_log x) put apart fits.batches);
           slots = slots_set size line device.log.bytes fault machine n v (ended_now i r (completing r) Completed v) there refl fits.slots;
           whole = λ none zeros. subst (λ p. AreWhole sum size device.log.bytes (logged done.0) p machine) (sym (first_set line n v (ended_now i r (completing r) Completed v) there refl))
-              (whole_grown sum size least device.log.bytes (logged H) (logged done.0) x.place (first_place line) machine (message_grows (logged H) (logged done.0) (in_log x) put) past (fits.whole none zeros));
+              (whole_grown sum size least device.log.bytes (logged H) (logged done.0) x.place (first_place line) machine
+              (message_grows (logged H) (logged done.0) (in_log x) put) past (fits.whole none zeros));
           own = λ none zeros. own_ended sum size (HeaderWasPlaced device.placed) (RecordWasPlaced sum size device.placed) device.log.bytes line n v i r (completing r) Completed there (fits.own none zeros);
           account = account_completed sum size device.snapshots.file H U machine fits.account done.0 x done.1;
           numbers = λ zeros. subst (HasNumbers sum size device machine) (sym (end_set size line n v (ended_now i r (completing r) Completed v) there refl)) (fits.numbers zeros);

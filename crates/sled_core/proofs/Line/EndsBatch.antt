@@ -164,7 +164,8 @@ module _ (sum : List ℕ → ℕ) (size : ℕ) (device : State) (fault : Option 
         batches = batches_now (logged H) holds fits.batches;
         slots = slots_set size line device.log.bytes fault machine n v (ended_now i r (marking sum v.parts.bytes r peg) Manifest v) there (λ j. v.parts.site) fits.slots;
         whole = λ none zeros. subst (λ p. AreWhole sum size device.log.bytes (noted_history (logged H) b) p machine) (sym (first_set line n v (ended_now i r (marking sum v.parts.bytes r peg) Manifest v) there (λ j. v.parts.site)))
-            (whole_grown sum size least device.log.bytes (logged H) (noted_history (logged H) b) b.low (first_place line) machine (batch_grows (logged H) (noted_history (logged H) b) b (noted_adds (logged H) b later))
+            (whole_grown sum size least device.log.bytes (logged H) (noted_history (logged H) b) b.low (first_place line) machine
+            (batch_grows (logged H) (noted_history (logged H) b) b (noted_adds (logged H) b later))
             (first_before sum size device fault line n v there place facts i r at is_open machine noted) (fits.whole none zeros));
         own = λ none zeros. own_ended sum size (HeaderWasPlaced device.placed) (RecordWasPlaced sum size device.placed) device.log.bytes line n v i r (marking sum v.parts.bytes r peg) Manifest there (fits.own none zeros);
         account = account_noted sum size device.snapshots.file H U machine fits.account (noted_history H b) refl;

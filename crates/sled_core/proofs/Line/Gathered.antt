@@ -1,4 +1,4 @@
--- What is gathered along the segments of a line, first what the first one has: with the last one changed, with one of them changed, with a further one behind them, and without those at the front that are wholly on the device; and what sealing leaves as it is of a segment.
+-- What is gathered along the segments of a line: with the last one or another one changed, with a further one, and without those that are wholly on the device.
 use Rattle.std.proofs.Common.{◌≡◌, ◌∙◌, ◌≤◌, ◌+◌, ◌/◌, nat_lt, ap, sym, refl, subst, inl, inr, append_assoc, ℕ, zero, suc, Bool, true, false, if◌then◌else◌, List, [], ◌∷◌, ◌++◌, length, set, Some}
 use Rattle.std.specs.List.{Contains, slice_get}
 use Rattle.std.proofs.lemmas.List.{append-nil}
@@ -17,7 +17,8 @@ abbrev pub filled_up : (List ℕ → ℕ) → ℕ → SegmentView → SegmentVie
 filled_up sum size v = with_filling size v (segment_rest sum size (v.parts.site.place / size) (length v.parts.bytes))
 
 -- What neither sealing the current buffer of a segment changes nor what fills it,
-module _ {X : Type 0} (f : SegmentView → X) (sealed : (w : SegmentView) → f (sealed_now w) ≡ f w) (sum : List ℕ → ℕ) (size : ℕ) (v : SegmentView) (filling : f (filled_up sum size v) ≡ f v) where
+module _ {X : Type 0} (f : SegmentView → X) (sealed : (w : SegmentView) → f (sealed_now w) ≡ f w) (sum : List ℕ → ℕ) (size : ℕ) (v : SegmentView)
+    (filling : f (filled_up sum size v) ≡ f v) where
   -- stays where the segment is filled to its end,
   pub filled_keeps : f (filled_now sum size v) ≡ f v
   filled_keeps = by (nat_lt (length v.parts.bytes) size) where
@@ -60,7 +61,8 @@ module _ {A : Type 0} (f : SegmentView → List A) (along : List SegmentView →
   gathered_one v = gathers.further v [] ∙ ap (λ (l : List A). f v ++ l) gathers.nothing ∙ append-nil (f v)
 
   -- The last of segments is changed: it has these more,
-  pub gathered_adds : (g : SegmentView → SegmentView) (more : List A) (v : SegmentView) (vs : List SegmentView) → f (g (last_of v vs)) ≡ f (last_of v vs) ++ more → along (at_last g (v ∷ vs)) ≡ along (v ∷ vs) ++ more
+  pub gathered_adds : (g : SegmentView → SegmentView) (more : List A) (v : SegmentView) (vs : List SegmentView)
+      → f (g (last_of v vs)) ≡ f (last_of v vs) ++ more → along (at_last g (v ∷ vs)) ≡ along (v ∷ vs) ++ more
   gathered_adds g more v [] adds = gathered_one (g v) ∙ adds ∙ ap (λ (l : List A). l ++ more) (sym (gathered_one v))
   gathered_adds g more v (w ∷ ws) adds =
       gathers.further v (at_last g (w ∷ ws))
@@ -69,7 +71,8 @@ module _ {A : Type 0} (f : SegmentView → List A) (along : List SegmentView →
       ∙ ap (λ (l : List A). l ++ more) (sym (gathers.further v (w ∷ ws)))
 
   -- or the same ones.
-  pub gathered_last : (g : SegmentView → SegmentView) (v : SegmentView) (vs : List SegmentView) → f (g (last_of v vs)) ≡ f (last_of v vs) → along (at_last g (v ∷ vs)) ≡ along (v ∷ vs)
+  pub gathered_last : (g : SegmentView → SegmentView) (v : SegmentView) (vs : List SegmentView) → f (g (last_of v vs)) ≡ f (last_of v vs)
+      → along (at_last g (v ∷ vs)) ≡ along (v ∷ vs)
   gathered_last g v vs same = gathered_adds g [] v vs (same ∙ sym (append-nil (f (last_of v vs)))) ∙ append-nil (along (v ∷ vs))
 
   -- A segment that has none is put behind them.
@@ -80,11 +83,13 @@ module _ {A : Type 0} (f : SegmentView → List A) (along : List SegmentView →
   pub promoted_among : (size : ℕ) (vs : List SegmentView) → AreAmong (along (promoted size vs)) (along vs)
   promoted_among size vs =
       by_front size (λ l. AreAmong (along l) (along vs))
-      (λ v w ws full among x there. among x (subst (λ (l : List A). Contains l x) (sym (gathers.further v (w ∷ ws))) (Contains-append_right (f v) (along (w ∷ ws)) x there)))
+      (λ v w ws full among x there. among x (subst (λ (l : List A). Contains l x) (sym (gathers.further v (w ∷ ws)))
+      (Contains-append_right (f v) (along (w ∷ ws)) x there)))
       vs (λ x there. there)
 
   -- and all of them are where a segment without reservations has none.
-  pub gathered_promoted : ((v : SegmentView) → v.parts.reserved ≡ [] → f v ≡ []) → (size place : ℕ) (vs : List SegmentView) → 256 ≤ size → AreSegments size place vs → along (promoted size vs) ≡ along vs
+  pub gathered_promoted : ((v : SegmentView) → v.parts.reserved ≡ [] → f v ≡ []) → (size place : ℕ) (vs : List SegmentView) → 256 ≤ size
+      → AreSegments size place vs → along (promoted size vs) ≡ along vs
   gathered_promoted none size place vs big are =
       (by_front size (λ l. ((p : ℕ) × AreSegments size p l) × (along l ≡ along vs))
       (λ v w ws full has. ((has.0.0 + size, has.0.1.1), gone v (w ∷ ws) (none v (full_empty size has.0.0 v big has.0.1.0 full)) ∙ has.1))
@@ -98,8 +103,10 @@ module _ {A : Type 0} (f : SegmentView → List A) (along : List SegmentView →
   nth_among [] n v at = cc
   nth_among (x ∷ xs) zero v at =
       let one : x ≡ v = cc in
-      λ y there. subst (λ (l : List A). Contains l y) (sym (gathers.further x xs)) (Contains-append_left (f x) (along xs) y (subst (λ (w : SegmentView). Contains (f w) y) (sym one) there))
-  nth_among (x ∷ xs) (suc n) v at = λ y there. subst (λ (l : List A). Contains l y) (sym (gathers.further x xs)) (Contains-append_right (f x) (along xs) y (nth_among xs n v at y there))
+      λ y there. subst (λ (l : List A). Contains l y) (sym (gathers.further x xs))
+      (Contains-append_left (f x) (along xs) y (subst (λ (w : SegmentView). Contains (f w) y) (sym one) there))
+  nth_among (x ∷ xs) (suc n) v at = λ y there. subst (λ (l : List A). Contains l y) (sym (gathers.further x xs))
+      (Contains-append_right (f x) (along xs) y (nth_among xs n v at y there))
 
   -- One of the segments is another: where that has the same ones, all are what they were,
   pub gathered_set : (vs : List SegmentView) (n : ℕ) (v w : SegmentView) → slice_get vs n ≡ Some v → f w ≡ f v → along (set vs n w) ≡ along vs
@@ -111,21 +118,25 @@ module _ {A : Type 0} (f : SegmentView → List A) (along : List SegmentView →
       gathers.further x (set xs n w) ∙ ap (λ (l : List A). f x ++ l) (gathered_set xs n v w at same) ∙ sym (gathers.further x xs)
 
   -- and where it has no others but these, there are no others but these.
-  pub set_among : (more : List A) (vs : List SegmentView) (n : ℕ) (v w : SegmentView) → slice_get vs n ≡ Some v → AreAmong (f w) (more ++ f v) → AreAmong (along (set vs n w)) (more ++ along vs)
+  pub set_among : (more : List A) (vs : List SegmentView) (n : ℕ) (v w : SegmentView) → slice_get vs n ≡ Some v → AreAmong (f w) (more ++ f v)
+      → AreAmong (along (set vs n w)) (more ++ along vs)
   set_among more [] n v w at among = cc
   set_among more (x ∷ xs) zero v w at among =
       let one : x ≡ v = cc in
       let own : AreAmong (f w) (more ++ f x) = subst (λ (y : SegmentView). AreAmong (f w) (more ++ f y)) (sym one) among in
-      let back : (more ++ f x) ++ along xs ≡ more ++ along (x ∷ xs) = append_assoc more (f x) (along xs) ∙ ap (λ (l : List A). more ++ l) (sym (gathers.further x xs)) in
+      let front : f x ++ along xs ≡ along (x ∷ xs) = sym (gathers.further x xs) in
+      let back : (more ++ f x) ++ along xs ≡ more ++ along (x ∷ xs) = append_assoc more (f x) (along xs) ∙ ap (λ (l : List A). more ++ l) front in
       among_further (along (w ∷ xs)) (f w ++ along xs) (more ++ along (x ∷ xs)) (among_same (along (w ∷ xs)) (f w ++ along xs) (gathers.further w xs))
       (among_further (f w ++ along xs) ((more ++ f x) ++ along xs) (more ++ along (x ∷ xs)) (among_before (f w) (more ++ f x) (along xs) own)
       (among_same ((more ++ f x) ++ along xs) (more ++ along (x ∷ xs)) back))
-  set_among more (x ∷ xs) (suc n) v w at among = λ y has. elim (Contains-append_cases (f x) (along (set xs n w)) y (subst (λ (l : List A). Contains l y) (gathers.further x (set xs n w)) has)) [
-    | inl own ↦ behind y (Contains-append_left (f x) (along xs) y own)
-    | inr later ↦ (elim (Contains-append_cases more (along xs) y (set_among more xs n v w at among y later)) [
-      | inl new ↦ Contains-append_left more (along (x ∷ xs)) y new
-      | inr others ↦ behind y (Contains-append_right (f x) (along xs) y others)
-    ])
-  ] where
-    behind : (y : A) → Contains (f x ++ along xs) y → Contains (more ++ along (x ∷ xs)) y
-    behind y there = Contains-append_right more (along (x ∷ xs)) y (subst (λ (l : List A). Contains l y) (sym (gathers.further x xs)) there)
+  set_among more (x ∷ xs) (suc n) v w at among = λ y has.
+      let parted : Contains (f x ++ along (set xs n w)) y = subst (λ (l : List A). Contains l y) (gathers.further x (set xs n w)) has in
+      elim (Contains-append_cases (f x) (along (set xs n w)) y parted) [
+        | inl own ↦ behind y (Contains-append_left (f x) (along xs) y own)
+        | inr later ↦ (elim (Contains-append_cases more (along xs) y (set_among more xs n v w at among y later)) [
+          | inl new ↦ Contains-append_left more (along (x ∷ xs)) y new
+          | inr others ↦ behind y (Contains-append_right (f x) (along xs) y others)
+        ])
+      ] where
+        behind : (y : A) → Contains (f x ++ along xs) y → Contains (more ++ along (x ∷ xs)) y
+        behind y there = Contains-append_right more (along (x ∷ xs)) y (subst (λ (l : List A). Contains l y) (sym (gathers.further x xs)) there)

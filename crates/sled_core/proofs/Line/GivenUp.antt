@@ -151,7 +151,8 @@ given_reserved more r size place v vs are is =
 
 -- Those at the front that are wholly on the device have no reservations.
 pub given_promoted : (size place : ℕ) (vs : List SegmentView) → 256 ≤ size → AreSegments size place vs → given_up_along (promoted size vs) ≡ given_up_along vs
-given_promoted size place vs big are = gathered_promoted given_in given_up_along given_gathers (λ v none. ap (given_up_in v.parts.site v.parts.bytes) none) size place vs big are
+given_promoted size place vs big are =
+    gathered_promoted given_in given_up_along given_gathers (λ v none. ap (given_up_in v.parts.site v.parts.bytes) none) size place vs big are
 
 -- One of the segments is another: it has no more,
 pub set_given : (vs : List SegmentView) (n : ℕ) (v w : SegmentView) → slice_get vs n ≡ Some v → AreAmong (given_in w) (given_in v) → AreAmong (given_up_along (set vs n w)) (given_up_along vs)

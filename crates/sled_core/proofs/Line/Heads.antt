@@ -45,7 +45,8 @@ heads_sealed v vs = gathered_last heads_in heads_along heads_gather sealed_now v
 
 -- where it is filled before,
 filled_heads : (sum : List ℕ → ℕ) (size place : ℕ) (v : SegmentView) → IsSegment size place v → heads_in (filled_up sum size v) ≡ heads_in v
-filled_heads sum size place v facts = heads_more size place v (filled_up sum size v) (segment_rest sum size (v.parts.site.place / size) (length v.parts.bytes)) facts refl refl refl
+filled_heads sum size place v facts =
+    heads_more size place v (filled_up sum size v) (segment_rest sum size (v.parts.site.place / size) (length v.parts.bytes)) facts refl refl refl
 
 pub heads_closed : (sum : List ℕ → ℕ) (size place : ℕ) (v : SegmentView) (vs : List SegmentView) → AreSegments size place (v ∷ vs) → heads_along (at_last (closed_now sum size) (v ∷ vs)) ≡ heads_along (v ∷ vs)
 heads_closed sum size place v vs are =
@@ -65,7 +66,8 @@ pub heads_begun : (vs : List SegmentView) (x : SegmentView) (h : HeadAt) → x.p
 heads_begun vs x h none there =
     let fresh : (x.parts.written_len == 0) ≡ true = grind (arith, nat_tests, none) in
     let own : heads_in x ++ [] ≡ head_of x ∷ [] = ap (λ (o : Bool). with_head o (head_of x) ++ []) fresh in
-    elim (Contains-append_cases (heads_along vs) (heads_in x ++ []) h (subst (λ (l : List HeadAt). Contains l h) (gathered-append heads_in heads_along heads_gather vs (x ∷ [])) there)) [
+    let parted = subst (λ (l : List HeadAt). Contains l h) (gathered-append heads_in heads_along heads_gather vs (x ∷ [])) there in
+    elim (Contains-append_cases (heads_along vs) (heads_in x ++ []) h parted) [
       | inl had ↦ inl had
       | inr last ↦ inr (sym (only_in (head_of x) h (subst (λ (l : List HeadAt). Contains l h) own last)))
     ]

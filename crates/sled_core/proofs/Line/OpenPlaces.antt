@@ -70,11 +70,16 @@ filled_places : (sum : List ℕ → ℕ) (size : ℕ) (v : SegmentView) → plac
 filled_places sum size v = closed_adds_none v.parts.site.place v.parts.reserved (padding_at size (length v.parts.bytes)) refl
 
 pub places_closed : (sum : List ℕ → ℕ) (size : ℕ) (v : SegmentView) (vs : List SegmentView) → open_places_along (at_last (closed_now sum size) (v ∷ vs)) ≡ open_places_along (v ∷ vs)
-places_closed sum size v vs = gathered_last places_of open_places_along places_gather (closed_now sum size) v vs (closed_keeps places_of (λ w. refl) sum size (last_of v vs) (filled_places sum size (last_of v vs)))
+places_closed sum size v vs =
+    gathered_last places_of open_places_along places_gather (closed_now sum size) v vs
+    (closed_keeps places_of (λ w. refl) sum size (last_of v vs) (filled_places sum size (last_of v vs)))
 
 -- and where its current buffer is as it would be sealed.
-pub as_sealed_places : (sum : List ℕ → ℕ) (size : ℕ) (v : SegmentView) (vs : List SegmentView) → open_places_along (at_last (as_sealed sum size) (v ∷ vs)) ≡ open_places_along (v ∷ vs)
-as_sealed_places sum size v vs = gathered_last places_of open_places_along places_gather (as_sealed sum size) v vs (as_sealed_keeps places_of (λ w. refl) sum size (last_of v vs) (filled_places sum size (last_of v vs)))
+pub as_sealed_places : (sum : List ℕ → ℕ) (size : ℕ) (v : SegmentView) (vs : List SegmentView)
+    → open_places_along (at_last (as_sealed sum size) (v ∷ vs)) ≡ open_places_along (v ∷ vs)
+as_sealed_places sum size v vs =
+    gathered_last places_of open_places_along places_gather (as_sealed sum size) v vs
+    (as_sealed_keeps places_of (λ w. refl) sum size (last_of v vs) (filled_places sum size (last_of v vs)))
 
 -- A segment without reservations is put behind them.
 pub places_begun : (vs : List SegmentView) (x : SegmentView) → x.parts.reserved ≡ [] → open_places_along (vs ++ x ∷ []) ≡ open_places_along vs
@@ -89,7 +94,8 @@ places_reserved more r v vs is =
 
 -- Those at the front that are wholly on the device have no reservations.
 pub places_promoted : (size place : ℕ) (vs : List SegmentView) → 256 ≤ size → AreSegments size place vs → open_places_along (promoted size vs) ≡ open_places_along vs
-places_promoted size place vs big are = gathered_promoted places_of open_places_along places_gather (λ v none. ap (open_places_in v.parts.site.place) none) size place vs big are
+places_promoted size place vs big are =
+    gathered_promoted places_of open_places_along places_gather (λ v none. ap (open_places_in v.parts.site.place) none) size place vs big are
 
 -- One of the segments has the same ones.
 pub set_places : (vs : List SegmentView) (n : ℕ) (v w : SegmentView) → slice_get vs n ≡ Some v → places_of w ≡ places_of v → open_places_along (set vs n w) ≡ open_places_along vs

@@ -1,4 +1,4 @@
--- A history that has more than another at one place: nothing else begins in it, so a record beside that place is of it where it is of the other, and a segment that ends below is read to its end.
+-- A history that has more than another at one place: a record beside that place is of it too, and a segment that ends below is read to its end as before.
 use Rattle.std.proofs.Common.{⊎_elim, ◌≡◌, ◌⊎◌, ◌+◌, ◌%◌, ◌<◌, ◌≤◌, ℕ, List, subst, arith, inl, inr}
 use Rattle.std.specs.List.{Contains}
 use Rattle.sled_codec.specs.History.{Batch, History, Message}
@@ -25,7 +25,8 @@ module _ (H H' : History) (at : ℕ) (grows : GrowsAt H H' at) where
 
   module _ (sum : List ℕ → ℕ) (size : ℕ) (log : List ℕ) where
     -- A record beside it is of the grown history.
-    pub beside_grown : (x : ScannedRecord) → ((low : ℕ) → x.place ≤ low → (at < low) ⊎ (x.place + x.len ≤ at)) → IsOfHistory sum size log H x → IsOfHistory sum size log H' x
+    pub beside_grown : (x : ScannedRecord) → ((low : ℕ) → x.place ≤ low → (at < low) ⊎ (x.place + x.len ≤ at)) → IsOfHistory sum size log H x
+        → IsOfHistory sum size log H' x
     beside_grown x apart (inl own) =
         inl (
           own.0,

@@ -81,7 +81,9 @@ module _ (sum : List ℕ → ℕ) (size : ℕ) (log : List ℕ) (some : 256 ≤ 
       let on = (tail_behind sum size log some least is.ordering is.numbers is.scanned is.reads z x y ys tail).1 in
       elim (cases_lt (z + size) reach) [
         | inl below ↦ tail_reaches (z + size) (y ∷ ys) on (next_multiple size z aligned) (omega (arith, low)) below
-        | inr past ↦ (let e = tail_some sum size log some least is.ordering is.numbers is.scanned is.reads (z + size) y ys on in (e.0, e.1, omega (arith, e.2, past)))
+        | inr past ↦ (
+            let e = tail_some sum size log some least is.ordering is.numbers is.scanned is.reads (z + size) y ys on in
+            (e.0, e.1, omega (arith, e.2, past)))
       ]
 
   -- Where the tail begins: at the segment of the snapshot or above it, and no higher than the place that was reached.

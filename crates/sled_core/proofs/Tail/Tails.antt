@@ -43,9 +43,11 @@ module _ (sum : List ℕ → ℕ) (size : ℕ) (log : List ℕ) (some : 256 ≤ 
       one_scan sum size log s t (one_at_place ordering rises s.segment t.segment a.0 b.0 places) a.1 b.1
 
   -- Where another segment follows in the tail, the first one isn't broken, and behind it the tail goes on.
-  pub tail_behind : (place : ℕ) (x y : Scanned) (ys : List Scanned) → IsTail sum size log ordering place (x ∷ y ∷ ys) → (x.why ≢ Broken) × IsTail sum size log ordering (place + size) (y ∷ ys)
+  pub tail_behind : (place : ℕ) (x y : Scanned) (ys : List Scanned) → IsTail sum size log ordering place (x ∷ y ∷ ys)
+      → (x.why ≢ Broken) × IsTail sum size log ordering (place + size) (y ∷ ys)
   tail_behind place x y ys tail = by x.why tail.3 where
-    by : (why : ScanEnd) → GoesOn why (y ∷ ys) (IsTail sum size log ordering (place + size) (y ∷ ys)) → (why ≢ Broken) × IsTail sum size log ordering (place + size) (y ∷ ys)
+    by : (why : ScanEnd) → GoesOn why (y ∷ ys) (IsTail sum size log ordering (place + size) (y ∷ ys))
+        → (why ≢ Broken) × IsTail sum size log ordering (place + size) (y ∷ ys)
     by Broken none = absurd (no_more none)
       where
         no_more : (y ∷ ys) ≡ [] → ⊥
