@@ -26,7 +26,7 @@ use Rattle.sled_core.specs.GivenUp.{canceled_state, given_up_along}
 use Rattle.sled_core.specs.inside.Fits.{HoldsLine}
 use Rattle.sled_core.specs.OpenPlaces.{TakesOut, open_places_along}
 use Rattle.sled_core.specs.Tickets.{IsFor, index_of, place_of}
-use Rattle.sled_core.specs.inside.Turned.{HasOpenIn, ended_now}
+use Rattle.sled_core.specs.inside.Turned.{ended_now}
 use Rattle.sled_core.proofs.Holds.CompletedLemmas.{others_stay}
 use Rattle.sled_core.proofs.Line.Ends.{with_segment}
 use Rattle.sled_core.proofs.Line.EntryPlaces.{entry_low, segment_chain}
@@ -69,16 +69,6 @@ module _ {D C : Type 0} (log : Log D C) (ticket : Reservation) (m : Message) (aw
 
   pub ticket_there : slice_get awaits.segment.parts.reserved (index - awaits.segment.gone) ≡ Some awaits.reserved
   ticket_there = ap (λ (k : ℕ). slice_get awaits.segment.parts.reserved (k - awaits.segment.gone)) index_is ∙ awaits.there
-
-  abbrev pub ticket_open : HasOpenIn (line_of log) n index
-  ticket_open = record {
-    segment = awaits.segment;
-    among = ticket_among;
-    reserved = awaits.reserved;
-    numbered = (let numbered = awaits.numbered in omega (arith, numbered, index_is));
-    there = ticket_there;
-    open_yet = awaits.own.open_yet;
-  }
 
 -- A reservation of the n-th segment ends.
 module _ (size : ℕ) (line : List SegmentView) (base n : ℕ) (v : SegmentView) (there : slice_get line n ≡ Some v) (facts : (k : ℕ) (x : SegmentView) → slice_get line k ≡ Some x → IsSegment size (base + k * size) x)

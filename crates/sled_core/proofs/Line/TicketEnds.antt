@@ -1,5 +1,6 @@
 -- The reservation of a ticket ends, whatever is written over the beginning of its record: what is seen of the log then, and what it holds and fits.
-use Rattle.std.proofs.Common.{◌≡◌, ◌∙◌, ◌+◌, ◌-◌, ◌/◌, ◌≤◌, ap, sym, subst, ℕ, pos, false, List, length, set, Ok, Some}
+use Rattle.std.proofs.Common.{◌≡◌, ◌∙◌, ◌+◌, ◌-◌, ◌/◌, ◌≤◌, ap, sym, subst, ℕ, pos, false, List, length, set, Ok, Some, ◌<◌, ◌^◌, arith, to_z, of_z, w64, ℤ}
+use lib.Signed.{mag}
 use Rattle.std.specs.Prelude.{unsigned_abs}
 use Rattle.std.specs.List.{slice_get}
 use Rattle.sled_codec.specs.History.{History, Message}
@@ -26,10 +27,10 @@ use Rattle.sled_core.specs.Logged.{in_log, logged}
 use Rattle.sled_core.specs.Manifests.{is_manifest}
 use Rattle.sled_core.specs.OpenPlaces.{TakesOut, open_places_along}
 use Rattle.sled_core.specs.Tickets.{IsFor, index_of, is_manifest_of, place_of}
-use Rattle.sled_core.specs.inside.Turned.{ChangesLine, ended_now}
+use Rattle.sled_core.specs.inside.Turned.{ChangesLine, HasOpenIn, ended_now}
 use Rattle.sled_core.proofs.Holds.Facts.{nth_facts}
 use Rattle.sled_core.proofs.Line.EndedKeeps.{fits_ended, goes_on_ended, holds_ended, keeps_ended, left_ended, position_ended}
-use Rattle.sled_core.proofs.Line.EndedTickets.{ended_heads, ended_keeps_given, ended_takes, others_await, ticket_among, ticket_there}
+use Rattle.sled_core.proofs.Line.EndedTickets.{ended_heads, ended_keeps_given, ended_takes, others_await, says_place, ticket_among, ticket_there}
 use Rattle.sled_core.proofs.Line.LogSpans.{ended_buffers}
 
 -- The reservation of a ticket, by numbers.
@@ -37,6 +38,7 @@ pub record IsReservedAt {D C : Type 0} (log : Log D C) (ticket : Reservation) (n
   pub segment : SegmentView
   pub reserved : Reserved
   pub among : slice_get (line_of log) n ≡ Some segment
+  pub numbered : segment.gone ≤ index
   pub there : slice_get segment.parts.reserved (index - segment.gone) ≡ Some reserved
   pub own : IsFor segment.parts.site reserved ticket
 
@@ -48,11 +50,23 @@ reserved_at log ticket m awaits place n index place_is n_is index_is = record {
   segment = awaits.segment;
   reserved = awaits.reserved;
   among = ticket_among log ticket m awaits place n index place_is n_is index_is;
+  numbered = (let numbered = awaits.numbered in omega (arith, numbered, index_is));
   there = ticket_there log ticket m awaits place n index place_is n_is index_is;
   own = awaits.own;
 }
 
--- It is whichever reservation is there,
+-- Code finds it by the place that it reads of the ticket, and by its index.
+abbrev pub found_at : {D C : Type 0} (log : Log D C) (ticket : Reservation) (m : Message) → Awaits log ticket m → (z : ℤ) {place n index : ℕ} → mag z < 2 ^ 63
+    → z ≡ place_of ticket → place ≡ unsigned_abs (to_z w64 (of_z w64 z)) → n ≡ (place - log.segments.first.site.place) / log.config.config.segment_size
+    → index ≡ index_of ticket → IsReservedAt log ticket n index
+found_at log ticket m awaits z {place} {n} {index} small same read n_is index_is =
+    reserved_at log ticket m awaits place n index (read ∙ says_place z (place_of ticket) small same) n_is index_is
+
+-- It is open,
+abbrev pub open_at : {D C : Type 0} (log : Log D C) (ticket : Reservation) {n index : ℕ} → IsReservedAt log ticket n index → HasOpenIn (line_of log) n index
+open_at log ticket f = record { segment = f.segment; among = f.among; reserved = f.reserved; numbered = f.numbered; there = f.there; open_yet = f.own.open_yet }
+
+-- it is whichever reservation is there,
 module _ {D C : Type 0} (log : Log D C) (ticket : Reservation) (n index : ℕ) (f : IsReservedAt log ticket n index) (v : SegmentView) (r : Reserved)
     (among : slice_get (line_of log) n ≡ Some v) (there : slice_get v.parts.reserved (index - v.gone) ≡ Some r) where
   pub is_there : f.reserved ≡ r

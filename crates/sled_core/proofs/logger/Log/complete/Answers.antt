@@ -13,11 +13,11 @@ use Rattle.sled_core.specs.Logged.{logged}
 use Rattle.sled_core.specs.invariants.Running.{Fits}
 use Rattle.sled_core.specs.Tickets.{place_of}
 use Rattle.sled_core.proofs.Line.KeptCalls.{ends_none, goes_on_still}
-use Rattle.sled_core.proofs.Line.EndedTickets.{says_place, ticket_above, ticket_open}
+use Rattle.sled_core.proofs.Line.EndedTickets.{says_place, ticket_above}
 use Rattle.sled_core.proofs.Line.Ends.{fits_completed, holds_completed}
 use Rattle.sled_core.proofs.Line.EndedLine.{completing_short}
 use Rattle.sled_core.proofs.Holds.Facts.{nth_facts}
-use Rattle.sled_core.proofs.Line.TicketEnds.{EndsAt, IsReservedAt, kind_there, reserved_at, ticket_ends, ticket_fits, ticket_given, ticket_goes_on, ticket_holds, ticket_keeps}
+use Rattle.sled_core.proofs.Line.TicketEnds.{EndsAt, IsReservedAt, found_at, kind_there, open_at, ticket_ends, ticket_fits, ticket_given, ticket_goes_on, ticket_holds, ticket_keeps}
 use Rattle.sled_core.proofs.Logged.Messages.{put_real}
 use Rattle.sled_core.proofs.logger.Log.complete.Given.{Over}
 use Rattle.sled_core.proofs.logger.Log.complete.Goals as goal
@@ -33,14 +33,10 @@ segment_of-n-requires g c =
     let place : c.unsigned_abs.result ≡ unsigned_abs (place_of c.args.ticket) = c.unsigned_abs.ensures.value ∙ says_place c.lsn-place.result (place_of c.args.ticket) c.lsn-place.type_inv c.lsn-place.ensures in
     omega (arith, above, place)
 
--- what code reads of the ticket is its place
-place : (g : Over) (c : goal.After-complete_in-arg-1 g) → c.unsigned_abs.result ≡ unsigned_abs (place_of c.args.ticket)
-place g c = c.unsigned_abs.ensures.value ∙ says_place c.lsn-place.result (place_of c.args.ticket) c.lsn-place.type_inv c.lsn-place.ensures
-
--- it is that of whichever message the ticket awaits,
+-- It is that of whichever message the ticket awaits,
 abbrev at : (g : Over) (c : goal.After-complete_in-arg-1 g) (m : Message) → Awaits c.args.self.now c.args.ticket m
     → IsReservedAt c.args.self.now c.args.ticket c.segment_of-n.result c.index-index.result
-at g c m awaits = reserved_at c.args.self.now c.args.ticket m awaits c.unsigned_abs.result c.segment_of-n.result c.index-index.result (place g c)
+at g c m awaits = found_at c.args.self.now c.args.ticket m awaits c.lsn-place.result c.lsn-place.type_inv c.lsn-place.ensures c.unsigned_abs.ensures.value
     c.segment_of-n.ensures c.index-index.ensures
 
 pub complete_in-requires-clause-message : goal.complete_in-requires-clause-message
@@ -50,9 +46,7 @@ complete_in-requires-clause-message g c = λ v r among there.
     ∙ c.requires.message
 
 pub complete_in-requires-clause-awaited : goal.complete_in-requires-clause-awaited
-complete_in-requires-clause-awaited g c =
-    ticket_open c.args.self.now c.args.ticket c.requires.awaited.0 c.requires.awaited.1 c.unsigned_abs.result c.segment_of-n.result c.index-index.result
-    (place g c) c.segment_of-n.ensures c.index-index.ensures
+complete_in-requires-clause-awaited g c = open_at c.args.self.now c.args.ticket (at g c c.requires.awaited.0 c.requires.awaited.1)
 
 -- It ends as that of a completed message, for whichever message the ticket awaits,
 abbrev ended : (g : Over) (c : goal.After-complete_in g) (m : Message) → Awaits c.args.self.now c.args.ticket m

@@ -4,8 +4,8 @@ use Rattle.std.specs.Prelude.{unsigned_abs}
 use Rattle.sled_core.specs.Tickets.{place_of}
 use Rattle.sled_core.proofs.Line.KeptCalls.{goes_on_still}
 use Rattle.sled_core.proofs.Line.BatchNoted.{IsBatchNoted, batch_fits, batch_holds, batch_seen, body_there, note_above, note_apart, note_unwritten}
-use Rattle.sled_core.proofs.Line.EndedTickets.{says_place, ticket_above, ticket_open}
-use Rattle.sled_core.proofs.Line.TicketEnds.{IsReservedAt, kind_there, reserved_at}
+use Rattle.sled_core.proofs.Line.EndedTickets.{says_place, ticket_above}
+use Rattle.sled_core.proofs.Line.TicketEnds.{IsReservedAt, found_at, kind_there, open_at}
 use Rattle.sled_core.proofs.logger.Log.end_batch.Given as given
 use Rattle.sled_core.proofs.logger.Log.end_batch.Goals as goal
 
@@ -26,13 +26,11 @@ place g c = c.unsigned_abs-low.ensures.value ∙ says_place c.lsn-place.result (
 
 -- it is the one that the ticket is for
 at : (g : given.Over) (c : goal.After-mark_batch_in-arg-1 g) → IsReservedAt c.args.self.now c.args.ticket c.segment_of-n.result c.index-index.result
-at g c = reserved_at c.args.self.now c.args.ticket c.requires.awaited.0 c.requires.awaited.1 c.unsigned_abs-low.result c.segment_of-n.result
-    c.index-index.result (place g c) c.segment_of-n.ensures c.index-index.ensures
+at g c = found_at c.args.self.now c.args.ticket c.requires.awaited.0 c.requires.awaited.1 c.lsn-place.result c.lsn-place.type_inv c.lsn-place.ensures
+    c.unsigned_abs-low.ensures.value c.segment_of-n.ensures c.index-index.ensures
 
 pub mark_batch_in-requires-clause-awaited : goal.mark_batch_in-requires-clause-awaited
-mark_batch_in-requires-clause-awaited g c =
-    ticket_open c.args.self.now c.args.ticket c.requires.awaited.0 c.requires.awaited.1 c.unsigned_abs-low.result c.segment_of-n.result c.index-index.result
-    (place g c) c.segment_of-n.ensures c.index-index.ensures
+mark_batch_in-requires-clause-awaited g c = open_at c.args.self.now c.args.ticket (at g c)
 
 pub mark_batch_in-requires-clause-body : goal.mark_batch_in-requires-clause-body
 mark_batch_in-requires-clause-body g c = body_there c.args.self.now c.args.ticket c.segment_of-n.result c.index-index.result (at g c) c.requires.manifest

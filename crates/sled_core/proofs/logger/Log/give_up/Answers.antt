@@ -27,11 +27,11 @@ use Rattle.sled_core.specs.Waiting.{BufferAt, buffers_in}
 use Rattle.sled_core.proofs.Holds.CanceledLemmas.{canceled_long, canceled_there}
 use Rattle.sled_core.proofs.Line.KeptCalls.{ends_none, gives_none, kept_still}
 use Rattle.sled_core.proofs.Line.Canceled.{ended_stands}
-use Rattle.sled_core.proofs.Line.EndedTickets.{ended_gives, says_place, ticket_above, ticket_open}
+use Rattle.sled_core.proofs.Line.EndedTickets.{ended_gives, says_place, ticket_above}
 use Rattle.sled_core.proofs.Line.Ends.{fits_aborted, holds_aborted, with_segment}
 use Rattle.sled_core.proofs.Line.EndedLine.{canceling_head, canceling_short}
 use Rattle.sled_core.proofs.Holds.Facts.{nth_facts}
-use Rattle.sled_core.proofs.Line.TicketEnds.{EndsAt, IsReservedAt, kind_there, reserved_at, ticket_ends, ticket_fits, ticket_goes_on, ticket_holds, ticket_keeps, ticket_left}
+use Rattle.sled_core.proofs.Line.TicketEnds.{EndsAt, IsReservedAt, found_at, kind_there, open_at, ticket_ends, ticket_fits, ticket_goes_on, ticket_holds, ticket_keeps, ticket_left}
 use Rattle.sled_core.proofs.Reserve.Entries.{open_plain, reserved_in}
 use Rattle.sled_core.proofs.Reserve.Ranges.{at_there}
 use Rattle.sled_core.proofs.Line.LineEnds.{kept_same}
@@ -53,14 +53,10 @@ segment_of-n-requires g c =
     let place : c.unsigned_abs.result ≡ unsigned_abs (place_of c.args.ticket) = c.unsigned_abs.ensures.value ∙ says_place c.lsn-place.result (place_of c.args.ticket) c.lsn-place.type_inv c.lsn-place.ensures in
     omega (arith, above, place)
 
--- what code reads of the ticket is its place
-place : (g : Over) (c : goal.After-abort_in-arg-1 g) → c.unsigned_abs.result ≡ unsigned_abs (place_of c.args.ticket)
-place g c = c.unsigned_abs.ensures.value ∙ says_place c.lsn-place.result (place_of c.args.ticket) c.lsn-place.type_inv c.lsn-place.ensures
-
--- it is that of whichever message the ticket awaits,
+-- It is that of whichever message the ticket awaits,
 abbrev at : (g : Over) (c : goal.After-abort_in-arg-1 g) (m : Message) → Awaits c.args.self.now c.args.ticket m
     → IsReservedAt c.args.self.now c.args.ticket c.segment_of-n.result c.index-index.result
-at g c m awaits = reserved_at c.args.self.now c.args.ticket m awaits c.unsigned_abs.result c.segment_of-n.result c.index-index.result (place g c)
+at g c m awaits = found_at c.args.self.now c.args.ticket m awaits c.lsn-place.result c.lsn-place.type_inv c.lsn-place.ensures c.unsigned_abs.ensures.value
     c.segment_of-n.ensures c.index-index.ensures
 
 pub abort_in-requires-clause-kind : goal.abort_in-requires-clause-kind
@@ -70,9 +66,7 @@ abort_in-requires-clause-kind g c = λ v r among there.
     ∙ sym c.is_manifest-manifest.ensures
 
 pub abort_in-requires-clause-awaited : goal.abort_in-requires-clause-awaited
-abort_in-requires-clause-awaited g c =
-    ticket_open c.args.self.now c.args.ticket c.requires.0 c.requires.1 c.unsigned_abs.result c.segment_of-n.result c.index-index.result
-    (place g c) c.segment_of-n.ensures c.index-index.ensures
+abort_in-requires-clause-awaited g c = open_at c.args.self.now c.args.ticket (at g c c.requires.0 c.requires.1)
 
 -- It ends as that of a message that was given up, for whichever message the ticket awaits,
 abbrev ended : (g : Over) (c : goal.After-abort_in g) (m : Message) → Awaits c.args.self.now c.args.ticket m
