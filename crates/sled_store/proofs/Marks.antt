@@ -1,10 +1,12 @@
 pub mod AccountSteps
 pub mod DeactivationSteps
+pub mod FreedSteps
 pub mod HeldLemmas
 pub mod MarkExample
 pub mod MarkLaws
 pub mod MarkSteps
 pub mod MarkedLemmas
+pub mod OutdatedSteps
 pub mod ReplaceSteps
 pub mod SameSlots
 pub mod SlotLemmas
@@ -13,3 +15,4 @@ pub mod StableSteps
 pub mod StandingSums
 pub mod TableLemmas
 pub mod Tracked
+pub mod UnmarkedSteps

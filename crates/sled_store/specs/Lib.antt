@@ -11,6 +11,7 @@ pub mod Foreign
 pub mod Marks
 pub mod Moments
 pub mod Noted
+pub mod Outdated
 pub mod Readers
 pub mod Script
 pub mod SegmentStates

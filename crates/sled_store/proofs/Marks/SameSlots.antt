@@ -12,7 +12,7 @@ use Rattle.sled_store.proofs.Marks.ReplaceSteps.{sparse_same}
 
 module _ (size pid place : ℕ) where
   -- An older message is replaced,
-  one_same : (m : Machine) (o : CacheInfo) → is_free (slot_at m (lid_of o.pointer / size)).state ≡ false → SameSegments m.slots (replaced_one size pid place o m).slots
+  pub one_same : (m : Machine) (o : CacheInfo) → is_free (slot_at m (lid_of o.pointer / size)).state ≡ false → SameSegments m.slots (replaced_one size pid place o m).slots
   one_same m o taken =
       let k = lid_of o.pointer / size in
       let s : SlotState = replaced_slot pid o.log_size place (slot_at m k) in

@@ -17,19 +17,20 @@ use Rattle.sled_store.proofs.Marks.ReplaceSteps.{sparse_tracks}
 use Rattle.sled_store.proofs.Marks.StableSteps.{NotesPlace, HoldsAsMuch, KeepsSegments, keeps_same, keeps_then, keeps_set, freed_keeps, all_freed_track, all_freed_keep}
 use Rattle.sled_store.proofs.Marks.DeactivationSteps.{active_parts, waiting_go, due_goes, tested_tracks}
 
-module _ (size base : ℕ) (H : History) (Spent : Message → Type 0) (some : 0 < size) (spends : (e : Message) → IsSuperseded size base H e → Spent e) where
-  -- The highest inactive segment is inactive.
-  wasteful_inactive : (m : Machine) → is_wasteful m.slots ≡ true
-      → is_inactive (slot_at m (get_or (inactive_among m.slots) (length (inactive_among m.slots) - 1) 0)).state ≡ true
-  wasteful_inactive m wasteful =
-      let ks : List ℕ = inactive_among m.slots in
-      let k : ℕ = get_or ks (length ks - 1) 0 in
-      let parts = and_parts (nat_lt 5 (length ks)) (nat_le 50 (length (free_among m.slots) * 100 / (1 + length (free_among m.slots) + length ks))) wasteful in
-      let many : 5 < length ks = ltb-true 5 (length ks) parts.0 in
-      let last : Passes (λ s. is_inactive s.state) 0 m.slots k = where_passes (λ s. is_inactive s.state) 0 m.slots k (Contains-get_or ks (length ks - 1) 0 (omega (arith, many))) in
-      let is : last.index ≡ k = omega (arith, last.is) in
-      subst (λ (i : ℕ). is_inactive (at m.slots i).state ≡ true) is last.passes
+-- The highest inactive segment is inactive.
+pub wasteful_inactive : (m : Machine) → is_wasteful m.slots ≡ true
+    → is_inactive (slot_at m (get_or (inactive_among m.slots) (length (inactive_among m.slots) - 1) 0)).state ≡ true
+wasteful_inactive m wasteful =
+    let ks : List ℕ = inactive_among m.slots in
+    let k : ℕ = get_or ks (length ks - 1) 0 in
+    let parts = and_parts (nat_lt 5 (length ks)) (nat_le 50 (length (free_among m.slots) * 100 / (1 + length (free_among m.slots) + length ks))) wasteful in
+    let many : 5 < length ks = ltb-true 5 (length ks) parts.0 in
+    let last : Passes (λ s. is_inactive s.state) 0 m.slots k = where_passes (λ s. is_inactive s.state) 0 m.slots k (Contains-get_or ks (length ks - 1) 0 (omega (arith, many))) in
+    let is : last.index ≡ k = omega (arith, last.is) in
+    subst (λ (i : ℕ). is_inactive (at m.slots i).state ≡ true) is last.passes
 
+module _ (size base : ℕ) (H : History) (Spent : Message → Type 0) (some : 0 < size) (spends : (e : Message) → IsSuperseded size base H e → Spent e) where
+  -- So it is drained.
   wasteful_tracks : (m : Machine) → Tracks size base H Spent m → Tracks size base H Spent (drained_if_wasteful m)
   wasteful_tracks m t = by (is_wasteful m.slots) refl where
     by : (b : Bool) → is_wasteful m.slots ≡ b → Tracks size base H Spent (if b then drained (get_or (inactive_among m.slots) (length (inactive_among m.slots) - 1) 0) m else m)
@@ -129,6 +130,11 @@ module _ (size base : ℕ) (H : History) (Spent : Message → Type 0) (some : 0 
         keeps_then size base a.1 m.slots n.slots end.slots (inactive_keeps m t a due)
         (keeps_then size base a.1 n.slots freed_all.slots end.slots (all_freed_keep size base H Spent a.1 (waiting_for a.0 n) n go)
         (keeps_then size base a.1 freed_all.slots after_test.slots end.slots (tested_keeps freed_all a.1 t_freed) (wasteful_keeps a.1 after_test)))
+
+  -- So it is where the segment is active, and ends at the base or below.
+  pub one_deactivated_tracks : (m : Machine) (a : ℕ × ℕ) → Tracks size base H Spent m → is_active (slot_at m a.1).state ≡ true → (slot_at m a.1).lsn ≡ a.0 → a.0 + size ≤ base
+      → Tracks size base H Spent (deactivated size a m).machine
+  one_deactivated_tracks m a t active lsn below = deactivated_tracks m t a (record { active = active; lsn = lsn; below = below })
 
   -- The others that are due still are.
   still_due : (m : Machine) (t : Tracks size base H Spent m) (a : ℕ × ℕ) (due_ones : List (ℕ × ℕ)) → Distinct (a ∷ due_ones)

@@ -4,9 +4,10 @@
 //! table below a cut that the mark's segment doesn't pass.
 ghost use Rattle.std.specs.Prelude.{◌≡◌, ◌≢◌, ◌⊎◌, ◌+◌, ◌*◌, ◌/◌, ◌%◌, ◌^◌, ◌<◌, ◌≤◌, ℕ, ℤ, pos, true, false, List, [], Some, Contains};
 ghost use Rattle.std.specs.List.{sum_by};
-ghost use Rattle.sled_codec.specs.History.{Message, History, begins_page, no_history, table};
+ghost use Rattle.sled_codec.specs.History.{AddsMessage, Message, History, begins_page, no_history, table};
 ghost use Rattle.sled_codec.specs.WellFormed.{LieApart};
 ghost use Rattle.sled_store.specs.Marks.{Completes, HasReplacement, IsCounted, IsFormerState, IsIn, IsLinked, IsNeeded, IsNewPlace, IsPast, IsSuperseded, Marked, greatest_mark, info_of, slot_with, standing_size};
+ghost use Rattle.sled_store.specs.Outdated.{AreOutdated, MayName, NamesBlob, NoneShares};
 ghost use Rattle.sled_store.specs.SegmentStates.{Machine, MayMark, handed_out, is_active, is_due, is_free, linked, next_slot, popped, replaced, segment_in, slot_at, stabilized, unused_machine};
 ghost use Rattle.sled_store.specs.Tracked.{IsAccountOf, IsHeld};
 ghost use Rattle.sled_store.specs.declared.segment.slot.CacheInfo.{CacheInfo};
@@ -131,6 +132,32 @@ pub fn accounts_have_what_tables_need()
         → base ≤ cut → Contains (table H cut page) e → IsHeld size (slot_at m (slot_with size e)) e }
     ensures needed { (size base : ℕ) (H : History) (m : Machine) (cut place : ℕ) → IsAccountOf size base H m
         → base ≤ cut → IsNeeded size H cut place → (k : ℕ) × IsIn m k place × (k ≢ next_slot m) }
+    ensures free { (size base : ℕ) (H : History) (m : Machine) (cut page k : ℕ) (e : Message) → IsAccountOf size base H m
+        → base ≤ cut → Contains (table H cut page) e → is_free (slot_at m k).state ≡ true → slot_with size e ≢ k }
+{}
+
+/// A blob that goes with a segment stays outdated: of an unused log there is none, no step but a replacement makes one
+/// such, and that does so with those of the page's former state that no other message needs. A message that is
+/// completed may name a blob that none names, or one of an entry of the table of all messages, which is not outdated.
+pub fn outdated_blobs_stay_outdated()
+    ensures unused { (size : ℕ) (H : History) → AreOutdated size H unused_machine }
+    ensures hands_out { (size : ℕ) (H : History) (m : Machine) (place : ℕ) → AreOutdated size H m → AreOutdated size H (handed_out place m) }
+    ensures completes { (size : ℕ) (H : History) (m : Machine) (x : Message) (H' : History) → LieApart H.messages → AreOutdated size H m
+        → AddsMessage H x H' → MayName H x → AreOutdated size H' m }
+    ensures links { (size : ℕ) (H : History) (m : Machine) (pid : ℕ) (info : CacheInfo) → AreOutdated size H m
+        → AreOutdated size H (linked size pid info m) }
+    ensures replaces { (size : ℕ) (H G : History) (m : Machine) (x : Message) (old : List CacheInfo) → LieApart H.messages → AreOutdated size H m
+        → Contains H.messages x → begins_page x.kind ≡ true → ((e : Message) → Contains G.messages e → Contains H.messages e)
+        → IsFormerState G x.page old → NoneShares H x old → MayMark size m (info_of x) old
+        → AreOutdated size H (replaced size x.page (info_of x) old m) }
+    ensures stabilizes { (size : ℕ) (H : History) (m : Machine) (next : ℤ) → AreOutdated size H m → AreOutdated size H (stabilized size next m).machine }
+    ensures pops { (size : ℕ) (H : History) (m : Machine) → AreOutdated size H m → AreOutdated size H (record m { cleaner = popped m.cleaner }) }
+{}
+
+/// No entry of a table from the end of a segment on has its item in a blob that goes with the segment.
+pub fn outdated_blobs_are_not_needed()
+    ensures { (size : ℕ) (H : History) (m : Machine) (k cut page : ℕ) (blob : ℤ) (e : Message) → 0 < size → LieApart H.messages → AreOutdated size H m
+        → Contains (slot_at m k).blobs blob → (slot_at m k).lsn + size ≤ cut → Contains (table H cut page) e → NamesBlob e blob → ⊥ }
 {}
 
 /// Marks change no segment: each slot has the one that it had.
