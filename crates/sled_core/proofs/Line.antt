@@ -1,4 +1,5 @@
 pub mod Accounts
+pub mod ActiveSegments
 pub mod Advanced
 pub mod Among
 pub mod Around

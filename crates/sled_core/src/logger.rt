@@ -12,6 +12,7 @@ ghost use Rattle.sled_codec.specs.Places.{MayBegin};
 ghost use Rattle.sled_codec.specs.Pointers.{lid_of};
 ghost use Rattle.sled_codec.specs.Snapshots.{model_of};
 ghost use Rattle.sled_store.specs.Moments.{IsLater, LeavesOnly};
+ghost use Rattle.sled_store.specs.Outdated.{MayName};
 ghost use Rattle.sled_store.specs.Accounts.{IsAccountant};
 ghost use Rattle.sled_store.specs.Begin.{IsStartable, IsInReach};
 ghost use Rattle.sled_core.specs.Recoverable.{LeavesRecoverable, NoHeaderOfZeros, RecoverableIfOwn};
@@ -213,6 +214,9 @@ impl<D: Device, C: Checksum> Log<D, C> {
     /// Completes a message: from now on it is in the log's history. Returns its place and its pointer. It takes no
     /// memory. A ticket of the manifest of a batch isn't for it: that one is ended by `mark_writebatch`, or given up by `abort`.
     ///
+    /// The blob that it names, if it does, must be its own, which no message names, or that of an entry of the page table as
+    /// it is now (`MayName`): one of a message that was replaced may go with the segment of what replaced it.
+    ///
     /// # Errors
     ///
     /// `Io` exactly where the log keeps a failure of its device. The ticket is spent all the same, and its message
@@ -227,7 +231,7 @@ impl<D: Device, C: Checksum> Log<D, C> {
         ensures given_up { AreAmong (given_up_of self.new) (given_up_of self.old) }
         ensures answers { FaultAnswers result (fault_of self.old) }
         ensures fits { (H : History) (A f : ℕ) (U : List Message) (m : Message)
-            → Fits D.trace C.sum_of self.old H A f U → Awaits self.old ticket m → IsStored D.trace C.sum_of self.old m → 0 < pins_of self.old
+            → Fits D.trace C.sum_of self.old H A f U → Awaits self.old ticket m → IsStored D.trace C.sum_of self.old m → MayName H m → 0 < pins_of self.old
             → OnOk result ((H' : History) × Step H (Completed m) H' × Fits D.trace C.sum_of self.new H' A f (m ∷ U)) }
         ensures goes_on { GoesOn D.trace C.sum_of self.old self.new }
         ensures same { KeepsAll self.old self.new }

@@ -13,6 +13,7 @@ use Rattle.sled_codec.specs.WellFormed.{LieApart}
 use Rattle.sled_codec.specs.Snapshots.{stable_place}
 use Rattle.sled_store.specs.Accounts.{machine_of}
 use Rattle.sled_store.specs.Device.{Trace, State, state_of}
+use Rattle.sled_store.specs.Outdated.{MayName}
 use Rattle.sled_store.specs.SegmentStates.{Machine}
 use Rattle.sled_core.specs.declared.iobuf.Reserved.{Reserved}
 use Rattle.sled_core.specs.declared.iobuf.Sealed.{Sealed}
@@ -208,6 +209,10 @@ inline_stored trace sum log m inline = record { below = no_lower m.pointer inlin
   no_blob : (p : DiskPtr) → IsInline p → KeepsItem sum (state_of (trace log.config.device)).blobs m p
   no_blob (Inline lid) is = tt
   no_blob (Blob lid place) is = absurd is
+
+-- It names no blob, so it may come to any history.
+pub inline_named : (H : History) (m : Message) → IsInline m.pointer → MayName H m
+inline_named H m inline blob names = absurd (subst IsInline names.1 inline)
 
 -- The place of a ticket is one of those that code counts
 pub awaited_small : {D C : Type 0} (log : Log D C) (ticket : Reservation) (m : Message) → Awaits log ticket m → m.place < 2 ^ 63

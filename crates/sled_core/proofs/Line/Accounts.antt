@@ -1,5 +1,5 @@
 -- The account of what is marked of a history, as a message is completed or marked, a batch is noted, and a slot is handed out.
-use Rattle.std.proofs.Common.{if◌then◌else◌, ⊎_elim, ◌≡◌, ◌≢◌, ◌∙◌, ◌||◌, ◌==◌, ◌<◌, ℕ, ℤ, Bool, true, false, not, List, [], ◌∷◌, ◌++◌, filter, Option, refl, sym, ap, subst, arith, eq-eqb}
+use Rattle.std.proofs.Common.{if◌then◌else◌, ⊎_elim, ◌≡◌, ◌≢◌, ◌∙◌, ◌||◌, ◌==◌, ◌<◌, ℕ, ℤ, Bool, true, false, not, List, [], ◌∷◌, ◌++◌, filter, Option, refl, sym, ap, subst, arith, eq-eqb, inl}
 use Rattle.std.specs.List.{Contains}
 use Rattle.std.proofs.lemmas.Bool.{eqb-true}
 use Rattle.std.proofs.lemmas.Bool.Decides.{eqb_tells}
@@ -7,13 +7,18 @@ use Rattle.std.proofs.lemmas.List.Elements.{filter-append}
 use Rattle.sled_codec.specs.History.{AddsMessage, ChangesPage, History, Message, begins_page}
 use Rattle.sled_codec.specs.Snapshots.{stable_place}
 use Rattle.sled_store.specs.Marks.{Completes, IsFormerState, IsNewPlace, info_of}
-use Rattle.sled_store.specs.SegmentStates.{Machine, MayMark, SlotState, handed_out, linked, replaced}
+use Rattle.sled_store.specs.Outdated.{AreInActive, AreOutdated, IsInActive, NamesNoOutdated, NoneShares}
+use Rattle.sled_store.specs.SegmentStates.{Machine, MayMark, SlotState, handed_out, linked, replaced, slot_at}
 use Rattle.sled_store.specs.Tracked.{IsNoEntry, IsTracked}
 use Rattle.sled_store.specs.declared.segment.slot.CacheInfo.{CacheInfo}
 use Rattle.sled_store.proofs.Histories.Ascending.{Ascends, filter_ascends, from_filter, in_first, in_rest, later_above}
 use Rattle.sled_store.proofs.Histories.TableParts.{earlier_below, split_at}
 use Rattle.sled_store.proofs.Marks.AccountSteps.{handed_out_account, linked_account, replaced_account, same_account}
 use Rattle.sled_store.proofs.Marks.DeactivationSteps.{any_in}
+use Rattle.sled_store.proofs.Marks.MarkSteps.{SameSegments, linked_same, next_free, same_segment}
+use Rattle.sled_store.proofs.Marks.OutdatedSteps.{KeepsBlobs, blobs_same, completed_outdated, former_there, handed_blobs, linked_blobs, outdated_kept, outdated_still, replaced_outdated}
+use Rattle.sled_store.proofs.Marks.SameSlots.{replaced_segments}
+use Rattle.sled_store.proofs.Marks.UnmarkedSteps.{in_active_handed, in_active_more, in_active_same}
 use Rattle.sled_core.specs.Marking.{TakesMark, but_for}
 use Rattle.sled_core.specs.Unmarked.{is_among, without}
 use Rattle.sled_core.specs.inside.Slots.{HasAccount}
@@ -133,18 +138,34 @@ module _ (sum : List ℕ → ℕ) (size : ℕ) (snapshots : ℤ → Option (List
   base = stable_place has.first.stable
 
   -- the account is that of the same messages
-  same_marked : (G : History) (V : List Message) → (without V G).messages ≡ (without U H).messages → HasAccount sum size snapshots G V m
-  same_marked G V same = record { first = has.first; begins = has.begins; account = same_account size base (without U H) m has.account (without V G) same }
+  same_marked : (G : History) (V : List Message) → (without V G).messages ≡ (without U H).messages → AreOutdated size G m → AreInActive size m V → HasAccount sum size snapshots G V m
+  same_marked G V same outdated unmarked = record {
+    first = has.first;
+    begins = has.begins;
+    account = same_account size base (without U H) m has.account (without V G) same;
+    outdated = outdated;
+    unmarked = unmarked;
+  }
 
-  pub account_completed : (H' : History) (x : Message) → AddsMessage H x H' → HasAccount sum size snapshots H' (x ∷ U) m
-  account_completed H' x adds = same_marked H' (x ∷ U) (completed_same H x H' U adds)
+  -- A message is completed that lies in an active segment, and names no blob that goes.
+  pub account_completed : (H' : History) (x : Message) → AddsMessage H x H' → NamesNoOutdated m x → IsInActive size m x → HasAccount sum size snapshots H' (x ∷ U) m
+  account_completed H' x adds none active =
+      same_marked H' (x ∷ U) (completed_same H x H' U adds) (completed_outdated size H x H' m adds none has.outdated) (in_active_more size m x U active has.unmarked)
 
   pub account_noted : (H' : History) → H'.messages ≡ H.messages → HasAccount sum size snapshots H' U m
-  account_noted H' same = same_marked H' U (ap (filter (λ (x : Message). not (is_among U x.place))) same)
+  account_noted H' same =
+      same_marked H' U (ap (filter (λ (x : Message). not (is_among U x.place))) same)
+      (outdated_kept size H H' m m has.outdated (blobs_same m.slots) (λ x there. subst (λ (ms : List Message). Contains ms x) (sym same) there)
+      (λ x there. inl (subst (λ (ms : List Message). Contains ms x) same there))) has.unmarked
 
   pub account_handed : (place : ℕ) → IsNewPlace size place m → HasAccount sum size snapshots H U (handed_out place m)
-  account_handed place new_place =
-      record { first = has.first; begins = has.begins; account = handed_out_account size base (without U H) m has.account place new_place }
+  account_handed place new_place = record {
+    first = has.first;
+    begins = has.begins;
+    account = handed_out_account size base (without U H) m has.account place new_place;
+    outdated = outdated_still size H m (handed_out place m) has.outdated (handed_blobs m place);
+    unmarked = in_active_handed size m place U (next_free size base (without U H) (IsNoEntry (without U H) base) m has.account) has.unmarked;
+  }
 
   pub account_popped : (n : Machine) → n.slots ≡ m.slots → n.tip ≡ m.tip → HasAccount sum size snapshots H U n
   account_popped n slots tip = record {
@@ -152,6 +173,8 @@ module _ (sum : List ℕ → ℕ) (size : ℕ) (snapshots : ℤ → Option (List
     begins = has.begins;
     account = subst (λ (ss : List SlotState). IsTracked size base (without U H) (IsNoEntry (without U H) base) ss n.tip) (sym slots)
         (subst (λ (t : ℕ). IsTracked size base (without U H) (IsNoEntry (without U H) base) m.slots t) (sym tip) has.account);
+    outdated = outdated_still size H m n has.outdated (subst (KeepsBlobs m.slots) (sym slots) (blobs_same m.slots));
+    unmarked = in_active_same size m n U U (subst (SameSegments m.slots) (sym slots) (λ j. same_segment (slot_at m j))) (λ e there. there) has.unmarked;
   }
 
   module _ (some : 0 < size) (order : Ascends H.messages) (x : Message) (V : List Message) (takes : TakesMark H U x V) (may : MayMark size m (info_of x) []) where
@@ -161,15 +184,26 @@ module _ (sum : List ℕ → ℕ) (size : ℕ) (snapshots : ℤ → Option (List
     ordered : Ascends (without U H).messages
     ordered = filter_ascends (λ (y : Message). not (is_among U y.place)) H.messages order
 
-    pub account_linked : ChangesPage x.kind → HasAccount sum size snapshots H V (linked size x.page (info_of x) m)
-    account_linked changes =
-        record { first = has.first; begins = has.begins; account = linked_account size base (without U H) m some ordered has.account x (without V H) (marked changes) may }
+    -- those that are left unmarked weren't marked
+    fewer : (e : Message) → Contains V e → Contains U e
+    fewer e there = (from_filter (λ (u : Message). not (u.place == x.place)) U e (subst (λ (l : List Message). Contains l e) takes.left there)).0
 
-    pub account_replaced : ChangesPage x.kind → (old : List CacheInfo) → begins_page x.kind ≡ true → IsFormerState (without U H) x.page old
+    pub account_linked : ChangesPage x.kind → HasAccount sum size snapshots H V (linked size x.page (info_of x) m)
+    account_linked changes = record {
+      first = has.first;
+      begins = has.begins;
+      account = linked_account size base (without U H) m some ordered has.account x (without V H) (marked changes) may;
+      outdated = outdated_still size H m (linked size x.page (info_of x) m) has.outdated (linked_blobs size x.page (info_of x) m);
+      unmarked = in_active_same size m (linked size x.page (info_of x) m) U V (linked_same size m (info_of x) may.lies.taken x.page) fewer has.unmarked;
+    }
+
+    pub account_replaced : ChangesPage x.kind → (old : List CacheInfo) → MayMark size m (info_of x) old → begins_page x.kind ≡ true → IsFormerState (without U H) x.page old → NoneShares H x old
         → HasAccount sum size snapshots H V (replaced size x.page (info_of x) old m)
-    account_replaced changes old begins former =
-        record {
-          first = has.first;
-          begins = has.begins;
-          account = replaced_account size base (without U H) m some ordered has.account x (without V H) (marked changes) may old begins former;
-        }
+    account_replaced changes old may_old begins former none = record {
+      first = has.first;
+      begins = has.begins;
+      account = replaced_account size base (without U H) m some ordered has.account x (without V H) (marked changes) may old begins former;
+      outdated = replaced_outdated size H m order x takes.there begins old
+          (former_there H (without U H) x.page old (λ e there. (from_filter (λ (y : Message). not (is_among U y.place)) H.messages e there).0) former) none may_old has.outdated;
+      unmarked = in_active_same size m (replaced size x.page (info_of x) old m) U V (replaced_segments size x.page (info_of x) old m may_old) fewer has.unmarked;
+    }

@@ -8,6 +8,7 @@ use Rattle.sled_codec.specs.History.{Batch, AddsMessage, History, Message}
 use Rattle.sled_codec.specs.Snapshots.{stable_place}
 use Rattle.sled_store.specs.Foreign.{HeaderWasPlaced, RecordWasPlaced}
 use Rattle.sled_store.specs.Device.{State}
+use Rattle.sled_store.specs.Outdated.{NamesNoOutdated}
 use Rattle.sled_store.specs.SegmentStates.{Machine}
 use Rattle.sled_core.specs.Logged.{logged, in_log}
 use Rattle.sled_core.specs.Manifests.{is_manifest}
@@ -49,6 +50,7 @@ use Rattle.sled_core.proofs.Logged.Messages.{adds_logged, put_real}
 use Rattle.sled_core.proofs.Reserve.Ranges.{at_there}
 use Rattle.sled_core.proofs.Sealed.Ended.{ends_up}
 use Rattle.sled_core.proofs.Line.Accounts.{account_completed}
+use Rattle.sled_core.proofs.Line.ActiveSegments.{inside_segment, lies_active}
 
 -- What the one that is set has as the one before it had it, each has as before.
 pub set_keeps : {T X : Type 0} (f : T → X) (xs : List T) (n : ℕ) (x y : T) → slice_get xs n ≡ Some x → f y ≡ f x → (k : ℕ) (a b : T) → slice_get xs k ≡ Some a → slice_get (set xs n y) k ≡ Some b → f b ≡ f a
@@ -245,10 +247,10 @@ module _ (sum : List ℕ → ℕ) (size : ℕ) (device : State) (fault : Option 
       (slots_added sum size (stable_place first.stable) (stable_below reach H.batches) H machine (has first begins) H' x adds (omega (arith, low, unwritten, here))
       (message_in_slot sum size machine v its aligned (facts n v there) i r at x is))
 
-  pub fits_completed : (x : Message) → in_log x ≡ message_in v.parts.site v.parts.bytes r → BlobIsBelow x x.pointer → KeepsItem sum device.blobs x x.pointer → is_manifest r.log_kind r.page ≡ false → (pins : ℕ) (H : History) (A f : ℕ) (U : List Message) → 256 ≤ size → fault ≡ None → 0 < pins
+  pub fits_completed : (x : Message) → in_log x ≡ message_in v.parts.site v.parts.bytes r → BlobIsBelow x x.pointer → KeepsItem sum device.blobs x x.pointer → NamesNoOutdated machine x → is_manifest r.log_kind r.page ≡ false → (pins : ℕ) (H : History) (A f : ℕ) (U : List Message) → 256 ≤ size → fault ≡ None → 0 < pins
       → FitsWith sum noted size device fault line machine pins H A f U
       → (H' : History) × AddsMessage H x H' × FitsWith sum noted size device fault (set line n (ended_now i r (completing r) Completed v)) machine pins H' A f (x ∷ U)
-  fits_completed x its_message below stored none pins H A f U least ok out fits =
+  fits_completed x its_message below stored fresh none pins H A f U least ok out fits =
       let done = complete_fits sum size device fault v i r at is_open x its_message below stored none line n place fits.reach pins H A f U least ok out there facts fits.parts in
       let held = line_holds sum size device fault line fits.reach pins H A f U fits.parts in
       let put = adds_logged H x done.0 done.1 in
@@ -265,7 +267,9 @@ module _ (sum : List ℕ → ℕ) (size : ℕ) (device : State) (fault : Option 
               (whole_grown sum size least device.log.bytes (logged H) (logged done.0) x.place (first_place line) machine
               (message_grows (logged H) (logged done.0) (in_log x) put) past (fits.whole none zeros));
           own = λ none zeros. own_ended sum size (HeaderWasPlaced device.placed) (RecordWasPlaced sum size device.placed) device.log.bytes line n v i r (completing r) Completed there (fits.own none zeros);
-          account = account_completed sum size device.snapshots.file H U machine fits.account done.0 x done.1;
+          account = account_completed sum size device.snapshots.file H U machine fits.account done.0 x done.1 fresh
+              (lies_active sum size device fault line fits.reach pins H A f U fits.parts machine fits.account (omega (arith, least)) v (first_below size place line (from_each size place line facts) n v there)
+              (at_there (HasSlot size machine) line n v there fits.slots.taken) x v.parts.bytes r its_message (inside_segment (facts n v there) i r at));
           numbers = λ zeros. subst (HasNumbers sum size device machine) (sym (end_set size line n v (ended_now i r (completing r) Completed v) there refl)) (fits.numbers zeros);
           in_slots = slots_completed H fits.reach x its_message held fits.slots done.0 done.1 fits.in_slots;
         },

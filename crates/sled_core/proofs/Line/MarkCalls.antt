@@ -9,6 +9,7 @@ use Rattle.sled_codec.specs.History.{ChangesPage, History, Message, begins_page}
 use Rattle.sled_store.specs.Accounts.{IsAccountant, machine_of}
 use Rattle.sled_store.specs.Device.{Trace, state_of}
 use Rattle.sled_store.specs.Marks.{IsFormerState}
+use Rattle.sled_store.specs.Outdated.{NoneShares}
 use Rattle.sled_store.specs.SegmentStates.{LiesIn, Machine, MayMark, linked, replaced}
 use Rattle.sled_store.specs.declared.config.RunningConfig.{RunningConfig}
 use Rattle.sled_store.specs.declared.segment.accountant.SegmentAccountant.{SegmentAccountant}
@@ -91,14 +92,15 @@ module _ {D C : Type 0} (trace : D → Trace) (sum : List ℕ → ℕ) (log : Lo
       (subst (λ (i : CacheInfo). MayMark size (machine_at log) i []) of.1 may) (inr (inl link))))
 
   -- and with a message in place of what its page was.
-  pub replace_account : (old : List CacheInfo) → begins_page x.kind ≡ true → MayMark (segment_size_of log) (machine_at log) info old → IsFormerState (without U H) pid old
+  pub replace_account : (old : List CacheInfo) → begins_page x.kind ≡ true → MayMark (segment_size_of log) (machine_at log) info old → IsFormerState (without U H) pid old → NoneShares H x old
       → HasAccount sum (segment_size_of log) (state_of (trace (device_of log))).snapshots.file H V (replaced (segment_size_of log) pid info old (machine_at log))
   unfolding Fits
-  replace_account old begins may former =
+  replace_account old begins may former none =
       let size : ℕ = segment_size_of log in
       let Account : Machine → Type 0 = HasAccount sum size (state_of (trace (device_of log))).snapshots.file H V in
       let alone : MayMark size (machine_at log) info [] = record { lies = may.lies; active = may.active; old_lie = All-nil (LiesIn size (machine_at log)) } in
       subst (λ (p : ℕ). Account (replaced size p info old (machine_at log))) of.0
       (subst (λ (i : CacheInfo). Account (replaced size x.page i old (machine_at log))) (sym of.1)
       (account_replaced sum size _ H U (machine_at log) fits.account some (apart_ascends H.messages (fits_apart trace sum log H A f U fits)) x V takes
-      (subst (λ (i : CacheInfo). MayMark size (machine_at log) i []) of.1 alone) (begins_changes x.kind begins) old begins (subst (λ (p : ℕ). IsFormerState (without U H) p old) (sym of.0) former)))
+      (subst (λ (i : CacheInfo). MayMark size (machine_at log) i []) of.1 alone) (begins_changes x.kind begins) old
+      (subst (λ (i : CacheInfo). MayMark size (machine_at log) i old) of.1 may) begins (subst (λ (p : ℕ). IsFormerState (without U H) p old) (sym of.0) former) none))

@@ -15,6 +15,7 @@ use Rattle.sled_codec.specs.Snapshots.{Entry, Page, SnapshotModel, Uninitialized
 use Rattle.sled_store.specs.Begin.{IsPlacedIn, IsStartable, entries_in, entries_of, is_active, place_at, segment_number_of, slot_of, slots_of}
 use Rattle.sled_store.specs.Device.{State}
 use Rattle.sled_store.specs.Marks.{slot_with}
+use Rattle.sled_store.specs.Outdated.{AreOutdated}
 use Rattle.sled_store.specs.SegmentStates.{Machine, SlotState, free_slot, is_free, left_after, next_slot, slot_at}
 use Rattle.sled_store.specs.SegmentStates as states
 use Rattle.sled_store.specs.SnapshotFiles.{BeginsFrom}
@@ -26,6 +27,7 @@ use Rattle.sled_store.proofs.Histories.Ascending.{Ascends, one_at_place}
 use Rattle.sled_store.proofs.Names.OneBegin.{one_begin}
 use Rattle.sled_store.proofs.Marks.AccountSteps.{entry_in_slot, handed_out_account, past_table, same_account}
 use Rattle.sled_store.proofs.Marks.DeactivationSteps.{any_in}
+use Rattle.sled_store.proofs.Marks.OutdatedSteps.{handed_blobs, outdated_still}
 use Rattle.sled_store.proofs.Marks.TableLemmas.{apart_ascends}
 use Rattle.sled_store.proofs.Segments.Elements.{in_cases, in_first, in_nothing, in_rest}
 use Rattle.sled_store.proofs.Segments.EntryLemmas.{first_in, none_in}
@@ -93,6 +95,22 @@ module _ (size len : ℕ) (some : 0 < size) (s : SnapshotModel) (startable : IsS
     by : (k : ℕ) (o : Option ℕ) → (found_slot size s k o).latest ≡ None
     by k None = refl
     by k (Some n) = refl
+
+  none_blobs : (k : ℕ) → (slot_at start k).blobs ≡ []
+  none_blobs = each (λ x. x.blobs ≡ []) refl by where
+    by : (k : ℕ) (o : Option ℕ) → (found_slot size s k o).blobs ≡ []
+    by k None = refl
+    by k (Some n) = refl
+
+  -- No blob goes with a segment where the accountant has started, nor once the log has begun its own.
+  started_outdated : (H : History) → AreOutdated size H start
+  started_outdated H k blob there = absurd (in_nothing blob (subst (λ (l : List ℤ). Contains l blob) (none_blobs k) there))
+
+  pub begun_outdated : (H : History) → AreOutdated size H (begun_machine size len s)
+  begun_outdated H = by s.active where
+    by : (o : Option ℕ) → AreOutdated size H (with_current (place_at size stable o) o start)
+    by (Some a) = started_outdated H
+    by None = outdated_still size H start (states.handed_out (raised size stable) start) (started_outdated H) (handed_blobs start (raised size stable))
 
   cut_off : (k : ℕ) → start.tip ≤ k → is_free (slot_at start k).state ≡ true
   cut_off k le = ⊎_elim (λ inside. cut_free slots (found size slots s).slots k le inside) (λ past. ap (λ (x : SlotState). is_free x.state) (found_behind k past)) (cases_lt k slots)
@@ -266,6 +284,8 @@ module _ (sum : List ℕ → ℕ) (size : ℕ) (some : 0 < size) (old : State) (
         begins = subst (λ (file : ℤ → Option (List ℕ)). BeginsFrom sum file ready.ready.first) (sym names) ready.ready.begins;
         account = subst (λ (o : Option ℤ). IsAccountOf size (stable_place o) (without [] H) (begun_machine size (length old.log.bytes) s)) (sym ready.ready.same_place)
             (same_account size (stable_place s.stable) H (begun_machine size (length old.log.bytes) s) begun_now (without [] H) (all_marked H.messages));
+        outdated = begun_outdated size (length old.log.bytes) some s startable H;
+        unmarked = λ e there. absurd (in_nothing e there);
       }))
 
   -- What tables need from the snapshot on is in the slots: all of the history lies below that.

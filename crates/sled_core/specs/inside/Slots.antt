@@ -2,6 +2,7 @@
 use Rattle.std.specs.Prelude.{◌≡◌, ◌+◌, ◌*◌, ◌/◌, ◌≤◌, ℕ, ℤ, false, List, Option, Contains}
 use Rattle.sled_codec.specs.History.{Message, History}
 use Rattle.sled_codec.specs.Snapshots.{SnapshotModel, stable_place}
+use Rattle.sled_store.specs.Outdated.{AreInActive, AreOutdated}
 use Rattle.sled_store.specs.SegmentStates.{Machine, is_free, slot_at}
 use Rattle.sled_store.specs.SnapshotFiles.{BeginsFrom}
 use Rattle.sled_store.specs.Tracked.{IsAccountOf}
@@ -32,3 +33,7 @@ pub record HasAccount (sum : List ℕ → ℕ) (size : ℕ) (snapshots : ℤ →
   pub first : SnapshotModel
   pub begins : BeginsFrom sum snapshots first
   pub account : IsAccountOf size (stable_place first.stable) (without U H) m
+  -- the blobs that go with segments are outdated, of all messages, marked or not
+  pub outdated : AreOutdated size H m
+  -- those that aren't marked lie in active segments
+  pub unmarked : AreInActive size m U

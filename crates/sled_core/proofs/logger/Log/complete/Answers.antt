@@ -4,6 +4,8 @@ use Rattle.std.specs.Prelude.{unsigned_abs}
 use Rattle.sled_codec.specs.History.{AddsMessage, Message, Step}
 use Rattle.sled_store.specs.Accounts.{machine_of}
 use Rattle.sled_store.specs.Device.{state_of}
+use Rattle.sled_store.proofs.Marks.OutdatedSteps.{none_outdated}
+use Rattle.sled_store.proofs.Marks.TableLemmas.{apart_ascends}
 use Rattle.sled_core.specs.declared.iobuf.ReservationState.TheVariants.{Completed}
 use Rattle.sled_core.specs.inside.Buffers.{completing}
 use Rattle.sled_core.specs.Fits.{Awaits, line_of, noted_in}
@@ -18,6 +20,7 @@ use Rattle.sled_core.proofs.Line.Ends.{fits_completed, holds_completed}
 use Rattle.sled_core.proofs.Line.EndedLine.{completing_short}
 use Rattle.sled_core.proofs.Holds.Facts.{nth_facts}
 use Rattle.sled_core.proofs.Line.TicketEnds.{EndsAt, IsReservedAt, found_at, kind_there, open_at, ticket_ends, ticket_fits, ticket_given, ticket_goes_on, ticket_holds, ticket_keeps}
+use Rattle.sled_core.proofs.Holds.ReachLemmas.{fits_apart}
 use Rattle.sled_core.proofs.Logged.Messages.{put_real}
 use Rattle.sled_core.proofs.logger.Log.complete.Given.{Over}
 use Rattle.sled_core.proofs.logger.Log.complete.Goals as goal
@@ -88,7 +91,7 @@ returns-clause-history g c = λ H m holds awaits.
 
 pub returns-clause-fits : goal.returns-clause-fits
 unfolding Fits Step
-returns-clause-fits g c = λ H A f U m fits awaits stored out.
+returns-clause-fits g c = λ H A f U m fits awaits stored may out.
     let old = c.args.self.now in
     let n : ℕ = c.segment_of-n.result in
     let e = ended g c m awaits in
@@ -97,7 +100,8 @@ returns-clause-fits g c = λ H A f U m fits awaits stored out.
     let done = fits_completed g.C.Checksum.sum_of old.config.config.segment_size (state_of (g.D.Device.trace old.config.device))
     old.fault.kept (line_of old) n its.segment its.among
     old.segments.first.site.place (nth_facts old) i its.reserved its.there its.own.open_yet (machine_of old.accountant) (noted_in old) m awaits.message
-    stored.below stored.item (sym its.own.manifest ∙ c.requires.message) old.pins H A f U old.config.config.least c.in_default.is out fits in (
+    stored.below stored.item (none_outdated old.config.config.segment_size H (machine_of old.accountant)
+    (apart_ascends H.messages (fits_apart g.D.Device.trace g.C.Checksum.sum_of old H A f U fits)) fits.account.outdated m may) (sym its.own.manifest ∙ c.requires.message) old.pins H A f U old.config.config.least c.in_default.is out fits in (
       done.0,
       done.1,
       ticket_fits e c.complete_in.ensures.rest g.D.Device.trace g.C.Checksum.sum_of done.0 A f _ done.2,

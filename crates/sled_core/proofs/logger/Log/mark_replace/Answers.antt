@@ -26,10 +26,10 @@ returns-clause-keeps g c = marks_keep g.D.Device.trace g.C.Checksum.sum_of c.arg
     c.mark_replace.ensures.config)
 
 pub returns-clause-fits : goal.returns-clause-fits
-returns-clause-fits g c = λ H A f U V m fits takes of begins former.
+returns-clause-fits g c = λ H A f U V m fits takes of begins former none.
     marks_fit g.D.Device.trace g.C.Checksum.sum_of c.args.self.now _ (step g c) (same g c) c.mark_replace.result
     (account_marks c.args.self.now c.mark_replace.new.self (step g c) c.mark_replace.result c.mark_replace.ensures.done c.mark_replace.ensures.unchanged
     c.mark_replace.ensures.config)
     H A f U V m fits takes
     (replace_account g.D.Device.trace g.C.Checksum.sum_of c.args.self.now H A f U V m fits takes c.args.pid c.args.new of
-    c.args.old.now begins c.requires.may former)
+    c.args.old.now begins c.requires.may former none)
