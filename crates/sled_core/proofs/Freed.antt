@@ -8,12 +8,14 @@ pub mod CutEnds
 pub mod CutHides
 pub mod Emptied
 pub mod FreedHides
+pub mod FreedSlots
 pub mod Gone
 pub mod GoneAlone
 pub mod Hides
 pub mod KeptHides
 pub mod LineHides
 pub mod NoHarm
+pub mod OutdatedGoes
 pub mod PassedOver
 pub mod Quiet
 pub mod ReadLess

@@ -1,8 +1,8 @@
 -- A log over a device that has the same log file, and the same snapshots to read, holds what it held; and it fits that, where a crash leaves of the names what it could leave before, but for a blob that no message names.
-use Rattle.std.proofs.Common.{◌≡◌, ◌+◌, ℕ, ℤ, List, [], ◌∷◌, map, Option, arith, sym, subst}
+use Rattle.std.proofs.Common.{◌≡◌, ◌+◌, ℕ, ℤ, List, [], ◌∷◌, map, Option, arith, refl, sym, subst}
 use Rattle.std.specs.declared.io.Error.{Error as IoError}
 use Rattle.sled_codec.specs.History.{Batch, Message, History}
-use Rattle.sled_codec.specs.Snapshots.{stable_place}
+use Rattle.sled_codec.specs.Snapshots.{SnapshotModel, stable_place}
 use Rattle.sled_store.specs.Device.{NamesState, State}
 use Rattle.sled_store.specs.SegmentStates.{Machine}
 use Rattle.sled_core.specs.declared.iobuf.Reserved.{Reserved}
@@ -14,9 +14,10 @@ use Rattle.sled_core.specs.inside.LogFile.{StaysBelow}
 use Rattle.sled_core.specs.LogFile.{StaysFrom}
 use Rattle.sled_core.specs.Logged.{logged}
 use Rattle.sled_core.specs.OpenBatches.{stable_below}
-use Rattle.sled_core.specs.inside.Running.{FitsIn, FitsLine, FitsWith}
 use Rattle.sled_core.specs.inside.Begun.{line_end}
+use Rattle.sled_core.specs.inside.Lasting.{LeavesRecovering}
 use Rattle.sled_core.specs.inside.Numbers.{HaveSlotsFrom}
+use Rattle.sled_core.specs.inside.Running.{FitsIn, FitsLine, FitsWith, HaveItems, HaveNames}
 use Rattle.sled_core.specs.inside.Slots.{HasAccount}
 use Rattle.sled_core.proofs.Blobs.Leaves.{ChangesAt, with_names, blobs_fit_beside, names_fit_beside, leaves_beside, entries_beside, stored_beside}
 use Rattle.sled_core.proofs.Blobs.Unnamed.{IsUnnamed}
@@ -71,44 +72,67 @@ module _ (sum : List ℕ → ℕ) (size : ℕ) (device : State) (blobs snapshots
     pub holds_over_names : (noted : List Batch) (line : List SegmentView) (m : Machine) (H : History) → HoldsWith sum noted size device fault line m H → HoldsWith sum noted size new fault line m H
     holds_over_names noted line m H holds = record { holds = line_over line H holds.holds; batches = holds.batches; slots = holds.slots }
 
-  -- It fits what it fitted.
-  module _ (p : ℤ) (changes : ChangesAt sum p device blobs snapshots) (H : History) (unnamed : IsUnnamed H p) (A f : ℕ) (U : List Message) where
-    fits_in_over : (site : SegmentPosition) (bytes : List ℕ) (from : ℕ) (bs : List Sealed) (rs : List Reserved) (behind : List SegmentParts) (reach pins : ℕ)
+  -- It fits what it fitted, where its blobs have the items still, its names are those of the history, and what a crash leaves can be recovered.
+  module _ (same_files : snapshots.file ≡ device.snapshots.file) (H : History) (A f : ℕ) (U : List Message) (named : (first : SnapshotModel) → HaveNames sum size device fault (logged H) f first → HaveNames sum size new fault (logged H) f first) where
+    -- what is stable up to a place needs no more of the blobs and of a crash than before
+    abbrev pub KeepsNeeds : ℕ → Type 0
+    KeepsNeeds stable = (HaveItems sum device.blobs H stable → HaveItems sum blobs H stable) × (LeavesRecovering sum size H stable f device → LeavesRecovering sum size H stable f new)
+
+    fits_in_over : (site : SegmentPosition) (bytes : List ℕ) (from : ℕ) (bs : List Sealed) (rs : List Reserved) (behind : List SegmentParts) (reach pins : ℕ) → KeepsNeeds (stable_below reach H.batches)
         → FitsIn sum (log_parts size site device fault bytes from bs rs) behind reach pins H A f U → FitsIn sum (log_parts size site new fault bytes from bs rs) behind reach pins H A f U
     unfolding in_over
-    fits_in_over site bytes from bs rs behind reach pins fits = record {
-      holds = in_over changes.same_files site bytes from bs rs behind (logged H) fits.holds;
+    fits_in_over site bytes from bs rs behind reach pins (items, left) fits = record {
+      holds = in_over same_files site bytes from bs rs behind (logged H) fits.holds;
       reached = fits.reached;
       among = fits.among;
       beyond = fits.beyond;
-      items = record {
-        blobs = blobs_fit_beside sum p device blobs snapshots changes H unnamed (stable_below reach H.batches) fits.items.blobs;
-        stored = stored_beside sum p device blobs snapshots changes H unnamed (stable_below reach H.batches) fits.items.stored;
-        entries = entries_beside sum p device blobs snapshots changes H unnamed (stable_below reach H.batches) fits.items.entries;
-        below = fits.items.below;
-      };
-      named = record {
-        names = names_fit_beside sum p device blobs snapshots changes (logged H) size f fits.holds.begun.first fits.named.names;
-        own_names = λ none. changes.stay_own (fits.named.own_names none);
-      };
+      items = items fits.items;
+      named = named fits.holds.begun.first fits.named;
       passes = fits.passes;
       pinned = fits.pinned;
-      left = leaves_beside sum p device blobs snapshots changes H unnamed size (stable_below reach H.batches) f fits.left;
+      left = left fits.left;
     }
 
-    fits_line_over : (line : List SegmentView) (reach pins : ℕ) → FitsLine sum size device fault line reach pins H A f U → FitsLine sum size new fault line reach pins H A f U
-    fits_line_over [] reach pins fits = fits
-    fits_line_over (v ∷ vs) reach pins fits = fits_in_over v.parts.site v.parts.bytes v.parts.written_len v.parts.sealed v.parts.reserved (map parts_in vs) reach pins fits
+    fits_line_over : (line : List SegmentView) (reach pins : ℕ) → KeepsNeeds (stable_below reach H.batches) → FitsLine sum size device fault line reach pins H A f U → FitsLine sum size new fault line reach pins H A f U
+    fits_line_over [] reach pins keeps fits = fits
+    fits_line_over (v ∷ vs) reach pins keeps fits = fits_in_over v.parts.site v.parts.bytes v.parts.written_len v.parts.sealed v.parts.reserved (map parts_in vs) reach pins keeps fits
+
+    -- it is read up to the same place
+    pub fits_over_blobs : (noted : List Batch) (line : List SegmentView) (m : Machine) (pins : ℕ) (fits : FitsWith sum noted size device fault line m pins H A f U) → KeepsNeeds (stable_below fits.reach H.batches)
+        → (now : FitsWith sum noted size new fault line m pins H A f U) × (now.reach ≡ fits.reach)
+    fits_over_blobs noted line m pins fits keeps = (
+      record {
+        reach = fits.reach;
+        parts = fits_line_over line fits.reach pins keeps fits.parts;
+        batches = fits.batches;
+        slots = fits.slots;
+        whole = fits.whole;
+        own = fits.own;
+        account = subst (λ (file : ℤ → Option (List ℕ)). HasAccount sum size file H U m) (sym same_files) fits.account;
+        numbers = λ zeros. numbers_less sum size new device (less_same sum size new device (λ i. device.placed)) m (line_end size line) (fits.numbers zeros);
+        in_slots = subst (λ (file : ℤ → Option (List ℕ)). HaveSlotsFrom sum size file H (stable_below fits.reach H.batches) m) (sym same_files) fits.in_slots;
+      },
+      refl,
+    )
+
+  -- So it is where a crash leaves of the names what it could leave before, but for a blob that no message names.
+  module _ (p : ℤ) (changes : ChangesAt sum p device blobs snapshots) (H : History) (unnamed : IsUnnamed H p) (A f : ℕ) (U : List Message) where
+    names_over : (first : SnapshotModel) → HaveNames sum size device fault (logged H) f first → HaveNames sum size new fault (logged H) f first
+    names_over first named = record {
+      names = names_fit_beside sum p device blobs snapshots changes (logged H) size f first named.names;
+      own_names = λ none. changes.stay_own (named.own_names none);
+    }
+
+    needs_over : (stable : ℕ) → KeepsNeeds changes.same_files H A f U names_over stable
+    needs_over stable = (
+      λ items. record {
+        blobs = blobs_fit_beside sum p device blobs snapshots changes H unnamed stable items.blobs;
+        stored = stored_beside sum p device blobs snapshots changes H unnamed stable items.stored;
+        entries = entries_beside sum p device blobs snapshots changes H unnamed stable items.entries;
+        below = items.below;
+      },
+      leaves_beside sum p device blobs snapshots changes H unnamed size stable f,
+    )
 
     pub fits_over_names : (noted : List Batch) (line : List SegmentView) (m : Machine) (pins : ℕ) → FitsWith sum noted size device fault line m pins H A f U → FitsWith sum noted size new fault line m pins H A f U
-    fits_over_names noted line m pins fits = record {
-      reach = fits.reach;
-      parts = fits_line_over line fits.reach pins fits.parts;
-      batches = fits.batches;
-      slots = fits.slots;
-      whole = fits.whole;
-      own = fits.own;
-      account = subst (λ (file : ℤ → Option (List ℕ)). HasAccount sum size file H U m) (sym changes.same_files) fits.account;
-      numbers = λ zeros. numbers_less sum size new device (less_same sum size new device (λ i. device.placed)) m (line_end size line) (fits.numbers zeros);
-      in_slots = subst (λ (file : ℤ → Option (List ℕ)). HaveSlotsFrom sum size file H (stable_below fits.reach H.batches) m) (sym changes.same_files) fits.in_slots;
-    }
+    fits_over_names noted line m pins fits = (fits_over_blobs changes.same_files H A f U names_over noted line m pins fits (needs_over (stable_below fits.reach H.batches))).0

@@ -264,7 +264,7 @@ module _ (size len : ℕ) (some : 0 < size) (s : SnapshotModel) (startable : IsS
           })
 
 -- nothing is left out where nothing is unmarked
-all_marked : (ms : List Message) → filter (λ (m : Message). not (is_among [] m.place)) ms ≡ ms
+pub all_marked : (ms : List Message) → filter (λ (m : Message). not (is_among [] m.place)) ms ≡ ms
 all_marked [] = refl
 all_marked (m ∷ ms) = ap (λ (l : List Message). m ∷ l) (all_marked ms)
 

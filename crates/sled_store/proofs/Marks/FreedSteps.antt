@@ -1,15 +1,18 @@
--- What a step of the accountant frees no table needs: from the base of an account on none has an entry in a free slot, or in one that may go.
-use Rattle.std.proofs.Common.{◌≡◌, ◌≢◌, ◌∙◌, ◌+◌, ◌<◌, ◌≤◌, ℕ, true, false, sym, subst, arith, inr}
+-- What a step of the accountant frees no table needs: from the base of an account on none has an entry in a free slot, or in one that may go. And where nothing is due, nothing is done.
+use Rattle.std.proofs.Common.{◌≡◌, ◌≢◌, ◌∙◌, ◌+◌, ◌<◌, ◌≤◌, ℕ, ℤ, true, false, List, [], sym, ap, subst, arith, inr}
 use Rattle.std.specs.List.{Contains}
 use Rattle.std.proofs.lemmas.Bool.{true≢false}
 use Rattle.sled_codec.specs.History.{History, Message, table}
 use Rattle.sled_store.specs.Marks.{slot_with}
-use Rattle.sled_store.specs.SegmentStates.{Machine, deactivated, is_active, is_free, slot_at}
+use Rattle.sled_store.specs.SegmentStates.{Machine, active_among, active_place, deactivated, in_turn, is_active, is_due, is_free, slot_at, stabilized}
 use Rattle.sled_store.specs.Tracked.{IsAccountOf, IsHeld, IsNoEntry}
 use Rattle.sled_store.proofs.Histories.Ascending.{Ascends}
+use Rattle.sled_store.proofs.Segments.Elements.{all_from_in, none_kept}
 use Rattle.sled_store.proofs.Segments.TableEntries.{from_table}
 use Rattle.sled_store.proofs.Marks.AccountSteps.{entry_in_slot}
+use Rattle.sled_store.proofs.Marks.DeactivationSteps.{active_parts}
 use Rattle.sled_store.proofs.Marks.MarkedLemmas.{more_tracks, not_superseded}
+use Rattle.sled_store.proofs.Marks.SlotLemmas.{by_has}
 use Rattle.sled_store.proofs.Marks.StabilizeSteps.{one_deactivated_tracks}
 use Rattle.sled_store.proofs.Marks.Tracked.{MayGo}
 
@@ -32,3 +35,18 @@ module _ (size base : ℕ) (H : History) (m : Machine) (t : IsAccountOf size bas
       one_deactivated_tracks size raised H (IsNoEntry H raised) some (λ e by cut low entry. not_superseded size raised H cut e.page e some order entry low by) m a
       (more_tracks size base raised H H (IsNoEntry H base) (IsNoEntry H raised) m t le (λ x there. there) (λ x there. inr there) (λ x there none cut low. none cut (omega (arith, low, le))))
       active lsn below
+
+-- nothing is due for a mark
+abbrev pub NoneDue : ℕ → ℤ → Machine → Type 0
+NoneDue size mark m = (k : ℕ) → is_active (slot_at m k).state ≡ true → is_due size mark (slot_at m k).lsn ≡ false
+
+-- Then the step does nothing.
+pub none_stabilized : (size : ℕ) (mark : ℤ) (m : Machine) → NoneDue size mark m → stabilized size mark m ≡ record { machine = m; calls = [] }
+none_stabilized size mark m none =
+    ap (λ (due : List (ℕ × ℕ)). in_turn (deactivated size) due m)
+    (none_kept (λ (a : ℕ × ℕ). is_due size mark a.0) (active_among m.slots) (all_from_in (λ (a : ℕ × ℕ). is_due size mark a.0 ≡ false) (active_among m.slots) idle)) where
+      idle : (a : ℕ × ℕ) → Contains (active_among m.slots) a → is_due size mark a.0 ≡ false
+      idle a there =
+          let has = by_has active_place 0 m.slots a there in
+          let parts = active_parts (slot_at m has.index) a.0 has.has in
+          subst (λ (l : ℕ). is_due size mark l ≡ false) parts.1 (none has.index parts.0)

@@ -64,7 +64,7 @@ ended g c m awaits =
       line = c.complete_in.ensures.line f.segment f.reserved f.among f.there;
     }
 
--- and it is open, so the ticket awaits one.
+-- and so for the one that its caller knows of.
 own : (g : Over) (c : goal.After-complete_in g)
     → EndsAt c.args.self.now c.complete_in.new.self c.args.ticket c.segment_of-n.result c.index-index.result Completed
 own g c = ended g c c.requires.awaited.0 c.requires.awaited.1

@@ -81,7 +81,7 @@ ended g c m awaits =
       line = c.abort_in.ensures.line f.segment f.reserved f.among f.there;
     }
 
--- and it is open, so the ticket awaits one.
+-- and so for the one that its caller knows of.
 abbrev own : (g : Over) (c : goal.After-abort_in g)
     → EndsAt c.args.self.now c.abort_in.new.self c.args.ticket c.segment_of-n.result c.index-index.result Canceled
 own g c = ended g c c.requires.0 c.requires.1
