@@ -1,6 +1,6 @@
 -- Tickets by the segments of a log: which segment a ticket is of, which tickets stay for what they were for once one has ended, and which are open then.
 use Rattle.std.proofs.lemmas.Bool.{cases_eq}
-use Rattle.std.proofs.Common.{false, ◌≡◌, ◌≢◌, ◌∙◌, ◌≤◌, ◌<◌, ◌+◌, ◌-◌, ◌*◌, ◌/◌, ◌^◌, ap, sym, arith, subst, to_z, of_z, w64, ℕ, ℤ, pos, max, List, ◌∷◌, length, set, Option, Some, inl, inr}
+use Rattle.std.proofs.Common.{false, ◌≡◌, ◌≢◌, ◌∙◌, ◌≤◌, ◌<◌, ◌+◌, ◌-◌, ◌*◌, ◌/◌, ◌^◌, ap, sym, arith, subst, to_z, of_z, w64, ℕ, ℤ, pos, List, ◌∷◌, length, set, Option, Some, inl, inr}
 use lib.Signed.{mag}
 use Rattle.std.specs.Prelude.{unsigned_abs}
 use Rattle.std.specs.declared.io.Error.{Error as IoError}
@@ -18,7 +18,7 @@ use Rattle.sled_core.specs.declared.iobuf.Reserved.{Reserved}
 use Rattle.sled_core.specs.declared.logger.Log.{Log}
 use Rattle.sled_core.specs.declared.reservation.Reservation.{Reservation}
 use Rattle.sled_core.specs.Begun.{SegmentView}
-use Rattle.sled_core.specs.inside.Buffers.{IsChain, IsHeaded, ended}
+use Rattle.sled_core.specs.inside.Buffers.{ended}
 use Rattle.sled_core.specs.Buffers.{message_in, open_state}
 use Rattle.sled_core.specs.Fits.{Awaits, AwaitsIn, line_of}
 use Rattle.sled_core.specs.Among.{AreAmong}
@@ -29,13 +29,11 @@ use Rattle.sled_core.specs.Tickets.{IsFor, index_of, place_of}
 use Rattle.sled_core.specs.inside.Turned.{ended_now}
 use Rattle.sled_core.proofs.Holds.CompletedLemmas.{others_stay}
 use Rattle.sled_core.proofs.Line.Ends.{with_segment}
-use Rattle.sled_core.proofs.Line.EntryPlaces.{entry_low, segment_chain}
+use Rattle.sled_core.proofs.Line.EntryPlaces.{entry_low}
 use Rattle.sled_core.proofs.Holds.Facts.{IsSegment, nth_facts}
 use Rattle.sled_core.proofs.Holds.Nth.{set_get, set_other}
 use Rattle.sled_core.proofs.Line.GivenUp.{canceled_given, ended_given, set_given, set_given_more}
 use Rattle.sled_core.proofs.Line.OpenPlaces.{takes_ended, takes_in}
-use Rattle.sled_core.proofs.Reserve.Ranges.{at_there}
-use Rattle.sled_core.proofs.Sealed.Around.{whole_chain}
 
 -- The place of an entry says which segment it is of.
 pub number_is : {size : ℕ} (base n : ℕ) (v : SegmentView) (i : ℕ) (r : Reserved) → IsSegment size (base + n * size) v → slice_get v.parts.reserved i ≡ Some r → (v.parts.site.place + r.from - base) / size ≡ n

@@ -1,8 +1,7 @@
 -- A log whose segments hold or fit a history notes a batch: with the manifest's record ended they hold or fit the history with the batch, which is noted besides.
-use Rattle.std.proofs.Common.{◌≡◌, ◌⊎◌, ◌≤◌, ◌<◌, ◌+◌, ◌*◌, ◌^◌, ap, sym, refl, arith, subst, inl, inr, ℕ, zero, suc, max, true, List, [], ◌∷◌, length, map, set, Option, None, Some}
+use Rattle.std.proofs.Common.{◌≡◌, ◌⊎◌, ◌≤◌, ◌<◌, ◌+◌, ◌*◌, ◌^◌, ap, sym, refl, arith, subst, inl, inr, ℕ, zero, suc, true, List, [], ◌∷◌, length, map, set, Option, None, Some}
 use Rattle.std.specs.List.{Contains, slice_get}
 use Rattle.std.specs.declared.io.Error.{Error as IoError}
-use Rattle.std.proofs.Math.Nat.{suc-mul}
 use Rattle.std.proofs.lemmas.Bool.{cases_lt}
 use Rattle.std.proofs.lemmas.List.Elements.{All-contains, Contains-append_cases}
 use Rattle.sled_codec.specs.History.{Batch, History, Message, table}
@@ -32,7 +31,7 @@ use Rattle.sled_core.proofs.Holds.MessagesBeside.{message_before}
 use Rattle.sled_core.proofs.Holds.WholeHistory.{behind_above}
 use Rattle.sled_core.proofs.Holds.PegLemmas.{IsOff}
 use Rattle.sled_core.proofs.Line.EntryPlaces.{entry_low, line_unwritten}
-use Rattle.sled_core.proofs.Line.Ends.{first_before, line_holds, slots_set, written_inside, written_set}
+use Rattle.sled_core.proofs.Line.Ends.{first_before, line_holds, slots_set, written_set}
 use Rattle.sled_core.proofs.Holds.Facts.{IsSegment}
 use Rattle.sled_core.proofs.Line.LineEnds.{end_set, first_set}
 use Rattle.sled_core.proofs.Line.NeededSlots.{newest_stable}
@@ -40,7 +39,6 @@ use Rattle.sled_core.proofs.Line.Noted.{mark_fits, mark_holds, mark_placed}
 use Rattle.sled_core.proofs.Line.OlderSlots.{whole_grown}
 use Rattle.sled_core.proofs.Reached.AddedBatch.{batch_grows}
 use Rattle.sled_core.proofs.OwnLog.Calls.{own_ended}
-use Rattle.sled_core.proofs.Reserve.Ranges.{at_there, chain_within}
 use Rattle.sled_core.proofs.Line.Accounts.{account_noted}
 
 -- one of these parts is of one of the segments

@@ -24,12 +24,15 @@ entry_low v i r facts there =
     omega (arith, inside, some, short)
 
 -- It begins where nothing is written yet.
-module _ (size : ℕ) (v : SegmentView) (i : ℕ) (r : Reserved) (at : slice_get v.parts.reserved i ≡ Some r) {own_place : ℕ} (own_facts : IsSegment size own_place v) where
-  pub line_unwritten : (line : List SegmentView) (n place : ℕ) → slice_get line n ≡ Some v → ((k : ℕ) (x : SegmentView) → slice_get line k ≡ Some x → IsSegment size (place + k * size) x) → written_to line ≤ v.parts.site.place + r.from
+module _ (size : ℕ) (v : SegmentView) (i : ℕ) (r : Reserved) (at : slice_get v.parts.reserved i ≡ Some r) {own_place : ℕ}
+    (own_facts : IsSegment size own_place v) where
+  pub line_unwritten : (line : List SegmentView) (n place : ℕ) → slice_get line n ≡ Some v →
+      ((k : ℕ) (x : SegmentView) → slice_get line k ≡ Some x → IsSegment size (place + k * size) x) → written_to line ≤ v.parts.site.place + r.from
   line_unwritten [] n place there facts = cc
   line_unwritten (w ∷ ws) zero place there facts =
       let same : w ≡ v = cc in
-      let inside = at_there (λ (z : Reserved). (max 20 v.parts.written_len ≤ z.from) × (z.from + z.len ≤ length v.parts.bytes)) v.parts.reserved i r at (chain_within (max 20 v.parts.written_len) (length v.parts.bytes) v.parts.reserved (segment_chain v own_facts)) in
+      let inside = at_there (λ (z : Reserved). (max 20 v.parts.written_len ≤ z.from) × (z.from + z.len ≤ length v.parts.bytes)) v.parts.reserved i r at
+          (chain_within (max 20 v.parts.written_len) (length v.parts.bytes) v.parts.reserved (segment_chain v own_facts)) in
       let begins = ap (λ (x : SegmentView). x.parts.site.place + x.parts.written_len) same in
       omega (arith, inside.0, begins)
   line_unwritten (w ∷ ws) (suc k) place there facts =

@@ -11,7 +11,7 @@ use Rattle.sled_store.specs.Moments.{Throughout}
 use Rattle.sled_store.specs.inside.Script.{Along}
 use Rattle.sled_store.specs.Script.{Performs, after_all}
 use Rattle.sled_store.specs.SegmentStates.{Machine}
-use Rattle.sled_store.proofs.Traces.MomentLemmas.{at_last, weaker}
+use Rattle.sled_store.proofs.Traces.MomentLemmas.{at_last}
 use Rattle.sled_store.proofs.Traces.ScriptLemmas.{performs_throughout}
 use Rattle.sled_core.specs.Logged.{logged}
 use Rattle.sled_core.specs.OpenBatches.{not_whole, stable_below}
@@ -34,7 +34,6 @@ use Rattle.sled_core.specs.inside.Numbers.{HasNumbers, HaveSlotsFrom}
 use Rattle.sled_core.specs.inside.Slots.{HasAccount}
 use Rattle.sled_core.specs.inside.Turned.{ChangesDevice, IsReadyIn, promoted, write_in, written_now}
 use Rattle.sled_core.proofs.Flush.FlushLemmas.{fault_or_none}
-use Rattle.sled_core.proofs.Flush.Settled.{leaves_less}
 use Rattle.sled_core.proofs.Holds.FitsBatches.{batches_left, batches_up}
 use Rattle.sled_core.proofs.Holds.BufferEnds.{written_behind}
 use Rattle.sled_core.proofs.Line.Ends.{line_holds}

@@ -1,7 +1,7 @@
 -- A log that fits a history keeps its numbers: in the slots that tables need from the stable place on nothing that is the log's own has a greater number. So
 -- what a crash leaves of its device can be recovered, and lasts.
 use Rattle.std.specs.declared.io.Error.{Error as IoError}
-use Rattle.std.proofs.Common.{◌<◌, ◌≤◌, ℕ, List, Option, arith}
+use Rattle.std.proofs.Common.{◌<◌, ℕ, List, Option, arith}
 use Rattle.sled_codec.specs.History.{Batch, History, Message}
 use Rattle.sled_codec.specs.Snapshots.{stable_place}
 use Rattle.sled_store.specs.Device.{State, Trace, state_of}

@@ -1,5 +1,5 @@
 -- What is the log's own in one state is its own in another: by a sync, by a crash, by a cut and by zeros it only gets less.
-use Rattle.std.proofs.Common.{◌≡◌, ◌∙◌, ◌+◌, ◌-◌, ◌*◌, ℕ, ℤ, pos, List, [], ◌∷◌, length, take, drop, replicate, get_or, sym, ap, subst, arith, inl, inr}
+use Rattle.std.proofs.Common.{◌≡◌, ◌∙◌, ◌+◌, ◌-◌, ◌*◌, ℕ, ℤ, pos, List, [], length, take, drop, replicate, get_or, sym, ap, subst, arith, inl, inr}
 use Rattle.std.proofs.lemmas.Bool.{cases_lt}
 use Rattle.std.proofs.lemmas.List.{get_or-drop, get_or-replicate, get_or-take, get_or_past, length-replicate}
 use Rattle.sled_codec.specs.Record.{IsHeader}
@@ -21,7 +21,8 @@ module _ (sum : List ℕ → ℕ) (size : ℕ) where
     pub headers : (k place : ℕ) (mark : ℤ) → IsOwnHeader sum size t k place mark → IsOwnHeader sum size s k place mark
 
   -- where it was placed there too
-  less_placed : (t s : State) → ((number at : ℕ) (text : List ℕ) → RecordWasPlaced sum size t.placed number at text → RecordWasPlaced sum size s.placed number at text)
+  less_placed : (t s : State) →
+      ((number at : ℕ) (text : List ℕ) → RecordWasPlaced sum size t.placed number at text → RecordWasPlaced sum size s.placed number at text)
       → ((at : ℕ) (text : List ℕ) → HeaderWasPlaced t.placed at text → HeaderWasPlaced s.placed at text) → OwnLess t s
   less_placed t s records headers = record {
     records = λ number at text r. record { kind = r.kind; page = r.page; body = r.body; is = r.is; placed = records number at text r.placed };

@@ -5,7 +5,8 @@ use Rattle.std.proofs.lemmas.List.Elements.{All-head}
 use Rattle.sled_codec.specs.Places.{part}
 use Rattle.sled_codec.specs.Record.{IsHeader}
 use Rattle.sled_codec.proofs.Segments.{length-short_header}
-use Rattle.sled_store.specs.Device.{BlobMade, BlobRemoved, BlobSynced, Crashed, Cut, LogState, NamesSynced, Placement, SnapshotFilled, SnapshotPublished, SnapshotRemoved, StopAsked, Synced, Trace, Wrote, at_rest, log_left, state_of}
+use Rattle.sled_store.specs.Device.{BlobMade, BlobRemoved, BlobSynced, Crashed, Cut, LogState, NamesSynced, Placement, SnapshotFilled, SnapshotPublished}
+use Rattle.sled_store.specs.Device.{SnapshotRemoved, StopAsked, Synced, Trace, Wrote, at_rest, log_left, state_of}
 use Rattle.sled_store.specs.Foreign.{HasStood, HeaderWasPlaced, RecordWasPlaced}
 use Rattle.sled_store.proofs.Crashes.StoodLemmas.{StandsIn, seen_before}
 use Rattle.sled_store.proofs.Segments.Elements.{in_cases, in_first, in_nothing, in_rest}
@@ -20,7 +21,8 @@ has_settled [] p there = absurd (in_nothing p there)
 has_settled (Wrote at asked now ∷ t) p there =
     let first : Placement = record { at = at; bytes = asked; since = [] } in
     elim (in_cases first p (state_of t).placed there) [
-      | inl same ↦ inl (subst (λ (q : Placement). Contains ((at, asked) ∷ (state_of t).log.asked) (q.at, q.bytes)) same (in_first (at, asked) (state_of t).log.asked))
+      | inl same ↦ inl
+          (subst (λ (q : Placement). Contains ((at, asked) ∷ (state_of t).log.asked) (q.at, q.bytes)) same (in_first (at, asked) (state_of t).log.asked))
       | inr before ↦ elim (has_settled t p before) [
         | inl since ↦ inl (in_rest (at, asked) (p.at, p.bytes) (state_of t).log.asked since)
         | inr seen ↦ inr seen
@@ -48,7 +50,8 @@ module _ (sum : List ℕ → ℕ) (size : ℕ) (t : Trace) (bytes : List ℕ) (r
   stands_now p there at text stood = elim (has_settled t p there) [
     | inl asked ↦ absurd (in_nothing (p.at, p.bytes) (subst (λ (l : LogState). Contains l.asked (p.at, p.bytes)) rests asked))
     | inr seen ↦ subst (StandsIn at text) (ap (λ (l : LogState). l.settled) rests)
-        (All-head (StandsIn at text) (state_of t).log.settled seen.0 (subst (λ (l : List (List ℕ)). HasStood (record { at = p.at; bytes = p.bytes; since = l }) at text) seen.1 stood))
+        (All-head (StandsIn at text) (state_of t).log.settled seen.0 (subst (λ (l : List (List ℕ)). HasStood
+            (record { at = p.at; bytes = p.bytes; since = l }) at text) seen.1 stood))
   ]
 
   -- So a record that is own stands in it,

@@ -10,7 +10,7 @@ use Rattle.sled_store.specs.SegmentStates.{Machine, is_free, slot_at}
 use Rattle.sled_store.proofs.Own.ReachedLemmas.{record_some}
 use Rattle.sled_store.proofs.Segments.Elements.{in_cases, in_nothing}
 use Rattle.sled_store.proofs.Segments.FilledLemmas.{slot_before}
-use Rattle.sled_core.specs.inside.Hides.{IsOwnHeader, IsOwnRecord, LiesInSlot}
+use Rattle.sled_core.specs.inside.Hides.{LiesInSlot}
 use Rattle.sled_core.specs.inside.Numbers.{HasNumbers}
 use Rattle.sled_core.proofs.OwnLog.WrittenOwn.{header_or_written, new, record_or_written}
 

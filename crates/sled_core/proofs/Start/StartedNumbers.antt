@@ -1,26 +1,27 @@
--- A log begins: nothing that is the log's own is of a number that is still to come, nor, in the slot of a segment, of a greater one. The slots that the snapshot
+-- A log begins: nothing that is the log's own is of a number that is still to come, nor, in the slot of a segment, of a greater one. The slots that the
+-- snapshot
 -- doesn't use were filled with zeros, and in those that it uses the numbers stay.
-use Rattle.std.proofs.Common.{◌≡◌, ◌⊎◌, ◌∙◌, ◌+◌, ◌*◌, ◌/◌, ◌%◌, ◌<◌, ◌≤◌, ℕ, ℤ, zero, suc, pos, Bool, true, false, not, if◌then◌else◌, unsigned_abs, List, [], ◌∷◌, ◌++◌, length, drop, map, replicate, get_or, Option, None, Some, IfSome, refl, sym, ap, subst, arith, inl, inr}
-use Rattle.std.specs.List.{All, Contains}
+use Rattle.std.proofs.Common.{◌≡◌, ◌∙◌, ◌+◌, ◌*◌, ◌/◌, ◌<◌, ◌≤◌, ℕ, ℤ, zero, suc, pos, Bool, true, false, not, if◌then◌else◌, unsigned_abs, List, [], ◌∷◌}
+use Rattle.std.proofs.Common.{◌++◌, length, drop, map, replicate, get_or, Option, None, Some, IfSome, refl, sym, ap, subst, arith, inl, inr}
+use Rattle.std.specs.List.{Contains}
 use Rattle.std.proofs.Math.Nat.{div-mul-le_self, mod-add-div', mul-div_cancel, mul-le-mul_right}
-use Rattle.std.proofs.lemmas.Bool.{false≢true, true≢false}
 use Rattle.std.proofs.lemmas.List.{get_or-drop, get_or-take, get_or_past}
 use Rattle.std.proofs.lemmas.List.Elements.{All-contains, Contains-append_cases}
 use Rattle.std.proofs.lemmas.List.FromFn.{get_or-map-range_with_len, length-map-range_with_len}
 use Rattle.sled_codec.specs.declared.result.DiskPtr.TheVariants.{Inline}
 use Rattle.sled_codec.specs.Coords.{raised}
 use Rattle.sled_codec.specs.History.{History, Message}
-use Rattle.sled_codec.specs.PageTables.{IsTable}
 use Rattle.sled_codec.specs.Places.{part}
 use Rattle.sled_codec.specs.Pointers.{lid_of}
 use Rattle.sled_codec.specs.Record.{IsHeader}
 use Rattle.sled_codec.specs.Snapshots.{Entry, SnapshotModel, stable_place}
 use Rattle.sled_codec.proofs.Segments.{one_header}
-use Rattle.sled_store.specs.Begin.{IsStartable, MayBeActive, entries_of, fill, filling, first_or, is_used, place_at, segment_number_of, slot_of, slots_of, unused}
+use Rattle.sled_store.specs.Begin.{IsStartable, MayBeActive, entries_of, fill, filling, first_or, is_used, place_at, segment_number_of, slot_of, slots_of}
+use Rattle.sled_store.specs.Begin.{unused}
 use Rattle.sled_store.specs.Device.{Cut, Event, LogState, State, Synced, Trace, Wrote, at_rest, state_of, step}
 use Rattle.sled_store.specs.Marks.{slot_with}
 use Rattle.sled_store.specs.Script.{Performs, after_all}
-use Rattle.sled_store.specs.SegmentStates.{Machine, SlotState, cutting, free_slot, handed_out, is_free, may_be_cut, next_slot, slot_at}
+use Rattle.sled_store.specs.SegmentStates.{Machine, SlotState, cutting, free_slot, is_free, may_be_cut, next_slot, slot_at}
 use Rattle.sled_store.specs.SlotTables.{active_entry, number_in}
 use Rattle.sled_store.specs.Started.{all_entries, found, found_slot, started}
 use Rattle.sled_store.specs.inside.Script.{Along}
@@ -34,7 +35,6 @@ use Rattle.sled_store.proofs.Traces.MomentLemmas.{at_last}
 use Rattle.sled_store.proofs.Traces.ScriptLemmas.{along_last, performs_throughout}
 use Rattle.sled_core.specs.Begun.{SegmentView}
 use Rattle.sled_core.specs.FreeSlots.{begun_machine, with_current}
-use Rattle.sled_core.specs.LogFile.{HasHeader}
 use Rattle.sled_core.specs.Logged.{logged}
 use Rattle.sled_core.specs.Ready.{HasActive, HasFile}
 use Rattle.sled_core.specs.Recoverable.{NoHeaderOfZeros}
@@ -97,7 +97,8 @@ module _ (sum : List ℕ → ℕ) (size : ℕ) (none : NoHeaderOfZeros sum) (old
     after : Less behind
     after = cut_less (k * size) (k * size) x less
 
-    by : (b : Bool) → Along Less (cutting size k xs) (step Synced behind) → Along Less (if b then Cut (k * size) (k * size) ∷ Synced ∷ cutting size k xs else []) x
+    by : (b : Bool) → Along Less (cutting size k xs) (step Synced behind) → Along Less
+        (if b then Cut (k * size) (k * size) ∷ Synced ∷ cutting size k xs else []) x
     by false on = less
     by true on = (
       less,
@@ -120,7 +121,8 @@ next_is_free : (size len : ℕ) (s : SnapshotModel) → is_free (slot_at (starte
 next_is_free size len s = subst IsFree (sym (next_started size len s)) (elim (first_there slots free) [
   | inl there ↦ (
       let its = All-contains (λ k. (k < slots) × (is_used size s k ≡ false)) free lowest (free_below (is_used size s) slots) there in
-      ap (λ (x : SlotState). is_free x.state) (get_or-map-range_with_len (λ j. found_slot size s j (number_in size j (all_entries s))) 0 slots lowest lowest free_slot its.0 (omega arith))
+      ap (λ (x : SlotState). is_free x.state)
+          (get_or-map-range_with_len (λ j. found_slot size s j (number_in size j (all_entries s))) 0 slots lowest lowest free_slot its.0 (omega arith))
       ∙ free_found size s lowest
       ∙ ap not its.1)
   | inr behind ↦ subst IsFree (sym behind) (ap (λ (x : SlotState). is_free x.state) (get_or_past (found size slots s).slots slots free_slot
@@ -304,7 +306,8 @@ module _ (sum : List ℕ → ℕ) (size : ℕ) (long : 256 ≤ size) (zeros : No
         numbers_started (stable / size * size + size) (own_started size (length log) some s startable (stable / size * size + size)
         (λ e there. low_active size (length log) some s startable a e (subst (λ (o : Option ℕ). Ends o e) active there)))
     by None none =
-        numbers_handed sum size some start (next_within size (length log) s) (next_is_free size (length log) s) (raised size stable) now (raised size stable + size) (omega arith)
+        numbers_handed sum size some start (next_within size (length log) s) (next_is_free size (length log) s) (raised size stable) now
+            (raised size stable + size) (omega arith)
         (numbers_started (raised size stable) (own_started size (length log) some s startable (raised size stable)
         (λ e there. low_raised size (length log) some s startable e (subst (λ (o : Option ℕ). Ends o e) none there))))
 
@@ -312,7 +315,8 @@ module _ (sum : List ℕ → ℕ) (size : ℕ) (long : 256 ≤ size) (zeros : No
       → v.parts.site ≡ site_from size (length log) s → HasNumbers sum size' now m (line_end size' (v ∷ []))
   start_numbers same {m} machine v site =
       let place : v.parts.site.place ≡ place_at size stable s.active =
-      ap (λ (p : SegmentPosition). p.place) site ∙ begins_place size (slots_of size (length log)) stable (unused size (slots_of size (length log)) s) s.active in
+      ap (λ (p : SegmentPosition). p.place) site ∙ begins_place size (slots_of size (length log)) stable
+          (unused size (slots_of size (length log)) s) s.active in
       subst (λ n. HasNumbers sum n now m (line_end n (v ∷ []))) (sym same)
       (subst (λ (x : Machine). HasNumbers sum size now x (line_end size (v ∷ []))) (sym machine)
       (subst (HasNumbers sum size now (begun_machine size (length log) s)) (omega (arith, place)) numbers_begun))
