@@ -16,6 +16,7 @@ ghost use Rattle.sled_codec.specs.History.{Message, Batch, History, no_history, 
 ghost use Rattle.sled_codec.specs.WellFormed.{LieApart};
 ghost use Rattle.sled_store.specs.Device.{Trace, State, Left, Leaves, Crashed, state_of, content_of, content_left, at_rest, fresh, Content, Settled, Wrote, Synced, step};
 ghost use Rattle.sled_store.specs.Moments.{IsLater, LeavesOnly};
+ghost use Rattle.sled_store.specs.Outdated.{IsNamedNow, NamesBlob};
 ghost use Rattle.sled_core.specs.Fits.{stable_end, KeepsAll, Awaits, FirstWaits, FitsInline, HasRecordOf, IsLeastOpen, IsUnchanged, IsUsedUpBelow, IsUsedUpFor, IsWritten, NoneOpen, blob_at, body_length, buffers_of, current_begin, device_of, fault_of, given_up_of, heads_of, held_len, holding_below, in_blob_of, is_moved, line_of, machine_at, message_for, message_rewriting, next_place, noted_in, open_of, open_places, reserved_end, sealing_end, segment_size_of, start_behind, start_of, synced_end, target_of, waiting_behind, waiting_of};
 ghost use Rattle.sled_core.specs.invariants.Fits.{Holds};
 ghost use Rattle.sled_codec.specs.Snapshots.{SnapshotModel, empty_model, stable_place};
@@ -68,10 +69,13 @@ pub fn messages_lie_in_order<D: Device, C: Checksum>()
 
 /// The pointer of a page can be rewritten (`Log::rewrite_blob_pointer`): where the page's Replace is in the table of a history that a log
 /// fits, and has its item in a blob, no crash takes the item of the same Replace with the next record, whose blob was made before it.
+/// And as long as the page is in the table so, a message may come to the history that names its blob (`MayName`).
 pub fn what_is_in_the_table_can_be_rewritten<D: Device, C: Checksum>()
-    ensures { (log : Log D C) (H : History) (A f : ℕ) (U : List Message) (m : Message) (lid : ℕ) (blob : ℤ) → Fits D.trace C.sum_of log H A f U
+    ensures stored { (log : Log D C) (H : History) (A f : ℕ) (U : List Message) (m : Message) (lid : ℕ) (blob : ℤ) → Fits D.trace C.sum_of log H A f U
         → Contains (table H (next_place log) m.page) m → m.kind ≡ Replace → m.pointer ≡ Blob lid blob
         → IsStored D.trace C.sum_of log (message_rewriting log m.page blob m.bytes) }
+    ensures named { (log : Log D C) (H : History) (A f : ℕ) (U : List Message) (page : ℕ) (m : Message) (blob : ℤ) → Fits D.trace C.sum_of log H A f U
+        → Contains (table H (next_place log) page) m → NamesBlob m blob → IsNamedNow H blob }
 {}
 
 /// What counts as acknowledged once all below a place is durable (`end_below`) is the greatest end of what begins there:

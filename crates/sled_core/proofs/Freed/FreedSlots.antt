@@ -1,4 +1,5 @@
--- What a step of the accountant frees for a mark no table of the history needs, from where its segment begins on. As long as a message isn't marked nothing is due, so the step frees nothing.
+-- What a step of the accountant frees for a mark no table of the history needs, from where its segment begins on. As long as a message isn't marked nothing
+-- is due, so the step frees nothing.
 use Rattle.std.proofs.Common.{◌≡◌, ◌≢◌, ◌∙◌, ◌+◌, ◌<◌, ◌≤◌, ℕ, ℤ, true, false, List, [], ◌∷◌, Option, sym, ap, subst}
 use Rattle.std.specs.List.{Contains}
 use Rattle.std.proofs.lemmas.Bool.{true≢false}
@@ -27,13 +28,15 @@ none_needs_logged size H k from to none cut low high page m entry =
     let found = from_map in_log (table H cut page) m (subst (λ (l : List Message). Contains l m) (table_logged H cut page) entry) in
     subst (λ (x : Message). slot_with size x ≢ k) found.2 (none cut low high page found.0 found.1)
 
-module _ (sum : List ℕ → ℕ) (size : ℕ) (snapshots : ℤ → Option (List ℕ)) (H : History) (some : 0 < size) (order : Ascends H.messages) (m : Machine) (mark : ℤ) where
+module _ (sum : List ℕ → ℕ) (size : ℕ) (snapshots : ℤ → Option (List ℕ)) (H : History) (some : 0 < size) (order : Ascends H.messages) (m : Machine)
+    (mark : ℤ) where
   -- the machine behind the step
   abbrev after : Machine
   after = (stabilized size mark m).machine
 
   -- Where all messages are marked, and what is due ends at a place or below it, the slots are the account from that place on.
-  pub all_marked_account : (has : HasAccount sum size snapshots H [] m) (raised : ℕ) → stable_place has.first.stable ≤ raised → ((place : ℕ) → is_due size mark place ≡ true → place + size ≤ raised)
+  pub all_marked_account : (has : HasAccount sum size snapshots H [] m) (raised : ℕ) → stable_place has.first.stable ≤ raised
+      → ((place : ℕ) → is_due size mark place ≡ true → place + size ≤ raised)
       → IsAccountOf size raised H after
   all_marked_account has raised le due =
       let base : ℕ = stable_place has.first.stable in
@@ -41,10 +44,13 @@ module _ (sum : List ℕ → ℕ) (size : ℕ) (snapshots : ℤ → Option (List
       stabilized_account size base H m some order its mark raised le due
 
   -- No table from there on needs anything of a slot that the step frees.
-  pub freed_unneeded : (U : List Message) (has : HasAccount sum size snapshots H U m) → (U ≢ [] → NoneDue size mark m) → (raised : ℕ) → stable_place has.first.stable ≤ raised
-      → ((place : ℕ) → is_due size mark place ≡ true → place + size ≤ raised) → (k : ℕ) → is_free (slot_at m k).state ≡ false → is_free (slot_at after k).state ≡ true
+  pub freed_unneeded : (U : List Message) (has : HasAccount sum size snapshots H U m) → (U ≢ [] → NoneDue size mark m) → (raised : ℕ)
+      → stable_place has.first.stable ≤ raised
+      → ((place : ℕ) → is_due size mark place ≡ true → place + size ≤ raised) → (k : ℕ) → is_free (slot_at m k).state ≡ false
+      → is_free (slot_at after k).state ≡ true
       → (to : ℕ) → NoneNeeds size H k raised to
-  freed_unneeded [] has idle raised le due k taken free to cut low high page e entry = free_unneeded size raised H after (all_marked_account has raised le due) cut page k e low entry free
+  freed_unneeded [] has idle raised le due k taken free to cut low high page e entry =
+      free_unneeded size raised H after (all_marked_account has raised le due) cut page k e low entry free
   freed_unneeded (u ∷ us) has idle raised le due k taken free to cut low high page e entry =
       let same : after ≡ m = ap (λ (s : Step). s.machine) (none_stabilized size mark m (idle (λ none. let clash : u ∷ us ≡ [] = none in cc))) in
       absurd (true≢false (sym free ∙ ap (λ (n : Machine). is_free (slot_at n k).state) same ∙ taken))
@@ -57,4 +63,5 @@ module _ (sum : List ℕ → ℕ) (size : ℕ) (snapshots : ℤ → Option (List
   pub stabilized_unmarked : (U : List Message) → HasAccount sum size snapshots H U m → (U ≢ [] → NoneDue size mark m) → AreInActive size after U
   stabilized_unmarked [] has idle = λ e there. absurd (in_nothing e there)
   stabilized_unmarked (u ∷ us) has idle =
-      subst (λ (n : Machine). AreInActive size n (u ∷ us)) (sym (ap (λ (s : Step). s.machine) (none_stabilized size mark m (idle (λ none. let clash : u ∷ us ≡ [] = none in cc))))) has.unmarked
+      subst (λ (n : Machine). AreInActive size n (u ∷ us)) (sym (ap (λ (s : Step). s.machine)
+      (none_stabilized size mark m (idle (λ none. let clash : u ∷ us ≡ [] = none in cc))))) has.unmarked

@@ -1,4 +1,5 @@
--- The blobs that go with a segment are removed: nothing needs them from where it ends on. So where that is stable, what a crash leaves of the blobs has all that it had to, behind each removal, done or not.
+-- The blobs that go with a segment are removed: nothing needs them from where it ends on. So where that is stable, what a crash leaves of the blobs has all
+-- that it had to, behind each removal, done or not.
 use Rattle.std.proofs.Common.{◌≡◌, ◌⊎◌, ◌∙◌, ◌&&◌, ◌+◌, ◌<◌, ◌≤◌, ◌++◌, is_some, if◌then◌else◌, ℕ, ℤ, Bool, true, false, List, [], ◌∷◌, Option, Some, None, refl, sym, ap, subst, arith, inl, inr}
 use Rattle.std.specs.List.{Contains}
 use Rattle.std.specs.declared.io.Error.{Error as IoError}
@@ -41,7 +42,8 @@ use Rattle.sled_core.proofs.Blobs.Unnamed.{told_apart}
 own_before : (s : NamesState) (p : ℤ) (done : Bool) (n : ℤ) (bytes : List ℕ) → IsOwn (unnamed s p done) n bytes → IsOwn s n bytes
 own_before s p done n bytes = by (is_some (s.file p)) where
   of : (done here : Bool)
-      → (settled_file (if done && here then None else s.file n) (if done && here then false else s.is_unsynced n) (if done && here then record { file = s.file n; is_unsynced = s.is_unsynced n } ∷ s.earlier n else s.earlier n) ≡ Some bytes)
+      → (settled_file (if done && here then None else s.file n) (if done && here then false else s.is_unsynced n)
+      (if done && here then record { file = s.file n; is_unsynced = s.is_unsynced n } ∷ s.earlier n else s.earlier n) ≡ Some bytes)
       ⊎ Contains (if here then [] ++ s.asked n else s.asked n) bytes → IsOwn s n bytes
   of true true own = own
   of true false own = own
@@ -59,12 +61,12 @@ IsSpent size place H blob = (m : Message) → Contains H.messages m → NamesBlo
 -- One of these is removed, or may be.
 module _ (sum : List ℕ → ℕ) (size : ℕ) (some : 0 < size) (H : History) (order : Ascends H.messages) (place : ℕ) (p : ℤ) (spent : IsSpent size place H p) where
   -- no entry of a table from there on names it,
-  entry_beside : (cut page : ℕ) (m : Message) → place ≤ cut → Contains (table H cut page) m → IsBeside (Some p) m
+  pub entry_beside : (cut page : ℕ) (m : Message) → place ≤ cut → Contains (table H cut page) m → IsBeside (Some p) m
   entry_beside cut page m le entry lid q is same =
       not_superseded size place H cut page m some order entry le (spent m (from_table H cut page m entry).0 (lid, is ∙ ap (λ (z : ℤ). Blob lid z) same))
 
   -- nor does a message from there on
-  later_beside : (m : Message) → Contains H.messages m → place ≤ m.place → IsBeside (Some p) m
+  pub later_beside : (m : Message) → Contains H.messages m → place ≤ m.place → IsBeside (Some p) m
   later_beside m there above lid q is same =
       let by : IsSuperseded size place H m = spent m there (lid, is ∙ ap (λ (z : ℤ). Blob lid z) same) in
       omega (arith, above, by.later, by.ends, div-add-mod' by.message.place size, mod_below by.message.place size some)
@@ -73,7 +75,8 @@ module _ (sum : List ℕ → ℕ) (size : ℕ) (some : 0 < size) (H : History) (
   module _ (was now : ℤ → Option (List ℕ)) (others : (n : ℤ) → int_eq p n ≡ false → now n ≡ was n) (gone : now p ≡ None) where
     item_there : (m : Message) → IsBeside (Some p) m → (pointer : DiskPtr) → m.pointer ≡ pointer → HasItem sum was m pointer → HasItem sum now m pointer
     item_there m beside (Inline lid) is item = tt
-    item_there m beside (Blob lid q) is item = subst (λ (file : Option (List ℕ)). HasOwnBlob sum file m) (sym (others q (told_apart p q (beside lid q is)))) item
+    item_there m beside (Blob lid q) is item =
+        subst (λ (file : Option (List ℕ)). HasOwnBlob sum file m) (sym (others q (told_apart p q (beside lid q is)))) item
 
     passes_there : (m : Message) (pointer : DiskPtr) → PassesIfThere sum was m pointer → PassesIfThere sum now m pointer
     passes_there m (Inline lid) passes = tt
@@ -107,7 +110,8 @@ module _ (sum : List ℕ → ℕ) (size : ℕ) (some : 0 < size) (H : History) (
       own_left = record { own = λ n bytes there is. own_before s p done n bytes (own.own n bytes there is) }
 
       -- So what holds of all that it could leave before holds behind, where it does as long as that one is missing.
-      pub of_left : (P : (ℤ → Option (List ℕ)) → Type 0) → ((was : ℤ → Option (List ℕ)) → ((n : ℤ) → LeavesName s n (was n)) → NoForeignNames (IsAnyBlob sum) s was → P was)
+      pub of_left : (P : (ℤ → Option (List ℕ)) → Type 0)
+          → ((was : ℤ → Option (List ℕ)) → ((n : ℤ) → LeavesName s n (was n)) → NoForeignNames (IsAnyBlob sum) s was → P was)
           → ((was now : ℤ → Option (List ℕ)) → ((n : ℤ) → int_eq p n ≡ false → now n ≡ was n) → now p ≡ None → P was → P now) → P left
       of_left P each missing = elim (after_unnamed s p done p (left p) (leaves p)) [
         | inl was ↦ each left (left_before was) own_left
@@ -132,7 +136,8 @@ module _ (sum : List ℕ → ℕ) (size : ℕ) (some : 0 < size) (H : History) (
     removed_entries reach le keeps page m entry = items_removed sum s p done m (entry_beside reach page m le entry) (keeps page m entry)
 
   -- And what a crash leaves can be recovered, with all up to there acknowledged.
-  pub removed_leaves : (A f : ℕ) → place ≤ A → (s : State) (done : Bool) → LeavesRecovering sum size H A f s → LeavesRecovering sum size H A f (step (BlobRemoved p done) s)
+  pub removed_leaves : (A f : ℕ) → place ≤ A → (s : State) (done : Bool) → LeavesRecovering sum size H A f s
+      → LeavesRecovering sum size H A f (step (BlobRemoved p done) s)
   unfolding Recoverable
   removed_leaves A f le s done recoverable left leaves own =
       let content : (ℤ → Option (List ℕ)) → Content = λ blobs. record { log = left.log; blobs = blobs; snapshots = left.snapshots } in
@@ -155,7 +160,8 @@ pub record HasNeeded (sum : List ℕ → ℕ) (size : ℕ) (H : History) (stable
   pub left : LeavesRecovering sum size H stable f s
 
 -- What each removal keeps, done or not, holds along several.
-removing_all_keep : (P : State → Type 0) (ps : List ℤ) → ((p : ℤ) → Contains ps p → (s : State) (done : Bool) → P s → P (step (BlobRemoved p done) s)) → (s : State) → P s → Along P (removing_blobs ps) s
+removing_all_keep : (P : State → Type 0) (ps : List ℤ) → ((p : ℤ) → Contains ps p → (s : State) (done : Bool) → P s → P (step (BlobRemoved p done) s))
+    → (s : State) → P s → Along P (removing_blobs ps) s
 removing_all_keep P [] keeps s here = here
 removing_all_keep P (p ∷ ps) keeps s here = (
   here,
@@ -164,14 +170,17 @@ removing_all_keep P (p ∷ ps) keeps s here = (
 )
 
 -- So it is along the removal of all blobs that go with a segment which ends where the history is stable, or below.
-pub outdated_goes : (sum : List ℕ → ℕ) (size : ℕ) → 0 < size → (H : History) → Ascends H.messages → (m : Machine) → AreOutdated size H m → (k stable f : ℕ) → (slot_at m k).lsn + size ≤ stable → (device : State)
+pub outdated_goes : (sum : List ℕ → ℕ) (size : ℕ) → 0 < size → (H : History) → Ascends H.messages → (m : Machine) → AreOutdated size H m → (k stable f : ℕ)
+    → (slot_at m k).lsn + size ≤ stable → (device : State)
     → HasNeeded sum size H stable f device → Along (HasNeeded sum size H stable f) (removing_blobs (slot_at m k).blobs) device
 outdated_goes sum size some H order m are k stable f ends device has =
     removing_all_keep (HasNeeded sum size H stable f) (slot_at m k).blobs keeps device has where
       spent : (p : ℤ) → Contains (slot_at m k).blobs p → IsSpent size stable H p
-      spent p among e there names = superseded_more size ((slot_at m k).lsn + size) stable H H e (λ x found. found) ends ((are k p among).superseded e there names)
+      spent p among e there names =
+          superseded_more size ((slot_at m k).lsn + size) stable H H e (λ x found. found) ends ((are k p among).superseded e there names)
 
-      keeps : (p : ℤ) → Contains (slot_at m k).blobs p → (s : State) (done : Bool) → HasNeeded sum size H stable f s → HasNeeded sum size H stable f (step (BlobRemoved p done) s)
+      keeps : (p : ℤ) → Contains (slot_at m k).blobs p → (s : State) (done : Bool) → HasNeeded sum size H stable f s
+          → HasNeeded sum size H stable f (step (BlobRemoved p done) s)
       keeps p among s done its = record {
         blobs = removed_fit sum size some H order stable p (spent p among) s.blobs done stable (omega arith) its.blobs;
         stored = removed_items sum size some H order stable p (spent p among) s.blobs done stable (omega arith) its.stored;
@@ -180,20 +189,23 @@ outdated_goes sum size some H order m are k stable f ends device has =
       }
 
 -- A log of this line and these slots fits a history over a device, and all up to a place is stable.
-pub record FitsPast (sum : List ℕ → ℕ) (noted : List Batch) (size : ℕ) (fault : Option IoError) (line : List SegmentView) (m : Machine) (pins : ℕ) (H : History) (A f : ℕ)
-    (U : List Message) (place : ℕ) (s : State) : Type 0 where
+pub record FitsPast (sum : List ℕ → ℕ) (noted : List Batch) (size : ℕ) (fault : Option IoError) (line : List SegmentView) (m : Machine) (pins : ℕ)
+    (H : History) (A f : ℕ) (U : List Message) (place : ℕ) (s : State) : Type 0 where
   pub fits : FitsWith sum noted size s fault line m pins H A f U
   pub past : place ≤ stable_below fits.reach H.batches
 
 -- So it does along the removal of all blobs that go with a segment which ends there.
-pub fits_outdated_goes : (sum : List ℕ → ℕ) (noted : List Batch) (size : ℕ) (fault : Option IoError) (line : List SegmentView) (m : Machine) (pins : ℕ) (H : History) (A f : ℕ) (U : List Message)
+pub fits_outdated_goes : (sum : List ℕ → ℕ) (noted : List Batch) (size : ℕ) (fault : Option IoError) (line : List SegmentView) (m : Machine) (pins : ℕ)
+    (H : History) (A f : ℕ) (U : List Message)
     → 0 < size → Ascends H.messages → (k : ℕ) (device : State) → FitsPast sum noted size fault line m pins H A f U ((slot_at m k).lsn + size) device
     → Along (FitsPast sum noted size fault line m pins H A f U ((slot_at m k).lsn + size)) (removing_blobs (slot_at m k).blobs) device
 fits_outdated_goes sum noted size fault line m pins H A f U some order k device has =
     removing_all_keep (FitsPast sum noted size fault line m pins H A f U ((slot_at m k).lsn + size)) (slot_at m k).blobs keeps device has where
-      keeps : (p : ℤ) → Contains (slot_at m k).blobs p → (s : State) (done : Bool) → FitsPast sum noted size fault line m pins H A f U ((slot_at m k).lsn + size) s
+      keeps : (p : ℤ) → Contains (slot_at m k).blobs p → (s : State) (done : Bool)
+          → FitsPast sum noted size fault line m pins H A f U ((slot_at m k).lsn + size) s
           → FitsPast sum noted size fault line m pins H A f U ((slot_at m k).lsn + size) (step (BlobRemoved p done) s)
-      keeps p among s done its = record { fits = now.0; past = subst (λ reach. (slot_at m k).lsn + size ≤ stable_below reach H.batches) (sym now.1) its.past } where
+      keeps p among s done its =
+          record { fits = now.0; past = subst (λ reach. (slot_at m k).lsn + size ≤ stable_below reach H.batches) (sym now.1) its.past } where
         stable : ℕ
         stable = stable_below its.fits.reach H.batches
 
@@ -213,4 +225,5 @@ fits_outdated_goes sum noted size fault line m pins H A f U some order k device 
 
         now : (fits : FitsWith sum noted size (step (BlobRemoved p done) s) fault line m pins H A f U) × (fits.reach ≡ its.fits.reach)
         now = fits_over_blobs sum size s (unnamed s.blobs p done) s.snapshots fault refl H A f U
-            (λ first named. record { names = named.names; own_names = λ none. own_removing sum p done s (named.own_names none) }) noted line m pins its.fits (items, left)
+            (λ first named. record { names = named.names; own_names = λ none. own_removing sum p done s (named.own_names none) }) noted line m pins its.fits
+            (items, left)

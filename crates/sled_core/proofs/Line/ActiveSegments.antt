@@ -1,4 +1,5 @@
--- Each segment of a log's line is active: it ends behind the place where the log began, and what isn't active ends there or below. So a message of a reservation lies in an active segment.
+-- Each segment of a log's line is active: it ends behind the place where the log began, and what isn't active ends there or below. So a message of a
+-- reservation lies in an active segment.
 use Rattle.std.proofs.Common.{⊎_elim, ◌≡◌, ◌∙◌, ◌+◌, ◌*◌, ◌/◌, ◌%◌, ◌≤◌, ◌<◌, ap, sym, arith, subst, ℕ, true, List, [], ◌∷◌, length, Option, Some}
 use Rattle.std.specs.List.{slice_get}
 use Rattle.std.specs.declared.io.Error.{Error as IoError}
@@ -27,7 +28,8 @@ use Rattle.sled_core.proofs.Read.ScanLemmas.{aligned_offset}
 use Rattle.sled_core.proofs.Reserve.Ranges.{at_there}
 
 -- a reservation begins in its segment
-pub inside_segment : {size place : ℕ} {v : SegmentView} → IsSegment size place v → (i : ℕ) (r : Reserved) → slice_get v.parts.reserved i ≡ Some r → r.from < size
+pub inside_segment : {size place : ℕ} {v : SegmentView} → IsSegment size place v → (i : ℕ) (r : Reserved) → slice_get v.parts.reserved i ≡ Some r
+    → r.from < size
 inside_segment {v = v} facts i r at =
     let within = at_there (λ x. x.from + x.len ≤ length v.parts.bytes) v.parts.reserved i r at facts.within in
     let some = (at_there IsHeaded v.parts.reserved i r at facts.headed).0 in
@@ -36,15 +38,19 @@ inside_segment {v = v} facts i r at =
 
 module _ (sum : List ℕ → ℕ) (size : ℕ) (device : State) (fault : Option IoError) where
   -- the place where the log began lies no higher than the segment of its first one's end
-  begun_low : (line : List SegmentView) (reach pins : ℕ) (H : History) (A f : ℕ) (U : List Message) → FitsLine sum size device fault line reach pins H A f U → (m : Machine)
+  begun_low : (line : List SegmentView) (reach pins : ℕ) (H : History) (A f : ℕ) (U : List Message) → FitsLine sum size device fault line reach pins H A f U
+      → (m : Machine)
       → (has : HasAccount sum size device.snapshots.file H U m) → stable_place has.first.stable / size * size ≤ first_place line
   begun_low [] reach pins H A f U fits m has = absurd fits
   begun_low (w ∷ ws) reach pins H A f U fits m has =
       let begun = fits.holds.begun in
-      subst (λ (s : SnapshotModel). stable_place s.stable / size * size ≤ w.parts.site.place) (sym (one_begin sum device.snapshots.file has.first begun.first has.begins begun.begins)) begun.least
+      subst (λ (s : SnapshotModel). stable_place s.stable / size * size ≤ w.parts.site.place)
+      (sym (one_begin sum device.snapshots.file has.first begun.first has.begins begun.begins)) begun.least
 
-  module _ (line : List SegmentView) (reach pins : ℕ) (H : History) (A f : ℕ) (U : List Message) (fits : FitsLine sum size device fault line reach pins H A f U) (m : Machine)
-      (has : HasAccount sum size device.snapshots.file H U m) (some : 0 < size) (v : SegmentView) (low : first_place line ≤ v.parts.site.place) (slot : HasSlot size m v) where
+  module _ (line : List SegmentView) (reach pins : ℕ) (H : History) (A f : ℕ) (U : List Message)
+      (fits : FitsLine sum size device fault line reach pins H A f U) (m : Machine)
+      (has : HasAccount sum size device.snapshots.file H U m) (some : 0 < size) (v : SegmentView) (low : first_place line ≤ v.parts.site.place)
+      (slot : HasSlot size m v) where
     pub line_active : is_active (slot_at m slot.number).state ≡ true
     line_active = ⊎_elim (λ active. active) (λ idle. absurd (
         let ends = has.account.stable slot.number slot.taken idle in
@@ -56,9 +62,15 @@ module _ (sum : List ℕ → ℕ) (size : ℕ) (device : State) (fault : Option 
 
     -- A message of one of its reservations lies there.
     pub lies_active : (x : Message) (bytes : List ℕ) (r : Reserved) → in_log x ≡ message_in v.parts.site bytes r → r.from < size → IsInActive size m x
-    lies_active x bytes r is inside = record { active = subst (λ k. is_active (slot_at m k).state ≡ true) (sym here) line_active; lsn = ap (λ k. (slot_at m k).lsn) here ∙ slot.is ∙ sym begins } where
+    lies_active x bytes r is inside =
+        record {
+          active = subst (λ k. is_active (slot_at m k).state ≡ true) (sym here) line_active;
+          lsn = ap (λ k. (slot_at m k).lsn) here ∙ slot.is ∙ sym begins;
+        } where
       here : slot_with size x ≡ slot.number
-      here = ap (λ (y : Message). lid_of y.pointer / size) is ∙ ap (λ n. n / size) (lid_as r.blob (v.parts.site.slot + r.from) ∙ ap (λ n. n + r.from) slot.lies) ∙ div-mul-add slot.number size r.from inside
+      here =
+          ap (λ (y : Message). lid_of y.pointer / size) is ∙ ap (λ n. n / size) (lid_as r.blob (v.parts.site.slot + r.from) ∙ ap (λ n. n + r.from) slot.lies)
+          ∙ div-mul-add slot.number size r.from inside
 
       place : x.place ≡ v.parts.site.place + r.from
       place = ap (λ (y : Message). y.place) is

@@ -1,4 +1,5 @@
--- What a step of the accountant frees no table needs: from the base of an account on none has an entry in a free slot, or in one that may go. And where nothing is due, nothing is done.
+-- What a step of the accountant frees no table needs: from the base of an account on none has an entry in a free slot, or in one that may go. And where
+-- nothing is due, nothing is done.
 use Rattle.std.proofs.Common.{◌≡◌, ◌≢◌, ◌∙◌, ◌+◌, ◌<◌, ◌≤◌, ℕ, ℤ, true, false, List, [], sym, ap, subst, arith, inr}
 use Rattle.std.specs.List.{Contains}
 use Rattle.std.proofs.lemmas.Bool.{true≢false}
@@ -22,18 +23,22 @@ module _ (size base : ℕ) (H : History) (m : Machine) (t : IsAccountOf size bas
       true≢false (sym free ∙ subst (λ (i : ℕ). is_free (slot_at m i).state ≡ false) is (entry_in_slot size base H m t cut page e le entry).taken)
 
   -- a slot that may go
-  pub goes_unneeded : (cut page k : ℕ) (e : Message) → base ≤ cut → Contains (table H cut page) e → MayGo size base H (IsNoEntry H base) m.slots k → slot_with size e ≢ k
+  pub goes_unneeded : (cut page k : ℕ) (e : Message) → base ≤ cut → Contains (table H cut page) e → MayGo size base H (IsNoEntry H base) m.slots k
+      → slot_with size e ≢ k
   goes_unneeded cut page k e le entry goes is =
       let from = from_table H cut page e entry in
       let held : IsHeld size (slot_at m k) e = subst (λ (i : ℕ). IsHeld size (slot_at m i) e) is (entry_in_slot size base H m t cut page e le entry) in
       goes.spent e from.0 held cut le (subst (λ (p : ℕ). Contains (table H cut p) e) (sym from.1) entry)
 
   -- A segment that ends at a higher base, or below, is deactivated: that keeps the account.
-  pub deactivated_account : 0 < size → Ascends H.messages → (a : ℕ × ℕ) (raised : ℕ) → base ≤ raised → is_active (slot_at m a.1).state ≡ true → (slot_at m a.1).lsn ≡ a.0 → a.0 + size ≤ raised
+  pub deactivated_account : 0 < size → Ascends H.messages → (a : ℕ × ℕ) (raised : ℕ) → base ≤ raised → is_active (slot_at m a.1).state ≡ true
+      → (slot_at m a.1).lsn ≡ a.0 → a.0 + size ≤ raised
       → IsAccountOf size raised H (deactivated size a m).machine
   deactivated_account some order a raised le active lsn below =
-      one_deactivated_tracks size raised H (IsNoEntry H raised) some (λ e by cut low entry. not_superseded size raised H cut e.page e some order entry low by) m a
-      (more_tracks size base raised H H (IsNoEntry H base) (IsNoEntry H raised) m t le (λ x there. there) (λ x there. inr there) (λ x there none cut low. none cut (omega (arith, low, le))))
+      one_deactivated_tracks size raised H (IsNoEntry H raised) some
+      (λ e by cut low entry. not_superseded size raised H cut e.page e some order entry low by) m a
+      (more_tracks size base raised H H (IsNoEntry H base) (IsNoEntry H raised) m t le (λ x there. there) (λ x there. inr there)
+      (λ x there none cut low. none cut (omega (arith, low, le))))
       active lsn below
 
 -- nothing is due for a mark
@@ -44,7 +49,8 @@ NoneDue size mark m = (k : ℕ) → is_active (slot_at m k).state ≡ true → i
 pub none_stabilized : (size : ℕ) (mark : ℤ) (m : Machine) → NoneDue size mark m → stabilized size mark m ≡ record { machine = m; calls = [] }
 none_stabilized size mark m none =
     ap (λ (due : List (ℕ × ℕ)). in_turn (deactivated size) due m)
-    (none_kept (λ (a : ℕ × ℕ). is_due size mark a.0) (active_among m.slots) (all_from_in (λ (a : ℕ × ℕ). is_due size mark a.0 ≡ false) (active_among m.slots) idle)) where
+    (none_kept (λ (a : ℕ × ℕ). is_due size mark a.0) (active_among m.slots)
+    (all_from_in (λ (a : ℕ × ℕ). is_due size mark a.0 ≡ false) (active_among m.slots) idle)) where
       idle : (a : ℕ × ℕ) → Contains (active_among m.slots) a → is_due size mark a.0 ≡ false
       idle a there =
           let has = by_has active_place 0 m.slots a there in

@@ -46,10 +46,12 @@ blobs_then old mid new first more k blob there =
     let one = first k blob last.there in
     record { there = one.there; active = λ is. last.active (one.active is); lsn = last.lsn ∙ one.lsn }
 
-blobs_changed : (ss : List SlotState) (k : ℕ) (s : SlotState) (new : List SlotState) → Changes ss k s new → ((blob : ℤ) → Contains s.blobs blob → IsKeptBlob (at ss k) s blob)
+blobs_changed : (ss : List SlotState) (k : ℕ) (s : SlotState) (new : List SlotState) → Changes ss k s new
+    → ((blob : ℤ) → Contains s.blobs blob → IsKeptBlob (at ss k) s blob)
     → KeepsBlobs ss new
 blobs_changed ss k s new changes here =
-    each_slot (λ j x. (blob : ℤ) → Contains x.blobs blob → IsKeptBlob (at ss j) x blob) ss k s new changes here (λ j other blob there. blobs_same ss j blob there)
+    each_slot (λ j x. (blob : ℤ) → Contains x.blobs blob → IsKeptBlob (at ss j) x blob) ss k s new changes here
+    (λ j other blob there. blobs_same ss j blob there)
 
 -- where one slot is set whose blobs it had, in range or not
 blobs_set : (ss : List SlotState) (k : ℕ) (s : SlotState) → ((blob : ℤ) → Contains s.blobs blob → IsKeptBlob (at ss k) s blob) → KeepsBlobs ss (set ss k s)
@@ -70,7 +72,9 @@ pub handed_blobs : (m : Machine) (place : ℕ) → KeepsBlobs m.slots (handed_ou
 handed_blobs m place = by (nat_lt (next_slot m) (length m.slots)) where
   by : (b : Bool) → KeepsBlobs m.slots (if b then set m.slots (next_slot m) (taken_slot place) else m.slots ++ taken_slot place ∷ [])
   by true = set_without m.slots (next_slot m) (taken_slot place) refl
-  by false = blobs_changed m.slots (length m.slots) (taken_slot place) (m.slots ++ taken_slot place ∷ []) (push_changes m.slots (taken_slot place)) (λ blob there. absurd (in_nothing blob there))
+  by false =
+      blobs_changed m.slots (length m.slots) (taken_slot place) (m.slots ++ taken_slot place ∷ []) (push_changes m.slots (taken_slot place))
+      (λ blob there. absurd (in_nothing blob there))
 
 pub linked_blobs : (size pid : ℕ) (info : CacheInfo) (m : Machine) → KeepsBlobs m.slots (linked size pid info m).slots
 linked_blobs size pid info m =
@@ -108,7 +112,9 @@ freed_blobs size (k ∷ ks) m =
     blobs_then m.slots n.slots (in_turn (freed size) ks n).machine.slots (set_without m.slots k free_slot refl) (freed_blobs size ks n)
 
 tested_blobs : (size k : ℕ) (m : Machine) → KeepsBlobs m.slots (tested size k m).machine.slots
-tested_blobs size k m = blobs_then m.slots n.slots (tested size k m).machine.slots (sparse_blobs size m k) (by (is_done (slot_at n k) && not (is_active_place n (slot_at n k).latest))) where
+tested_blobs size k m =
+    blobs_then m.slots n.slots (tested size k m).machine.slots (sparse_blobs size m k)
+    (by (is_done (slot_at n k) && not (is_active_place n (slot_at n k).latest))) where
   n : Machine
   n = drained_if_sparse size k m
 
@@ -118,7 +124,8 @@ tested_blobs size k m = blobs_then m.slots n.slots (tested size k m).machine.slo
 
 wasteful_blobs : (m : Machine) → KeepsBlobs m.slots (drained_if_wasteful m).slots
 wasteful_blobs m = by (is_wasteful m.slots) refl where
-  by : (b : Bool) → is_wasteful m.slots ≡ b → KeepsBlobs m.slots (if b then drained (get_or (inactive_among m.slots) (length (inactive_among m.slots) - 1) 0) m else m).slots
+  by : (b : Bool) → is_wasteful m.slots ≡ b
+      → KeepsBlobs m.slots (if b then drained (get_or (inactive_among m.slots) (length (inactive_among m.slots) - 1) 0) m else m).slots
   by true wasteful = drained_blobs m (get_or (inactive_among m.slots) (length (inactive_among m.slots) - 1) 0) (wasteful_inactive m wasteful)
   by false lean = blobs_same m.slots
 
@@ -144,7 +151,8 @@ stabilized_blobs size next m = all_deactivated_blobs size (filter (λ (a : ℕ �
 -- Outdated blobs.
 
 -- They stay so in a history with more messages, of which none names one of them, and with slots that have no other blobs.
-pub outdated_kept : (size : ℕ) (H H' : History) (m n : Machine) → AreOutdated size H m → KeepsBlobs m.slots n.slots → ((x : Message) → Contains H.messages x → Contains H'.messages x)
+pub outdated_kept : (size : ℕ) (H H' : History) (m n : Machine) → AreOutdated size H m → KeepsBlobs m.slots n.slots
+    → ((x : Message) → Contains H.messages x → Contains H'.messages x)
     → ((x : Message) → Contains H'.messages x → Contains H.messages x ⊎ NamesNoOutdated m x) → AreOutdated size H' n
 outdated_kept size H H' m n are keeps more new k blob there =
     let kept = keeps k blob there in
@@ -155,7 +163,9 @@ outdated_kept size H H' m n are keeps more new k blob there =
       message = was.message;
       there = more was.message was.there;
       names = was.names;
-      superseded = λ e found names. ⊎_elim (λ old. superseded_more size ((slot_at m k).lsn + size) ((slot_at n k).lsn + size) H H' e more (omega (arith, lsn)) (was.superseded e old names))
+      superseded =
+          λ e found names. ⊎_elim
+          (λ old. superseded_more size ((slot_at m k).lsn + size) ((slot_at n k).lsn + size) H H' e more (omega (arith, lsn)) (was.superseded e old names))
           (λ none. absurd (none k blob kept.there names)) (new e found);
     }
 
@@ -167,14 +177,16 @@ pub unused_outdated : (size : ℕ) (H : History) → AreOutdated size H unused_m
 unused_outdated size H k blob there = absurd (in_nothing blob (subst (λ (s : SlotState). Contains s.blobs blob) (free_behind [] k (omega arith)) there))
 
 -- A message is completed that names none of them.
-pub completed_outdated : (size : ℕ) (H : History) (x : Message) (H' : History) (m : Machine) → AddsMessage H x H' → NamesNoOutdated m x → AreOutdated size H m → AreOutdated size H' m
+pub completed_outdated : (size : ℕ) (H : History) (x : Message) (H' : History) (m : Machine) → AddsMessage H x H' → NamesNoOutdated m x
+    → AreOutdated size H m → AreOutdated size H' m
 completed_outdated size H x H' m adds none are =
     outdated_kept size H H' m m are (blobs_same m.slots) (added_keeps H x H' adds)
     (λ y found. ⊎_elim (λ is. inr (subst (NamesNoOutdated m) is none)) (λ old. inl old) (added_cases H x H' adds y found))
 
 module _ (size : ℕ) (H : History) (m : Machine) (order : Ascends H.messages) (are : AreOutdated size H m) where
   -- No entry of a table from the segment's end on names one of them,
-  pub outdated_in_no_table : 0 < size → (k : ℕ) (blob : ℤ) → Contains (slot_at m k).blobs blob → (cut page : ℕ) (e : Message) → (slot_at m k).lsn + size ≤ cut → Contains (table H cut page) e
+  pub outdated_in_no_table : 0 < size → (k : ℕ) (blob : ℤ) → Contains (slot_at m k).blobs blob → (cut page : ℕ) (e : Message)
+      → (slot_at m k).lsn + size ≤ cut → Contains (table H cut page) e
       → NamesBlob e blob → ⊥
   outdated_in_no_table some k blob there cut page e le entry names =
       not_superseded size ((slot_at m k).lsn + size) H cut page e some order entry le ((are k blob there).superseded e (from_table H cut page e entry).0 names)
@@ -203,7 +215,8 @@ from_one (Blob lid place) (Inline lid_then) blobs blob there = inl there
 from_one (Inline lid) (Blob lid_then place_then) blobs blob there =
     ⊎_elim (λ is. inr (lid_then, ap (λ (p : ℤ). Blob lid_then p) is, λ l same. cc)) (λ was. inl was) (from_insert int_cmp blobs place_then blob there)
 from_one (Blob lid place) (Blob lid_then place_then) blobs blob there = by (int_eq place place_then) refl there where
-  by : (b : Bool) → int_eq place place_then ≡ b → Contains (if b then blobs else insert_key int_cmp blobs place_then) blob → Contains blobs blob ⊎ NamesOther (Blob lid place) (Blob lid_then place_then) blob
+  by : (b : Bool) → int_eq place place_then ≡ b → Contains (if b then blobs else insert_key int_cmp blobs place_then) blob
+      → Contains blobs blob ⊎ NamesOther (Blob lid place) (Blob lid_then place_then) blob
   by true same found = inl found
   by false other found =
       ⊎_elim (λ is. inr (
@@ -223,7 +236,8 @@ from_all new (o ∷ os) blobs blob there = elim (from_all new os (outdated new o
 ]
 
 -- A message is there in place of older ones of its page, whose blobs no other message needs.
-module _ (size : ℕ) (H : History) (m : Machine) (order : Ascends H.messages) (x : Message) (there : Contains H.messages x) (begins : begins_page x.kind ≡ true) (old : List CacheInfo)
+module _ (size : ℕ) (H : History) (m : Machine) (order : Ascends H.messages) (x : Message) (there : Contains H.messages x)
+    (begins : begins_page x.kind ≡ true) (old : List CacheInfo)
     (former : (o : CacheInfo) → Contains old o → (e : Message) × Contains H.messages e × (e.pointer ≡ o.pointer)) (none : NoneShares H x old) where
   -- a message that names such a blob lies below it
   lower : (blob : ℤ) → (NamesBlob x blob → ⊥) → (e : Message) → Contains H.messages e → NamesBlob e blob → e.place ≤ x.place → e.place < x.place
@@ -232,7 +246,8 @@ module _ (size : ℕ) (H : History) (m : Machine) (order : Ascends H.messages) (
       absurd (other (subst (λ (y : Message). NamesBlob y blob) same names))) (cases_lt e.place x.place)
 
   -- Each blob that comes is outdated,
-  comes_outdated : (s : SlotState) → is_active s.state ≡ true → x.place / size * size ≡ s.lsn → (blob : ℤ) (o : CacheInfo) → Contains old o → NamesOther x.pointer o.pointer blob → IsOutdated size H s blob
+  comes_outdated : (s : SlotState) → is_active s.state ≡ true → x.place / size * size ≡ s.lsn → (blob : ℤ) (o : CacheInfo) → Contains old o
+      → NamesOther x.pointer o.pointer blob → IsOutdated size H s blob
   comes_outdated s active lsn blob o among (lid, names, other) =
       let was = former o among in
       let apart : NamesBlob x blob → ⊥ = λ own. other own.0 own.1 in
@@ -258,14 +273,18 @@ module _ (size : ℕ) (H : History) (m : Machine) (order : Ascends H.messages) (
       let taken : is_free s.state ≡ false = (same k).free ∙ may.lies.taken in
       let active : is_active s.state ≡ true = (same k).active ∙ may.active in
       let lsn : x.place / size * size ≡ s.lsn = may.lies.lsn ∙ sym (same k).lsn in
-      let are_o : AreOutdated size H o = each_slot (λ j y. (blob : ℤ) → Contains y.blobs blob → IsOutdated size H y blob) n.slots k (record s { blobs = all_outdated x.pointer old s.blobs }) o.slots
+      let are_o : AreOutdated size H o = each_slot (λ j y. (blob : ℤ) → Contains y.blobs blob → IsOutdated size H y blob) n.slots k
+      (record s { blobs = all_outdated x.pointer old s.blobs }) o.slots
       (set_changes n.slots k (record s { blobs = all_outdated x.pointer old s.blobs }) (taken_there n.slots k taken))
-      (λ blob found. ⊎_elim (λ was. let out = are_n k blob was in record { active = out.active; message = out.message; there = out.there; names = out.names; superseded = out.superseded })
-      (λ new. comes_outdated (record s { blobs = all_outdated x.pointer old s.blobs }) active lsn blob new.0 new.1 new.2) (from_all x.pointer old s.blobs blob found)) (λ j other. are_n j) in
+      (λ blob found. ⊎_elim (λ was. let out = are_n k blob was in
+      record { active = out.active; message = out.message; there = out.there; names = out.names; superseded = out.superseded })
+      (λ new. comes_outdated (record s { blobs = all_outdated x.pointer old s.blobs }) active lsn blob new.0 new.1 new.2)
+      (from_all x.pointer old s.blobs blob found)) (λ j other. are_n j) in
       outdated_still size H o (replaced size x.page (info_of x) old m) are_o (all_blobs size x.page (segment_place size (info_of x).lsn) old o)
 
 -- the former state of a page is of messages of the history, as they are marked
-pub former_there : (H G : History) (page : ℕ) (old : List CacheInfo) → ((x : Message) → Contains G.messages x → Contains H.messages x) → IsFormerState G page old
+pub former_there : (H G : History) (page : ℕ) (old : List CacheInfo) → ((x : Message) → Contains G.messages x → Contains H.messages x)
+    → IsFormerState G page old
     → (o : CacheInfo) → Contains old o → (e : Message) × Contains H.messages e × (e.pointer ≡ o.pointer)
 former_there H G page old more former o among =
     let found = from_map info_of (table G former.cut page) o (subst (λ (os : List CacheInfo). Contains os o) former.is among) in
