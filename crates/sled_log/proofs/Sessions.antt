@@ -23,6 +23,7 @@ pub mod RunLemmas
 pub mod RunLogs
 pub mod SafeItems
 pub mod SessionLemmas
+pub mod SharedBlobs
 pub mod SpentTickets
 pub mod TicketsSeen
 pub mod Within

@@ -1,5 +1,5 @@
 -- A history with one more batch: what holds of its messages holds still.
-use Rattle.std.proofs.Common.{◌≡◌, inl, inr, sym, subst, ℕ, List}
+use Rattle.std.proofs.Common.{◌≡◌, inl, inr, refl, sym, subst, ℕ, List}
 use Rattle.sled_codec.specs.History.{History, Message, table}
 use Rattle.sled_codec.specs.PageTables.{IsTable}
 use Rattle.sled_codec.specs.Snapshots.{Page}
@@ -43,7 +43,7 @@ module _ (H H' : History) (same : H'.messages ≡ H.messages) where
   joins_still m may = with_messages (λ G. MayJoin G m) H H' same (record {
     changes = may.changes;
     small = may.small;
-    blob = joins_among H other m m.pointer (λ x among. among) may.blob;
+    blob = joins_among H other m m.pointer (λ x among. among) refl may.blob;
     low = may.low;
     own = elim may.own [ inl replaces ↦ inl replaces | inr has ↦ inr (below_still m.page m.place has) ];
     lower = λ page less. below_still page m.place (may.lower page less);

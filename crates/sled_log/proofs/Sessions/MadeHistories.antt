@@ -174,18 +174,21 @@ begun_from H apart ground before m after split = record {
 -- a blob that is at the place of a message is so among more messages
 pub blob_among : (H H' : History) (m : Message) (p : DiskPtr) → ((x : Message) → Contains H.messages x → Contains H'.messages x) → HasBlobIn H m p → HasBlobIn H' m p
 blob_among H H' m (Inline lid) stay has = tt
-blob_among H H' m (Blob lid place) stay has = (has.0, stay has.0 has.1, has.2, has.3)
+blob_among H H' m (Blob lid place) stay has = (has.0, stay has.0 has.1, has.2, has.3, has.4)
 
-pub joins_among : (H H' : History) (m : Message) (p : DiskPtr) → ((x : Message) → Contains H.messages x → Contains H'.messages x) → JoinsWithBlob H m p → JoinsWithBlob H' m p
-joins_among H H' m (Inline lid) stay joins = tt
-joins_among H H' m (Blob lid place) stay joins = ⊎_elim inl (λ has. inr (has.0, stay has.0 has.1, has.2, has.3)) joins
+-- and one that comes may come still, where its page is what it was
+pub joins_among : (H H' : History) (m : Message) (p : DiskPtr) → ((x : Message) → Contains H.messages x → Contains H'.messages x) → page_now H' m.page ≡ page_now H m.page → JoinsWithBlob H m p
+    → JoinsWithBlob H' m p
+joins_among H H' m (Inline lid) stay same joins = tt
+joins_among H H' m (Blob lid place) stay same joins = ⊎_elim inl
+    (λ has. inr (has.0, stay has.0 has.1, has.2, has.3, has.4, (has.5.0, subst (λ (l : List Message). Contains l has.5.0) (sym same) has.5.1, has.5.2))) joins
 
 -- and that of a message that comes is, once that is there
 blob_joined : (H H' : History) (m : Message) (p : DiskPtr) → ((x : Message) → Contains H.messages x → Contains H'.messages x) → Contains H'.messages m → JoinsWithBlob H m p → HasBlobIn H' m p
 blob_joined H H' m (Inline lid) stay there joins = tt
 blob_joined H H' m (Blob lid place) stay there joins = ⊎_elim
-    (λ own. (m, there, omega arith, own))
-    (λ has. (has.0, stay has.0 has.1, (let low = has.2 in omega (arith, low)), has.3)) joins
+    (λ own. (m, there, omega arith, own, refl))
+    (λ has. (has.0, stay has.0 has.1, (let low = has.2 in omega (arith, low)), has.3, has.4)) joins
 
 -- A run begins with none.
 
@@ -353,7 +356,7 @@ module _ (H H' : History) (m : Message) (adds : AddsMessage H m H') where
     others_may n ne next = record {
       changes = next.changes;
       small = next.small;
-      blob = joins_among H H' n n.pointer stays_in next.blob;
+      blob = joins_among H H' n n.pointer stays_in (others_same top n.page ne) next.blob;
       low = next.low;
       own = on.own;
       lower = on.lower;
@@ -419,7 +422,7 @@ below_whole H cut c page le = table_of_page H cut c page le ∙ below_same H cut
 -- the blob of a message below the cut is at the place of one below the cut
 blob_below : (H : History) (cut : ℕ) (m : Message) (p : DiskPtr) → m.place < cut → HasBlobIn H m p → HasBlobIn (below H cut) m p
 blob_below H cut m (Inline lid) lt has = tt
-blob_below H cut m (Blob lid place) lt has = (has.0, below_in H cut has.0 has.1 (let le = has.2 in omega (arith, le, lt)), has.2, has.3)
+blob_below H cut m (Blob lid place) lt has = (has.0, below_in H cut has.0 has.1 (let le = has.2 in omega (arith, le, lt)), has.2, has.3, has.4)
 
 -- A recovery leaves one, whatever the cut.
 pub made_below : (H : History) (cut : ℕ) → IsMade H → IsMade (below H cut)

@@ -1,15 +1,16 @@
 -- The place of an open ticket is that of no completed message, so no completed message has the ticket's own blob, and no other ticket's message has it.
-use Rattle.std.proofs.Common.{⊎_elim, ◌≡◌, ◌≢◌, ◌∙◌, ◌-◌, ℕ, ℤ, pos, Bool, true, false, if◌then◌else◌, List, Some, None, arith, sym, subst, refl}
+use Rattle.std.proofs.Common.{⊎_elim, ◌≡◌, ◌≢◌, ◌∙◌, ◌-◌, ◌<◌, ℕ, ℤ, pos, Bool, true, false, if◌then◌else◌, List, Some, None, arith, sym, subst, refl, inl, inr}
 use Rattle.std.specs.List.{Contains}
 use Rattle.std.specs.Ordering.{int_eq}
 use Rattle.std.proofs.lemmas.Bool.{cases_eq}
 use Rattle.std.proofs.lemmas.Bool.Decides.{Decides-int_eq}
-use Rattle.std.proofs.lemmas.List.Elements.{Contains-append_cases}
+use Rattle.std.proofs.lemmas.List.Elements.{All-contains, Contains-append_cases}
 use Rattle.sled_codec.specs.declared.result.DiskPtr.{DiskPtr}
 use Rattle.sled_codec.specs.declared.result.DiskPtr.TheVariants.{Inline, Blob}
 use Rattle.sled_codec.specs.History.{AddsMessage, History, Message}
 use Rattle.sled_store.specs.Accounts.{machine_of}
 use Rattle.sled_store.specs.Device.{Trace, state_of}
+use Rattle.sled_store.specs.Outdated.{MayName}
 use Rattle.sled_core.specs.declared.iobuf.Reserved.{Reserved}
 use Rattle.sled_core.specs.declared.logger.Log.{Log}
 use Rattle.sled_core.specs.declared.reservation.Reservation.{Reservation}
@@ -28,6 +29,7 @@ use Rattle.sled_core.proofs.Read.FoundLemmas.{pos_injective}
 use Rattle.sled_log.specs.Made.{HasBlobIn, IsMade, JoinsWithBlob}
 use Rattle.sled_log.specs.declared.session.opened.Opened.{Opened}
 use Rattle.sled_log.specs.RunPhases.{IsTicketFor}
+use Rattle.sled_log.specs.RunStates.{top}
 use Rattle.sled_log.specs.TicketSteps.{own_in}
 
 -- A message can be put in at its place only where no other lies there.
@@ -66,6 +68,20 @@ module _ (H : History) (m : Message) (p : DiskPtr) (none : (x : Message) → Con
   -- a blob that is at the place of a message of the history is at another one
   other_name : (y : Message) (q : ℤ) → Contains H.messages y → q ≡ pos y.place → q ≢ pos m.place
   other_name y q there at same = none y there (pos_injective y.place m.place (sym at ∙ same))
+
+  -- So what a message that comes there names no message names, or one that makes its page what it is.
+  pub joins_named : IsMade H → JoinsWithBlob H m m.pointer → MayName H m
+  joins_named made joins blob names = ⊎_elim (λ own. inl (λ x there its.
+      let has = subst (HasBlobIn H x) its.1 (made.blobs x there) in
+      other_name has.0 blob has.1 has.3 own))
+      (λ has. inr (record {
+        cut = top;
+        past = λ x there. All-contains (λ y. y.place < top) H.messages x made.low there;
+        page = m.page;
+        entry = has.5.0;
+        there = has.5.1;
+        names = has.5.2;
+      })) (subst (JoinsWithBlob H m) names.1 joins)
 
   -- So are all of a history that a session makes,
   pub all_beside : IsMade H → AreBeside (own_in (pos m.place) p) H

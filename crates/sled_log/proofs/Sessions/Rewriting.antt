@@ -101,16 +101,16 @@ module _ {D C : Type 0} (trace : D → Trace) (sum : List ℕ → ℕ) (opened :
       (subst (λ ms. Contains ms one.message) (sym (table_now trace sum opened.log k.history k.acknowledged k.floor at.unmarked at.fits at.made page)) there))
       one.replaces one.points)
 
-  -- and its blob is at the place of a message of the history below it,
-  rewriting_below : (x : Message) × Contains k.history.messages x × (x.place < (target_of opened.log page 8).place) × (blob ≡ pos x.place)
+  -- and its blob is at the place of a message of the page below it,
+  rewriting_below : (x : Message) × Contains k.history.messages x × (x.place < (target_of opened.log page 8).place) × (blob ≡ pos x.place) × (x.page ≡ page)
   rewriting_below =
       let has = subst (HasBlobIn k.history one.message) one.points (at.made.blobs one.message found.0) in
       let reach = All-contains (λ y. y.place < next_place opened.log) k.history.messages has.0 (fits_reach trace sum opened.log k.history k.acknowledged k.floor at.unmarked at.fits) has.1 in
       let up = target_above opened.log page 8 (let least = opened.log.config.config.least in omega (arith, least)) in
-      (has.0, has.1, omega (arith, reach, up), has.3)
+      (has.0, has.1, omega (arith, reach, up), has.3, has.4 ∙ found.1)
 
   pub rewriting_joins : JoinsWithBlob k.history (message_rewriting opened.log page blob one.message.bytes) (message_rewriting opened.log page blob one.message.bytes).pointer
-  rewriting_joins = inr rewriting_below
+  rewriting_joins = let low = rewriting_below in inr (low.0, low.1, low.2, low.3, low.4, (one.message, there, (one.lid, one.points)))
 
   -- and not at its own.
   pub rewriting_apart : own_of (message_rewriting opened.log page blob one.message.bytes) ≡ None

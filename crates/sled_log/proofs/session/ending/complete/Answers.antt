@@ -13,6 +13,7 @@ use Rattle.sled_codec.specs.declared.result.DiskPtr.{DiskPtr}
 use Rattle.sled_log.specs.Endings.{HasRoomFor, HasRoomToApply, TakesTicket, applied_to}
 use Rattle.sled_log.specs.RunPhases.{IsSafe, view_by}
 use Rattle.sled_log.proofs.Sessions.EndedTickets.{complete_fails, completes, awaits_it, is_message, message_open, room_does, room_fails, room_open, takes_it}
+use Rattle.sled_log.proofs.Sessions.OpenApart.{joins_named, none_there}
 use Rattle.sled_log.proofs.Sessions.RunLemmas.{on_failure, on_success}
 use Rattle.sled_log.proofs.Sessions.SafeItems.{safe_on}
 use Rattle.sled_log.proofs.session.ending.complete.Goals as goal
@@ -91,7 +92,10 @@ returns-in-Ok-clause-step g c = λ k at asked.
     let pinned : 0 < pins_of mid.log = subst (λ x. 0 < pins_of x) (sym takes.log) roomy.pinned in
     let safe : IsSafe trace sum mid.log m = subst (λ x. IsSafe trace sum x m) (sym takes.log) (roomy.tickets.each c.args.number m its.1).stored in
     let stored = safe done.answers in
-    let gives = done.fits k.history k.acknowledged k.floor roomy.unmarked m fits awaits_mid stored pinned in
+    let joins = (roomy.tickets.each c.args.number m its.1).joins its.2 in
+    let message = is_message view sum old k roomy c.args.number m its.1 mid c.in-Some.field-0 takes its.2 in
+    let may = joins_named k.history m m.pointer (none_there trace sum mid.log k.history (fits_holds trace sum mid.log k.history k.acknowledged k.floor roomy.unmarked fits) ticket m awaits_mid message) roomy.made joins.blob in
+    let gives = done.fits k.history k.acknowledged k.floor roomy.unmarked m fits awaits_mid stored may pinned in
     let place = place_back c.in-Ok.place m.place (done.place.0 ∙ sym says.0) small in
     let pointer : c.in-Ok.pointer ≡ m.pointer = done.place.1 ∙ sym says.1 in
     let size : c.reservation_len-size.result ≡ m.size = c.reservation_len-size.ensures ∙ sym says.2 in
