@@ -1,13 +1,14 @@
 -- Along the calls of a recovery less and less of the log file is the log's own: it writes nothing but zeros there.
-use Rattle.std.proofs.Common.{◌≡◌, ◌++◌, ℕ, ℤ, Bool, true, false, if◌then◌else◌, List, [], ◌∷◌, map, replicate, Option, Some, None, refl, sym, subst, inl, inr, ◌∙◌}
+use Rattle.std.proofs.Common.{◌≡◌, ◌++◌, ℕ, ℤ, Bool, true, false, if◌then◌else◌, List, [], ◌∷◌, replicate, Option, Some, None, refl, sym, subst, inl}
+use Rattle.std.proofs.Common.{inr, ◌∙◌}
 use Rattle.std.proofs.lemmas.List.{append_cancel_right}
 use Rattle.sled_codec.specs.Snapshots.{SnapshotModel}
 use Rattle.sled_store.specs.Answers.{Tears}
 use Rattle.sled_store.specs.Blobs.{removing_blobs}
-use Rattle.sled_store.specs.Device.{BlobMade, BlobRemoved, BlobSynced, Crashed, Cut, Event, NamesSynced, SnapshotFilled, SnapshotPublished, SnapshotRemoved, State, StopAsked, Synced, Trace, Wrote, state_of, step}
+use Rattle.sled_store.specs.Device.{BlobMade, BlobRemoved, BlobSynced, Crashed, Cut, Event, NamesSynced, SnapshotFilled, SnapshotPublished, SnapshotRemoved}
+use Rattle.sled_store.specs.Device.{State, StopAsked, Synced, Trace, Wrote, state_of, step}
 use Rattle.sled_store.specs.Moments.{AtEach, Throughout}
 use Rattle.sled_store.specs.inside.Script.{Along}
-use Rattle.sled_store.specs.Script.{after_all}
 use Rattle.sled_store.proofs.Traces.ScriptLemmas.{along_last, performs_throughout}
 use Rattle.sled_core.specs.Recoverable.{NoHeaderOfZeros}
 use Rattle.sled_core.proofs.Numbers.OwnLess.{OwnLess, less_crashed, less_cut, less_same, less_synced, less_then, less_zeros}
@@ -47,7 +48,8 @@ all_spare (e ∷ es) fs first second = (first.0, all_spare es fs first.1 second)
 module _ (sum : List ℕ → ℕ) (size : ℕ) (none : NoHeaderOfZeros sum) where
   -- Behind such a call no more is own.
   spared_less : (e : Event) → Spares e → (s : State) → OwnLess sum size (step e s) s
-  spared_less (Wrote at asked now) spares s = subst (λ (l : List ℕ). OwnLess sum size (step (Wrote at l now) s) s) (sym spares.1) (less_zeros sum size none at spares.0 now s)
+  spared_less (Wrote at asked now) spares s = subst (λ (l : List ℕ). OwnLess sum size (step (Wrote at l now) s) s) (sym spares.1)
+      (less_zeros sum size none at spares.0 now s)
   spared_less (Cut asked now) spares s = less_cut sum size asked now s
   spared_less (BlobMade place asked now done) spares s = less_same sum size (step (BlobMade place asked now done) s) s refl
   spared_less (BlobRemoved place done) spares s = less_same sum size (step (BlobRemoved place done) s) s refl
@@ -79,7 +81,7 @@ module _ (sum : List ℕ → ℕ) (size : ℕ) (none : NoHeaderOfZeros sum) wher
 
 shredding_spares : (r : Option (ℕ × ℕ)) → AllSpare (shredding r)
 shredding_spares None = tt
-shredding_spares (Some range) = ((range.1, refl), tt, tt)
+shredding_spares (Some range) = ((range.1, refl), (tt, tt))
 
 removing_spares : (ns : List ℤ) → AllSpare (removing ns)
 removing_spares [] = tt
@@ -91,11 +93,11 @@ blobs_spare (p ∷ ps) = (tt, blobs_spare ps)
 
 zeroing_spares : (size : ℕ) (slots : List ℕ) → AllSpare (zeroing size slots)
 zeroing_spares size [] = tt
-zeroing_spares size (slot ∷ slots) = ((size, refl), tt, zeroing_spares size slots)
+zeroing_spares size (slot ∷ slots) = ((size, refl), (tt, zeroing_spares size slots))
 
 publishing_spares : (sum : List ℕ → ℕ) (b : Bool) (s : SnapshotModel) (ns : List ℤ) → AllSpare (if b then publishing sum s ns else [])
 publishing_spares sum false s ns = tt
-publishing_spares sum true s ns = (tt, tt, tt, removing_spares ns)
+publishing_spares sum true s ns = (tt, (tt, (tt, removing_spares ns)))
 
 committing_spares : (sum : List ℕ → ℕ) (x : RecoveryResult) (ns : List ℤ) → AllSpare (committing sum x ns)
 committing_spares sum x ns =
@@ -117,23 +119,26 @@ module _ (sum : List ℕ → ℕ) (size : ℕ) (none : NoHeaderOfZeros sum) (old
   -- At each moment no more is own than before,
   pub recovery_less : RecoveryCalls sum size old new → Throughout Less' old new
   recovery_less (inl settling) =
-      performs_throughout Less' (Synced ∷ NamesSynced ∷ []) old new settling (along_spared sum size none (state_of old) (Synced ∷ NamesSynced ∷ []) (tt, tt, tt) (state_of old) same_own)
+      performs_throughout Less' (Synced ∷ NamesSynced ∷ []) old new settling
+          (along_spared sum size none (state_of old) (Synced ∷ NamesSynced ∷ []) (tt, (tt, tt)) (state_of old) same_own)
   recovery_less (inr (x, recovers, inl (inl calls))) =
       performs_throughout Less' (Synced ∷ NamesSynced ∷ shredding x.shred_range) old new calls
-      (along_spared sum size none (state_of old) (Synced ∷ NamesSynced ∷ shredding x.shred_range) (tt, tt, shredding_spares x.shred_range) (state_of old) same_own)
+      (along_spared sum size none (state_of old) (Synced ∷ NamesSynced ∷ shredding x.shred_range) (tt, (tt, shredding_spares x.shred_range))
+          (state_of old) same_own)
   recovery_less (inr (x, recovers, inl (inr (fits, ns, may, calls)))) =
       performs_throughout Less' (Synced ∷ NamesSynced ∷ committing sum x ns) old new calls
-      (along_spared sum size none (state_of old) (Synced ∷ NamesSynced ∷ committing sum x ns) (tt, tt, committing_spares sum x ns) (state_of old) same_own)
+      (along_spared sum size none (state_of old) (Synced ∷ NamesSynced ∷ committing sum x ns) (tt, (tt, committing_spares sum x ns)) (state_of old) same_own)
   recovery_less (inr (x, recovers, inr (fits, ns, are, places, may, calls))) =
       performs_throughout Less' (Synced ∷ NamesSynced ∷ writing_back sum size x ns places) old new calls
-      (along_spared sum size none (state_of old) (Synced ∷ NamesSynced ∷ writing_back sum size x ns places) (tt, tt, writing_spares sum size x ns places) (state_of old) same_own)
+      (along_spared sum size none (state_of old) (Synced ∷ NamesSynced ∷ writing_back sum size x ns places) (tt, (tt, writing_spares sum size x ns places))
+          (state_of old) same_own)
 
   -- and so behind all calls.
   pub written_less : (x : RecoveryResult) → HasWrittenBack sum size x (NamesSynced ∷ Synced ∷ old) new → Less' (state_of new)
   written_less x (ns, are, places, from, came) =
       let all : List Event = Synced ∷ NamesSynced ∷ writing_back sum size x ns places in
       subst (λ (t : Trace). Less' (state_of t)) (sym came)
-      (along_last Less' all old (along_spared sum size none (state_of old) all (tt, tt, writing_spares sum size x ns places) (state_of old) same_own))
+      (along_last Less' all old (along_spared sum size none (state_of old) all (tt, (tt, writing_spares sum size x ns places)) (state_of old) same_own))
 
 -- What holds throughout of two kinds holds together.
 module _ (P Q R : State → Type 0) (both : (s : State) → P s → Q s → R s) where
