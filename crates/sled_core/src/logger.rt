@@ -231,8 +231,8 @@ impl<D: Device, C: Checksum> Log<D, C> {
         ensures given_up { AreAmong (given_up_of self.new) (given_up_of self.old) }
         ensures answers { FaultAnswers result (fault_of self.old) }
         ensures fits { (H : History) (A f : ℕ) (U : List Message) (m : Message)
-            → Fits D.trace C.sum_of self.old H A f U → Awaits self.old ticket m → IsStored D.trace C.sum_of self.old m → MayName H m → 0 < pins_of self.old
-            → OnOk result ((H' : History) × Step H (Completed m) H' × Fits D.trace C.sum_of self.new H' A f (m ∷ U)) }
+            → Fits D.trace C.sum_of self.old H A f U → Awaits self.old ticket m → IsStored D.trace C.sum_of self.old m → MayName H m
+            → 0 < pins_of self.old → OnOk result ((H' : History) × Step H (Completed m) H' × Fits D.trace C.sum_of self.new H' A f (m ∷ U)) }
         ensures goes_on { GoesOn D.trace C.sum_of self.old self.new }
         ensures same { KeepsAll self.old self.new }
         ensures err { OnErr result (self.new ≡ self.old) }

@@ -206,24 +206,24 @@ fits_outdated_goes sum noted size fault line m pins H A f U some order k device 
           → FitsPast sum noted size fault line m pins H A f U ((slot_at m k).lsn + size) (step (BlobRemoved p done) s)
       keeps p among s done its =
           record { fits = now.0; past = subst (λ reach. (slot_at m k).lsn + size ≤ stable_below reach H.batches) (sym now.1) its.past } where
-        stable : ℕ
-        stable = stable_below its.fits.reach H.batches
+            stable : ℕ
+            stable = stable_below its.fits.reach H.batches
 
-        spent : IsSpent size ((slot_at m k).lsn + size) H p
-        spent = (its.fits.account.outdated k p among).superseded
+            spent : IsSpent size ((slot_at m k).lsn + size) H p
+            spent = (its.fits.account.outdated k p among).superseded
 
-        items : HaveItems sum s.blobs H stable → HaveItems sum (unnamed s.blobs p done) H stable
-        items have = record {
-          blobs = removed_fit sum size some H order ((slot_at m k).lsn + size) p spent s.blobs done stable its.past have.blobs;
-          stored = removed_items sum size some H order ((slot_at m k).lsn + size) p spent s.blobs done stable its.past have.stored;
-          entries = removed_entries sum size some H order ((slot_at m k).lsn + size) p spent s.blobs done stable its.past have.entries;
-          below = have.below;
-        }
+            items : HaveItems sum s.blobs H stable → HaveItems sum (unnamed s.blobs p done) H stable
+            items have = record {
+              blobs = removed_fit sum size some H order ((slot_at m k).lsn + size) p spent s.blobs done stable its.past have.blobs;
+              stored = removed_items sum size some H order ((slot_at m k).lsn + size) p spent s.blobs done stable its.past have.stored;
+              entries = removed_entries sum size some H order ((slot_at m k).lsn + size) p spent s.blobs done stable its.past have.entries;
+              below = have.below;
+            }
 
-        left : LeavesRecovering sum size H stable f s → LeavesRecovering sum size H stable f (step (BlobRemoved p done) s)
-        left = removed_leaves sum size some H order ((slot_at m k).lsn + size) p spent stable f its.past s done
+            left : LeavesRecovering sum size H stable f s → LeavesRecovering sum size H stable f (step (BlobRemoved p done) s)
+            left = removed_leaves sum size some H order ((slot_at m k).lsn + size) p spent stable f its.past s done
 
-        now : (fits : FitsWith sum noted size (step (BlobRemoved p done) s) fault line m pins H A f U) × (fits.reach ≡ its.fits.reach)
-        now = fits_over_blobs sum size s (unnamed s.blobs p done) s.snapshots fault refl H A f U
-            (λ first named. record { names = named.names; own_names = λ none. own_removing sum p done s (named.own_names none) }) noted line m pins its.fits
-            (items, left)
+            now : (fits : FitsWith sum noted size (step (BlobRemoved p done) s) fault line m pins H A f U) × (fits.reach ≡ its.fits.reach)
+            now = fits_over_blobs sum size s (unnamed s.blobs p done) s.snapshots fault refl H A f U
+                (λ first named. record { names = named.names; own_names = λ none. own_removing sum p done s (named.own_names none) }) noted line m pins its.fits
+                (items, left)

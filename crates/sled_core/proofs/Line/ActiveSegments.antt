@@ -67,18 +67,18 @@ module _ (sum : List ℕ → ℕ) (size : ℕ) (device : State) (fault : Option 
           active = subst (λ k. is_active (slot_at m k).state ≡ true) (sym here) line_active;
           lsn = ap (λ k. (slot_at m k).lsn) here ∙ slot.is ∙ sym begins;
         } where
-      here : slot_with size x ≡ slot.number
-      here =
-          ap (λ (y : Message). lid_of y.pointer / size) is ∙ ap (λ n. n / size) (lid_as r.blob (v.parts.site.slot + r.from) ∙ ap (λ n. n + r.from) slot.lies)
-          ∙ div-mul-add slot.number size r.from inside
+          here : slot_with size x ≡ slot.number
+          here =
+              ap (λ (y : Message). lid_of y.pointer / size) is ∙ ap (λ n. n / size) (lid_as r.blob (v.parts.site.slot + r.from) ∙ ap (λ n. n + r.from) slot.lies)
+              ∙ div-mul-add slot.number size r.from inside
 
-      place : x.place ≡ v.parts.site.place + r.from
-      place = ap (λ (y : Message). y.place) is
+          place : x.place ≡ v.parts.site.place + r.from
+          place = ap (λ (y : Message). y.place) is
 
-      begins : x.place / size * size ≡ v.parts.site.place
-      begins =
-          let aligned : v.parts.site.place % size ≡ 0 = subst (λ n. n % size ≡ 0) slot.is (has.account.aligned slot.number slot.taken) in
-          let offset : (v.parts.site.place + r.from) % size ≡ r.from = aligned_offset v.parts.site.place r.from size aligned inside in
-          let whole = div-add-mod' x.place size in
-          let rest : x.place % size ≡ r.from = ap (λ n. n % size) place ∙ offset in
-          omega (arith, place, whole, rest)
+          begins : x.place / size * size ≡ v.parts.site.place
+          begins =
+              let aligned : v.parts.site.place % size ≡ 0 = subst (λ n. n % size ≡ 0) slot.is (has.account.aligned slot.number slot.taken) in
+              let offset : (v.parts.site.place + r.from) % size ≡ r.from = aligned_offset v.parts.site.place r.from size aligned inside in
+              let whole = div-add-mod' x.place size in
+              let rest : x.place % size ≡ r.from = ap (λ n. n % size) place ∙ offset in
+              omega (arith, place, whole, rest)

@@ -69,7 +69,8 @@ impl<D: Device, C: Checksum> Log<D, C> {
         ensures marks { Marks result (replaced (segment_size_of self.old) pid new old.now) self.old self.new }
         ensures keeps { KeepsMarked D.trace C.sum_of result self.old self.new }
         ensures fits { (H : History) (A f : ℕ) (U V : List Message) (m : Message) → Fits D.trace C.sum_of self.old H A f U
-            → TakesMark H U m V → IsOfMessage m pid new → begins_page m.kind ≡ true → IsFormerState (without U H) pid old.now → NoneShares H m old.now
+            → TakesMark H U m V → IsOfMessage m pid new → begins_page m.kind ≡ true
+            → IsFormerState (without U H) pid old.now → NoneShares H m old.now
             → OnOk result (Fits D.trace C.sum_of self.new H A f V) }
         ensures answers { FaultOrMemory result ⊥ (fault_of self.old) }
     {

@@ -1,4 +1,5 @@
--- In a history that a session makes, messages that name one blob are of one page. So a message that is the newest of its page may be marked in place of what that was.
+-- In a history that a session makes, messages that name one blob are of one page. So a message that is the newest of its page may be marked in place of what
+-- that was.
 use Rattle.std.proofs.Common.{◌≡◌, ◌∙◌, ◌≤◌, ℕ, ℤ, List, sym, ap, subst}
 use Rattle.std.specs.List.{Contains}
 use Rattle.sled_codec.specs.History.{History, Message, table}
@@ -22,7 +23,8 @@ module _ (H : History) (made : IsMade H) where
       sym has_y.4 ∙ ap (λ (m : Message). m.page) same ∙ has_x.4
 
   -- No message needs what a page was, but for those of the page up to its newest one.
-  pub none_shares : (G : History) → ((m : Message) → Contains G.messages m → Contains H.messages m) → (x : Message) (old : List CacheInfo) → IsFormerState G x.page old
+  pub none_shares : (G : History) → ((m : Message) → Contains G.messages m → Contains H.messages m) → (x : Message) (old : List CacheInfo)
+      → IsFormerState G x.page old
       → ((m : Message) → Contains H.messages m → m.page ≡ x.page → m.place ≤ x.place) → NoneShares H x old
   none_shares G more x old former newest o lid blob among points other e there names =
       let was = from_map info_of (table G former.cut x.page) o (subst (λ (os : List CacheInfo). Contains os o) former.is among) in
