@@ -1,13 +1,13 @@
-use Rattle.std.proofs.Common.{◌≡◌, ◌∙◌, inl, inr, ◌+◌, if◌then◌else◌, Bool, false, length, Ok, Err, ap, arith, refl, subst}
+use Rattle.std.proofs.Common.{◌≡◌, ◌∙◌, inl, inr, ◌+◌, if◌then◌else◌, ℕ, Bool, List, false, length, Ok, Err, ap, arith, refl, subst}
 use Rattle.std.proofs.lemmas.Bool.Decides.{nat_tests}
 use Rattle.sled_codec.specs.declared.serialization.message.LogKind.TheVariants.{Replace}
 use Rattle.sled_codec.specs.Spelling.{short_number}
 use Rattle.sled_core.specs.declared.reservation.Reservation.{Reservation}
 use Rattle.sled_core.specs.Causes.{ReserveAnswers}
-use Rattle.sled_core.specs.Fits.{IsLeastOpen, IsUsedUpFor, config_of, position_behind}
+use Rattle.sled_core.specs.Fits.{IsLeastOpen, IsUsedUpFor, config_of, message_as, position_behind}
 use Rattle.sled_core.specs.OpenPlaces.{open_places_along}
 use Rattle.sled_core.specs.Reserves.{reserve_causes}
-use Rattle.sled_core.proofs.PublicLaws.{awaited, comes_inline, goes_on_further, not_in_blob, refused_inline}
+use Rattle.sled_core.proofs.PublicLaws.{awaited, comes_inline, goes_on_further, inline_named, not_in_blob, refused_inline}
 use Rattle.ids.specs.Generators.{IsUsedUp, further_bound}
 use Rattle.ids.proofs.Generating.{generates_has, gives_still, has_asked, has_generates, has_still, has_throughout, none_for, none_behind, ends_well, number_fits, position_still, reserve_fails}
 use Rattle.ids.proofs.Moments.{through_less}
@@ -132,12 +132,13 @@ returns-in-Ok-complete-clause-gives_on g c =
       seen = c.in-Ok.ensures.seen;
       left = tt;
     }) in
+    let text : List ℕ = short_number c.saturating_add-asked.result in
     record {
       asked = omega (arith, asked, ahead);
       block = refl;
       generates = λ generates. has_generates trace sum _ (has_asked trace sum old.log c.reserve.new.self c.complete.new.self old.bound old.asked c.saturating_add-asked.result (generates_has trace sum old generates)
           (omega (arith, asked, small, ahead, none)) c.saturating_add-asked.type_inv size came.keeps came.behind.reserved c.in-Ok-complete.ensures.ends.position.reserved c.in-Ok-complete.ensures.goes_on
-          (λ H A f U fits. c.in-Ok-complete.ensures.fits H A f U _ fits came.ticket came.stored (omega (arith, pins, pinned))));
+          (λ H A f U fits. c.in-Ok-complete.ensures.fits H A f U _ fits came.ticket came.stored (inline_named H (message_as old.log Replace 0 false (length text) text) tt) (omega (arith, pins, pinned))));
       keeps = λ generates. through_less sum _ old.bound old.bound old.asked (old.asked + old.block) _ _ (omega arith) (omega arith)
           (has_throughout trace sum old.log c.complete.new.self old.bound old.asked (generates_has trace sum old generates) both);
       later = both.later;
