@@ -27,6 +27,7 @@ pub mod EntryPlaces
 pub mod Faulty
 pub mod Filling
 pub mod Fillings
+pub mod FillingsAlong
 pub mod Gathered
 pub mod GivenUp
 pub mod HeaderMarks

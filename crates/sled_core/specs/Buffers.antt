@@ -20,6 +20,11 @@ open_state Canceled = false
 open_state Manifest = false
 open_state Padding = false
 
+-- what fills a segment, and is no reservation
+abbrev pub padding_state : ReservationState → Bool
+padding_state Padding = true
+padding_state _ = false
+
 -- those behind the header of its record
 abbrev pub body_in : List ℕ → Reserved → List ℕ
 body_in bytes r = part bytes (r.from + r.header_len) (r.len - r.header_len)

@@ -22,6 +22,7 @@ use Rattle.sled_store.specs.declared.config.RunningConfig.{RunningConfig}
 use Rattle.sled_core.specs.Begun.{SegmentView, begin_of, line_in, segment_view}
 use Rattle.sled_core.specs.Buffers.{pointer_as, message_in, none_open, open_in, first_open_in}
 use Rattle.sled_core.specs.Among.{AreAmong}
+use Rattle.sled_core.specs.Fillings.{FillingAt, fillings_along}
 use Rattle.sled_core.specs.GivenUp.{given_up_along}
 use Rattle.sled_core.specs.Heads.{HeadAt, heads_along}
 use Rattle.sled_core.specs.LogFile.{IsLogFile, StaysFrom}
@@ -242,6 +243,10 @@ given_up_of log = given_up_along (line_of log)
 -- the headers of its segments that aren't on the device yet
 abbrev pub heads_of : {D C : Type 0} → Log D C → List HeadAt
 heads_of log = heads_along (line_of log)
+
+-- where what fills its segments begins, of what isn't on the device yet
+abbrev pub fillings_of : {D C : Type 0} → Log D C → List FillingAt
+fillings_of log = fillings_along (line_of log)
 
 -- The log file has these messages, and those that stay of earlier segments, and all of it is settled, so that a crash leaves just that.
 pub record IsOnDevice (sum : List ℕ → ℕ) (size : ℕ) (device : LogState) (site : SegmentPosition) (from : ℕ) (messages : List Message)

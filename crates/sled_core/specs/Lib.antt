@@ -6,6 +6,7 @@ pub mod Buffers
 pub mod Canceled
 pub mod Causes
 pub mod Endings
+pub mod Fillings
 pub mod Fits
 pub mod FreeSlots
 pub mod Fronts

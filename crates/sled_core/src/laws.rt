@@ -17,7 +17,7 @@ ghost use Rattle.sled_codec.specs.WellFormed.{LieApart};
 ghost use Rattle.sled_store.specs.Device.{Trace, State, Left, Leaves, Crashed, state_of, content_of, content_left, at_rest, fresh, Content, Settled, Wrote, Synced, step};
 ghost use Rattle.sled_store.specs.Moments.{IsLater, LeavesOnly};
 ghost use Rattle.sled_store.specs.Outdated.{IsNamedNow, NamesBlob};
-ghost use Rattle.sled_core.specs.Fits.{stable_end, KeepsAll, Awaits, FirstWaits, FitsInline, HasRecordOf, IsLeastOpen, IsUnchanged, IsUsedUpBelow, IsUsedUpFor, IsWritten, NoneOpen, blob_at, body_length, buffers_of, current_begin, device_of, fault_of, given_up_of, heads_of, held_len, holding_below, in_blob_of, is_moved, line_of, machine_at, message_for, message_rewriting, next_place, noted_in, open_of, open_places, reserved_end, sealing_end, segment_size_of, start_behind, start_of, synced_end, target_of, waiting_behind, waiting_of};
+ghost use Rattle.sled_core.specs.Fits.{stable_end, KeepsAll, Awaits, FirstWaits, FitsInline, HasRecordOf, IsLeastOpen, IsUnchanged, IsUsedUpBelow, IsUsedUpFor, IsWritten, NoneOpen, blob_at, body_length, buffers_of, current_begin, device_of, fault_of, fillings_of, given_up_of, heads_of, held_len, holding_below, in_blob_of, is_moved, line_of, machine_at, message_for, message_rewriting, next_place, noted_in, open_of, open_places, reserved_end, sealing_end, segment_size_of, start_behind, start_of, synced_end, target_of, waiting_behind, waiting_of};
 ghost use Rattle.sled_core.specs.invariants.Fits.{Holds};
 ghost use Rattle.sled_codec.specs.Snapshots.{SnapshotModel, empty_model, stable_place};
 ghost use Rattle.sled_store.specs.Begin.{offset_at, place_at};
@@ -103,7 +103,8 @@ pub fn written_messages_are_stable<D: Device, C: Checksum>()
 /// sealed ones, from where it begins up to where it ends once it is sealed, and so it does where a reservation fills its
 /// segment; each has as many bytes as places, and unless it is held up it is whole records, each with its sum and of a kind
 /// that a reader knows, and those of messages that were given up with the bodies of these; none but what fills the segment
-/// ends it; one that begins its segment has the header that the log has for that.
+/// ends it, from where the log has it, or the current one from where what was reserved ends; one that begins its segment
+/// has the header that the log has for that.
 pub fn a_log_shows_its_buffers<D: Device, C: Checksum>()
     ensures current { (log : Log D C) → 0 < held_len log
         → spans (buffers_of C.sum_of log)
@@ -113,7 +114,8 @@ pub fn a_log_shows_its_buffers<D: Device, C: Checksum>()
         ≡ spans (waiting_of log) ++ record { place = current_begin log; end = (start_behind log page n).place; lid = (start_of log).lid } ∷ [] }
     ensures long { (log : Log D C) → All HasLength (buffers_of C.sum_of log) }
     ensures whole { (log : Log D C) (H : History) → Holds D.trace C.sum_of log H → fault_of log ≡ None
-        → All (λ b. b.held ≡ None → IsWholeBuffer C.sum_of (segment_size_of log) (given_up_of log) (heads_of log) b) (buffers_of C.sum_of log) }
+        → All (λ b. b.held ≡ None → IsWholeBuffer C.sum_of (segment_size_of log) (given_up_of log) (heads_of log)
+        (record { next = sealing_end log; from = reserved_end log } ∷ fillings_of log) b) (buffers_of C.sum_of log) }
 {}
 
 /// Where no reservation is open, none holds a buffer up, nor a flush.

@@ -28,6 +28,7 @@ module _ {D C : Type 0} (trace : D → Trace) (sum : List ℕ → ℕ) where
     position = record { position = refl; reserved = refl; pins = refl; size = refl };
     buffers = record { waiting = refl; start = refl };
     heads = λ h there. there;
+    fillings = λ f there. there;
     machine = refl;
   }
 
@@ -48,6 +49,7 @@ module _ {D C : Type 0} (trace : D → Trace) (sum : List ℕ → ℕ) where
     };
     buffers = record { waiting = so.buffers.waiting ∙ first.buffers.waiting; start = so.buffers.start ∙ first.buffers.start };
     heads = λ h there. first.heads h (so.heads h there);
+    fillings = λ f there. first.fillings f (so.fillings f there);
     machine = so.machine ∙ first.machine;
   }
 

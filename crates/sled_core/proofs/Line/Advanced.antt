@@ -116,7 +116,7 @@ module _ {D C : Type 0} (trace : D → Trace) (sum : List ℕ → ℕ) (faults :
     one = λ few. inl refl;
     left = left_all to (waiting_of log);
     start = refl;
-    segment = record { place = refl; bytes = refl; heads = λ h there. there };
+    segment = record { place = refl; bytes = refl; heads = λ h there. there; fillings = λ f there. there };
     count = 0;
     gone = refl;
     synced = omega arith;

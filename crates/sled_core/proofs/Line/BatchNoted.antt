@@ -14,7 +14,7 @@ use Rattle.sled_core.specs.declared.iobuf.ReservationState.TheVariants.{Manifest
 use Rattle.sled_core.specs.declared.iobuf.Reserved.{Reserved}
 use Rattle.sled_core.specs.declared.logger.Log.{Log}
 use Rattle.sled_core.specs.declared.reservation.Reservation.{Reservation}
-use Rattle.sled_core.specs.Fits.{KeepsAll, KeepsBuffers, config_of, current_of, fault_of, given_up_of, kept_batches, line_of, noted_in, open_places, reserved_end, synced_end, heads_of}
+use Rattle.sled_core.specs.Fits.{KeepsAll, KeepsBuffers, config_of, current_of, fault_of, fillings_of, given_up_of, kept_batches, line_of, noted_in, open_places, reserved_end, synced_end, heads_of}
 use Rattle.sled_core.specs.invariants.Fits.{Holds}
 use Rattle.sled_core.specs.Among.{AreAmong}
 use Rattle.sled_core.specs.Keeps.{GoesOn, KeepsOthers, SamePosition}
@@ -40,7 +40,7 @@ use Rattle.sled_core.proofs.Line.Moves.{fits_as, holds_as}
 use Rattle.sled_core.proofs.Reached.ByPlace.{stable_with_batch}
 use Rattle.sled_core.proofs.Reserve.Ranges.{at_there}
 use Rattle.sled_core.proofs.Line.Places.{reserved_ends, reserved_in_reach}
-use Rattle.sled_core.proofs.Line.TicketEnds.{EndsAt, IsReservedAt, is_there, ticket_given, ticket_heads, ticket_opens, ticket_others}
+use Rattle.sled_core.proofs.Line.TicketEnds.{EndsAt, IsReservedAt, is_there, ticket_fillings, ticket_given, ticket_heads, ticket_opens, ticket_others}
 
 -- A log has noted a batch, and is otherwise what it was.
 module _ {D C : Type 0} (mid new : Log D C) (rest : NotesBatch mid new) where
@@ -88,6 +88,7 @@ pub record IsBatchNoted {D C : Type 0} (trace : D → Trace) (sum : List ℕ →
   pub opens : (place : ℕ) → pos place ≡ place_of ticket → TakesOut place (open_places old) (open_places new)
   pub given_up : AreAmong (given_up_of new) (given_up_of old)
   pub heads : AreAmong (heads_of new) (heads_of old)
+  pub fillings : AreAmong (fillings_of new) (fillings_of old)
   pub others : KeepsOthers trace sum ticket old new
 
 -- It ends with a peg, and then the batch is noted.
@@ -188,12 +189,15 @@ module _ {D C : Type 0} (trace : D → Trace) (sum : List ℕ → ℕ) (old mid 
     batch_heads : AreAmong (heads_of new) (heads_of old)
     batch_heads = ticket_heads now_ended
 
+    batch_fillings : AreAmong (fillings_of new) (fillings_of old)
+    batch_fillings = ticket_fillings now_ended refl
+
     batch_others : KeepsOthers trace sum ticket old new
     batch_others = ticket_others now_ended trace sum
 
     -- so much is seen,
     pub batch_seen : kept_batches new ≤ 2 * length (noted_in new) → IsBatchNoted trace sum old new ticket peg
-    batch_seen few = record { same = batch_same few; position = batch_position; buffers = batch_buffers; goes_on = batch_goes_on; opens = batch_opens; given_up = batch_given; heads = batch_heads; others = batch_others }
+    batch_seen few = record { same = batch_same few; position = batch_position; buffers = batch_buffers; goes_on = batch_goes_on; opens = batch_opens; given_up = batch_given; heads = batch_heads; fillings = batch_fillings; others = batch_others }
 
     -- and the log holds the history with the batch,
     pub batch_holds : peg < reserved_end old → ((b : Batch) → Contains (noted_in old) b → (pos b.peg <ℤ place_of ticket) ⊎ (peg < b.low)) → LiesInNoFilling old.config.config.segment_size (line_of old) (pos peg) → (H : History) → Holds trace sum old H

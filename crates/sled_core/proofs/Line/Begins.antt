@@ -14,9 +14,12 @@ use Rattle.sled_store.specs.Accounts.{AreSlots}
 use Rattle.sled_store.specs.declared.config.RunningConfig.{RunningConfig}
 use Rattle.sled_store.specs.Device.{State, Trace, state_of}
 use Rattle.sled_store.specs.SegmentStates.{Machine, handed_out, next_slot}
+use Rattle.sled_core.proofs.Line.FillingsAlong.{filling_at, fillings_begun, fillings_closed}
 use Rattle.sled_core.proofs.Line.Heads.{heads_begun, heads_closed}
-use Rattle.sled_core.proofs.Line.HeaderMarks.{HasOnly, begun_marked}
+use Rattle.sled_store.proofs.Segments.Elements.{in_cases}
+use Rattle.sled_core.proofs.Line.HeaderMarks.{FillsOnly, HasOnly, begun_marked}
 use Rattle.sled_core.specs.Marked.{BeginsMarked, IsMarkedHead}
+use Rattle.sled_core.specs.Fillings.{FillingAt, fillings_along}
 use Rattle.sled_core.specs.Heads.{HeadAt, heads_along}
 use Rattle.sled_core.specs.declared.iobuf.SegmentPosition.{SegmentPosition}
 use Rattle.sled_core.specs.declared.logger.Log.{Log}
@@ -28,7 +31,7 @@ use Rattle.sled_core.specs.Logged.{logged, in_log}
 use Rattle.sled_core.specs.Tickets.{IsFor, index_of}
 use Rattle.sled_core.specs.declared.iobuf.Reserved.{Reserved}
 use Rattle.sled_core.specs.inside.Fits.{written_to, FitsBatches, HasMark, HoldsIn, HoldsLine, HoldsWith, log_parts, parts_in}
-use Rattle.sled_core.specs.Fits.{AwaitsIn, CloseBelow, KeepsAll, KeepsTickets, current_of, device_of, fault_of, given_up_of, line_of, noted_in, machine_at, pins_of, position_of, segment_size_of, stable_end, synced_end, current_begin, heads_of}
+use Rattle.sled_core.specs.Fits.{AwaitsIn, CloseBelow, KeepsAll, KeepsTickets, current_of, device_of, fault_of, given_up_of, line_of, noted_in, machine_at, pins_of, position_of, segment_size_of, stable_end, synced_end, current_begin, fillings_of, heads_of, reserved_end}
 use Rattle.sled_core.specs.invariants.Fits.{Holds}
 use Rattle.sled_core.specs.inside.Begun.{line_end}
 use Rattle.sled_core.specs.inside.FreeSlots.{HasSlot, HasSlots, HaveOwn}
@@ -66,7 +69,7 @@ use Rattle.sled_core.proofs.Reached.StableBelow.{stable_low}
 use Rattle.sled_core.proofs.Sealed.Ended.{ends_rise, ends_up}
 use Rattle.sled_core.proofs.Reserve.Ranges.{at_there}
 use Rattle.sled_core.proofs.Flush.Completed.{grows}
-use Rattle.sled_core.proofs.Line.Entered.{filled_last}
+use Rattle.sled_core.proofs.Line.Entered.{filled_last, last_used_to}
 use Rattle.sled_core.proofs.OwnLog.Calls.{own_next}
 use Rattle.sled_core.proofs.Line.Accounts.{account_handed}
 use Rattle.sled_core.proofs.Start.HandedNumbers.{numbers_handed, slots_handed}
@@ -443,8 +446,23 @@ module _ {D C : Type 0} (trace : D → Trace) (sum : List ℕ → ℕ) (old new 
         ))
       ]
 
-  pub begins_marked : BeginsMarked sum old new
-  begins_marked = begun_marked sum old its_size (machine_at old) new begins_current begins_heads
+  -- What fills the segment in front of it, which has more than its header, is the only other thing that fills one.
+  pub begins_fillings : 20 < length (current_of old).parts.bytes → (f : FillingAt) → Contains (fillings_of new) f → FillsOnly sum old new f
+  begins_fillings used f there =
+      let v : SegmentView = current_of old in
+      let b : SegmentView = begun_view sum its_size (machine_at old) (stable_end old) v in
+      let begin : current_begin new ≡ v.parts.site.place + its_size = ap (λ (w : SegmentView). w.parts.site.place + begin_of w) begins_current ∙ (let same : b.parts.site.place + 0 ≡ b.parts.site.place = omega arith in same) in
+      let low = closes.some in
+      let end : reserved_end old ≡ v.parts.site.place + length v.parts.bytes = last_used_to its_size old.reserved_to first behind old.line.filled used in
+      let left : List SegmentView = closed sum its_size (line_of old) in
+      let is : fillings_of new ≡ fillings_along left = ap fillings_along line ∙ fillings_begun left b refl in
+      elim (in_cases (filling_at its_size v) f (fillings_of old) (fillings_closed sum its_size first behind f (subst (λ (l : List FillingAt). Contains l f) is there))) [
+        | inl own ↦ inr (omega (arith, begin, low), sym own ∙ (λ i. record { next = sym begin i; from = sym end i }))
+        | inr had ↦ inl had
+      ]
+
+  pub begins_marked : 20 < length (current_of old).parts.bytes → BeginsMarked sum old new
+  begins_marked used = begun_marked sum old its_size (machine_at old) new begins_current begins_heads (begins_fillings used)
 
   lies : (current_of old).parts.site.place ≡ first.parts.site.place + length behind * its_size
   lies = let at = facts.at in omega (arith, at, ap (λ n. n * its_size) (length-map old.segments.behind.items segment_view))

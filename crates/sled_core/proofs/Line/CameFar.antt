@@ -95,7 +95,7 @@ module _ {T D C : Type 0} (log : Log D C) (lsn : ℤ) (e : Error) (never : IsHel
   seals_none = record { still = λ _. refl; apart = λ _. refl; once = inl refl; held = λ held. absurd (never held); none = λ _. tt }
 
   pub around_none : (sum : List ℕ → ℕ) → WritesAround {T = T} sum (Err e) lsn log log
-  around_none sum = record { still = λ _. (refl, refl); written = λ _. tt; held = λ held. absurd (never held); some = inl (refl, refl); marked = none_begun sum log log refl (λ h there. there) }
+  around_none sum = record { still = λ _. (refl, refl); written = λ _. tt; held = λ held. absurd (never held); some = inl (refl, refl); marked = none_begun sum log log refl (λ h there. there) (λ f there. there) }
 
 pub still_around : {D C : Type 0} (trace : D → Trace) (sum : List ℕ → ℕ) (lsn : ℤ) (log : Log D C) → CameAround trace sum lsn log log
 still_around trace sum lsn log = inl ((refl, refl), refl, λ _. refl)

@@ -9,6 +9,9 @@ use Rattle.std.proofs.lemmas.Int.{to_z-of_z}
 use Rattle.std.proofs.lemmas.Nat.{div-mul-add}
 use Rattle.sled_codec.specs.History.{History, Message}
 use Rattle.sled_store.specs.Device.{State}
+use Rattle.sled_core.proofs.Line.FillingsAlong.{fillings_ended, set_fillings}
+use Rattle.sled_core.specs.Buffers.{padding_state}
+use Rattle.sled_core.specs.Fillings.{fillings_along}
 use Rattle.sled_core.proofs.Line.Heads.{heads_ended, set_heads}
 use Rattle.sled_core.proofs.Line.Among.{among_same}
 use Rattle.sled_core.specs.Heads.{heads_along, heads_in}
@@ -81,6 +84,10 @@ module _ (size : ℕ) (line : List SegmentView) (base n : ℕ) (v : SegmentView)
   -- No header is another that isn't on the device.
   pub ended_heads : AreAmong (heads_along (set line n e)) (heads_along line)
   ended_heads = set_heads line n v e there (among_same (heads_in e) (heads_in v) (heads_ended v (facts n v there) i r at text short state))
+
+  -- Nothing else fills a segment.
+  pub ended_fillings : padding_state state ≡ false → AreAmong (fillings_along (set line n e)) (fillings_along line)
+  ended_fillings plain = set_fillings line n v e there (fillings_ended v i r text state at is_open plain)
 
   -- What counts as given up was given up before,
   pub ended_keeps_given : canceled_state state ≡ false → AreAmong (given_up_along (set line n e)) (given_up_along line)

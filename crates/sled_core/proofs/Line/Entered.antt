@@ -1,6 +1,6 @@
 -- Which reservations begin below a place: once the current buffer is sealed, and once a further segment is begun.
 use Rattle.std.proofs.Common.{◌≡◌, ◌<◌, ◌≤◌, ◌+◌, arith, refl, ℕ, Option, None, Some, List, [], ◌∷◌, ◌++◌, length, drop}
-use Rattle.sled_core.specs.inside.Begun.{AreEntered, AreFilled, IsUnfilled, IsUsed}
+use Rattle.sled_core.specs.inside.Begun.{AreEntered, AreFilled, IsUnfilled, IsUsed, IsUsedToEnd}
 use Rattle.sled_core.specs.Begun.{SegmentView, begin_of, records_to}
 use Rattle.sled_core.specs.inside.Buffers.{records_end}
 use Rattle.sled_core.specs.SealedBuffers.{seal_at, sealed_count}
@@ -26,10 +26,17 @@ unfilled_to (Some from) n unfilled = absurd unfilled
 pub used_up : (to to' : ℕ) (v : SegmentView) → to ≤ to' → IsUsed to v.parts.site.place (length v.parts.bytes) → IsUsed to' v.parts.site.place (length v.parts.bytes)
 used_up to to' v up used = λ some. let above = used some in omega (arith, above, up)
 
--- It has something reserved, where it has more than its header,
+-- What was reserved ends where it does, where it has more than its header,
+pub last_used_to : (size to : ℕ) (v : SegmentView) (vs : List SegmentView) → AreFilled size to (v ∷ vs) → IsUsedToEnd to (last_of v vs).parts.site.place (length (last_of v vs).parts.bytes)
+last_used_to size to v [] filled = filled.5
+last_used_to size to v (w ∷ ws) filled = last_used_to size to w ws filled.2
+
+-- so it has something reserved,
+pub used_end : (to place len : ℕ) → IsUsedToEnd to place len → IsUsed to place len
+used_end to place len used = λ some. let end = used some in omega (arith, end, some)
+
 pub last_used : (size to : ℕ) (v : SegmentView) (vs : List SegmentView) → AreFilled size to (v ∷ vs) → IsUsed to (last_of v vs).parts.site.place (length (last_of v vs).parts.bytes)
-last_used size to v [] filled = filled.5
-last_used size to v (w ∷ ws) filled = last_used size to w ws filled.2
+last_used size to v vs filled = used_end to (last_of v vs).parts.site.place (length (last_of v vs).parts.bytes) (last_used_to size to v vs filled)
 
 -- and nothing fills it.
 pub last_unfilled : (size to : ℕ) (v : SegmentView) (vs : List SegmentView) → AreFilled size to (v ∷ vs)

@@ -1,6 +1,8 @@
 -- A reservation is made in the segment that is being filled: where it is put, and what the log holds and fits then.
 use Rattle.std.proofs.Common.{◌≡◌, ◌∙◌, ◌<◌, ◌≤◌, ◌+◌, ◌-◌, ◌/◌, ◌^◌, nat_lt, ap, sym, refl, arith, subst, ℕ, Bool, true, false, if◌then◌else◌, List, [], ◌∷◌, ◌++◌, length, length-append, map, drop, Some, is_some}
 use Rattle.std.proofs.lemmas.Bool.Decides.{nat_tests}
+use Rattle.sled_core.proofs.Line.FillingsAlong.{fillings_reserved}
+use Rattle.sled_core.specs.Fillings.{fillings_along}
 use Rattle.sled_core.proofs.Line.Heads.{heads_reserved}
 use Rattle.sled_core.specs.Heads.{heads_along}
 use Rattle.sled_core.specs.Logged.{logged, in_log}
@@ -22,7 +24,7 @@ use Rattle.sled_core.specs.declared.iobuf.Reserved.{Reserved}
 use Rattle.sled_core.specs.declared.logger.Log.{Log}
 use Rattle.sled_core.specs.declared.reservation.Reservation.{Reservation}
 use Rattle.sled_core.specs.inside.Fits.{written_to}
-use Rattle.sled_core.specs.Fits.{Awaits, AwaitsIn, FitsInline, open_places, KeepsAll, current_of, device_of, fault_of, given_up_of, line_of, noted_in, machine_at, pins_of, position_of, segment_size_of, synced_end, heads_of}
+use Rattle.sled_core.specs.Fits.{Awaits, AwaitsIn, FitsInline, open_places, KeepsAll, current_of, device_of, fault_of, given_up_of, line_of, noted_in, machine_at, pins_of, position_of, segment_size_of, synced_end, fillings_of, heads_of}
 use Rattle.sled_core.specs.invariants.Fits.{Holds}
 use Rattle.sled_core.specs.inside.Begun.{line_end}
 use Rattle.sled_core.specs.Among.{AreAmong}
@@ -196,6 +198,10 @@ module _ {D C : Type 0} (trace : D → Trace) (sum : List ℕ → ℕ) (old new 
   -- no header is another that isn't on the device,
   pub reserves_heads : AreAmong (heads_of new) (heads_of old)
   reserves_heads = among_same (heads_of new) (heads_of old) (ap heads_along line ∙ heads_reserved more r its_size old.segments.first.site.place v vs (line_segments old))
+
+  -- nothing else fills a segment,
+  pub reserves_fillings : AreAmong (fillings_of new) (fillings_of old)
+  reserves_fillings = among_same (fillings_of new) (fillings_of old) (ap fillings_along line ∙ fillings_reserved more r v vs fits.open_yet)
 
   -- and the log holds and fits what it did.
   pub reserves_keeps : Preserves trace sum old new

@@ -21,7 +21,7 @@ use Rattle.sled_core.specs.Logged.{logged}
 use Rattle.sled_core.specs.OpenBatches.{batch_of}
 use Rattle.sled_core.proofs.Flush.FlushLemmas.{all_kept}
 use Rattle.sled_core.proofs.Holds.BufferEnds.{written_behind}
-use Rattle.sled_core.proofs.Line.Entered.{IsEntered}
+use Rattle.sled_core.proofs.Line.Entered.{used_end, IsEntered}
 use Rattle.sled_core.proofs.Reached.OpenBatch.{whole_not}
 use Rattle.sled_core.proofs.Reached.StableBelow.{stable_all}
 use Rattle.sled_core.proofs.Reserve.BeginBelow.{ArePadding, entered_padding, padding_nothing}
@@ -29,7 +29,7 @@ use Rattle.sled_core.proofs.Sealed.Zeros.{rest_zeros}
 
 -- The first segment's reservations begin below the place, and it has more than its header only where one does.
 filled_first : (size to : ℕ) (v : SegmentView) (vs : List SegmentView) → AreFilled size to (v ∷ vs) → IsEntered to v × IsUsed to v.parts.site.place (length v.parts.bytes)
-filled_first size to v [] filled = (filled.2, filled.5)
+filled_first size to v [] filled = (filled.2, used_end to v.parts.site.place (length v.parts.bytes) filled.5)
 filled_first size to v (w ∷ ws) filled = (filled.1, filled.5)
 
 -- and so it is with those behind it

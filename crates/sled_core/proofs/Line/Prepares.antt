@@ -3,6 +3,7 @@ use Rattle.std.proofs.Common.{◌∷◌, [], ◌≡◌, ◌∙◌, ◌<◌, ◌�
 use Rattle.std.proofs.lemmas.Bool.{cases_lt}
 use Rattle.std.proofs.lemmas.Bool.Decides.{nat_tests}
 use Rattle.sled_codec.proofs.Segments.{length-short_header}
+use Rattle.sled_core.specs.Fillings.{fillings_along}
 use Rattle.sled_core.specs.Heads.{heads_along}
 use Rattle.sled_core.specs.Manifests.{is_manifest, kind_for}
 use Rattle.sled_core.specs.Tickets.{is_manifest_of}
@@ -21,7 +22,7 @@ use Rattle.sled_core.specs.declared.iobuf.Reserved.{Reserved}
 use Rattle.sled_core.specs.declared.iobuf.record.Head.{Head}
 use Rattle.sled_core.specs.declared.logger.Log.{Log}
 use Rattle.sled_core.specs.declared.reservation.Reservation.{Reservation}
-use Rattle.sled_core.specs.Fits.{Awaits, AwaitsIn, FitsInline, open_places, IsUnchanged, IsUsedUpFor, KeepsAll, NoFurther, current_of, given_up_of, is_moved, line_of, machine_at, open_for, open_of, position_behind, position_of, reserved_end, segment_size_of, stable_end, size_for, start_behind, start_of, target_of, waiting_behind, waiting_of, heads_of}
+use Rattle.sled_core.specs.Fits.{Awaits, AwaitsIn, FitsInline, open_places, IsUnchanged, IsUsedUpFor, KeepsAll, NoFurther, current_of, given_up_of, is_moved, line_of, machine_at, open_for, open_of, position_behind, position_of, reserved_end, segment_size_of, stable_end, size_for, start_behind, start_of, target_of, waiting_behind, waiting_of, fillings_of, heads_of}
 use Rattle.sled_core.specs.Among.{AreAmong}
 use Rattle.sled_core.specs.Keeps.{KeepsSeen, Preserves}
 use Rattle.sled_core.specs.Logged.{in_log}
@@ -35,7 +36,7 @@ use Rattle.sled_core.proofs.Line.Among.{among_further, among_same}
 use Rattle.sled_core.proofs.Line.KeptCalls.{kept_further}
 use Rattle.sled_core.proofs.Line.Begins.{begins_current, begins_keeps, begins_same, begins_tickets, begins_marked}
 use Rattle.sled_core.proofs.Line.HeaderMarks.{marked_further, none_begun}
-use Rattle.sled_core.proofs.Line.LogReserves.{placeholder_fits, record_long, reserves_current, reserves_given, reserves_keeps, reserves_opens, reserves_others, reserves_position, reserves_same, target_here, target_next, reserves_heads}
+use Rattle.sled_core.proofs.Line.LogReserves.{placeholder_fits, record_long, reserves_current, reserves_given, reserves_keeps, reserves_opens, reserves_others, reserves_position, reserves_same, target_here, target_next, reserves_fillings, reserves_heads}
 use Rattle.sled_core.proofs.Line.LogSpans.{next_buffers, reserved_buffers, same_buffers}
 use Rattle.sled_core.proofs.Line.Reserves.{HasPlaceFor, ticket_reserved}
 use Rattle.sled_core.proofs.Line.Targets.{record_short}
@@ -117,7 +118,7 @@ module _ {D C : Type 0} (trace : D → Trace) (sum : List ℕ → ℕ) (old mid 
         room = room;
         batch = batch;
         seals = (buffers.0 ∙ sym (ap (λ (o : Bool). if o then closed else waiting_of old) stays), buffers.1 ∙ sym (ap (λ (o : Bool). if o then next else start_of old) stays));
-        marked = none_begun sum old mid (ap (λ (v : SegmentView). v.parts.site.place) current) (among_same (heads_of mid) (heads_of old) (ap heads_along line));
+        marked = none_begun sum old mid (ap (λ (v : SegmentView). v.parts.site.place) current) (among_same (heads_of mid) (heads_of old) (ap heads_along line)) (among_same (fillings_of mid) (fillings_of old) (ap fillings_along line));
       }
 
 -- It has none, by the header that it would have there.
@@ -180,7 +181,7 @@ module _ {D C : Type 0} (trace : D → Trace) (sum : List ℕ → ℕ) (old : Lo
         room = record { bytes = omega (arith, space, least, all, short, inline); reserved = room.reserved; few = room.few };
         batch = batch;
         seals = (buffers.0 ∙ sym (ap (λ (o : Bool). if o then closed else waiting_of old) moves), buffers.1 ∙ sym (ap (λ (o : Bool). if o then next else start_of old) moves));
-        marked = begins_marked trace sum old mid line machine rest;
+        marked = begins_marked trace sum old mid line machine rest next_used;
       }
 
 -- A record with this body was laid out in a log that was made ready for it, and this is its ticket.
@@ -289,7 +290,7 @@ module _ {D C : Type 0} {trace : D → Trace} {sum : List ℕ → ℕ} {old mid 
   made_marked =
       let current = reserves_current trace sum mid new more r line laid.rest laid.accountant fits in
       marked_further sum old mid new more ready.marked (ap (λ (v : SegmentView). v.parts.site.place) current) (ap (λ (v : SegmentView). v.parts.bytes) current)
-      (ap (λ (s : BufferStart). s.place) (reserved_buffers mid new more r line).1) (reserves_heads trace sum mid new more r line laid.rest laid.accountant fits)
+      (ap (λ (s : BufferStart). s.place) (reserved_buffers mid new more r line).1) (reserves_heads trace sum mid new more r line laid.rest laid.accountant fits) (reserves_fillings trace sum mid new more r line laid.rest laid.accountant fits)
 
   -- It stands behind all that the log had.
   pub made_behind : StandsBehind sum old new kept.page len

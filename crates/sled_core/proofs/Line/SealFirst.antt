@@ -137,7 +137,7 @@ writes_already sum to log x past =
       seals = record { held = λ held. absurd held; none = λ unsealed. unsealed; err = λ unsealed. tt };
       above = leaves_above sum to log log (omega (arith, past, up)) refl (left_all to (waiting_of log)) (line_past size log.segments.first.site.place to first behind (line_segments log) past);
       some = tt;
-      marked = none_begun sum log log refl (λ h there. there);
+      marked = none_begun sum log log refl (λ h there. there) (λ f there. there);
     }
 
 -- the current buffer isn't sealed for that
@@ -165,7 +165,7 @@ writes_none sum to log e never = record {
   seals = record { held = λ held. absurd (never held); none = λ unsealed. tt; err = λ unsealed. refl };
   above = tt;
   some = inl (refl, refl);
-  marked = none_begun sum log log refl (λ h there. there);
+  marked = none_begun sum log log refl (λ h there. there) (λ f there. there);
 }
 
 pub still_came : {D C : Type 0} (trace : D → Trace) (sum : List ℕ → ℕ) (to : ℕ) (log : Log D C) (e : IoError) → fault_of log ≡ Some e → CameTo trace sum to log log
@@ -207,7 +207,7 @@ module _ {D C : Type 0} (trace : D → Trace) (sum : List ℕ → ℕ) (to : ℕ
     writing = refl;
     holding = refl;
     unused = λ used. let below = used.0 in omega (arith, past, below);
-    marked = none_begun sum log log refl (λ h there. there);
+    marked = none_begun sum log log refl (λ h there. there) (λ f there. there);
     writes = λ new result current none one above some marked. writes_still sum to log new result past current none one above some marked;
     fronts = λ new front. front;
   }

@@ -9,6 +9,8 @@ use Rattle.sled_store.specs.Device.{State, Trace, state_of}
 use Rattle.sled_store.specs.SegmentStates.{Machine}
 use Rattle.sled_store.specs.Accounts.{machine_of}
 use Rattle.sled_store.specs.declared.config.RunningConfig.{RunningConfig}
+use Rattle.sled_core.proofs.Line.FillingsAlong.{fillings_sealed}
+use Rattle.sled_core.specs.Fillings.{fillings_along}
 use Rattle.sled_core.proofs.Line.Heads.{heads_sealed}
 use Rattle.sled_core.specs.Heads.{heads_along}
 use Rattle.sled_core.specs.Among.{AreAmong}
@@ -17,7 +19,7 @@ use Rattle.sled_core.specs.declared.logger.Log.{Log}
 use Rattle.sled_core.specs.declared.reservation.Reservation.{Reservation}
 use Rattle.sled_core.specs.inside.Numbers.{HasNumbers}
 use Rattle.sled_core.specs.inside.Fits.{written_to, HoldsIn, HoldsLine, log_parts, parts_in}
-use Rattle.sled_core.specs.Fits.{AwaitsIn, KeepsAll, KeepsTickets, buffers_of, current_begin, current_of, device_of, fault_of, given_up_of, line_of, noted_in, machine_at, pins_of, segment_size_of, synced_end, waiting_of, heads_of}
+use Rattle.sled_core.specs.Fits.{AwaitsIn, KeepsAll, KeepsTickets, buffers_of, current_begin, current_of, device_of, fault_of, given_up_of, line_of, noted_in, machine_at, pins_of, segment_size_of, synced_end, waiting_of, fillings_of, heads_of}
 use Rattle.sled_core.specs.invariants.Fits.{Holds}
 use Rattle.sled_core.specs.inside.Begun.{line_end}
 use Rattle.sled_core.specs.inside.FreeSlots.{HasSlot, HasSlots, HaveOwn}
@@ -156,6 +158,10 @@ module _ {D C : Type 0} (trace : D → Trace) (sum : List ℕ → ℕ) (old new 
   -- no header is another that isn't on the device,
   pub sealed_heads : AreAmong (heads_of new) (heads_of old)
   sealed_heads = among_same (heads_of new) (heads_of old) (ap heads_along line ∙ heads_sealed v vs)
+
+  -- nothing else fills a segment,
+  pub sealed_fillings : AreAmong (fillings_of new) (fillings_of old)
+  sealed_fillings = among_same (fillings_of new) (fillings_of old) (ap fillings_along line ∙ fillings_sealed v vs)
 
   -- and the log holds and fits what it did.
   pub sealed_keeps : Preserves trace sum old new

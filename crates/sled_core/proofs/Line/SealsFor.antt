@@ -59,7 +59,7 @@ seals_still trace sum place log lower = record {
   apart = λ _. refl;
   once = inl refl;
   sealed = still (let no : nat_le (current_begin log) place ≡ false = grind (arith, nat_tests, lower) in no);
-  marked = none_begun sum log log refl (λ h there. there);
+  marked = none_begun sum log log refl (λ h there. there) (λ f there. there);
   none = λ none b has. absurd (in_nothing b (subst (λ (l : List BufferAt). Contains l b) none has));
 } where
   still : nat_le (current_begin log) place ≡ false → LeavesSealed sum place log log

@@ -205,7 +205,7 @@ filled_set size to (x ∷ []) zero v e there site begins long entered filling re
       subst (λ p. AreEntered to p e.parts.reserved) (sym place) (entered f.2),
       subst IsUnfilled (sym filling) f.3,
       omega (arith, long, far, records, ap (records_end e.parts.reserved) long),
-      λ some. let up = f.5 (omega (arith, some, long)) in omega (arith, up, place),
+      λ some. let end = f.5 (omega (arith, some, long)) in omega (arith, end, place, long),
     )
 filled_set size to (x ∷ []) (suc n) v e there site begins long entered filling records facts filled = cc
 filled_set size to (x ∷ w ∷ ws) zero v e there site begins long entered filling records facts filled =

@@ -8,13 +8,14 @@ use Rattle.sled_store.specs.Accounts.{machine_of}
 use Rattle.sled_store.specs.Device.{Trace, state_of}
 use Rattle.sled_core.specs.Among.{AreAmong}
 use Rattle.sled_core.specs.Begun.{SegmentView}
-use Rattle.sled_core.specs.Buffers.{open_state}
+use Rattle.sled_core.specs.Buffers.{open_state, padding_state}
 use Rattle.sled_core.specs.declared.iobuf.ReservationState.{ReservationState}
 use Rattle.sled_core.specs.declared.iobuf.Reserved.{Reserved}
 use Rattle.sled_core.specs.declared.logger.Log.{Log}
 use Rattle.sled_core.specs.declared.reservation.Reservation.{Reservation}
 use Rattle.sled_core.specs.Endings.{EndsTicket}
-use Rattle.sled_core.specs.Fits.{Awaits, AwaitsIn, KeepsAll, given_up_of, heads_of, line_of, noted_in, open_places, synced_end}
+use Rattle.sled_core.specs.Fillings.{fillings_along}
+use Rattle.sled_core.specs.Fits.{Awaits, AwaitsIn, KeepsAll, fillings_of, given_up_of, heads_of, line_of, noted_in, open_places, synced_end}
 use Rattle.sled_core.specs.GivenUp.{canceled_state, given_up_along}
 use Rattle.sled_core.specs.Heads.{heads_along}
 use Rattle.sled_core.specs.invariants.Fits.{Holds}
@@ -30,7 +31,7 @@ use Rattle.sled_core.specs.Tickets.{IsFor, index_of, is_manifest_of, place_of}
 use Rattle.sled_core.specs.inside.Turned.{ChangesLine, HasOpenIn, ended_now}
 use Rattle.sled_core.proofs.Holds.Facts.{nth_facts}
 use Rattle.sled_core.proofs.Line.EndedKeeps.{fits_ended, goes_on_ended, holds_ended, keeps_ended, left_ended, position_ended}
-use Rattle.sled_core.proofs.Line.EndedTickets.{ended_heads, ended_keeps_given, ended_takes, others_await, says_place, ticket_among, ticket_there}
+use Rattle.sled_core.proofs.Line.EndedTickets.{ended_fillings, ended_heads, ended_keeps_given, ended_takes, others_await, says_place, ticket_among, ticket_there}
 use Rattle.sled_core.proofs.Line.LogSpans.{ended_buffers}
 
 -- The reservation of a ticket, by numbers.
@@ -120,6 +121,13 @@ module _ {D C : Type 0} {old new : Log D C} {ticket : Reservation} {n index : �
       (ended_heads old.config.config.segment_size (line_of old) old.segments.first.site.place n v e.at.among (nth_facts old) i r e.at.there
       e.at.own.open_yet e.text e.short state)
 
+  -- nor does anything else fill a segment,
+  pub ticket_fillings : padding_state state ≡ false → AreAmong (fillings_of new) (fillings_of old)
+  ticket_fillings plain =
+      subst (λ (l : List SegmentView). AreAmong (fillings_along l) (fillings_of old)) (sym e.line)
+      (ended_fillings old.config.config.segment_size (line_of old) old.segments.first.site.place n v e.at.among (nth_facts old) i r e.at.there
+      e.at.own.open_yet e.text e.short state plain)
+
   -- and other tickets are for what they were for.
   pub ticket_others : (trace : D → Trace) (sum : List ℕ → ℕ) → KeepsOthers trace sum ticket old new
   unfolding Holds
@@ -158,11 +166,12 @@ module _ {D C : Type 0} {old new : Log D C} {ticket : Reservation} {n index : �
       ticket_fits = fits_ended old new n v e.at.among i r e.at.there e.at.own.open_yet e.text e.short state e.line rest trace sum
 
       -- A call that answers so has ended the ticket.
-      pub ticket_ends : {T : Type 0} (answer : T) → open_state state ≡ false → EndsTicket trace sum (Ok answer) ticket old new
-      ticket_ends answer closed = record {
+      pub ticket_ends : {T : Type 0} (answer : T) → open_state state ≡ false → padding_state state ≡ false → EndsTicket trace sum (Ok answer) ticket old new
+      ticket_ends answer closed plain = record {
         others = ticket_others trace sum;
         opens = ticket_opens closed;
         position = position_ended old new n v e.at.among i r e.at.there e.at.own.open_yet e.text e.short state e.line rest;
         buffers = ended_buffers old new n v i r e.text state e.at.among e.line;
         heads = ticket_heads;
+        fillings = ticket_fillings plain;
       }

@@ -1,8 +1,9 @@
--- Each buffer of a log that nothing holds up is whole records, each with its sum, of which those that every reader passes over are of messages that were given up; and so is the current one as it would be sealed.
+-- Each buffer of a log that nothing holds up is whole records, each with its sum, of which those that every reader passes over are of messages that were given up, and what fills its segment from where the log has it; and so is the current one as it would be sealed.
 use Rattle.std.proofs.Common.{◌≡◌, ◌∙◌, ◌⊎◌, ◌+◌, ◌-◌, ◌/◌, ◌%◌, ◌≤◌, ◌<◌, ap, sym, refl, arith, subst, inl, inr, ℕ, ℤ, pos, suc, max, Bool, true, false, if◌then◌else◌, List, [], ◌∷◌, ◌++◌, length, length-append, length-take, length-drop, map, take, drop, Option, None, Some, is_some}
 use Rattle.std.specs.Prelude.{◌<ℤ◌}
 use Rattle.std.specs.List.{All, Contains, slice_get}
 use Rattle.std.proofs.lemmas.Bool.{cases_lt}
+use Rattle.std.proofs.lemmas.Bool.Decides.{nat_tests}
 use Rattle.std.proofs.lemmas.List.{append_assoc, append-nil, drop-drop, drop-take, take-append-drop, take-append-le, take-take}
 use Rattle.std.proofs.lemmas.List.Elements.{Contains-append_left, Contains-append_right, All-append, All-drop, All-head, All-cons, All-nil, All-tail, All-take}
 use Rattle.sled_codec.specs.declared.serialization.message.MessageKind.{MessageKind}
@@ -12,6 +13,7 @@ use Rattle.sled_codec.specs.Places.{part}
 use Rattle.sled_codec.specs.Record.{short_header, short_record}
 use Rattle.sled_store.specs.Device.{State, Trace, state_of}
 use Rattle.sled_core.proofs.Line.Heads.{head_there}
+use Rattle.sled_core.specs.Fillings.{FillingAt, filling_of, fillings_along, fillings_in}
 use Rattle.sled_core.specs.Heads.{HeadAt}
 use Rattle.sled_core.specs.Begun.{SegmentView, segment_view}
 use Rattle.sled_core.specs.inside.Buffers.{IsChain, SpellsBlob, Stands, StandsBy, text_as, text_in}
@@ -26,7 +28,7 @@ use Rattle.sled_core.specs.declared.iobuf.SegmentPosition.{SegmentPosition}
 use Rattle.sled_core.specs.declared.logger.Log.{Log}
 use Rattle.sled_core.specs.invariants.Fits.{Holds}
 use Rattle.sled_core.specs.inside.Fits.{HoldsLine}
-use Rattle.sled_core.specs.Fits.{buffers_of, fault_of, given_up_of, line_of, heads_of}
+use Rattle.sled_core.specs.Fits.{buffers_of, current_of, fault_of, fillings_of, given_up_of, heads_of, line_of, reserved_end, sealing_end}
 use Rattle.sled_core.specs.Among.{AreAmong}
 use Rattle.sled_core.specs.GivenUp.{given_up_along, given_up_in}
 use Rattle.sled_core.specs.Logged.{logged}
@@ -41,6 +43,8 @@ use Rattle.sled_core.proofs.Line.EntryPlaces.{segment_chain}
 use Rattle.sled_core.proofs.Line.Ends.{with_part}
 use Rattle.sled_core.proofs.Holds.Facts.{IsSegment}
 use Rattle.sled_core.proofs.Line.Among.{among_same}
+use Rattle.sled_core.proofs.Line.Entered.{last_used_to}
+use Rattle.sled_core.proofs.Line.FillingsAlong.{as_sealed_fillings, filling_at, fillings_behind, fillings_first, fillings_front, fillings_rest, its_fillings}
 use Rattle.sled_core.proofs.Line.GivenUp.{as_sealed_given, given_behind, given_first, given_front, given_in, given_rest}
 use Rattle.sled_core.proofs.Line.OpenSeen.{AreLaid, begun_rest, line_laid}
 use Rattle.sled_core.proofs.Line.Segments.{AreSegments, line_segments, nth_segment}
@@ -49,6 +53,11 @@ use Rattle.sled_core.proofs.Read.ScanLemmas.{aligned_number, aligned_offset}
 use Rattle.sled_core.proofs.Holds.Filled.{filled_stand}
 use Rattle.sled_core.proofs.Reserve.Ranges.{chain_grows}
 use Rattle.sled_core.proofs.Reserve.ReserveLemmas.{kind_valid}
+
+-- What fills a segment goes by the same places.
+filled_at : (sum : List ℕ → ℕ) (size : ℕ) (fillings : List FillingAt) (number : ℕ) (rest : List ℕ) {place at from to : ℕ} → place ≡ at → from ≡ to → IsFilling sum size fillings number place from rest → IsFilling sum size fillings number at to rest
+filled_at sum size fillings number rest {place = place} {to = to} same here filled =
+    subst (λ n. IsFilling sum size fillings number n to rest) same (subst (λ n. IsFilling sum size fillings number place n rest) here filled)
 
 -- The bytes of a text up to an offset, from another one on, are a part of it and those behind that.
 between_parted : (bytes : List ℕ) (at n end : ℕ) → at + n ≤ end → bytes_between bytes at end ≡ part bytes at n ++ bytes_between bytes (at + n) end
@@ -71,8 +80,8 @@ own_body : (blob : Option ℤ) (lid : ℕ) (body : List ℕ) → SpellsBlob blob
 own_body None lid body spells = refl
 own_body (Some place) lid body spells = spells
 
--- Records of a segment that lies there, where these messages were given up.
-module _ (sum : List ℕ → ℕ) (size number : ℕ) (site : SegmentPosition) (bytes : List ℕ) (messages : List Message) where
+-- Records of a segment that lies there, where these messages were given up, and this fills segments.
+module _ (sum : List ℕ → ℕ) (size number : ℕ) (site : SegmentPosition) (bytes : List ℕ) (messages : List Message) (fillings : List FillingAt) where
   abbrev Stand : Reserved → Type 0
   Stand = Stands sum size number bytes
 
@@ -82,7 +91,7 @@ module _ (sum : List ℕ → ℕ) (size number : ℕ) (site : SegmentPosition) (
     rest : List ℕ
     is : bytes_between bytes at end ≡ records_text sum number records ++ rest
     each : AreRecordsAmong sum number messages (site.place + at) records
-    filled : IsFilling sum size number (at + length (records_text sum number records)) rest
+    filled : IsFilling sum size fillings number (site.place + at + length (records_text sum number records)) (at + length (records_text sum number records)) rest
 
   -- A record of a reservation with this kind.
   abbrev record_as : Reserved → MessageKind → RecordParts
@@ -104,22 +113,23 @@ module _ (sum : List ℕ → ℕ) (size number : ℕ) (site : SegmentPosition) (
             ∙ (λ i. is i ++ more.is i)
             ∙ sym (append_assoc (short_record sum k r.page number (body_in bytes r)) text more.rest);
         each = (its, subst (λ n. AreRecordsAmong sum number messages n more.records) (let behind : site.place + (r.from + r.len) ≡ site.place + r.from + length (short_record sum k r.page number (body_in bytes r)) = omega (arith, long) in behind) more.each);
-        filled = subst (λ n. IsFilling sum size number n more.rest)
+        filled = filled_at sum size fillings number more.rest (let up : site.place + (r.from + r.len) + length text ≡ site.place + r.from + length (records_text sum number (one ∷ more.records)) = omega (arith, long, joined) in up)
             (let up : r.from + r.len + length text ≡ r.from + length (records_text sum number (one ∷ more.records)) = omega (arith, long, joined) in up) more.filled;
       }
 
   -- What fills a segment stands alone.
-  filling : (r : Reserved) (end : ℕ) → r.from + r.len ≡ size → text_in bytes r ≡ segment_rest sum size number r.from → r.from + r.len ≤ end → end ≤ size → end ≤ length bytes → HasRecords r.from end
-  filling r end to_end is within short inside =
+  filling : (r : Reserved) (end : ℕ) → r.from + r.len ≡ size → text_in bytes r ≡ segment_rest sum size number r.from → r.from + r.len ≤ end → end ≤ size → end ≤ length bytes → Contains fillings (filling_of site r) → HasRecords r.from end
+  filling r end to_end is within short inside there =
       let long : length (text_in bytes r) ≡ r.len = omega (arith, length-take r.len (drop r.from bytes), length-drop r.from bytes, within, inside) in
-      let here : r.from ≡ r.from + 0 = omega arith in
+      let place : site.place + r.from ≡ site.place + r.from + 0 = omega arith in
+      let next : site.place + (r.from + r.len) ≡ site.place + r.from + length (text_in bytes r) = omega (arith, long) in
       record {
         records = [];
         rest = text_in bytes r;
         is = between_parted bytes r.from r.len end within
             ∙ ap (λ (l : List ℕ). text_in bytes r ++ l) (between_none bytes (r.from + r.len) end (omega (arith, to_end, short)) inside) ∙ append-nil (text_in bytes r);
         each = tt;
-        filled = inr (omega (arith, long, to_end), is ∙ ap (segment_rest sum size number) here);
+        filled = filled_at sum size fillings number (text_in bytes r) place (let here : r.from ≡ r.from + 0 = omega arith in here) (inr (omega (arith, long, to_end), is, subst (λ n. Contains fillings (record { next = n; from = site.place + r.from })) next there));
       }
 
   -- One of a message or a manifest is no other.
@@ -130,22 +140,22 @@ module _ (sum : List ℕ → ℕ) (size number : ℕ) (site : SegmentPosition) (
 
   -- An entry that has ended.
   entry : (r : Reserved) (end : ℕ) → r.from + r.len ≤ end → end ≤ size → end ≤ length bytes → (s : ReservationState) → r.state ≡ s → open_state s ≡ false → StandsBy s sum size number bytes r
-      → (r.state ≡ state.Canceled → Contains messages (message_in site bytes r)) → HasRecords (r.from + r.len) end → HasRecords r.from end
-  entry r end within short inside state.Open is never stands given more = absurd (let bad : true ≡ false = never in cc)
-  entry r end within short inside state.Completed is ended stands given more =
+      → (r.state ≡ state.Canceled → Contains messages (message_in site bytes r)) → (r.state ≡ state.Padding → Contains fillings (filling_of site r)) → HasRecords (r.from + r.len) end → HasRecords r.from end
+  entry r end within short inside state.Open is never stands given fills more = absurd (let bad : true ≡ false = never in cc)
+  entry r end within short inside state.Completed is ended stands given fills more =
       one_more r end r.kind within inside (stands.text.is ∙ ap (text_as sum r.kind r.page number (body_in bytes r)) is) (of_message r (site.place + r.from) stands.text.known) more
-  entry r end within short inside state.Canceled is ended stands given more =
+  entry r end within short inside state.Canceled is ended stands given fills more =
       one_more r end kind.Canceled within inside (stands.text.is ∙ ap (text_as sum r.kind r.page number (body_in bytes r)) is)
       (λ bad. cc, λ bad. cc, λ same. (message_in site bytes r, given is, refl, refl, own_body r.blob (site.slot + r.from) (body_in bytes r) stands.text.names)) more
-  entry r end within short inside state.Manifest is ended stands given more =
+  entry r end within short inside state.Manifest is ended stands given fills more =
       one_more r end r.kind within inside (stands.text.is ∙ ap (text_as sum r.kind r.page number (body_in bytes r)) is) (of_message r (site.place + r.from) stands.text.known) more
-  entry r end within short inside state.Padding is ended stands given more = filling r end stands.to_end stands.is within short inside
+  entry r end within short inside state.Padding is ended stands given fills more = filling r end stands.to_end stands.is within short inside (fills is)
 
-  has_records : (at end : ℕ) (rs : List Reserved) → IsChain at rs end → All Stand rs → AreAmong (given_up_in site bytes rs) messages → none_open rs ≡ true → end ≤ size → end ≤ length bytes → HasRecords at end
-  has_records at end [] chain stand given ended short inside = record { records = []; rest = []; each = tt; is = between_none bytes at end (let same : at ≡ end = chain in omega (arith, same)) inside; filled = inl refl }
-  has_records at end (r ∷ rs) chain stand given ended short inside =
+  has_records : (at end : ℕ) (rs : List Reserved) → IsChain at rs end → All Stand rs → AreAmong (given_up_in site bytes rs) messages → AreAmong (fillings_in site rs) fillings → none_open rs ≡ true → end ≤ size → end ≤ length bytes → HasRecords at end
+  has_records at end [] chain stand given fills ended short inside = record { records = []; rest = []; each = tt; is = between_none bytes at end (let same : at ≡ end = chain in omega (arith, same)) inside; filled = inl refl }
+  has_records at end (r ∷ rs) chain stand given fills ended short inside =
       subst (λ n. HasRecords n end) chain.0
-      (by (λ rest. has_records (r.from + r.len) end rs behind (All-tail Stand r rs stand) (λ m there. given m (given_rest site bytes r rs m there)) rest short inside) (open_state r.state) refl ended)
+      (by (λ rest. has_records (r.from + r.len) end rs behind (All-tail Stand r rs stand) (λ m there. given m (given_rest site bytes r rs m there)) (λ f there. fills f (fillings_rest site r rs f there)) rest short inside) (open_state r.state) refl ended)
     where
       up : r.from + r.len ≤ end
       up = let grows = chain_grows (at + r.len) end rs chain.1 in let place : r.from ≡ at = chain.0 in omega (arith, grows, place)
@@ -155,7 +165,7 @@ module _ (sum : List ℕ → ℕ) (size number : ℕ) (site : SegmentPosition) (
 
       by : (none_open rs ≡ true → HasRecords (r.from + r.len) end) → (o : Bool) → open_state r.state ≡ o → (if o then false else none_open rs) ≡ true → HasRecords r.from end
       by more true is bad = absurd (let never : false ≡ true = bad in cc)
-      by more false is rest = entry r end up short inside r.state refl is (All-head Stand r rs stand) (λ canceled. given (message_in site bytes r) (given_first site bytes r rs canceled)) (more rest)
+      by more false is rest = entry r end up short inside r.state refl is (All-head Stand r rs stand) (λ canceled. given (message_in site bytes r) (given_first site bytes r rs canceled)) (λ padding. fills (filling_of site r) (fillings_first site r rs padding)) (more rest)
 
 -- where none holds a buffer up, none of its reservations is open
 none_ahead : (rs : List Reserved) (base : ℕ) → placed base (first_open_in rs) ≡ None → none_open rs ≡ true
@@ -165,11 +175,11 @@ none_ahead (r ∷ rs) base is = by (none_ahead rs base) (open_state r.state) is 
   by more true bad = absurd (let never : Some (base + r.from) ≡ None = bad in cc)
   by more false rest = more rest
 
--- The buffers of a segment, where these messages were given up, and these headers aren't on the device.
-module _ (sum : List ℕ → ℕ) (size : ℕ) (messages : List Message) (heads : List HeadAt) where
+-- The buffers of a segment, where these messages were given up, these headers aren't on the device, and this fills segments.
+module _ (sum : List ℕ → ℕ) (size : ℕ) (messages : List Message) (heads : List HeadAt) (fillings : List FillingAt) where
   -- it is whole, unless it is held up
   abbrev pub WholeUnlessHeld : BufferAt → Type 0
-  WholeUnlessHeld b = b.held ≡ None → IsWholeBuffer sum size messages heads b
+  WholeUnlessHeld b = b.held ≡ None → IsWholeBuffer sum size messages heads fillings b
 
   -- An offset of a segment lies behind its header; or it is where it begins, with the header, which is one of those, and whose mark lies below it.
   abbrev BeginsBuffer : SegmentPosition → List ℕ → ℕ → Type 0
@@ -180,10 +190,10 @@ module _ (sum : List ℕ → ℕ) (size : ℕ) (messages : List Message) (heads 
     number = site.place / size
 
     abbrev Text : ℕ → ℕ → Type 0
-    Text from end = IsWholeText sum size messages heads number (site.place + from) from (bytes_between bytes from end)
+    Text from end = IsWholeText sum size messages heads fillings number (site.place + from) from (bytes_between bytes from end)
 
     abbrev Records : ℕ → ℕ → Type 0
-    Records at end = HasRecords sum size number site bytes messages at end
+    Records at end = HasRecords sum size number site bytes messages fillings at end
 
     -- Behind the header records begin,
     text_behind : (from end : ℕ) → 20 ≤ from → Records (max 20 from) end → Text from end
@@ -197,7 +207,8 @@ module _ (sum : List ℕ → ℕ) (size : ℕ) (messages : List Message) (heads 
           is = here.is;
           headed = inr (behind, refl);
           each = subst (λ n. AreRecordsAmong sum number messages n here.records) (let none : site.place + from ≡ site.place + from + 0 = omega arith in none) here.each;
-          filled = subst (λ n. IsFilling sum size number (n + length (records_text sum number here.records)) here.rest) (let none : from ≡ from + 0 = omega arith in none) here.filled;
+          filled = filled_at sum size fillings number here.rest (ap (λ n. n + length (records_text sum number here.records)) (let none : site.place + from ≡ site.place + from + 0 = omega arith in none))
+              (ap (λ n. n + length (records_text sum number here.records)) (let none : from ≡ from + 0 = omega arith in none)) here.filled;
         }
 
     -- and where it begins the header stands in front of them.
@@ -216,15 +227,15 @@ module _ (sum : List ℕ → ℕ) (size : ℕ) (messages : List Message) (heads 
           headed = inl (none, subst (λ n. Contains heads (record { place = n; bytes = take 20 bytes })) place one, mark, subst (λ n. mark <ℤ pos n) place below, header ∙ ap (λ n. short_header sum (pos n) mark) place);
           each = subst (λ n. AreRecordsAmong sum number messages n here.records)
               (let behind : site.place + (from + 20) ≡ site.place + from + length (take 20 bytes) = omega (arith, length-take 20 bytes, begun) in behind) here.each;
-          filled = subst (λ n. IsFilling sum size number (from + n + length text) here.rest)
-              (let long : 20 ≡ length (take 20 bytes) = omega (arith, length-take 20 bytes, begun) in long) here.filled;
+          filled = filled_at sum size fillings number here.rest (let behind : site.place + (from + 20) + length text ≡ site.place + from + length (take 20 bytes) + length text = omega (arith, length-take 20 bytes, begun) in behind)
+              (let behind : from + 20 + length text ≡ from + length (take 20 bytes) + length text = omega (arith, length-take 20 bytes, begun) in behind) here.filled;
         }
 
     one_whole : (from end : ℕ) (own : List Reserved) → from < size → max 20 from ≤ end → BeginsBuffer site bytes from → Records (max 20 from) end
-        → IsWholeBuffer sum size messages heads (buffer_at site bytes from end own)
+        → IsWholeBuffer sum size messages heads fillings (buffer_at site bytes from end own)
     one_whole from end own low up begins has =
-        subst (λ n. IsWholeText sum size messages heads n (site.place + from) ((site.place + from) % size) (bytes_between bytes from end)) (sym (aligned_number site.place from size aligned low))
-        (subst (λ n. IsWholeText sum size messages heads number (site.place + from) n (bytes_between bytes from end)) (sym (aligned_offset site.place from size aligned low))
+        subst (λ n. IsWholeText sum size messages heads fillings n (site.place + from) ((site.place + from) % size) (bytes_between bytes from end)) (sym (aligned_number site.place from size aligned low))
+        (subst (λ n. IsWholeText sum size messages heads fillings number (site.place + from) n (bytes_between bytes from end)) (sym (aligned_offset site.place from size aligned low))
         (elim begins [
           | inl behind ↦ text_behind from end behind has
           | inr first ↦ text_headed from end first.2 first.0 first.1 first.3 first.4 (omega (arith, up)) has
@@ -232,10 +243,10 @@ module _ (sum : List ℕ → ℕ) (size : ℕ) (messages : List Message) (heads 
 
     -- All of them.
     all_whole : (from end : ℕ) (bs : List Sealed) (rs : List Reserved) → AreSealed from rs bs → IsChain (max 20 from) rs end → end ≤ size → end ≤ length bytes → All (Stands sum size number bytes) rs
-        → AreAmong (given_up_in site bytes rs) messages → BeginsBuffer site bytes from → All WholeUnlessHeld (unwritten_in site bytes from bs rs)
-    all_whole from end [] rs are chain short inside stand given begins = All-nil WholeUnlessHeld
-    all_whole from end (b ∷ bs) rs are chain short inside stand given begins =
-        by_test (all_whole b.end end bs later are.1 behind short inside (All-drop (Stands sum size number bytes) b.count rs stand) (λ m there. given m (given_behind site bytes b.count rs m there)) (inl (omega (arith, up)))) b.is_written
+        → AreAmong (given_up_in site bytes rs) messages → AreAmong (fillings_in site rs) fillings → BeginsBuffer site bytes from → All WholeUnlessHeld (unwritten_in site bytes from bs rs)
+    all_whole from end [] rs are chain short inside stand given fills begins = All-nil WholeUnlessHeld
+    all_whole from end (b ∷ bs) rs are chain short inside stand given fills begins =
+        by_test (all_whole b.end end bs later are.1 behind short inside (All-drop (Stands sum size number bytes) b.count rs stand) (λ m there. given m (given_behind site bytes b.count rs m there)) (λ f there. fills f (fillings_behind site b.count rs f there)) (inl (omega (arith, up)))) b.is_written
       where
         own : List Reserved
         own = take b.count rs
@@ -255,7 +266,7 @@ module _ (sum : List ℕ → ℕ) (size : ℕ) (messages : List Message) (heads 
         here : WholeUnlessHeld (buffer_at site bytes from b.end own)
         here free = let rises = are.0.rises in
             one_whole from b.end own (omega (arith, rises, high, short)) up begins
-            (has_records sum size number site bytes messages (max 20 from) b.end own are.0.chain (All-take (Stands sum size number bytes) b.count rs stand) (λ m there. given m (given_front site bytes b.count rs m there)) (none_ahead own site.place free) (omega (arith, high, short)) (omega (arith, high, inside)))
+            (has_records sum size number site bytes messages fillings (max 20 from) b.end own are.0.chain (All-take (Stands sum size number bytes) b.count rs stand) (λ m there. given m (given_front site bytes b.count rs m there)) (λ f there. fills f (fillings_front site b.count rs f there)) (none_ahead own site.place free) (omega (arith, high, short)) (omega (arith, high, inside)))
 
         by_test : All WholeUnlessHeld (unwritten_in site bytes b.end bs later) → (o : Bool)
             → All WholeUnlessHeld (if o then unwritten_in site bytes b.end bs later else buffer_at site bytes from b.end own ∷ unwritten_in site bytes b.end bs later)
@@ -310,14 +321,18 @@ module _ (sum : List ℕ → ℕ) (size : ℕ) (messages : List Message) (heads 
   line_told place (v ∷ []) are told = (told_as_sealed place v are.0 told.0, tt)
   line_told place (v ∷ w ∷ ws) are told = (told.0, line_told (place + size) (w ∷ ws) are.1 told.1)
 
-  along : (place : ℕ) (vs : List SegmentView) → AreLaid size place vs → AreTold vs → AreAmong (given_up_along vs) messages → All WholeUnlessHeld (unwritten vs)
-  along place [] are told given = All-nil WholeUnlessHeld
-  along place (v ∷ vs) are told given =
+  along : (place : ℕ) (vs : List SegmentView) → AreLaid size place vs → AreTold vs → AreAmong (given_up_along vs) messages → AreAmong (fillings_along vs) fillings → All WholeUnlessHeld (unwritten vs)
+  along place [] are told given fills = All-nil WholeUnlessHeld
+  along place (v ∷ vs) are told given fills =
       let is = are.0 in
       let its = told.0 in
       All-append WholeUnlessHeld (unwritten_of v.parts) (unwritten vs)
-      (all_whole v.parts.site v.parts.bytes its.aligned its.begun v.parts.written_len is.end v.parts.sealed v.parts.reserved is.are is.chain is.inside is.held its.stand (λ m there. given m (Contains-append_left (given_in v) (given_up_along vs) m there)) its.begins)
-      (along (place + size) vs are.1 told.1 (λ m there. given m (Contains-append_right (given_in v) (given_up_along vs) m there)))
+      (all_whole v.parts.site v.parts.bytes its.aligned its.begun v.parts.written_len is.end v.parts.sealed v.parts.reserved is.are is.chain is.inside is.held its.stand (λ m there. given m (Contains-append_left (given_in v) (given_up_along vs) m there)) (λ f there. fills f (Contains-append_left (its_fillings v) (fillings_along vs) f there)) its.begins)
+      (along (place + size) vs are.1 told.1 (λ m there. given m (Contains-append_right (given_in v) (given_up_along vs) m there)) (λ f there. fills f (Contains-append_right (its_fillings v) (fillings_along vs) f there)))
+
+-- what fills the segments of a log, with the current one as it would be sealed
+abbrev pub own_fillings : {D C : Type 0} → Log D C → List FillingAt
+own_fillings log = record { next = sealing_end log; from = reserved_end log } ∷ fillings_of log
 
 module _ {D C : Type 0} (trace : D → Trace) (sum : List ℕ → ℕ) (log : Log D C) (H : History) where
   abbrev size : ℕ
@@ -326,7 +341,14 @@ module _ {D C : Type 0} (trace : D → Trace) (sum : List ℕ → ℕ) (log : Lo
   abbrev device : State
   device = state_of (trace log.config.device)
 
-  segment_told : HoldsLine sum size device log.fault.kept (line_of log) (logged H) → log.fault.kept ≡ None → (n : ℕ) (v : SegmentView) → slice_get (line_of log) n ≡ Some v → IsTold sum size (given_up_of log) (heads_of log) v
+  -- What fills the current segment as it would be sealed begins where what was reserved ends.
+  fills_here : is_short size (length (current_of log).parts.bytes) ≡ true → filling_at size (current_of log) ≡ record { next = sealing_end log; from = reserved_end log }
+  fills_here short =
+      let big = log.config.config.least in
+      let end = last_used_to size log.reserved_to (segment_view log.segments.first) (map segment_view log.segments.behind.items) log.line.filled (grind (arith, nat_tests, short, big)) in
+      λ i. record { next = (current_of log).parts.site.place + (if sym short i then size else length (current_of log).parts.bytes); from = sym end i }
+
+  segment_told : HoldsLine sum size device log.fault.kept (line_of log) (logged H) → log.fault.kept ≡ None → (n : ℕ) (v : SegmentView) → slice_get (line_of log) n ≡ Some v → IsTold sum size (given_up_of log) (heads_of log) (own_fillings log) v
   segment_told holds none n v there =
       let is : IsSegment size v.parts.site.place v = nth_segment size log.segments.first.site.place (line_of log) (line_segments log) n v there in
       with_part sum size device log.fault.kept (line_of log) n v (logged H) holds there (λ stays own segment.
@@ -345,14 +367,16 @@ module _ {D C : Type 0} (trace : D → Trace) (sum : List ℕ → ℕ) (log : Lo
       })
 
   -- Each buffer of a log that holds a history and keeps no failure is whole, unless it is held up.
-  pub buffers_whole : Holds trace sum log H → fault_of log ≡ None → All (WholeUnlessHeld sum size (given_up_of log) (heads_of log)) (buffers_of sum log)
+  pub buffers_whole : Holds trace sum log H → fault_of log ≡ None → All (WholeUnlessHeld sum size (given_up_of log) (heads_of log) (own_fillings log)) (buffers_of sum log)
   unfolding Holds
   buffers_whole holds none =
       let line : List SegmentView = line_of log in
       let are : AreSegments size log.segments.first.site.place line = line_segments log in
       let given : List Message = given_up_of log in
       let heads : List HeadAt = heads_of log in
-      along sum size given heads log.segments.first.site.place (at_last (as_sealed sum size) line) (line_laid sum size log.segments.first.site.place line are)
-      (line_told sum size given heads log.segments.first.site.place line are (each_told sum size given heads line (λ n v there. segment_told holds.holds none n v there)))
+      let fillings : List FillingAt = own_fillings log in
+      along sum size given heads fillings log.segments.first.site.place (at_last (as_sealed sum size) line) (line_laid sum size log.segments.first.site.place line are)
+      (line_told sum size given heads fillings log.segments.first.site.place line are (each_told sum size given heads fillings line (λ n v there. segment_told holds.holds none n v there)))
       (among_same (given_up_along (at_last (as_sealed sum size) line)) given
       (as_sealed_given sum size log.segments.first.site.place (segment_view log.segments.first) (map segment_view log.segments.behind.items) are))
+      (as_sealed_fillings sum size (record { next = sealing_end log; from = reserved_end log }) (segment_view log.segments.first) (map segment_view log.segments.behind.items) fills_here)

@@ -7,7 +7,8 @@ use Rattle.sled_codec.specs.History.{Batch, History}
 use Rattle.sled_core.specs.declared.iobuf.ReservationState.{ReservationState}
 use Rattle.sled_core.specs.declared.iobuf.ReservationState.TheVariants.{Open, Completed, Canceled, Manifest, Padding}
 use Rattle.sled_core.specs.declared.iobuf.Reserved.{Reserved}
-use Rattle.sled_core.specs.inside.Buffers.{IsChain, ended, padding_state, records_end}
+use Rattle.sled_core.specs.Buffers.{padding_state}
+use Rattle.sled_core.specs.inside.Buffers.{IsChain, ended, records_end}
 use Rattle.sled_core.specs.inside.Recoverable.{NoBatchBegins, NoBatchEnds}
 
 -- one entry more behind those

@@ -9,7 +9,8 @@ use Rattle.sled_core.specs.declared.iobuf.ReservationState.TheVariants.{Open, Co
 use Rattle.sled_core.specs.declared.iobuf.Reserved.{Reserved}
 use Rattle.sled_core.specs.declared.iobuf.SegmentPosition.{SegmentPosition}
 use Rattle.sled_core.specs.declared.iterator.scan.ScanEnd.{ScanEnd}
-use Rattle.sled_core.specs.inside.Buffers.{IsChain, IsPadding, NoPadding, Stands, batch_in, batches_in, completed_in, padding_state, records_end, records_of, with_batch, with_own}
+use Rattle.sled_core.specs.Buffers.{padding_state}
+use Rattle.sled_core.specs.inside.Buffers.{IsChain, IsPadding, NoPadding, Stands, batch_in, batches_in, completed_in, records_end, records_of, with_batch, with_own}
 use Rattle.sled_core.specs.Buffers.{message_in, none_open}
 use Rattle.sled_core.specs.inside.Caps.{rest_why}
 use Rattle.sled_core.proofs.Reached.OpenTickets.{both_ended, by_first}

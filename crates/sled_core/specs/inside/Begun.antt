@@ -77,6 +77,10 @@ AreEntered to place (r ∷ rs) = (NoPadding r → place + r.from < to) × AreEnt
 abbrev pub IsUsed : ℕ → ℕ → ℕ → Type 0
 IsUsed to place len = 20 < len → place + 20 < to
 
+-- What was reserved ends where this one does, then.
+abbrev pub IsUsedToEnd : ℕ → ℕ → ℕ → Type 0
+IsUsedToEnd to place len = 20 < len → to ≡ place + len
+
 -- nothing fills a segment
 abbrev pub IsUnfilled : Option ℕ → Type 0
 IsUnfilled None = Unit {0}
@@ -89,13 +93,13 @@ IsUnfilled-prop (Some from) = λ p q. absurd p
 -- Segments one behind another, of which what was reserved ends at a place that isn't behind all bytes: in all but the last one each byte is in a sealed
 -- buffer or written, and the current buffer begins within the last one. Each reservation begins below that place, and a segment that has more than its
 -- header has one. What fills a segment begins where the entries' records end at most, and where the place lies in the segment, or at its end, it isn't
--- behind that; nothing fills the last one.
+-- behind that; nothing fills the last one, which ends where what was reserved does, if it has a reservation.
 abbrev pub AreFilled : ℕ → ℕ → List SegmentView → Type 0
 AreFilled size to [] = Unit {0}
 AreFilled size to (v ∷ []) =
     (begin_of v < size) × (to ≤ v.parts.site.place + length v.parts.bytes) × AreEntered to v.parts.site.place v.parts.reserved
     × IsUnfilled v.parts.filled × (length v.parts.bytes ≤ records_end v.parts.reserved (length v.parts.bytes))
-    × IsUsed to v.parts.site.place (length v.parts.bytes)
+    × IsUsedToEnd to v.parts.site.place (length v.parts.bytes)
 AreFilled size to (v ∷ w ∷ vs) =
     (begin_of v ≡ size) × AreEntered to v.parts.site.place v.parts.reserved × AreFilled size to (w ∷ vs)
     × (records_to v.parts.filled size ≤ records_end v.parts.reserved size)
@@ -118,7 +122,7 @@ AreFilled-prop size to (v ∷ []) =
       AreEntered-prop to v.parts.site.place v.parts.reserved p.2 q.2 i,
       IsUnfilled-prop v.parts.filled p.3 q.3 i,
       le_prop p.4 q.4 i,
-      λ some. le_prop (p.5 some) (q.5 some) i,
+      λ some. ℕ_set _ _ (p.5 some) (q.5 some) i,
     )
 AreFilled-prop size to (v ∷ w ∷ vs) =
     λ p q i. (

@@ -1,5 +1,5 @@
 -- What proofs, and functions that no user calls, need beside `specs/Buffers.antt`. No public contract names it.
-use Rattle.std.specs.Prelude.{◌≡◌, ◌≢◌, ◌+◌, ◌-◌, ◌≤◌, ◌<◌, ◌^◌, ℕ, Bool, true, false, if◌then◌else◌, List, [], ◌∷◌, ◌++◌, length, drop, replicate, Option}
+use Rattle.std.specs.Prelude.{◌≡◌, ◌≢◌, ◌+◌, ◌-◌, ◌≤◌, ◌<◌, ◌^◌, ℕ, true, false, if◌then◌else◌, List, [], ◌∷◌, ◌++◌, length, drop, replicate, Option}
 use Rattle.std.specs.Prelude.{None, Some, is_some, ℤ}
 use Rattle.sled_codec.specs.declared.serialization.message.MessageKind.{MessageKind}
 use Rattle.sled_codec.specs.declared.serialization.message.MessageKind.TheVariants as kind
@@ -16,7 +16,7 @@ use Rattle.sled_core.specs.declared.iobuf.Purpose.{Purpose}
 use Rattle.sled_core.specs.declared.iobuf.SegmentPosition.{SegmentPosition}
 use Rattle.sled_core.specs.invariants.Caps.{segment_rest}
 use Rattle.sled_core.specs.Manifests.{is_manifest, kind_for}
-use Rattle.sled_core.specs.Buffers.{body_in, message_in}
+use Rattle.sled_core.specs.Buffers.{body_in, message_in, padding_state}
 
 -- the bytes that a reservation has in its segment
 abbrev pub text_in : List ℕ → Reserved → List ℕ
@@ -149,11 +149,6 @@ ended state r =
 abbrev pub IsChain : ℕ → List Reserved → ℕ → Type 0
 IsChain from [] end = from ≡ end
 IsChain from (r ∷ rs) end = (r.from ≡ from) × IsChain (from + r.len) rs end
-
--- what fills a segment, and is no reservation
-abbrev pub padding_state : ReservationState → Bool
-padding_state Padding = true
-padding_state _ = false
 
 -- the entries in front of what fills the segment: those of its records
 abbrev pub records_of : List Reserved → List Reserved

@@ -16,7 +16,7 @@ ghost use Rattle.sled_core.specs.Begun.{SegmentView};
 ghost use Rattle.sled_core.specs.Buffers.{first_open_in, open_in};
 ghost use Rattle.sled_core.specs.Causes.{Answers, FaultOrMemory, HeldAnswers, OnDone};
 ghost use Rattle.sled_core.specs.invariants.Fits.{Holds};
-ghost use Rattle.sled_core.specs.Fits.{IsUnchanged, IsUsedUp, IsUsedUpBelow, IsWritten, KeepsAll, NoneSealed, buffers_of, config_of, current_begin, current_of, device_of, fault_of, flushing, heads_of, held_len, holding_below, line_of, pending_of, reserved_end, sealing_end, segment_size_of, stable_end, start_of, synced_end, waiting_of, writing_below, writing_pending};
+ghost use Rattle.sled_core.specs.Fits.{IsUnchanged, IsUsedUp, IsUsedUpBelow, IsWritten, KeepsAll, NoneSealed, buffers_of, config_of, current_begin, current_of, device_of, fault_of, fillings_of, flushing, heads_of, held_len, holding_below, line_of, pending_of, reserved_end, sealing_end, segment_size_of, stable_end, start_of, synced_end, waiting_of, writing_below, writing_pending};
 ghost use Rattle.sled_core.specs.Fronts.{CameTo, WroteFront, WroteNone, syncs};
 ghost use Rattle.sled_core.specs.Keeps.{KeepsLog, LeavesAbove, WritesBelow, sealed_for, start_for, start_sealed};
 ghost use Rattle.sled_core.specs.LogStatus.{flushed, rolled, status_of};
@@ -56,6 +56,7 @@ impl<D: Device, C: Checksum> Log<D, C> {
         ensures keeps { KeepsLog D.trace C.sum_of self.old self.new }
         ensures start { start_of self.new ≡ start_of self.old }
         ensures heads { AreAmong (heads_of self.new) (heads_of self.old) }
+        ensures fillings { AreAmong (fillings_of self.new) (fillings_of self.old) }
         ensures answers { Answers result (fault_of self.old) (fault_of self.new) (D.faults (device_of self.old)) (D.faults (device_of self.new)) }
         ensures faulty { (e : IoError) → fault_of self.old ≡ Some e → self.new ≡ self.old }
         ensures err { OnErr result ((synced_end self.new ≡ synced_end self.old) × (waiting_of self.new ≡ waiting_of self.old)

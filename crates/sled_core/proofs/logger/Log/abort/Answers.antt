@@ -2,6 +2,7 @@
 use Rattle.std.proofs.Common.{◌≡◌, ◌∷◌, refl, sym, subst, List, rules}
 use Rattle.std.specs.List.{Contains}
 use Rattle.sled_store.proofs.Segments.Elements.{in_rest}
+use Rattle.sled_core.specs.Fillings.{fillings_along}
 use Rattle.sled_core.specs.Heads.{heads_along}
 use Rattle.sled_core.specs.Begun.{SegmentView}
 use Rattle.sled_core.specs.Fits.{AwaitsIn, given_up_of, line_of}
@@ -43,6 +44,7 @@ returns-in-Ok-clause-ends g c =
       position = search rules;
       buffers = search rules;
       heads = λ h there. subst (λ (l : List SegmentView). Contains (heads_along l) h) same (c.give_up.ensures.ends.heads h there);
+      fillings = λ f there. subst (λ (l : List SegmentView). Contains (fillings_along l) f) same (c.give_up.ensures.ends.fillings f there);
     }
 
 pub returns-in-Err-clause-ends : goal.returns-in-Err-clause-ends
@@ -54,6 +56,7 @@ returns-in-Err-clause-ends g c =
       position = search rules;
       buffers = search rules;
       heads = λ h there. subst (λ (l : List SegmentView). Contains (heads_along l) h) same there;
+      fillings = λ f there. subst (λ (l : List SegmentView). Contains (fillings_along l) f) same there;
     }
 
 pub returns-in-Ok-clause-device : goal.returns-in-Ok-clause-device

@@ -110,7 +110,7 @@ returns-clause-fits g c = λ H A f U m fits awaits stored may out.
 -- Other tickets stay, and nothing else changes.
 
 pub returns-clause-ends : goal.returns-clause-ends
-returns-clause-ends g c = ticket_ends (own g c) c.complete_in.ensures.rest g.D.Device.trace g.C.Checksum.sum_of _ refl
+returns-clause-ends g c = ticket_ends (own g c) c.complete_in.ensures.rest g.D.Device.trace g.C.Checksum.sum_of _ refl refl
 
 pub returns-clause-goes_on : goal.returns-clause-goes_on
 returns-clause-goes_on g c = ticket_goes_on (own g c) c.complete_in.ensures.rest g.D.Device.trace g.C.Checksum.sum_of

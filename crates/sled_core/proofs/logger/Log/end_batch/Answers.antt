@@ -95,6 +95,7 @@ returns-clause-ends g c = record {
   position = (seen g c).position;
   buffers = (seen g c).buffers;
   heads = (seen g c).heads;
+  fillings = (seen g c).fillings;
 }
 
 pub returns-clause-goes_on : goal.returns-clause-goes_on

@@ -159,7 +159,7 @@ returns-clause-canceled g c = λ H m holds awaits.
 -- Other tickets stay, and nothing else changes.
 
 pub returns-clause-ends : goal.returns-clause-ends
-returns-clause-ends g c = ticket_ends (own g c) c.abort_in.ensures.rest g.D.Device.trace g.C.Checksum.sum_of _ refl
+returns-clause-ends g c = ticket_ends (own g c) c.abort_in.ensures.rest g.D.Device.trace g.C.Checksum.sum_of _ refl refl
 
 pub returns-clause-same : goal.returns-clause-same
 returns-clause-same g c = ticket_keeps (own g c) c.abort_in.ensures.rest

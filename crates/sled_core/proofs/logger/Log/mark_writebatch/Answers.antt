@@ -49,6 +49,7 @@ returns-clause-ends g c = record {
   position = c.end_batch.ensures.ends.position;
   buffers = c.end_batch.ensures.ends.buffers;
   heads = c.end_batch.ensures.ends.heads;
+  fillings = c.end_batch.ensures.ends.fillings;
 }
 
 pub returns-clause-answers : goal.returns-clause-answers

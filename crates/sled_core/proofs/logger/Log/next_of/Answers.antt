@@ -33,6 +33,7 @@ returns-clause-log g c =
         position = record { position = ap (λ n. position_in n (current_of old) (machine_of old.accountant)) size; reserved = refl; pins = refl; size = size };
         buffers = record { waiting = refl; start = refl };
         heads = λ h there. there;
+        fillings = λ f there. there;
         machine = refl;
       };
       fault = c.note_item.ensures;

@@ -1,5 +1,5 @@
 -- The current buffer is sealed: with its segment, where no further record has room there, and else alone.
-use Rattle.std.proofs.Common.{◌≡◌, ◌∙◌, ◌+◌, ◌≤◌, ap, sym, arith, ℕ, List, [], length, if◌then◌else◌, Bool}
+use Rattle.std.proofs.Common.{◌≡◌, ◌∙◌, ◌+◌, ◌≤◌, ◌<◌, ap, sym, arith, ℕ, List, [], length, if◌then◌else◌, Bool, true}
 use Rattle.std.proofs.lemmas.Bool.Decides.{nat_tests}
 use Rattle.std.proofs.lemmas.List.{append-nil}
 use Rattle.std.proofs.lemmas.List.Elements.{All-nil}
@@ -7,23 +7,25 @@ use Rattle.sled_core.specs.declared.logger.Log.{Log}
 use Rattle.sled_core.specs.Begun.{SegmentView}
 use Rattle.sled_core.specs.inside.Fits.{AddsBuffers}
 use Rattle.sled_core.specs.Fits.{buffers_of, current_of, reserved_end, segment_size_of}
+use Rattle.sled_core.specs.Positions.{is_short}
 use Rattle.sled_core.specs.Waiting.{BufferAt}
 use Rattle.sled_core.proofs.Line.Begins.{begins_keeps, begins_marked, begins_same, begins_tickets}
 use Rattle.sled_core.proofs.Line.HeaderMarks.{none_begun}
 use Rattle.sled_core.proofs.Line.LogSpans.{seal_starts, turn_starts}
 use Rattle.sled_core.proofs.Line.Outcomes.{either, on_both, on_err, on_ok}
-use Rattle.sled_core.proofs.Line.Seals.{sealed_begins, sealed_buffers, sealed_current, sealed_keeps, sealed_position, sealed_same, sealed_tickets, sealed_waiting, sealed_heads}
+use Rattle.sled_core.proofs.Line.Seals.{sealed_begins, sealed_buffers, sealed_current, sealed_keeps, sealed_position, sealed_same, sealed_tickets, sealed_waiting, sealed_fillings, sealed_heads}
 use Rattle.sled_core.proofs.Line.Turns.{turns_begins, turns_buffers, turns_position, turns_waiting}
 use Rattle.sled_core.proofs.Line.Unchanged.{left_alone, unchanged_keeps, unchanged_position, unchanged_same, unchanged_tickets}
 use Rattle.sled_core.proofs.logger.Log.seal.Goals as goal
 
 -- Where no further record has room.
 
+-- The segment has more than its header where no further record has room.
+short_used : {D C : Type 0} (log : Log D C) → is_short (segment_size_of log) (length (current_of log).parts.bytes) ≡ true → 20 < length (current_of log).parts.bytes
+short_used log short = let big = log.config.config.least in grind (arith, nat_tests, short, big)
+
 pub begin_next-requires : goal.begin_next-requires
-begin_next-requires g c =
-    let short = sym c.is_short.ensures ∙ c.if-is_short.true in
-    let big = c.args.self.now.config.config.least in
-    record { used = grind (arith, nat_tests, short, big) }
+begin_next-requires g c = record { used = short_used c.args.self.now (sym c.is_short.ensures ∙ c.if-is_short.true) }
 
 pub returns-then-is_short-clause-waiting : goal.returns-then-is_short-clause-waiting
 returns-then-is_short-clause-waiting g c =
@@ -52,7 +54,7 @@ returns-then-is_short-clause-marked g c =
     let did = c.begin_next.ensures in
     let old = c.args.self.now in
     let new = c.begin_next.new.self in
-    on_both c.begin_next.result _ _ _ (λ line machine. begins_marked g.D.Device.trace g.C.Checksum.sum_of old new line machine did.rest) did.line did.machine
+    on_both c.begin_next.result _ _ _ (λ line machine. begins_marked g.D.Device.trace g.C.Checksum.sum_of old new line machine did.rest (short_used old (sym c.is_short.ensures ∙ c.if-is_short.true))) did.line did.machine
 
 pub returns-then-is_short-clause-keeps : goal.returns-then-is_short-clause-keeps
 returns-then-is_short-clause-keeps g c = record {
@@ -127,7 +129,8 @@ returns-clause-marked g c =
     let old = c.args.self.now in
     let new = c.seal_unfilled.new.self in
     on_ok c.seal_unfilled.result _ _ (λ line. none_begun g.C.Checksum.sum_of old new (ap (λ (v : SegmentView). v.parts.site.place) (sealed_current g.D.Device.trace g.C.Checksum.sum_of old new c.seal_unfilled.ensures.rest line c.requires.some))
-    (sealed_heads g.D.Device.trace g.C.Checksum.sum_of old new c.seal_unfilled.ensures.rest line c.requires.some)) c.seal_unfilled.ensures.line
+    (sealed_heads g.D.Device.trace g.C.Checksum.sum_of old new c.seal_unfilled.ensures.rest line c.requires.some)
+    (sealed_fillings g.D.Device.trace g.C.Checksum.sum_of old new c.seal_unfilled.ensures.rest line c.requires.some)) c.seal_unfilled.ensures.line
 
 pub returns-clause-keeps : goal.returns-clause-keeps
 returns-clause-keeps g c = record {

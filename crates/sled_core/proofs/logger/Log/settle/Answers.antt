@@ -47,7 +47,7 @@ returns-then-place-synced_end-clause-seals g c = record { still = λ _. refl; ap
 pub returns-then-place-synced_end-clause-buffers : goal.returns-then-place-synced_end-clause-buffers
 returns-then-place-synced_end-clause-buffers g c =
     let below : c.args.place < synced_end c.args.self.now = omega (arith, c.if-place-synced_end.true, c.synced_end.ensures.is) in
-    (record { still = λ _. (refl, refl); written = λ behind. absurd (omega (arith, ints, below, behind)); held = λ is. absurd is; some = tt; marked = none_begun g.C.Checksum.sum_of c.args.self.now c.args.self.now refl (λ h there. there) }, tt)
+    (record { still = λ _. (refl, refl); written = λ behind. absurd (omega (arith, ints, below, behind)); held = λ is. absurd is; some = tt; marked = none_begun g.C.Checksum.sum_of c.args.self.now c.args.self.now refl (λ h there. there) (λ f there. there) }, tt)
 
 -- The current buffer could not be sealed.
 
@@ -110,7 +110,7 @@ returns-in_err-seal-clause-buffers g c =
         written = λ _. tt;
         held = λ is. absurd (seal_not_held (Unit {0}) (Unit {0}) c.in_err-seal.field-0.0 _ c.in_err-seal.ensures.answers is);
         some = inl same;
-        marked = (let kept = segment_same c.args.self.now c.seal.new.self c.in_err-seal.ensures.err.line in none_begun g.C.Checksum.sum_of c.args.self.now c.seal.new.self kept.place kept.heads);
+        marked = (let kept = segment_same c.args.self.now c.seal.new.self c.in_err-seal.ensures.err.line in none_begun g.C.Checksum.sum_of c.args.self.now c.seal.new.self kept.place kept.heads kept.fillings);
       },
       inl (same, ap (λ (x : RunningConfig g.row.D.Denot g.row.C.Denot). g.D.Device.trace x.device) c.in_err-seal.ensures.err.config, λ _. c.in_err-seal.ensures.err.fault),
     )

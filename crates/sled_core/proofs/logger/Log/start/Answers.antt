@@ -22,6 +22,7 @@ use Rattle.std.proofs.lemmas.Bool.Decides.{nat_tests}
 use Rattle.std.proofs.lemmas.List.{take_all}
 use Rattle.sled_store.proofs.Segments.Elements.{in_nothing, only_in}
 use Rattle.sled_core.specs.Marked.{IsMarkedHead}
+use Rattle.sled_core.specs.Fillings.{fillings_along, fillings_in}
 use Rattle.sled_core.specs.Heads.{HeadAt, head_of, heads_along}
 use Rattle.sled_core.specs.declared.iobuf.IoBuf.{IoBuf}
 use Rattle.sled_core.specs.declared.iobuf.Reserved.{Reserved}
@@ -29,7 +30,7 @@ use Rattle.sled_core.specs.declared.iobuf.Sealed.{Sealed}
 use Rattle.sled_core.specs.declared.logger.batches.NotedBatch.{NotedBatch}
 use Rattle.sled_core.specs.declared.logger.io_bufs.SegmentBuffer.{SegmentBuffer}
 use Rattle.sled_core.specs.inside.Numbers.{HasNumbers}
-use Rattle.sled_core.specs.inside.Begun.{AreEntered, AreFilled, FollowOn, IsUnfilled, IsUsed}
+use Rattle.sled_core.specs.inside.Begun.{AreEntered, AreFilled, FollowOn, IsUnfilled, IsUsedToEnd}
 use Rattle.sled_core.specs.Begun.{SegmentView, begin_of, line_at, segment_view, view_at}
 use Rattle.sled_core.specs.Fits.{CloseBelow, NoneOpenIn}
 use Rattle.sled_core.specs.GivenUp.{given_up_along, given_up_in}
@@ -90,8 +91,8 @@ start_slots size same some s old now startable file v at {m} machine =
     (subst (λ (l : List ℕ). HasSlots size (v ∷ []) l None m) (sym file)
     (subst (λ (x : Machine). HasSlots size (v ∷ []) (started_file size old s) None x) (sym machine) (begun_slots size some old s None startable v at)))
 
--- The segment in which a log begins has more than its header only where that was written.
-first_used : (sum : List ℕ → ℕ) (place offset : ℕ) (b : IoBuf) → IsFirstBuffer sum place offset b → IsUsed (place + offset) place (length b.bytes.items)
+-- The segment in which a log begins has more than its header only where that was written, and what was reserved ends there.
+first_used : (sum : List ℕ → ℕ) (place offset : ℕ) (b : IoBuf) → IsFirstBuffer sum place offset b → IsUsedToEnd (place + offset) place (length b.bytes.items)
 first_used sum place zero b is = λ some. absurd (let long = ap length (is.header refl) ∙ length-short_header sum (pos place) (pos place -ℤ pos 1) in omega (arith, some, long))
 first_used sum place (suc n) b is = λ some. let long = is.resumed (omega arith) in omega (arith, some, long)
 
@@ -332,10 +333,16 @@ heads_at sum place offset slot b [] [] first none empty h there = by (b.written_
             ∙ (λ i. short_header sum (pos (here i)) (pos (stable i) -ℤ pos 1)),
       )
 
+-- Nothing fills it: it has no reservations.
+none_fills : (site : SegmentPosition) (b : IoBuf) (ss : List SegmentBuffer) → b.reserved.items ≡ [] → ss ≡ [] → fillings_along (line_at site b ss) ≡ []
+none_fills site b (s ∷ ss) none empty = cc
+none_fills site b [] none empty = ap (λ (rs : List Reserved). fillings_in site rs ++ []) none
+
 pub returns-in-Ok-clause-marked : goal.returns-in-Ok-clause-marked
 returns-in-Ok-clause-marked g c = record {
   header = marked_at g.C.Checksum.sum_of c.in-Ok.beginning.place c.in-Ok.beginning.offset c.in-Ok.beginning.slot c.in-Ok.buffer c.no_segments.result.items c.new-in-Ok.result.noted.items c.in-Ok.ensures.buffer c.no_segments.ensures c.new-in-Ok.ensures.noted;
   heads = heads_at g.C.Checksum.sum_of c.in-Ok.beginning.place c.in-Ok.beginning.offset c.in-Ok.beginning.slot c.in-Ok.buffer c.no_segments.result.items c.new-in-Ok.result.noted.items c.in-Ok.ensures.buffer c.no_segments.ensures c.new-in-Ok.ensures.noted;
+  fillings = none_fills (record { place = c.in-Ok.beginning.place; slot = c.in-Ok.beginning.slot }) c.in-Ok.buffer c.no_segments.result.items c.in-Ok.ensures.buffer.reserved c.no_segments.ensures;
 }
 
 pub returns-in-Ok-clause-config : goal.returns-in-Ok-clause-config

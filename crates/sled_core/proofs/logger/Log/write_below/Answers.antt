@@ -98,7 +98,7 @@ returns-in_err-seal-clause-buffers g c =
       };
       above = tt;
       some = inl (same_buffers old new same.line);
-      marked = none_begun g.C.Checksum.sum_of old new kept.place kept.heads;
+      marked = none_begun g.C.Checksum.sum_of old new kept.place kept.heads kept.fillings;
     })
 
 pub returns-clause-came : goal.returns-clause-came

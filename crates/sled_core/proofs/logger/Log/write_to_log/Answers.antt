@@ -2,10 +2,11 @@
 use Rattle.std.proofs.Common.{refl, ap, set, ◌≡◌, ◌∙◌}
 use Rattle.sled_store.proofs.Traces.ScriptLemmas.{performs_nothing}
 use Rattle.sled_core.proofs.Line.Among.{among_same}
-use Rattle.sled_core.proofs.Line.HeaderMarks.{heads_of_written}
+use Rattle.sled_core.proofs.Line.HeaderMarks.{fillings_of_written, heads_of_written}
+use Rattle.sled_core.specs.Fillings.{fillings_along}
 use Rattle.sled_core.specs.Heads.{heads_along}
 use Rattle.sled_core.specs.Among.{AreAmong}
-use Rattle.sled_core.specs.Fits.{line_of, segment_size_of, start_of, heads_of}
+use Rattle.sled_core.specs.Fits.{line_of, segment_size_of, start_of, fillings_of, heads_of}
 use Rattle.sled_core.specs.inside.Turned.{written_now}
 use Rattle.sled_core.specs.Waiting.{unwritten}
 use Rattle.sled_core.proofs.Line.KeptCalls.{log_still}
@@ -53,8 +54,21 @@ returns-clause-heads g c =
     (λ same. among_same (heads_of new) (heads_of old) (ap heads_along same))
     (c.write_buffer.ensures.line r.segment r.among) c.write_buffer.ensures.same
 
+pub returns-clause-fillings : goal.returns-clause-fillings
+returns-clause-fillings g c =
+    let old = c.args.self.now in
+    let new = c.write_buffer.new.self in
+    let r = c.ready_at-n.ensures.ready in
+    either c.write_buffer.result _ _ (AreAmong (fillings_of new) (fillings_of old))
+    (λ is. fillings_of_written old new (segment_size_of old) c.ready_at-n.result.0 c.ready_at-n.result.1 r.segment r.among is)
+    (λ same. among_same (fillings_of new) (fillings_of old) (ap fillings_along same))
+    (c.write_buffer.ensures.line r.segment r.among) c.write_buffer.ensures.same
+
 pub returns-in-Some-clause-heads : goal.returns-in-Some-clause-heads
 returns-in-Some-clause-heads g c = λ h there. there
+
+pub returns-in-Some-clause-fillings : goal.returns-in-Some-clause-fillings
+returns-in-Some-clause-fillings g c = λ f there. there
 
 pub returns-clause-err : goal.returns-clause-err
 returns-clause-err g c =
