@@ -8,10 +8,9 @@ use Rattle.sled_codec.specs.History.{History, Message, table}
 use Rattle.sled_codec.specs.PageTables.{entry_of}
 use Rattle.sled_codec.specs.Snapshots.{Entry}
 use Rattle.sled_store.specs.Device.{Trace}
-use Rattle.sled_log.specs.WriteSteps.{headed}
 use Rattle.sled_core.specs.Marked.{BeginsMarked}
 use Rattle.sled_core.specs.declared.logger.Log.{Log}
-use Rattle.sled_core.specs.Fits.{KeepsTickets, device_of, fault_of, given_up_of, reserved_end, segment_size_of, heads_of, start_of}
+use Rattle.sled_core.specs.Fits.{KeepsTickets, device_of, fault_of, given_up_of, reserved_end, segment_size_of, start_of}
 use Rattle.sled_core.specs.Among.{AreAmong}
 use Rattle.sled_core.specs.Keeps.{Preserves, SamePosition}
 use Rattle.sled_core.specs.ReadPointer.{place_read}
@@ -20,11 +19,11 @@ use Rattle.sled_core.specs.invariants.Running.{Fits}
 use Rattle.sled_log.specs.declared.session.command.Reply.{Reply}
 use Rattle.sled_log.specs.declared.session.command.Reply.TheVariants as reply
 use Rattle.sled_log.specs.Made.{IsMade}
-use Rattle.sled_log.specs.RunPhases.{Unstored, seen_log, traces}
+use Rattle.sled_log.specs.RunPhases.{HasHeads, Unstored, seen_log, traces}
 use Rattle.sled_log.specs.RunStates.{DeviceView, LogView, RunState, is_present, top, with_log, MarkAt, heads_at}
 use Rattle.sled_log.specs.ReadSteps.{FailsAt, ReadStep, ReadsAt, read_around, read_at}
 
--- A log fits what a session keeps in mind, what it counts as given up was, its headers that aren't on the device have the marks that they were begun with,
+-- A log fits what a session keeps in mind, what it counts as given up was, its headers and fillings that aren't on the device are those that were begun,
 -- and zeros pass as no header.
 pub record IsRead {D C : Type 0} (trace : D → Trace) (sum : List ℕ → ℕ) (log : Log D C) (k : Unstored) : Type 0 where
   pub made : IsMade k.history
@@ -32,7 +31,7 @@ pub record IsRead {D C : Type 0} (trace : D → Trace) (sum : List ℕ → ℕ) 
   pub unmarked : List Message
   pub fits : Fits trace sum log k.history k.acknowledged k.floor unmarked
   pub given_up : AreAmong (given_up_of log) k.given_up
-  pub heads : AreAmong (heads_of log) (map (headed sum) k.heads)
+  pub heads : HasHeads sum log k.heads
 
 -- A message of what a page is, that was reserved, as the place was that a read of it brings to the device.
 pub record IsOfPage (H : History) (end page : ℕ) (m : Message) : Type 0 where
@@ -82,6 +81,6 @@ pub record ReadsEntries {D C : Type 0} (view : D → DeviceView) (sum : List ℕ
   pub step : (k : Unstored) (ms : List Message) (begun : ℕ) (a : RunState) → IsRead (traces view) sum old k
       → All (IsOfPage k.history (reserved_end old) page) ms → map entry_of ms ≡ entries → is_present ms ≡ true
       → a.device ≡ view (device_of old) → a.log ≡ Some (seen_log old begun k.tickets k.given_up k.heads)
-      → (heads : List MarkAt) × AreAmong (heads_of new) (map (headed sum) heads)
+      → (heads : List MarkAt) × HasHeads sum new heads
       × ReadStep sum (segment_size_of old) a (seen_log old begun k.tickets k.given_up k.heads) ms (page_told result) (view (device_of new))
       (with_log a (view (device_of new)) (Some (seen_log new begun k.tickets k.given_up heads)))

@@ -8,9 +8,10 @@ use Rattle.sled_codec.specs.Snapshots.{SnapshotModel, page_of, stable_place}
 use Rattle.sled_store.specs.Device.{Trace, state_of}
 use Rattle.sled_store.specs.Moments.{IsLater}
 use Rattle.sled_store.specs.declared.config.RunningConfig.{RunningConfig}
-use Rattle.sled_log.specs.WriteSteps.{headed}
+use Rattle.sled_log.specs.WriteSteps.{filled_by, headed}
 use Rattle.sled_core.specs.declared.logger.Log.{Log}
-use Rattle.sled_core.specs.Fits.{Awaits, config_of, fault_of, given_up_of, noted_in, open_places, pins_of, position_of, reserved_end, start_of, synced_end, waiting_of, heads_of}
+use Rattle.sled_core.specs.Fits.{Awaits, config_of, fault_of, fillings_of, given_up_of, heads_of, noted_in, open_places, pins_of, position_of, reserved_end}
+use Rattle.sled_core.specs.Fits.{start_of, synced_end, waiting_of}
 use Rattle.sled_core.specs.Among.{AreAmong}
 use Rattle.sled_core.specs.Manifests.{manifest_page}
 use Rattle.sled_core.specs.Waiting.{spans}
@@ -158,8 +159,14 @@ pub record HasTickets {D C : Type 0} (trace : D → Trace) (sum : List ℕ → �
   pub busy : (page : ℕ) → page ≢ manifest_page → get_or opened.busy.items page false ≡ has_page page (open_messages tickets)
   pub batch : HasBatch tickets opened.batch
 
--- A log is open that fits the history, with a pin out, and with the table of it; what it counts as given up was, and its headers that aren't on the device
--- have the marks that they were begun with. Zeros pass as no header, as where its recovery read nothing foreign.
+-- Each header of a log that isn't on the device has the mark that its segment was begun with, and what fills one of its segments begins where what was reserved
+-- ended when the next one was begun.
+pub record HasHeads {D C : Type 0} (sum : List ℕ → ℕ) (log : Log D C) (heads : List MarkAt) : Type 0 where
+  pub marked : AreAmong (heads_of log) (map (headed sum) heads)
+  pub filled : AreAmong (fillings_of log) (map filled_by heads)
+
+-- A log is open that fits the history, with a pin out, and with the table of it; what it counts as given up was, and its headers and fillings that aren't on
+-- the device are those that were begun. Zeros pass as no header, as where its recovery read nothing foreign.
 pub record IsOpenAt {D C : Type 0} (trace : D → Trace) (sum : List ℕ → ℕ) (opened : Opened D C) (k : Unstored) : Type 0 where
   pub made : IsMade k.history
   pub unmarked : List Message
@@ -169,7 +176,7 @@ pub record IsOpenAt {D C : Type 0} (trace : D → Trace) (sum : List ℕ → ℕ
   pub table : IsTable (map page_of opened.pages.items) k.history top
   pub tickets : HasTickets trace sum opened k.history k.tickets
   pub given_up : AreAmong (given_up_of opened.log) k.given_up
-  pub heads : AreAmong (heads_of opened.log) (map (headed sum) k.heads)
+  pub heads : HasHeads sum opened.log k.heads
   pub ends : All (λ m. m.place + m.size ≤ reserved_end opened.log) k.history.messages
 
 -- What holds in a phase.

@@ -31,10 +31,12 @@ pub record DeviceView : Type 0 where
 abbrev pub length_of : DeviceView → ℕ
 length_of device = length (state_of device.trace).log.bytes
 
--- Where a buffer was begun, and the mark in the header of its segment, should it begin with that.
+-- Where a buffer was begun, and should it begin its segment: the mark in the header of that, and where what fills the segment in front of it begins, which is
+-- the place behind the greatest record that was reserved then.
 pub record MarkAt : Type 0 where
   pub place : ℕ
   pub mark : ℤ
+  pub end : ℕ
 
 -- What is seen of a log that is open.
 pub record LogView : Type 0 where
@@ -67,9 +69,11 @@ pub record LogView : Type 0 where
 abbrev pub stable_of : LogView → ℕ
 stable_of l = stable_below l.synced l.noted
 
--- What was begun, once the current buffer begins there. A segment that begins with it has the last stable place for its mark.
+-- What was begun, once the current buffer begins there. A segment that begins with it has the last stable place for its mark, and what fills the one in front
+-- of it begins where what was reserved ends.
 abbrev pub heads_at : LogView → BufferStart → List MarkAt
-heads_at l start = if nat_lt l.start.place start.place then record { place = start.place; mark = pos (stable_of l) -ℤ pos 1 } ∷ l.heads else l.heads
+heads_at l start =
+    if nat_lt l.start.place start.place then record { place = start.place; mark = pos (stable_of l) -ℤ pos 1; end = l.end } ∷ l.heads else l.heads
 
 -- Where a run stands: its device, the completed messages, the end of what was acknowledged, the cut of the last recovery, and the log, where one is open.
 pub record RunState : Type 0 where
@@ -95,7 +99,8 @@ recovered a now s log = record a { device = now; history = below a.history (stab
 
 -- where it begins its first buffer, with the header of a new segment or behind one
 abbrev pub heads_on : ℕ → ℕ → SnapshotModel → List MarkAt
-heads_on size len s = record { place = (start_from size len s).place; mark = pos (stable_place s.stable) -ℤ pos 1 } ∷ []
+heads_on size len s =
+    record { place = (start_from size len s).place; mark = pos (stable_place s.stable) -ℤ pos 1; end = stable_place s.stable } ∷ []
 
 -- a log that was started on a snapshot, where its log file had this length
 abbrev pub started_on : ℕ → ℕ → SnapshotModel → LogView

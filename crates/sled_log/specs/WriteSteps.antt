@@ -2,13 +2,13 @@
 use Rattle.std.specs.Prelude.{◌≡◌, ◌⊎◌, ◌+◌, ◌≤◌, ◌≤ℤ◌, ◌<ℤ◌, ◌<◌, ◌%◌, ◌^◌, ◌∷◌, ℕ, ℤ, pos, max, IsTrue, List, [], drop, map, Option, None, Some}
 use Rattle.std.specs.List.{All}
 use Rattle.std.specs.declared.io.Error.{Error as IoError}
-use Rattle.sled_codec.specs.History.{Message}
 use Rattle.sled_codec.specs.declared.result.Error.{Error}
 use Rattle.sled_codec.specs.declared.result.Error.TheVariants.{Held, Io, NotReserved, OutOfMemory, PlacesUsedUp}
 use Rattle.sled_store.specs.Device.{Event, state_of}
 use Rattle.sled_store.specs.Answers.{is_fault}
 use Rattle.sled_store.specs.Script.{Performs, after_all}
 use Rattle.sled_codec.specs.Record.{short_header}
+use Rattle.sled_core.specs.Fillings.{FillingAt}
 use Rattle.sled_core.specs.Heads.{HeadAt}
 use Rattle.sled_core.specs.declared.iobuf.SegmentPosition.{SegmentPosition}
 use Rattle.sled_core.specs.Fits.{IsKept}
@@ -22,8 +22,8 @@ use Rattle.sled_core.specs.WholeBuffers.{IsWholeBuffer}
 use Rattle.sled_core.specs.Running.{end_below}
 use Rattle.sled_log.specs.declared.session.command.Reply.{Reply}
 use Rattle.sled_log.specs.declared.session.command.Reply.TheVariants as reply
-use Rattle.sled_log.specs.RunStates.{DeviceView, EndsInReach, LogView, MarkAt, RunState, first_waiting, heads_at, held, held_among, opens, sealed_below, spans_below, spans_from}
-use Rattle.sled_log.specs.RunStates.{stable_of, start_below, with_log, without_unheld}
+use Rattle.sled_log.specs.RunStates.{DeviceView, EndsInReach, LogView, MarkAt, RunState, current_span, first_waiting, heads_at, held, held_among, opens}
+use Rattle.sled_log.specs.RunStates.{sealed_below, spans_below, spans_from, stable_of, start_below, with_log, without_unheld}
 
 -- Failures.
 
@@ -59,21 +59,29 @@ IfHeld _ P = Unit {0}
 abbrev pub headed : (List ℕ → ℕ) → MarkAt → HeadAt
 headed sum m = record { place = m.place; bytes = short_header sum (pos m.place) m.mark }
 
--- These buffers of a log, with its open reservations at these places, are seen so: each as a whole, and what holds it up. What isn't held up is whole records,
+-- what fills the segment in front of one that begins there
+abbrev pub filled_by : MarkAt → FillingAt
+filled_by m = record { next = m.place; from = m.end }
+
+-- What fills the segments of a log, with the current one as it would be sealed: to where that ends then, from where what was reserved ends.
+abbrev pub fillings_seen : LogView → List FillingAt
+fillings_seen l = record { next = (current_span l l.position).end; from = l.end } ∷ map filled_by l.heads
+
+-- These buffers of a log are seen so: each as a whole, and which of its open reservations holds it up. What isn't held up is whole records,
 -- each with its sum and of a kind that a reader knows; of these one that every reader passes over is of one of the messages that were given up; none ends its
--- segment but in what fills it, which is one text; and where it begins its segment, the segment's header is in front of them, with the mark that it was begun
--- with. So all of them are met by who reads the segment, and but for what is of the history there is no choice in what is written.
-pub record ShowsBuffers (sum : List ℕ → ℕ) (size : ℕ) (places : List ℕ) (given_up : List Message) (heads : List MarkAt) (ss : List Span)
-    (bs : List BufferAt) : Type 0 where
+-- segment but in what fills it, which is one text, from where what was reserved ended; and where it begins its segment, the segment's header is in front of
+-- them, with the mark that it was begun with. So all of them are met by who reads the segment, and but for what is of the history there is no choice in what is
+-- written.
+pub record ShowsBuffers (sum : List ℕ → ℕ) (size : ℕ) (l : LogView) (ss : List Span) (bs : List BufferAt) : Type 0 where
   pub are : spans bs ≡ ss
   pub long : All HasLength bs
-  pub held : All (λ b. b.held ≡ held places (record { place = b.place; end = b.end; lid = b.lid })) bs
-  pub whole : All (λ b. b.held ≡ None → IsWholeBuffer sum size given_up (map (headed sum) heads) b) bs
+  pub held : All (λ b. b.held ≡ held (opens l) (record { place = b.place; end = b.end; lid = b.lid })) bs
+  pub whole : All (λ b. b.held ≡ None → IsWholeBuffer sum size l.given_up (map (headed sum) l.heads) (fillings_seen l) b) bs
 
 -- All of these calls were made, on buffers that are seen so.
 pub record Writes (sum : List ℕ → ℕ) (size : ℕ) (l : LogView) (ss : List Span) (calls : List BufferAt → List Event) (old new : DeviceView) : Type 0 where
   pub buffers : List BufferAt
-  pub shown : ShowsBuffers sum size (opens l) l.given_up l.heads ss buffers
+  pub shown : ShowsBuffers sum size l ss buffers
   pub made : new.trace ≡ after_all (calls buffers) old.trace
 
 -- They were made up to one that failed: so many buffers were written, as many as were synced. Unless the device failed each of these is whole, and no other
@@ -81,7 +89,7 @@ pub record Writes (sum : List ℕ → ℕ) (size : ℕ) (l : LogView) (ss : List
 pub record WritesSome (sum : List ℕ → ℕ) (size : ℕ) (l : LogView) (ss : List Span) (calls : List BufferAt → List Event) (count : ℕ) (e : Error)
     (fault : Option IoError) (old new : DeviceView) : Type 0 where
   pub buffers : List BufferAt
-  pub shown : ShowsBuffers sum size (opens l) l.given_up l.heads ss buffers
+  pub shown : ShowsBuffers sum size l ss buffers
   pub made : Performs (calls buffers) old.trace new.trace
   pub synced : syncs new.trace ≡ count + syncs old.trace
   pub whole : fault ≡ None → WritesWhole count (calls buffers) old.trace new.trace

@@ -12,7 +12,7 @@ use Rattle.sled_core.specs.declared.logger.Log.{Log}
 use Rattle.sled_core.specs.declared.reservation.Reservation.{Reservation}
 use Rattle.sled_core.specs.Batches.{EndsBatch, MayEndAt, NotesBatchOf, batch_for, with_batch_for}
 use Rattle.sled_core.specs.Causes.{FaultAnswers}
-use Rattle.sled_core.specs.Fits.{Awaits, KeepsBuffers, config_of, device_of, fault_of, given_up_of, noted_in, open_places, reserved_end, heads_of}
+use Rattle.sled_core.specs.Fits.{Awaits, KeepsBuffers, config_of, device_of, fault_of, given_up_of, noted_in, open_places, reserved_end}
 use Rattle.sled_core.specs.Among.{AreAmong}
 use Rattle.sled_core.specs.Keeps.{SamePosition}
 use Rattle.sled_core.specs.Manifests.{is_manifest, manifest_page}
@@ -35,6 +35,7 @@ use Rattle.sled_log.specs.TicketSteps.{HasBegun, IsAnswerFor, batch_of, noting, 
 use Rattle.sled_log.proofs.Sessions.EndedTickets.{awaits_it, ended_open, failed_leads, failed_open, left, now, outstanding}
 use Rattle.sled_log.proofs.Sessions.MadeBatches.{joins_still, made_still, table_still}
 use Rattle.sled_log.proofs.Sessions.Within.{untouched}
+use Rattle.sled_log.proofs.Sessions.BegunHeads.{HasNoOther}
 
 -- one less than a place that isn't the first
 one_less : (e : ℕ) → 0 < e → pos e -ℤ pos 1 ≡ pos (e - 1)
@@ -116,7 +117,7 @@ module _ {D C : Type 0} (view : D → DeviceView) (sum : List ℕ → ℕ) (old 
 
   -- Where it keeps none, the batch comes to the history, and is noted.
   module _ (log : Log D C) (notes : NotesBatchOf ticket.reservation peg old.log log) (position : SamePosition old.log log) (buffers : KeepsBuffers old.log log) (fault : fault_of old.log ≡ None)
-      (others : (t : Reservation) (x : Message) → Awaits old.log t x → place_of t ≢ place_of ticket.reservation → Awaits log t x) (safe : (j : ℕ) (x : Message) → (x.place ≡ m.place → ⊥) → IsTicketFor (traces view) sum old k.history j x → IsSafe (traces view) sum log x) (opens_left : TakesOut m.place (open_places old.log) (open_places log)) (among : AreAmong (given_up_of log) (given_up_of old.log)) (heads : AreAmong (heads_of log) (heads_of old.log)) where
+      (others : (t : Reservation) (x : Message) → Awaits old.log t x → place_of t ≢ place_of ticket.reservation → Awaits log t x) (safe : (j : ℕ) (x : Message) → (x.place ≡ m.place → ⊥) → IsTicketFor (traces view) sum old k.history j x → IsSafe (traces view) sum log x) (opens_left : TakesOut m.place (open_places old.log) (open_places log)) (among : AreAmong (given_up_of log) (given_up_of old.log)) (heads : HasNoOther old.log log) where
     ended_view : seen (now view sum old k at n m there mid ticket takes log mid.pages) (set k.tickets n None) k.given_up k.heads ≡ noting (batch_of l m) (spent l n (places_without m.place (opens l)) (length old.pages.items))
     ended_view i = record {
       position = position.position i;

@@ -17,11 +17,10 @@ use Rattle.sled_codec.specs.PageTables.{IsTable, entry_of}
 use Rattle.sled_codec.specs.Snapshots.{Entry, Page, page_of}
 use Rattle.sled_store.specs.Script.{Performs, after_all}
 use Rattle.sled_store.proofs.Segments.Elements.{all_from_in, in_cases, in_first, in_rest}
-use Rattle.sled_log.specs.WriteSteps.{headed}
 use Rattle.sled_core.specs.declared.logger.Log.{Log}
 use Rattle.sled_core.specs.declared.reservation.Reservation.{Reservation}
 use Rattle.sled_core.specs.Causes.{FaultAnswers}
-use Rattle.sled_core.specs.Fits.{Awaits, KeepsBuffers, KeepsTickets, config_of, device_of, fault_of, given_up_of, noted_in, open_places, pins_of, position_of, reserved_end, segment_size_of, heads_of}
+use Rattle.sled_core.specs.Fits.{Awaits, KeepsBuffers, KeepsTickets, config_of, device_of, fault_of, given_up_of, noted_in, open_places, pins_of, position_of, reserved_end, segment_size_of, line_of}
 use Rattle.sled_core.specs.Among.{AreAmong}
 use Rattle.sled_core.specs.Keeps.{KeepsSeen, SamePosition}
 use Rattle.sled_core.specs.Logged.{in_log}
@@ -43,7 +42,7 @@ use Rattle.sled_log.specs.declared.session.command.Reply.TheVariants as reply
 use Rattle.sled_log.specs.Endings.{KeepsPages, TakesTicket, applied_to, batch_left, put_at}
 use Rattle.sled_log.specs.Made.{IsMade, MayJoin}
 use Rattle.sled_log.specs.Refusals.{when}
-use Rattle.sled_log.specs.RunPhases.{AreRising, BeginsBatch, Does, HasBatch, HasTickets, IsOpenAt, IsSafe, IsTicketFor, Unstored, device_in, seen, seen_log, stands, traces}
+use Rattle.sled_log.specs.RunPhases.{AreRising, BeginsBatch, Does, HasBatch, HasTickets, IsOpenAt, IsSafe, IsTicketFor, Unstored, device_in, seen, seen_log, stands, traces, HasHeads}
 use Rattle.sled_log.specs.RunStates.{DeviceView, RunState, has_message, has_ticket, open_messages, opens, places_without, top, with_log}
 use Rattle.sled_log.specs.Runs.{IsStep, StaysWithin}
 use Rattle.sled_log.specs.TicketActs.{RemoveActs, own_by}
@@ -55,6 +54,7 @@ use Rattle.sled_log.proofs.Sessions.OpenApart.{all_beside, inline_none, none_the
 use Rattle.sled_log.proofs.Sessions.SpentTickets.{spent_places, spent_tickets, taken_out, ticket_there}
 use Rattle.sled_log.proofs.Sessions.TicketsSeen.{message_there}
 use Rattle.sled_log.proofs.Sessions.Within.{untouched}
+use Rattle.sled_log.proofs.Sessions.BegunHeads.{HasNoOther, heads_left, other_same}
 
 -- A ticket that may be ended is open.
 pub open_there : (stopped : Bool) (n : ℕ) (ts : List (Option Message)) → when (stopped && true) why.Stopped (when (not (has_ticket n ts)) why.Ticket None) ≡ None → (m : Message) × (slice_get ts n ≡ Some (Some m))
@@ -106,7 +106,7 @@ pub record GivesUp {T D C : Type 0} (view : D → DeviceView) (sum : List ℕ �
   pub seen : KeepsSeen old new
   pub buffers : KeepsBuffers old new
   pub position : SamePosition old new
-  pub heads : AreAmong (heads_of new) (heads_of old)
+  pub heads : HasNoOther old new
   pub err : OnErr result (KeepsTickets old new × (IsSome (fault_of old) → new ≡ old))
 
 -- What is among some and one more is among others and that one, where those are among these.
@@ -209,7 +209,7 @@ module _ {D C : Type 0} (view : D → DeviceView) (sum : List ℕ → ℕ) (old 
       as_many pages_are = sym (length-map pages.items page_of) ∙ ap length pages_are ∙ length-map old.pages.items page_of
 
       -- Where the log keeps a failure its reservations stay open, and no item has to be safe from a crash.
-      kept_open : (e : IoError) → fault_of log ≡ Some e → KeepsTickets old.log log → AreAmong (heads_of log) (heads_of old.log) → noted_in log ≡ noted_in old.log → SamePosition old.log log → map page_of pages.items ≡ map page_of old.pages.items
+      kept_open : (e : IoError) → fault_of log ≡ Some e → KeepsTickets old.log log → HasNoOther old.log log → noted_in log ≡ noted_in old.log → SamePosition old.log log → map page_of pages.items ≡ map page_of old.pages.items
           → Fits (traces view) sum log k.history k.acknowledged k.floor at.unmarked → IsOpenAt (traces view) sum now (left k.history)
       kept_open e fault kept heads noted position pages_are fits =
           let failed : fault_of log ≡ None → ⊥ = λ none. let both : None ≡ Some e = sym none ∙ fault in cc in
@@ -224,7 +224,7 @@ module _ {D C : Type 0} (view : D → DeviceView) (sum : List ℕ → ℕ) (old 
                 (λ t x awaits apart. kept.awaits t.reservation x awaits) (λ j x apart open_yet none. absurd (failed none)) (λ x ne may. may)
                 (λ x of ne begun. begun_still noted x begun) (λ none. absurd (failed none));
             given_up = λ x given. at.given_up x (kept.given_up x given);
-            heads = λ h there_yet. at.heads h (heads h there_yet);
+            heads = heads_left sum old.log log k.heads heads at.heads;
             ends = subst (λ e. All (λ x. x.place + x.size ≤ e) k.history.messages) (sym position.reserved) at.ends;
           }
 
@@ -232,7 +232,7 @@ module _ {D C : Type 0} (view : D → DeviceView) (sum : List ℕ → ℕ) (old 
       module _ (is : log ≡ old.log) (pages_are : map page_of pages.items ≡ map page_of old.pages.items) (e : IoError) (fault : fault_of old.log ≡ Some e) where
         pub failed_open : IsOpenAt (traces view) sum now (left k.history)
         failed_open = kept_open e (ap fault_of is ∙ fault)
-            (record { awaits = λ t x awaits. subst (λ (y : Log D C). Awaits y t x) (sym is) awaits; opens = ap open_places is; given_up = λ x given. subst (λ (y : Log D C). Contains (given_up_of y) x) is given }) (λ h there_yet. subst (λ (y : Log D C). Contains (heads_of y) h) is there_yet) (ap noted_in is)
+            (record { awaits = λ t x awaits. subst (λ (y : Log D C). Awaits y t x) (sym is) awaits; opens = ap open_places is; given_up = λ x given. subst (λ (y : Log D C). Contains (given_up_of y) x) is given }) (other_same old.log log (ap line_of is)) (ap noted_in is)
             (record { position = ap position_of is; reserved = ap reserved_end is; pins = ap pins_of is; size = ap segment_size_of is }) pages_are
             (subst (λ (x : Log D C). Fits (traces view) sum x k.history k.acknowledged k.floor at.unmarked) (sym is) at.fits)
 
@@ -314,7 +314,7 @@ module _ {D C : Type 0} (view : D → DeviceView) (sum : List ℕ → ℕ) (old 
         pub outstanding : open_places log ≡ places_without m.place (open_places old.log)
         outstanding = taken_out m.place (open_places old.log) (open_places log) (subst AreRising (sym (at.tickets.are_all fault)) at.tickets.rising) opens_left
 
-        pub ended_open : (H' : History) (U given : List Message) → AreAmong (given_up_of log) given → AreAmong (heads_of log) (heads_of old.log) → IsMade H' → Fits (traces view) sum log H' k.acknowledged k.floor U → IsTable (map page_of pages.items) H' top
+        pub ended_open : (H' : History) (U given : List Message) → AreAmong (given_up_of log) given → HasNoOther old.log log → IsMade H' → Fits (traces view) sum log H' k.acknowledged k.floor U → IsTable (map page_of pages.items) H' top
             → ((x : Message) → (m.page ≡ x.page → ⊥) → MayJoin k.history x → MayJoin H' x) → ((x : Message) → x.page ≡ manifest_page → (m.page ≡ x.page → ⊥) → BeginsBatch old.log x → BeginsBatch log x)
             → All (λ x. x.place + x.size ≤ reserved_end old.log) H'.messages → IsOpenAt (traces view) sum now (left_with H' given)
         ended_open H' U given among heads made fits table joins begun ends = record {
@@ -328,7 +328,7 @@ module _ {D C : Type 0} (view : D → DeviceView) (sum : List ℕ → ℕ) (old 
               (λ t x awaits apart. others t.reservation x awaits (other_place t.reservation x awaits apart)) safe joins begun
               (λ none. outstanding ∙ ap (places_without m.place) (at.tickets.are_all fault) ∙ sym (spent_places k.tickets n m there at.tickets.rising));
           given_up = among;
-          heads = λ h there_yet. at.heads h (heads h there_yet);
+          heads = heads_left sum old.log log k.heads heads at.heads;
           ends = subst (λ e. All (λ x. x.place + x.size ≤ e) H'.messages) (sym position.reserved) ends;
         }
 
@@ -381,7 +381,7 @@ module _ {D C : Type 0} (view : D → DeviceView) (sum : List ℕ → ℕ) (old 
             }
 
         -- It comes to the history.
-        pub completes : config_of log ≡ config_of old.log → AreAmong (given_up_of log) (given_up_of old.log) → AreAmong (heads_of log) (heads_of old.log) → m.page ≢ manifest_page → (place : ℤ) (pointer : DiskPtr) → IsAnswerFor m place pointer → (H' : History) → Step k.history (Completed m) H'
+        pub completes : config_of log ≡ config_of old.log → AreAmong (given_up_of log) (given_up_of old.log) → HasNoOther old.log log → m.page ≢ manifest_page → (place : ℤ) (pointer : DiskPtr) → IsAnswerFor m place pointer → (H' : History) → Step k.history (Completed m) H'
             → Fits (traces view) sum log H' k.acknowledged k.floor (m ∷ at.unmarked) → (e : Entry) → e ≡ entry_of m
             → map page_of pages.items ≡ applied_to (map page_of old.pages.items) ticket.kind ticket.page e → Does view sum (Open old) (command.Complete n) (Open now, reply.Done place pointer) k
         completes config among heads changes place pointer answer H' step fits e e_is applied =
@@ -457,7 +457,7 @@ module _ {D C : Type 0} (view : D → DeviceView) (sum : List ℕ → ℕ) (old 
     table = subst (λ (ps : List Page). IsTable ps k.history top) (sym kept.pages) at.table;
     tickets = kept_tickets at.tickets;
     given_up = subst (λ (x : Log D C). AreAmong (given_up_of x) k.given_up) (sym kept.log) at.given_up;
-    heads = subst (λ (x : Log D C). AreAmong (heads_of x) (map (headed sum) k.heads)) (sym kept.log) at.heads;
+    heads = subst (λ (x : Log D C). HasHeads sum x k.heads) (sym kept.log) at.heads;
     ends = subst (λ (x : Log D C). All (λ y. y.place + y.size ≤ reserved_end x) k.history.messages) (sym kept.log) at.ends;
   }
 

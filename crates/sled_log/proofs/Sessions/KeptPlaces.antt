@@ -12,7 +12,7 @@ use Rattle.sled_codec.specs.PageTables.{IsTable, entry_of, page_with}
 use Rattle.sled_codec.specs.Snapshots.{Free, Page, Present, Uninitialized, page_of}
 use Rattle.sled_store.specs.Device.{Trace}
 use Rattle.sled_store.proofs.Histories.TableParts.{from_page}
-use Rattle.sled_log.proofs.Sessions.BegunHeads.{heads_kept}
+use Rattle.sled_log.proofs.Sessions.BegunHeads.{heads_kept, only_begun}
 use Rattle.sled_core.specs.declared.logger.Log.{Log}
 use Rattle.sled_core.specs.declared.reservation.Reservation.{Reservation}
 use Rattle.sled_core.specs.Buffers.{most_open}
@@ -227,7 +227,7 @@ module _ {D C : Type 0} (view : D → DeviceView) (sum : List ℕ → ℕ) (old 
           table = subst (λ p. IsTable (map page_of p.items) k.history top) (sym pages) at.table;
           tickets = has_tickets;
           given_up = λ m given. at.given_up m (kept.behind.given_up m given);
-          heads = heads_kept sum old.log new.log begun_pages k.tickets k.given_up k.heads kept.behind.marked.heads at.heads;
+          heads = heads_kept sum old.log new.log begun_pages k.tickets k.given_up k.heads (only_begun sum old.log new.log kept.behind.marked) at.heads;
           ends = All-weaker (λ m. m.place + m.size ≤ reserved_end old.log) (λ m. m.place + m.size ≤ reserved_end new.log) (λ m low. omega (arith, low, up)) k.history.messages at.ends;
         }
 

@@ -23,8 +23,7 @@ use Rattle.sled_codec.specs.Snapshots.{Entry, Page, Present, Uninitialized, page
 use Rattle.sled_store.specs.Device.{Event, Trace}
 use Rattle.sled_store.specs.Script.{Performs, after_all}
 use Rattle.sled_store.proofs.Segments.TableEntries.{from_table}
-use Rattle.sled_log.proofs.Sessions.BegunHeads.{heads_kept, heads_still, begun_with}
-use Rattle.sled_core.specs.Among.{AreAmong}
+use Rattle.sled_log.proofs.Sessions.BegunHeads.{heads_kept, heads_still, begun_with, only_begun}
 use Rattle.sled_core.specs.Causes.{IsFault, IsFaultAt, IsHeld, OnDone}
 use Rattle.sled_core.specs.Reading.{GivesMessage, IsInline}
 use Rattle.sled_core.specs.ReadPointer.{GivesBlobOrWaits, IsKeptBlob, place_read}
@@ -33,7 +32,7 @@ use Rattle.sled_core.specs.declared.logger.Log.{Log}
 use Rattle.sled_core.specs.Begun.{segment_view}
 use Rattle.sled_core.specs.OpenBatches.{not_whole}
 use Rattle.sled_core.proofs.Line.LineEnds.{noted_still}
-use Rattle.sled_core.specs.Fits.{HasRecordOf, buffers_of, current_begin, current_of, device_of, fault_of, held_len, next_place, noted_in, reserved_end, segment_size_of, start_of, synced_end, waiting_of, heads_of}
+use Rattle.sled_core.specs.Fits.{HasRecordOf, buffers_of, current_begin, current_of, device_of, fault_of, held_len, next_place, noted_in, reserved_end, segment_size_of, start_of, synced_end, waiting_of}
 use Rattle.sled_core.specs.Keeps.{SamePosition, start_sealed}
 use Rattle.sled_core.specs.OpenPlaces.{first_between}
 use Rattle.sled_core.specs.Fronts.{CameAround, syncs}
@@ -52,12 +51,12 @@ use Rattle.sled_log.proofs.Sessions.MadePages.{page_present}
 use Rattle.sled_log.specs.Made.{HasBlobIn, IsMade}
 use Rattle.sled_log.specs.declared.session.Phase.TheVariants.{Open}
 use Rattle.sled_log.specs.declared.session.opened.Opened.{Opened}
-use Rattle.sled_log.proofs.Sessions.Writing.{AreWhole, IsHeldBy, StaysPut, all_held, first_seen, flush_in, flush_out, if_held, next_start_seen, over, sealed_too, span_seen, kept_with, still_with}
+use Rattle.sled_log.proofs.Sessions.Writing.{AreWhole, IsHeldBy, StaysPut, all_held, first_seen, flush_in, flush_out, if_held, next_start_seen, over, sealed_too, span_seen, kept_with, still_with, whole_seen}
 use Rattle.sled_log.specs.Readings.{IsOfPage, IsRead, KeepsOpen, ReadsEntries, ReadsItem, page_told}
-use Rattle.sled_log.specs.RunPhases.{IsOpenAt, Unstored, seen, seen_log, stands, traces}
+use Rattle.sled_log.specs.RunPhases.{IsOpenAt, Unstored, seen, seen_log, stands, traces, HasHeads}
 use Rattle.sled_log.specs.RunStates.{DeviceView, EndsInReach, LogView, RunState, current_span, first_waiting, held, is_present, next_start, opens, page_now, sealed_around, spans_without, start_around, top, with_log, MarkAt, heads_at}
 use Rattle.sled_log.specs.ReadSteps.{FailsAt, ReadStep, ReadsAll, ReadsAt, held_around_place, holding_read, read_around, read_at, reading_around}
-use Rattle.sled_log.specs.WriteSteps.{IfHeld, IsWhy, ShowsBuffers, WritesSome, flushed, headed}
+use Rattle.sled_log.specs.WriteSteps.{IfHeld, IsWhy, ShowsBuffers, WritesSome, flushed, headed, fillings_seen}
 
 -- Buffers that have a place.
 
@@ -130,12 +129,12 @@ module _ {D C : Type 0} (log : Log D C) (sum : List ℕ → ℕ) (at begun : ℕ
   are_held : All (IsHeldBy (opens l)) (sealed_at sum at log)
   are_held = of_all (IsHeldBy (opens l)) (all_held log sum begun k.tickets k.given_up k.heads)
 
-  shows : AreWhole sum log k.given_up k.heads → ShowsBuffers sum (segment_size_of log) (opens l) k.given_up k.heads (sealed_around at l) (sealed_at sum at log)
+  shows : AreWhole sum log k.given_up k.heads → ShowsBuffers sum (segment_size_of log) l (sealed_around at l) (sealed_at sum at log)
   shows whole = record {
     are = are_seen;
     long = of_all HasLength (shows_long sum log);
     held = are_held;
-    whole = of_all (λ b. b.held ≡ None → IsWholeBuffer sum (segment_size_of log) k.given_up (map (headed sum) k.heads) b) whole;
+    whole = of_all (λ b. b.held ≡ None → IsWholeBuffer sum (segment_size_of log) k.given_up (map (headed sum) k.heads) (fillings_seen l) b) (whole_seen log sum begun k.tickets k.given_up k.heads whole);
   }
 
   start_seen : start_at at log ≡ start_around at l
@@ -382,7 +381,7 @@ reads_more sum size [] m l end old mid new is more = (
     free = subst (λ (x : LogView). holding_read x (read_at m) ≡ None) is.2 more.free;
     writes = record {
       buffers = more.writes.buffers;
-      shown = subst (λ (x : LogView). ShowsBuffers sum size (opens x) x.given_up x.heads (sealed_around (read_at m) x) more.writes.buffers) is.2 more.writes.shown;
+      shown = subst (λ (x : LogView). ShowsBuffers sum size x (sealed_around (read_at m) x) more.writes.buffers) is.2 more.writes.shown;
       made = more.writes.made ∙ (λ i. after_all (reading_around (is.2 i) (read_at m) more.writes.buffers) (is.0 i));
     };
     failures = more.failures ∙ is.1;
@@ -411,7 +410,7 @@ pub record HasReadSome {D C : Type 0} (view : D → DeviceView) (sum : List ℕ 
   pub free : fault_of old ≡ None
   pub only : KeepsOpen (traces view) sum old now
   pub so_far : (k : Unstored) (ms : List Message) (begun : ℕ) → IsRead (traces view) sum old k → All (IsOfPage k.history (reserved_end old) page) ms → map entry_of ms ≡ entries
-      → (heads : List MarkAt) × AreAmong (heads_of now) (map (headed sum) heads)
+      → (heads : List MarkAt) × HasHeads sum now heads
       × AreRead sum (segment_size_of old) (seen_log old begun k.tickets k.given_up k.heads) ms rest (view (device_of old)) (view (device_of now)) items (seen_log now begun k.tickets k.given_up heads)
 
 -- of what a page is that is present there is a first message
@@ -462,7 +461,7 @@ module _ {D C : Type 0} (view : D → DeviceView) (sum : List ℕ → ℕ) (old 
       free = λ none. first.free (second.free none);
     }
 
-    is_read : (k : Unstored) (heads : List MarkAt) → AreAmong (heads_of mid) (map (headed sum) heads) → KeepsOpen (traces view) sum old mid → IsRead (traces view) sum old k → IsRead (traces view) sum mid (begun_with k heads)
+    is_read : (k : Unstored) (heads : List MarkAt) → HasHeads sum mid heads → KeepsOpen (traces view) sum old mid → IsRead (traces view) sum old k → IsRead (traces view) sum mid (begun_with k heads)
     is_read k heads among only is = record {
       made = is.made;
       zeros = is.zeros;
@@ -513,7 +512,7 @@ module _ {D C : Type 0} (view : D → DeviceView) (sum : List ℕ → ℕ) (old 
           let now : LogView = seen_log mid begun k.tickets k.given_up heads in
           let got = reads.item (begun_with k heads) one.message begun (is_read k heads so.1 some.only is) one.of one.place one.pointer in (
             heads_at now (start_of new),
-            heads_kept sum mid new begun k.tickets k.given_up heads reads.marked.heads so.1,
+            heads_kept sum mid new begun k.tickets k.given_up heads (only_begun sum mid new reads.marked) so.1,
             record {
               done = came.done ++ one.message ∷ [];
               left = one.later;
@@ -541,7 +540,7 @@ module _ {D C : Type 0} (view : D → DeviceView) (sum : List ℕ → ℕ) (old 
           let now : LogView = seen_log mid begun k.tickets k.given_up heads in
           let b : RunState = with_log a (view (device_of new)) (Some (seen_log new begun k.tickets k.given_up (heads_at now (start_of new)))) in (
             heads_at now (start_of new),
-            heads_kept sum mid new begun k.tickets k.given_up heads reads.marked.heads so.1,
+            heads_kept sum mid new begun k.tickets k.given_up heads (only_begun sum mid new reads.marked) so.1,
             inr (inr (record {
               done = came.done;
               message = one.message;
@@ -629,7 +628,7 @@ module _ {D C : Type 0} (view : D → DeviceView) (sum : List ℕ → ℕ) (open
   abbrev pub read_with : List MarkAt → Unstored
   read_with = kept_with (traces view) sum opened new k k.acknowledged
 
-  pub page_read : (heads : List MarkAt) × AreAmong (heads_of new) (map (headed sum) heads)
+  pub page_read : (heads : List MarkAt) × HasHeads sum new heads
       × ReadStep sum (segment_size_of opened.log) (stands view (Open opened) k) (seen opened k.tickets k.given_up k.heads) (page_now k.history page) (page_told r) (view (device_of new)) (stands view (Open (over opened new)) (read_with heads))
   page_read =
       let present = page_present k.history (map page_of opened.pages.items) page base frags at.table has in

@@ -21,14 +21,12 @@ use Rattle.sled_store.specs.Blobs.{blob_bytes, making}
 use Rattle.sled_store.specs.Device.{Event, Trace, state_of}
 use Rattle.sled_store.specs.Script.{Performs, after_all}
 use Rattle.sled_store.proofs.Traces.ScriptLemmas.{performs_nothing}
-use Rattle.sled_log.specs.WriteSteps.{headed}
-use Rattle.sled_log.proofs.Sessions.BegunHeads.{begun_with, heads_kept}
-use Rattle.sled_core.specs.Heads.{heads_along}
+use Rattle.sled_log.proofs.Sessions.BegunHeads.{begun_with, heads_kept, heads_left, only_begun, other_same}
 use Rattle.sled_core.specs.Begun.{SegmentView}
 use Rattle.sled_core.specs.declared.logger.Log.{Log}
 use Rattle.sled_core.specs.declared.reservation.Reservation.{Reservation}
 use Rattle.sled_core.specs.Buffers.{pointer_as}
-use Rattle.sled_core.specs.Fits.{Awaits, AwaitsIn, FitsInline, IsUnchanged, blob_at, body_length, config_of, device_of, fault_of, given_up_of, in_blob, in_blob_of, message_for, noted_in, open_places, pins_of, reserved_end, segment_size_of, target_of, heads_of, start_of}
+use Rattle.sled_core.specs.Fits.{Awaits, AwaitsIn, FitsInline, IsUnchanged, blob_at, body_length, config_of, device_of, fault_of, given_up_of, in_blob, in_blob_of, message_for, noted_in, open_places, pins_of, reserved_end, segment_size_of, target_of, start_of}
 use Rattle.sled_core.specs.Among.{AreAmong}
 use Rattle.sled_core.specs.GivenUp.{given_up_along}
 use Rattle.sled_core.specs.Keeps.{KeepsSeen, Preserves}
@@ -51,7 +49,7 @@ use Rattle.sled_log.specs.declared.session.command.Reply.TheVariants as reply
 use Rattle.sled_log.specs.declared.session.Phase.TheVariants as phase
 use Rattle.sled_log.specs.Made.{JoinsWithBlob}
 use Rattle.sled_log.specs.Reservations.{HasTried, HoldsTicket, MakesRoom, MayReserve}
-use Rattle.sled_log.specs.RunPhases.{HasBatch, IsOpenAt, IsSafe, Unstored, device_in, seen, seen_log, stands, traces}
+use Rattle.sled_log.specs.RunPhases.{HasBatch, IsOpenAt, IsSafe, Unstored, device_in, seen, seen_log, stands, traces, HasHeads}
 use Rattle.sled_log.specs.RunStates.{DeviceView, LogView, RunState, has_page, open_messages, target_in, top, MarkAt, heads_at}
 use Rattle.sled_log.specs.Runs.{StaysRecoverable}
 use Rattle.sled_log.specs.TicketActs.{BlobActs, ReserveActs, making_for}
@@ -258,7 +256,7 @@ pub record StillHolds {D C : Type 0} (trace : D → Trace) (sum : List ℕ → �
   pub safe : (m : Message) → IsSafe trace sum old m → IsSafe trace sum new m
 
 -- So does a session over it, with the same tickets and pages, with the buffers that were begun.
-pub still_at : {D C : Type 0} (trace : D → Trace) (sum : List ℕ → ℕ) (old new : Opened D C) (k : Unstored) (heads : List MarkAt) → AreAmong (heads_of new.log) (map (headed sum) heads) → StillHolds trace sum old.log new.log → new.pages ≡ old.pages → new.tickets.items ≡ old.tickets.items
+pub still_at : {D C : Type 0} (trace : D → Trace) (sum : List ℕ → ℕ) (old new : Opened D C) (k : Unstored) (heads : List MarkAt) → HasHeads sum new.log heads → StillHolds trace sum old.log new.log → new.pages ≡ old.pages → new.tickets.items ≡ old.tickets.items
     → ((page : ℕ) → get_or new.busy.items page false ≡ get_or old.busy.items page false) → new.batch ≡ old.batch → IsOpenAt trace sum old k → IsOpenAt trace sum new (begun_with k heads)
 still_at trace sum old new k heads among still pages tickets busy batch at =
     let up = still.grown in
@@ -315,8 +313,8 @@ unchanged_holds trace sum old new unchanged keeps = record {
 }
 
 -- whose headers that aren't on the device are what they were,
-pub unchanged_heads : {D C : Type 0} (sum : List ℕ → ℕ) (old new : Log D C) (heads : List MarkAt) → IsUnchanged old new → AreAmong (heads_of old) (map (headed sum) heads) → AreAmong (heads_of new) (map (headed sum) heads)
-unchanged_heads sum old new heads unchanged among = λ h there. among h (subst (λ (l : List SegmentView). Contains (heads_along l) h) unchanged.line there)
+pub unchanged_heads : {D C : Type 0} (sum : List ℕ → ℕ) (old new : Log D C) (heads : List MarkAt) → IsUnchanged old new → HasHeads sum old heads → HasHeads sum new heads
+unchanged_heads sum old new heads unchanged = heads_left sum old new heads (other_same old new unchanged.line)
 
 -- and one that was made ready for a record.
 ready_holds : {D C : Type 0} (trace : D → Trace) (sum : List ℕ → ℕ) (old new : Log D C) (page n : ℕ) → IsMadeReady sum old new page n → Preserves trace sum old new → StillHolds trace sum old new
@@ -441,7 +439,7 @@ module _ {D C : Type 0} (view : D → DeviceView) (sum : List ℕ → ℕ) (old 
             };
           },
         );
-        at = still_at (traces view) sum old after k (heads_at l (start_of log)) (heads_kept sum old.log log begun k.tickets k.given_up k.heads made.marked.heads at.heads) (ready_holds (traces view) sum old.log log page n made came.keeps) refl refl (λ p. refl) refl at;
+        at = still_at (traces view) sum old after k (heads_at l (start_of log)) (heads_kept sum old.log log begun k.tickets k.given_up k.heads (only_begun sum old.log log made.marked) at.heads) (ready_holds (traces view) sum old.log log page n made came.keeps) refl refl (λ p. refl) refl at;
         crash = going_on (traces view) sum old k at log came.keeps.goes_on;
       }
 
@@ -476,7 +474,7 @@ module _ {D C : Type 0} (view : D → DeviceView) (sum : List ℕ → ℕ) (old 
 
 -- where only room was made all holds that did
 pub room_at : {D C : Type 0} (trace : D → Trace) (sum : List ℕ → ℕ) (old new : Opened D C) (k : Unstored) → MakesRoom old new → IsOpenAt trace sum old k → IsOpenAt trace sum new k
-room_at trace sum old new k room at = still_at trace sum old new k k.heads (λ h there. at.heads h (subst (λ x. Contains (heads_of x) h) room.log there)) same room.pages room.tickets room.busy room.batch at where
+room_at trace sum old new k room at = still_at trace sum old new k k.heads (subst (λ x. HasHeads sum x k.heads) (sym room.log) at.heads) same room.pages room.tickets room.busy room.batch at where
   same : StillHolds trace sum old.log new.log
   same = record {
     fits = λ H A f U. subst (λ x. Fits trace sum x H A f U) (sym room.log);

@@ -16,11 +16,13 @@ use Rattle.sled_store.specs.Blobs.{UnlessFault}
 use Rattle.sled_store.specs.Device.{Event, Trace}
 use Rattle.sled_store.specs.Script.{Performs, after_all}
 use Rattle.sled_log.proofs.Sessions.BegunHeads.{HasOnlyBegun, heads_kept, heads_still}
+use Rattle.sled_core.specs.Fillings.{FillingAt}
 use Rattle.sled_core.specs.Heads.{HeadAt}
+use Rattle.sled_core.proofs.Line.Among.{among_behind}
 use Rattle.sled_core.specs.Begun.{begin_of, segment_view}
 use Rattle.sled_core.specs.Causes.{Answers, HeldAnswers, IsHeld, OnDone}
 use Rattle.sled_core.specs.declared.logger.Log.{Log}
-use Rattle.sled_core.specs.Fits.{FirstWaits, IsUsedUp, IsUsedUpBelow, KeepsTickets, buffers_of, current_begin, current_of, device_of, fault_of, given_up_of, held_len, holding_below, noted_in, open_places, pending_of, position_of, reserved_end, sealing_end, segment_size_of, stable_end, start_of, synced_end, waiting_of, writing_below, heads_of}
+use Rattle.sled_core.specs.Fits.{FirstWaits, IsUsedUp, IsUsedUpBelow, KeepsTickets, buffers_of, current_begin, current_of, device_of, fault_of, given_up_of, held_len, holding_below, noted_in, open_places, pending_of, position_of, reserved_end, sealing_end, segment_size_of, stable_end, start_of, synced_end, waiting_of, writing_below, fillings_of, heads_of}
 use Rattle.sled_core.specs.Fronts.{CameTo, syncs}
 use Rattle.sled_core.specs.Among.{AreAmong}
 use Rattle.sled_core.specs.Keeps.{LeavesAbove, Preserves, SamePosition, sealed_for, start_for, start_sealed}
@@ -43,8 +45,8 @@ use Rattle.sled_core.proofs.Reached.OpenBatch.{whole_not}
 use Rattle.sled_log.specs.declared.session.opened.Opened.{Opened}
 use Rattle.sled_log.specs.declared.session.command.Refusal.{Refusal}
 use Rattle.sled_log.specs.Refusals.{when}
-use Rattle.sled_log.specs.RunPhases.{IsOpenAt, IsTicketFor, Unstored, seen_log, seen}
-use Rattle.sled_log.specs.WriteSteps.{FailsTo, HasWrittenTo, IfHeld, IsWhy, KeepsFailing, ShowsBuffers, flushed, holding, left_from, stable_from, synced_from, writes_free, written_below, headed}
+use Rattle.sled_log.specs.RunPhases.{HasHeads, IsOpenAt, IsTicketFor, Unstored, seen_log, seen}
+use Rattle.sled_log.specs.WriteSteps.{FailsTo, HasWrittenTo, IfHeld, IsWhy, KeepsFailing, ShowsBuffers, flushed, holding, left_from, stable_from, synced_from, writes_free, written_below, filled_by, fillings_seen, headed}
 use Rattle.sled_log.proofs.Sessions.SafeItems.{safe_on}
 use Rattle.sled_log.specs.RunStates.{DeviceView, EndsInReach, LogView, RunState, count_unheld, current_span, first_waiting, held, held_among, next_start, opens, pending_in_view, sealed_below, spans_below, spans_from, start_below, with_log, without_unheld, MarkAt, heads_at}
 
@@ -74,8 +76,8 @@ more_records sum number these all among place (r ∷ rs) are = (
   more_records sum number these all among (place + length (short_record sum r.kind r.page number r.body)) rs are.1,
 )
 
-more_given : (sum : List ℕ → ℕ) (size : ℕ) (these all : List Message) (fewer heads : List HeadAt) (b : BufferAt) → AreAmong these all → AreAmong fewer heads → IsWholeBuffer sum size these fewer b → IsWholeBuffer sum size all heads b
-more_given sum size these all fewer heads b among further whole = record {
+more_given : (sum : List ℕ → ℕ) (size : ℕ) (these all : List Message) (fewer heads : List HeadAt) (few fillings : List FillingAt) (b : BufferAt) → AreAmong these all → AreAmong fewer heads → AreAmong few fillings → IsWholeBuffer sum size these fewer few b → IsWholeBuffer sum size all heads fillings b
+more_given sum size these all fewer heads few fillings b among further fills whole = record {
   head = whole.head;
   records = whole.records;
   rest = whole.rest;
@@ -85,21 +87,27 @@ more_given sum size these all fewer heads b among further whole = record {
     | inr behind ↦ inr behind
   ];
   each = more_records sum (b.place / size) these all among (b.place + length whole.head) whole.records whole.each;
-  filled = whole.filled;
+  filled = elim whole.filled [ inl none ↦ inl none | inr some ↦ inr (some.0, some.1, fills _ some.2) ];
 }
 
--- Each buffer of a log that nothing holds up is whole records, those of messages that were given up with the bodies of these, and headers with the marks that
--- their segments were begun with,
-abbrev pub AreWhole : {D C : Type 0} → (List ℕ → ℕ) → Log D C → List Message → List MarkAt → Type 0
-AreWhole sum log given_up heads = All (λ b. b.held ≡ None → IsWholeBuffer sum (segment_size_of log) given_up (map (headed sum) heads) b) (buffers_of sum log)
+-- what fills the segments of a log, with the current one as it would be sealed, where these buffers were begun
+abbrev pub fillings_with : {D C : Type 0} → Log D C → List MarkAt → List FillingAt
+fillings_with log heads = record { next = sealing_end log; from = reserved_end log } ∷ map filled_by heads
 
--- where it fits a history and keeps no failure, what it counts as given up was, and its headers that aren't on the device were begun so.
-pub whole_of : {D C : Type 0} (trace : D → Trace) (sum : List ℕ → ℕ) (log : Log D C) (given_up : List Message) (heads : List MarkAt) (H : History) (A f : ℕ) (U : List Message) → AreAmong (given_up_of log) given_up → AreAmong (heads_of log) (map (headed sum) heads)
+-- Each buffer of a log that nothing holds up is whole records, those of messages that were given up with the bodies of these, and headers with the marks that
+-- their segments were begun with, and what fills the one in front of those from where what was reserved ended,
+abbrev pub AreWhole : {D C : Type 0} → (List ℕ → ℕ) → Log D C → List Message → List MarkAt → Type 0
+AreWhole sum log given_up heads = All (λ b. b.held ≡ None → IsWholeBuffer sum (segment_size_of log) given_up (map (headed sum) heads) (fillings_with log heads) b) (buffers_of sum log)
+
+-- where it fits a history and keeps no failure, what it counts as given up was, and its headers and fillings that aren't on the device were begun so.
+pub whole_of : {D C : Type 0} (trace : D → Trace) (sum : List ℕ → ℕ) (log : Log D C) (given_up : List Message) (heads : List MarkAt) (H : History) (A f : ℕ) (U : List Message) → AreAmong (given_up_of log) given_up → HasHeads sum log heads
     → Fits trace sum log H A f U → fault_of log ≡ None → AreWhole sum log given_up heads
-whole_of trace sum log given_up heads H A f U among marked fits none =
+whole_of trace sum log given_up heads H A f U among has fits none =
+    let one : FillingAt = record { next = sealing_end log; from = reserved_end log } in
     let marks : List HeadAt = map (headed sum) heads in
-    All-weaker (λ b. b.held ≡ None → IsWholeBuffer sum (segment_size_of log) (given_up_of log) (heads_of log) b) (λ b. b.held ≡ None → IsWholeBuffer sum (segment_size_of log) given_up marks b)
-    (λ b whole free. more_given sum (segment_size_of log) (given_up_of log) given_up (heads_of log) marks b among marked (whole free)) (buffers_of sum log) (buffers_whole trace sum log H (fits_holds trace sum log H A f U fits) none)
+    All-weaker (λ b. b.held ≡ None → IsWholeBuffer sum (segment_size_of log) (given_up_of log) (heads_of log) (one ∷ fillings_of log) b) (λ b. b.held ≡ None → IsWholeBuffer sum (segment_size_of log) given_up marks (one ∷ map filled_by heads) b)
+    (λ b whole free. more_given sum (segment_size_of log) (given_up_of log) given_up (heads_of log) marks (one ∷ fillings_of log) (one ∷ map filled_by heads) b among has.marked (among_behind (one ∷ []) (fillings_of log) (map filled_by heads) has.filled) (whole free))
+    (buffers_of sum log) (buffers_whole trace sum log H (fits_holds trace sum log H A f U fits) none)
 
 -- Buffers as they are seen.
 
@@ -285,8 +293,17 @@ module _ {D C : Type 0} (log : Log D C) (sum : List ℕ → ℕ) (begun : ℕ) (
   pub waiting_held : All (IsHeldBy (opens l)) (waiting_of log)
   waiting_held = sealed_too (IsHeldBy (opens l)) all_held
 
-  pub shows_waiting : AreWhole sum log given_up heads → ShowsBuffers sum size (opens l) given_up heads l.waiting (waiting_of log)
-  shows_waiting whole = record { are = refl; long = sealed_too HasLength (shows_long sum log); held = waiting_held; whole = sealed_too (λ b. b.held ≡ None → IsWholeBuffer sum size given_up (map (headed sum) heads) b) whole }
+  -- each is whole, and so it is seen
+  abbrev pub SeenWhole : BufferAt → Type 0
+  SeenWhole b = b.held ≡ None → IsWholeBuffer sum size given_up (map (headed sum) heads) (fillings_seen l) b
+
+  pub whole_seen : AreWhole sum log given_up heads → All SeenWhole (buffers_of sum log)
+  whole_seen whole =
+      subst (λ n. All (λ b. b.held ≡ None → IsWholeBuffer sum size given_up (map (headed sum) heads) (record { next = n; from = reserved_end log } ∷ map filled_by heads) b) (buffers_of sum log))
+      (ap (λ (s : Span). s.end) span_seen) whole
+
+  pub shows_waiting : AreWhole sum log given_up heads → ShowsBuffers sum size l l.waiting (waiting_of log)
+  shows_waiting whole = record { are = refl; long = sealed_too HasLength (shows_long sum log); held = waiting_held; whole = sealed_too SeenWhole (whole_seen whole) }
 
   pub pending_seen : pending_of log ≡ pending_in_view l
   pending_seen = count_seen (opens l) (waiting_of log) waiting_held
@@ -353,12 +370,12 @@ module _ {D C : Type 0} (log : Log D C) (sum : List ℕ → ℕ) (begun : ℕ) (
       abbrev pub its_buffers : List BufferAt
       its_buffers = begun_below to (buffers_of sum log)
 
-      pub shows_below : AreWhole sum log given_up heads → ShowsBuffers sum size (opens l) given_up heads (written_below to l) its_buffers
+      pub shows_below : AreWhole sum log given_up heads → ShowsBuffers sum size l (written_below to l) its_buffers
       shows_below whole = record {
         are = flushed_seen;
         long = below_all HasLength to (buffers_of sum log) (shows_long sum log);
         held = below_all (IsHeldBy (opens l)) to (buffers_of sum log) all_held;
-        whole = below_all (λ b. b.held ≡ None → IsWholeBuffer sum size given_up (map (headed sum) heads) b) to (buffers_of sum log) whole;
+        whole = below_all SeenWhole to (buffers_of sum log) (whole_seen whole);
       }
 
       pub holding_seen : holding_below sum log to ≡ holding to l
@@ -545,9 +562,9 @@ module _ {D C : Type 0} (trace : D → Trace) (sum : List ℕ → ℕ) (opened :
     ends = (let low = is.ends in let same = position.reserved in omega (arith, low, same));
   }
 
-  pub still_with : (heads : List MarkAt) → AreAmong (heads_of log) (map (headed sum) heads) → (at : IsOpenAt trace sum opened k) → KeepsTickets opened.log log → SamePosition opened.log log → (fault_of log ≡ None → fault_of opened.log ≡ None)
+  pub still_with : (heads : List MarkAt) → HasHeads sum log heads → (at : IsOpenAt trace sum opened k) → KeepsTickets opened.log log → SamePosition opened.log log → (fault_of log ≡ None → fault_of opened.log ≡ None)
       → Preserves trace sum opened.log log → Fits trace sum log k.history A k.floor at.unmarked → IsOpenAt trace sum (over opened log) (kept_with heads)
-  still_with heads among at tickets position free keeps fits = record {
+  still_with heads has at tickets position free keeps fits = record {
     made = at.made;
     unmarked = at.unmarked;
     fits = fits;
@@ -565,7 +582,7 @@ module _ {D C : Type 0} (trace : D → Trace) (sum : List ℕ → ℕ) (opened :
       batch = at.tickets.batch;
     };
     given_up = λ m there. at.given_up m (tickets.given_up m there);
-    heads = among;
+    heads = has;
     ends = λ i d lt. let low = at.ends i d lt in let same = position.reserved in omega (arith, low, same);
   }
 

@@ -34,7 +34,7 @@ returns-in-Err-clause-step g c = λ k at asked.
     let own : Option ℤ = own_blob c.in-Some.field-0.reservation in
     let done = c.in-Err.ensures in
     let did : GivesUp {T = ℤ × DiskPtr} view sum (Err c.in-Err.e) own mid.log new =
-    record { answers = done.answers; removes = done.device; keeps = c.abort.ensures.keeps; seen = c.abort.ensures.seen; buffers = c.abort.ensures.ends.buffers; position = c.abort.ensures.ends.position; heads = c.abort.ensures.ends.heads; err = done.err } in
+    record { answers = done.answers; removes = done.device; keeps = c.abort.ensures.keeps; seen = c.abort.ensures.seen; buffers = c.abort.ensures.ends.buffers; position = c.abort.ensures.ends.position; heads = record { heads = c.abort.ensures.ends.heads; fillings = c.abort.ensures.ends.fillings }; err = done.err } in
     abort_fails view sum old k at c.args.number its.0 its.1 mid c.in-Some.field-0 takes new mid.pages (ℤ × DiskPtr) c.in-Err.e
     (subst (λ x. GivesUp {T = ℤ × DiskPtr} view sum (Err c.in-Err.e) own x new) takes.log did) (ap (λ x. map page_of x.items) takes.pages)
 
@@ -57,7 +57,7 @@ returns-in-Ok-clause-step g c = λ k at asked.
     let keeps = c.abort.ensures.keeps in
     let given : ℤ × DiskPtr = (cast_signed w64 (cast_unsigned w64 c.in-Ok.place), c.in-Ok.pointer) in
     let gave : GivesUp view sum (Ok given) (own_blob ticket) mid.log new =
-    record { answers = done.answers; removes = record { calls = done.device.calls; done = done.device.done; none = done.device.none }; keeps = keeps; seen = c.abort.ensures.seen; buffers = c.abort.ensures.ends.buffers; position = c.abort.ensures.ends.position; heads = c.abort.ensures.ends.heads; err = tt } in
+    record { answers = done.answers; removes = record { calls = done.device.calls; done = done.device.done; none = done.device.none }; keeps = keeps; seen = c.abort.ensures.seen; buffers = c.abort.ensures.ends.buffers; position = c.abort.ensures.ends.position; heads = record { heads = c.abort.ensures.ends.heads; fillings = c.abort.ensures.ends.fillings }; err = tt } in
     let did : GivesUp view sum (Ok given) (own_blob ticket) old.log new = subst (λ x. GivesUp view sum (Ok given) (own_blob ticket) x new) takes.log gave in
     aborts view sum old k at c.args.number m its.1 mid c.in-Some.field-0 takes new mid.pages
     did.seen (did.answers.1 ∙ sym did.answers.0) did.position did.buffers did.answers.0

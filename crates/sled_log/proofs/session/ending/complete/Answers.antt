@@ -2,7 +2,7 @@ use Rattle.std.proofs.Common.{◌≡◌, ◌∙◌, ap, sym, subst, ◌<◌, Non
 use Rattle.sled_codec.specs.Snapshots.{Entry, page_of}
 use Rattle.std.specs.Int.{w64, cast_signed, cast_unsigned}
 use Rattle.std.proofs.lemmas.Bool.{false≢true}
-use Rattle.sled_core.specs.Fits.{Awaits, KeepsAll, KeepsBuffers, fault_of, given_up_of, open_places, pins_of, heads_of}
+use Rattle.sled_core.specs.Fits.{Awaits, KeepsAll, KeepsBuffers, fault_of, given_up_of, open_places, pins_of}
 use Rattle.sled_core.specs.Among.{AreAmong}
 use Rattle.sled_core.specs.Keeps.{SamePosition}
 use Rattle.sled_core.specs.OpenPlaces.{TakesOut}
@@ -17,6 +17,7 @@ use Rattle.sled_log.proofs.Sessions.OpenApart.{joins_named, none_there}
 use Rattle.sled_log.proofs.Sessions.RunLemmas.{on_failure, on_success}
 use Rattle.sled_log.proofs.Sessions.SafeItems.{safe_on}
 use Rattle.sled_log.proofs.session.ending.complete.Goals as goal
+use Rattle.sled_log.proofs.Sessions.BegunHeads.{HasNoOther}
 
 pub returns-then-is_err-clause-step : goal.returns-then-is_err-clause-step
 returns-then-is_err-clause-step g c = λ k at asked.
@@ -108,5 +109,5 @@ returns-in-Ok-clause-step g c = λ k at asked.
     (λ t x holds ne. c.complete.ensures.ends.others k.history t x (fits_holds trace sum mid.log k.history k.acknowledged k.floor roomy.unmarked fits) (subst (λ y. Awaits y t x) (sym takes.log) holds) ne)
     (λ j x apart had. safe_on trace sum mid.log new x c.complete.ensures.goes_on (subst (λ y. IsSafe trace sum y x) (sym takes.log) had.stored))
     (subst (λ x. TakesOut m.place (open_places x) (open_places new)) takes.log (done.ends.opens m.place says.0))
-    same.config (subst (λ x. AreAmong (given_up_of new) (given_up_of x)) takes.log c.complete.ensures.given_up) (subst (λ x. AreAmong (heads_of new) (heads_of x)) takes.log c.complete.ensures.ends.heads) its.2 _ c.in-Ok.pointer (sym place, pointer) gives.0 gives.1 gives.2 entry (λ i. (sym place i, pointer i, size i))
+    same.config (subst (λ x. AreAmong (given_up_of new) (given_up_of x)) takes.log c.complete.ensures.given_up) (subst (λ x. HasNoOther x new) takes.log (record { heads = c.complete.ensures.ends.heads; fillings = c.complete.ensures.ends.fillings })) its.2 _ c.in-Ok.pointer (sym place, pointer) gives.0 gives.1 gives.2 entry (λ i. (sym place i, pointer i, size i))
     (c.apply.ensures ∙ ap (λ x. applied_to (map page_of x.items) c.in-Some.field-0.kind c.in-Some.field-0.page entry) takes.pages))

@@ -9,7 +9,7 @@ use Rattle.sled_codec.specs.declared.result.DiskPtr.{DiskPtr}
 use Rattle.sled_codec.specs.History.{Message}
 use Rattle.sled_core.specs.Causes.{FaultAnswers}
 use Rattle.sled_core.specs.Batches.{EndsBatch, MayEndAt, NotesBatchOf}
-use Rattle.sled_core.specs.Fits.{Awaits, KeepsBuffers, fault_of, given_up_of, open_places, reserved_end, heads_of}
+use Rattle.sled_core.specs.Fits.{Awaits, KeepsBuffers, fault_of, given_up_of, open_places, reserved_end}
 use Rattle.sled_core.specs.Among.{AreAmong}
 use Rattle.sled_core.specs.Keeps.{SamePosition}
 use Rattle.sled_core.specs.Manifests.{manifest_page}
@@ -26,6 +26,7 @@ use Rattle.sled_log.proofs.session.ending.end.Given.{Over}
 use Rattle.sled_log.proofs.session.ending.end.Goals.{After-reserved_offset-peg, then-is_manifest, else-is_manifest}
 use Rattle.sled_log.proofs.Sessions.SafeItems.{safe_on}
 use Rattle.sled_log.proofs.session.ending.end.Goals as goal
+use Rattle.sled_log.proofs.Sessions.BegunHeads.{HasNoOther}
 
 -- the peg is read as it was, and is the greatest place that was reserved before
 peg_read : {D C : Type 0} (z : ℤ) (mid old : Log D C) → z ≡ pos (reserved_end mid) -ℤ pos 1 → mid ≡ old → FitsSigned w64 z → to_z w64 (of_z w64 z) ≡ pos (reserved_end old) -ℤ pos 1
@@ -105,7 +106,7 @@ returns-in-Ok-clause-step g c = λ k at asked.
     (λ j x apart had. safe_on trace sum mid.log new x c.mark_writebatch.ensures.goes_on (subst (λ y. IsSafe trace sum y x) (sym took.log) had.stored))
     (subst (λ x. TakesOut m.place (open_places x) (open_places new)) took.log (done.ends.opens m.place says.0))
     (subst (λ x. AreAmong (given_up_of new) (given_up_of x)) took.log (c.mark_writebatch.ensures.ended (subst (λ z. place_of ticket.reservation <ℤ z) (sym (peg_is g read)) (behind (seen_by g) sum old k at n m its.1 its.2 mid ticket took))))
-    (subst (λ x. AreAmong (heads_of new) (heads_of x)) took.log c.mark_writebatch.ensures.ends.heads)
+    (subst (λ x. HasNoOther x new) took.log (record { heads = c.mark_writebatch.ensures.ends.heads; fillings = c.mark_writebatch.ensures.ends.fillings }))
     _ c.in-Ok.pointer (sym (place_back c.in-Ok.low m.place (done.place.0 ∙ sym says.0) (awaited_small old.log ticket.reservation m awaits)), done.place.1 ∙ sym says.1)
     gives.0 (subst (λ z. EndsBatch k.history ticket.reservation z gives.0) (peg_is g read) gives.1) gives.2
 

@@ -7,13 +7,13 @@ use Rattle.sled_store.specs.Moments.{LeavesOnly}
 use Rattle.sled_codec.specs.Record.{short_header}
 use Rattle.sled_log.specs.RunStates.{MarkAt, heads_on}
 use Rattle.sled_log.specs.WriteSteps.{headed}
-use Rattle.sled_store.proofs.Segments.Elements.{in_first}
+use Rattle.sled_store.proofs.Segments.Elements.{in_first, in_nothing}
 use Rattle.sled_core.specs.OpenBatches.{stable_below}
 use Rattle.sled_core.specs.Starts.{start_from}
 use Rattle.sled_core.specs.Heads.{HeadAt}
 use Rattle.sled_core.specs.declared.logger.Log.{Log}
 use Rattle.sled_store.proofs.Traces.MomentLemmas.{at_last}
-use Rattle.sled_core.specs.Fits.{fault_of, given_up_of, noted_in, open_places, pins_of, position_of, reserved_end, start_of, synced_end, waiting_of, current_begin, heads_of, stable_end}
+use Rattle.sled_core.specs.Fits.{fault_of, given_up_of, noted_in, open_places, pins_of, position_of, reserved_end, start_of, synced_end, waiting_of, current_begin, heads_of, stable_end, fillings_of}
 use Rattle.sled_core.specs.Recoverable.{LeavesRecoverable, RecoverableIfOwn}
 use Rattle.sled_core.specs.Waiting.{spans}
 use Rattle.sled_log.proofs.Sessions.RunLemmas.{start_cause}
@@ -22,6 +22,7 @@ use Rattle.std.specs.List.{All, Contains}
 use Rattle.sled_codec.specs.History.{Message}
 use Rattle.sled_core.proofs.PublicLaws.{none_is_empty}
 use Rattle.sled_log.proofs.session.opening.start.Goals as goal
+use Rattle.sled_core.specs.Fillings.{FillingAt}
 
 pub returns-in-Ok-clause-acts : goal.returns-in-Ok-clause-acts
 returns-in-Ok-clause-acts g c = (
@@ -82,11 +83,14 @@ returns-in-Ok-clause-starts g c = λ H A f at.
           batch = refl;
         };
         given_up = λ m given. subst (λ (l : List Message). Contains l m) (ap given_up_of taken ∙ begins.given_up) given;
-        heads = λ h there.
-            let is = c.in-Ok.ensures.marked.heads h (subst (λ (l : List HeadAt). Contains l h) (ap heads_of taken) there) in
-            let first : MarkAt = record { place = (start_from size len s).place; mark = pos (stable_place s.stable) -ℤ pos 1 } in
-            let one : headed sum first ≡ h = sym (λ i. record { place = (is.0 ∙ begin) i; bytes = (is.1 ∙ (λ j. short_header sum (pos (begin j)) (pos (stable j) -ℤ pos 1))) i }) in
-            subst (λ (x : HeadAt). Contains (headed sum first ∷ []) x) one (in_first (headed sum first) []);
+        heads = record {
+          marked = λ h there.
+              let is = c.in-Ok.ensures.marked.heads h (subst (λ (l : List HeadAt). Contains l h) (ap heads_of taken) there) in
+              let first : MarkAt = record { place = (start_from size len s).place; mark = pos (stable_place s.stable) -ℤ pos 1; end = stable_place s.stable } in
+              let one : headed sum first ≡ h = sym (λ i. record { place = (is.0 ∙ begin) i; bytes = (is.1 ∙ (λ j. short_header sum (pos (begin j)) (pos (stable j) -ℤ pos 1))) i }) in
+              subst (λ (x : HeadAt). Contains (headed sum first ∷ []) x) one (in_first (headed sum first) []);
+          filled = λ f there. absurd (in_nothing f (subst (λ (l : List FillingAt). Contains l f) (ap fillings_of taken ∙ c.in-Ok.ensures.marked.fillings) there));
+        };
         ends = subst (λ e. All (λ m. m.place + m.size ≤ e) H.messages) (sym end) at.ends;
       };
       crash = subst (λ (x : Log _ _). LeavesOnly (RecoverableIfOwn sum size H A f) (trace c.args.config.device) (trace x.config.device)) (sym taken) (c.in-Ok.ensures.crash H A f at.ready);

@@ -1,14 +1,12 @@
 -- The device of a log is to be stopped, and nothing else is another.
-use Rattle.std.proofs.Common.{refl, sym, subst, List, ◌∙◌, length, Some}
-use Rattle.std.specs.List.{Contains}
-use Rattle.sled_core.specs.Heads.{heads_along}
-use Rattle.sled_core.specs.Begun.{SegmentView}
+use Rattle.std.proofs.Common.{refl, sym, ◌∙◌, length, Some}
 use Rattle.sled_core.specs.Waiting.{spans}
 use Rattle.sled_log.specs.RunPhases.{view_by}
 use Rattle.sled_log.proofs.Sessions.Carried.{asked_going}
 use Rattle.sled_log.proofs.Sessions.Writing.{still_with}
 use Rattle.sled_log.proofs.Sessions.Within.{going_on}
 use Rattle.sled_log.proofs.session.step.stop_open.Goals as goal
+use Rattle.sled_log.proofs.Sessions.BegunHeads.{heads_left, other_same}
 
 pub returns-clause-step : goal.returns-clause-step
 returns-clause-step g c = λ k at free.
@@ -44,7 +42,7 @@ returns-clause-step g c = λ k at free.
           });
         }),
       );
-      at = λ own. still_with trace g.C.Checksum.sum_of opened new k k.acknowledged k.heads (λ h there. at.heads h (subst (λ (l : List SegmentView). Contains (heads_along l) h) did.rest.line there)) at did.keeps.tickets did.keeps.position (λ none. sym did.rest.fault ∙ none) did.keeps.preserves (did.keeps.preserves.fits k.history k.acknowledged k.floor at.unmarked at.fits);
+      at = λ own. still_with trace g.C.Checksum.sum_of opened new k k.acknowledged k.heads (heads_left g.C.Checksum.sum_of opened.log new k.heads (other_same opened.log new did.rest.line) at.heads) at did.keeps.tickets did.keeps.position (λ none. sym did.rest.fault ∙ none) did.keeps.preserves (did.keeps.preserves.fits k.history k.acknowledged k.floor at.unmarked at.fits);
       crash = λ own. going_on trace g.C.Checksum.sum_of opened k at new did.keeps.preserves.goes_on;
     }
 

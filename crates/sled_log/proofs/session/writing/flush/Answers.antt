@@ -14,6 +14,7 @@ use Rattle.sled_log.specs.WriteSteps.{stable_from}
 use Rattle.sled_log.proofs.Sessions.Writing.{fails_to, flush_in, flush_out, has_written, holding_seen, if_held, keeps_failing, kept_or_none, some_reserved, stable_seen, stays_put, still_open, was_free, whole_of, why_of, writes_seen, kept}
 use Rattle.sled_log.proofs.Sessions.Within.{going_on}
 use Rattle.sled_log.proofs.session.writing.flush.Goals as goal
+use Rattle.sled_log.proofs.Sessions.BegunHeads.{only_begun}
 
 pub returns-in-Ok-clause-step : goal.returns-in-Ok-clause-step
 returns-in-Ok-clause-step g c = λ k at free.
@@ -50,7 +51,7 @@ returns-in-Ok-clause-step g c = λ k at free.
         at = ends;
         kept = settled;
       };
-      at = λ own. still_open trace sum opened new k reached at c.flush.ensures.keeps.tickets c.flush.ensures.buffers.0.marked.heads position (was_free old new c.flush.ensures.spares.faulty) c.flush.ensures.keeps.preserves
+      at = λ own. still_open trace sum opened new k reached at c.flush.ensures.keeps.tickets (only_begun sum opened.log new c.flush.ensures.buffers.0.marked) position (was_free old new c.flush.ensures.spares.faulty) c.flush.ensures.keeps.preserves
           (subst (λ n. Fits trace sum new H (max k.acknowledged (end_below n H)) k.floor at.unmarked) (sym c.in-Ok.ensures.synced.stable) (c.in-Ok.ensures.acknowledges H k.acknowledged k.floor at.unmarked at.fits));
       crash = λ own. going_on trace sum opened k at new c.flush.ensures.keeps.preserves.goes_on;
     }
@@ -86,6 +87,6 @@ returns-in-Err-clause-step g c = λ k at free.
             (subst (λ (es : List Event). Performs es (trace (device_of old)) (trace (device_of new))) (writes_seen old sum begun k.tickets k.given_up k.heads to some) c.flush.ensures.at_most)
             (if_held ℕ c.in-Err.e _ _ (λ done. done ∙ ap (λ (es : List Event). after_all es (trace (device_of old))) (writes_seen old sum begun k.tickets k.given_up k.heads to some)) c.in-Err.ensures.calls) c.in-Err.ensures.buffers.0.seals.held c.in-Err.ensures.buffers.1)
       ];
-      at = λ own. still_open trace sum opened new k k.acknowledged at c.flush.ensures.keeps.tickets c.flush.ensures.buffers.0.marked.heads position (was_free old new c.flush.ensures.spares.faulty) c.flush.ensures.keeps.preserves (c.flush.ensures.keeps.preserves.fits H k.acknowledged k.floor at.unmarked at.fits);
+      at = λ own. still_open trace sum opened new k k.acknowledged at c.flush.ensures.keeps.tickets (only_begun sum opened.log new c.flush.ensures.buffers.0.marked) position (was_free old new c.flush.ensures.spares.faulty) c.flush.ensures.keeps.preserves (c.flush.ensures.keeps.preserves.fits H k.acknowledged k.floor at.unmarked at.fits);
       crash = λ own. going_on trace sum opened k at new c.flush.ensures.keeps.preserves.goes_on;
     }

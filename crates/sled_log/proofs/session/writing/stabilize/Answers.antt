@@ -17,6 +17,7 @@ use Rattle.sled_log.specs.declared.session.command.Command.TheVariants as told
 use Rattle.sled_log.specs.declared.session.command.Reply.TheVariants as reply
 use Rattle.sled_log.proofs.Sessions.Within.{going_on}
 use Rattle.sled_log.proofs.session.writing.stabilize.Goals as goal
+use Rattle.sled_log.proofs.Sessions.BegunHeads.{only_begun}
 
 pub returns-in-Ok-clause-step : goal.returns-in-Ok-clause-step
 returns-in-Ok-clause-step g c = λ k at free.
@@ -50,7 +51,7 @@ returns-in-Ok-clause-step g c = λ k at free.
             (target_written old new place c.make_stable.ensures.keeps.preserves.noted c.in-Ok.ensures.target) past above,
         subst (λ n. place <ℤ pos n) (stable_seen old sum begun k.tickets k.given_up k.heads to some new (view old.config.device) (view new.config.device) H k.acknowledged k.floor put above) c.in-Ok.ensures.target,
       );
-      at = λ own. still_open trace sum opened new k reached at c.make_stable.ensures.keeps.tickets c.make_stable.ensures.buffers.0.marked.heads position (was_free old new c.make_stable.ensures.spares.faulty) c.make_stable.ensures.keeps.preserves fits;
+      at = λ own. still_open trace sum opened new k reached at c.make_stable.ensures.keeps.tickets (only_begun sum opened.log new c.make_stable.ensures.buffers.0.marked) position (was_free old new c.make_stable.ensures.spares.faulty) c.make_stable.ensures.keeps.preserves fits;
       crash = λ own. going_on trace sum opened k at new c.make_stable.ensures.keeps.preserves.goes_on;
     } in
     subst (λ (z : ℤ). Does view sum (phase.Open opened) (told.Stable z) (phase.Open (over opened new), reply.Flushed c.in-Ok.more) k) (to_z-of_z w64 c.args.place c.ranges.place) done
@@ -73,7 +74,7 @@ returns-in-Err-clause-step g c = λ k at free.
       not_refused = refl;
       next = kept trace sum opened new k k.acknowledged;
       step = fails;
-      at = λ own. still_open trace sum opened new k k.acknowledged at c.make_stable.ensures.keeps.tickets c.make_stable.ensures.buffers.0.marked.heads position (was_free old new c.make_stable.ensures.spares.faulty) c.make_stable.ensures.keeps.preserves (c.make_stable.ensures.keeps.preserves.fits k.history k.acknowledged k.floor at.unmarked at.fits);
+      at = λ own. still_open trace sum opened new k k.acknowledged at c.make_stable.ensures.keeps.tickets (only_begun sum opened.log new c.make_stable.ensures.buffers.0.marked) position (was_free old new c.make_stable.ensures.spares.faulty) c.make_stable.ensures.keeps.preserves (c.make_stable.ensures.keeps.preserves.fits k.history k.acknowledged k.floor at.unmarked at.fits);
       crash = λ own. going_on trace sum opened k at new c.make_stable.ensures.keeps.preserves.goes_on;
     } in
     subst (λ (z : ℤ). Does view sum (phase.Open opened) (told.Stable z) (phase.Open (over opened new), reply.Failed c.in-Err.e) k) (to_z-of_z w64 c.args.place c.ranges.place) done

@@ -9,6 +9,7 @@ use Rattle.sled_log.specs.declared.session.command.Refusal.TheVariants as why
 use Rattle.sled_log.proofs.Sessions.Writing.{held_none, index_fits, keeps_failing, kept_or_none, leaves, never_held, pending_seen, shows_waiting, spared, stays_put, still_open, waiting_held, was_free, whole_of, why_of, without_seen, kept}
 use Rattle.sled_log.proofs.Sessions.Within.{going_on}
 use Rattle.sled_log.proofs.session.writing.write.Goals as goal
+use Rattle.sled_log.proofs.Sessions.BegunHeads.{begun_none}
 
 -- an index that isn't refused fits
 pub returns-then-i-pending-clause-step : goal.returns-then-i-pending-clause-step
@@ -40,7 +41,7 @@ returns-in-Ok-clause-step g c = λ k at free.
         answers.2,
         leaves old sum (length opened.pages.items) k.tickets k.given_up k.heads new (view old.config.device) (view new.config.device) k.history k.acknowledged k.floor (stays_put trace sum old new c.write_to_log.ensures.keeps.tickets c.write_to_log.ensures.keeps.position c.write_to_log.ensures.keeps.preserves) _ _ _ left c.write_to_log.ensures.start answers.1,
       );
-      at = λ own. still_open trace sum opened new k k.acknowledged at c.write_to_log.ensures.keeps.tickets (λ h there. inl (c.write_to_log.ensures.heads h there)) c.write_to_log.ensures.keeps.position (was_free old new c.write_to_log.ensures.faulty) c.write_to_log.ensures.keeps.preserves (c.write_to_log.ensures.keeps.preserves.fits k.history k.acknowledged k.floor at.unmarked at.fits);
+      at = λ own. still_open trace sum opened new k k.acknowledged at c.write_to_log.ensures.keeps.tickets (begun_none sum old new (record { heads = c.write_to_log.ensures.heads; fillings = c.write_to_log.ensures.fillings })) c.write_to_log.ensures.keeps.position (was_free old new c.write_to_log.ensures.faulty) c.write_to_log.ensures.keeps.preserves (c.write_to_log.ensures.keeps.preserves.fits k.history k.acknowledged k.floor at.unmarked at.fits);
       crash = λ own. going_on trace sum opened k at new c.write_to_log.ensures.keeps.preserves.goes_on;
     }
 
@@ -83,6 +84,6 @@ returns-in-Err-clause-step g c = λ k at free.
           );
         })
       ];
-      at = λ own. still_open trace sum opened new k k.acknowledged at c.write_to_log.ensures.keeps.tickets (λ h there. inl (c.write_to_log.ensures.heads h there)) c.write_to_log.ensures.keeps.position (was_free old new c.write_to_log.ensures.faulty) c.write_to_log.ensures.keeps.preserves (c.write_to_log.ensures.keeps.preserves.fits k.history k.acknowledged k.floor at.unmarked at.fits);
+      at = λ own. still_open trace sum opened new k k.acknowledged at c.write_to_log.ensures.keeps.tickets (begun_none sum old new (record { heads = c.write_to_log.ensures.heads; fillings = c.write_to_log.ensures.fillings })) c.write_to_log.ensures.keeps.position (was_free old new c.write_to_log.ensures.faulty) c.write_to_log.ensures.keeps.preserves (c.write_to_log.ensures.keeps.preserves.fits k.history k.acknowledged k.floor at.unmarked at.fits);
       crash = λ own. going_on trace sum opened k at new c.write_to_log.ensures.keeps.preserves.goes_on;
     }
