@@ -1,6 +1,6 @@
 -- In a history that a session makes, messages that name one blob are of one page. So a message that is the newest of its page may be marked in place of what
 -- that was.
-use Rattle.std.proofs.Common.{◌≡◌, ◌∙◌, ◌≤◌, ℕ, ℤ, List, sym, ap, subst}
+use Rattle.std.proofs.Common.{◌≡◌, ◌∙◌, ◌≤◌, ℤ, List, sym, ap, subst}
 use Rattle.std.specs.List.{Contains}
 use Rattle.sled_codec.specs.History.{History, Message, table}
 use Rattle.sled_store.specs.Marks.{IsFormerState, info_of}
