@@ -1,12 +1,8 @@
 pub mod AlikeRecords
 pub mod AnyOrdering
-pub mod Cleared
-pub mod ClearedCalls
-pub mod ClearedMoves
 pub mod ClearedShows
 pub mod CutEnds
 pub mod CutHides
-pub mod Emptied
 pub mod FreedHides
 pub mod FreedSlots
 pub mod Gone

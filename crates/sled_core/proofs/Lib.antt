@@ -1,5 +1,6 @@
 pub mod Behind
 pub mod Blobs
+pub mod Cleared
 pub mod Crash
 pub mod Flush
 pub mod Freed

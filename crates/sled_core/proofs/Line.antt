@@ -78,6 +78,8 @@ pub mod SealsFor
 pub mod Segments
 pub mod Settles
 pub mod Shifts
+pub mod Shown
+pub mod ShownWrite
 pub mod Shows
 pub mod Slots
 pub mod Spans

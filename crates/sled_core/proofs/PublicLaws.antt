@@ -122,7 +122,7 @@ pub can_rewrite : {D C : Type 0} (trace : D → Trace) (sum : List ℕ → ℕ) 
     → Contains (table H (next_place log) m.page) m → m.kind ≡ Replace → m.pointer ≡ Blob lid blob → IsStored trace sum log (message_rewriting log m.page blob m.bytes)
 unfolding Fits
 can_rewrite trace sum log H A f U m lid blob fits entry replaces is =
-    rewritten_stored trace sum log H A f U fits m entry replaces lid blob is (target_above log m.page 8 (let least = log.config.config.least in omega (arith, least)))
+    rewritten_stored trace sum log H A f U fits.shows m entry replaces lid blob is (target_above log m.page 8 (let least = log.config.config.least in omega (arith, least)))
 
 -- The blob of an entry of the table of all that there is is named now.
 pub named_now : {D C : Type 0} (trace : D → Trace) (sum : List ℕ → ℕ) (log : Log D C) (H : History) (A f : ℕ) (U : List Message) (page : ℕ) (m : Message) (blob : ℤ)

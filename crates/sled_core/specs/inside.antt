@@ -34,6 +34,7 @@ pub mod Running
 pub mod Scan
 pub mod SealedBuffers
 pub mod SealedProps
+pub mod Shown
 pub mod Slots
 pub mod Sources
 pub mod StableEnds

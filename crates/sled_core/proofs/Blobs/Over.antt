@@ -9,7 +9,7 @@ use Rattle.sled_core.specs.declared.iobuf.Reserved.{Reserved}
 use Rattle.sled_core.specs.declared.iobuf.Sealed.{Sealed}
 use Rattle.sled_core.specs.declared.iobuf.SegmentPosition.{SegmentPosition}
 use Rattle.sled_core.specs.Begun.{SegmentParts, SegmentView}
-use Rattle.sled_core.specs.inside.Fits.{HoldBehind, HoldsIn, HoldsLine, HoldsSegment, HoldsWith, log_parts, parts_in}
+use Rattle.sled_core.specs.inside.Fits.{HoldBehind, HoldsIn, HoldsLine, HoldsSegment, HoldsShown, HoldsWith, log_parts, parts_in}
 use Rattle.sled_core.specs.inside.LogFile.{StaysBelow}
 use Rattle.sled_core.specs.LogFile.{StaysFrom}
 use Rattle.sled_core.specs.Logged.{logged}
@@ -17,17 +17,23 @@ use Rattle.sled_core.specs.OpenBatches.{stable_below}
 use Rattle.sled_core.specs.inside.Begun.{line_end}
 use Rattle.sled_core.specs.inside.Lasting.{LeavesRecovering}
 use Rattle.sled_core.specs.inside.Numbers.{HaveSlotsFrom}
-use Rattle.sled_core.specs.inside.Running.{FitsIn, FitsLine, FitsWith, HaveItems, HaveNames}
+use Rattle.sled_core.specs.inside.Running.{FitsIn, FitsLine, FitsShown, FitsWith, HaveItems, HaveNames}
+use Rattle.sled_core.specs.inside.Shown.{shown}
 use Rattle.sled_core.specs.inside.Slots.{HasAccount}
 use Rattle.sled_core.proofs.Blobs.Leaves.{ChangesAt, with_names, blobs_fit_beside, names_fit_beside, leaves_beside, entries_beside, stored_beside}
+use Rattle.sled_core.proofs.Blobs.StaysOwn.{own_same}
 use Rattle.sled_core.proofs.Blobs.Unnamed.{IsUnnamed}
 use Rattle.sled_core.proofs.Flush.FlushLemmas.{holds_over}
 use Rattle.sled_core.proofs.Numbers.OwnLess.{less_same}
 use Rattle.sled_core.proofs.Numbers.Stay.{numbers_less}
 
-module _ (sum : List ℕ → ℕ) (size : ℕ) (device : State) (blobs snapshots : NamesState) (fault : Option IoError) where
+-- a device with this log file, and all else of another one
+abbrev pub with_rest : State → State → State
+with_rest device other = record { log = device.log; blobs = other.blobs; snapshots = other.snapshots; temporary = other.temporary; placed = other.placed }
+
+module _ (sum : List ℕ → ℕ) (size : ℕ) (device other : State) (fault : Option IoError) where
   abbrev new : State
-  new = with_names device blobs snapshots
+  new = with_rest device other
 
   -- a segment is of the log file alone
   segment_over : (site : SegmentPosition) (bytes : List ℕ) (from : ℕ) (bs : List Sealed) (rs : List Reserved) (stays : Message → Type 0) (H : History)
@@ -56,7 +62,7 @@ module _ (sum : List ℕ → ℕ) (size : ℕ) (device : State) (blobs snapshots
     behind_over (place + size) ss stays batches later rest,
   )
 
-  module _ (names : snapshots.file ≡ device.snapshots.file) where
+  module _ (names : other.snapshots.file ≡ device.snapshots.file) where
     module _ (site : SegmentPosition) (bytes : List ℕ) (from : ℕ) (bs : List Sealed) (rs : List Reserved) (behind : List SegmentParts) (H : History) where
       unfoldable in_over : HoldsIn sum (log_parts size site device fault bytes from bs rs) behind H → HoldsIn sum (log_parts size site new fault bytes from bs rs) behind H
       in_over holds =
@@ -64,19 +70,16 @@ module _ (sum : List ℕ → ℕ) (size : ℕ) (device : State) (blobs snapshots
           (segment_over site bytes from bs rs (StaysFrom H (stable_place holds.begun.first.stable)) (record { messages = holds.head; batches = H.batches }) holds.own)
           (behind_over (site.place + size) behind (StaysBelow H (stable_place holds.begun.first.stable) site.place) H.batches holds.later holds.others)
 
-    line_over : (line : List SegmentView) (H : History) → HoldsLine sum size device fault line H → HoldsLine sum size new fault line H
+    pub line_over : (line : List SegmentView) (H : History) → HoldsLine sum size device fault line H → HoldsLine sum size new fault line H
     line_over [] H holds = holds
     line_over (v ∷ vs) H holds = in_over v.parts.site v.parts.bytes v.parts.written_len v.parts.sealed v.parts.reserved (map parts_in vs) H holds
 
-    -- A log holds what it held.
-    pub holds_over_names : (noted : List Batch) (line : List SegmentView) (m : Machine) (H : History) → HoldsWith sum noted size device fault line m H → HoldsWith sum noted size new fault line m H
-    holds_over_names noted line m H holds = record { holds = line_over line H holds.holds; batches = holds.batches; slots = holds.slots }
-
   -- It fits what it fitted, where its blobs have the items still, its names are those of the history, and what a crash leaves can be recovered.
-  module _ (same_files : snapshots.file ≡ device.snapshots.file) (H : History) (A f : ℕ) (U : List Message) (named : (first : SnapshotModel) → HaveNames sum size device fault (logged H) f first → HaveNames sum size new fault (logged H) f first) where
+  module _ (same_files : other.snapshots.file ≡ device.snapshots.file) (H : History) (A f : ℕ) (U : List Message)
+      (named : (first : SnapshotModel) → HaveNames sum size device fault (logged H) f first → HaveNames sum size new fault (logged H) f first) where
     -- what is stable up to a place needs no more of the blobs and of a crash than before
     abbrev pub KeepsNeeds : ℕ → Type 0
-    KeepsNeeds stable = (HaveItems sum device.blobs H stable → HaveItems sum blobs H stable) × (LeavesRecovering sum size H stable f device → LeavesRecovering sum size H stable f new)
+    KeepsNeeds stable = (HaveItems sum device.blobs H stable → HaveItems sum other.blobs H stable) × (LeavesRecovering sum size H stable f device → LeavesRecovering sum size H stable f new)
 
     fits_in_over : (site : SegmentPosition) (bytes : List ℕ) (from : ℕ) (bs : List Sealed) (rs : List Reserved) (behind : List SegmentParts) (reach pins : ℕ) → KeepsNeeds (stable_below reach H.batches)
         → FitsIn sum (log_parts size site device fault bytes from bs rs) behind reach pins H A f U → FitsIn sum (log_parts size site new fault bytes from bs rs) behind reach pins H A f U
@@ -93,23 +96,39 @@ module _ (sum : List ℕ → ℕ) (size : ℕ) (device : State) (blobs snapshots
       left = left fits.left;
     }
 
-    fits_line_over : (line : List SegmentView) (reach pins : ℕ) → KeepsNeeds (stable_below reach H.batches) → FitsLine sum size device fault line reach pins H A f U → FitsLine sum size new fault line reach pins H A f U
+    pub fits_line_over : (line : List SegmentView) (reach pins : ℕ) → KeepsNeeds (stable_below reach H.batches) → FitsLine sum size device fault line reach pins H A f U → FitsLine sum size new fault line reach pins H A f U
     fits_line_over [] reach pins keeps fits = fits
     fits_line_over (v ∷ vs) reach pins keeps fits = fits_in_over v.parts.site v.parts.bytes v.parts.written_len v.parts.sealed v.parts.reserved (map parts_in vs) reach pins keeps fits
 
+-- Where the blobs and the snapshots are others alone.
+module _ (sum : List ℕ → ℕ) (size : ℕ) (device : State) (blobs snapshots : NamesState) (fault : Option IoError) where
+  abbrev named_new : State
+  named_new = with_names device blobs snapshots
+
+  -- A log holds what it held.
+  pub holds_over_names : snapshots.file ≡ device.snapshots.file → (noted : List Batch) (line : List SegmentView) (m : Machine) (H : History)
+      → HoldsWith sum noted size device fault line m H → HoldsWith sum noted size named_new fault line m H
+  holds_over_names names noted line m H holds =
+      record { holds = line_over sum size device named_new fault names line H holds.holds; batches = holds.batches; slots = holds.slots }
+
+  -- It fits what it fitted, where its blobs have the items still, its names are those of the history, and what a crash leaves can be recovered.
+  module _ (same_files : snapshots.file ≡ device.snapshots.file) (H : History) (A f : ℕ) (U : List Message)
+      (named : (first : SnapshotModel) → HaveNames sum size device fault (logged H) f first → HaveNames sum size named_new fault (logged H) f first) where
     -- it is read up to the same place
-    pub fits_over_blobs : (noted : List Batch) (line : List SegmentView) (m : Machine) (pins : ℕ) (fits : FitsWith sum noted size device fault line m pins H A f U) → KeepsNeeds (stable_below fits.reach H.batches)
-        → (now : FitsWith sum noted size new fault line m pins H A f U) × (now.reach ≡ fits.reach)
+    pub fits_over_blobs : (noted : List Batch) (line : List SegmentView) (m : Machine) (pins : ℕ)
+        (fits : FitsWith sum noted size device fault line m pins H A f U)
+        → KeepsNeeds sum size device named_new fault same_files H A f U named (stable_below fits.reach H.batches)
+        → (now : FitsWith sum noted size named_new fault line m pins H A f U) × (now.reach ≡ fits.reach)
     fits_over_blobs noted line m pins fits keeps = (
       record {
         reach = fits.reach;
-        parts = fits_line_over line fits.reach pins keeps fits.parts;
+        parts = fits_line_over sum size device named_new fault same_files H A f U named line fits.reach pins keeps fits.parts;
         batches = fits.batches;
         slots = fits.slots;
         whole = fits.whole;
         own = fits.own;
         account = subst (λ (file : ℤ → Option (List ℕ)). HasAccount sum size file H U m) (sym same_files) fits.account;
-        numbers = λ zeros. numbers_less sum size new device (less_same sum size new device (λ i. device.placed)) m (line_end size line) (fits.numbers zeros);
+        numbers = λ zeros. numbers_less sum size named_new device (less_same sum size named_new device (λ i. device.placed)) m (line_end size line) (fits.numbers zeros);
         in_slots = subst (λ (file : ℤ → Option (List ℕ)). HaveSlotsFrom sum size file H (stable_below fits.reach H.batches) m) (sym same_files) fits.in_slots;
       },
       refl,
@@ -117,13 +136,13 @@ module _ (sum : List ℕ → ℕ) (size : ℕ) (device : State) (blobs snapshots
 
   -- So it is where a crash leaves of the names what it could leave before, but for a blob that no message names.
   module _ (p : ℤ) (changes : ChangesAt sum p device blobs snapshots) (H : History) (unnamed : IsUnnamed H p) (A f : ℕ) (U : List Message) where
-    names_over : (first : SnapshotModel) → HaveNames sum size device fault (logged H) f first → HaveNames sum size new fault (logged H) f first
+    names_over : (first : SnapshotModel) → HaveNames sum size device fault (logged H) f first → HaveNames sum size named_new fault (logged H) f first
     names_over first named = record {
       names = names_fit_beside sum p device blobs snapshots changes (logged H) size f first named.names;
       own_names = λ none. changes.stay_own (named.own_names none);
     }
 
-    needs_over : (stable : ℕ) → KeepsNeeds changes.same_files H A f U names_over stable
+    needs_over : (stable : ℕ) → KeepsNeeds sum size device named_new fault changes.same_files H A f U names_over stable
     needs_over stable = (
       λ items. record {
         blobs = blobs_fit_beside sum p device blobs snapshots changes H unnamed stable items.blobs;
@@ -134,5 +153,29 @@ module _ (sum : List ℕ → ℕ) (size : ℕ) (device : State) (blobs snapshots
       leaves_beside sum p device blobs snapshots changes H unnamed size stable f,
     )
 
-    pub fits_over_names : (noted : List Batch) (line : List SegmentView) (m : Machine) (pins : ℕ) → FitsWith sum noted size device fault line m pins H A f U → FitsWith sum noted size new fault line m pins H A f U
+    pub fits_over_names : (noted : List Batch) (line : List SegmentView) (m : Machine) (pins : ℕ) → FitsWith sum noted size device fault line m pins H A f U → FitsWith sum noted size named_new fault line m pins H A f U
     fits_over_names noted line m pins fits = (fits_over_blobs changes.same_files H A f U names_over noted line m pins fits (needs_over (stable_below fits.reach H.batches))).0
+
+-- So it is over what a log shows of its device: that is the same with other names.
+module _ (sum : List ℕ → ℕ) (size : ℕ) (device : State) (blobs snapshots : NamesState) (fault : Option IoError) where
+  pub shown_holds_over : snapshots.file ≡ device.snapshots.file → (noted : List Batch) (line : List SegmentView) (m : Machine) (H : History)
+      → HoldsShown sum noted size device fault line m H → HoldsShown sum noted size (with_names device blobs snapshots) fault line m H
+  shown_holds_over names noted line m H holds = record {
+    shows = holds_over_names sum size (shown size fault m line device) blobs snapshots fault names noted line m H holds.shows;
+    file = holds.file;
+  }
+
+  pub shown_fits_over : (p : ℤ) (changes : ChangesAt sum p device blobs snapshots) (H : History) (unnamed : IsUnnamed H p) (A f : ℕ) (U : List Message)
+      (noted : List Batch) (line : List SegmentView) (m : Machine) (pins : ℕ)
+      → FitsShown sum noted size device fault line m pins H A f U → FitsShown sum noted size (with_names device blobs snapshots) fault line m pins H A f U
+  shown_fits_over p changes H unnamed A f U noted line m pins fits =
+      let sees : State = shown size fault m line device in
+      let same : ChangesAt sum p sees blobs snapshots = record {
+        of_blobs = changes.of_blobs;
+        of_snapshots = changes.of_snapshots;
+        same_files = changes.same_files;
+        stay_own = λ own.
+            own_same sum (with_names device blobs snapshots) (with_names sees blobs snapshots) refl refl
+            (changes.stay_own (own_same sum sees device refl refl own));
+      } in
+      record { shows = fits_over_names sum size sees blobs snapshots fault p same H unnamed A f U noted line m pins fits.shows; file = fits.file }

@@ -8,8 +8,8 @@ use Rattle.sled_core.specs.Begun.{SegmentView}
 use Rattle.sled_core.specs.inside.Cleared.{StandWritten, cleared, is_between, is_stale, is_unwritten, is_unwritten_in, is_unwritten_of}
 use Rattle.sled_core.specs.inside.FreeSlots.{HasSlot}
 use Rattle.sled_core.specs.inside.SealedBuffers.{Laid}
-use Rattle.sled_core.proofs.Freed.Cleared.{Beside, LineRises, OthersBeside, between_not, cleared_laid, line_none, slot_is, unwritten_high, unwritten_low, zeroed_beside, zeroed_long}
-use Rattle.sled_core.proofs.Freed.ClearedMoves.{part_same}
+use Rattle.sled_core.proofs.Cleared.Offsets.{Beside, LineRises, OthersBeside, between_not, cleared_laid, line_none, slot_is, unwritten_high, unwritten_low, zeroed_beside, zeroed_long}
+use Rattle.sled_core.proofs.Cleared.Moves.{part_same}
 use Rattle.sled_core.proofs.Sealed.LaidLemmas.{EndsRise, ends_below}
 use Rattle.sled_core.proofs.Torn.AlikeSlots.{SameIn}
 

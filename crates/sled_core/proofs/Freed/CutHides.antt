@@ -15,8 +15,8 @@ use Rattle.sled_store.proofs.Segments.FilledLemmas.{slot_before}
 use Rattle.sled_core.specs.Begun.{SegmentView}
 use Rattle.sled_core.specs.inside.Cleared.{cleared, is_stale, zeroed}
 use Rattle.sled_core.specs.inside.Hides.{Hides, IsOwnHeader}
-use Rattle.sled_core.proofs.Freed.Cleared.{zeroed_get, zeroed_long}
-use Rattle.sled_core.proofs.Freed.ClearedCalls.{freed_free}
+use Rattle.sled_core.proofs.Cleared.Offsets.{zeroed_get, zeroed_long}
+use Rattle.sled_core.proofs.Cleared.Calls.{freed_free}
 use Rattle.sled_core.proofs.Freed.Hides.{hides_less}
 use Rattle.sled_core.proofs.Numbers.OwnLess.{OwnLess, less_cut, less_synced}
 use Rattle.sled_core.proofs.OwnLog.WrittenOwn.{header_synced}

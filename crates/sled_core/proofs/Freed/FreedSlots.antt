@@ -18,7 +18,7 @@ use Rattle.sled_store.proofs.Segments.Elements.{in_nothing}
 use Rattle.sled_core.specs.Logged.{in_log, logged}
 use Rattle.sled_core.specs.Unmarked.{without}
 use Rattle.sled_core.specs.inside.Slots.{HasAccount}
-use Rattle.sled_core.proofs.Freed.Emptied.{NoneNeeds}
+use Rattle.sled_core.proofs.Cleared.Emptied.{NoneNeeds}
 use Rattle.sled_core.proofs.Logged.Messages.{table_logged}
 use Rattle.sled_core.proofs.Start.StartedAccount.{all_marked}
 

@@ -19,13 +19,13 @@ use Rattle.sled_core.specs.inside.Begun.{line_end}
 use Rattle.sled_core.specs.inside.Cleared.{cleared}
 use Rattle.sled_core.specs.inside.Hides.{Hides, IsOwnRecord}
 use Rattle.sled_core.specs.inside.Turned.{begun_view, ended_now, next_line, promoted, reserved_now}
-use Rattle.sled_core.proofs.Freed.ClearedCalls.{cleared_ended, cleared_marked, cleared_next, cleared_reserved, cleared_sealed}
-use Rattle.sled_core.proofs.Freed.ClearedMoves.{cleared_promoted}
+use Rattle.sled_core.proofs.Cleared.Calls.{cleared_ended, cleared_marked, cleared_next, cleared_reserved, cleared_sealed}
+use Rattle.sled_core.proofs.Cleared.Moves.{cleared_promoted}
 use Rattle.sled_core.proofs.Freed.Hides.{gone_less}
-use Rattle.sled_core.proofs.Freed.Quiet.{line_rises}
 use Rattle.sled_core.proofs.Line.Closes.{filled_site}
 use Rattle.sled_core.proofs.Line.LineEnds.{end_at_last, end_left, end_set}
 use Rattle.sled_core.proofs.Line.Segments.{AreSegments}
+use Rattle.sled_core.proofs.Line.Shown.{line_rises}
 use Rattle.sled_core.proofs.Start.OwnSlots.{handed_other, handed_there}
 use Rattle.sled_core.proofs.Tail.Multiples.{put_down}
 

@@ -9,7 +9,6 @@ use Rattle.sled_codec.specs.Snapshots.{SnapshotModel}
 use Rattle.sled_store.specs.Device.{State}
 use Rattle.sled_store.specs.SegmentStates.{Machine, is_free, slot_at}
 use Rattle.sled_store.proofs.Segments.Elements.{in_first, in_rest}
-use Rattle.sled_store.proofs.Segments.FilledLemmas.{slot_before}
 use Rattle.sled_core.specs.declared.iobuf.Reserved.{Reserved}
 use Rattle.sled_core.specs.declared.iobuf.Sealed.{Sealed}
 use Rattle.sled_core.specs.declared.iterator.Segment.{Segment}
@@ -27,15 +26,15 @@ use Rattle.sled_core.specs.inside.Reached.{StandsAmong, StandsIn}
 use Rattle.sled_core.specs.inside.SealedBuffers.{AreSealed, FirstUnwritten}
 use Rattle.sled_core.specs.inside.Slots.{AreWhole}
 use Rattle.sled_core.specs.inside.Tail.{AreScanned, IsOrdering, least_place, tail_begins}
-use Rattle.sled_core.proofs.Freed.Cleared.{LineRises, OthersBeside, between_is, segments_apart, slot_apart}
+use Rattle.sled_core.proofs.Cleared.Offsets.{LineRises, OthersBeside, between_is, slot_apart}
 use Rattle.sled_core.proofs.Freed.Gone.{ReadsAs}
 use Rattle.sled_core.proofs.Freed.GoneAlone.{found_alone}
 use Rattle.sled_core.proofs.Freed.NoHarm.{gone_do_no_harm}
 use Rattle.sled_core.proofs.Freed.ReadsAs.{own_header, reads_as_shown}
 use Rattle.sled_core.proofs.Freed.ShownReads.{HeadWaits, ShowsSlot, line_shows, older_shows, reads_shown}
 use Rattle.sled_core.proofs.Line.Segments.{AreSegments, first_below, nth_segment}
+use Rattle.sled_core.proofs.Line.Shown.{line_rises, others_beside}
 use Rattle.sled_core.proofs.Reserve.Ranges.{chain_grows}
-use Rattle.sled_core.proofs.Sealed.Ended.{ends_rise, ends_up}
 use Rattle.sled_core.proofs.Tail.Multiples.{apart, next_multiple}
 
 -- Nothing is written of a segment where its first buffer isn't: that has the header.
@@ -47,16 +46,6 @@ head_unwritten slot from rs (b ∷ bs) to long fresh are none i low high =
     or_left (not b.is_written && is_between (slot + from) (slot + b.end) i) (is_unwritten_in slot b.end bs to i)
     (and_from (not b.is_written) (is_between (slot + from) (slot + b.end) i) (ap not fresh)
     (between_is (slot + from) (slot + b.end) i (omega (arith, low, none)) (omega (arith, high, grows))))
-
--- where the n-th of segments one behind another begins
-pub nth_at : (size place : ℕ) (vs : List SegmentView) → AreSegments size place vs → (n : ℕ) (u : SegmentView) → slice_get vs n ≡ Some u
-    → u.parts.site.place ≡ place + n * size
-nth_at size place [] are n u there = cc
-nth_at size place (x ∷ xs) are zero u there =
-    let same : x ≡ u = cc in
-    let at = are.0.at in
-    omega (arith, at, ap (λ (y : SegmentView). y.parts.site.place) same)
-nth_at size place (x ∷ xs) are (suc n) u there = let rest = nth_at size (place + size) xs are.1 n u there in omega (arith, rest, suc-mul n size)
 
 -- A segment that ends where they end or below it is one of them, or ends where the first one begins or below that.
 line_or_older : (size : ℕ) → 0 < size → (place : ℕ) (vs : List SegmentView) → AreSegments size place vs → place % size ≡ 0 → (p : ℕ) → p % size ≡ 0
@@ -83,15 +72,6 @@ begun_there (x ∷ xs) zero u there =
 begun_there (x ∷ xs) (suc n) u there =
     in_rest (begun_segment x.parts) (begun_segment u.parts) (map begun_segment (map parts_in xs)) (begun_there xs n u there)
 
--- Each one's buffers end one behind another.
-pub line_rises : (size place : ℕ) (line : List SegmentView) → AreSegments size place line → LineRises size line
-line_rises size place line are j u at =
-    let s = nth_segment size place line are j u at in
-    let up = ends_up u.parts.written_len u.parts.reserved u.parts.sealed s.are in
-    let begins = s.begins in
-    let short = s.short in
-    ends_rise u.parts.written_len u.parts.reserved u.parts.sealed size s.are (omega (arith, up, begins, short)) (omega (arith, begins, short))
-
 -- A line, and the slots of its segments.
 module _ (sum : List ℕ → ℕ) (none : NoHeaderOfZeros sum) (size : ℕ) (some : 256 ≤ size) (m : Machine) (v : SegmentView) (vs : List SegmentView)
     (are : AreSegments size v.parts.site.place (v ∷ vs))
@@ -115,14 +95,8 @@ module _ (sum : List ℕ → ℕ) (none : NoHeaderOfZeros sum) (size : ℕ) (som
       head_unwritten u.parts.site.slot u.parts.written_len u.parts.reserved u.parts.sealed size (omega (arith, some)) s.fresh s.are fresh i low high
 
   -- they lie beside one another
-  pub others_beside : (n : ℕ) (u : SegmentView) → slice_get line n ≡ Some u → OthersBeside size line n u
-  others_beside n u at j w at_j differs = segments_apart size m w u (taken j w at_j) (taken n u at) (λ same. elim (cases_order j n) [
-    | inl is ↦ differs is
-    | inr (inl lower) ↦ (
-        let far = slot_before size j n lower in omega (arith, far, some, same, nth_at size place line are j w at_j, nth_at size place line are n u at))
-    | inr (inr higher) ↦ (
-        let far = slot_before size n j higher in omega (arith, far, some, same, nth_at size place line are j w at_j, nth_at size place line are n u at))
-  ])
+  pub line_beside : (n : ℕ) (u : SegmentView) → slice_get line n ≡ Some u → OthersBeside size line n u
+  line_beside = others_beside size (omega (arith, some)) m place line are taken
 
   module _ (log : List ℕ) where
     abbrev shown : List ℕ
@@ -146,7 +120,7 @@ module _ (sum : List ℕ → ℕ) (none : NoHeaderOfZeros sum) (size : ℕ) (som
                 let small = s.slot_small in
                 let its = stands n u at in
                 subst (ShowsSlot sum none size some m line log rises) (own.one has.number k has.taken used (has.is ∙ is))
-                (line_shows sum none size some m line log rises n u at has (others_beside n u at) (waits n u at) (omega (arith, small)) least ordering numbers
+                (line_shows sum none size some m line log rises n u at has (line_beside n u at) (waits n u at) (omega (arith, small)) least ordering numbers
                 scanned reads its.0 its.1))
           ]
 

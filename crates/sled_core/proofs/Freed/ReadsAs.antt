@@ -20,7 +20,7 @@ use Rattle.sled_core.specs.inside.Cleared.{cleared, is_stale}
 use Rattle.sled_core.specs.inside.Hides.{Hides, IsGoneSegment, IsOwnHeader, ReadsOwnIn, ReadsShown}
 use Rattle.sled_core.specs.inside.OwnLog.{ReadsOwn, ReadsPlaced}
 use Rattle.sled_core.specs.inside.Scan.{IsFoundSegment}
-use Rattle.sled_core.proofs.Freed.Cleared.{zeroed_long}
+use Rattle.sled_core.proofs.Cleared.Offsets.{zeroed_long}
 use Rattle.sled_core.proofs.Freed.Gone.{ReadsAs}
 use Rattle.sled_core.proofs.OwnLog.Kept.{part_in}
 use Rattle.sled_core.proofs.Tail.LogFileLemmas.{record_moved}

@@ -30,12 +30,13 @@ use Rattle.sled_core.specs.inside.Turned.{begin_at, next_line, promoted, written
 use Rattle.sled_core.specs.OpenBatches.{stable_below}
 use Rattle.sled_core.proofs.Freed.FreedHides.{hides_freed}
 use Rattle.sled_core.proofs.Freed.LineHides.{hides_left, hides_next}
-use Rattle.sled_core.proofs.Freed.Quiet.{aligned, line_rises, nth_at, others_beside, quiet_shown}
+use Rattle.sled_core.proofs.Freed.Quiet.{aligned, line_beside, quiet_shown}
 use Rattle.sled_core.proofs.Freed.WrittenHides.{hides_written}
 use Rattle.sled_core.proofs.Holds.Facts.{IsSegment}
 use Rattle.sled_core.proofs.Holds.Nth.{last_get}
 use Rattle.sled_core.proofs.Line.PlacedWrite.{begins_so}
 use Rattle.sled_core.proofs.Line.Segments.{AreSegments, first_below, nth_segment, set_segment, written_segment, written_within}
+use Rattle.sled_core.proofs.Line.Shown.{line_rises, nth_at}
 use Rattle.sled_core.proofs.Line.Shows.{number_small}
 use Rattle.sled_core.proofs.Line.Slots.{next_free, next_within}
 use Rattle.sled_core.proofs.Reached.BufferPath.{buffer_header}
@@ -148,7 +149,7 @@ module _ (sum : List ℕ → ℕ) (none : NoHeaderOfZeros sum) (size : ℕ) (som
         hides_left sum size behind least base H m (set line n (written_now k u)) place
         (set_segment size place line are n u (written_now k u) at (λ p here. written_segment k u b there ready size p here))
         (hides_written sum size some s m line least base H hides (quiet_shown sum none size some m v vs are taken own s H first reach whole among)
-        n u at k b there (taken n u at) (line_rises size place line are) (others_beside sum none size some m v vs are taken own n u at) own is.place_small
+        n u at k b there (taken n u at) (line_rises size place line are) (line_beside sum none size some m v vs are taken own n u at) own is.place_small
         rows.2 (begins_so u.parts.written_len u.parts.reserved u.parts.sealed is.are begun k) entries sealed_so.chain
         (All-take Stand b.count (drop (sealed_count front) u.parts.reserved) (All-drop Stand (sealed_count front) u.parts.reserved records.stand))
         (omega (arith, low, up)) (least_low n u at (omega (arith, rows.0, rows.1, rows.2, short)))

@@ -3,7 +3,8 @@ use Rattle.std.specs.declared.io.Error.{Error as IoError}
 use Rattle.std.proofs.Common.{◌≤◌, ℕ, ℤ, List, [], ◌∷◌, map, Option, arith}
 use Rattle.sled_codec.specs.History.{Message, History}
 use Rattle.sled_codec.specs.Snapshots.{SnapshotModel}
-use Rattle.sled_store.specs.Device.{Trace, Content, NamesState, State, state_of}
+use Rattle.sled_store.specs.Device.{Trace, Content, NamesState, State}
+use Rattle.sled_core.specs.inside.Shown.{shown_of}
 use Rattle.sled_core.specs.declared.logger.Log.{Log}
 use Rattle.sled_core.specs.Begun.{SegmentParts, SegmentView}
 use Rattle.sled_core.specs.inside.Fits.{LogParts, log_parts, parts_in}
@@ -107,13 +108,16 @@ module _ (sum : List ℕ → ℕ) (H : History) (A less f lower : ℕ) (U : List
   pub fits_claimed : {D C : Type 0} (trace : D → Trace) (log : Log D C) → Fits trace sum log H A f U → Fits trace sum log H less lower U
   unfolding Fits
   fits_claimed trace log fits = record {
-    reach = fits.reach;
-    parts = fits_line_claimed log.config.config.segment_size (state_of (trace log.config.device)) log.fault.kept (line_of log) fits.reach log.pins fits.parts;
-    batches = fits.batches;
-    slots = fits.slots;
-    whole = fits.whole;
-    own = fits.own;
-    account = fits.account;
-    numbers = fits.numbers;
-    in_slots = fits.in_slots;
+    shows = record {
+      reach = fits.shows.reach;
+      parts = fits_line_claimed log.config.config.segment_size (shown_of trace log) log.fault.kept (line_of log) fits.shows.reach log.pins fits.shows.parts;
+      batches = fits.shows.batches;
+      slots = fits.shows.slots;
+      whole = fits.shows.whole;
+      own = fits.shows.own;
+      account = fits.shows.account;
+      numbers = fits.shows.numbers;
+      in_slots = fits.shows.in_slots;
+    };
+    file = fits.file;
   }

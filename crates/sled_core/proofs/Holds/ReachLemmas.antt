@@ -157,7 +157,7 @@ unfolding Fits
 fits_reach trace sum log H A f U fits =
     let size : ℕ = log.config.config.segment_size in
     let past = position_past size (current_of log) (machine_of log.accountant) (current_facts log).short in
-    let low = line_below sum size _ log.fault.kept (segment_view log.segments.first) (map segment_view log.segments.behind.items) (logged H) log.line.lies.in_segment fits.parts.holds in
+    let low = line_below sum size _ log.fault.kept (segment_view log.segments.first) (map segment_view log.segments.behind.items) (logged H) log.line.lies.in_segment fits.shows.parts.holds in
     let all = all_in_log (λ (m : Message). m.place < (current_of log).parts.site.place + length (current_of log).parts.bytes) H.messages low in
     λ k d lt. let below = all k d lt in omega (arith, below, past)
 
@@ -165,26 +165,29 @@ fits_reach trace sum log H A f U fits =
 pub fits_apart : {D C : Type 0} (trace : D → Trace) (sum : List ℕ → ℕ) (log : Log D C) (H : History) (A f : ℕ) (U : List Message) → Fits trace sum log H A f U → LieApart H.messages
 unfolding Fits
 fits_apart trace sum log H A f U fits =
-    logged_apart H (whole_apart sum log.config.config.segment_size log.segments.first.site _ log.fault.kept log.segments.first.buffer.bytes.items log.segments.first.buffer.written_len log.segments.first.buffer.sealed.items log.segments.first.buffer.reserved.items (logged H) fits.parts.holds log.line.lies.in_segment)
+    logged_apart H (whole_apart sum log.config.config.segment_size log.segments.first.site _ log.fault.kept log.segments.first.buffer.bytes.items log.segments.first.buffer.written_len log.segments.first.buffer.sealed.items log.segments.first.buffer.reserved.items (logged H) fits.shows.parts.holds log.line.lies.in_segment)
 
 -- it holds the history
 pub fits_holds : {D C : Type 0} (trace : D → Trace) (sum : List ℕ → ℕ) (log : Log D C) (H : History) (A f : ℕ) (U : List Message) → Fits trace sum log H A f U → Holds trace sum log H
 unfolding Fits Holds
-fits_holds trace sum log H A f U fits = record { holds = fits.parts.holds; batches = fits.batches; slots = fits.slots }
+fits_holds trace sum log H A f U fits = record {
+  shows = record { holds = fits.shows.parts.holds; batches = fits.shows.batches; slots = fits.shows.slots };
+  file = fits.file;
+}
 
 -- what was acknowledged is written
 pub fits_acknowledged : {D C : Type 0} (trace : D → Trace) (sum : List ℕ → ℕ) (log : Log D C) (H : History) (A f : ℕ) (U : List Message) → Fits trace sum log H A f U → A ≤ synced_end log
 unfolding Fits
-fits_acknowledged trace sum log H A f U fits = let passes = fits.parts.passes in let low = stable_low fits.reach H.batches in let near = fits.parts.reached.near in omega (arith, passes, low, near)
+fits_acknowledged trace sum log H A f U fits = let passes = fits.shows.parts.passes in let low = stable_low fits.shows.reach H.batches in let near = fits.shows.parts.reached.near in omega (arith, passes, low, near)
 
 -- It lies below the stable end, too.
 pub fits_stable : {D C : Type 0} (trace : D → Trace) (sum : List ℕ → ℕ) (log : Log D C) (H : History) (A f : ℕ) (U : List Message) → Fits trace sum log H A f U → A ≤ stable_end log
 unfolding Fits
 fits_stable trace sum log H A f U fits =
-    let passes = fits.parts.passes in
-    let near = fits.parts.reached.near in
-    let up = stable_rises fits.reach (synced_end log) near H.batches in
-    let same = stable_noted (synced_end log) (line_end log.config.config.segment_size (line_of log)) (noted_in log) (logged H) fits.batches in
+    let passes = fits.shows.parts.passes in
+    let near = fits.shows.parts.reached.near in
+    let up = stable_rises fits.shows.reach (synced_end log) near H.batches in
+    let same = stable_noted (synced_end log) (line_end log.config.config.segment_size (line_of log)) (noted_in log) (logged H) fits.shows.batches in
     omega (arith, passes, up, same)
 
 -- Of tickets and places.

@@ -11,10 +11,11 @@ use Rattle.sled_codec.specs.History.{Message, History, table}
 use Rattle.sled_codec.specs.Places.{part}
 use Rattle.sled_codec.specs.Record.{IsHeader}
 use Rattle.sled_codec.proofs.Segments.{one_header}
-use Rattle.sled_store.specs.Device.{State, Trace, state_of}
+use Rattle.sled_store.specs.Device.{State, Trace}
 use Rattle.sled_store.specs.SegmentStates.{Machine, is_free, slot_at}
 use Rattle.sled_store.proofs.Histories.Ascending.{apart_ascends}
 use Rattle.sled_store.proofs.Histories.EarlierEntries.{entry_earlier}
+use Rattle.sled_core.specs.inside.Shown.{shown_of}
 use Rattle.sled_core.specs.Begun.{SegmentView, segment_view}
 use Rattle.sled_core.specs.declared.logger.Log.{Log}
 use Rattle.sled_core.specs.Fits.{HasRecordOf, current_of, fault_of, line_of, machine_at, noted_in, segment_size_of, synced_end}
@@ -79,7 +80,7 @@ module _ {D C : Type 0} (trace : D → Trace) (sum : List ℕ → ℕ) (log : Lo
   size = log.config.config.segment_size
 
   abbrev state : State
-  state = state_of (trace log.config.device)
+  state = shown_of trace log
 
   abbrev machine : Machine
   machine = machine_at log
@@ -193,9 +194,9 @@ pub still_there : {D C : Type 0} (trace : D → Trace) (sum : List ℕ → ℕ) 
     → HasSegment (machine_at log) (m.place / segment_size_of log * segment_size_of log)
 unfolding Fits
 still_there trace sum log H A f U m fits none zeros there has = elim has [
-  | inl above ↦ of_line trace sum log H A f U fits m there above
+  | inl above ↦ of_line trace sum log H A f U fits.shows m there above
   | inr (cut, far, entry) ↦ elim (cases_lt m.place log.segments.first.site.place) [
-    | inl below ↦ of_entry trace sum log H A f U fits none zeros m there below cut far entry
-    | inr above ↦ of_line trace sum log H A f U fits m there above
+    | inl below ↦ of_entry trace sum log H A f U fits.shows none zeros m there below cut far entry
+    | inr above ↦ of_line trace sum log H A f U fits.shows m there above
   ]
 ]

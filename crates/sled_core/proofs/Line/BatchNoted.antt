@@ -5,7 +5,7 @@ use Rattle.std.specs.List.{Contains, slice_get}
 use Rattle.std.proofs.lemmas.Int.{ints}
 use Rattle.sled_codec.specs.History.{AddsBatch, Batch, Batched, History, Message, Step}
 use Rattle.sled_store.specs.Accounts.{machine_of}
-use Rattle.sled_store.specs.Device.{Trace, state_of}
+use Rattle.sled_store.specs.Device.{Trace}
 use Rattle.sled_store.specs.declared.config.RunningConfig.{RunningConfig}
 use Rattle.sled_core.specs.Batches.{LiesInNoFilling, NotesBatchOf, batch_for}
 use Rattle.sled_core.specs.Begun.{SegmentView, line_in, segment_view}
@@ -25,9 +25,12 @@ use Rattle.sled_core.specs.OpenPlaces.{TakesOut}
 use Rattle.sled_core.specs.Positions.{position_in}
 use Rattle.sled_core.specs.invariants.Running.{Fits}
 use Rattle.sled_core.specs.Tickets.{is_manifest_of, place_of}
+use Rattle.sled_core.specs.inside.Shown.{shown_of}
 use Rattle.sled_core.specs.inside.Turned.{ChangesLine, NotesBatch, ended_now}
 use Rattle.sled_core.specs.Waiting.{last_of, spans, start_in, unwritten}
 use Rattle.sled_core.proofs.Behind.FirstHoldsMarked.{noted_adds, noted_history}
+use Rattle.sled_core.proofs.Cleared.Calls.{cleared_ended}
+use Rattle.sled_core.proofs.Cleared.Shown.{ShowsSame}
 use Rattle.sled_core.proofs.Line.KeptCalls.{goes_on_quietly, position_further}
 use Rattle.sled_core.proofs.Line.EndedKeeps.{keeps_ended, position_ended}
 use Rattle.sled_core.proofs.Line.EndedLine.{marking_short}
@@ -199,6 +202,12 @@ module _ {D C : Type 0} (trace : D → Trace) (sum : List ℕ → ℕ) (old mid 
     pub batch_seen : kept_batches new ≤ 2 * length (noted_in new) → IsBatchNoted trace sum old new ticket peg
     batch_seen few = record { same = batch_same few; position = batch_position; buffers = batch_buffers; goes_on = batch_goes_on; opens = batch_opens; given_up = batch_given; heads = batch_heads; fillings = batch_fillings; others = batch_others }
 
+    -- The same counts for nothing in the log file,
+    same_shown : ShowsSame old.config.config.segment_size (machine_of old.accountant) (machine_of old.accountant) (line_of old)
+        (set (line_of old) n (ended_now i r (marking sum v.parts.bytes r peg) Manifest v))
+    same_shown log =
+        cleared_ended old.config.config.segment_size (machine_of old.accountant) log (line_of old) n v i r (marking sum v.parts.bytes r peg) Manifest f.among
+
     -- and the log holds the history with the batch,
     pub batch_holds : peg < reserved_end old → ((b : Batch) → Contains (noted_in old) b → (pos b.peg <ℤ place_of ticket) ⊎ (peg < b.low)) → LiesInNoFilling old.config.config.segment_size (line_of old) (pos peg) → (H : History) → Holds trace sum old H
         → (H' : History) × Step H (Batched (batch_for ticket (pos peg))) H' × Holds trace sum new H'
@@ -208,12 +217,12 @@ module _ {D C : Type 0} (trace : D → Trace) (sum : List ℕ → ℕ) (old mid 
         let at = f.own.place in
         let reach = reserved_in_reach old in
         let ends = reserved_ends old in
-        let now = holds_noted sum old.config.config.segment_size (state_of (trace old.config.device)) old.fault.kept (line_of old) n v f.among old.segments.first.site.place (nth_facts old) i r f.there f.own.open_yet (of_manifest old ticket n index f manifest) peg (omega (arith, within, reach)) later (omega (arith, within, ends)) (machine_of old.accountant) (noted_in old)
-        (λ c known. elim (apart c known) [ inl front ↦ inl (omega (arith, ints, front, at)) | inr behind ↦ inr behind ]) (logged H) (log_off old peg within lies) holds in (
+        let now = holds_noted sum old.config.config.segment_size (shown_of trace old) old.fault.kept (line_of old) n v f.among old.segments.first.site.place (nth_facts old) i r f.there f.own.open_yet (of_manifest old ticket n index f manifest) peg (omega (arith, within, reach)) later (omega (arith, within, ends)) (machine_of old.accountant) (noted_in old)
+        (λ c known. elim (apart c known) [ inl front ↦ inl (omega (arith, ints, front, at)) | inr behind ↦ inr behind ]) (logged H) (log_off old peg within lies) holds.shows in (
           noted_history H b,
           subst (λ (x : Batch). AddsBatch H x (noted_history H b)) (λ j. record { low = (sym begins ∙ low_is) j; peg = peg }) (noted_adds H b later),
           holds_as trace sum old new now_config (rest.fault ∙ ended.fault) (with_batch b (noted_in old)) now_noted (set (line_of old) n (ended_now i r (marking sum v.parts.bytes r peg) Manifest v)) (noted_line mid new rest ∙ line) (machine_of old.accountant)
-              (ap machine_of (rest.accountant ∙ ended.accountant)) (noted_history H b) now,
+              (ap machine_of (rest.accountant ∙ ended.accountant)) same_shown holds.file (noted_history H b) now,
         )
 
     -- and fits it.
@@ -226,10 +235,10 @@ module _ {D C : Type 0} (trace : D → Trace) (sum : List ℕ → ℕ) (old mid 
         let at = f.own.place in
         let reach = reserved_in_reach old in
         let ends = reserved_ends old in
-        let now = fits_noted sum size (state_of (trace old.config.device)) old.fault.kept (line_of old) n v f.among old.segments.first.site.place (nth_facts old) i r f.there f.own.open_yet (of_manifest old ticket n index f manifest) peg (omega (arith, within, reach)) later (omega (arith, within, ends)) (machine_of old.accountant) (noted_in old)
-        (λ c known. elim (apart c known) [ inl front ↦ inl (omega (arith, ints, front, at)) | inr behind ↦ inr behind ]) old.pins H A f' U old.config.config.least none (log_off old peg within lies) fits in (
+        let now = fits_noted sum size (shown_of trace old) old.fault.kept (line_of old) n v f.among old.segments.first.site.place (nth_facts old) i r f.there f.own.open_yet (of_manifest old ticket n index f manifest) peg (omega (arith, within, reach)) later (omega (arith, within, ends)) (machine_of old.accountant) (noted_in old)
+        (λ c known. elim (apart c known) [ inl front ↦ inl (omega (arith, ints, front, at)) | inr behind ↦ inr behind ]) old.pins H A f' U old.config.config.least none (log_off old peg within lies) fits.shows in (
           noted_history H b,
           subst (λ (x : Batch). AddsBatch H x (noted_history H b)) (λ j. record { low = (sym begins ∙ low_is) j; peg = peg }) (noted_adds H b later),
           fits_as trace sum old new now_config (rest.fault ∙ ended.fault) (with_batch b (noted_in old)) now_noted (set (line_of old) n (ended_now i r (marking sum v.parts.bytes r peg) Manifest v)) (noted_line mid new rest ∙ line) (machine_of old.accountant)
-              (ap machine_of (rest.accountant ∙ ended.accountant)) (noted_history H b) A f' U (rest.pins ∙ ended.pins) now,
+              (ap machine_of (rest.accountant ∙ ended.accountant)) same_shown fits.file (noted_history H b) A f' U (rest.pins ∙ ended.pins) now,
         )

@@ -12,7 +12,7 @@ use Rattle.sled_codec.specs.Record.{short_header}
 use Rattle.sled_store.specs.Foreign.{HeaderWasPlaced, RecordWasPlaced}
 use Rattle.sled_store.specs.Accounts.{AreSlots}
 use Rattle.sled_store.specs.declared.config.RunningConfig.{RunningConfig}
-use Rattle.sled_store.specs.Device.{State, Trace, state_of}
+use Rattle.sled_store.specs.Device.{State, Trace}
 use Rattle.sled_store.specs.SegmentStates.{Machine, handed_out, next_slot}
 use Rattle.sled_core.proofs.Line.FillingsAlong.{filling_at, fillings_begun, fillings_closed}
 use Rattle.sled_core.proofs.Line.Heads.{heads_begun, heads_closed}
@@ -44,6 +44,7 @@ use Rattle.sled_core.specs.OpenBatches.{stable_below}
 use Rattle.sled_core.specs.invariants.Running.{Fits}
 use Rattle.sled_core.specs.inside.Running.{FitsIn, FitsLine, FitsWith}
 use Rattle.sled_core.specs.inside.Slots.{AreWhole, HasAccount}
+use Rattle.sled_core.specs.inside.Shown.{shown_of}
 use Rattle.sled_core.specs.inside.Turned.{ChangesSlots, begun_view, next_line}
 use Rattle.sled_core.specs.Waiting.{at_last, closed_now, filled_now, last_of}
 use Rattle.sled_core.proofs.Behind.Around.{behind_place, behind_place_is}
@@ -55,6 +56,8 @@ use Rattle.sled_core.proofs.Line.Closes.{IsClosable, filled_gone, filled_length,
 use Rattle.sled_core.proofs.Holds.Facts.{IsSegment, current_facts, nth_facts}
 use Rattle.sled_core.proofs.Line.Last.{All-at_last, last_behind_all, last_get_of}
 use Rattle.sled_core.proofs.Line.LineEnds.{end_at_last, kept_same, noted_later, noted_same}
+use Rattle.sled_core.proofs.Cleared.Calls.{cleared_next}
+use Rattle.sled_core.proofs.Cleared.Shown.{ShowsSame}
 use Rattle.sled_core.proofs.Line.Moves.{fits_as, holds_as}
 use Rattle.sled_core.proofs.Line.Among.{among_same}
 use Rattle.sled_core.proofs.Line.GivenUp.{given_begun, given_closed}
@@ -467,21 +470,31 @@ module _ {D C : Type 0} (trace : D → Trace) (sum : List ℕ → ℕ) (old new 
   lies : (current_of old).parts.site.place ≡ first.parts.site.place + length behind * its_size
   lies = let at = facts.at in omega (arith, at, ap (λ n. n * its_size) (length-map old.segments.behind.items segment_view))
 
+  -- The same counts for nothing in the log file: the slot was free, and nothing of the new segment is written.
+  same_shown : ShowsSame its_size (machine_at old) (handed_out ((current_of old).parts.site.place + its_size) (machine_at old)) (line_of old)
+      (next_line sum its_size (machine_at old) (stable_end old) (line_of old))
+  same_shown log =
+      let some : 0 < its_size = omega (arith, big) in
+      cleared_next its_size (machine_at old) log sum first behind facts.begins facts.short
+      (let small = facts.place_small in omega (arith, small, div-le_self (current_of old).parts.site.place its_size)) some
+      ((current_of old).parts.site.place + its_size) (stable_end old)
+      (next_free (machine_at old) old.account.slots) (next_within (machine_at old) old.account.slots)
+
   -- and the log holds and fits what it did.
   pub begins_keeps : Preserves trace sum old new
   unfolding Holds Fits
   begins_keeps =
-      let device : State = state_of (trace (device_of old)) in
+      let device : State = shown_of trace old in
       let f = facts in
       let g = first_facts in
       let small : old.segments.first.site.place / its_size < 2 ^ 64 = (let small = g.place_small in omega (arith, small, div-le_self old.segments.first.site.place its_size)) in
       record {
         goes_on = goes_on_quietly trace sum old new (record { config = ap (λ (x : RunningConfig D C). x.config) rest.config; checksum = ap (λ (x : RunningConfig D C). x.checksum) rest.config })
             (ap (λ (x : RunningConfig D C). trace x.device) rest.config) (let same = begins_synced in omega (arith, same)) (λ none. sym rest.fault ∙ none);
-        history = λ H holds. holds_as trace sum old new rest.config rest.fault (noted_in old) begins_noted _ line _ machine H
-            (holds_next sum its_size device (fault_of old) (machine_at old) big old.account.slots first behind closes g.short small lies f.place_small (noted_in old) (logged H) holds);
-        fits = λ H A f' U fits. fits_as trace sum old new rest.config rest.fault (noted_in old) begins_noted _ line _ machine H A f' U rest.pins
-            (fits_next sum its_size device (fault_of old) (machine_at old) big old.account.slots first behind closes g.short small lies f.place_small (noted_in old) (pins_of old) H A f' U fits);
+        history = λ H holds. holds_as trace sum old new rest.config rest.fault (noted_in old) begins_noted _ line _ machine same_shown holds.file H
+            (holds_next sum its_size device (fault_of old) (machine_at old) big old.account.slots first behind closes g.short small lies f.place_small (noted_in old) (logged H) holds.shows);
+        fits = λ H A f' U fits. fits_as trace sum old new rest.config rest.fault (noted_in old) begins_noted _ line _ machine same_shown fits.file H A f' U rest.pins
+            (fits_next sum its_size device (fault_of old) (machine_at old) big old.account.slots first behind closes g.short small lies f.place_small (noted_in old) (pins_of old) H A f' U fits.shows);
         noted = noted_later old new rest.noted (let same = begins_synced in omega (arith, same));
         kept = kept_same old new rest.noted;
       }

@@ -12,22 +12,24 @@ use Rattle.sled_store.specs.Script.{Performs, after_all}
 use Rattle.sled_store.specs.SegmentStates.{Machine}
 use Rattle.sled_store.proofs.Traces.MomentLemmas.{at_last, weaker}
 use Rattle.sled_store.proofs.Traces.ScriptLemmas.{later_performed, performs_throughout}
+use Rattle.sled_core.specs.inside.Shown.{shown_of}
 use Rattle.sled_core.specs.declared.logger.Log.{Log}
 use Rattle.sled_core.specs.Begun.{SegmentView}
 use Rattle.sled_core.specs.invariants.Fits.{Holds}
 use Rattle.sled_core.specs.inside.Lasting.{LastsFrom}
-use Rattle.sled_core.specs.inside.Fits.{HoldsWith}
+use Rattle.sled_core.specs.inside.Fits.{HoldsShown}
 use Rattle.sled_core.specs.Fits.{device_of, fault_of, line_of, machine_at, next_place, noted_in, pins_of, segment_size_of}
 use Rattle.sled_core.specs.Keeps.{Preserves}
 use Rattle.sled_core.specs.Logged.{logged}
 use Rattle.sled_core.specs.Reading.{BlobIsBelow}
 use Rattle.sled_core.specs.Recoverable.{LeavesRecoverable, RecoverableIfOwn}
 use Rattle.sled_core.specs.invariants.Running.{Fits}
-use Rattle.sled_core.specs.inside.Running.{FitsWith}
+use Rattle.sled_core.specs.inside.Running.{FitsShown}
 use Rattle.sled_core.specs.Running.{IsStored, KeepsItem}
 use Rattle.sled_core.specs.inside.Turned.{ChangesDevice}
+use Rattle.sled_core.proofs.Blobs.StaysOwn.{own_same}
 use Rattle.sled_core.proofs.Blobs.Along.{fits_made, leaves_making}
-use Rattle.sled_core.proofs.Blobs.Over.{holds_over_names}
+use Rattle.sled_core.proofs.Blobs.Over.{shown_holds_over}
 use Rattle.sled_core.proofs.Blobs.Events.{ReadsNames, own_reads}
 use Rattle.sled_core.proofs.Blobs.ItemsStay.{items_made}
 use Rattle.sled_core.proofs.Blobs.Unnamed.{IsUnnamed}
@@ -42,16 +44,16 @@ abbrev pub IsMadeOrSame : Option IoError → Trace → Trace → ℤ → List �
 IsMadeOrSame fault before after p bytes = fault ≡ None → (after ≡ before) ⊎ (((state_of before).blobs.file p ≡ None) × (after ≡ after_all (making p bytes) before))
 
 -- What a log holds hangs on its blobs in nothing, and on its snapshots by what is read of them.
-holds_along : (sum : List ℕ → ℕ) (size : ℕ) (p : ℤ) (bytes : List ℕ) (noted : List Batch) (fault : Option IoError) (line : List SegmentView) (m : Machine) (H : History) (s : State) → HoldsWith sum noted size s fault line m H
-    → Along (λ t. HoldsWith sum noted size t fault line m H) (making p bytes) s
+holds_along : (sum : List ℕ → ℕ) (size : ℕ) (p : ℤ) (bytes : List ℕ) (noted : List Batch) (fault : Option IoError) (line : List SegmentView) (m : Machine) (H : History) (s : State) → HoldsShown sum noted size s fault line m H
+    → Along (λ t. HoldsShown sum noted size t fault line m H) (making p bytes) s
 holds_along sum size p bytes noted fault line m H s holds =
-    let P : State → Type 0 = λ t. HoldsWith sum noted size t fault line m H in
-    let made : (asked now : List ℕ) (done : Bool) → P (step (BlobMade p asked now done) s) = λ asked now done. holds_over_names sum size s _ _ fault refl noted line m H holds in
+    let P : State → Type 0 = λ t. HoldsShown sum noted size t fault line m H in
+    let made : (asked now : List ℕ) (done : Bool) → P (step (BlobMade p asked now done) s) = λ asked now done. shown_holds_over sum size s _ _ fault refl noted line m H holds in
     let whole : State = step (BlobMade p bytes bytes true) s in
     let synced : State = step (BlobSynced p) whole in
     let one : P whole = made bytes bytes true in
-    let two : P synced = holds_over_names sum size whole _ _ fault refl noted line m H one in
-    (holds, λ torn tears. subst (λ (e : Event). P (step e s)) (sym tears.2) (made bytes tears.0 tears.1), (one, λ torn tears. absurd tears, (two, λ torn tears. absurd tears, holds_over_names sum size synced _ _ fault refl noted line m H two)))
+    let two : P synced = shown_holds_over sum size whole _ _ fault refl noted line m H one in
+    (holds, λ torn tears. subst (λ (e : Event). P (step e s)) (sym tears.2) (made bytes tears.0 tears.1), (one, λ torn tears. absurd tears, (two, λ torn tears. absurd tears, shown_holds_over sum size synced _ _ fault refl noted line m H two)))
 
 module _ {D C : Type 0} (trace : D → Trace) (sum : List ℕ → ℕ) (old new : Log D C) (rest : ChangesDevice old new) (bytes : List ℕ) (calls : Performs (making (pos (next_place old)) bytes) (trace (device_of old)) (trace (device_of new))) (none : fault_of old ≡ None)
     (kept : (fault_of new ≡ fault_of old) ⊎ ((e : IoError) × (fault_of new ≡ Some e)))
@@ -67,13 +69,13 @@ module _ {D C : Type 0} (trace : D → Trace) (sum : List ℕ → ℕ) (old new 
   unfolding Fits
   unnamed H A f U fits m there lid q is same =
       let low : m.place < next_place old = All-contains (λ (x : Message). x.place < next_place old) H.messages m (fits_reach trace sum old H A f U fits) there in
-      let below : q ≤ℤ pos m.place = subst (BlobIsBelow m) is (fits.parts.items.below m there) in
+      let below : q ≤ℤ pos m.place = subst (BlobIsBelow m) is (fits.shows.parts.items.below m there) in
       let high : pos (next_place old) ≤ℤ pos m.place = subst (λ (z : ℤ). z ≤ℤ pos m.place) same below in
       omega (arith, ints, low, high)
 
   reads : (H : History) (A f : ℕ) (U : List Message) → Fits trace sum old H A f U → ReadsNames sum p before
   unfolding Fits
-  reads H A f U fits = own_reads sum p before (fits.parts.named.own_names none)
+  reads H A f U fits = own_reads sum p before (own_same sum (shown_of trace old) before refl refl (fits.shows.parts.named.own_names none))
 
   leaves : (H : History) (A f : ℕ) (U : List Message) → Fits trace sum old H A f U → LeavesOnly (RecoverableIfOwn sum (segment_size_of old) H A f) (trace (device_of old)) (trace (device_of new))
   leaves H A f U fits =
@@ -87,14 +89,14 @@ module _ {D C : Type 0} (trace : D → Trace) (sum : List ℕ → ℕ) (old new 
   holds : (H : History) → Holds trace sum old H → Holds trace sum new H
   unfolding Holds
   holds H held =
-      let P : State → Type 0 = λ s. HoldsWith sum (noted_in old) (segment_size_of old) s (fault_of old) (line_of old) (machine_at old) (logged H) in
+      let P : State → Type 0 = λ s. HoldsShown sum (noted_in old) (segment_size_of old) s (fault_of old) (line_of old) (machine_at old) (logged H) in
       device_holds old new rest trace sum kept H (at_last P (trace (device_of old)) (trace (device_of new)) (performs_throughout P (making p bytes) (trace (device_of old)) (trace (device_of new)) calls
       (holds_along sum (segment_size_of old) p bytes (noted_in old) (fault_of old) (line_of old) (machine_at old) (logged H) before held)))
 
   fits_on : (H : History) (A f : ℕ) (U : List Message) → Fits trace sum old H A f U → Fits trace sum new H A f U
   unfolding Fits
   fits_on H A f U fits =
-      let P : State → Type 0 = λ s. FitsWith sum (noted_in old) (segment_size_of old) s (fault_of old) (line_of old) (machine_at old) (pins_of old) H A f U in
+      let P : State → Type 0 = λ s. FitsShown sum (noted_in old) (segment_size_of old) s (fault_of old) (line_of old) (machine_at old) (pins_of old) H A f U in
       device_fits old new rest trace sum kept H A f U (at_last P (trace (device_of old)) (trace (device_of new))
       (fits_made sum (segment_size_of old) p H (trace (device_of old)) (trace (device_of new)) bytes (reads H A f U fits) calls (unnamed H A f U fits) (noted_in old) (fault_of old) (line_of old) (machine_at old) (pins_of old) A f U fits))
 

@@ -23,6 +23,7 @@ use Rattle.sled_store.specs.Device.{NamesState, State, Trace, state_of}
 use Rattle.sled_store.proofs.Crashes.SettledLemmas.{name_read_left}
 use Rattle.sled_store.proofs.Histories.EarlierEntries.{entry_earlier}
 use Rattle.sled_store.proofs.Segments.TableEntries.{from_table}
+use Rattle.sled_core.specs.inside.Shown.{shown_of}
 use Rattle.sled_core.specs.declared.logger.Log.{Log}
 use Rattle.sled_core.specs.declared.logger.read_message.LogRead.{LogRead}
 use Rattle.sled_core.specs.declared.logger.read_message.LogRead.TheVariants as read
@@ -129,7 +130,7 @@ module _ {D C : Type 0} (trace : D → Trace) (sum : List ℕ → ℕ) (log : Lo
   size = log.config.config.segment_size
 
   abbrev state : State
-  state = state_of (trace log.config.device)
+  state = shown_of trace log
 
   -- A reader finds in the log file what is written of the history, as far as he comes.
   pub among : (fits : FitsWith sum (noted_in log) size state log.fault.kept (line_of log) (machine_at log) log.pins H A f U) → log.fault.kept ≡ None → NoHeaderOfZeros sum
@@ -203,8 +204,8 @@ pub readable : {D C : Type 0} (trace : D → Trace) (sum : List ℕ → ℕ) (lo
 unfolding Fits
 readable trace sum log H A f U fits none s same zeros m entry =
     record {
-      has = subst (λ (b : NamesState). HasItem sum b.file m m.pointer) (sym same) (has_blob trace sum log H A f U fits m entry);
-      begins = begins trace sum log H A f U fits m entry none zeros;
+      has = subst (λ (b : NamesState). HasItem sum b.file m m.pointer) (sym same) (has_blob trace sum log H A f U fits.shows m entry);
+      begins = begins trace sum log H A f U fits.shows m entry none zeros;
     }
 
 -- and the place that is read is stable
@@ -216,4 +217,4 @@ pub reads_stable : {D C : Type 0} (trace : D → Trace) (sum : List ℕ → ℕ)
     → (m : Message) (page : ℕ) (lsn : ℤ) (p : DiskPtr) → IsStableBlob log H m page lsn p → place_read lsn p <ℤ pos (synced_end log)
 unfolding Fits
 reads_stable trace sum log H A f U fits none zeros m page lsn p is =
-    low_place (synced_end log) lsn m p is.place (stable trace sum log H A f U fits m is.entry) (subst (BlobIsBelow m) is.pointer (below trace sum log H A f U fits m is.entry none zeros))
+    low_place (synced_end log) lsn m p is.place (stable trace sum log H A f U fits.shows m is.entry) (subst (BlobIsBelow m) is.pointer (below trace sum log H A f U fits.shows m is.entry none zeros))

@@ -19,18 +19,18 @@ use Rattle.sled_core.specs.Begun.{SegmentView}
 use Rattle.sled_core.specs.inside.Lasting.{LastsFrom}
 use Rattle.sled_core.specs.inside.Causes.{fault_in}
 use Rattle.sled_core.specs.invariants.Fits.{Holds}
-use Rattle.sled_core.specs.inside.Fits.{HoldsWith}
+use Rattle.sled_core.specs.inside.Fits.{HoldsShown}
 use Rattle.sled_core.specs.Fits.{config_of, device_of, fault_of, line_of, machine_at, noted_in, pins_of, segment_size_of}
 use Rattle.sled_core.specs.Logged.{logged}
 use Rattle.sled_core.specs.OwnBlobs.{AreBeside, IsBeside, PreservesWithout, RemovesBlob, removing}
 use Rattle.sled_core.specs.Recoverable.{LeavesRecoverable, RecoverableIfOwn}
 use Rattle.sled_core.specs.invariants.Running.{Fits}
-use Rattle.sled_core.specs.inside.Running.{FitsWith}
+use Rattle.sled_core.specs.inside.Running.{FitsShown}
 use Rattle.sled_core.specs.Running.{IsStored, KeepsItem}
 use Rattle.sled_core.specs.inside.Turned.{ChangesDevice}
 use Rattle.sled_core.proofs.Blobs.Along.{fits_removed, leaves_removing}
 use Rattle.sled_core.proofs.Blobs.ItemsStay.{items_removed}
-use Rattle.sled_core.proofs.Blobs.Over.{holds_over_names}
+use Rattle.sled_core.proofs.Blobs.Over.{shown_holds_over}
 use Rattle.sled_core.proofs.Line.NumbersKept.{fits_lasts}
 use Rattle.sled_core.proofs.Numbers.Lasting.{lasts_leaves}
 use Rattle.sled_core.proofs.Line.DeviceChanged.{device_fits, device_holds, device_kept, device_noted, device_stable}
@@ -50,11 +50,11 @@ removed_whole (Err (error.ReportableBug text)) before after P did memory done no
 removed_whole (Err (error.Held at)) before after P did memory done none = absurd did
 
 -- What a log holds hangs on its blobs in nothing.
-holds_along : (sum : List ℕ → ℕ) (size : ℕ) (p : ℤ) (noted : List Batch) (fault : Option IoError) (line : List SegmentView) (m : Machine) (H : History) (s : State) → HoldsWith sum noted size s fault line m H
-    → Along (λ t. HoldsWith sum noted size t fault line m H) (removing_blobs (p ∷ [])) s
+holds_along : (sum : List ℕ → ℕ) (size : ℕ) (p : ℤ) (noted : List Batch) (fault : Option IoError) (line : List SegmentView) (m : Machine) (H : History) (s : State) → HoldsShown sum noted size s fault line m H
+    → Along (λ t. HoldsShown sum noted size t fault line m H) (removing_blobs (p ∷ [])) s
 holds_along sum size p noted fault line m H s holds =
-    let P : State → Type 0 = λ t. HoldsWith sum noted size t fault line m H in
-    let gone : (done : Bool) → P (step (BlobRemoved p done) s) = λ done. holds_over_names sum size s _ _ fault refl noted line m H holds in
+    let P : State → Type 0 = λ t. HoldsShown sum noted size t fault line m H in
+    let gone : (done : Bool) → P (step (BlobRemoved p done) s) = λ done. shown_holds_over sum size s _ _ fault refl noted line m H holds in
     (holds, λ torn tears. subst (λ (e : Event). P (step e s)) (sym tears.1) (gone tears.0), gone true)
 
 module _ {D C : Type 0} (trace : D → Trace) (sum : List ℕ → ℕ) (old new : Log D C) (rest : ChangesDevice old new) (p : ℤ) (calls : Performs (removing_blobs (p ∷ [])) (trace (device_of old)) (trace (device_of new))) (none : fault_of old ≡ None)
@@ -75,14 +75,14 @@ module _ {D C : Type 0} (trace : D → Trace) (sum : List ℕ → ℕ) (old new 
   holds : (H : History) → Holds trace sum old H → Holds trace sum new H
   unfolding Holds
   holds H held =
-      let P : State → Type 0 = λ s. HoldsWith sum (noted_in old) (segment_size_of old) s (fault_of old) (line_of old) (machine_at old) (logged H) in
+      let P : State → Type 0 = λ s. HoldsShown sum (noted_in old) (segment_size_of old) s (fault_of old) (line_of old) (machine_at old) (logged H) in
       device_holds old new rest trace sum kept H (at_last P (trace (device_of old)) (trace (device_of new)) (performs_throughout P (removing_blobs (p ∷ [])) (trace (device_of old)) (trace (device_of new)) calls
       (holds_along sum (segment_size_of old) p (noted_in old) (fault_of old) (line_of old) (machine_at old) (logged H) before held)))
 
   fits_on : (H : History) (A f : ℕ) (U : List Message) → Fits trace sum old H A f U → AreBeside (Some p) H → Fits trace sum new H A f U
   unfolding Fits
   fits_on H A f U fits beside =
-      let P : State → Type 0 = λ s. FitsWith sum (noted_in old) (segment_size_of old) s (fault_of old) (line_of old) (machine_at old) (pins_of old) H A f U in
+      let P : State → Type 0 = λ s. FitsShown sum (noted_in old) (segment_size_of old) s (fault_of old) (line_of old) (machine_at old) (pins_of old) H A f U in
       device_fits old new rest trace sum kept H A f U (at_last P (trace (device_of old)) (trace (device_of new))
       (fits_removed sum (segment_size_of old) p H (trace (device_of old)) (trace (device_of new)) calls beside (noted_in old) (fault_of old) (line_of old) (machine_at old) (pins_of old) A f U fits))
 

@@ -7,12 +7,12 @@ use Rattle.sled_store.specs.Device.{State, Trace, state_of}
 use Rattle.sled_store.specs.declared.config.Config.{Config}
 use Rattle.sled_core.specs.declared.logger.Log.{Log}
 use Rattle.sled_core.specs.invariants.Fits.{Holds}
-use Rattle.sled_core.specs.inside.Fits.{HoldsWith, written_to}
+use Rattle.sled_core.specs.inside.Fits.{HoldsShown, written_to}
 use Rattle.sled_core.specs.Fits.{device_of, fault_of, kept_batches, line_of, machine_at, noted_in, pins_of, segment_size_of, synced_end}
 use Rattle.sled_core.specs.Logged.{logged}
 use Rattle.sled_core.specs.OpenBatches.{not_whole}
 use Rattle.sled_core.specs.invariants.Running.{Fits}
-use Rattle.sled_core.specs.inside.Running.{FitsWith}
+use Rattle.sled_core.specs.inside.Running.{FitsShown}
 use Rattle.sled_core.specs.inside.Turned.{ChangesDevice}
 use Rattle.sled_core.proofs.Line.Faulty.{fits_with_kept, fits_with_same, holds_with_kept, holds_with_same}
 use Rattle.sled_core.proofs.Line.LineEnds.{kept_same, noted_later, noted_same}
@@ -45,13 +45,13 @@ module _ {D C : Type 0} (old new : Log D C) (rest : ChangesDevice old new) where
     abbrev after : State
     after = state_of (trace (device_of new))
 
-    pub device_holds : (H : History) → HoldsWith sum (noted_in old) (segment_size_of old) after (fault_of old) (line_of old) (machine_at old) (logged H) → Holds trace sum new H
+    pub device_holds : (H : History) → HoldsShown sum (noted_in old) (segment_size_of old) after (fault_of old) (line_of old) (machine_at old) (logged H) → Holds trace sum new H
     unfolding Holds
     device_holds H then =
         holds_with_same sum _ _ _ _ _ _ _ _ _ _ (logged H) batches_same refl refl refl
         (holds_with_kept sum (noted_in old) _ _ after after _ _ _ _ _ _ (logged H) size_same line_same slots_same refl kept then)
 
-    pub device_fits : (H : History) (A f : ℕ) (U : List Message) → FitsWith sum (noted_in old) (segment_size_of old) after (fault_of old) (line_of old) (machine_at old) (pins_of old) H A f U → Fits trace sum new H A f U
+    pub device_fits : (H : History) (A f : ℕ) (U : List Message) → FitsShown sum (noted_in old) (segment_size_of old) after (fault_of old) (line_of old) (machine_at old) (pins_of old) H A f U → Fits trace sum new H A f U
     unfolding Fits
     device_fits H A f U then =
         fits_with_same sum _ _ _ _ _ _ _ _ _ _ _ _ H A f U batches_same refl refl refl refl

@@ -17,18 +17,22 @@ use Rattle.sled_core.specs.declared.iobuf.SegmentPosition.{SegmentPosition}
 use Rattle.sled_core.specs.declared.logger.Log.{Log}
 use Rattle.sled_core.specs.Begun.{SegmentView, segment_view}
 use Rattle.sled_core.specs.invariants.Fits.{Holds}
-use Rattle.sled_core.specs.inside.Fits.{HoldsWith}
+use Rattle.sled_core.specs.inside.Fits.{HoldsShown, HoldsWith}
 use Rattle.sled_core.specs.Fits.{KeepsAll, current_of, line_of, noted_in, synced_end}
 use Rattle.sled_core.specs.Keeps.{GoesOn, SamePosition}
 use Rattle.sled_core.specs.Logged.{logged}
 use Rattle.sled_core.specs.Positions.{is_short, next_segment_at, position_in}
 use Rattle.sled_core.specs.OpenBatches.{not_whole}
 use Rattle.sled_core.specs.invariants.Running.{Fits}
-use Rattle.sled_core.specs.inside.Running.{FitsWith}
+use Rattle.sled_core.specs.inside.Running.{FitsShown, FitsWith}
 use Rattle.sled_core.specs.inside.SealedBuffers.{one_ended, one_fewer}
+use Rattle.sled_core.specs.inside.Shown.{IsAsShown, shown_of}
 use Rattle.sled_core.specs.inside.Turned.{ChangesLine, ended_now}
 use Rattle.sled_core.specs.Waiting.{buffer_at, unwritten_in}
+use Rattle.sled_core.proofs.Cleared.Calls.{cleared_ended}
+use Rattle.sled_core.proofs.Cleared.Shown.{ShowsSame}
 use Rattle.sled_core.proofs.Line.KeptCalls.{goes_on_quietly}
+use Rattle.sled_core.proofs.Line.Shown.{fits_shown, holds_shown}
 use Rattle.sled_core.proofs.Line.LineEnds.{kept_same, noted_later, noted_same}
 use Rattle.sled_core.proofs.Line.EndedLine.{over_bytes}
 use Rattle.sled_core.proofs.Line.Ends.{set_keeps}
@@ -114,24 +118,36 @@ module _ {D C : Type 0} (old new : Log D C) (n : ℕ) (v : SegmentView) (there :
   goes_on_ended trace sum = goes_on_quietly trace sum old new (record { config = ap (λ (c : RunningConfig D C). c.config) rest.config; checksum = ap (λ (c : RunningConfig D C). c.checksum) rest.config })
       (ap (λ (c : RunningConfig D C). trace c.device) rest.config) (let same = synced_ended in omega (arith, same)) (λ none. sym rest.fault ∙ none)
 
+  -- What counts for nothing in the log file does so still.
+  shows_ended : ShowsSame old.config.config.segment_size (machine_of old.accountant) (machine_of old.accountant) (line_of old) (set (line_of old) n e)
+  shows_ended log = cleared_ended old.config.config.segment_size (machine_of old.accountant) log (line_of old) n v i r text state there
+
   -- The log holds and fits what the changed segments do.
 
-  pub holds_ended : (trace : D → Trace) (sum : List ℕ → ℕ) (H : History) → HoldsWith sum (noted_in old) old.config.config.segment_size (state_of (trace old.config.device)) old.fault.kept (set (line_of old) n e) (machine_of old.accountant) (logged H) → Holds trace sum new H
+  pub holds_ended : (trace : D → Trace) (sum : List ℕ → ℕ) (H : History)
+      → IsAsShown old.config.config.segment_size old.fault.kept (machine_of old.accountant) (line_of old) (state_of (trace old.config.device)).log
+      → HoldsWith sum (noted_in old) old.config.config.segment_size (shown_of trace old) old.fault.kept (set (line_of old) n e) (machine_of old.accountant) (logged H)
+      → Holds trace sum new H
   unfolding Holds
-  holds_ended trace sum H holds =
-      subst (λ (c : RunningConfig D C). HoldsWith sum (noted_in new) c.config.segment_size (state_of (trace c.device)) new.fault.kept (line_of new) (machine_of new.accountant) (logged H)) (sym rest.config)
-      (subst (λ (f : Option IoError). HoldsWith sum (noted_in new) old.config.config.segment_size (state_of (trace old.config.device)) f (line_of new) (machine_of new.accountant) (logged H)) (sym rest.fault)
-      (subst (λ (l : List SegmentView). HoldsWith sum (noted_in new) old.config.config.segment_size (state_of (trace old.config.device)) old.fault.kept l (machine_of new.accountant) (logged H)) (sym line)
-      (subst (λ (a : SegmentAccountant). HoldsWith sum (noted_in new) old.config.config.segment_size (state_of (trace old.config.device)) old.fault.kept (set (line_of old) n e) (machine_of a) (logged H)) (sym rest.accountant)
-      (subst (λ (bs : List Batch). HoldsWith sum bs old.config.config.segment_size (state_of (trace old.config.device)) old.fault.kept (set (line_of old) n e) (machine_of old.accountant) (logged H)) (sym noted_ended) holds))))
+  holds_ended trace sum H file holds =
+      subst (λ (c : RunningConfig D C). HoldsShown sum (noted_in new) c.config.segment_size (state_of (trace c.device)) new.fault.kept (line_of new) (machine_of new.accountant) (logged H)) (sym rest.config)
+      (subst (λ (f : Option IoError). HoldsShown sum (noted_in new) old.config.config.segment_size (state_of (trace old.config.device)) f (line_of new) (machine_of new.accountant) (logged H)) (sym rest.fault)
+      (subst (λ (l : List SegmentView). HoldsShown sum (noted_in new) old.config.config.segment_size (state_of (trace old.config.device)) old.fault.kept l (machine_of new.accountant) (logged H)) (sym line)
+      (subst (λ (a : SegmentAccountant). HoldsShown sum (noted_in new) old.config.config.segment_size (state_of (trace old.config.device)) old.fault.kept (set (line_of old) n e) (machine_of a) (logged H)) (sym rest.accountant)
+      (subst (λ (bs : List Batch). HoldsShown sum bs old.config.config.segment_size (state_of (trace old.config.device)) old.fault.kept (set (line_of old) n e) (machine_of old.accountant) (logged H)) (sym noted_ended)
+      (holds_shown sum (noted_in old) old.config.config.segment_size (state_of (trace old.config.device)) old.fault.kept (machine_of old.accountant)
+      (machine_of old.accountant) (line_of old) (set (line_of old) n e) shows_ended file (logged H) holds)))))
 
   pub fits_ended : (trace : D → Trace) (sum : List ℕ → ℕ) (H : History) (A f : ℕ) (U : List Message)
-      → FitsWith sum (noted_in old) old.config.config.segment_size (state_of (trace old.config.device)) old.fault.kept (set (line_of old) n e) (machine_of old.accountant) old.pins H A f U → Fits trace sum new H A f U
+      → IsAsShown old.config.config.segment_size old.fault.kept (machine_of old.accountant) (line_of old) (state_of (trace old.config.device)).log
+      → FitsWith sum (noted_in old) old.config.config.segment_size (shown_of trace old) old.fault.kept (set (line_of old) n e) (machine_of old.accountant) old.pins H A f U → Fits trace sum new H A f U
   unfolding Fits
-  fits_ended trace sum H A f U fits =
-      subst (λ (c : RunningConfig D C). FitsWith sum (noted_in new) c.config.segment_size (state_of (trace c.device)) new.fault.kept (line_of new) (machine_of new.accountant) new.pins H A f U) (sym rest.config)
-      (subst (λ (x : Option IoError). FitsWith sum (noted_in new) old.config.config.segment_size (state_of (trace old.config.device)) x (line_of new) (machine_of new.accountant) new.pins H A f U) (sym rest.fault)
-      (subst (λ (l : List SegmentView). FitsWith sum (noted_in new) old.config.config.segment_size (state_of (trace old.config.device)) old.fault.kept l (machine_of new.accountant) new.pins H A f U) (sym line)
-      (subst (λ (a : SegmentAccountant). FitsWith sum (noted_in new) old.config.config.segment_size (state_of (trace old.config.device)) old.fault.kept (set (line_of old) n e) (machine_of a) new.pins H A f U) (sym rest.accountant)
-      (subst (λ (p : ℕ). FitsWith sum (noted_in new) old.config.config.segment_size (state_of (trace old.config.device)) old.fault.kept (set (line_of old) n e) (machine_of old.accountant) p H A f U) (sym rest.pins)
-      (subst (λ (bs : List Batch). FitsWith sum bs old.config.config.segment_size (state_of (trace old.config.device)) old.fault.kept (set (line_of old) n e) (machine_of old.accountant) old.pins H A f U) (sym noted_ended) fits)))))
+  fits_ended trace sum H A f U file fits =
+      subst (λ (c : RunningConfig D C). FitsShown sum (noted_in new) c.config.segment_size (state_of (trace c.device)) new.fault.kept (line_of new) (machine_of new.accountant) new.pins H A f U) (sym rest.config)
+      (subst (λ (x : Option IoError). FitsShown sum (noted_in new) old.config.config.segment_size (state_of (trace old.config.device)) x (line_of new) (machine_of new.accountant) new.pins H A f U) (sym rest.fault)
+      (subst (λ (l : List SegmentView). FitsShown sum (noted_in new) old.config.config.segment_size (state_of (trace old.config.device)) old.fault.kept l (machine_of new.accountant) new.pins H A f U) (sym line)
+      (subst (λ (a : SegmentAccountant). FitsShown sum (noted_in new) old.config.config.segment_size (state_of (trace old.config.device)) old.fault.kept (set (line_of old) n e) (machine_of a) new.pins H A f U) (sym rest.accountant)
+      (subst (λ (p : ℕ). FitsShown sum (noted_in new) old.config.config.segment_size (state_of (trace old.config.device)) old.fault.kept (set (line_of old) n e) (machine_of old.accountant) p H A f U) (sym rest.pins)
+      (subst (λ (bs : List Batch). FitsShown sum bs old.config.config.segment_size (state_of (trace old.config.device)) old.fault.kept (set (line_of old) n e) (machine_of old.accountant) old.pins H A f U) (sym noted_ended)
+      (fits_shown sum (noted_in old) old.config.config.segment_size (state_of (trace old.config.device)) old.fault.kept (machine_of old.accountant)
+      (machine_of old.accountant) (line_of old) (set (line_of old) n e) shows_ended file old.pins H A f U fits))))))

@@ -15,6 +15,7 @@ use Rattle.sled_store.proofs.Histories.Ascending.{Ascends}
 use Rattle.sled_store.proofs.Histories.EarlierEntries.{entry_earlier}
 use Rattle.sled_store.proofs.Segments.Elements.{in_first, in_nothing, in_rest}
 use Rattle.sled_store.proofs.Segments.TableEntries.{from_table}
+use Rattle.sled_core.specs.inside.Shown.{shown_of}
 use Rattle.sled_core.specs.declared.logger.Log.{Log}
 use Rattle.sled_core.specs.declared.logger.read_message.LogRead.{LogRead}
 use Rattle.sled_core.specs.Begun.{SegmentParts, records_to, segment_view}
@@ -65,7 +66,7 @@ module _ {D C : Type 0} (trace : D → Trace) (sum : List ℕ → ℕ) (log : Lo
   size = segment_size_of log
 
   abbrev state : State
-  state = state_of (trace log.config.device)
+  state = shown_of trace log
 
   module _ (fits : FitsWith sum (noted_in log) size state log.fault.kept (line_of log) (machine_at log) log.pins H A f U) (m : Message) (entry : Contains (table H (next_place log) m.page) m) where
     there : Contains H.messages m
@@ -118,8 +119,8 @@ pub kept_readable : {D C : Type 0} (trace : D → Trace) (sum : List ℕ → ℕ
 unfolding Fits
 kept_readable trace sum log H A f U fits none s same zeros m entry =
     record {
-      has = subst (λ (b : NamesState). HasItem sum b.file m m.pointer) (sym same) (has_blob trace sum log H A f U fits m entry);
-      begins = begins trace sum log H A f U fits m entry none zeros;
+      has = subst (λ (b : NamesState). HasItem sum b.file m m.pointer) (sym same) (has_blob trace sum log H A f U fits.shows m entry);
+      begins = begins trace sum log H A f U fits.shows m entry none zeros;
     }
 
 -- What gives it without waiting gives it.

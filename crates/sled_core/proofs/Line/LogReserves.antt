@@ -12,7 +12,7 @@ use Rattle.sled_codec.specs.History.{Message}
 use Rattle.sled_codec.specs.declared.serialization.message.MessageKind.{MessageKind}
 use Rattle.sled_store.specs.Foreign.{HeaderWasPlaced, RecordWasPlaced}
 use Rattle.sled_store.specs.Accounts.{machine_of}
-use Rattle.sled_store.specs.Device.{Trace, state_of}
+use Rattle.sled_store.specs.Device.{Trace}
 use Rattle.sled_store.specs.SegmentStates.{Machine}
 use Rattle.sled_store.specs.declared.config.RunningConfig.{RunningConfig}
 use Rattle.sled_core.specs.Begun.{SegmentView, segment_view}
@@ -33,9 +33,12 @@ use Rattle.sled_core.specs.Keeps.{Preserves}
 use Rattle.sled_core.specs.OpenPlaces.{open_places_along}
 use Rattle.sled_core.specs.Positions.{Position, behind_record, is_short, moved_on, next_segment_at, placed_at, position_in}
 use Rattle.sled_core.specs.invariants.Running.{Fits}
+use Rattle.sled_core.specs.inside.Shown.{shown_of}
 use Rattle.sled_core.specs.inside.Slots.{AreWhole}
 use Rattle.sled_core.specs.inside.Turned.{ChangesSlots, HasPlace, reserved_now}
 use Rattle.sled_core.specs.Waiting.{at_last, last_of}
+use Rattle.sled_core.proofs.Cleared.Calls.{cleared_reserved}
+use Rattle.sled_core.proofs.Cleared.Shown.{ShowsSame}
 use Rattle.sled_core.proofs.Holds.FitsBatches.{batches_up}
 use Rattle.sled_core.proofs.Line.Among.{among_same}
 use Rattle.sled_core.proofs.Line.GivenUp.{given_reserved}
@@ -203,31 +206,35 @@ module _ {D C : Type 0} (trace : D → Trace) (sum : List ℕ → ℕ) (old new 
   pub reserves_fillings : AreAmong (fillings_of new) (fillings_of old)
   reserves_fillings = among_same (fillings_of new) (fillings_of old) (ap fillings_along line ∙ fillings_reserved more r v vs fits.open_yet)
 
+  -- the same counts for nothing in the log file,
+  same_shown : ShowsSame its_size (machine_at old) (machine_at old) (line_of old) (at_last (reserved_now more r) (line_of old))
+  same_shown log = cleared_reserved its_size (machine_at old) log more r (line_of old)
+
   -- and the log holds and fits what it did.
   pub reserves_keeps : Preserves trace sum old new
   unfolding Holds Fits
   reserves_keeps = record {
     goes_on = goes_on_quietly trace sum old new (record { config = ap (λ (x : RunningConfig D C). x.config) rest.config; checksum = ap (λ (x : RunningConfig D C). x.checksum) rest.config })
         (ap (λ (x : RunningConfig D C). trace x.device) rest.config) (let same = reserves_synced in omega (arith, same)) (λ none. sym rest.fault ∙ none);
-    history = λ H holds. holds_as trace sum old new rest.config rest.fault (noted_in old) kept_noted (at_last (reserved_now more r) (line_of old)) line (machine_at old) machine H
+    history = λ H holds. holds_as trace sum old new rest.config rest.fault (noted_in old) kept_noted (at_last (reserved_now more r) (line_of old)) line (machine_at old) machine same_shown holds.file H
         (record {
-          holds = line_reserved sum its_size more r (state_of (trace (device_of old))) (fault_of old) (logged H) v vs fits holds.holds;
+          holds = line_reserved sum its_size more r (shown_of trace old) (fault_of old) (logged H) v vs fits holds.shows.holds;
           batches = batches_up (written_to (line_of old)) (written_to (at_last (reserved_now more r) (line_of old))) (line_end its_size (line_of old)) (line_end its_size (at_last (reserved_now more r) (line_of old))) (noted_in old) (logged H) (let same = kept_written v vs in omega (arith, same))
-              (let same = end_last its_size (reserved_now more r) (λ _. refl) v vs in omega (arith, same)) holds.batches;
-          slots = slots_reserved sum its_size more r (line_of old) (state_of (trace (device_of old))).log.bytes (fault_of old) (machine_at old) holds.slots;
+              (let same = end_last its_size (reserved_now more r) (λ _. refl) v vs in omega (arith, same)) holds.shows.batches;
+          slots = slots_reserved sum its_size more r (line_of old) (shown_of trace old).log.bytes (fault_of old) (machine_at old) holds.shows.slots;
         });
-    fits = λ H A f U its. fits_as trace sum old new rest.config rest.fault (noted_in old) kept_noted (at_last (reserved_now more r) (line_of old)) line (machine_at old) machine H A f U rest.pins
+    fits = λ H A f U its. fits_as trace sum old new rest.config rest.fault (noted_in old) kept_noted (at_last (reserved_now more r) (line_of old)) line (machine_at old) machine same_shown its.file H A f U rest.pins
         (record {
-          reach = its.reach;
-          parts = line_fits_reserved sum its_size more r (state_of (trace (device_of old))) (fault_of old) its.reach (pins_of old) H A f U v vs fits its.parts;
+          reach = its.shows.reach;
+          parts = line_fits_reserved sum its_size more r (shown_of trace old) (fault_of old) its.shows.reach (pins_of old) H A f U v vs fits its.shows.parts;
           batches = batches_up (written_to (line_of old)) (written_to (at_last (reserved_now more r) (line_of old))) (line_end its_size (line_of old)) (line_end its_size (at_last (reserved_now more r) (line_of old))) (noted_in old) (logged H) (let same = kept_written v vs in omega (arith, same))
-              (let same = end_last its_size (reserved_now more r) (λ _. refl) v vs in omega (arith, same)) its.batches;
-          slots = slots_reserved sum its_size more r (line_of old) (state_of (trace (device_of old))).log.bytes (fault_of old) (machine_at old) its.slots;
-          whole = λ none zeros. subst (λ p. AreWhole sum its_size (state_of (trace (device_of old))).log.bytes (logged H) p (machine_at old)) (sym (first_at_last (reserved_now more r) (λ _. refl) (line_of old))) (its.whole none zeros);
-          own = λ none zeros. own_reserved sum its_size (HeaderWasPlaced (state_of (trace (device_of old))).placed) (RecordWasPlaced sum its_size (state_of (trace (device_of old))).placed) (state_of (trace (device_of old))).log.bytes more r (line_of old) (its.own none zeros);
-          account = its.account;
-          numbers = λ zeros. subst (HasNumbers sum its_size (state_of (trace (device_of old))) (machine_at old)) (sym (end_at_last its_size (reserved_now more r) (λ _. refl) (line_of old))) (its.numbers zeros);
-          in_slots = its.in_slots;
+              (let same = end_last its_size (reserved_now more r) (λ _. refl) v vs in omega (arith, same)) its.shows.batches;
+          slots = slots_reserved sum its_size more r (line_of old) (shown_of trace old).log.bytes (fault_of old) (machine_at old) its.shows.slots;
+          whole = λ none zeros. subst (λ p. AreWhole sum its_size (shown_of trace old).log.bytes (logged H) p (machine_at old)) (sym (first_at_last (reserved_now more r) (λ _. refl) (line_of old))) (its.shows.whole none zeros);
+          own = λ none zeros. own_reserved sum its_size (HeaderWasPlaced (shown_of trace old).placed) (RecordWasPlaced sum its_size (shown_of trace old).placed) (shown_of trace old).log.bytes more r (line_of old) (its.shows.own none zeros);
+          account = its.shows.account;
+          numbers = λ zeros. subst (HasNumbers sum its_size (shown_of trace old) (machine_at old)) (sym (end_at_last its_size (reserved_now more r) (λ _. refl) (line_of old))) (its.shows.numbers zeros);
+          in_slots = its.shows.in_slots;
         });
     noted = noted_later old new rest.noted (let same = reserves_synced in omega (arith, same));
     kept = kept_same old new rest.noted;

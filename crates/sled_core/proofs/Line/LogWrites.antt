@@ -6,7 +6,7 @@ use Rattle.std.proofs.lemmas.List.{length-map}
 use Rattle.sled_codec.specs.History.{Batch, Message, History}
 use Rattle.sled_codec.specs.Snapshots.{stable_place}
 use Rattle.sled_store.specs.Accounts.{machine_of}
-use Rattle.sled_store.specs.Device.{Event, NamesState, State, Trace, state_of}
+use Rattle.sled_store.specs.Device.{Event, LogState, State, Trace, state_of}
 use Rattle.sled_store.specs.Moments.{Throughout}
 use Rattle.sled_store.specs.inside.Script.{Along}
 use Rattle.sled_store.specs.Script.{Performs, after_all}
@@ -22,28 +22,33 @@ use Rattle.sled_core.specs.declared.iobuf.SegmentPosition.{SegmentPosition}
 use Rattle.sled_core.specs.declared.logger.Log.{Log}
 use Rattle.sled_core.specs.declared.logger.io_bufs.IoBufs.{IoBufs}
 use Rattle.sled_core.specs.declared.logger.io_bufs.SegmentBuffer.{SegmentBuffer}
-use Rattle.sled_core.specs.inside.Fits.{FitsBatches, HoldsLine, HoldsWith, written_to}
+use Rattle.sled_core.specs.inside.Fits.{FitsBatches, HoldsLine, HoldsShown, written_to}
 use Rattle.sled_core.specs.invariants.Fits.{Holds}
 use Rattle.sled_core.specs.Fits.{device_of, fault_of, line_of, noted_in, segment_size_of}
-use Rattle.sled_core.specs.inside.Begun.{line_end}
+use Rattle.sled_core.specs.inside.Begun.{first_place, line_end}
+use Rattle.sled_core.specs.inside.FreeSlots.{HasSlots}
+use Rattle.sled_core.specs.inside.OwnLog.{HasPlacedFile}
+use Rattle.sled_core.specs.inside.Shown.{IsAsShown, shown}
 use Rattle.sled_core.specs.Recoverable.{LeavesRecoverable, NoHeaderOfZeros}
 use Rattle.sled_core.specs.inside.Lasting.{LeavesRecovering}
 use Rattle.sled_core.specs.invariants.Running.{Fits}
-use Rattle.sled_core.specs.inside.Running.{FitsLine, FitsWith}
-use Rattle.sled_core.specs.inside.Numbers.{HasNumbers, HaveSlotsFrom}
-use Rattle.sled_core.specs.inside.Slots.{HasAccount}
+use Rattle.sled_core.specs.inside.Running.{FitsLine, FitsShown}
+use Rattle.sled_core.specs.inside.Numbers.{HasNumbers}
+use Rattle.sled_core.specs.inside.Slots.{AreWhole}
+use Rattle.sled_core.proofs.Cleared.Shown.{shown_is}
 use Rattle.sled_core.specs.inside.Turned.{ChangesDevice, IsReadyIn, promoted, write_in, written_now}
 use Rattle.sled_core.proofs.Flush.FlushLemmas.{fault_or_none}
 use Rattle.sled_core.proofs.Holds.FitsBatches.{batches_left, batches_up}
 use Rattle.sled_core.proofs.Holds.BufferEnds.{written_behind}
 use Rattle.sled_core.proofs.Line.Ends.{line_holds}
-use Rattle.sled_core.proofs.Line.Faulty.{fits_line_faulty, fits_with_device, holds_line_faulty, holds_with_device, names_written, slots_line_faulty}
+use Rattle.sled_core.proofs.Line.Faulty.{fits_shown_faulty, fits_with_device, holds_faulty, holds_with_device, line_leaves, names_written}
 use Rattle.sled_core.proofs.Line.LineEnds.{end_left, end_set}
 use Rattle.sled_core.proofs.Line.NthOpen.{line_with, nth_same}
 use Rattle.sled_core.proofs.Line.Promotes.{end_promoted, holds_promoted}
 use Rattle.sled_core.proofs.Holds.Facts.{nth_facts}
 use Rattle.sled_core.proofs.Line.Fillings.{log_recorded}
 use Rattle.sled_core.proofs.Line.Segments.{AreSegments, filled_promoted, filled_written, follow_segments, line_segments, promoted_waits, run_written, segments_promoted, set_segment, written_segment}
+use Rattle.sled_core.proofs.Line.ShownWrite.{fits_moved, holds_moved, settled_same, shown_written, written_as_shown}
 use Rattle.sled_core.proofs.Line.Writes.{along_write, buffer_begin, buffer_bytes, buffer_calls, buffer_synced, calls_are, fits_write, holds_write, passes_line, slots_write}
 use Rattle.sled_core.proofs.Line.WrittenSlots.{whole_write}
 use Rattle.sled_core.proofs.Line.NeededSlots.{newest_stable, slots_at}
@@ -152,18 +157,36 @@ module _ {D C : Type 0} (log : Log D C) (n k : ℕ) (r : IsReadyIn (line_of log)
     abbrev slots : Machine
     slots = machine_of log.accountant
 
+    -- what the log shows of it
+    abbrev sees : State
+    sees = shown size log.fault.kept slots line device
+
     -- the calls
-    calls : write_in line n k ≡ buffer_calls sum size log.config.config.least device log.fault.kept whole v k r.buffer r.there r.ready
-    calls = calls_are sum size log.config.config.least device log.fault.kept whole v k r.buffer r.there r.ready line n r.among
+    calls : write_in line n k ≡ buffer_calls sum size log.config.config.least sees log.fault.kept whole v k r.buffer r.there r.ready
+    calls = calls_are sum size log.config.config.least sees log.fault.kept whole v k r.buffer r.there r.ready line n r.among
 
-    left_along : (reach : ℕ) (H : History) (A f : ℕ) (U : List Message) → FitsLine sum size device log.fault.kept line reach log.pins H A f U → Along (LeavesRecovering sum size H (stable_below reach H.batches) f) (write_in line n k) device
-    left_along reach H A f U fits =
-        subst (λ (es : List Event). Along (LeavesRecovering sum size H (stable_below reach H.batches) f) es device) (sym calls)
-        (along_write sum size log.config.config.least device log.fault.kept whole v k r.buffer r.there r.ready log.pins H A f U (log_recorded log n v r.among) log.segments.first.site.place reach line (line_segments log) n r.among fits)
+    abbrev File : Type 0
+    File = IsAsShown size log.fault.kept slots line device.log
 
-    left : (new : Trace) → Performs (write_in line n k) before new → (reach : ℕ) (H : History) (A f : ℕ) (U : List Message) → FitsLine sum size device log.fault.kept line reach log.pins H A f U → Throughout (LeavesRecovering sum size H (stable_below reach H.batches) f) before new
-    left new came reach H A f U fits =
-        performs_throughout (LeavesRecovering sum size H (stable_below reach H.batches) f) (write_in line n k) before new came (left_along reach H A f U fits)
+    -- as yet what is shown is the device itself
+    shows_device : File → sees ≡ device
+    shows_device file = shown_is size log.fault.kept slots line device file
+
+    -- As yet what a crash leaves of the device at each moment of the calls is what it leaves of what is shown.
+    left_along : File → (reach : ℕ) (H : History) (A f : ℕ) (U : List Message) → FitsLine sum size sees log.fault.kept line reach log.pins H A f U
+        → Along (LeavesRecovering sum size H (stable_below reach H.batches) f) (write_in line n k) device
+    left_along file reach H A f U fits =
+        subst (λ (s : State). Along (LeavesRecovering sum size H (stable_below reach H.batches) f) (write_in line n k) s) (shows_device file)
+        (subst (λ (es : List Event). Along (LeavesRecovering sum size H (stable_below reach H.batches) f) es sees) (sym calls)
+        (along_write sum size log.config.config.least sees log.fault.kept whole v k r.buffer r.there r.ready log.pins H A f U
+        (log_recorded log n v r.among) log.segments.first.site.place reach line (line_segments log) n r.among fits))
+
+    left : (new : Trace) → Performs (write_in line n k) before new → File → (reach : ℕ) (H : History) (A f : ℕ) (U : List Message)
+        → FitsLine sum size sees log.fault.kept line reach log.pins H A f U
+        → Throughout (LeavesRecovering sum size H (stable_below reach H.batches) f) before new
+    left new came file reach H A f U fits =
+        performs_throughout (LeavesRecovering sum size H (stable_below reach H.batches) f) (write_in line n k) before new came
+        (left_along file reach H A f U fits)
 
     -- Made or not, they leave blobs and snapshots as they were.
     pub names : (new : Trace) → Performs (write_in line n k) before new → ((state_of new).blobs ≡ device.blobs) × ((state_of new).snapshots ≡ device.snapshots)
@@ -172,34 +195,34 @@ module _ {D C : Type 0} (log : Log D C) (n k : ℕ) (r : IsReadyIn (line_of log)
         (subst (λ (es : List Event). Performs es before new) calls came)
 
     -- Once they were made up to one that failed it holds and fits the same.
-    pub holds_failed : (new : Trace) → Performs (write_in line n k) before new → (now : Option IoError) → (now ≡ None → new ≡ before) → (H : History) → Holds trace sum log H → HoldsWith sum (noted_in log) size (state_of new) now line slots (logged H)
+    pub holds_failed : (new : Trace) → Performs (write_in line n k) before new → (now : Option IoError) → (now ≡ None → new ≡ before) → (H : History)
+        → Holds trace sum log H → HoldsShown sum (noted_in log) size (state_of new) now line slots (logged H)
     unfolding Holds
     holds_failed new came now same H holds = elim (fault_or_none now) [
       | inl none ↦ holds_with_device sum (noted_in log) size device (state_of new) log.fault.kept now line slots (logged H) (ap state_of (same none)) (none ∙ sym whole) holds
-      | inr some ↦ record {
-        holds = holds_line_faulty sum size device log.fault.kept line (logged H) holds.holds (state_of new) some.0 now some.1 (names new came).1;
-        batches = holds.batches;
-        slots = slots_line_faulty size line device.log.bytes (state_of new).log.bytes log.fault.kept slots holds.slots some.0 now some.1;
-      }
+      | inr some ↦
+          holds_faulty sum (noted_in log) size sees (state_of new) log.fault.kept now line slots (logged H) holds.shows some.0 some.1 (names new came).1
     ]
 
     -- Made or not, in the slots nothing that is the log's own has a greater number.
     abbrev Numbered : State → Type 0
     Numbered s = HasNumbers sum size s slots (line_end size line)
 
-    module _ (H : History) (A f : ℕ) (U : List Message) (fits : FitsWith sum (noted_in log) size device log.fault.kept line slots log.pins H A f U)
+    module _ (H : History) (A f : ℕ) (U : List Message) (fits : FitsShown sum (noted_in log) size device log.fault.kept line slots log.pins H A f U)
         (zeros : NoHeaderOfZeros sum) where
-      held : HoldsLine sum size device log.fault.kept line (logged H)
-      held = line_holds sum size device log.fault.kept line fits.reach log.pins H A f U fits.parts
+      held : HoldsLine sum size sees log.fault.kept line (logged H)
+      held = line_holds sum size sees log.fault.kept line fits.shows.reach log.pins H A f U fits.shows.parts
 
+      -- as yet so it is of the device where it is so of what is shown
       write_numbers : Along Numbered (write_in line n k) device
       write_numbers =
-          subst (λ (es : List Event). Along Numbered es device) (sym calls)
-          (numbers_along sum size log.config.config.least device log.fault.kept whole v k r.buffer r.there r.ready log.segments.first.site.place line
-          (line_segments log) n r.among slots fits.slots (logged H) held zeros (fits.own whole zeros) (fits.numbers zeros))
+          subst (λ (s : State). Along Numbered (write_in line n k) s) (shows_device fits.file)
+          (subst (λ (es : List Event). Along Numbered es sees) (sym calls)
+          (numbers_along sum size log.config.config.least sees log.fault.kept whole v k r.buffer r.there r.ready log.segments.first.site.place line
+          (line_segments log) n r.among slots fits.shows.slots (logged H) held zeros (fits.shows.own whole zeros) (fits.shows.numbers zeros)))
 
     numbers_left : (new : Trace) → Performs (write_in line n k) before new → (H : History) (A f : ℕ) (U : List Message)
-        → FitsWith sum (noted_in log) size device log.fault.kept line slots log.pins H A f U → NoHeaderOfZeros sum → Numbered (state_of new)
+        → FitsShown sum (noted_in log) size device log.fault.kept line slots log.pins H A f U → NoHeaderOfZeros sum → Numbered (state_of new)
     numbers_left new came H A f U fits zeros =
         at_last Numbered before new (performs_throughout Numbered (write_in line n k) before new came (write_numbers H A f U fits zeros))
 
@@ -207,73 +230,121 @@ module _ {D C : Type 0} (log : Log D C) (n k : ℕ) (r : IsReadyIn (line_of log)
     pub crash_write : (new : Trace) → Performs (write_in line n k) before new → (H : History) (A f : ℕ) (U : List Message) → Fits trace sum log H A f U → Throughout (LeavesRecoverable sum size H A f) before new
     unfolding Fits
     crash_write new came H A f U fits =
-        let stable : ℕ = stable_below fits.reach H.batches in
+        let stable : ℕ = stable_below fits.shows.reach H.batches in
         let least = log.config.config.least in
         performs_throughout (LeavesRecoverable sum size H A f) (write_in line n k) before new came
         (both_along (LeavesRecovering sum size H stable f) (λ s. NoHeaderOfZeros sum → Numbered s) (LeavesRecoverable sum size H A f)
-        (λ s can has. lasts_leaves sum size H A f s stable (passes_line sum size device log.fault.kept line fits.reach log.pins H A f U fits.parts) (record {
+        (λ s can has. lasts_leaves sum size H A f s stable
+        (passes_line sum size sees log.fault.kept line fits.shows.reach log.pins H A f U fits.shows.parts) (record {
           can = can;
           numbers = λ zeros.
-              stays_in sum (noted_in log) size (omega (arith, least)) device log.fault.kept line slots log.pins H A f U fits (fits_ascends trace sum log H A f U fits)
+              stays_in sum (noted_in log) size (omega (arith, least)) sees log.fault.kept line slots log.pins H A f U fits.shows
+              (fits_ascends trace sum log H A f U fits)
               zeros s (has zeros);
         }))
-        (write_in line n k) device (left_along fits.reach H A f U fits.parts)
+        (write_in line n k) device (left_along fits.file fits.shows.reach H A f U fits.shows.parts)
         (along_if (NoHeaderOfZeros sum) Numbered (write_in line n k) device (λ zeros. write_numbers H A f U fits zeros)))
 
-    pub fits_failed : (new : Trace) → Performs (write_in line n k) before new → (now : Option IoError) → (now ≡ None → new ≡ before) → (H : History) (A f : ℕ) (U : List Message) → Fits trace sum log H A f U → FitsWith sum (noted_in log) size (state_of new) now line slots log.pins H A f U
+    pub fits_failed : (new : Trace) → Performs (write_in line n k) before new → (now : Option IoError) → (now ≡ None → new ≡ before) → (H : History)
+        (A f : ℕ) (U : List Message) → Fits trace sum log H A f U → FitsShown sum (noted_in log) size (state_of new) now line slots log.pins H A f U
     unfolding Fits
     fits_failed new came now same H A f U fits = elim (fault_or_none now) [
       | inl none ↦ fits_with_device sum (noted_in log) size device (state_of new) log.fault.kept now line slots log.pins H A f U (ap state_of (same none)) (none ∙ sym whole) fits
-      | inr some ↦ record {
-        reach = fits.reach;
-        parts = fits_line_faulty sum size device log.fault.kept line fits.reach log.pins H A f U fits.parts (state_of new) some.0 now some.1 (names new came).0 (names new came).1
-            (at_last (LeavesRecovering sum size H (stable_below fits.reach H.batches) f) before new (left new came fits.reach H A f U fits.parts));
-        batches = fits.batches;
-        slots = slots_line_faulty size line device.log.bytes (state_of new).log.bytes log.fault.kept slots fits.slots some.0 now some.1;
-        whole = λ none zeros. let never = some.1 in cc;
-        own = λ none zeros. let never = some.1 in cc;
-        account = subst (λ (s : NamesState). HasAccount sum size s.file H U slots) (sym (names new came).1) fits.account;
-        numbers = λ zeros. numbers_left new came H A f U fits zeros;
-        in_slots = subst (λ (s : NamesState). HaveSlotsFrom sum size s.file H (stable_below fits.reach H.batches) slots) (sym (names new came).1) fits.in_slots;
-      }
+      | inr some ↦
+          fits_shown_faulty sum (noted_in log) size sees (state_of new) log.fault.kept now line slots log.pins H A f U fits.shows some.0 some.1
+          (names new came).0 (names new came).1
+          (at_last (LeavesRecovering sum size H (stable_below fits.shows.reach H.batches) f) before new
+          (left new came fits.file fits.shows.reach H A f U fits.shows.parts))
+          (λ zeros. numbers_left new came H A f U fits zeros)
     ]
 
     -- Once they were all made it does so with the segments that are left.
     made : (new : Trace) → new ≡ after_all (write_in line n k) before → new ≡ after_all (buffer_calls sum size log.config.config.least device log.fault.kept whole v k r.buffer r.there r.ready) before
     made new came = came ∙ ap (λ (es : List Event). after_all es before) calls
 
-    pub holds_done : (new : Trace) → new ≡ after_all (write_in line n k) before → (now : Option IoError) → now ≡ None → (H : History) → Holds trace sum log H → HoldsWith sum noted_left size (state_of new) now line_left slots (logged H)
+    -- the device then, and what the lemmas on a write make of what was shown
+    abbrev behind_calls : State
+    behind_calls = buffer_synced sum size log.config.config.least device log.fault.kept whole v k r.buffer r.there r.ready
+
+    abbrev sees_behind : State
+    sees_behind = buffer_synced sum size log.config.config.least sees log.fault.kept whole v k r.buffer r.there r.ready
+
+    slots_behind : (m : Option IoError) → HasSlots size line sees.log.bytes log.fault.kept slots → HasSlots size line_left sees_behind.log.bytes m slots
+    slots_behind now has =
+        slots_write sum size log.config.config.least sees log.fault.kept whole v k r.buffer r.there r.ready log.segments.first.site.place line (line_segments log) n r.among slots now has
+
+    module _ (has : HasSlots size line sees.log.bytes log.fault.kept slots) (file : File) where
+      -- The log file that is shown is written over with the same bytes.
+      same_log : (now : Option IoError) → now ≡ None → (shown size now slots line_left behind_calls).log ≡ sees_behind.log
+      same_log now none = shown_written sum size log.config.config.least device log.fault.kept whole v k r.buffer r.there r.ready
+          log.segments.first.site.place line (line_segments log) n r.among slots sees.log.bytes has now none
+
+      shown_after : (now : Option IoError) → IsAsShown size now slots line_left behind_calls.log
+      shown_after now = written_as_shown sum size log.config.config.least device log.fault.kept whole v k r.buffer r.there r.ready
+          log.segments.first.site.place line (line_segments log) n r.among slots sees.log.bytes has now file
+
+    pub holds_done : (new : Trace) → new ≡ after_all (write_in line n k) before → (now : Option IoError) → now ≡ None → (H : History)
+        → Holds trace sum log H → HoldsShown sum noted_left size (state_of new) now line_left slots (logged H)
     unfolding Holds
     holds_done new came now none H holds =
-        subst (λ (o : Option IoError). HoldsWith sum noted_left size (state_of new) o line_left slots (logged H)) (whole ∙ sym none)
-        (subst (λ (t : Trace). HoldsWith sum noted_left size (state_of t) log.fault.kept line_left slots (logged H)) (sym (made new came)) (record {
-          holds = holds_promoted sum size (buffer_synced sum size log.config.config.least device log.fault.kept whole v k r.buffer r.there r.ready) log.fault.kept (logged H) log.config.config.least log.segments.first.site.place line_written segments_written
-              (holds_write sum size log.config.config.least device log.fault.kept whole v k r.buffer r.there r.ready log.segments.first.site.place line (line_segments log) n r.among (logged H) holds.holds);
-          batches = batches_after (logged H) holds.batches;
-          slots = slots_write sum size log.config.config.least device log.fault.kept whole v k r.buffer r.there r.ready log.segments.first.site.place line (line_segments log) n r.among slots log.fault.kept holds.slots;
+        let has = holds.shows.slots in
+        subst (λ (o : Option IoError). HoldsShown sum noted_left size (state_of new) o line_left slots (logged H)) (whole ∙ sym none)
+        (subst (λ (t : Trace). HoldsShown sum noted_left size (state_of t) log.fault.kept line_left slots (logged H)) (sym (made new came)) (record {
+          shows = record {
+            holds = holds_moved sum size log.config.config.least device log.fault.kept whole v k r.buffer r.there r.ready log.segments.first.site.place line
+                (line_segments log) n r.among slots sees.log.bytes has log.fault.kept whole log.fault.kept line_left (logged H)
+                (holds_promoted sum size sees_behind log.fault.kept (logged H) log.config.config.least log.segments.first.site.place line_written
+                segments_written
+                (holds_write sum size log.config.config.least sees log.fault.kept whole v k r.buffer r.there r.ready log.segments.first.site.place line
+                (line_segments log) n r.among (logged H) holds.shows.holds));
+            batches = batches_after (logged H) holds.shows.batches;
+            slots = subst (λ (l : LogState). HasSlots size line_left l.bytes log.fault.kept slots) (sym (same_log has holds.file log.fault.kept whole))
+                (slots_behind log.fault.kept has);
+          };
+          file = shown_after has holds.file log.fault.kept;
         }))
 
-    pub fits_done : (new : Trace) → new ≡ after_all (write_in line n k) before → (now : Option IoError) → now ≡ None → (H : History) (A f : ℕ) (U : List Message) → Fits trace sum log H A f U → FitsWith sum noted_left size (state_of new) now line_left slots log.pins H A f U
+    pub fits_done : (new : Trace) → new ≡ after_all (write_in line n k) before → (now : Option IoError) → now ≡ None → (H : History) (A f : ℕ)
+        (U : List Message) → Fits trace sum log H A f U → FitsShown sum noted_left size (state_of new) now line_left slots log.pins H A f U
     unfolding Fits
     fits_done new came now none H A f U fits =
-        let after = fits_write sum size log.config.config.least device log.fault.kept whole v k r.buffer r.there r.ready log.pins H A f U (log_recorded log n v r.among) log.reserved_to log.segments.first.site.place fits.reach line (line_segments log) n r.among filled_now first_waits fits.parts in
-        subst (λ (o : Option IoError). FitsWith sum noted_left size (state_of new) o line_left slots log.pins H A f U) (sym none)
-        (subst (λ (t : Trace). FitsWith sum noted_left size (state_of t) None line_left slots log.pins H A f U) (sym (made new came)) (record {
-          reach = after.0;
-          parts = after.1;
-          batches = batches_after (logged H) fits.batches;
-          slots = slots_write sum size log.config.config.least device log.fault.kept whole v k r.buffer r.there r.ready log.segments.first.site.place line (line_segments log) n r.among slots None fits.slots;
-          whole = λ none zeros. whole_write sum size log.config.config.least device log.fault.kept whole v k r.buffer r.there r.ready log.segments.first.site.place line (line_segments log) n r.among slots fits.slots
-              fits.reach after.0 log.pins H A f U fits.parts after.1 zeros (fits.whole whole zeros);
-          own = λ none zeros. placed_left sum size log.config.config.least device log.fault.kept whole v k r.buffer r.there r.ready log.segments.first.site.place line (line_segments log) n r.among slots fits.slots (logged H)
-              (line_holds sum size device log.fault.kept line fits.reach log.pins H A f U fits.parts) zeros (fits.own whole zeros);
-          account = fits.account;
-          numbers = λ zeros.
-              subst (HasNumbers sum size (buffer_synced sum size log.config.config.least device log.fault.kept whole v k r.buffer r.there r.ready) slots) (sym end_stays)
-              (numbers_behind sum size log.config.config.least device log.fault.kept whole v k r.buffer r.there r.ready log.segments.first.site.place line
-              (line_segments log) n r.among slots fits.slots (logged H) (held H A f U fits zeros) zeros (fits.own whole zeros) (fits.numbers zeros));
-          in_slots = λ first begins. slots_at sum size (stable_place first.stable) (stable_below fits.reach H.batches) H slots (fits.in_slots first begins) (stable_below after.0 H.batches)
-              (λ zeros. newest_stable sum size _ None (λ i. None) line_left after.0 log.pins H A f U after.1 zeros first begins);
+        let has = fits.shows.slots in
+        let after = fits_write sum size log.config.config.least sees log.fault.kept whole v k r.buffer r.there r.ready log.pins H A f U
+        (log_recorded log n v r.among) log.reserved_to log.segments.first.site.place fits.shows.reach line (line_segments log) n r.among filled_now first_waits fits.shows.parts in
+        let sees_now : State = shown size None slots line_left behind_calls in
+        let log_now = same_log has fits.file None (λ i. None) in
+        -- as yet what is shown behind the calls is what they make of what was shown, also in what was placed
+        let settled : sees_now ≡ sees_behind = settled_same sum size log.config.config.least device log.fault.kept whole v k r.buffer r.there r.ready
+        log.segments.first.site.place line (line_segments log) n r.among slots sees.log.bytes has None fits.file in
+        subst (λ (o : Option IoError). FitsShown sum noted_left size (state_of new) o line_left slots log.pins H A f U) (sym none)
+        (subst (λ (t : Trace). FitsShown sum noted_left size (state_of t) None line_left slots log.pins H A f U) (sym (made new came)) (record {
+          shows = record {
+            reach = after.0;
+            parts = fits_moved sum size log.config.config.least device log.fault.kept whole v k r.buffer r.there r.ready log.segments.first.site.place line
+                (line_segments log) n r.among slots sees.log.bytes has None (λ i. None) None line_left after.0 log.pins H A f U
+                (subst (LeavesRecovering sum size H (stable_below after.0 H.batches) f) (sym settled)
+                (line_leaves sum size sees_behind None line_left after.0 log.pins H A f U after.1)) after.1;
+            batches = batches_after (logged H) fits.shows.batches;
+            slots = subst (λ (l : LogState). HasSlots size line_left l.bytes None slots) (sym log_now) (slots_behind None has);
+            whole = λ none zeros. subst (λ (l : LogState). AreWhole sum size l.bytes (logged H) (first_place line_left) slots) (sym log_now)
+                (whole_write sum size log.config.config.least sees log.fault.kept whole v k r.buffer r.there r.ready log.segments.first.site.place line
+                (line_segments log) n r.among slots has
+                fits.shows.reach after.0 log.pins H A f U fits.shows.parts after.1 zeros (fits.shows.whole whole zeros));
+            own = λ none zeros. subst (λ (s : State). HasPlacedFile sum size s line_left) (sym settled)
+                (placed_left sum size log.config.config.least sees log.fault.kept whole v k r.buffer r.there r.ready log.segments.first.site.place line
+                (line_segments log) n r.among slots has (logged H)
+                (held H A f U fits zeros) zeros (fits.shows.own whole zeros));
+            account = fits.shows.account;
+            numbers = λ zeros.
+                subst (λ (s : State). HasNumbers sum size s slots (line_end size line_left)) (sym settled)
+                (subst (HasNumbers sum size sees_behind slots) (sym end_stays)
+                (numbers_behind sum size log.config.config.least sees log.fault.kept whole v k r.buffer r.there r.ready log.segments.first.site.place line
+                (line_segments log) n r.among slots has (logged H) (held H A f U fits zeros) zeros (fits.shows.own whole zeros) (fits.shows.numbers zeros)));
+            in_slots = λ first begins. slots_at sum size (stable_place first.stable) (stable_below fits.shows.reach H.batches) H slots
+                (fits.shows.in_slots first begins) (stable_below after.0 H.batches)
+                (λ zeros. newest_stable sum size _ None (λ i. None) line_left after.0 log.pins H A f U after.1 zeros first begins);
+          };
+          file = shown_after has fits.file None;
         }))
 
 -- A call that changed the device alone left the line as it was.

@@ -43,7 +43,7 @@ unmarked_fits : {D C : Type 0} (trace : D → Trace) (sum : List ℕ → ℕ) (o
     → (H : History) (A f : ℕ) (U : List Message) → Fits trace sum old H A f U → Fits trace sum new H A f U
 unfolding Fits
 unmarked_fits trace sum old new rest refused H A f U fits =
-    fits_marked trace sum old new rest (machine_at old) refused (λ j. same_segment _) H A f U U fits (λ some. some) fits.account
+    fits_marked trace sum old new rest (machine_at old) refused (λ j. same_segment _) H A f U U fits (λ some. some) fits.shows.account
 
 module _ {D C T : Type 0} (trace : D → Trace) (sum : List ℕ → ℕ) (old new : Log D C) (step : Machine → Machine) (same : SameSegments (machine_at old).slots (step (machine_at old)).slots) where
   -- What it keeps.
@@ -88,7 +88,7 @@ module _ {D C : Type 0} (trace : D → Trace) (sum : List ℕ → ℕ) (log : Lo
       let Account : Machine → Type 0 = HasAccount sum size (state_of (trace (device_of log))).snapshots.file H V in
       subst (λ (p : ℕ). Account (linked size p info (machine_at log))) of.0
       (subst (λ (i : CacheInfo). Account (linked size x.page i (machine_at log))) (sym of.1)
-      (account_linked sum size _ H U (machine_at log) fits.account some (apart_ascends H.messages (fits_apart trace sum log H A f U fits)) x V takes
+      (account_linked sum size _ H U (machine_at log) fits.shows.account some (apart_ascends H.messages (fits_apart trace sum log H A f U fits)) x V takes
       (subst (λ (i : CacheInfo). MayMark size (machine_at log) i []) of.1 may) (inr (inl link))))
 
   -- and with a message in place of what its page was.
@@ -101,6 +101,6 @@ module _ {D C : Type 0} (trace : D → Trace) (sum : List ℕ → ℕ) (log : Lo
       let alone : MayMark size (machine_at log) info [] = record { lies = may.lies; active = may.active; old_lie = All-nil (LiesIn size (machine_at log)) } in
       subst (λ (p : ℕ). Account (replaced size p info old (machine_at log))) of.0
       (subst (λ (i : CacheInfo). Account (replaced size x.page i old (machine_at log))) (sym of.1)
-      (account_replaced sum size _ H U (machine_at log) fits.account some (apart_ascends H.messages (fits_apart trace sum log H A f U fits)) x V takes
+      (account_replaced sum size _ H U (machine_at log) fits.shows.account some (apart_ascends H.messages (fits_apart trace sum log H A f U fits)) x V takes
       (subst (λ (i : CacheInfo). MayMark size (machine_at log) i []) of.1 alone) (begins_changes x.kind begins) old
       (subst (λ (i : CacheInfo). MayMark size (machine_at log) i old) of.1 may) begins (subst (λ (p : ℕ). IsFormerState (without U H) p old) (sym of.0) former) none))

@@ -19,6 +19,8 @@ use Rattle.sled_core.specs.inside.FreeSlots.{HasSlot, HasSlots}
 use Rattle.sled_core.specs.inside.Slots.{AreWhole, HasAccount}
 use Rattle.sled_core.specs.invariants.Fits.{Holds}
 use Rattle.sled_core.specs.invariants.Running.{Fits}
+use Rattle.sled_core.proofs.Cleared.Calls.{cleared_marked}
+use Rattle.sled_core.proofs.Cleared.Shown.{ShowsSame}
 use Rattle.sled_core.proofs.Holds.RunningLemmas.{fits-pinned}
 use Rattle.sled_core.proofs.Line.KeptCalls.{goes_on_quietly}
 use Rattle.sled_core.proofs.Line.LineEnds.{noted_still}
@@ -68,21 +70,25 @@ module _ {D C : Type 0} (trace : D → Trace) (sum : List ℕ → ℕ) (old new 
   noted_same : noted_in new ≡ noted_in old
   noted_same = search (rest.segments, rest.batches)
 
-  -- It goes on,
+  -- It goes on.
   pub goes_on_marked : GoesOn trace sum old new
   goes_on_marked =
       goes_on_quietly trace sum old new (record { config = ap (λ (c : RunningConfig D C). c.config) rest.config; checksum = ap (λ (c : RunningConfig D C). c.checksum) rest.config })
       (ap (λ (c : RunningConfig D C). trace c.device) rest.config) (let same = synced_same in omega (arith, same)) (λ none. sym fault_same ∙ none)
 
   module _ (m : Machine) (is : machine_at new ≡ m) (same : SameSegments (machine_at old).slots m.slots) where
-    -- holds what it held,
+    -- The same counts for nothing in the log file.
+    same_shown : ShowsSame (segment_size_of old) (machine_at old) m (line_of old) (line_of old)
+    same_shown log = cleared_marked (segment_size_of old) (machine_at old) log m (line_of old) same
+
+    -- It holds what it held,
     pub holds_marked : (H : History) → Holds trace sum old H → Holds trace sum new H
     unfolding Holds
     holds_marked H holds =
-        holds_as trace sum old new rest.config fault_same (noted_in old) noted_same (line_of old) line_same m is H (record {
-          holds = holds.holds;
-          batches = holds.batches;
-          slots = slots_same (segment_size_of old) (machine_at old) m same (line_of old) _ (fault_of old) holds.slots;
+        holds_as trace sum old new rest.config fault_same (noted_in old) noted_same (line_of old) line_same m is same_shown holds.file H (record {
+          holds = holds.shows.holds;
+          batches = holds.shows.batches;
+          slots = slots_same (segment_size_of old) (machine_at old) m same (line_of old) _ (fault_of old) holds.shows.slots;
         })
 
     -- and fits the history with these messages unmarked, of which it has the account.
@@ -90,16 +96,16 @@ module _ {D C : Type 0} (trace : D → Trace) (sum : List ℕ → ℕ) (old new 
         → HasAccount sum (segment_size_of old) (state_of (trace (device_of old))).snapshots.file H V m → Fits trace sum new H A f V
     unfolding Fits
     fits_marked H A f U V fits fewer account =
-        fits_as trace sum old new rest.config fault_same (noted_in old) noted_same (line_of old) line_same m is H A f V rest.pins (record {
-          reach = fits.reach;
-          parts = fits-pinned _ _ _ _ _ _ _ _ _ _ H A f U fits.parts (pins_of old) V (λ some. fits.parts.pinned (fewer some));
-          batches = fits.batches;
-          slots = slots_same (segment_size_of old) (machine_at old) m same (line_of old) _ (fault_of old) fits.slots;
-          whole = λ none zeros. whole_same (segment_size_of old) (machine_at old) m same sum _ _ _ (fits.whole none zeros);
-          own = fits.own;
+        fits_as trace sum old new rest.config fault_same (noted_in old) noted_same (line_of old) line_same m is same_shown fits.file H A f V rest.pins (record {
+          reach = fits.shows.reach;
+          parts = fits-pinned _ _ _ _ _ _ _ _ _ _ H A f U fits.shows.parts (pins_of old) V (λ some. fits.shows.parts.pinned (fewer some));
+          batches = fits.shows.batches;
+          slots = slots_same (segment_size_of old) (machine_at old) m same (line_of old) _ (fault_of old) fits.shows.slots;
+          whole = λ none zeros. whole_same (segment_size_of old) (machine_at old) m same sum _ _ _ (fits.shows.whole none zeros);
+          own = fits.shows.own;
           account = account;
-          numbers = λ zeros. numbers_marked sum (segment_size_of old) (machine_at old) m same _ _ (fits.numbers zeros);
-          in_slots = λ first begins. slots_marked sum (segment_size_of old) (machine_at old) m same _ H _ (fits.in_slots first begins);
+          numbers = λ zeros. numbers_marked sum (segment_size_of old) (machine_at old) m same _ _ (fits.shows.numbers zeros);
+          in_slots = λ first begins. slots_marked sum (segment_size_of old) (machine_at old) m same _ H _ (fits.shows.in_slots first begins);
         })
 
 -- A page was asked for: that changes nothing of the slots.
@@ -111,7 +117,7 @@ popped_keeps trace sum old new rest slots tip =
     record {
       goes_on = goes_on_marked trace sum old new rest;
       history = holds_marked trace sum old new rest (machine_at new) refl same;
-      fits = λ H A f U fits. fits_marked trace sum old new rest (machine_at new) refl same H A f U U fits (λ some. some) (account_popped sum (segment_size_of old) _ H U (machine_at old) fits.account (machine_at new) slots tip);
+      fits = λ H A f U fits. fits_marked trace sum old new rest (machine_at new) refl same H A f U U fits (λ some. some) (account_popped sum (segment_size_of old) _ H U (machine_at old) fits.shows.account (machine_at new) slots tip);
       noted = noted_same trace sum old new rest ∙ noted_still old ∙ ap (λ n. not_whole n (noted_in old)) (sym (synced_same trace sum old new rest));
       kept = let same_kept = ap (λ x. length x.noted.items) rest.batches in omega (arith, same_kept);
     }

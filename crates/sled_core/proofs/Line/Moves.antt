@@ -1,4 +1,4 @@
--- A log whose segments are these, over the same device, holds and fits what these do.
+-- A log whose segments are these, over the same device, holds and fits what these do over what was shown, where the same counts for nothing.
 use Rattle.std.proofs.Common.{◌≡◌, sym, subst, ℕ, List, Option}
 use Rattle.std.specs.declared.io.Error.{Error as IoError}
 use Rattle.sled_codec.specs.History.{Batch, History, Message}
@@ -8,29 +8,39 @@ use Rattle.sled_store.specs.SegmentStates.{Machine}
 use Rattle.sled_core.specs.Begun.{SegmentView}
 use Rattle.sled_core.specs.declared.logger.Log.{Log}
 use Rattle.sled_core.specs.invariants.Fits.{Holds}
-use Rattle.sled_core.specs.inside.Fits.{HoldsWith}
+use Rattle.sled_core.specs.inside.Fits.{HoldsShown, HoldsWith}
 use Rattle.sled_core.specs.Fits.{config_of, device_of, fault_of, line_of, machine_at, noted_in, pins_of, segment_size_of}
 use Rattle.sled_core.specs.Logged.{logged}
 use Rattle.sled_core.specs.invariants.Running.{Fits}
-use Rattle.sled_core.specs.inside.Running.{FitsWith}
+use Rattle.sled_core.specs.inside.Running.{FitsShown, FitsWith}
+use Rattle.sled_core.specs.inside.Shown.{IsAsShown, shown_of}
+use Rattle.sled_core.proofs.Cleared.Shown.{ShowsSame}
+use Rattle.sled_core.proofs.Line.Shown.{fits_shown, holds_shown}
 
 module _ {D C : Type 0} (trace : D → Trace) (sum : List ℕ → ℕ) (old new : Log D C) (config : config_of new ≡ config_of old) (fault : fault_of new ≡ fault_of old) (bs : List Batch) (noted : noted_in new ≡ bs)
-    (line : List SegmentView) (is_line : line_of new ≡ line) (m : Machine) (is_machine : machine_at new ≡ m) (H : History) where
-  pub holds_as : HoldsWith sum bs (segment_size_of old) (state_of (trace (device_of old))) (fault_of old) line m (logged H) → Holds trace sum new H
+    (line : List SegmentView) (is_line : line_of new ≡ line) (m : Machine) (is_machine : machine_at new ≡ m)
+    (same : ShowsSame (segment_size_of old) (machine_at old) m (line_of old) line)
+    (file : IsAsShown (segment_size_of old) (fault_of old) (machine_at old) (line_of old) (state_of (trace (device_of old))).log) (H : History) where
+  pub holds_as : HoldsWith sum bs (segment_size_of old) (shown_of trace old) (fault_of old) line m (logged H) → Holds trace sum new H
   unfolding Holds
   holds_as holds =
-      subst (λ (x : RunningConfig D C). HoldsWith sum (noted_in new) x.config.segment_size (state_of (trace x.device)) (fault_of new) (line_of new) (machine_at new) (logged H)) (sym config)
-      (subst (λ (e : Option IoError). HoldsWith sum (noted_in new) (segment_size_of old) (state_of (trace (device_of old))) e (line_of new) (machine_at new) (logged H)) (sym fault)
-      (subst (λ (l : List SegmentView). HoldsWith sum (noted_in new) (segment_size_of old) (state_of (trace (device_of old))) (fault_of old) l (machine_at new) (logged H)) (sym is_line)
-      (subst (λ (x : Machine). HoldsWith sum (noted_in new) (segment_size_of old) (state_of (trace (device_of old))) (fault_of old) line x (logged H)) (sym is_machine)
-      (subst (λ (l : List Batch). HoldsWith sum l (segment_size_of old) (state_of (trace (device_of old))) (fault_of old) line m (logged H)) (sym noted) holds))))
+      subst (λ (x : RunningConfig D C). HoldsShown sum (noted_in new) x.config.segment_size (state_of (trace x.device)) (fault_of new) (line_of new) (machine_at new) (logged H)) (sym config)
+      (subst (λ (e : Option IoError). HoldsShown sum (noted_in new) (segment_size_of old) (state_of (trace (device_of old))) e (line_of new) (machine_at new) (logged H)) (sym fault)
+      (subst (λ (l : List SegmentView). HoldsShown sum (noted_in new) (segment_size_of old) (state_of (trace (device_of old))) (fault_of old) l (machine_at new) (logged H)) (sym is_line)
+      (subst (λ (x : Machine). HoldsShown sum (noted_in new) (segment_size_of old) (state_of (trace (device_of old))) (fault_of old) line x (logged H)) (sym is_machine)
+      (subst (λ (l : List Batch). HoldsShown sum l (segment_size_of old) (state_of (trace (device_of old))) (fault_of old) line m (logged H)) (sym noted)
+      (holds_shown sum bs (segment_size_of old) (state_of (trace (device_of old))) (fault_of old) (machine_at old) m (line_of old) line same
+      file (logged H) holds)))))
 
-  pub fits_as : (A f : ℕ) (U : List Message) → pins_of new ≡ pins_of old → FitsWith sum bs (segment_size_of old) (state_of (trace (device_of old))) (fault_of old) line m (pins_of old) H A f U → Fits trace sum new H A f U
+  pub fits_as : (A f : ℕ) (U : List Message) → pins_of new ≡ pins_of old
+      → FitsWith sum bs (segment_size_of old) (shown_of trace old) (fault_of old) line m (pins_of old) H A f U → Fits trace sum new H A f U
   unfolding Fits
   fits_as A f U pins fits =
-      subst (λ (x : RunningConfig D C). FitsWith sum (noted_in new) x.config.segment_size (state_of (trace x.device)) (fault_of new) (line_of new) (machine_at new) (pins_of new) H A f U) (sym config)
-      (subst (λ (e : Option IoError). FitsWith sum (noted_in new) (segment_size_of old) (state_of (trace (device_of old))) e (line_of new) (machine_at new) (pins_of new) H A f U) (sym fault)
-      (subst (λ (l : List SegmentView). FitsWith sum (noted_in new) (segment_size_of old) (state_of (trace (device_of old))) (fault_of old) l (machine_at new) (pins_of new) H A f U) (sym is_line)
-      (subst (λ (x : Machine). FitsWith sum (noted_in new) (segment_size_of old) (state_of (trace (device_of old))) (fault_of old) line x (pins_of new) H A f U) (sym is_machine)
-      (subst (λ n. FitsWith sum (noted_in new) (segment_size_of old) (state_of (trace (device_of old))) (fault_of old) line m n H A f U) (sym pins)
-      (subst (λ (l : List Batch). FitsWith sum l (segment_size_of old) (state_of (trace (device_of old))) (fault_of old) line m (pins_of old) H A f U) (sym noted) fits)))))
+      subst (λ (x : RunningConfig D C). FitsShown sum (noted_in new) x.config.segment_size (state_of (trace x.device)) (fault_of new) (line_of new) (machine_at new) (pins_of new) H A f U) (sym config)
+      (subst (λ (e : Option IoError). FitsShown sum (noted_in new) (segment_size_of old) (state_of (trace (device_of old))) e (line_of new) (machine_at new) (pins_of new) H A f U) (sym fault)
+      (subst (λ (l : List SegmentView). FitsShown sum (noted_in new) (segment_size_of old) (state_of (trace (device_of old))) (fault_of old) l (machine_at new) (pins_of new) H A f U) (sym is_line)
+      (subst (λ (x : Machine). FitsShown sum (noted_in new) (segment_size_of old) (state_of (trace (device_of old))) (fault_of old) line x (pins_of new) H A f U) (sym is_machine)
+      (subst (λ n. FitsShown sum (noted_in new) (segment_size_of old) (state_of (trace (device_of old))) (fault_of old) line m n H A f U) (sym pins)
+      (subst (λ (l : List Batch). FitsShown sum l (segment_size_of old) (state_of (trace (device_of old))) (fault_of old) line m (pins_of old) H A f U) (sym noted)
+      (fits_shown sum bs (segment_size_of old) (state_of (trace (device_of old))) (fault_of old) (machine_at old) m (line_of old) line same
+      file (pins_of old) H A f U fits))))))

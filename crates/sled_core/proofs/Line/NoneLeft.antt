@@ -22,6 +22,7 @@ use Rattle.sled_core.specs.OpenBatches.{batch_of}
 use Rattle.sled_core.proofs.Flush.FlushLemmas.{all_kept}
 use Rattle.sled_core.proofs.Holds.BufferEnds.{written_behind}
 use Rattle.sled_core.proofs.Line.Entered.{used_end, IsEntered}
+use Rattle.sled_core.proofs.Line.Shown.{holds_real}
 use Rattle.sled_core.proofs.Reached.OpenBatch.{whole_not}
 use Rattle.sled_core.proofs.Reached.StableBelow.{stable_all}
 use Rattle.sled_core.proofs.Reserve.BeginBelow.{ArePadding, entered_padding, padding_nothing}
@@ -88,10 +89,10 @@ all_ended : {D C : Type 0} (trace : D → Trace) (sum : List ℕ → ℕ) (log :
 unfolding Holds
 all_ended trace sum log all H holds = all_from_in (λ (b : Batch). (b.low < synced_end log) × (b.peg < synced_end log)) H.batches (λ b there. (begins b there, ends b there)) where
   ends : (b : Batch) → Contains H.batches b → b.peg < synced_end log
-  ends b there = elim (cases_lt b.peg (synced_end log)) [ inl low ↦ low | inr high ↦ (let peg = noted_pegs log b (holds.batches.all b there high) in omega (arith, peg, all)) ]
+  ends b there = elim (cases_lt b.peg (synced_end log)) [ inl low ↦ low | inr high ↦ (let peg = noted_pegs log b (holds.shows.batches.all b there high) in omega (arith, peg, all)) ]
 
   begins : (b : Batch) → Contains H.batches b → b.low < synced_end log
-  begins b there = elim (holds.batches.rising b there) [ inl pegged ↦ (let low = ends b there in omega (arith, low, pegged)) | inr low ↦ low ]
+  begins b there = elim (holds.shows.batches.rising b there) [ inl pegged ↦ (let low = ends b there in omega (arith, low, pegged)) | inr low ↦ low ]
 
 module _ {D C : Type 0} (trace : D → Trace) (sum : List ℕ → ℕ) (log : Log D C) (all : reserved_end log ≤ synced_end log) (whole : fault_of log ≡ None) (H : History)
     (holds : HoldsWith sum (noted_in log) (segment_size_of log) (state_of (trace (device_of log))) (fault_of log) (line_of log) (machine_at log) (logged H)) (closed : CloseBelow (synced_end log) H.batches) where
@@ -140,4 +141,8 @@ module _ {D C : Type 0} (trace : D → Trace) (sum : List ℕ → ℕ) (log : Lo
 -- So the device has all of what the log holds.
 pub all_written : {D C : Type 0} (trace : D → Trace) (sum : List ℕ → ℕ) (log : Log D C) → reserved_end log ≤ synced_end log → fault_of log ≡ None → (H : History) → Holds trace sum log H → IsWritten trace sum log H
 unfolding Holds
-all_written trace sum log all whole H holds = all_there trace sum log all whole H holds (all_ended trace sum log all H holds)
+all_written trace sum log all whole H holds =
+    -- as yet what is shown is on the device itself
+    all_there trace sum log all whole H
+    (holds_real sum (noted_in log) (segment_size_of log) (state_of (trace (device_of log))) (fault_of log) (machine_at log) (line_of log) (logged H) holds)
+    (all_ended trace sum log all H holds)

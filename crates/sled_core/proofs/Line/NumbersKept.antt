@@ -1,7 +1,7 @@
 -- A log that fits a history keeps its numbers: in the slots that tables need from the stable place on nothing that is the log's own has a greater number. So
 -- what a crash leaves of its device can be recovered, and lasts.
 use Rattle.std.specs.declared.io.Error.{Error as IoError}
-use Rattle.std.proofs.Common.{◌<◌, ℕ, List, Option, arith}
+use Rattle.std.proofs.Common.{◌<◌, ℕ, List, Option, arith, refl, subst}
 use Rattle.sled_codec.specs.History.{Batch, History, Message}
 use Rattle.sled_codec.specs.Snapshots.{stable_place}
 use Rattle.sled_store.specs.Device.{State, Trace, state_of}
@@ -14,12 +14,14 @@ use Rattle.sled_core.specs.NoForeign.{NoHeaderOfZeros}
 use Rattle.sled_core.specs.OpenBatches.{stable_below}
 use Rattle.sled_core.specs.inside.Begun.{line_end}
 use Rattle.sled_core.specs.Recoverable.{LeavesRecoverable}
-use Rattle.sled_core.specs.inside.Lasting.{IsLasting}
+use Rattle.sled_core.specs.inside.Lasting.{IsLasting, LeavesRecovering}
 use Rattle.sled_core.specs.inside.Numbers.{HasNumbers, NumbersStay}
-use Rattle.sled_core.specs.inside.Running.{FitsWith}
+use Rattle.sled_core.specs.inside.Running.{FitsShown, FitsWith}
+use Rattle.sled_core.specs.inside.Shown.{shown_of}
 use Rattle.sled_core.specs.invariants.Running.{Fits}
+use Rattle.sled_core.proofs.Cleared.Shown.{shown_is}
 use Rattle.sled_core.proofs.Holds.ReachLemmas.{fits_apart}
-use Rattle.sled_core.proofs.Line.Faulty.{line_leaves}
+use Rattle.sled_core.proofs.Line.Faulty.{line_leaves, numbers_placed}
 use Rattle.sled_core.proofs.Line.Writes.{passes_line}
 use Rattle.sled_core.proofs.Numbers.Lasting.{lasting_leaves}
 use Rattle.sled_core.proofs.Numbers.Stay.{numbers_stay}
@@ -38,24 +40,30 @@ module _ {D C : Type 0} (trace : D → Trace) (sum : List ℕ → ℕ) (log : Lo
   pub fits_ascends : Fits trace sum log H A f U → Ascends H.messages
   fits_ascends fits = apart_ascends H.messages (fits_apart trace sum log H A f U fits)
 
-  pub fits_numbers : (fits : FitsWith sum (noted_in log) (segment_size_of log) (state_of (trace (device_of log))) (fault_of log) (line_of log) (machine_at log)
+  pub fits_numbers : (fits : FitsShown sum (noted_in log) (segment_size_of log) (state_of (trace (device_of log))) (fault_of log) (line_of log) (machine_at log)
       (pins_of log) H A f U) → NoHeaderOfZeros sum
-      → NumbersStay sum (segment_size_of log) (state_of (trace (device_of log))) H (stable_below fits.reach H.batches)
+      → NumbersStay sum (segment_size_of log) (state_of (trace (device_of log))) H (stable_below fits.shows.reach H.batches)
   unfolding Fits
   fits_numbers fits zeros =
       let least = log.config.config.least in
-      stays_in sum (noted_in log) (segment_size_of log) (omega (arith, least)) (state_of (trace (device_of log))) (fault_of log) (line_of log) (machine_at log)
-      (pins_of log) H A f U fits (fits_ascends fits) zeros (state_of (trace (device_of log))) (fits.numbers zeros)
+      stays_in sum (noted_in log) (segment_size_of log) (omega (arith, least)) (shown_of trace log) (fault_of log) (line_of log) (machine_at log)
+      (pins_of log) H A f U fits.shows (fits_ascends fits) zeros (state_of (trace (device_of log)))
+      (numbers_placed sum (segment_size_of log) (shown_of trace log) (state_of (trace (device_of log))) (machine_at log)
+      (line_end (segment_size_of log) (line_of log)) refl (fits.shows.numbers zeros))
 
   pub fits_lasts : Fits trace sum log H A f U → IsLasting sum (segment_size_of log) (state_of (trace (device_of log))) H A f
   unfolding Fits
   fits_lasts fits =
       let size : ℕ = segment_size_of log in
-      let device : State = state_of (trace (device_of log)) in record {
-        stable = stable_below fits.reach H.batches;
-        passes = passes_line sum size device (fault_of log) (line_of log) fits.reach (pins_of log) H A f U fits.parts;
+      let device : State = state_of (trace (device_of log)) in
+      let sees : State = shown_of trace log in
+      let stable : ℕ = stable_below fits.shows.reach H.batches in record {
+        stable = stable;
+        passes = passes_line sum size sees (fault_of log) (line_of log) fits.shows.reach (pins_of log) H A f U fits.shows.parts;
         lasts = record {
-          can = line_leaves sum size device (fault_of log) (line_of log) fits.reach (pins_of log) H A f U fits.parts;
+          -- as yet what a crash leaves of the device is what it leaves of what is shown
+          can = subst (LeavesRecovering sum size H stable f) (shown_is size (fault_of log) (machine_at log) (line_of log) device fits.file)
+              (line_leaves sum size sees (fault_of log) (line_of log) fits.shows.reach (pins_of log) H A f U fits.shows.parts);
           numbers = fits_numbers fits;
         };
       }

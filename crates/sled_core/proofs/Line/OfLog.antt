@@ -17,6 +17,7 @@ use Rattle.sled_core.specs.inside.Running.{FitsWith}
 use Rattle.sled_core.proofs.Line.Ends.{line_holds, with_part}
 use Rattle.sled_core.proofs.Holds.Facts.{IsSegment}
 use Rattle.sled_core.proofs.Line.Segments.{line_segments, nth_segment}
+use Rattle.sled_core.proofs.Line.Shown.{fits_real}
 use Rattle.sled_core.proofs.Line.WrittenSlots.{headers_line}
 use Rattle.sled_core.proofs.OwnLog.AllSlots.{all_slots, header_own, record_own}
 use Rattle.sled_core.proofs.OwnLog.NoneForeign.{none_foreign}
@@ -85,4 +86,6 @@ module _ {D C : Type 0} (trace : D → Trace) (sum : List ℕ → ℕ) (log : Lo
 
   pub fits_reads_own : Fits trace sum log H A f U → fault_of log ≡ None → NoHeaderOfZeros sum → ReadsOnlyOwn sum (segment_size_of log) (state_of (trace (device_of log)))
   unfolding Fits
-  fits_reads_own fits none zeros = reads_own fits none zeros
+  fits_reads_own fits none zeros =
+      -- as yet what is shown is the device itself
+      reads_own (fits_real sum (noted_in log) size state log.fault.kept (machine_at log) line log.pins H A f U fits) none zeros

@@ -23,11 +23,12 @@ use Rattle.sled_store.specs.Script.{Performs, after_all}
 use Rattle.sled_store.specs.SnapshotFiles.{BeginsFrom}
 use Rattle.sled_store.proofs.Names.OneBegin.{one_begin}
 use Rattle.sled_store.proofs.Traces.ScriptLemmas.{performs_whole}
+use Rattle.sled_core.specs.inside.Shown.{shown_of}
 use Rattle.sled_core.specs.Begun.{segment_view}
 use Rattle.sled_core.specs.Causes.{HeldAnswers, IsFault, IsFaultAt, IsHeld, OnDone}
 use Rattle.sled_core.specs.inside.Causes.{RecordAnswers}
 use Rattle.sled_core.specs.declared.logger.Log.{Log}
-use Rattle.sled_core.specs.Fits.{HasRecordOf, current_begin, device_of, fault_of, line_of, reserved_end, segment_size_of, start_of, synced_end, waiting_of}
+use Rattle.sled_core.specs.Fits.{HasRecordOf, current_begin, device_of, fault_of, line_of, machine_at, noted_in, reserved_end, segment_size_of, start_of, synced_end, waiting_of}
 use Rattle.sled_core.specs.invariants.Fits.{Holds}
 use Rattle.sled_core.specs.inside.Fits.{HoldsLine}
 use Rattle.sled_core.specs.LogFile.{StaysFrom}
@@ -42,6 +43,7 @@ use Rattle.sled_core.specs.SealedBuffers.{writing}
 use Rattle.sled_core.specs.Stable.{IsNotReserved}
 use Rattle.sled_core.specs.Waiting.{BufferAt, has_place, unless_held, write_around, BufferStart}
 use Rattle.sled_core.specs.Fits.{buffers_of}
+use Rattle.sled_core.proofs.Line.Shown.{holds_real}
 use Rattle.sled_core.proofs.Line.HeaderMarks.{marked_same}
 use Rattle.sled_core.proofs.Line.Around.{is_none, none_found}
 use Rattle.sled_core.proofs.Line.Outcomes.{all_done, all_err, all_ok, held_alike}
@@ -115,8 +117,8 @@ pub fits_begins : {D C : Type 0} (trace : D → Trace) (sum : List ℕ → ℕ) 
 unfolding Fits
 fits_begins trace sum log H A f U fits none m there has lid pointer =
     let size : ℕ = segment_size_of log in
-    let device : State = state_of (trace log.config.device) in
-    let holds : HoldsLine sum size device None (line_of log) (logged H) = subst (λ (o : Option IoError). HoldsLine sum size device o (line_of log) (logged H)) none fits.parts.holds in
+    let device : State = shown_of trace log in
+    let holds : HoldsLine sum size device None (line_of log) (logged H) = subst (λ (o : Option IoError). HoldsLine sum size device o (line_of log) (logged H)) none fits.shows.parts.holds in
     let known : Contains (logged H).messages m = inline_there H m lid pointer there in
     line_begins sum size device 0 log.segments.first.site.place (segment_view log.segments.first) (map segment_view log.segments.behind.items) (line_segments log) (logged H) holds m known (has_record sum log device (logged H) holds m known (inline_record log H m lid pointer has)) lid pointer
 
@@ -128,8 +130,11 @@ unfolding Holds
 settled_record {D} {C} trace sum old mid H m before after whole whole_now there has written still names lid pointer =
     let device : State = state_of (trace (device_of old)) in
     let now : State = state_of (trace (device_of mid)) in
-    let first : HoldsLine sum (segment_size_of old) device None (line_of old) (logged H) = subst (λ (o : Option IoError). HoldsLine sum (segment_size_of old) device o (line_of old) (logged H)) whole before.holds in
-    let later : HoldsLine sum (segment_size_of mid) now None (line_of mid) (logged H) = subst (λ (o : Option IoError). HoldsLine sum (segment_size_of mid) now o (line_of mid) (logged H)) whole_now after.holds in
+    -- as yet what is shown is on the device itself
+    let had = holds_real sum (noted_in old) (segment_size_of old) device (fault_of old) (machine_at old) (line_of old) (logged H) before in
+    let has_now = holds_real sum (noted_in mid) (segment_size_of mid) now (fault_of mid) (machine_at mid) (line_of mid) (logged H) after in
+    let first : HoldsLine sum (segment_size_of old) device None (line_of old) (logged H) = subst (λ (o : Option IoError). HoldsLine sum (segment_size_of old) device o (line_of old) (logged H)) whole had.holds in
+    let later : HoldsLine sum (segment_size_of mid) now None (line_of mid) (logged H) = subst (λ (o : Option IoError). HoldsLine sum (segment_size_of mid) now o (line_of mid) (logged H)) whole_now has_now.holds in
     let reached = first.begun.reached in
     let known : Contains (logged H).messages m = inline_there H m lid pointer there in
     elim (cases_lt m.place (synced_end old)) [

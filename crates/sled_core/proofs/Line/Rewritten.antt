@@ -7,9 +7,10 @@ use Rattle.sled_codec.specs.declared.serialization.message.LogKind.{LogKind}
 use Rattle.sled_codec.specs.declared.serialization.message.LogKind.TheVariants.{Replace}
 use Rattle.sled_codec.specs.Kinds.{kind_written}
 use Rattle.sled_codec.specs.History.{History, Message, table}
-use Rattle.sled_store.specs.Device.{State, Trace, state_of}
+use Rattle.sled_store.specs.Device.{State, Trace}
 use Rattle.sled_store.proofs.Histories.Ascending.{Ascends}
 use Rattle.sled_store.proofs.Segments.TableEntries.{from_table}
+use Rattle.sled_core.specs.inside.Shown.{shown_of}
 use Rattle.sled_core.specs.declared.logger.Log.{Log}
 use Rattle.sled_core.specs.Fits.{current_of, line_of, machine_at, message_rewriting, next_place, noted_in, segment_size_of, synced_end, target_of}
 use Rattle.sled_core.specs.Logged.{logged}
@@ -29,7 +30,7 @@ module _ {D C : Type 0} (trace : D → Trace) (sum : List ℕ → ℕ) (log : Lo
   size = segment_size_of log
 
   abbrev state : State
-  state = state_of (trace log.config.device)
+  state = shown_of trace log
 
   module _ (fits : FitsWith sum (noted_in log) size state log.fault.kept (line_of log) (machine_at log) log.pins H A f U) where
     pub ordered : Ascends (logged H).messages

@@ -5,7 +5,7 @@ use Rattle.std.proofs.lemmas.Bool.Decides.{nat_tests}
 use Rattle.std.proofs.lemmas.List.{map-append}
 use Rattle.sled_codec.specs.History.{History, Message}
 use Rattle.sled_store.specs.Foreign.{HeaderWasPlaced, RecordWasPlaced}
-use Rattle.sled_store.specs.Device.{State, Trace, state_of}
+use Rattle.sled_store.specs.Device.{State, Trace}
 use Rattle.sled_store.specs.SegmentStates.{Machine}
 use Rattle.sled_store.specs.Accounts.{machine_of}
 use Rattle.sled_store.specs.declared.config.RunningConfig.{RunningConfig}
@@ -31,11 +31,15 @@ use Rattle.sled_core.specs.Positions.{is_short, position_in}
 use Rattle.sled_core.specs.invariants.Running.{Fits}
 use Rattle.sled_core.specs.inside.Running.{FitsIn, FitsLine}
 use Rattle.sled_core.specs.SealedBuffers.{seal_at, sealed_count}
+use Rattle.sled_core.specs.inside.Shown.{shown_of}
 use Rattle.sled_core.specs.inside.Slots.{AreWhole}
 use Rattle.sled_core.specs.inside.Turned.{ChangesLine}
 use Rattle.sled_core.specs.Waiting.{as_sealed, at_last, closed_now, holds_any, last_of, sealed_now, turned_now, unwritten}
 use Rattle.sled_core.proofs.Behind.Calls.{behind-sealed}
 use Rattle.sled_core.proofs.Behind.FitsCalls.{behind-fits-sealed}
+use Rattle.sled_core.proofs.Cleared.Calls.{sealed_same as unwritten_sealed_now}
+use Rattle.sled_core.proofs.Cleared.Moves.{cleared_line, line_last}
+use Rattle.sled_core.proofs.Cleared.Shown.{ShowsSame}
 use Rattle.sled_core.proofs.Holds.FitsBatches.{batches_up}
 use Rattle.sled_core.proofs.Line.Among.{among_same}
 use Rattle.sled_core.proofs.Line.GivenUp.{given_sealed}
@@ -163,31 +167,38 @@ module _ {D C : Type 0} (trace : D → Trace) (sum : List ℕ → ℕ) (old new 
   pub sealed_fillings : AreAmong (fillings_of new) (fillings_of old)
   sealed_fillings = among_same (fillings_of new) (fillings_of old) (ap fillings_along line ∙ fillings_sealed v vs)
 
+  -- the same counts for nothing in the log file,
+  same_shown : ShowsSame size (machine_at old) (machine_at old) (line_of old) (at_last sealed_now (line_of old))
+  same_shown log =
+      let f = current_facts old in
+      cleared_line size (machine_at old) (machine_at old) (line_of old) (at_last sealed_now (line_of old)) log (λ k. refl)
+      (λ i. line_last size sealed_now v vs i (unwritten_sealed_now size (current_of old) i f.begins f.short))
+
   -- and the log holds and fits what it did.
   pub sealed_keeps : Preserves trace sum old new
   unfolding Holds Fits
   sealed_keeps = record {
     goes_on = goes_on_quietly trace sum old new (record { config = ap (λ (x : RunningConfig D C). x.config) rest.config; checksum = ap (λ (x : RunningConfig D C). x.checksum) rest.config })
         (ap (λ (x : RunningConfig D C). trace x.device) rest.config) (let same = sealed_synced in omega (arith, same)) (λ none. sym rest.fault ∙ none);
-    history = λ H holds. holds_as trace sum old new rest.config rest.fault (noted_in old) kept_noted (at_last sealed_now (line_of old)) line (machine_at old) machine H
+    history = λ H holds. holds_as trace sum old new rest.config rest.fault (noted_in old) kept_noted (at_last sealed_now (line_of old)) line (machine_at old) machine same_shown holds.file H
         (record {
-          holds = line_sealed sum size (state_of (trace (device_of old))) (fault_of old) (logged H) v vs its holds.holds;
+          holds = line_sealed sum size (shown_of trace old) (fault_of old) (logged H) v vs its holds.shows.holds;
           batches = batches_up (written_to (line_of old)) (written_to (at_last sealed_now (line_of old))) (line_end size (line_of old)) (line_end size (at_last sealed_now (line_of old))) (noted_in old) (logged H) (let same = kept_written v vs in omega (arith, same))
-              (let same = end_last size sealed_now (λ _. refl) v vs in omega (arith, same)) holds.batches;
-          slots = slots_sealed size (line_of old) (state_of (trace (device_of old))).log.bytes (fault_of old) (machine_at old) holds.slots;
+              (let same = end_last size sealed_now (λ _. refl) v vs in omega (arith, same)) holds.shows.batches;
+          slots = slots_sealed size (line_of old) (shown_of trace old).log.bytes (fault_of old) (machine_at old) holds.shows.slots;
         });
-    fits = λ H A f U fits. fits_as trace sum old new rest.config rest.fault (noted_in old) kept_noted (at_last sealed_now (line_of old)) line (machine_at old) machine H A f U rest.pins
+    fits = λ H A f U fits. fits_as trace sum old new rest.config rest.fault (noted_in old) kept_noted (at_last sealed_now (line_of old)) line (machine_at old) machine same_shown fits.file H A f U rest.pins
         (record {
-          reach = fits.reach;
-          parts = line_fits_sealed sum size (state_of (trace (device_of old))) (fault_of old) fits.reach (pins_of old) H A f U v vs its fits.parts;
+          reach = fits.shows.reach;
+          parts = line_fits_sealed sum size (shown_of trace old) (fault_of old) fits.shows.reach (pins_of old) H A f U v vs its fits.shows.parts;
           batches = batches_up (written_to (line_of old)) (written_to (at_last sealed_now (line_of old))) (line_end size (line_of old)) (line_end size (at_last sealed_now (line_of old))) (noted_in old) (logged H) (let same = kept_written v vs in omega (arith, same))
-              (let same = end_last size sealed_now (λ _. refl) v vs in omega (arith, same)) fits.batches;
-          slots = slots_sealed size (line_of old) (state_of (trace (device_of old))).log.bytes (fault_of old) (machine_at old) fits.slots;
-          whole = λ none zeros. subst (λ p. AreWhole sum size (state_of (trace (device_of old))).log.bytes (logged H) p (machine_at old)) (sym (first_at_last sealed_now (λ _. refl) (line_of old))) (fits.whole none zeros);
-          own = λ none zeros. own_sealed sum size (HeaderWasPlaced (state_of (trace (device_of old))).placed) (RecordWasPlaced sum size (state_of (trace (device_of old))).placed) (state_of (trace (device_of old))).log.bytes (line_of old) (fits.own none zeros);
-          account = fits.account;
-          numbers = λ zeros. subst (HasNumbers sum size (state_of (trace (device_of old))) (machine_at old)) (sym (end_at_last size sealed_now (λ _. refl) (line_of old))) (fits.numbers zeros);
-          in_slots = fits.in_slots;
+              (let same = end_last size sealed_now (λ _. refl) v vs in omega (arith, same)) fits.shows.batches;
+          slots = slots_sealed size (line_of old) (shown_of trace old).log.bytes (fault_of old) (machine_at old) fits.shows.slots;
+          whole = λ none zeros. subst (λ p. AreWhole sum size (shown_of trace old).log.bytes (logged H) p (machine_at old)) (sym (first_at_last sealed_now (λ _. refl) (line_of old))) (fits.shows.whole none zeros);
+          own = λ none zeros. own_sealed sum size (HeaderWasPlaced (shown_of trace old).placed) (RecordWasPlaced sum size (shown_of trace old).placed) (shown_of trace old).log.bytes (line_of old) (fits.shows.own none zeros);
+          account = fits.shows.account;
+          numbers = λ zeros. subst (HasNumbers sum size (shown_of trace old) (machine_at old)) (sym (end_at_last size sealed_now (λ _. refl) (line_of old))) (fits.shows.numbers zeros);
+          in_slots = fits.shows.in_slots;
         });
     noted = noted_later old new rest.noted (let same = sealed_synced in omega (arith, same));
     kept = kept_same old new rest.noted;

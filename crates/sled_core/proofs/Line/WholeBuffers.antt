@@ -11,9 +11,10 @@ use Rattle.sled_codec.specs.declared.serialization.message.MessageKind.TheVarian
 use Rattle.sled_codec.specs.History.{History, Message}
 use Rattle.sled_codec.specs.Places.{part}
 use Rattle.sled_codec.specs.Record.{short_header, short_record}
-use Rattle.sled_store.specs.Device.{State, Trace, state_of}
+use Rattle.sled_store.specs.Device.{State, Trace}
 use Rattle.sled_core.proofs.Line.Heads.{head_there}
 use Rattle.sled_core.specs.Fillings.{FillingAt, filling_of, fillings_along, fillings_in}
+use Rattle.sled_core.specs.inside.Shown.{shown_of}
 use Rattle.sled_core.specs.Heads.{HeadAt}
 use Rattle.sled_core.specs.Begun.{SegmentView, segment_view}
 use Rattle.sled_core.specs.inside.Buffers.{IsChain, SpellsBlob, Stands, StandsBy, text_as, text_in}
@@ -339,7 +340,7 @@ module _ {D C : Type 0} (trace : D → Trace) (sum : List ℕ → ℕ) (log : Lo
   size = log.config.config.segment_size
 
   abbrev device : State
-  device = state_of (trace log.config.device)
+  device = shown_of trace log
 
   -- What fills the current segment as it would be sealed begins where what was reserved ends.
   fills_here : is_short size (length (current_of log).parts.bytes) ≡ true → filling_at size (current_of log) ≡ record { next = sealing_end log; from = reserved_end log }
@@ -376,7 +377,7 @@ module _ {D C : Type 0} (trace : D → Trace) (sum : List ℕ → ℕ) (log : Lo
       let heads : List HeadAt = heads_of log in
       let fillings : List FillingAt = own_fillings log in
       along sum size given heads fillings log.segments.first.site.place (at_last (as_sealed sum size) line) (line_laid sum size log.segments.first.site.place line are)
-      (line_told sum size given heads fillings log.segments.first.site.place line are (each_told sum size given heads fillings line (λ n v there. segment_told holds.holds none n v there)))
+      (line_told sum size given heads fillings log.segments.first.site.place line are (each_told sum size given heads fillings line (λ n v there. segment_told holds.shows.holds none n v there)))
       (among_same (given_up_along (at_last (as_sealed sum size) line)) given
       (as_sealed_given sum size log.segments.first.site.place (segment_view log.segments.first) (map segment_view log.segments.behind.items) are))
       (as_sealed_fillings sum size (record { next = sealing_end log; from = reserved_end log }) (segment_view log.segments.first) (map segment_view log.segments.behind.items) fills_here)

@@ -24,6 +24,7 @@ use Rattle.sled_core.specs.inside.Lasting.{LeavesRecovering}
 use Rattle.sled_core.specs.inside.Reached.{StandsAmong, StandsActive}
 use Rattle.sled_core.specs.inside.LogFile.{padded}
 use Rattle.sled_core.specs.Ready.{IsReady}
+use Rattle.sled_core.specs.inside.Shown.{IsAsShown, shown}
 use Rattle.sled_core.specs.inside.Slots.{AreWhole, HasAccount}
 use Rattle.sled_core.specs.Running.{KeepsItem}
 
@@ -112,6 +113,12 @@ pub record FitsWith (sum : List ℕ → ℕ) (noted : List Batch) (size : ℕ) (
   pub numbers : NoHeaderOfZeros sum → HasNumbers sum size device m (line_end size line)
   -- what a table from the stable place on may need is in the slots
   pub in_slots : HaveSlotsFrom sum size device.snapshots.file H (stable_below reach H.batches) m
+
+-- So do those over a device of which so much is shown. What was placed, blobs and snapshots are those of the device itself.
+pub record FitsShown (sum : List ℕ → ℕ) (noted : List Batch) (size : ℕ) (device : State) (fault : Option IoError) (line : List SegmentView) (m : Machine)
+    (pins : ℕ) (H : History) (A f : ℕ) (U : List Message) : Type 0 where
+  pub shows : FitsWith sum noted size (shown size fault m line device) fault line m pins H A f U
+  pub file : IsAsShown size fault m line device.log
 
 -- Snapshot and device are ready for a log that fits this history, the end of what was acknowledged and the floor. Log file and snapshots have records and
 -- tables, so they are ready for the history as the log has it; the blobs have the items of the history itself.

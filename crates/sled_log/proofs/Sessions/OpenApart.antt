@@ -22,6 +22,7 @@ use Rattle.sled_core.specs.Manifests.{manifest_page}
 use Rattle.sled_core.specs.OwnBlobs.{AreBeside, IsBeside}
 use Rattle.sled_core.specs.Reading.{IsInline}
 use Rattle.sled_core.specs.Tickets.{index_of, is_manifest_of}
+use Rattle.sled_core.specs.inside.Shown.{shown_of}
 use Rattle.sled_core.proofs.Line.Ends.{holds_completed}
 use Rattle.sled_core.proofs.Holds.Facts.{nth_facts}
 use Rattle.sled_core.proofs.Logged.Messages.{adds_real}
@@ -46,8 +47,8 @@ unfolding Holds
 none_there trace sum log H holds ticket m awaits message =
     let v : SegmentView = awaits.segment in
     let r : Reserved = awaits.reserved in
-    let done = holds_completed sum log.config.config.segment_size (state_of (trace log.config.device)) log.fault.kept (line_of log) awaits.number v awaits.among log.segments.first.site.place (nth_facts log) (index_of ticket - v.gone) r awaits.there awaits.own.open_yet (machine_of log.accountant) (noted_in log)
-    (sym awaits.own.manifest ∙ message) (logged H) holds in
+    let done = holds_completed sum log.config.config.segment_size (shown_of trace log) log.fault.kept (line_of log) awaits.number v awaits.among log.segments.first.site.place (nth_facts log) (index_of ticket - v.gone) r awaits.there awaits.own.open_yet (machine_of log.accountant) (noted_in log)
+    (sym awaits.own.manifest ∙ message) (logged H) holds.shows in
     let real = adds_real H m done.0 (subst (λ (x : Message). AddsMessage (logged H) x done.0) (sym awaits.message) done.1) in
     put_apart H real.0 m real.1
 

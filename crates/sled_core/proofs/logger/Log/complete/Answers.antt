@@ -3,10 +3,10 @@ use Rattle.std.proofs.Common.{◌≡◌, ◌∙◌, ◌-◌, sym, subst, arith, 
 use Rattle.std.specs.Prelude.{unsigned_abs}
 use Rattle.sled_codec.specs.History.{AddsMessage, Message, Step}
 use Rattle.sled_store.specs.Accounts.{machine_of}
-use Rattle.sled_store.specs.Device.{state_of}
 use Rattle.sled_store.proofs.Marks.OutdatedSteps.{none_outdated}
 use Rattle.sled_store.proofs.Marks.TableLemmas.{apart_ascends}
 use Rattle.sled_core.specs.declared.iobuf.ReservationState.TheVariants.{Completed}
+use Rattle.sled_core.specs.inside.Shown.{shown_of}
 use Rattle.sled_core.specs.inside.Buffers.{completing}
 use Rattle.sled_core.specs.Fits.{Awaits, line_of, noted_in}
 use Rattle.sled_core.specs.invariants.Fits.{Holds}
@@ -79,14 +79,14 @@ returns-clause-history g c = λ H m holds awaits.
     let e = ended g c m awaits in
     let f = e.at in
     let i : ℕ = c.index-index.result - f.segment.gone in
-    let done = holds_completed g.C.Checksum.sum_of old.config.config.segment_size (state_of (g.D.Device.trace old.config.device))
+    let done = holds_completed g.C.Checksum.sum_of old.config.config.segment_size (shown_of g.D.Device.trace old)
     old.fault.kept (line_of old) n f.segment f.among
     old.segments.first.site.place (nth_facts old) i f.reserved f.there f.own.open_yet (machine_of old.accountant) (noted_in old)
-    (sym f.own.manifest ∙ c.requires.message) (logged H) holds in
-    let real = put_real (HoldsWith g.C.Checksum.sum_of (noted_in old) old.config.config.segment_size (state_of (g.D.Device.trace old.config.device)) old.fault.kept _ (machine_of old.accountant)) H m done.0 (subst (λ (x : Message). AddsMessage (logged H) x done.0) (sym awaits.message) done.1) done.2 in (
+    (sym f.own.manifest ∙ c.requires.message) (logged H) holds.shows in
+    let real = put_real (HoldsWith g.C.Checksum.sum_of (noted_in old) old.config.config.segment_size (shown_of g.D.Device.trace old) old.fault.kept _ (machine_of old.accountant)) H m done.0 (subst (λ (x : Message). AddsMessage (logged H) x done.0) (sym awaits.message) done.1) done.2 in (
       real.0,
       real.1,
-      ticket_holds e c.complete_in.ensures.rest g.D.Device.trace g.C.Checksum.sum_of real.0 real.2,
+      ticket_holds e c.complete_in.ensures.rest g.D.Device.trace g.C.Checksum.sum_of real.0 holds.file real.2,
     )
 
 pub returns-clause-fits : goal.returns-clause-fits
@@ -97,14 +97,14 @@ returns-clause-fits g c = λ H A f U m fits awaits stored may out.
     let e = ended g c m awaits in
     let its = e.at in
     let i : ℕ = c.index-index.result - its.segment.gone in
-    let done = fits_completed g.C.Checksum.sum_of old.config.config.segment_size (state_of (g.D.Device.trace old.config.device))
+    let done = fits_completed g.C.Checksum.sum_of old.config.config.segment_size (shown_of g.D.Device.trace old)
     old.fault.kept (line_of old) n its.segment its.among
     old.segments.first.site.place (nth_facts old) i its.reserved its.there its.own.open_yet (machine_of old.accountant) (noted_in old) m awaits.message
     stored.below stored.item (none_outdated old.config.config.segment_size H (machine_of old.accountant)
-    (apart_ascends H.messages (fits_apart g.D.Device.trace g.C.Checksum.sum_of old H A f U fits)) fits.account.outdated m may) (sym its.own.manifest ∙ c.requires.message) old.pins H A f U old.config.config.least c.in_default.is out fits in (
+    (apart_ascends H.messages (fits_apart g.D.Device.trace g.C.Checksum.sum_of old H A f U fits)) fits.shows.account.outdated m may) (sym its.own.manifest ∙ c.requires.message) old.pins H A f U old.config.config.least c.in_default.is out fits.shows in (
       done.0,
       done.1,
-      ticket_fits e c.complete_in.ensures.rest g.D.Device.trace g.C.Checksum.sum_of done.0 A f _ done.2,
+      ticket_fits e c.complete_in.ensures.rest g.D.Device.trace g.C.Checksum.sum_of done.0 A f _ fits.file done.2,
     )
 
 -- Other tickets stay, and nothing else changes.

@@ -1,20 +1,19 @@
 -- All that was reserved is written.
-use Rattle.std.proofs.Common.{◌≡◌, ◌∙◌, ◌∷◌, ◌≤◌, ap, ℕ, List, [], max, arith, refl, subst, sym}
+use Rattle.std.proofs.Common.{◌≡◌, ◌∙◌, ◌≤◌, ap, ℕ, List, max, arith, refl, subst, sym}
 use Rattle.sled_store.proofs.Traces.ScriptLemmas.{performs_nothing}
 use Rattle.std.proofs.lemmas.Result.{err_from_is_err_and}
 use Rattle.sled_codec.specs.declared.result.Error.TheVariants.{Io}
 use Rattle.sled_core.specs.declared.logger.Log.{Log}
-use Rattle.sled_core.specs.Fits.{FirstWaits, fault_of, noted_in, reserved_end, stable_end, start_of, synced_end, waiting_of}
+use Rattle.sled_core.specs.Fits.{fault_of, noted_in, reserved_end, stable_end, synced_end}
 use Rattle.sled_core.specs.Keeps.{LeavesAbove, SamePosition, sealed_for, start_for}
 use Rattle.sled_core.specs.LogStatus.{flushed, status_of}
 use Rattle.sled_core.specs.OpenBatches.{not_whole}
 use Rattle.sled_core.specs.Stable.{first_begin, stable_behind}
-use Rattle.sled_core.specs.Waiting.{BufferAt, BufferStart, not_below}
 use Rattle.sled_core.proofs.Line.Buffers.{first_left}
 use Rattle.sled_core.specs.invariants.Running.{Fits}
 use Rattle.sled_core.specs.Running.{end_below}
 use Rattle.sled_core.proofs.Line.KeptCalls.{log_still}
-use Rattle.sled_core.proofs.Holds.RunningLemmas.{fits-acknowledged}
+use Rattle.sled_core.proofs.Line.Shown.{fits_acknowledges}
 use Rattle.sled_core.proofs.Line.LineEnds.{stable_kept}
 use Rattle.sled_core.proofs.Line.NoneLeft.{all_stable, all_written}
 use Rattle.sled_core.proofs.Line.SealFirst.{still_came, writes_err, writes_none, writes_ok}
@@ -71,7 +70,7 @@ unfolding Fits
 returns-clause-acknowledges g c = λ H A f U fits.
     let later = c.write_below.ensures.keeps.preserves.fits H A f U fits in
     subst (λ n. Fits g.D.Device.trace g.C.Checksum.sum_of c.write_below.new.self H (max A (end_below n H)) f U) (stable g c)
-    (record { reach = later.reach; parts = fits-acknowledged g.C.Checksum.sum_of _ _ _ _ _ _ _ _ _ H A f U later.parts _ _ later.batches; batches = later.batches; slots = later.slots; whole = later.whole; own = later.own; account = later.account; numbers = later.numbers; in_slots = later.in_slots })
+    (fits_acknowledges _ _ _ _ _ _ _ _ _ H A f U later)
 
 pub returns-in-Some-clause-buffers : goal.returns-in-Some-clause-buffers
 returns-in-Some-clause-buffers g c =

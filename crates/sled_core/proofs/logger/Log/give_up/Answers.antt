@@ -7,11 +7,11 @@ use Rattle.sled_codec.specs.History.{Message}
 use Rattle.sled_codec.specs.Kinds.{code_of}
 use Rattle.sled_codec.specs.Places.{part}
 use Rattle.sled_store.specs.Accounts.{machine_of}
-use Rattle.sled_store.specs.Device.{state_of}
 use Rattle.sled_store.specs.declared.config.RunningConfig.{RunningConfig}
 use Rattle.sled_core.specs.declared.iobuf.ReservationState.TheVariants.{Canceled}
 use Rattle.sled_core.specs.declared.iobuf.Reserved.{Reserved}
 use Rattle.sled_core.specs.Begun.{SegmentView}
+use Rattle.sled_core.specs.inside.Shown.{shown_of}
 use Rattle.sled_core.specs.inside.Buffers.{Stands, canceling, SpellsBlob}
 use Rattle.sled_core.specs.Buffers.{body_in, item_as, pointer_as}
 use Rattle.sled_core.specs.Canceled.{canceled_record, IsBodyAt, IsBodyOf}
@@ -96,14 +96,14 @@ returns-clause-keeps g c =
     let i : ℕ = c.index-index.result - f.segment.gone in
     record {
       goes_on = ticket_goes_on (own g c) c.abort_in.ensures.rest g.D.Device.trace g.C.Checksum.sum_of;
-      history = λ H holds. ticket_holds (own g c) c.abort_in.ensures.rest g.D.Device.trace g.C.Checksum.sum_of H
-          (holds_aborted g.C.Checksum.sum_of old.config.config.segment_size (state_of (g.D.Device.trace old.config.device))
+      history = λ H holds. ticket_holds (own g c) c.abort_in.ensures.rest g.D.Device.trace g.C.Checksum.sum_of H holds.file
+          (holds_aborted g.C.Checksum.sum_of old.config.config.segment_size (shown_of g.D.Device.trace old)
           old.fault.kept (line_of old) n f.segment f.among
-          old.segments.first.site.place (nth_facts old) i f.reserved f.there f.own.open_yet (machine_of old.accountant) (noted_in old) (logged H) holds);
-      fits = λ H A r U fits. ticket_fits (own g c) c.abort_in.ensures.rest g.D.Device.trace g.C.Checksum.sum_of H A r U
-          (fits_aborted g.C.Checksum.sum_of old.config.config.segment_size (state_of (g.D.Device.trace old.config.device))
+          old.segments.first.site.place (nth_facts old) i f.reserved f.there f.own.open_yet (machine_of old.accountant) (noted_in old) (logged H) holds.shows);
+      fits = λ H A r U fits. ticket_fits (own g c) c.abort_in.ensures.rest g.D.Device.trace g.C.Checksum.sum_of H A r U fits.file
+          (fits_aborted g.C.Checksum.sum_of old.config.config.segment_size (shown_of g.D.Device.trace old)
           old.fault.kept (line_of old) n f.segment f.among
-          old.segments.first.site.place (nth_facts old) i f.reserved f.there f.own.open_yet (machine_of old.accountant) (noted_in old) old.pins H A r U fits);
+          old.segments.first.site.place (nth_facts old) i f.reserved f.there f.own.open_yet (machine_of old.accountant) (noted_in old) old.pins H A r U fits.shows);
       noted = ticket_left (own g c) c.abort_in.ensures.rest;
       kept = kept_same old c.abort_in.new.self c.abort_in.ensures.rest.noted;
     }
@@ -132,7 +132,7 @@ returns-clause-canceled g c = λ H m holds awaits.
     let now_size : c.abort_in.new.self.config.config.segment_size ≡ size = ap (λ (x : RunningConfig g.row.D.Denot g.row.C.Denot). x.config.segment_size) c.abort_in.ensures.rest.config in
     let place_is : m.place ≡ v.parts.site.place + r.from = ap (λ (x : Message). x.place) awaits.message in
     let size_is : m.size ≡ r.len = ap (λ (x : Message). x.size) awaits.message in
-    with_segment sum size (state_of (g.D.Device.trace old.config.device)) old.fault.kept (line_of old) c.segment_of-n.result v (logged H) holds.holds at (λ stays own segment.
+    with_segment sum size (shown_of g.D.Device.trace old) old.fault.kept (line_of old) c.segment_of-n.result v (logged H) holds.shows.holds at (λ stays own segment.
     let stands = reserved_in sum size (v.parts.site.place / size) v.parts.bytes r (open_plain r.state awaits.own.open_yet) (at_there (Stands sum size (v.parts.site.place / size) v.parts.bytes) v.parts.reserved i r its segment.records.stand) in
     let its_text = canceled_there sum size v.parts.site.place v.parts.bytes r segment.records.place_begins stands.room inside stands.text awaits.own.open_yet in
     let body : List ℕ = body_in v.parts.bytes r in

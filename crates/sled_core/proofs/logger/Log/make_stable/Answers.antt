@@ -16,7 +16,7 @@ use Rattle.sled_core.specs.OpenBatches.{behind_batch}
 use Rattle.sled_core.specs.Stable.{behind_place, held_for, target_for}
 use Rattle.sled_core.specs.declared.logger.Log.{Log}
 use Rattle.sled_core.proofs.Line.KeptCalls.{kept_still, position_still, tickets_still}
-use Rattle.sled_core.proofs.Holds.RunningLemmas.{fits-acknowledged}
+use Rattle.sled_core.proofs.Line.Shown.{fits_acknowledges}
 use Rattle.sled_core.proofs.Line.LineEnds.{stable_kept, stable_reached}
 use Rattle.sled_core.proofs.Line.SealFirst.{still_came, unused_already, writes_already, writes_err, writes_none, writes_ok}
 use Rattle.sled_core.proofs.Line.Places.{above_read, behind_read, behind_stable, done_as, held_up, holds_none, inside_read, reserved_in_reach, stable_answers, wrote_for}
@@ -175,7 +175,7 @@ pub returns-clause-acknowledges : goal.returns-clause-acknowledges
 unfolding Fits
 returns-clause-acknowledges g c = λ H A f U fits.
     let later = c.write_below.ensures.keeps.preserves.fits H A f U fits in
-    record { reach = later.reach; parts = fits-acknowledged g.C.Checksum.sum_of _ _ _ _ _ _ _ _ _ H A f U later.parts _ _ later.batches; batches = later.batches; slots = later.slots; whole = later.whole; own = later.own; account = later.account; numbers = later.numbers; in_slots = later.in_slots }
+    (fits_acknowledges _ _ _ _ _ _ _ _ _ H A f U later)
 
 pub returns-clause-answers : goal.returns-clause-answers
 returns-clause-answers g c =

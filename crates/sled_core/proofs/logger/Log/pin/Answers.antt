@@ -2,7 +2,7 @@ use Rattle.std.proofs.Common.{arith, refl}
 use Rattle.sled_core.specs.invariants.Fits.{Holds}
 use Rattle.sled_core.specs.invariants.Running.{Fits}
 use Rattle.sled_core.proofs.Line.KeptCalls.{goes_on_quietly}
-use Rattle.sled_core.proofs.Holds.RunningLemmas.{fits-pinned}
+use Rattle.sled_core.proofs.Line.Shown.{fits_pins}
 use Rattle.sled_core.proofs.Line.LineEnds.{noted_still}
 use Rattle.sled_core.proofs.logger.Log.pin.Goals as goal
 
@@ -11,7 +11,7 @@ unfolding Fits Holds
 returns-clause-keeps g c = record {
   goes_on = goes_on_quietly g.D.Device.trace g.C.Checksum.sum_of c.args.self.now _ (record { config = refl; checksum = refl }) refl (omega arith) (λ none. none);
   history = λ H holds. holds;
-  fits = λ H A f U fits. record { reach = fits.reach; parts = fits-pinned _ _ _ _ _ _ _ _ _ _ H A f U fits.parts _ U (λ some. omega arith); batches = fits.batches; slots = fits.slots; whole = fits.whole; own = fits.own; account = fits.account; numbers = fits.numbers; in_slots = fits.in_slots };
+  fits = λ H A f U fits. fits_pins _ _ _ _ _ _ _ _ _ H A f U fits _ (λ some. omega arith);
   noted = noted_still c.args.self.now;
   kept = omega arith;
 }

@@ -54,6 +54,7 @@ use Rattle.sled_core.specs.declared.iobuf.SegmentPosition.{SegmentPosition}
 use Rattle.sled_core.specs.invariants.Running.{Ready, Fits}
 use Rattle.sled_core.specs.inside.Running.{FitsIn, FitsLine}
 use Rattle.sled_store.proofs.Accounts.StartedFile.{started_file, started-log, started-snapshots, started-blobs}
+use Rattle.sled_core.proofs.Line.Shown.{fits_begun, holds_begun}
 use Rattle.sled_core.proofs.Line.NeededSlots.{newest_stable}
 use Rattle.sled_core.proofs.Start.StartedNumbers.{start_numbers}
 use Rattle.sled_core.proofs.Holds.FitsBatches.{batches_begun}
@@ -181,7 +182,7 @@ returns-in-Ok-clause-history g c = λ H ready.
     let names_now = ap (λ (t : Trace). (state_of t).snapshots.file) c.in-Ok.ensures.made ∙ ap (λ (n : NamesState). n.file) (started-snapshots size some old.log.bytes s (g.D.Device.trace c.args.config.device)) in
     let first = c.in-Ok.ensures.buffer in
     let holds = begins_ready g.C.Checksum.sum_of size old now s R c.in-Ok.buffer.bytes.items c.args.config.config.least of_log c.in-Ok.ensures.answers.0 log_now names_now c.in-Ok.beginning c.in-Ok.ensures.beginning first.header first.resumed in
-    record {
+    holds_begun g.C.Checksum.sum_of _ (let same = ap (λ (x : Config). x.segment_size) c.begin.ensures.config in omega (arith, some, same)) _ _ _ _ R (record {
       holds = subst (λ (ss : List SegmentBuffer). HoldsLine g.C.Checksum.sum_of c.begin.new.config.config.segment_size now None (line_at (record { place = c.in-Ok.beginning.place; slot = c.in-Ok.beginning.slot }) c.in-Ok.buffer ss) R) (sym c.no_segments.ensures)
           (subst (λ (n : ℕ). HoldsIn g.C.Checksum.sum_of (log_parts n (record { place = c.in-Ok.beginning.place; slot = c.in-Ok.beginning.slot }) now None c.in-Ok.buffer.bytes.items c.in-Ok.buffer.written_len c.in-Ok.buffer.sealed.items c.in-Ok.buffer.reserved.items) [] R)
           (sym (ap (λ (x : Config). x.segment_size) c.begin.ensures.config))
@@ -194,7 +195,7 @@ returns-in-Ok-clause-history g c = λ H ready.
           (begins_closed g.C.Checksum.sum_of size old now s R c.in-Ok.buffer.bytes.items c.args.config.config.least of_log c.in-Ok.ensures.answers.0 log_now names_now c.in-Ok.beginning c.in-Ok.ensures.beginning first.header first.resumed));
       slots = subst (λ (ss : List SegmentBuffer). HasSlots c.begin.new.config.config.segment_size (line_at (record { place = c.in-Ok.beginning.place; slot = c.in-Ok.beginning.slot }) c.in-Ok.buffer ss) now.log.bytes None (machine_of c.in-Ok.accountant)) (sym c.no_segments.ensures)
           (start_slots size (ap (λ (x : Config). x.segment_size) c.begin.ensures.config) some s old.log.bytes now.log.bytes c.in-Ok.ensures.answers.0 (ap (λ (l : LogState). l.bytes) log_now) (view_at (record { place = c.in-Ok.beginning.place; slot = c.in-Ok.beginning.slot }) c.in-Ok.buffer) (ap (λ (x : Beginning). record { place = x.place; slot = x.slot }) c.in-Ok.ensures.beginning) c.in-Ok.ensures.machine);
-    }
+    })
 
 pub returns-in-Ok-clause-crash : goal.returns-in-Ok-clause-crash
 returns-in-Ok-clause-crash g c = λ H A f ready. started_throughout g.C.Checksum.sum_of c.args.config.config.segment_size (model_of c.args.snapshot.now) H A f c.args.config.config.least
@@ -223,7 +224,7 @@ returns-in-Ok-clause-fits g c = λ H A f ready.
     (start_fits g.C.Checksum.sum_of size (state_of old) now s H A f c.args.config.config.least ready c.in-Ok.ensures.answers.0
     log_now (ap (λ (t : Trace). (state_of t).blobs) c.in-Ok.ensures.made ∙ started-blobs size some (state_of old).log.bytes s old) (ap (λ (t : Trace). (state_of t).snapshots) c.in-Ok.ensures.made ∙ started-snapshots size some (state_of old).log.bytes s old)
     c.in-Ok.beginning c.in-Ok.ensures.beginning c.in-Ok.buffer.bytes.items c.in-Ok.buffer.written_len c.in-Ok.buffer.sealed.items c.in-Ok.buffer.reserved.items first.header first.resumed first.from first.sealed first.reserved)) in
-    record {
+    fits_begun g.C.Checksum.sum_of _ (omega (arith, some, same)) _ _ _ _ _ H A f [] (record {
       reach = c.in-Ok.beginning.place + c.in-Ok.beginning.offset;
       parts = parts;
       batches = started_batches c.begin.new.config.config.segment_size (view_at (record { place = c.in-Ok.beginning.place; slot = c.in-Ok.beginning.slot }) c.in-Ok.buffer) (map segment_view c.no_segments.result.items) (logged H) c.new-in-Ok.ensures.noted
@@ -246,12 +247,12 @@ returns-in-Ok-clause-fits g c = λ H A f ready.
           (ap (λ (x : Beginning). record { place = x.place; slot = x.slot }) c.in-Ok.ensures.beginning) (first.from ∙ offset) first.sealed)));
       account = start_account g.C.Checksum.sum_of size some (state_of old) s H A f ready c.in-Ok.ensures.answers.0 same now.snapshots.file names c.in-Ok.ensures.machine;
       numbers = λ zeros. subst (λ (ss : List SegmentBuffer). HasNumbers g.C.Checksum.sum_of c.begin.new.config.config.segment_size now (machine_of c.in-Ok.accountant)
-              (line_end c.begin.new.config.config.segment_size (line_at site c.in-Ok.buffer ss))) (sym c.no_segments.ensures)
+          (line_end c.begin.new.config.config.segment_size (line_at site c.in-Ok.buffer ss))) (sym c.no_segments.ensures)
           (start_numbers g.C.Checksum.sum_of size c.args.config.config.least zeros old (g.D.Device.trace c.begin.new.config.device) s H A f ready c.in-Ok.ensures.answers.0 c.begin.ensures.calls
           log_now same c.in-Ok.ensures.machine (view_at site c.in-Ok.buffer) (ap (λ (x : Beginning). record { place = x.place; slot = x.slot }) c.in-Ok.ensures.beginning));
       in_slots = start_in_slots g.C.Checksum.sum_of size some (state_of old) s H A f ready c.in-Ok.ensures.answers.0 same now.snapshots.file names c.in-Ok.ensures.machine _
           (λ newest begins zeros. newest_stable g.C.Checksum.sum_of c.begin.new.config.config.segment_size now None refl (line_at site c.in-Ok.buffer c.no_segments.result.items) (c.in-Ok.beginning.place + c.in-Ok.beginning.offset) 0 H A f [] parts zeros newest begins);
-    }
+    })
 
 -- damage comes only where a log can't begin
 not_damaged : (e : Error) (startable in_reach unwritten : Type 0) (before after : ℕ) → StartRefuses e startable in_reach unwritten before after → IsCorrupt e → startable → ⊥

@@ -18,8 +18,8 @@ use Rattle.sled_core.specs.inside.FreeSlots.{HasSlot}
 use Rattle.sled_core.specs.inside.LogFile.{padded}
 use Rattle.sled_core.specs.inside.SealedBuffers.{behind_run, one_ended, one_fewer, run_end, written_at}
 use Rattle.sled_core.specs.inside.Turned.{promoted, written_now}
-use Rattle.sled_core.proofs.Freed.Cleared.{LineRises, OthersBeside, between_is, between_not, cleared_same, in_own, line_none, slot_is, unwritten_high, unwritten_low, zeroed_beside, zeroed_get, zeroed_long, zeroed_same, zeroed_there}
-use Rattle.sled_core.proofs.Freed.Emptied.{IsEmptied}
+use Rattle.sled_core.proofs.Cleared.Offsets.{LineRises, OthersBeside, between_is, between_not, cleared_same, in_own, line_none, slot_is, unwritten_high, unwritten_low, zeroed_beside, zeroed_get, zeroed_long, zeroed_same, zeroed_there}
+use Rattle.sled_core.proofs.Cleared.Emptied.{IsEmptied}
 use Rattle.sled_core.proofs.Reserve.Ranges.{there_split}
 use Rattle.sled_core.proofs.Sealed.LaidLemmas.{EndsRise}
 use Rattle.sled_core.proofs.Sealed.OneWritten.{overwritten_beside, overwritten_inside, rises_at}

@@ -19,9 +19,9 @@ use Rattle.sled_core.specs.inside.FreeSlots.{HasSlot}
 use Rattle.sled_core.specs.inside.SealedBuffers.{behind_run, run_end, written_at}
 use Rattle.sled_core.specs.inside.Turned.{begun_view, ended_now, next_line, promoted, reserved_now, written_now}
 use Rattle.sled_core.specs.invariants.Caps.{segment_rest}
-use Rattle.sled_core.proofs.Freed.Cleared.{LineRises, OthersBeside}
-use Rattle.sled_core.proofs.Freed.ClearedMoves.{cleared_begun, cleared_emptied, cleared_line, cleared_promoted, cleared_written, line_last, line_set, unwritten_ended, unwritten_sealed}
-use Rattle.sled_core.proofs.Freed.Emptied.{IsEmptied}
+use Rattle.sled_core.proofs.Cleared.Offsets.{LineRises, OthersBeside}
+use Rattle.sled_core.proofs.Cleared.Moves.{cleared_begun, cleared_emptied, cleared_line, cleared_promoted, cleared_written, line_last, line_set, unwritten_ended, unwritten_sealed}
+use Rattle.sled_core.proofs.Cleared.Emptied.{IsEmptied}
 use Rattle.sled_core.proofs.Reached.CapStands.{length-segment_rest}
 use Rattle.sled_core.proofs.Sealed.LaidLemmas.{EndsRise}
 use Rattle.sled_core.proofs.Start.OwnSlots.{handed_other}

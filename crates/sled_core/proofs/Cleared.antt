@@ -1,0 +1,5 @@
+pub mod Calls
+pub mod Emptied
+pub mod Moves
+pub mod Offsets
+pub mod Shown

@@ -1,0 +1,151 @@
+-- What a log shows of its device: where a call leaves that, what is held and fitted over it is held and fitted by the log behind the call. As yet it is the
+-- device itself.
+use Rattle.std.specs.declared.io.Error.{Error as IoError}
+use Rattle.std.proofs.Common.{◌≡◌, ◌≢◌, ◌∙◌, ◌+◌, ◌*◌, ◌<◌, ℕ, zero, suc, max, List, [], ◌∷◌, Option, Some, None, refl, sym, ap, subst, arith, inl, inr}
+use Rattle.std.specs.List.{slice_get}
+use Rattle.std.proofs.Math.Nat.{suc-mul}
+use Rattle.std.proofs.lemmas.Bool.{cases_order}
+use Rattle.sled_codec.specs.History.{Batch, History, Message}
+use Rattle.sled_store.specs.Device.{LogState, State, at_rest}
+use Rattle.sled_store.specs.SegmentStates.{Machine}
+use Rattle.sled_store.proofs.Segments.FilledLemmas.{slot_before}
+use Rattle.sled_core.specs.Begun.{SegmentView}
+use Rattle.sled_core.specs.Logged.{logged}
+use Rattle.sled_core.specs.OpenBatches.{stable_below}
+use Rattle.sled_core.specs.Running.{end_below}
+use Rattle.sled_core.specs.inside.Fits.{HoldsLine, HoldsShown, HoldsWith}
+use Rattle.sled_core.specs.inside.FreeSlots.{HasSlot, HasSlots}
+use Rattle.sled_core.specs.inside.Running.{FitsShown, FitsWith}
+use Rattle.sled_core.specs.inside.Shown.{IsAsShown, shown}
+use Rattle.sled_core.proofs.Cleared.Offsets.{LineRises, OthersBeside, cleared_itself, segments_apart}
+use Rattle.sled_core.proofs.Cleared.Shown.{ShowsSame, as_shown_same, shown_is, shown_same}
+use Rattle.sled_core.proofs.Holds.RunningLemmas.{fits-acknowledged, fits-pinned}
+use Rattle.sled_core.proofs.Line.Ends.{line_holds, with_part}
+use Rattle.sled_core.proofs.Line.Segments.{AreSegments, nth_segment}
+use Rattle.sled_core.proofs.Sealed.Ended.{ends_rise, ends_up}
+
+-- where the n-th of segments one behind another begins
+pub nth_at : (size place : ℕ) (vs : List SegmentView) → AreSegments size place vs → (n : ℕ) (u : SegmentView) → slice_get vs n ≡ Some u
+    → u.parts.site.place ≡ place + n * size
+nth_at size place [] are n u there = cc
+nth_at size place (x ∷ xs) are zero u there =
+    let same : x ≡ u = cc in
+    let at = are.0.at in
+    omega (arith, at, ap (λ (y : SegmentView). y.parts.site.place) same)
+nth_at size place (x ∷ xs) are (suc n) u there = let rest = nth_at size (place + size) xs are.1 n u there in omega (arith, rest, suc-mul n size)
+
+-- Each one's buffers end one behind another.
+pub line_rises : (size place : ℕ) (line : List SegmentView) → AreSegments size place line → LineRises size line
+line_rises size place line are j u at =
+    let s = nth_segment size place line are j u at in
+    let up = ends_up u.parts.written_len u.parts.reserved u.parts.sealed s.are in
+    let begins = s.begins in
+    let short = s.short in
+    ends_rise u.parts.written_len u.parts.reserved u.parts.sealed size s.are (omega (arith, up, begins, short)) (omega (arith, begins, short))
+
+-- They lie beside one another.
+pub others_beside : (size : ℕ) → 0 < size → (m : Machine) (place : ℕ) (line : List SegmentView) → AreSegments size place line
+    → ((j : ℕ) (w : SegmentView) → slice_get line j ≡ Some w → HasSlot size m w)
+    → (n : ℕ) (u : SegmentView) → slice_get line n ≡ Some u → OthersBeside size line n u
+others_beside size some m place line are taken n u at j w at_j differs =
+    segments_apart size m w u (taken j w at_j) (taken n u at) (λ same. elim (cases_order j n) [
+      | inl is ↦ differs is
+      | inr (inl lower) ↦ (
+          let far = slot_before size j n lower in omega (arith, far, some, same, nth_at size place line are j w at_j, nth_at size place line are n u at))
+      | inr (inr higher) ↦ (
+          let far = slot_before size n j higher in omega (arith, far, some, same, nth_at size place line are j w at_j, nth_at size place line are n u at))
+    ])
+
+-- Where the same counts for nothing, what is held and fitted over what was shown is so over what is shown.
+module _ (sum : List ℕ → ℕ) (noted : List Batch) (size : ℕ) (device : State) (fault : Option IoError) (m m' : Machine) (line line' : List SegmentView)
+    (same : ShowsSame size m m' line line') (file : IsAsShown size fault m line device.log) where
+  pub holds_shown : (H : History) → HoldsWith sum noted size (shown size fault m line device) fault line' m' H
+      → HoldsShown sum noted size device fault line' m' H
+  holds_shown H holds = record {
+    shows = subst (λ (d : State). HoldsWith sum noted size d fault line' m' H) (sym (shown_same size fault m m' line line' same device)) holds;
+    file = as_shown_same size fault m m' line line' same device.log file;
+  }
+
+  pub fits_shown : (pins : ℕ) (H : History) (A f : ℕ) (U : List Message)
+      → FitsWith sum noted size (shown size fault m line device) fault line' m' pins H A f U → FitsShown sum noted size device fault line' m' pins H A f U
+  fits_shown pins H A f U fits = record {
+    shows = subst (λ (d : State). FitsWith sum noted size d fault line' m' pins H A f U) (sym (shown_same size fault m m' line line' same device)) fits;
+    file = as_shown_same size fault m m' line line' same device.log file;
+  }
+
+-- As yet it is so over the device itself.
+module _ (sum : List ℕ → ℕ) (noted : List Batch) (size : ℕ) (device : State) (fault : Option IoError) (m : Machine) (line : List SegmentView) where
+  pub holds_real : (H : History) → HoldsShown sum noted size device fault line m H → HoldsWith sum noted size device fault line m H
+  holds_real H holds = subst (λ (d : State). HoldsWith sum noted size d fault line m H) (shown_is size fault m line device holds.file) holds.shows
+
+  pub fits_real : (pins : ℕ) (H : History) (A f : ℕ) (U : List Message) → FitsShown sum noted size device fault line m pins H A f U
+      → FitsWith sum noted size device fault line m pins H A f U
+  fits_real pins H A f U fits =
+      subst (λ (d : State). FitsWith sum noted size d fault line m pins H A f U) (shown_is size fault m line device fits.file) fits.shows
+
+-- A log that holds a history over its device, as one does that begins, shows the device itself.
+module _ (sum : List ℕ → ℕ) (size : ℕ) (some : 0 < size) (device : State) (m : Machine) (line : List SegmentView) where
+  begins_shown : (H : History) → HoldsLine sum size device None line H → HasSlots size line device.log.bytes None m
+      → IsAsShown size None m line device.log
+  begins_shown H holds slots = record {
+    rests = λ none. settled line holds;
+    same = λ none. cleared_itself size some m line device.log.bytes (slots.zeros refl)
+        (λ n v there. with_part sum size device None line n v H holds there (λ stays own segment. segment.laid refl));
+  } where
+    settled : (vs : List SegmentView) → HoldsLine sum size device None vs H → device.log ≡ at_rest device.log.bytes
+    settled [] held = absurd held
+    settled (v ∷ vs) held =
+        let on = held.own.written refl in
+        on.settled ∙ ap at_rest (sym (ap (λ (x : LogState). x.bytes) on.settled))
+
+  module _ (noted : List Batch) where
+    pub holds_begun : (H : History) → HoldsWith sum noted size device None line m H → HoldsShown sum noted size device None line m H
+    holds_begun H holds =
+        let file = begins_shown H holds.holds holds.slots in
+        record { shows = subst (λ (d : State). HoldsWith sum noted size d None line m H) (sym (shown_is size None m line device file)) holds; file = file }
+
+    pub fits_begun : (pins : ℕ) (H : History) (A f : ℕ) (U : List Message) → FitsWith sum noted size device None line m pins H A f U
+        → FitsShown sum noted size device None line m pins H A f U
+    fits_begun pins H A f U fits =
+        let file = begins_shown (logged H) (line_holds sum size device None line fits.reach pins H A f U fits.parts) fits.slots in
+        record {
+          shows = subst (λ (d : State). FitsWith sum noted size d None line m pins H A f U) (sym (shown_is size None m line device file)) fits;
+          file = file;
+        }
+
+-- Of segments of which there is one: another count of pins fits, where one is out while there are messages that aren't marked,
+module _ (sum : List ℕ → ℕ) (noted : List Batch) (size : ℕ) (device : State) (fault : Option IoError) (v : SegmentView) (vs : List SegmentView) (m : Machine)
+    (pins : ℕ) (H : History) (A f : ℕ) (U : List Message) (fits : FitsShown sum noted size device fault (v ∷ vs) m pins H A f U) where
+  pub fits_pins : (now : ℕ) → (U ≢ [] → 0 < now) → FitsShown sum noted size device fault (v ∷ vs) m now H A f U
+  fits_pins now out = record {
+    shows = record {
+      reach = fits.shows.reach;
+      parts = fits-pinned _ _ _ _ _ _ _ _ _ _ H A f U fits.shows.parts now U out;
+      batches = fits.shows.batches;
+      slots = fits.shows.slots;
+      whole = fits.shows.whole;
+      own = fits.shows.own;
+      account = fits.shows.account;
+      numbers = fits.shows.numbers;
+      in_slots = fits.shows.in_slots;
+    };
+    file = fits.file;
+  }
+
+  -- and all below the stable end counts as acknowledged.
+  pub fits_acknowledges : FitsShown sum noted size device fault (v ∷ vs) m pins H
+      (max A (end_below (stable_below (v.parts.site.place + v.parts.written_len) noted) H)) f U
+  fits_acknowledges = record {
+    shows = record {
+      reach = fits.shows.reach;
+      parts = fits-acknowledged _ _ _ _ _ _ _ _ _ _ H A f U fits.shows.parts _ _ fits.shows.batches;
+      batches = fits.shows.batches;
+      slots = fits.shows.slots;
+      whole = fits.shows.whole;
+      own = fits.shows.own;
+      account = fits.shows.account;
+      numbers = fits.shows.numbers;
+      in_slots = fits.shows.in_slots;
+    };
+    file = fits.file;
+  }

@@ -1,0 +1,117 @@
+-- A buffer is written and synced: what is shown is written over with the same bytes, and the file is as shown still.
+use Rattle.std.specs.declared.io.Error.{Error as IoError}
+use Rattle.std.proofs.Common.{◌≡◌, ◌∙◌, ◌+◌, ◌≤◌, ℕ, suc, true, List, length, set, take, drop, Option, Some, None, refl, sym, ap, subst, arith}
+use Rattle.std.specs.List.{slice_get}
+use Rattle.sled_codec.specs.History.{History, Message}
+use Rattle.sled_store.specs.Device.{State, at_rest, overwritten}
+use Rattle.sled_store.specs.SegmentStates.{Machine}
+use Rattle.sled_core.specs.Begun.{SegmentView}
+use Rattle.sled_core.specs.OpenBatches.{stable_below}
+use Rattle.sled_core.specs.declared.iobuf.Sealed.{Sealed}
+use Rattle.sled_core.specs.inside.Cleared.{cleared}
+use Rattle.sled_core.specs.inside.Fits.{HoldsLine}
+use Rattle.sled_core.specs.inside.FreeSlots.{HasSlot, HasSlots}
+use Rattle.sled_core.specs.inside.Lasting.{LeavesRecovering}
+use Rattle.sled_core.specs.inside.Running.{FitsLine}
+use Rattle.sled_core.specs.inside.SealedBuffers.{is_ready}
+use Rattle.sled_core.specs.inside.Shown.{IsAsShown, shown, shown_log}
+use Rattle.sled_core.specs.inside.Turned.{promoted, written_now}
+use Rattle.sled_core.proofs.Blobs.Over.{fits_line_over, line_over, with_rest}
+use Rattle.sled_core.proofs.Blobs.StaysOwn.{own_same}
+use Rattle.sled_core.proofs.Cleared.Calls.{cleared_write}
+use Rattle.sled_core.proofs.Cleared.Shown.{shown_is, with_log}
+use Rattle.sled_core.proofs.Line.Segments.{AreSegments, nth_segment}
+use Rattle.sled_core.proofs.Line.Shown.{line_rises, others_beside}
+use Rattle.sled_core.proofs.Line.Writes.{buffer_begin, buffer_bytes, buffer_synced, rises}
+use Rattle.sled_core.proofs.Reserve.Ranges.{at_there, there_split}
+use Rattle.sled_core.proofs.Sealed.LaidLemmas.{EndsRise}
+use Rattle.sled_core.proofs.Sealed.OneWritten.{length-between, rises_at}
+
+module _ (sum : List ℕ → ℕ) (size : ℕ) (big : 256 ≤ size) (device : State) (fault : Option IoError) (whole : fault ≡ None) (v : SegmentView) (k : ℕ)
+    (b : Sealed) (there : slice_get v.parts.sealed k ≡ Some b) (ready : is_ready b ≡ true) (place : ℕ) (line : List SegmentView)
+    (are : AreSegments size place line) (n : ℕ) (among : slice_get line n ≡ Some v) (m : Machine) (log : List ℕ)
+    (slots : HasSlots size line log fault m) where
+  -- what is shown before, the segments that are left, and the device behind the calls
+  abbrev pub sees : State
+  sees = shown size fault m line device
+
+  abbrev pub left : List SegmentView
+  left = promoted size (set line n (written_now k v))
+
+  abbrev pub after : State
+  after = buffer_synced sum size big device fault whole v k b there ready
+
+  abbrev pub sees_after : State
+  sees_after = buffer_synced sum size big sees fault whole v k b there ready
+
+  abbrev at : ℕ
+  at = v.parts.site.slot + buffer_begin sum size big device fault whole v k b there ready
+
+  abbrev bytes : List ℕ
+  bytes = buffer_bytes sum size big device fault whole v k b there ready
+
+  -- The bytes are those of the buffer.
+  bytes_long : buffer_begin sum size big device fault whole v k b there ready + length bytes ≡ b.end
+  bytes_long =
+      let is = nth_segment size place line are n v among in
+      let row = rises_at v.parts.written_len (take k v.parts.sealed) b (drop (suc k) v.parts.sealed) (length v.parts.bytes)
+      (subst (λ (cs : List Sealed). EndsRise v.parts.written_len cs (length v.parts.bytes)) (there_split v.parts.sealed k b there)
+      (rises sum size big device fault whole v k b there ready v.parts.site.place is)) in
+      let long = length-between v.parts.bytes (buffer_begin sum size big device fault whole v k b there ready) b.end row.2 in
+      omega (arith, long, row.1)
+
+  -- The cleared file is written over as the file is,
+  pub cleared_behind : (file : List ℕ) → cleared size m left (overwritten file at bytes) ≡ overwritten (cleared size m line file) at bytes
+  cleared_behind file =
+      cleared_write size m line file n v among k b there (at_there (HasSlot size m) line n v among slots.taken) (line_rises size place line are)
+      (others_beside size (omega (arith, big)) m place line are (λ j u at_j. at_there (HasSlot size m) line j u at_j slots.taken) n v among)
+      bytes bytes_long
+
+  -- so what is shown is,
+  pub shown_written : (now : Option IoError) → now ≡ None → (shown size now m left after).log ≡ sees_after.log
+  shown_written now none = by now none fault whole where
+    by : (o : Option IoError) → o ≡ None → (p : Option IoError) → p ≡ None
+        → shown_log size o m left after.log ≡ at_rest (overwritten (shown_log size p m line device.log).bytes at bytes)
+    by None is None was = ap at_rest (cleared_behind device.log.bytes)
+    by None is (Some e) was = cc
+    by (Some e) is p was = cc
+
+  -- and the file is as shown.
+  pub written_as_shown : (now : Option IoError) → IsAsShown size fault m line device.log → IsAsShown size now m left after.log
+  written_as_shown now file = record {
+    rests = λ none. refl;
+    same = λ none. cleared_behind device.log.bytes ∙ ap (λ (l : List ℕ). overwritten l at bytes) (file.same whole);
+  }
+
+  -- Behind the calls what is shown differs in what was placed alone, as the bytes of the file itself are noted with that. As yet it is the same.
+  pub settled_same : (now : Option IoError) → IsAsShown size fault m line device.log → shown size now m left after ≡ sees_after
+  settled_same now file =
+      shown_is size now m left after (written_as_shown now file)
+      ∙ ap (λ (s : State). buffer_synced sum size big s fault whole v k b there ready) (sym (shown_is size fault m line device file))
+
+  module _ (now : Option IoError) (none : now ≡ None) where
+    abbrev pub shown_now : State
+    shown_now = shown size now m left after
+
+    -- the device that the lemmas on a write speak of, with what was placed on the device itself
+    moved : with_rest sees_after shown_now ≡ shown_now
+    moved = ap (with_log shown_now) (sym (shown_written now none))
+
+    -- What segments hold over the one they hold over the other,
+    pub holds_moved : (later : Option IoError) (vs : List SegmentView) (H : History) → HoldsLine sum size sees_after later vs H
+        → HoldsLine sum size shown_now later vs H
+    holds_moved later vs H holds =
+        subst (λ (s : State). HoldsLine sum size s later vs H) moved (line_over sum size sees_after shown_now later refl vs H holds)
+
+    -- and what they fit they fit, where what a crash leaves can be recovered.
+    pub fits_moved : (later : Option IoError) (vs : List SegmentView) (reach pins : ℕ) (H : History) (A f : ℕ) (U : List Message)
+        → LeavesRecovering sum size H (stable_below reach H.batches) f shown_now
+        → FitsLine sum size sees_after later vs reach pins H A f U → FitsLine sum size shown_now later vs reach pins H A f U
+    fits_moved later vs reach pins H A f U can fits =
+        subst (λ (s : State). FitsLine sum size s later vs reach pins H A f U) moved
+        (fits_line_over sum size sees_after shown_now later refl H A f U
+        (λ first named. record {
+          names = named.names;
+          own_names = λ ok. own_same sum sees_after (with_rest sees_after shown_now) refl refl (named.own_names ok);
+        })
+        vs reach pins (λ items. items, λ was. subst (LeavesRecovering sum size H (stable_below reach H.batches) f) (sym moved) can) fits)
