@@ -1,3 +1,4 @@
+pub mod AccountBehind
 pub mod Accounts
 pub mod ActiveSegments
 pub mod Advanced

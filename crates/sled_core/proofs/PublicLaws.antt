@@ -45,6 +45,9 @@ use Rattle.sled_core.specs.Keeps.{Preserves}
 use Rattle.sled_core.specs.OpenBatches.{stable_below}
 use Rattle.sled_core.proofs.Line.LineEnds.{stable_kept}
 use Rattle.sled_core.proofs.Reached.StableBelow.{stable_low}
+use Rattle.sled_codec.specs.Record.{IsHeader}
+use Rattle.sled_core.specs.HeaderMark.{mark_at}
+use Rattle.sled_core.proofs.Reached.ReadMark.{header_mark}
 pub use Rattle.sled_core.proofs.Holds.LastEnds.{message_acknowledged, batch_acknowledged, acknowledged_least}
 pub use Rattle.sled_core.proofs.Holds.LessClaimed.{fits_claimed, leaves_claimed, ready_claimed, recoverable_claimed}
 pub use Rattle.sled_core.proofs.Holds.ReachLemmas.{fits_holds, fits_stable, fits_reach, fits_apart, awaited, awaited_small, inline_stored, reserved_small}
@@ -84,6 +87,10 @@ first_same s s' begin begin' (b ∷ bs) [] first first' same begins = cc
 pub synced_as_first : {D C : Type 0} (old new : Log D C) → waiting_of new ≡ waiting_of old → start_of new ≡ start_of old → synced_end new ≡ synced_end old
 synced_as_first old new waiting start =
     first_same (synced_end old) (synced_end new) (current_begin old) (current_begin new) (waiting_of old) (waiting_of new) (first_waits old) (first_waits new) waiting (ap (λ (s : BufferStart). s.place) start)
+
+-- The mark of a buffer that begins with a header is the header's.
+pub mark_read : (sum : List ℕ → ℕ) (bytes rest : List ℕ) (lsn mark : ℤ) → IsHeader sum bytes lsn mark → mark_at 0 (bytes ++ rest) ≡ Some mark
+mark_read sum bytes rest lsn mark header = header_mark sum bytes rest lsn mark header
 
 -- Where no reservation was open, none is as long as nothing is another.
 pub unchanged_ended : {D C : Type 0} (old new : Log D C) → IsUnchanged old new → NoneOpen old → NoneOpen new

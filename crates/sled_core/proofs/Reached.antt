@@ -9,6 +9,7 @@ pub mod KeptStands
 pub mod LeftBeside
 pub mod LongerStands
 pub mod Marks
+pub mod MarksRaise
 pub mod MetWritten
 pub mod NextSegment
 pub mod NotedSteps
@@ -19,6 +20,7 @@ pub mod PutIn
 pub mod Raised
 pub mod ReachedCut
 pub mod ReachedEntries
+pub mod ReadMark
 pub mod ReadOn
 pub mod Recoverable
 pub mod Reread

@@ -19,6 +19,7 @@ use Rattle.sled_core.specs.declared.iobuf.SegmentPosition.{SegmentPosition}
 use Rattle.sled_core.specs.declared.reservation.Reservation.{Reservation}
 use Rattle.sled_core.specs.declared.logger.Log.{Log}
 use Rattle.sled_store.specs.declared.config.RunningConfig.{RunningConfig}
+use Rattle.sled_core.specs.Account.{account_of}
 use Rattle.sled_core.specs.Begun.{SegmentView, begin_of, line_in, segment_view}
 use Rattle.sled_core.specs.Buffers.{pointer_as, message_in, none_open, open_in, first_open_in}
 use Rattle.sled_core.specs.Among.{AreAmong}
@@ -343,6 +344,7 @@ pub record IsUnchanged {D C : Type 0} (old new : Log D C) : Type 0 where
   pub reserved : new.reserved_to ≡ old.reserved_to
   pub fault : new.fault.kept ≡ old.fault.kept
   pub pins : new.pins ≡ old.pins
+  pub marks : new.marks ≡ old.marks
   pub machine : machine_at new ≡ machine_at old
   pub noted : noted_in new ≡ noted_in old
   pub kept : kept_batches new ≤ kept_batches old
@@ -365,6 +367,7 @@ pub record KeepsAll {D C : Type 0} (old new : Log D C) : Type 0 where
   pub kept : kept_batches new ≤ kept_batches old
   pub fault : fault_of new ≡ fault_of old
   pub pins : pins_of new ≡ pins_of old
+  pub account : account_of new ≡ account_of old
 
 -- the sealed buffers that aren't on the device lie where they lay, and the current one begins where it did
 pub record KeepsBuffers {D C : Type 0} (old new : Log D C) : Type 0 where

@@ -4,6 +4,7 @@ use Rattle.sled_codec.specs.declared.result.Error.{Error}
 use Rattle.sled_codec.specs.declared.result.Error.TheVariants.{Io}
 use Rattle.sled_store.specs.Device.{Event, Trace, Synced}
 use Rattle.sled_store.specs.Script.{after_all}
+use Rattle.sled_core.specs.Account.{account_behind, account_of}
 use Rattle.sled_core.specs.declared.logger.Log.{Log}
 use Rattle.sled_core.specs.Fits.{current_begin, device_of, fault_of, flushing, reserved_end, start_of, synced_end, waiting_of, writing_below}
 use Rattle.sled_core.specs.Keeps.{sealed_for, start_for}
@@ -24,12 +25,14 @@ WritesWhole count es old new = new ≡ after_all (take (2 * count) es) old
 pub record WroteNone {D C : Type 0} (trace : D → Trace) (old new : Log D C) : Type 0 where
   pub synced : syncs (trace (device_of new)) ≡ syncs (trace (device_of old))
   pub still : fault_of new ≡ None → trace (device_of new) ≡ trace (device_of old)
+  pub account : account_of new ≡ account_of old
 
 -- Those that begin below a place are sealed, and so many at the front were written; unless the device failed no other call was made.
 pub record WroteFront {D C : Type 0} (trace : D → Trace) (sum : List ℕ → ℕ) (to : ℕ) (old new : Log D C) : Type 0 where
   pub count : ℕ
   pub left : waiting_of new ≡ drop count (sealed_for sum to old)
   pub start : start_of new ≡ start_for to old
+  pub account : account_of new ≡ account_behind (take count (sealed_for sum to old)) (account_of old)
   pub synced : syncs (trace (device_of new)) ≡ count + syncs (trace (device_of old))
   pub whole : fault_of new ≡ None → WritesWhole count (writing_below sum old to) (trace (device_of old)) (trace (device_of new))
   -- not all is written that begins below the place
@@ -40,6 +43,7 @@ pub record SealedNone {D C : Type 0} (trace : D → Trace) (to : ℕ) (old new :
   pub fault : fault_of new ≡ fault_of old
   pub waiting : waiting_of new ≡ waiting_of old
   pub start : start_of new ≡ start_of old
+  pub account : account_of new ≡ account_of old
   pub still : trace (device_of new) ≡ trace (device_of old)
   pub due : fault_of old ≡ None → current_begin old < to
 

@@ -6,6 +6,7 @@ use Rattle.sled_codec.specs.History.{Message, History}
 use Rattle.sled_store.specs.declared.config.RunningConfig.{RunningConfig}
 use Rattle.sled_store.specs.Device.{Trace}
 use Rattle.sled_store.specs.Moments.{IsLater, LeavesOnly}
+use Rattle.sled_core.specs.Account.{account_behind, account_of}
 use Rattle.sled_core.specs.declared.logger.Log.{Log}
 use Rattle.sled_core.specs.declared.reservation.Reservation.{Reservation}
 use Rattle.sled_core.specs.Fits.{KeepsTickets, Awaits, NoneSealed, buffers_of, config_of, current_begin, current_of, device_of, fault_of, kept_batches, line_of, machine_at}
@@ -15,7 +16,7 @@ use Rattle.sled_store.specs.SegmentStates.{next_slot}
 use Rattle.sled_core.specs.Marked.{BeginsMarked}
 use Rattle.sled_core.specs.Positions.{is_short}
 use Rattle.sled_core.specs.Tickets.{place_of}
-use Rattle.sled_core.specs.Waiting.{BufferAt, BufferStart, not_below}
+use Rattle.sled_core.specs.Waiting.{BufferAt, BufferStart, front_below, not_below}
 use Rattle.sled_core.specs.Recoverable.{RecoverableIfOwn}
 use Rattle.sled_core.specs.OpenBatches.{not_whole}
 use Rattle.sled_core.specs.invariants.Running.{Fits}
@@ -72,6 +73,7 @@ pub record KeepsSeen {D C : Type 0} (old new : Log D C) : Type 0 where
   pub synced : synced_end new ≡ synced_end old
   pub noted : noted_in new ≡ noted_in old
   pub pins : pins_of new ≡ pins_of old
+  pub account : account_of new ≡ account_of old
 
 -- The next record begins where it would have begun, what was reserved ends where it did, and as many pins are out.
 pub record SamePosition {D C : Type 0} (old new : Log D C) : Type 0 where
@@ -97,6 +99,7 @@ pub record IsUnchangedOver {D C : Type 0} (old new : Log D C) : Type 0 where
   pub reserved : reserved_end new ≡ reserved_end old
   pub fault : fault_of new ≡ fault_of old
   pub pins : pins_of new ≡ pins_of old
+  pub account : account_of new ≡ account_of old
   pub machine : machine_at new ≡ machine_at old
   pub config : ConfigKept (config_of old) (config_of new)
 
@@ -122,6 +125,7 @@ start_for to log = if nat_lt (current_begin log) to then start_sealed log else s
 pub record LeavesAbove {D C : Type 0} (sum : List ℕ → ℕ) (to : ℕ) (old new : Log D C) : Type 0 where
   pub left : waiting_of new ≡ not_below to (sealed_for sum to old)
   pub start : start_of new ≡ start_for to old
+  pub account : account_of new ≡ account_behind (front_below to (sealed_for sum to old)) (account_of old)
 
 -- It failed: nothing was sealed and written, or those that begin below the place are sealed, and so many at the front are written.
 abbrev pub LeavesSome : {D C : Type 0} → (List ℕ → ℕ) → ℕ → Log D C → Log D C → Type 0

@@ -1,3 +1,4 @@
+pub mod Account
 pub mod Ahead
 pub mod Among
 pub mod Batches
@@ -12,6 +13,7 @@ pub mod FreeSlots
 pub mod Fronts
 pub mod GivenUp
 pub mod Good
+pub mod HeaderMark
 pub mod Heads
 pub mod Iterates
 pub mod Iterators

@@ -3,12 +3,13 @@
 use Rattle.std.specs.Prelude.{ℕ, List, Option}
 use Rattle.std.specs.declared.io.Error.{Error as IoError}
 use Rattle.sled_codec.specs.History.{Batch}
+use Rattle.sled_core.specs.Account.{Account, account_behind, account_of}
 use Rattle.sled_core.specs.declared.logger.Log.{Log}
 use Rattle.sled_core.specs.Fits.{fault_of, noted_in, pins_of, position_of, reserved_end, start_of, synced_end, waiting_of}
 use Rattle.sled_core.specs.OpenBatches.{not_whole}
 use Rattle.sled_core.specs.Positions.{Position}
 use Rattle.sled_core.specs.Stable.{first_begin}
-use Rattle.sled_core.specs.Waiting.{BufferAt, BufferStart, not_below}
+use Rattle.sled_core.specs.Waiting.{BufferAt, BufferStart, front_below, not_below}
 
 -- Where a log stands.
 pub record LogStatus : Type 0 where
@@ -24,6 +25,7 @@ pub record LogStatus : Type 0 where
   pub start : BufferStart
   pub fault : Option IoError
   pub pins : ℕ
+  pub account : Account
 
 abbrev pub status_of : {D C : Type 0} → Log D C → LogStatus
 status_of log = record {
@@ -35,6 +37,7 @@ status_of log = record {
   start = start_of log;
   fault = fault_of log;
   pins = pins_of log;
+  account = account_of log;
 }
 
 -- the buffers are these, and the current one begins there
@@ -48,4 +51,5 @@ flushed buffers start s = record s {
   start = start;
   synced = first_begin (not_below s.reserved buffers) start;
   noted = not_whole (first_begin (not_below s.reserved buffers) start) s.noted;
+  account = account_behind (front_below s.reserved buffers) s.account;
 }

@@ -36,6 +36,7 @@ pub record ChangesAccount {D C : Type 0} (old new : Log D C) : Type 0 where
   pub reserved : new.reserved_to ≡ old.reserved_to
   pub fault : new.fault ≡ old.fault
   pub pins : new.pins ≡ old.pins
+  pub marks : new.marks ≡ old.marks
   pub batches : new.batches ≡ old.batches
 
 -- What a mark makes of a log: this of the slots, at Ok, and of nothing else anything. Where it failed the slots are as they were.

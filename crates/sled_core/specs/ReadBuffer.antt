@@ -11,6 +11,7 @@ use Rattle.sled_codec.specs.Pointers.{lid_of}
 use Rattle.sled_store.specs.Blobs.{IsMissing, NamesDamage}
 use Rattle.sled_store.specs.Device.{Event, Trace}
 use Rattle.sled_store.specs.Script.{Performs, after_all}
+use Rattle.sled_core.specs.Account.{account_behind, account_of}
 use Rattle.sled_core.specs.declared.logger.Log.{Log}
 use Rattle.sled_core.specs.Causes.{IsFaultAt, IsHeld, OnDone}
 use Rattle.sled_core.specs.Fits.{IsUsedUp, NoneSealed, buffers_of, current_begin, device_of, fault_of, reserved_end, sealing_end, segment_size_of, start_of}
@@ -20,7 +21,7 @@ use Rattle.sled_core.specs.Marked.{BeginsMarked}
 use Rattle.sled_core.specs.Reading.{IsNoPlace}
 use Rattle.sled_core.specs.ReadPointer.{place_read}
 use Rattle.sled_core.specs.Stable.{IsNotReserved}
-use Rattle.sled_core.specs.Waiting.{BufferAt, BufferStart, held_around, none_around, without_around, write_around}
+use Rattle.sled_core.specs.Waiting.{BufferAt, BufferStart, held_around, none_around, one_around, without_around, write_around}
 
 -- The calls that bring the buffer of a place to the device: none where the place is stable, or its buffer is written or has an open reservation; else one
 -- write of that whole buffer, and a sync.
@@ -83,15 +84,17 @@ start_at place log = if nat_le (current_begin log) place then start_sealed log e
 
 -- the buffers are as they were
 abbrev pub LeavesUnsealed : {D C : Type 0} → (List ℕ → ℕ) → ℕ → Log D C → Log D C → Type 0
-LeavesUnsealed sum place old new = (waiting_of new ≡ waiting_of old) × (start_of new ≡ start_of old)
+LeavesUnsealed sum place old new = (waiting_of new ≡ waiting_of old) × (start_of new ≡ start_of old) × (account_of new ≡ account_of old)
 
 -- the current one is sealed where it has the place
 abbrev pub LeavesSealed : {D C : Type 0} → (List ℕ → ℕ) → ℕ → Log D C → Log D C → Type 0
-LeavesSealed sum place old new = (waiting_of new ≡ sealed_at sum place old) × (start_of new ≡ start_at place old)
+LeavesSealed sum place old new = (waiting_of new ≡ sealed_at sum place old) × (start_of new ≡ start_at place old) × (account_of new ≡ account_of old)
 
 -- and the one that has the place is written besides
 abbrev pub LeavesWritten : {D C : Type 0} → (List ℕ → ℕ) → ℕ → Log D C → Log D C → Type 0
-LeavesWritten sum place old new = (waiting_of new ≡ without_around place (sealed_at sum place old)) × (start_of new ≡ start_at place old)
+LeavesWritten sum place old new =
+    (waiting_of new ≡ without_around place (sealed_at sum place old)) × (start_of new ≡ start_at place old)
+    × (account_of new ≡ account_behind (one_around place (sealed_at sum place old)) (account_of old))
 
 -- What a read of a place that isn't stable leaves of the buffers: where it succeeds the one that has the place is written; where it is held that one is
 -- sealed; else one of the three.

@@ -1,9 +1,10 @@
 -- What the start of a log leaves.
-use Rattle.std.specs.Prelude.{◌≡◌, ◌+◌, if◌then◌else◌, ℕ, [], length, max, None, Result, Ok, Err}
+use Rattle.std.specs.Prelude.{◌≡◌, ◌+◌, if◌then◌else◌, ℕ, pos, false, [], length, max, None, Result, Ok, Err}
 use Rattle.sled_codec.specs.declared.result.Error.{Error}
 use Rattle.sled_codec.specs.Snapshots.{SnapshotModel, stable_place}
 use Rattle.sled_store.specs.declared.config.RunningConfig.{RunningConfig}
 use Rattle.sled_core.specs.declared.iobuf.SegmentPosition.{SegmentPosition}
+use Rattle.sled_core.specs.Account.{account_of}
 use Rattle.sled_core.specs.declared.logger.Log.{Log}
 use Rattle.sled_store.specs.Begin.{beginning_of, offset_at, place_at}
 use Rattle.sled_store.specs.StartCauses.{StartRefuses}
@@ -57,6 +58,8 @@ pub record BeginsBehind {D C : Type 0} (size len : ℕ) (s : SnapshotModel) (log
   pub given_up : given_up_of log ≡ []
   pub unsealed : NoneSealed log
   pub pins : pins_of log ≡ 0
+  -- the marks begin as the snapshot's place
+  pub account : account_of log ≡ record { mark = pos (stable_place s.stable); durable = pos (stable_place s.stable); pinned = false }
   pub fault : fault_of log ≡ None
   pub sized : segment_size_of log ≡ size
 

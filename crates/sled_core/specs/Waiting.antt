@@ -1,17 +1,19 @@
 -- The buffers of a log that aren't on the device, by place, whatever segments they are of; and what is written of them.
 use Rattle.std.specs.Prelude.{◌≡◌, ◌+◌, ◌/◌, ◌&&◌, ◌==◌, ◌-◌, nat_lt, nat_le, ℕ, suc, Bool, true, false, if◌then◌else◌, List, [], ◌∷◌, ◌++◌, length, map, take}
-use Rattle.std.specs.Prelude.{drop, Option, None, Some}
+use Rattle.std.specs.Prelude.{ℤ, drop, Option, None, Some}
 use Rattle.sled_store.specs.Device.{Event}
 use Rattle.sled_core.specs.declared.iobuf.Reserved.{Reserved}
 use Rattle.sled_core.specs.declared.iobuf.Sealed.{Sealed}
 use Rattle.sled_core.specs.declared.iobuf.SegmentPosition.{SegmentPosition}
 use Rattle.sled_core.specs.Begun.{SegmentParts, SegmentView, begin_of}
 use Rattle.sled_core.specs.Buffers.{first_open_in, padding_at}
+use Rattle.sled_core.specs.HeaderMark.{mark_at}
 use Rattle.sled_core.specs.invariants.Caps.{segment_rest}
 use Rattle.sled_core.specs.Positions.{is_short}
 use Rattle.sled_core.specs.SealedBuffers.{bytes_between, seal_at, sealed_count, writing}
 
--- A buffer, wherever it lies: its places, where it begins in the file, its bytes, and the least place of its open reservations.
+-- A buffer, wherever it lies: its places, where it begins in the file, its bytes, the least place of its open reservations, and the mark of its segment, where
+-- it begins with that one's header.
 pub record BufferAt : Type 0 where
   pub place : ℕ
   -- the place behind it
@@ -19,6 +21,7 @@ pub record BufferAt : Type 0 where
   pub lid : ℕ
   pub bytes : List ℕ
   pub held : Option ℕ
+  pub mark : Option ℤ
 
 -- an offset in a segment that begins there, as a place
 abbrev pub placed : ℕ → Option ℕ → Option ℕ
@@ -33,6 +36,7 @@ buffer_at site bytes from end own = record {
   lid = site.slot + from;
   bytes = bytes_between bytes from end;
   held = placed site.place (first_open_in own);
+  mark = mark_at from (bytes_between bytes from end);
 }
 
 -- the sealed buffers of a segment that aren't written, from an offset on
@@ -162,6 +166,11 @@ abbrev pub write_pending : ℕ → List BufferAt → List Event
 write_pending i [] = []
 write_pending i (b ∷ bs) = if is_unheld b.held then (if i == 0 then writing b.lid b.bytes [] else write_pending (i - 1) bs) else write_pending i bs
 
+-- that one, if there is one
+abbrev pub one_pending : ℕ → List BufferAt → List BufferAt
+one_pending i [] = []
+one_pending i (b ∷ bs) = if is_unheld b.held then (if i == 0 then b ∷ [] else one_pending (i - 1) bs) else one_pending i bs
+
 -- all of them but that one
 abbrev pub without_pending : ℕ → List BufferAt → List BufferAt
 without_pending i [] = []
@@ -186,7 +195,12 @@ abbrev pub none_around : ℕ → List BufferAt → Bool
 none_around at [] = true
 none_around at (b ∷ bs) = if has_place at b then false else none_around at bs
 
--- all of them but the first that has a place
+-- the first of them that has a place, if one has
+abbrev pub one_around : ℕ → List BufferAt → List BufferAt
+one_around at [] = []
+one_around at (b ∷ bs) = if has_place at b then b ∷ [] else one_around at bs
+
+-- all of them but that one
 abbrev pub without_around : ℕ → List BufferAt → List BufferAt
 without_around at [] = []
 without_around at (b ∷ bs) = if has_place at b then bs else b ∷ without_around at bs
@@ -221,3 +235,8 @@ HasLength b = b.place + length b.bytes ≡ b.end
 abbrev pub not_below : ℕ → List BufferAt → List BufferAt
 not_below to [] = []
 not_below to (b ∷ bs) = if nat_lt b.place to then not_below to bs else b ∷ bs
+
+-- those at the front that begin below a place
+abbrev pub front_below : ℕ → List BufferAt → List BufferAt
+front_below to [] = []
+front_below to (b ∷ bs) = if nat_lt b.place to then b ∷ front_below to bs else []

@@ -17,6 +17,7 @@ pub mod LogFacts
 pub mod LogFile
 pub mod LogSegments
 pub mod Marked
+pub mod MarksFit
 pub mod Numbers
 pub mod OpenBatches
 pub mod OpenPlaces

@@ -21,6 +21,8 @@ ghost use Rattle.sled_core.specs.Fits.{stable_end, KeepsAll, Awaits, FirstWaits,
 ghost use Rattle.sled_core.specs.invariants.Fits.{Holds};
 ghost use Rattle.sled_codec.specs.Snapshots.{SnapshotModel, empty_model, stable_place};
 ghost use Rattle.sled_store.specs.Begin.{offset_at, place_at};
+ghost use Rattle.sled_codec.specs.Record.{IsHeader};
+ghost use Rattle.sled_core.specs.HeaderMark.{mark_at};
 ghost use Rattle.sled_core.specs.Waiting.{HasLength, spans};
 ghost use Rattle.sled_core.specs.WholeBuffers.{IsWholeBuffer};
 ghost use Rattle.sled_core.specs.Batches.{LiesInNoFilling};
@@ -181,6 +183,11 @@ pub fn a_call_fails_for_its_own_reasons<T, D: Device, C: Checksum>()
         → IfErr result (WriteFails held (IsUsedUpBelow log to) old new before after) }
     ensures reserve { (log : Log D C) (page n : ℕ) (result : Result T Error) (at : ReserveCauses)
         → ReserveAnswers result (IsUsedUpFor log page n) (IsLeastOpen log) at → IfErr result (ReserveFails (IsUsedUpFor log page n) (IsLeastOpen log) at) }
+{}
+
+/// The mark of a buffer that begins with the header of its segment is that header's.
+pub fn a_mark_is_that_of_its_header()
+    ensures { (sum : List ℕ → ℕ) (bytes rest : List ℕ) (lsn mark : ℤ) → IsHeader sum bytes lsn mark → mark_at 0 (bytes ++ rest) ≡ Some mark }
 {}
 
 /// Where no reservation was open, none is as long as nothing of the log is another.

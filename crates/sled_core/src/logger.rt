@@ -28,6 +28,7 @@ mod crash;
 mod ending;
 mod fault;
 pub(crate) mod io_bufs;
+pub(crate) mod joined_marks;
 mod iterating;
 mod mark_writebatch;
 mod marking;
@@ -48,6 +49,7 @@ use crate::iobuf::start::begin;
 use crate::logger::batches::PendingBatches;
 use crate::logger::fault::Fault;
 use crate::logger::io_bufs::{IoBufs, SegmentBuffer, no_segments};
+use crate::logger::joined_marks::JoinedMarks;
 use crate::logger::read_message::LogRead;
 use crate::logger::read_pointer::{place_read, read_pointer};
 use crate::logger::ready::ReadyBuffers;
@@ -74,6 +76,8 @@ pub struct Log<D, C> {
     /// The first failure of the device in this log.
     fault: Fault,
     pins: u32,
+    /// Up to which place segments were left behind.
+    marks: JoinedMarks,
     /// The batches that were noted, and the manifests that are open.
     batches: PendingBatches,
     ghost line: { AreOpenSegments config.config.segment_size reserved_to segments ready } by { AreOpenSegments-prop _ _ segments ready },
@@ -83,6 +87,7 @@ pub struct Log<D, C> {
 
 impl<D: Device, C: Checksum> Log<D, C> {
     ghost use Rattle.sled_core.specs.invariants.Fits.{Holds};
+    ghost use Rattle.sled_core.specs.Account.{account_of};
     ghost use Rattle.sled_core.specs.Among.{AreAmong};
     ghost use Rattle.sled_core.specs.Fits.{Awaits, IsOpen, FitsInline, fault_of, given_up_of, synced_end, reserved_end, pins_of, config_of, device_of, HasRecordOf, line_of, segment_size_of, waiting_of, current_begin, FirstWaits, stable_end, KeepsAll};
     ghost use Rattle.sled_core.specs.Fronts.{CameAround};
@@ -152,6 +157,7 @@ impl<D: Device, C: Checksum> Log<D, C> {
                 reserved_to: beginning.place + beginning.offset,
                 fault: Fault { kept: None },
                 pins: 0,
+                marks: JoinedMarks::from_place(snapshot.stable_place() as Lsn),
                 batches: PendingBatches::new(alloc),
             }),
             Err(e) => Err((e, config)),
@@ -313,6 +319,7 @@ impl<D: Device, C: Checksum> Log<D, C> {
         ensures keeps { KeepsLog D.trace C.sum_of self.old self.new }
         ensures trace { D.trace (device_of self.new) ≡ D.trace (device_of self.old) }
         ensures line { line_of self.new ≡ line_of self.old }
+        ensures account { account_of self.new ≡ account_of self.old }
         ensures answers { let blobs = (state_of (D.trace (device_of self.old))).blobs.file in
             RecordAnswers C.sum_of blobs ptr result None (fault_of self.new) (D.faults (device_of self.old)) (D.faults (device_of self.new)) }
     {
@@ -344,6 +351,7 @@ impl<D: Device, C: Checksum> Log<D, C> {
             reserved_to: _,
             fault: _,
             pins: _,
+            marks: _,
             batches: _,
         } = self;
         config

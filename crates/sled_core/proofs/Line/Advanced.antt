@@ -1,5 +1,5 @@
 -- A call that writes one buffer behind another, by place, and how far it came.
-use Rattle.std.proofs.Common.{◌≡◌, ◌∙◌, ◌⊎◌, ◌≤◌, ◌<◌, ◌+◌, ◌*◌, ℕ, zero, suc, nat_lt, if◌then◌else◌, Bool, true, false, List, [], ◌∷◌, ◌++◌, length, drop, map, set, Option, None, Some, Err, refl, sym, ap, subst, arith, inl, inr, append_assoc, length-append}
+use Rattle.std.proofs.Common.{◌≡◌, ◌∙◌, ◌⊎◌, ◌≤◌, ◌<◌, ◌+◌, ◌*◌, ℕ, zero, suc, nat_lt, if◌then◌else◌, Bool, true, false, List, [], ◌∷◌, ◌++◌, length, drop, take, map, set, Option, None, Some, Err, refl, sym, ap, subst, arith, inl, inr, append_assoc, length-append}
 use Rattle.std.specs.List.{Contains}
 use Rattle.std.specs.declared.io.Error.{Error as IoError}
 use Rattle.std.proofs.lemmas.Bool.Decides.{nat_tests}
@@ -18,16 +18,18 @@ use Rattle.sled_core.specs.Fronts.{syncs}
 use Rattle.sled_core.specs.Keeps.{Preserves, SamePosition}
 use Rattle.sled_core.specs.inside.Marked.{KeepsSegment}
 use Rattle.sled_core.specs.inside.SealedBuffers.{first_ready}
-use Rattle.sled_core.specs.inside.Turned.{IsReadyIn, promoted, ready_below, write_in, written_now}
-use Rattle.sled_core.specs.Waiting.{BufferAt, held_below, unwritten, writes_below}
+use Rattle.sled_core.specs.inside.Turned.{IsReadyIn, mark_of, promoted, ready_below, write_in, written_now}
+use Rattle.sled_core.specs.Waiting.{BufferAt, front_below, held_below, unwritten, writes_below}
 use Rattle.sled_core.proofs.Line.KeptCalls.{kept_further, kept_still, position_further, position_still, tickets_further, tickets_still}
 use Rattle.sled_core.proofs.Line.HeaderMarks.{segment_further, segment_written}
-use Rattle.sled_core.proofs.Line.Below.{BeginFrom, IsFirst, IsStuck, first_fewer, first_holds, first_there_ready, first_writes, line_first, line_past, line_stuck}
+use Rattle.sled_core.proofs.Line.Below.{BeginFrom, IsFirst, IsStuck, first_fewer, first_holds, first_there_ready, first_marked, first_writes, line_first, line_past, line_stuck}
 use Rattle.sled_core.proofs.Line.Current.{current_holds, current_writes}
 use Rattle.sled_core.proofs.Line.LogSpans.{IsLeft, left_all, left_further, written_starts}
 use Rattle.sled_core.proofs.Line.Lying.{end_of, promoted_end, set_end}
 use Rattle.sled_core.proofs.Line.Segments.{line_segments}
 use Rattle.std.proofs.lemmas.List.{length-map}
+use Rattle.sled_core.specs.Account.{account_behind, account_of, written_account}
+use Rattle.sled_core.proofs.Line.AccountBehind.{account_further, front_further}
 
 -- the first segment of a log, and those behind it
 abbrev pub first_view : {D C : Type 0} → Log D C → SegmentView
@@ -99,6 +101,8 @@ module _ {D C : Type 0} (trace : D → Trace) (sum : List ℕ → ℕ) (faults :
     pub gone : waiting_of now ≡ drop count (waiting_of old)
     pub synced : syncs (trace (device_of now)) ≡ count + syncs (trace (device_of old))
     pub pairs : length done ≡ 2 * count
+    pub front : front_below to (waiting_of old) ≡ take count (waiting_of old) ++ front_below to (waiting_of now)
+    pub account : account_of now ≡ account_behind (take count (waiting_of old)) (account_of old)
 
   pub advanced_still : (log : Log D C) → fault_of log ≡ None → Advanced log log
   advanced_still log fault = record {
@@ -121,12 +125,14 @@ module _ {D C : Type 0} (trace : D → Trace) (sum : List ℕ → ℕ) (faults :
     gone = refl;
     synced = omega arith;
     pairs = refl;
+    front = refl;
+    account = refl;
   }
 
   -- One more is written.
   pub advanced_further : (old mid new : Log D C) → Advanced old mid → ready_below (line_of mid) to ≡ true → FirstWritten mid new → Preserves trace sum mid new → KeepsTickets mid new → SamePosition mid new
-      → trace (device_of new) ≡ after_all (write_in (line_of mid) 0 0) (trace (device_of mid)) → fault_of new ≡ None → faults (device_of new) ≡ faults (device_of mid) → Advanced old new
-  advanced_further old mid new so_far ready is keeps tickets position came fault counted =
+      → trace (device_of new) ≡ after_all (write_in (line_of mid) 0 0) (trace (device_of mid)) → fault_of new ≡ None → faults (device_of new) ≡ faults (device_of mid) → account_of new ≡ written_account (mark_of 0 (first_view mid)) (account_of mid) → Advanced old new
+  advanced_further old mid new so_far ready is keeps tickets position came fault counted account =
       let step = first_step to mid new ready is in
       let calls : List Event = write_in (line_of mid) 0 0 in
       let size : ℕ = mid.config.config.segment_size in
@@ -156,6 +162,9 @@ module _ {D C : Type 0} (trace : D → Trace) (sum : List ℕ → ℕ) (faults :
             let two : length calls ≡ 2 = ap length step.calls in
             let before = so_far.pairs in
             omega (arith, two, before, length-append so_far.done calls));
+        front = front_further to so_far.count (waiting_of old) (waiting_of mid) (waiting_of new) step.first so_far.gone step.is step.below so_far.front;
+        account = account_further to so_far.count (waiting_of old) (waiting_of mid) (waiting_of new) step.first so_far.gone step.is (account_of old) (account_of new)
+            (account ∙ (λ i. written_account (sym (first_marked to (first_view mid) (views_behind mid) ready step.first (waiting_of new) step.is) i) (so_far.account i)));
       }
     where
       drop_one : (n : ℕ) (xs : List BufferAt) (y : BufferAt) (ys : List BufferAt) → drop n xs ≡ y ∷ ys → drop (suc n) xs ≡ ys

@@ -15,7 +15,7 @@ use Rattle.sled_core.specs.declared.iobuf.SegmentPosition.{SegmentPosition}
 use Rattle.sled_core.specs.inside.SealedBuffers.{AreSealed, written_at}
 use Rattle.sled_core.specs.SealedBuffers.{sealed_count, sealed_end, writing}
 use Rattle.sled_core.specs.inside.Turned.{written_now}
-use Rattle.sled_core.specs.Waiting.{BufferAt, buffer_at, has_place, held_around, none_around, unless_held, unwritten, unwritten_in, unwritten_of, without_around, write_around}
+use Rattle.sled_core.specs.Waiting.{BufferAt, buffer_at, has_place, held_around, none_around, one_around, unless_held, unwritten, unwritten_in, unwritten_of, without_around, write_around}
 use Rattle.sled_core.proofs.Line.Below.{BeginFrom, lie_begin}
 use Rattle.sled_core.proofs.Line.Lying.{LieBetween, end_of, lie_up, line_lie, unwritten_lie, unwritten_run}
 use Rattle.sled_core.proofs.Holds.Nth.{nth_set}
@@ -27,7 +27,7 @@ abbrev pub found : ℕ → List BufferAt → Option BufferAt
 found at [] = None
 found at (b ∷ bs) = if has_place at b then Some b else found at bs
 
--- What is written of it, the least place of its open reservations, and whether there is none.
+-- What is written of it, the least place of its open reservations, the list that it is, and whether there is none.
 
 abbrev pub writes_of : Option BufferAt → List Event
 writes_of None = []
@@ -36,6 +36,10 @@ writes_of (Some b) = unless_held b.held (writing b.lid b.bytes [])
 abbrev pub held_of : Option BufferAt → Option ℕ
 held_of None = None
 held_of (Some b) = b.held
+
+abbrev pub list_of : Option BufferAt → List BufferAt
+list_of None = []
+list_of (Some b) = b ∷ []
 
 abbrev pub is_none : Option BufferAt → Bool
 is_none None = true
@@ -102,6 +106,14 @@ pub found_front : (at : ℕ) (xs ys : List BufferAt) → BeginFrom (suc at) ys �
 found_front at xs ys begin = found_on at xs ys ∙ ap (or_found (found at xs)) (found_above at ys begin) ∙ or_none (found at xs)
 
 -- The buffers without the first that has the place.
+
+-- the one that has it
+pub one_found : (at : ℕ) (bs : List BufferAt) → one_around at bs ≡ list_of (found at bs)
+one_found at [] = refl
+one_found at (b ∷ bs) = by_test (one_found at bs) (has_place at b) where
+  by_test : one_around at bs ≡ list_of (found at bs) → (o : Bool) → (if o then b ∷ [] else one_around at bs) ≡ list_of (if o then Some b else found at bs)
+  by_test rest true = refl
+  by_test rest false = rest
 
 -- all of them, where none has it
 pub without_none : (at : ℕ) (bs : List BufferAt) → found at bs ≡ None → without_around at bs ≡ bs

@@ -78,6 +78,7 @@ use Rattle.sled_core.proofs.Line.Accounts.{account_handed}
 use Rattle.sled_core.proofs.Start.HandedNumbers.{numbers_handed, slots_handed}
 use Rattle.sled_core.specs.inside.Numbers.{HasNumbers}
 use Rattle.sled_store.specs.Marks.{IsNewPlace}
+use Rattle.sled_core.proofs.Line.AccountBehind.{account_same}
 
 -- the first of them is no longer than this
 abbrev FirstShort : ℕ → List SegmentView → Type 0
@@ -409,7 +410,7 @@ module _ {D C : Type 0} (trace : D → Trace) (sum : List ℕ → ℕ) (old new 
   begins_noted = noted_same old new rest.noted begins_synced
 
   pub begins_same : KeepsAll old new
-  begins_same = record { config = rest.config; synced = begins_synced; noted = begins_noted; kept = kept_same old new rest.noted; fault = rest.fault; pins = rest.pins }
+  begins_same = record { config = rest.config; synced = begins_synced; noted = begins_noted; kept = kept_same old new rest.noted; fault = rest.fault; pins = rest.pins; account = account_same old new rest.marks rest.pins }
 
   facts : IsSegment its_size (old.segments.first.site.place + length old.segments.behind.items * its_size) (current_of old)
   facts = current_facts old

@@ -14,12 +14,13 @@ use Rattle.sled_core.specs.declared.iobuf.SegmentPosition.{SegmentPosition}
 use Rattle.sled_core.specs.Buffers.{first_open_in, none_open, open_in}
 use Rattle.sled_core.specs.inside.SealedBuffers.{AreSealed, FirstUnwritten, behind_run, first_ready, is_ready, run_count, run_end, written_at}
 use Rattle.sled_core.specs.SealedBuffers.{bytes_between, sealed_end, writing}
-use Rattle.sled_core.specs.inside.Turned.{promoted, ready_below, write_in, written_now}
+use Rattle.sled_core.specs.inside.Turned.{mark_of, promoted, ready_below, write_in, written_now}
 use Rattle.sled_core.specs.Waiting.{BufferAt, buffer_at, first_held, held_below, placed, unless_held, unwritten, unwritten_in, writes_below}
 use Rattle.sled_core.proofs.Line.Lying.{LieBetween, end_of, line_lie, promoted_unwritten, segments_within, set_within, unwritten_run}
 use Rattle.sled_core.proofs.Line.Segments.{AreSegments}
 use Rattle.sled_core.proofs.Reserve.OpenCounts.{ended_is, first_there}
 use Rattle.sled_core.proofs.Sealed.Progress.{first_behind, first_front, open_front, ready_parts}
+use Rattle.sled_core.specs.HeaderMark.{mark_at}
 
 -- Buffers begin at a place or behind it.
 abbrev pub BeginFrom : ℕ → List BufferAt → Type 0
@@ -143,6 +144,22 @@ line_first size place to v vs are ready =
     let left : unwritten (promoted size (set (v ∷ vs) 0 (written_now 0 v))) ≡ unwritten (set (v ∷ vs) 0 (written_now 0 v)) =
     promoted_unwritten size (set (v ∷ vs) 0 (written_now 0 v)) (set_within size (v ∷ vs) 0 v 0 first_one.0 refl first_one.1 first_one.2 (segments_within size place (v ∷ vs) are)) in
     subst (λ (l : List BufferAt). IsFirst to (unwritten (v ∷ vs)) l (write_in (v ∷ vs) 0 0)) (sym left) step
+
+-- It has the mark of its segment, where it begins with the header of that.
+mark_first : (site : SegmentPosition) (bytes : List ℕ) (from to : ℕ) (bs : List Sealed) (rs : List Reserved) (more : List BufferAt) → (if nat_lt (site.place + from) to then first_ready bs else false) ≡ true
+    → (x : BufferAt) (xs : List BufferAt) → unwritten_in site bytes from bs rs ++ more ≡ x ∷ xs
+    → x.mark ≡ mark_at (sealed_end from (take 0 bs)) (bytes_between bytes (sealed_end from (take 0 bs)) (sealed_end from (take (0 + 1) bs)))
+mark_first site bytes from to [] rs more ready x xs same = let parts = ready_test (nat_lt (site.place + from) to) false ready in cc
+mark_first site bytes from to (b ∷ bs) rs more ready x xs same =
+    let fresh = (ready_parts b (ready_test (nat_lt (site.place + from) to) (is_ready b) ready).1).0 in
+    let rest : List BufferAt = unwritten_in site bytes b.end bs (drop b.count rs) in
+    let own : BufferAt = buffer_at site bytes from b.end (take b.count rs) in
+    let is : own ∷ (rest ++ more) ≡ x ∷ xs = sym (ap (λ (o : Bool). (if o then rest else own ∷ rest) ++ more) fresh) ∙ same in
+    let one : own ≡ x = cc in
+    ap (λ (y : BufferAt). y.mark) (sym one)
+
+pub first_marked : (to : ℕ) (v : SegmentView) (vs : List SegmentView) → ready_below (v ∷ vs) to ≡ true → (x : BufferAt) (xs : List BufferAt) → unwritten (v ∷ vs) ≡ x ∷ xs → x.mark ≡ mark_of 0 v
+first_marked to v vs ready x xs same = mark_first v.parts.site v.parts.bytes v.parts.written_len to v.parts.sealed v.parts.reserved (unwritten vs) ready x xs same
 
 -- Where the current buffer begins behind what is written, there is a sealed one.
 pub some_sealed : (size to : ℕ) (v : SegmentView) (vs : List SegmentView) → AreFilled size to (v ∷ vs) → (0 < length vs → v.parts.written_len < size) → v.parts.site.place + v.parts.written_len < end_of (v ∷ vs) → v.parts.sealed ≡ [] → ⊥

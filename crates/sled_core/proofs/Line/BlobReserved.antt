@@ -49,6 +49,7 @@ use Rattle.sled_core.proofs.Line.LineEnds.{noted_same}
 use Rattle.sled_core.proofs.Line.LogWrites.{same_line}
 use Rattle.sled_core.proofs.Line.Prepares.{seen_further}
 use Rattle.sled_core.proofs.Line.Reserved.{blob_refused, spares}
+use Rattle.sled_core.proofs.Line.AccountBehind.{account_same}
 
 -- A log that is ready for a record has its next place where that would stand.
 module _ {D C : Type 0} (trace : D → Trace) (sum : List ℕ → ℕ) (old mid : Log D C) (kept : Purpose) (head : Head) (n : ℕ) (ready : IsPrepared trace sum old mid kept head n) where
@@ -89,7 +90,7 @@ module _ {D C : Type 0} (trace : D → Trace) (sum : List ℕ → ℕ) (old mid 
     }
 
     still_seen : KeepsSeen old made
-    still_seen = seen_further old mid made ready.seen (record { synced = ap written_to line_same; noted = noted_same mid made (λ i. (rest.batches i).noted.items) (ap written_to line_same); pins = rest.pins })
+    still_seen = seen_further old mid made ready.seen (record { synced = ap written_to line_same; noted = noted_same mid made (λ i. (rest.batches i).noted.items) (ap written_to line_same); pins = rest.pins; account = account_same mid made rest.marks rest.pins })
 
     still_room : HasPlace made (head.len + n)
     still_room =

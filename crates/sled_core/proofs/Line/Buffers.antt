@@ -14,11 +14,13 @@ use Rattle.sled_core.specs.Fits.{FirstWaits, current_begin, start_of, synced_end
 use Rattle.sled_core.specs.inside.SealedBuffers.{AreSealed, FirstUnwritten, behind_run, is_ready, now_written, ready_count, ready_marked, ready_write, run_count, run_end, written_at}
 use Rattle.sled_core.specs.SealedBuffers.{bytes_between, sealed_end, writing}
 use Rattle.sled_core.specs.Stable.{first_begin}
-use Rattle.sled_core.specs.inside.Turned.{IsReadyIn, promoted, write_in, written_now}
-use Rattle.sled_core.specs.Waiting.{BufferAt, buffer_at, is_unheld, last_of, pending_in, placed, unwritten, unwritten_in, unwritten_of, without_pending, write_pending}
+use Rattle.sled_core.specs.inside.Turned.{IsReadyIn, begin_at, mark_of, promoted, write_in, written_now}
+use Rattle.sled_core.specs.Waiting.{BufferAt, buffer_at, is_unheld, last_of, one_pending, pending_in, placed, unwritten, unwritten_in, unwritten_of, without_pending, write_pending}
 use Rattle.sled_core.proofs.Holds.Facts.{IsSegment}
 use Rattle.sled_core.proofs.Line.Segments.{AreSegments, by_front, full_unsealed}
-use Rattle.sled_core.proofs.Sealed.Progress.{pending_marked, pending_write}
+use Rattle.sled_core.proofs.Sealed.Progress.{pending_marked, pending_write, ready_parts}
+use Rattle.sled_core.specs.HeaderMark.{mark_at}
+use Rattle.sled_core.proofs.Sealed.Slices.{end_to}
 
 -- Lists of buffers in two parts.
 
@@ -57,6 +59,26 @@ write_behind i (x ∷ xs) ys high = by_test (is_unheld x.held) (i == 0) refl hig
       → (if o then (if p then writing x.lid x.bytes [] else write_pending (i - 1) (xs ++ ys)) else write_pending i (xs ++ ys)) ≡ write_pending (i - (if o then suc (pending_in xs) else pending_in xs)) ys
   by_test true true is above one all = absurd (let none : i ≡ 0 = grind (arith, nat_tests, is) in omega (arith, above, none))
   by_test true false is above one all = one (omega (arith, above)) ∙ ap (λ n. write_pending n ys) (let same : i - 1 - pending_in xs ≡ i - suc (pending_in xs) = omega arith in same)
+  by_test false p is above one all = all above
+
+-- the i-th itself
+one_front : (i : ℕ) (xs ys : List BufferAt) → i < pending_in xs → one_pending i (xs ++ ys) ≡ one_pending i xs
+one_front i [] ys low = absurd (omega (arith, low))
+one_front i (x ∷ xs) ys low = by_test (is_unheld x.held) (i == 0) refl low (one_front (i - 1) xs ys) (one_front i xs ys) where
+  by_test : (o p : Bool) → (i == 0) ≡ p → i < (if o then suc (pending_in xs) else pending_in xs) → (i - 1 < pending_in xs → one_pending (i - 1) (xs ++ ys) ≡ one_pending (i - 1) xs) → (i < pending_in xs → one_pending i (xs ++ ys) ≡ one_pending i xs)
+      → (if o then (if p then x ∷ [] else one_pending (i - 1) (xs ++ ys)) else one_pending i (xs ++ ys)) ≡ (if o then (if p then x ∷ [] else one_pending (i - 1) xs) else one_pending i xs)
+  by_test true true is below one all = refl
+  by_test true false is below one all = one (let more : 0 < i = grind (arith, nat_tests, is) in omega (arith, below, more))
+  by_test false p is below one all = all below
+
+one_behind : (i : ℕ) (xs ys : List BufferAt) → pending_in xs ≤ i → one_pending i (xs ++ ys) ≡ one_pending (i - pending_in xs) ys
+one_behind i [] ys high = ap (λ n. one_pending n ys) (let same : i ≡ i - 0 = omega arith in same)
+one_behind i (x ∷ xs) ys high = by_test (is_unheld x.held) (i == 0) refl high (one_behind (i - 1) xs ys) (one_behind i xs ys) where
+  by_test : (o p : Bool) → (i == 0) ≡ p → (if o then suc (pending_in xs) else pending_in xs) ≤ i → (pending_in xs ≤ i - 1 → one_pending (i - 1) (xs ++ ys) ≡ one_pending (i - 1 - pending_in xs) ys)
+      → (pending_in xs ≤ i → one_pending i (xs ++ ys) ≡ one_pending (i - pending_in xs) ys)
+      → (if o then (if p then x ∷ [] else one_pending (i - 1) (xs ++ ys)) else one_pending i (xs ++ ys)) ≡ one_pending (i - (if o then suc (pending_in xs) else pending_in xs)) ys
+  by_test true true is above one all = absurd (let none : i ≡ 0 = grind (arith, nat_tests, is) in omega (arith, above, none))
+  by_test true false is above one all = one (omega (arith, above)) ∙ ap (λ n. one_pending n ys) (let same : i - 1 - pending_in xs ≡ i - suc (pending_in xs) = omega arith in same)
   by_test false p is above one all = all above
 
 pub left_behind : (i : ℕ) (xs ys : List BufferAt) → pending_in xs ≤ i → without_pending i (xs ++ ys) ≡ xs ++ without_pending (i - pending_in xs) ys
@@ -131,6 +153,65 @@ module _ (site : SegmentPosition) (bytes : List ℕ) where
           by_ready (b.open_count == 0) (i == 0) is rest
           ∙ (λ j. if sym own j then (if i == 0 then unwritten_in site bytes b.end bs (drop b.count rs) else with_one from b rs (without_pending (i - 1) (unwritten_in site bytes b.end bs (drop b.count rs)))) else with_one from b rs (without_pending i (unwritten_in site bytes b.end bs (drop b.count rs))))
 
+  -- The i-th of those that can be written is this one.
+  one_sealed : (k i from : ℕ) (bs : List Sealed) (rs : List Reserved) (b : Sealed) → AreSealed from rs bs → slice_get bs k ≡ Some b → is_ready b ≡ true → ready_count (take k bs) ≡ i
+      → (own : List Reserved) × (one_pending i (unwritten_in site bytes from bs rs) ≡ buffer_at site bytes (sealed_end from (take k bs)) b.end own ∷ [])
+  one_sealed k i from [] rs b are there ready at = cc
+  one_sealed zero i from (c ∷ cs) rs b are there ready at =
+      let same : c ≡ b = cc in
+      let parts = ready_parts b ready in
+      let own : List Reserved = take c.count rs in
+      let x : BufferAt = buffer_at site bytes from c.end own in
+      let rest : List BufferAt = unwritten_in site bytes c.end cs (drop c.count rs) in
+      let fresh : c.is_written ≡ false = ap (λ (d : Sealed). d.is_written) same ∙ parts.0 in
+      let open_yet = are.0.still_open in
+      let closed : c.open_count ≡ 0 = ap (λ (d : Sealed). d.open_count) same ∙ parts.1 in
+      let free : is_unheld x.held ≡ true = unheld_is site.place own ∙ (let is : (open_in own == 0) ≡ true = grind (arith, nat_tests, open_yet, closed) in is) in
+      let none : (i == 0) ≡ true = grind (arith, nat_tests, at) in (
+        own,
+        ap (λ (o : Bool). one_pending i (if o then rest else x ∷ rest)) fresh
+            ∙ ap (λ (o : Bool). if o then (if i == 0 then x ∷ [] else one_pending (i - 1) rest) else one_pending i rest) free
+            ∙ ap (λ (o : Bool). if o then x ∷ [] else one_pending (i - 1) rest) none
+            ∙ ap (λ (d : Sealed). buffer_at site bytes from d.end own ∷ []) same,
+      )
+  one_sealed (suc k) i from (c ∷ cs) rs b are there ready at =
+      by (λ j count. one_sealed k j c.end cs (drop c.count rs) b are.1 there ready count) c.is_written refl (c.open_count == 0) refl
+    where
+      x : BufferAt
+      x = buffer_at site bytes from c.end (take c.count rs)
+
+      rest : List BufferAt
+      rest = unwritten_in site bytes c.end cs (drop c.count rs)
+
+      unheld : is_unheld x.held ≡ (c.open_count == 0)
+      unheld = unheld_is site.place (take c.count rs) ∙ ap (λ n. n == 0) (sym are.0.still_open)
+
+      counted : (w o : Bool) → c.is_written ≡ w → (c.open_count == 0) ≡ o → (if (if w then false else o) then suc (ready_count (take k cs)) else ready_count (take k cs)) ≡ i
+      counted w o is is_o = sym (λ j. if (if is j then false else is_o j) then suc (ready_count (take k cs)) else ready_count (take k cs)) ∙ at
+
+      by : ((j : ℕ) → ready_count (take k cs) ≡ j → (own : List Reserved) × (one_pending j rest ≡ buffer_at site bytes (sealed_end c.end (take k cs)) b.end own ∷ []))
+          → (w : Bool) → c.is_written ≡ w → (o : Bool) → (c.open_count == 0) ≡ o
+          → (own : List Reserved) × (one_pending i (if c.is_written then rest else x ∷ rest) ≡ buffer_at site bytes (sealed_end c.end (take k cs)) b.end own ∷ [])
+      by again true is o is_o =
+          let found = again i (counted true o is is_o) in
+          (found.0, ap (λ (w : Bool). one_pending i (if w then rest else x ∷ rest)) is ∙ found.1)
+      by again false is true is_o =
+          let count = counted false true is is_o in
+          let found = again (i - 1) (omega (arith, count)) in
+          let more : (i == 0) ≡ false = grind (arith, nat_tests, count) in (
+            found.0,
+            ap (λ (w : Bool). one_pending i (if w then rest else x ∷ rest)) is
+                ∙ ap (λ (o : Bool). if o then (if i == 0 then x ∷ [] else one_pending (i - 1) rest) else one_pending i rest) (unheld ∙ is_o)
+                ∙ ap (λ (o : Bool). if o then x ∷ [] else one_pending (i - 1) rest) more
+                ∙ found.1,
+          )
+      by again false is false is_o =
+          let found = again i (counted false false is is_o) in (
+            found.0,
+            ap (λ (w : Bool). one_pending i (if w then rest else x ∷ rest)) is
+                ∙ ap (λ (o : Bool). if o then (if i == 0 then x ∷ [] else one_pending (i - 1) rest) else one_pending i rest) (unheld ∙ is_o) ∙ found.1,
+          )
+
   -- those at the front that are written aren't among them
   pub unwritten_run : (from : ℕ) (bs : List Sealed) (rs : List Reserved) → unwritten_in site bytes (run_end from bs) (behind_run bs) (drop (run_count bs) rs) ≡ unwritten_in site bytes from bs rs
   unwritten_run from [] rs = refl
@@ -150,11 +231,22 @@ pending_segment size place v is = pending_sealed v.parts.site v.parts.bytes v.pa
 pub pending_first : (size place : ℕ) (v : SegmentView) (vs : List SegmentView) → IsSegment size place v → pending_in (unwritten (v ∷ vs)) ≡ ready_count v.parts.sealed + pending_in (unwritten vs)
 pending_first size place v vs is = pending_on (unwritten_of v.parts) (unwritten vs) ∙ ap (λ n. n + pending_in (unwritten vs)) (pending_segment size place v is)
 
+-- It has the mark of its segment, where it begins with the header of that.
+abbrev pub IsOnePending : ℕ → List SegmentView → ℕ → SegmentView → Type 0
+IsOnePending i line k v = (b : BufferAt) × (one_pending i (unwritten line) ≡ b ∷ []) × (b.mark ≡ mark_of k v)
+
 -- The i-th buffer of a line that can be written is this one of this segment.
 pub record Finds (line : List SegmentView) (i n k : ℕ) : Type 0 where
   pub ready : IsReadyIn line n k
   pub writes : write_in line n k ≡ write_pending i (unwritten line)
   pub left : (v : SegmentView) → slice_get line n ≡ Some v → unwritten (set line n (written_now k v)) ≡ without_pending i (unwritten line)
+  pub one : (v : SegmentView) → slice_get line n ≡ Some v → IsOnePending i line k v
+
+-- one that is there
+ready_own : (bs : List Sealed) (k : ℕ) → k < length bs → ((b : Sealed) → slice_get bs k ≡ Some b → is_ready b ≡ true) → (b : Sealed) × (slice_get bs k ≡ Some b) × (is_ready b ≡ true)
+ready_own [] k inside able = absurd (omega (arith, inside))
+ready_own (c ∷ cs) zero inside able = (c, refl, able c refl)
+ready_own (c ∷ cs) (suc k) inside able = ready_own cs k (omega (arith, inside)) able
 
 pub finds_first : (size place : ℕ) (v : SegmentView) (vs : List SegmentView) (i k : ℕ) → IsSegment size place v → i < ready_count v.parts.sealed → k < length v.parts.sealed → ((b : Sealed) → slice_get v.parts.sealed k ≡ Some b → is_ready b ≡ true)
     → ready_count (take k v.parts.sealed) ≡ i → Finds (v ∷ vs) i 0 k
@@ -173,6 +265,15 @@ finds_first size place v vs i k is low within ready at =
           ∙ ap (λ (cs : List Sealed). unwritten_in v.parts.site v.parts.bytes v.parts.written_len cs v.parts.reserved) (sym (pending_marked bs k i ready within at))
           ∙ left_sealed v.parts.site v.parts.bytes i v.parts.written_len bs v.parts.reserved is.are)
           ∙ sym (left_front i xs (unwritten vs) few));
+      one = λ u among.
+          let same : v ≡ u = cc in
+          let own = ready_own bs k within ready in
+          let found = one_sealed v.parts.site v.parts.bytes k i v.parts.written_len bs v.parts.reserved own.0 is.are own.1 own.2 at in
+          subst (λ (w : SegmentView). IsOnePending i (v ∷ vs) k w) same (
+            buffer_at v.parts.site v.parts.bytes (begin_at v k) own.0.end found.0,
+            one_front i xs (unwritten vs) few ∙ found.1,
+            ap (λ e. mark_at (begin_at v k) (bytes_between v.parts.bytes (begin_at v k) e)) (sym (end_to v.parts.written_len bs k own.0 own.1)),
+          );
     }
   where
     its : (bs : List Sealed) → k < length bs → ((b : Sealed) → slice_get bs k ≡ Some b → is_ready b ≡ true) → v.parts.sealed ≡ bs → IsReadyIn (v ∷ vs) 0 k
@@ -192,6 +293,9 @@ finds_behind size place v vs i n k is high found =
       ready = record { segment = r.segment; among = r.among; buffer = r.buffer; there = r.there; ready = r.ready };
       writes = found.writes ∙ ap (λ m. write_pending (i - m) (unwritten vs)) (sym count) ∙ sym (write_behind i xs (unwritten vs) past);
       left = λ u among. ap (λ (l : List BufferAt). xs ++ l) (found.left u among ∙ ap (λ m. without_pending (i - m) (unwritten vs)) (sym count)) ∙ sym (left_behind i xs (unwritten vs) past);
+      one = λ u among.
+          let its = found.one u among in
+          (its.0, one_behind i xs (unwritten vs) past ∙ ap (λ m. one_pending (i - m) (unwritten vs)) count ∙ its.1, its.2);
     }
 
 -- The segments that go have none.

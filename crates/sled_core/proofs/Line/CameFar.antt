@@ -22,6 +22,7 @@ use Rattle.sled_core.proofs.Line.HeaderMarks.{none_begun}
 use Rattle.sled_core.proofs.Line.Lying.{synced_up}
 use Rattle.sled_core.proofs.Line.Segments.{line_segments}
 use Rattle.sled_core.proofs.Stable.EndLemmas.{or_beyond}
+use Rattle.sled_core.specs.Account.{account_behind, account_of}
 
 -- What a failure leaves of a call is no sync,
 torn_unsynced : (e torn : Event) (t : Trace) → Tears e torn → syncs (torn ∷ t) ≡ syncs t
@@ -61,6 +62,7 @@ module _ {D C : Type 0} (trace : D → Trace) (sum : List ℕ → ℕ) (faults :
       count = so_far.count;
       left = waiting ∙ so_far.gone ∙ sym (ap (λ (o : Bool). drop so_far.count (if o then buffers_of sum old else waiting_of old)) not_current);
       start = start ∙ so_far.start ∙ sym (ap (λ (o : Bool). if o then start_sealed old else start_of old) not_current);
+      account = none.account ∙ so_far.account ∙ sym (ap (λ (o : Bool). account_behind (take so_far.count (if o then buffers_of sum old else waiting_of old)) (account_of old)) not_current);
       synced = none.synced ∙ so_far.synced;
       whole = λ sound. none.still sound ∙ so_far.came ∙ ap (λ (es : List Event). after_all es (trace (device_of old))) done_is;
       short = short;
@@ -79,14 +81,14 @@ on_err_both (Err e) A B P f a b = f a b
 module _ {D C : Type 0} (trace : D → Trace) (sum : List ℕ → ℕ) (old mid new : Log D C) where
   -- Its place was on the device, or is, and then its record wasn't read.
   pub came_behind : {T T' : Type 0} (lsn : ℤ) (x : T) (r : Result T' Error) → WritesAround {T = T} sum (Ok x) lsn old mid → trace (device_of mid) ≡ after_all (settling sum old lsn) (trace (device_of old))
-      → held_at sum old lsn ≡ None → (lsn <ℤ pos (synced_end old) → trace (device_of mid) ≡ trace (device_of old)) → waiting_of new ≡ waiting_of mid → start_of new ≡ start_of mid → trace (device_of new) ≡ trace (device_of mid) → OnErr r (CameAround trace sum lsn old new)
-  came_behind lsn x (Ok y) writes made free still waiting start same = tt
-  came_behind lsn x (Err e) writes made free still waiting start same = elim (or_beyond (pos (synced_end old)) lsn) [
+      → held_at sum old lsn ≡ None → (lsn <ℤ pos (synced_end old) → trace (device_of mid) ≡ trace (device_of old)) → waiting_of new ≡ waiting_of mid → start_of new ≡ start_of mid → account_of new ≡ account_of mid → trace (device_of new) ≡ trace (device_of mid) → OnErr r (CameAround trace sum lsn old new)
+  came_behind lsn x (Ok y) writes made free still waiting start account same = tt
+  came_behind lsn x (Err e) writes made free still waiting start account same = elim (or_beyond (pos (synced_end old)) lsn) [
     | inl behind ↦ (
         let above : pos 0 ≤ℤ lsn = omega (arith, ints, behind) in
         let at : pos (unsigned_abs lsn) ≡ lsn = omega (arith, ints, above) in
-        inr (inr ((waiting ∙ (writes.written behind).0, start ∙ (writes.written behind).1), same ∙ made ∙ ap (λ z. after_all (settling sum old z) (trace (device_of old))) (sym at), ap (held_at sum old) at ∙ free)))
-    | inr below ↦ inl ((waiting ∙ (writes.still below).0, start ∙ (writes.still below).1), same ∙ still below, λ above. (let up = synced_up old in absurd (omega (arith, ints, below, above, up))))
+        inr (inr ((waiting ∙ (writes.written behind).0, start ∙ (writes.written behind).1, account ∙ (writes.written behind).2), same ∙ made ∙ ap (λ z. after_all (settling sum old z) (trace (device_of old))) (sym at), ap (held_at sum old) at ∙ free)))
+    | inr below ↦ inl ((waiting ∙ (writes.still below).0, start ∙ (writes.still below).1, account ∙ (writes.still below).2), same ∙ still below, λ above. (let up = synced_up old in absurd (omega (arith, ints, below, above, up))))
   ]
 
 -- A read did nothing.
@@ -95,7 +97,7 @@ module _ {T D C : Type 0} (log : Log D C) (lsn : ℤ) (e : Error) (never : IsHel
   seals_none = record { still = λ _. refl; apart = λ _. refl; once = inl refl; held = λ held. absurd (never held); none = λ _. tt }
 
   pub around_none : (sum : List ℕ → ℕ) → WritesAround {T = T} sum (Err e) lsn log log
-  around_none sum = record { still = λ _. (refl, refl); written = λ _. tt; held = λ held. absurd (never held); some = inl (refl, refl); marked = none_begun sum log log refl (λ h there. there) (λ f there. there) }
+  around_none sum = record { still = λ _. (refl, refl, refl); written = λ _. tt; held = λ held. absurd (never held); some = inl (refl, refl, refl); marked = none_begun sum log log refl (λ h there. there) (λ f there. there) }
 
 pub still_around : {D C : Type 0} (trace : D → Trace) (sum : List ℕ → ℕ) (lsn : ℤ) (log : Log D C) → CameAround trace sum lsn log log
-still_around trace sum lsn log = inl ((refl, refl), refl, λ _. refl)
+still_around trace sum lsn log = inl ((refl, refl, refl), refl, λ _. refl)

@@ -16,6 +16,7 @@ use Rattle.sled_core.proofs.Holds.Facts.{IsSegment}
 use Rattle.sled_core.proofs.Line.Lying.{end_of}
 use Rattle.sled_core.proofs.Line.Segments.{AreSegments}
 use Rattle.sled_core.proofs.Sealed.Ended.{ends_up}
+use Rattle.sled_core.specs.HeaderMark.{mark_at}
 
 -- More bytes and reservations behind those of sealed buffers leave these alone.
 pub unwritten_more : (site : SegmentPosition) (bytes more : List ℕ) (from : ℕ) (bs : List Sealed) (rs others : List Reserved) → AreSealed from rs bs → sealed_end from bs ≤ length bytes → unwritten_in site (bytes ++ more) from bs (rs ++ others) ≡ unwritten_in site bytes from bs rs
@@ -29,7 +30,7 @@ unwritten_more site bytes more from (b ∷ bs) rs others are inside =
     let text : bytes_between (bytes ++ more) from b.end ≡ bytes_between bytes from b.end = ap (drop from) (take-append-le b.end bytes more (omega (arith, up, inside))) in
     let own : take b.count (rs ++ others) ≡ take b.count rs = take-append-le b.count rs others within in
     let here : buffer_at site (bytes ++ more) from b.end (take b.count (rs ++ others)) ≡ buffer_at site bytes from b.end (take b.count rs) =
-    λ i. record { place = site.place + from; end = site.place + b.end; lid = site.slot + from; bytes = text i; held = (buffer_at site bytes from b.end (own i)).held } in
+    λ i. record { place = site.place + from; end = site.place + b.end; lid = site.slot + from; bytes = text i; held = (buffer_at site bytes from b.end (own i)).held; mark = mark_at from (text i) } in
     λ i. if b.is_written then rest i else here i ∷ rest i
 
 -- One more sealed one comes behind them.

@@ -36,6 +36,7 @@ use Rattle.sled_core.proofs.Line.EndedLine.{over_bytes}
 use Rattle.sled_core.proofs.Line.Ends.{set_keeps}
 use Rattle.sled_core.proofs.Holds.Facts.{nth_facts}
 use Rattle.sled_core.proofs.Holds.Nth.{last_get}
+use Rattle.sled_core.proofs.Line.AccountBehind.{account_same}
 
 -- No buffer is sealed that isn't written where none was.
 
@@ -110,7 +111,7 @@ module _ {D C : Type 0} (old new : Log D C) (n : ℕ) (v : SegmentView) (there :
   left_ended = noted_later old new rest.noted (let same = synced_ended in omega (arith, same))
 
   pub keeps_ended : KeepsAll old new
-  keeps_ended = record { config = rest.config; synced = synced_ended; noted = noted_ended; kept = kept_same old new rest.noted; fault = rest.fault; pins = rest.pins }
+  keeps_ended = record { config = rest.config; synced = synced_ended; noted = noted_ended; kept = kept_same old new rest.noted; fault = rest.fault; pins = rest.pins; account = account_same old new rest.marks rest.pins }
 
   pub goes_on_ended : (trace : D → Trace) (sum : List ℕ → ℕ) → GoesOn trace sum old new
   goes_on_ended trace sum = goes_on_quietly trace sum old new (record { config = ap (λ (c : RunningConfig D C). c.config) rest.config; checksum = ap (λ (c : RunningConfig D C). c.checksum) rest.config })

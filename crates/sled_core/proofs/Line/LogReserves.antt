@@ -55,6 +55,7 @@ use Rattle.sled_core.proofs.OwnLog.Calls.{own_reserved}
 use Rattle.sled_core.proofs.Reserve.Heads.{length-short_header_tail}
 use Rattle.sled_core.proofs.Reserve.ReserveLemmas.{head_whole, more_long, stands}
 use Rattle.sled_core.proofs.Sealed.Ended.{ends_up}
+use Rattle.sled_core.proofs.Line.AccountBehind.{account_same}
 
 -- Where its record is put.
 
@@ -173,7 +174,7 @@ module _ {D C : Type 0} (trace : D → Trace) (sum : List ℕ → ℕ) (old new 
   kept_noted = noted_same old new rest.noted reserves_synced
 
   pub reserves_same : KeepsAll old new
-  reserves_same = record { config = rest.config; synced = reserves_synced; noted = kept_noted; kept = kept_same old new rest.noted; fault = rest.fault; pins = rest.pins }
+  reserves_same = record { config = rest.config; synced = reserves_synced; noted = kept_noted; kept = kept_same old new rest.noted; fault = rest.fault; pins = rest.pins; account = account_same old new rest.marks rest.pins }
 
   pub reserves_current : current_of new ≡ reserved_now more r (current_of old)
   reserves_current = ap (last_of v) line ∙ last_changed (reserved_now more r) v v vs

@@ -12,10 +12,11 @@ use Rattle.sled_core.specs.Fits.{KeepsBuffers, buffers_of, current_begin, curren
 use Rattle.sled_core.specs.Keeps.{LeavesAbove, LeavesSome, sealed_for, start_for, start_sealed}
 use Rattle.sled_core.specs.Positions.{is_short}
 use Rattle.sled_core.specs.inside.Turned.{ended_now, next_line, promoted, reserved_now, written_now}
-use Rattle.sled_core.specs.Waiting.{BufferAt, BufferStart, at_last, closed_now, last_of, not_below, sealed_now, spans, start_in, unwritten}
+use Rattle.sled_core.specs.Waiting.{BufferAt, BufferStart, at_last, closed_now, last_of, front_below, not_below, sealed_now, spans, start_in, unwritten}
 use Rattle.sled_core.proofs.Line.Below.{BeginFrom, IsFirst}
 use Rattle.sled_core.proofs.Holds.Facts.{current_facts}
 use Rattle.sled_core.proofs.Line.Spans.{ended_spans, ended_start, next_start, next_unwritten, reserved_start, reserved_unwritten, sealed_start, written_start}
+use Rattle.sled_core.specs.Account.{account_behind, account_of}
 
 -- A log whose segments are these has these buffers, and its current one begins there.
 
@@ -135,8 +136,8 @@ module _ {D C : Type 0} (sum : List ℕ → ℕ) (to : ℕ) where
     start_is : start_for to old ≡ start_of old
     start_is = ap (λ (o : Bool). if o then start_sealed old else start_of old) not_current
 
-    pub leaves_above : IsLeft to (waiting_of old) (waiting_of new) → BeginFrom to (waiting_of new) → LeavesAbove sum to old new
-    leaves_above left begin = record { left = left_above to (waiting_of old) (waiting_of new) left begin ∙ ap (not_below to) (sym for_is); start = start ∙ sym start_is }
+    pub leaves_above : IsLeft to (waiting_of old) (waiting_of new) → BeginFrom to (waiting_of new) → account_of new ≡ account_behind (front_below to (waiting_of old)) (account_of old) → LeavesAbove sum to old new
+    leaves_above left begin account = record { left = left_above to (waiting_of old) (waiting_of new) left begin ∙ ap (not_below to) (sym for_is); start = start ∙ sym start_is; account = account ∙ ap (λ (l : List BufferAt). account_behind (front_below to l) (account_of old)) (sym for_is) }
 
   -- and where the current one is sealed first, which begins below the place
   module _ (old mid new : Log D C) (below : current_begin old < to) (sealed : to ≤ current_begin mid) (waiting : waiting_of mid ≡ buffers_of sum old) (start : start_of mid ≡ start_sealed old) where
@@ -149,8 +150,8 @@ module _ {D C : Type 0} (sum : List ℕ → ℕ) (to : ℕ) where
     same_start : start_for to mid ≡ start_for to old
     same_start = start_is mid mid sealed refl ∙ start ∙ sym (ap (λ (o : Bool). if o then start_sealed old else start_of old) current)
 
-    pub above_first : LeavesAbove sum to mid new → LeavesAbove sum to old new
-    above_first leaves = record { left = leaves.left ∙ ap (not_below to) same_for; start = leaves.start ∙ same_start }
+    pub above_first : account_of mid ≡ account_of old → LeavesAbove sum to mid new → LeavesAbove sum to old new
+    above_first account leaves = record { left = leaves.left ∙ ap (not_below to) same_for; start = leaves.start ∙ same_start; account = leaves.account ∙ (λ i. account_behind (front_below to (same_for i)) (account i)) }
 
     pub some_first : LeavesSome sum to mid new → LeavesSome sum to old new
     some_first (inl same) = inr (0, same.0 ∙ waiting ∙ sym (ap (λ (o : Bool). if o then buffers_of sum old else waiting_of old) current), same.1 ∙ start ∙ sym (ap (λ (o : Bool). if o then start_sealed old else start_of old) current))

@@ -29,14 +29,14 @@ use Rattle.sled_core.proofs.Line.MarkedSlots.{fits_marked, goes_on_marked, holds
 
 -- What a mark makes of the account of a log it makes of the log, whose configuration is the same one.
 pub account_marks : {D C T : Type 0} (log : Log D C) {config : RunningConfig D C} (accountant : SegmentAccountant)
-    {line : line-type D C config log.segments log.ready accountant log.reserved_to log.fault log.pins log.batches}
+    {line : line-type D C config log.segments log.ready accountant log.reserved_to log.fault log.pins log.marks log.batches}
     {account : IsAccountant config.config.segment_size accountant}
     {noted : AreNotedBatches log.reserved_to log.segments log.batches}
     (step : Machine → Machine) (result : Result T Error) → OnOk result (machine_of accountant ≡ step (machine_at log))
     → OnErr result (machine_of accountant ≡ machine_at log)
     → config ≡ log.config → Marks result step log (record log { config = config; accountant = accountant; line = line; account = account; noted = noted })
 account_marks log accountant step result made refused same =
-    record { made = made; refused = refused; rest = record { config = same; segments = refl; reserved = refl; fault = refl; pins = refl; batches = refl } }
+    record { made = made; refused = refused; rest = record { config = same; segments = refl; reserved = refl; fault = refl; pins = refl; marks = refl; batches = refl } }
 
 -- where nothing was marked the log fits what it did
 unmarked_fits : {D C : Type 0} (trace : D → Trace) (sum : List ℕ → ℕ) (old new : Log D C) → ChangesAccount old new → machine_at new ≡ machine_at old

@@ -46,10 +46,10 @@ use Rattle.sled_core.proofs.Reserve.ReserveLemmas.{head_whole, message_is, more_
 -- A caller sees as much of a log behind a call that keeps all of it, and behind two that keep what is seen.
 
 pub seen_all : {D C : Type 0} (old new : Log D C) → KeepsAll old new → KeepsSeen old new
-seen_all old new all = record { synced = all.synced; noted = all.noted; pins = all.pins }
+seen_all old new all = record { synced = all.synced; noted = all.noted; pins = all.pins; account = all.account }
 
 pub seen_further : {D C : Type 0} (old mid new : Log D C) → KeepsSeen old mid → KeepsSeen mid new → KeepsSeen old new
-seen_further old mid new first second = record { synced = second.synced ∙ first.synced; noted = second.noted ∙ first.noted; pins = second.pins ∙ first.pins }
+seen_further old mid new first second = record { synced = second.synced ∙ first.synced; noted = second.noted ∙ first.noted; pins = second.pins ∙ first.pins; account = second.account ∙ first.account }
 
 -- The header is one of a record with a body of n bytes, in a segment of this number.
 pub record IsHeadOf (head : Head) (kept : Purpose) (n number : ℕ) : Type 0 where
@@ -256,7 +256,7 @@ module _ {D C : Type 0} {trace : D → Trace} {sum : List ℕ → ℕ} {old mid 
   pub made_same : KeepsAll old mid → KeepsAll old new
   made_same first =
       let second = reserves_same trace sum mid new more r line laid.rest laid.accountant fits in
-      record { config = second.config ∙ first.config; synced = second.synced ∙ first.synced; noted = second.noted ∙ first.noted; kept = omega (arith, first.kept, second.kept); fault = second.fault ∙ first.fault; pins = second.pins ∙ first.pins }
+      record { config = second.config ∙ first.config; synced = second.synced ∙ first.synced; noted = second.noted ∙ first.noted; kept = omega (arith, first.kept, second.kept); fault = second.fault ∙ first.fault; pins = second.pins ∙ first.pins; account = second.account ∙ first.account }
 
   pub made_others : (t : Reservation) (m : Message) → Awaits old t m → Awaits new t m
   made_others t m awaits = reserves_others trace sum mid new more r line laid.rest laid.accountant fits t m (ready.tickets.awaits t m awaits)

@@ -52,6 +52,7 @@ use Rattle.sled_core.proofs.Line.Segments.{line_segments}
 use Rattle.sled_core.proofs.Line.Settles.{stable_written}
 use Rattle.sled_core.proofs.Logged.Messages.{in_map, inline_same, inline_there, table_logged}
 use Rattle.sled_core.proofs.Stable.EndLemmas.{or_beyond}
+use Rattle.sled_core.specs.Account.{account_of}
 
 -- The calls that settle a place leave the snapshots as they were.
 around_names : (at : ℕ) (bs : List BufferAt) (t : Trace) → (state_of (after_all (write_around at bs) t)).snapshots ≡ (state_of t).snapshots
@@ -293,16 +294,16 @@ module _ {D C : Type 0} (lsn : ℤ) (old mid : Log D C) where
   pub around_err : {T T' : Type 0} (sum : List ℕ → ℕ) (e : Error) → WritesAround {T = T} sum (Err e) lsn old mid → WritesAround {T = T'} sum (Err e) lsn old mid
   around_err {T = T} {T' = T'} sum e is = record { still = is.still; written = λ _. tt; held = λ held. is.held (held_alike T T' e held); some = is.some; marked = is.marked }
 
-  pub around_read : {T T' : Type 0} (sum : List ℕ → ℕ) (r : Result T' Error) (new : Log D C) (x : T) → WritesAround {T = T} sum (Ok x) lsn old mid → waiting_of new ≡ waiting_of mid → start_of new ≡ start_of mid → (IsHeld r → ⊥) → KeepsSegment mid new → WritesAround sum r lsn old new
-  around_read sum r new x is waiting start free segment = record {
-    still = λ below. (waiting ∙ (is.still below).0, start ∙ (is.still below).1);
+  pub around_read : {T T' : Type 0} (sum : List ℕ → ℕ) (r : Result T' Error) (new : Log D C) (x : T) → WritesAround {T = T} sum (Ok x) lsn old mid → waiting_of new ≡ waiting_of mid → start_of new ≡ start_of mid → account_of new ≡ account_of mid → (IsHeld r → ⊥) → KeepsSegment mid new → WritesAround sum r lsn old new
+  around_read sum r new x is waiting start account free segment = record {
+    still = λ below. (waiting ∙ (is.still below).0, start ∙ (is.still below).1, account ∙ (is.still below).2);
     written = λ behind. all_ok r _ (left behind);
     held = λ held. absurd (free held);
-    some = elim (or_beyond (pos (synced_end old)) lsn) [ inl behind ↦ all_err r _ (inr (inr (left behind))) | inr below ↦ all_err r _ (inl (waiting ∙ (is.still below).0, start ∙ (is.still below).1)) ];
+    some = elim (or_beyond (pos (synced_end old)) lsn) [ inl behind ↦ all_err r _ (inr (inr (left behind))) | inr below ↦ all_err r _ (inl (waiting ∙ (is.still below).0, start ∙ (is.still below).1, account ∙ (is.still below).2)) ];
     marked = marked_same sum old mid new is.marked segment (ap (λ (s : BufferStart). s.place) start);
   } where
     left : pos (synced_end old) ≤ℤ lsn → LeavesWritten sum (unsigned_abs lsn) old new
-    left behind = (waiting ∙ (is.written behind).0, start ∙ (is.written behind).1)
+    left behind = (waiting ∙ (is.written behind).0, start ∙ (is.written behind).1, account ∙ (is.written behind).2)
 
 -- a place that isn't negative
 pub pos_abs : (z : ℤ) → pos 0 ≤ℤ z → pos (unsigned_abs z) ≡ z

@@ -44,7 +44,7 @@ module _ {D C : Type 0} (trace : D → Trace) (faults : D → ℕ) (sum : List �
 
   -- What runs the log stays, what is written of it, its failure and its pins.
   pub inline_keeps : (result : Result Reservation Error) → ReservesInline result → KeepsAll old new
-  inline_keeps result came = record { config = came.device; synced = came.seen.synced; noted = came.seen.noted; kept = came.keeps.kept; fault = fault result came; pins = came.seen.pins } where
+  inline_keeps result came = record { config = came.device; synced = came.seen.synced; noted = came.seen.noted; kept = came.keeps.kept; fault = fault result came; pins = came.seen.pins; account = came.seen.account } where
     fault : (result : Result Reservation Error) → ReservesInline result → fault_of new ≡ fault_of old
     fault (Ok ticket) came = came.answers.0.1 ∙ sym came.answers.0.0
     fault (Err e) came = (refused_inline sum old new page (length item) false refl e came.left).fault

@@ -39,6 +39,7 @@ use Rattle.sled_core.proofs.Reserve.Ranges.{at_there}
 use Rattle.sled_core.proofs.Reserve.ReserveLemmas.{there_append, there_last}
 use Rattle.sled_core.proofs.Sealed.Ended.{ends_rise}
 use Rattle.sled_core.proofs.Sealed.LaidLemmas.{EndsRise, ends_below}
+use Rattle.sled_core.specs.HeaderMark.{mark_at}
 
 -- A reservation with these bytes has a place behind what is there in a segment of this size.
 pub record HasPlaceFor (sum : List ℕ → ℕ) (size : ℕ) (more : List ℕ) (r : Reserved) (v : SegmentView) : Type 0 where
@@ -151,7 +152,7 @@ module _ (sum : List ℕ → ℕ) (size : ℕ) (more : List ℕ) (r : Reserved) 
       ap (unwritten_in site (bytes ++ more) b.end bs) (drop-append-le b.count rs (r ∷ []) within) ∙ unwritten_more site bytes b.end bs (drop b.count rs) are.1 rise.1 in
       let here : buffer_at site (bytes ++ more) from b.end (take b.count (rs ++ r ∷ [])) ≡ buffer_at site bytes from b.end (take b.count rs) =
       ap (λ (l : List Reserved). buffer_at site (bytes ++ more) from b.end l) (take-append-le b.count rs (r ∷ []) within)
-      ∙ ap (λ (l : List ℕ). record (buffer_at site bytes from b.end (take b.count rs)) { bytes = drop from l }) (take-append-le b.end bytes more end) in
+      ∙ ap (λ (l : List ℕ). record (buffer_at site bytes from b.end (take b.count rs)) { bytes = drop from l; mark = mark_at from (drop from l) }) (take-append-le b.end bytes more end) in
       λ i. if b.is_written then rest i else here i ∷ rest i
 
   -- All begins below the end of the new record.

@@ -29,6 +29,8 @@ use Rattle.sled_core.proofs.Line.LogSpans.{above_first, leaves_above, left_all, 
 use Rattle.sled_core.proofs.Line.Lying.{synced_up}
 use Rattle.sled_core.proofs.Line.Outcomes.{answers_used, held_alike, on_done, on_err, on_ok}
 use Rattle.sled_core.proofs.Line.Segments.{line_segments}
+use Rattle.sled_core.specs.Account.{account_behind, account_of}
+use Rattle.sled_core.proofs.Line.AccountBehind.{account_unchanged, front_none}
 
 -- The current buffer holds something, where it begins below a place that was reserved.
 pub some_below : {D C : Type 0} (log : Log D C) (to : ℕ) → to ≤ reserved_end log → current_begin log < to → holds_any (current_of log) ≡ true
@@ -72,15 +74,18 @@ module _ {D C : Type 0} (sum : List ℕ → ℕ) (to : ℕ) (old mid : Log D C) 
     holding_more = ap (held_below to) adds.is ∙ held_front to (buffers_of sum old) adds.more (begin_all (reserved_end old) to adds.more reserved adds.behind)
 
   -- so many of them at the front are written of the one as of the other
-  pub front_first : {trace : D → Trace} (adds : AddsBuffers sum old mid) (new : Log D C) → current_begin old < to → to ≤ current_begin mid → waiting_of mid ≡ buffers_of sum old → start_of mid ≡ start_sealed old → device_of mid ≡ device_of old
+  pub front_first : {trace : D → Trace} (adds : AddsBuffers sum old mid) (new : Log D C) → current_begin old < to → to ≤ current_begin mid → waiting_of mid ≡ buffers_of sum old → start_of mid ≡ start_sealed old → device_of mid ≡ device_of old → account_of mid ≡ account_of old
       → WroteFront trace sum to mid new → WroteFront trace sum to old new
-  front_first {trace} adds new below sealed waiting start device front =
+  front_first {trace} adds new below sealed waiting start device account front =
       let before : nat_lt (current_begin old) to ≡ true = grind (arith, nat_tests, below) in
       let behind : nat_lt (current_begin mid) to ≡ false = grind (arith, nat_tests, sealed) in
       record {
         count = front.count;
         left = front.left ∙ (λ i. drop front.count (if behind i then buffers_of sum mid else waiting i)) ∙ sym (ap (λ (o : Bool). drop front.count (if o then buffers_of sum old else waiting_of old)) before);
         start = front.start ∙ (λ i. if behind i then start_sealed mid else start i) ∙ sym (ap (λ (o : Bool). if o then start_sealed old else start_of old) before);
+        account = front.account
+            ∙ (λ i. account_behind (take front.count (if behind i then buffers_of sum mid else waiting i)) (account i))
+            ∙ sym (ap (λ (o : Bool). account_behind (take front.count (if o then buffers_of sum old else waiting_of old)) (account_of old)) before);
         synced = front.synced ∙ ap (λ d. front.count + syncs (trace d)) device;
         whole = λ sound. front.whole sound ∙ (λ i. after_all (take (2 * front.count) (writing_more adds i)) (trace (device i)));
         short = front.short;
@@ -90,7 +95,7 @@ module _ {D C : Type 0} (sum : List ℕ → ℕ) (to : ℕ) (old mid : Log D C) 
   sealed_past begins = let most = ends_behind old in omega (arith, reserved, begins, most)
 
   -- What is written and what is left is of the log as it was.
-  module _ {T : Type 0} (new : Log D C) (result : Result T Error) (below : current_begin old < to) (begins : current_begin mid ≡ sealing_end old) (waiting : waiting_of mid ≡ buffers_of sum old) (start : start_of mid ≡ start_sealed old) (synced : synced_end mid ≡ synced_end old)
+  module _ {T : Type 0} (new : Log D C) (result : Result T Error) (below : current_begin old < to) (begins : current_begin mid ≡ sealing_end old) (waiting : waiting_of mid ≡ buffers_of sum old) (start : start_of mid ≡ start_sealed old) (synced : synced_end mid ≡ synced_end old) (account : account_of mid ≡ account_of old)
       (current : current_begin new ≡ current_begin mid) (none : ((b : BufferAt) → Contains (waiting_of mid) b → b.place < to) → OnOk result (NoneSealed new)) (one : length (waiting_of mid) ≤ 1 → OnErr result (synced_end new ≡ synced_end mid))
       (above : OnOk result (LeavesAbove sum to mid new)) (some : OnErr result (LeavesSome sum to mid new)) (marked : BeginsMarked sum old new) where
     few : NoneSealed old → (length (waiting_of mid) ≤ 1) × ((b : BufferAt) → Contains (waiting_of mid) b → b.place < to)
@@ -106,7 +111,7 @@ module _ {D C : Type 0} (sum : List ℕ → ℕ) (to : ℕ) (old mid : Log D C) 
         none = λ unsealed. none (few unsealed).1;
         err = λ unsealed. on_err result (synced_end new ≡ synced_end mid) (synced_end new ≡ synced_end old) (λ same. same ∙ synced) (one (few unsealed).0);
       };
-      above = on_ok result (LeavesAbove sum to mid new) (LeavesAbove sum to old new) (above_first sum to old mid new below (sealed_past begins) waiting start) above;
+      above = on_ok result (LeavesAbove sum to mid new) (LeavesAbove sum to old new) (above_first sum to old mid new below (sealed_past begins) waiting start account) above;
       some = on_err result (LeavesSome sum to mid new) (LeavesSome sum to old new) (some_first sum to old mid new below (sealed_past begins) waiting start) some;
       marked = marked;
     }
@@ -135,7 +140,8 @@ writes_already sum to log x past =
     let up = synced_up log in
     record {
       seals = record { held = λ held. absurd held; none = λ unsealed. unsealed; err = λ unsealed. tt };
-      above = leaves_above sum to log log (omega (arith, past, up)) refl (left_all to (waiting_of log)) (line_past size log.segments.first.site.place to first behind (line_segments log) past);
+      above = leaves_above sum to log log (omega (arith, past, up)) refl (left_all to (waiting_of log)) (line_past size log.segments.first.site.place to first behind (line_segments log) past)
+          (ap (λ (l : List BufferAt). account_behind l (account_of log)) (sym (front_none to (waiting_of log) (line_past size log.segments.first.site.place to first behind (line_segments log) past))));
       some = tt;
       marked = none_begun sum log log refl (λ h there. there) (λ f there. there);
     }
@@ -169,13 +175,13 @@ writes_none sum to log e never = record {
 }
 
 pub still_came : {D C : Type 0} (trace : D → Trace) (sum : List ℕ → ℕ) (to : ℕ) (log : Log D C) (e : IoError) → fault_of log ≡ Some e → CameTo trace sum to log log
-still_came trace sum to log e kept = inl (record { fault = refl; waiting = refl; start = refl; still = refl; due = λ none. absurd (let bad : None ≡ Some e = sym none ∙ kept in cc) })
+still_came trace sum to log e kept = inl (record { fault = refl; waiting = refl; start = refl; account = refl; still = refl; due = λ none. absurd (let bad : None ≡ Some e = sym none ∙ kept in cc) })
 
 -- so none was written
 pub unchanged_came : {D C : Type 0} (trace : D → Trace) (sum : List ℕ → ℕ) (to : ℕ) (old new : Log D C) → current_begin old < to → IsUnchanged old new → CameTo trace sum to old new
 unchanged_came {D} {C} trace sum to old new below same =
     let buffers = same_buffers old new same.line in
-    inl (record { fault = same.fault; waiting = buffers.0; start = buffers.1; still = ap (λ (x : RunningConfig D C). trace x.device) same.config; due = λ _. below })
+    inl (record { fault = same.fault; waiting = buffers.0; start = buffers.1; account = account_unchanged old new same; still = ap (λ (x : RunningConfig D C). trace x.device) same.config; due = λ _. below })
 
 -- What a call has before it writes, where the buffers that begin below a place are sealed: the log that it was, or the one with its current buffer sealed.
 module _ {D C : Type 0} (trace : D → Trace) (sum : List ℕ → ℕ) (to : ℕ) where
@@ -226,8 +232,8 @@ module _ {D C : Type 0} (trace : D → Trace) (sum : List ℕ → ℕ) (to : ℕ
     holding = holding_more sum to old mid reserved adds;
     unused = λ used. unused used.1;
     marked = marked;
-    writes = λ new result current none one above some known. writes_sealed sum to old mid reserved new result below begins waiting start same.synced current none one above some known;
-    fronts = λ new front. front_first sum to old mid reserved adds new below (sealed_past sum to old mid reserved begins) waiting start (ap (λ (x : RunningConfig D C). x.device) same.config) front;
+    writes = λ new result current none one above some known. writes_sealed sum to old mid reserved new result below begins waiting start same.synced same.account current none one above some known;
+    fronts = λ new front. front_first sum to old mid reserved adds new below (sealed_past sum to old mid reserved begins) waiting start (ap (λ (x : RunningConfig D C). x.device) same.config) same.account front;
   }
 
   -- and what it makes of the log as it was

@@ -53,6 +53,7 @@ use Rattle.sled_core.proofs.Line.Moves.{fits_as, holds_as}
 use Rattle.sled_core.proofs.Line.OpenPlaces.{places_sealed}
 use Rattle.sled_core.proofs.OwnLog.Calls.{own_sealed}
 use Rattle.sled_core.proofs.Sealed.Appended.{end_one}
+use Rattle.sled_core.proofs.Line.AccountBehind.{account_same}
 
 -- The current buffer holds something, in a segment of this size.
 pub record IsFilledSome (size : ℕ) (v : SegmentView) : Type 0 where
@@ -128,7 +129,7 @@ module _ {D C : Type 0} (trace : D → Trace) (sum : List ℕ → ℕ) (old new 
   kept_noted = noted_same old new rest.noted sealed_synced
 
   pub sealed_same : KeepsAll old new
-  sealed_same = record { config = rest.config; synced = sealed_synced; noted = kept_noted; kept = kept_same old new rest.noted; fault = rest.fault; pins = rest.pins }
+  sealed_same = record { config = rest.config; synced = sealed_synced; noted = kept_noted; kept = kept_same old new rest.noted; fault = rest.fault; pins = rest.pins; account = account_same old new rest.marks rest.pins }
 
   -- and the current segment is the same but for that.
   pub sealed_current : current_of new ≡ sealed_now (current_of old)

@@ -17,7 +17,7 @@ use Rattle.sled_core.specs.Keeps.{Preserves, SamePosition, start_sealed}
 use Rattle.sled_core.specs.Marked.{BeginsMarked}
 use Rattle.sled_core.specs.inside.Marked.{KeepsSegment}
 use Rattle.sled_core.specs.ReadBuffer.{IsUsedUpAt, LeavesSealed, LeavesWritten, WritesAround, held_at, settling}
-use Rattle.sled_core.specs.Waiting.{BufferAt, Span, has_place, without_around, BufferStart}
+use Rattle.sled_core.specs.Waiting.{BufferAt, Span, has_place, one_around, without_around, BufferStart}
 use Rattle.sled_core.proofs.Line.KeptCalls.{kept_still, position_still, tickets_still}
 use Rattle.sled_core.proofs.Line.Around.{found, found_front, held_found, held_of, writes_found, writes_of}
 use Rattle.sled_core.proofs.Line.Below.{begin_all}
@@ -26,6 +26,7 @@ use Rattle.sled_core.proofs.Line.HeaderMarks.{marked_same, none_begun}
 use Rattle.sled_core.proofs.Line.Outcomes.{held_err, on_err, on_ok}
 use Rattle.sled_core.proofs.Line.SealFirst.{ends_behind}
 use Rattle.sled_core.proofs.Line.Shows.{buffers_add}
+use Rattle.sled_core.specs.Account.{account_behind, account_of}
 
 -- What a call has before it writes the buffer that has the place: the log that it was, or the one with its current buffer sealed.
 pub record SealsFor {D C : Type 0} (trace : D → Trace) (sum : List ℕ → ℕ) (place : ℕ) (old mid : Log D C) : Type 0 where
@@ -66,6 +67,7 @@ seals_still trace sum place log lower = record {
   still test = (
     sym (ap (λ (o : Bool). if o then buffers_of sum log else waiting_of log) test),
     sym (ap (λ (o : Bool). if o then start_sealed log else start_of log) test),
+    refl,
   )
 
 -- what the current buffer holds, where that has a place that was reserved
@@ -104,6 +106,7 @@ seals_current {D} {C} trace sum place old mid above reserved adds waiting begins
     by_test test = (
       waiting ∙ sym (ap (λ (o : Bool). if o then buffers_of sum old else waiting_of old) test),
       start ∙ sym (ap (λ (o : Bool). if o then start_sealed old else start_of old) test),
+      same.account,
     )
 
     by_more : {x b : BufferAt} → x.place ≡ current_begin old → x.end ≡ sealing_end old → place < sealing_end old → x ≡ b → has_place place b ≡ true
@@ -119,23 +122,25 @@ module _ {D C : Type 0} (trace : D → Trace) (sum : List ℕ → ℕ) (place : 
 
   -- and the buffer that has the place is left out, where it is written.
   module _ (new : Log D C) (start : start_of new ≡ start_of mid) where
-    pub leaves_sealed : waiting_of new ≡ waiting_of mid → LeavesSealed sum place old new
-    leaves_sealed same = (same ∙ seals.sealed.0, start ∙ seals.sealed.1)
+    pub leaves_sealed : (waiting_of new ≡ waiting_of mid) × (account_of new ≡ account_of mid) → LeavesSealed sum place old new
+    leaves_sealed same = (same.0 ∙ seals.sealed.0, start ∙ seals.sealed.1, same.1 ∙ seals.sealed.2)
 
-    pub leaves_written : waiting_of new ≡ without_around place (waiting_of mid) → LeavesWritten sum place old new
-    leaves_written is = (is ∙ ap (without_around place) seals.sealed.0, start ∙ seals.sealed.1)
+    pub leaves_written : (waiting_of new ≡ without_around place (waiting_of mid)) × (account_of new ≡ account_behind (one_around place (waiting_of mid)) (account_of mid)) → LeavesWritten sum place old new
+    leaves_written is = (is.0 ∙ ap (without_around place) seals.sealed.0, start ∙ seals.sealed.1, is.1 ∙ (λ i. account_behind (one_around place (seals.sealed.0 i)) (seals.sealed.2 i)))
 
     -- or it could not be
     pub came_sealed : (waiting_of new ≡ waiting_of mid) × WroteNone trace mid new → CameAround trace sum (pos place) old new
     came_sealed failed = inr (inl (
-      leaves_sealed failed.0,
+      leaves_sealed (failed.0, failed.1.account),
       record {
         synced = failed.1.synced ∙ ap (λ d. syncs (trace d)) seals.device;
         still = λ sound. failed.1.still sound ∙ ap trace seals.device;
+        account = failed.1.account ∙ seals.sealed.2;
       },
     ))
 
-    pub writes_around : {T : Type 0} (r : Result T Error) → synced_end old ≤ place → OnOk r (waiting_of new ≡ without_around place (waiting_of mid)) → OnErr r (waiting_of new ≡ waiting_of mid) → KeepsSegment mid new → WritesAround sum r (pos place) old new
+    pub writes_around : {T : Type 0} (r : Result T Error) → synced_end old ≤ place → OnOk r ((waiting_of new ≡ without_around place (waiting_of mid)) × (account_of new ≡ account_behind (one_around place (waiting_of mid)) (account_of mid)))
+        → OnErr r ((waiting_of new ≡ waiting_of mid) × (account_of new ≡ account_of mid)) → KeepsSegment mid new → WritesAround sum r (pos place) old new
     writes_around r behind done failed segment = record {
       still = λ below. absurd (omega (arith, ints, below, behind));
       written = λ _. on_ok r _ _ leaves_written done;

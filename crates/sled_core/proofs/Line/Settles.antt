@@ -18,9 +18,9 @@ use Rattle.sled_core.specs.Fits.{current_of, buffers_of, current_begin, held_len
 use Rattle.sled_core.specs.ReadBuffer.{IsWrittenPlace, held_at, settling}
 use Rattle.sled_core.specs.inside.SealedBuffers.{IsSealed, written_at}
 use Rattle.sled_core.specs.SealedBuffers.{bytes_between, sealed_count, sealed_end, writing}
-use Rattle.sled_core.specs.inside.Turned.{IsReadyIn, promoted, write_in, write_of, written_now}
-use Rattle.sled_core.specs.Waiting.{BufferAt, Span, buffer_at, has_place, held_around, none_around, placed, unless_held, unwritten, unwritten_of, without_around, write_around}
-use Rattle.sled_core.proofs.Line.Around.{IsAround, all_found, begin_above, fewer_line, found, found_above, found_front, found_in, found_line, found_there, found_written, held_found, held_of, is_none, left_of, none_found, without_in, without_line, without_none, writes_found, writes_of}
+use Rattle.sled_core.specs.inside.Turned.{IsReadyIn, promoted, write_in, write_of, written_now, begin_at, mark_of}
+use Rattle.sled_core.specs.Waiting.{BufferAt, Span, buffer_at, has_place, held_around, none_around, one_around, placed, unless_held, unwritten, unwritten_of, without_around, write_around}
+use Rattle.sled_core.proofs.Line.Around.{IsAround, all_found, begin_above, fewer_line, found, found_above, found_front, found_in, found_line, found_there, found_written, held_found, held_of, is_none, left_of, none_found, without_in, without_line, without_none, writes_found, writes_of, list_of, one_found}
 use Rattle.sled_core.proofs.Line.Below.{lie_begin, none_first}
 use Rattle.sled_core.proofs.Line.Entered.{filled_last}
 use Rattle.sled_core.proofs.Holds.Facts.{IsSegment, current_facts, nth_facts}
@@ -31,6 +31,8 @@ use Rattle.sled_core.proofs.Reserve.OpenCounts.{first_there}
 use Rattle.sled_core.proofs.Sealed.Around.{sealed_at}
 use Rattle.sled_core.proofs.Sealed.Progress.{first_front, open_front}
 use Rattle.sled_core.proofs.Sealed.Slices.{end_to}
+use Rattle.sled_core.specs.Account.{account_behind, account_of, written_account}
+use Rattle.sled_core.specs.HeaderMark.{mark_at}
 
 -- The number of the segment that has the place is that of one of the log.
 pub number_inside : {D C : Type 0} (log : Log D C) (place : ℕ) → log.segments.first.site.place ≤ place → place < (current_of log).parts.site.place + segment_size_of log → (place - log.segments.first.site.place) / segment_size_of log ≤ length log.segments.behind.items
@@ -140,6 +142,12 @@ module _ {D C : Type 0} (log : Log D C) (place : ℕ) (looked : LooksAt log plac
   pub without_still : found place (unwritten_of v.parts) ≡ None → waiting_of log ≡ without_around place (waiting_of log)
   without_still is = sym (without_none place (waiting_of log) (waiting_found ∙ is))
 
+  pub account_found : (o : Option BufferAt) → found place (unwritten_of v.parts) ≡ o → one_around place (waiting_of log) ≡ list_of o
+  account_found o is = one_found place (waiting_of log) ∙ ap list_of (waiting_found ∙ is)
+
+  pub account_still : found place (unwritten_of v.parts) ≡ None → account_of log ≡ account_behind (one_around place (waiting_of log)) (account_of log)
+  account_still is = ap (λ (l : List BufferAt). account_behind l (account_of log)) (sym (account_found None is))
+
   -- It lies in what was written without a gap,
   pub found_early : place - v.parts.site.place < v.parts.written_len → found place (unwritten_of v.parts) ≡ None
   found_early early =
@@ -223,6 +231,11 @@ module _ {D C : Type 0} (log : Log D C) (place : ℕ) (looked : LooksAt log plac
           ∙ ap (λ e. writing sought.lid (bytes_between v.parts.bytes (sealed_end v.parts.written_len (take k v.parts.sealed)) e) []) (end_to v.parts.written_len v.parts.sealed k b there)
           ∙ sym (ap (λ (o : Option ℕ). unless_held o (writing sought.lid sought.bytes [])) free)
           ∙ sym (settling_found sum (Some sought) seen)
+
+      pub account_it : account_behind (one_around place (waiting_of log)) (account_of log) ≡ written_account (mark_of k v) (account_of log)
+      account_it =
+          ap (λ (l : List BufferAt). account_behind l (account_of log)) (account_found (Some sought) seen)
+          ∙ ap (λ e. written_account (mark_at (begin_at v k) (bytes_between v.parts.bytes (begin_at v k) e)) (account_of log)) (sym (end_to v.parts.written_len v.parts.sealed k b there))
 
       found_marked : found place (unwritten_of (written_now k v).parts) ≡ None
       found_marked =

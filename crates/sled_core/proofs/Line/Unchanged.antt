@@ -20,10 +20,11 @@ use Rattle.sled_core.proofs.Line.KeptCalls.{goes_on_quietly}
 use Rattle.sled_core.proofs.Line.LineEnds.{kept_same, noted_quiet, noted_same}
 use Rattle.sled_core.proofs.Line.Moves.{fits_as, holds_as}
 use Rattle.sled_core.specs.Logged.{in_log}
+use Rattle.sled_core.proofs.Line.AccountBehind.{account_unchanged}
 
 -- A call that changes the segments alone, and leaves what is seen of them, leaves it so.
 pub left_alone : {D C : Type 0} (old new : Log D C) → line_of new ≡ line_of old → ChangesLine old new → IsUnchanged old new
-left_alone old new line rest = record { line = line; reserved = rest.reserved; fault = rest.fault; pins = rest.pins; machine = ap machine_of rest.accountant; noted = noted_same old new rest.noted (ap written_to line); kept = kept_same old new rest.noted; config = rest.config }
+left_alone old new line rest = record { line = line; reserved = rest.reserved; fault = rest.fault; pins = rest.pins; marks = rest.marks; machine = ap machine_of rest.accountant; noted = noted_same old new rest.noted (ap written_to line); kept = kept_same old new rest.noted; config = rest.config }
 
 module _ {D C : Type 0} (old new : Log D C) (same : IsUnchanged old new) where
   unchanged_synced : synced_end new ≡ synced_end old
@@ -36,7 +37,7 @@ module _ {D C : Type 0} (old new : Log D C) (same : IsUnchanged old new) where
   unchanged_size = ap (λ (x : RunningConfig D C). x.config.segment_size) same.config
 
   pub unchanged_same : KeepsAll old new
-  unchanged_same = record { config = same.config; synced = unchanged_synced; noted = same.noted; kept = same.kept; fault = same.fault; pins = same.pins }
+  unchanged_same = record { config = same.config; synced = unchanged_synced; noted = same.noted; kept = same.kept; fault = same.fault; pins = same.pins; account = account_unchanged old new same }
 
   pub unchanged_tickets : KeepsTickets old new
   unchanged_tickets = record {
@@ -66,4 +67,4 @@ module _ {D C : Type 0} (old new : Log D C) (same : IsUnchanged old new) where
 
 -- nothing was done
 pub unchanged_still : {D C : Type 0} (log : Log D C) → IsUnchanged log log
-unchanged_still log = record { line = refl; reserved = refl; fault = refl; pins = refl; machine = refl; noted = refl; kept = omega arith; config = refl }
+unchanged_still log = record { line = refl; reserved = refl; fault = refl; pins = refl; marks = refl; machine = refl; noted = refl; kept = omega arith; config = refl }

@@ -89,7 +89,7 @@ alone_answers (Err (error.Held at)) blob old new before after none answers = abs
 
 -- it asks nothing of the device, so what runs the log stays;
 pub alone_keeps : {T D C : Type 0} (trace : D → Trace) (result : Result T Error) (blob : Option ℤ) (old new : Log D C) → blob ≡ None → RemovesBlob trace result blob old new → KeepsSeen old new → kept_batches new ≤ kept_batches old → fault_of new ≡ fault_of old → KeepsAll old new
-alone_keeps trace result blob old new none removes seen kept fault = record { config = removes.none none; synced = seen.synced; noted = seen.noted; kept = kept; fault = fault; pins = seen.pins }
+alone_keeps trace result blob old new none removes seen kept fault = record { config = removes.none none; synced = seen.synced; noted = seen.noted; kept = kept; fault = fault; pins = seen.pins; account = seen.account }
 
 -- and a log that keeps a failure is as it was.
 pub alone_same : {D C : Type 0} (T : Type 0) (old new : Log D C) (e : Error) → FaultAnswers {T = T} (Err e) (fault_of old) → (IsSome (fault_of old) → new ≡ old) → new ≡ old

@@ -6,7 +6,7 @@ use Rattle.sled_core.specs.inside.Tail.{least_place, tail_begins}
 use Rattle.sled_core.proofs.Reached.StandsTo.{StandsTo}
 use Rattle.sled_core.proofs.Tail.Multiples.{lower_multiple}
 
--- It counts from there, and the rest is the same, also what is found and read. No proof cites it yet: a log that frees segments raises the place as a mark joins, and then nothing below the mark's segment is held.
+-- It counts from there, and the rest is the same, also what is found and read. A log that frees segments raises the place as a mark joins, and then nothing below the mark's segment is held (`MarksRaise`).
 abbrev pub held_higher : (sum : List ℕ → ℕ) (size : ℕ) (log : List ℕ) → 256 ≤ size → (H : History) (A : ℕ) (first : SnapshotModel) (reach : ℕ) (is : StandsTo sum size log H A first reach) (from : ℕ) → is.from ≤ from → from ≤ A
     → from / size * size ≤ tail_begins size (least_place size first) is.ordering → StandsTo sum size log H A first reach
 held_higher sum size log some H A first reach is from up high tail = record {

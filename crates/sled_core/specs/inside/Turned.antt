@@ -17,6 +17,7 @@ use Rattle.sled_core.specs.Begun.{SegmentView, view_at}
 use Rattle.sled_core.specs.inside.Buffers.{ended}
 use Rattle.sled_core.specs.Buffers.{most_open, open_in, pointer_as}
 use Rattle.sled_core.specs.Fits.{current_of, segment_size_of}
+use Rattle.sled_core.specs.HeaderMark.{mark_at}
 use Rattle.sled_core.specs.inside.SealedBuffers.{behind_run, first_ready, is_ready, one_ended, run_count, run_end, written_at}
 use Rattle.sled_core.specs.SealedBuffers.{bytes_between, sealed_count, sealed_end, writing}
 use Rattle.sled_core.specs.declared.reservation.Reservation.{Reservation}
@@ -89,6 +90,7 @@ pub record ChangesLine {D C : Type 0} (old new : Log D C) : Type 0 where
   pub reserved : new.reserved_to ≡ old.reserved_to
   pub fault : new.fault.kept ≡ old.fault.kept
   pub pins : new.pins ≡ old.pins
+  pub marks : new.marks ≡ old.marks
   pub accountant : new.accountant ≡ old.accountant
   pub noted : new.batches.noted.items ≡ old.batches.noted.items
 
@@ -97,6 +99,7 @@ pub record ChangesSlots {D C : Type 0} (old new : Log D C) : Type 0 where
   pub config : new.config ≡ old.config
   pub fault : new.fault.kept ≡ old.fault.kept
   pub pins : new.pins ≡ old.pins
+  pub marks : new.marks ≡ old.marks
   pub noted : new.batches.noted.items ≡ old.batches.noted.items
 
 -- A buffer takes a record of this length, and one more reservation, without memory.
@@ -117,6 +120,7 @@ pub record NotesBatch {D C : Type 0} (old new : Log D C) : Type 0 where
   pub reserved : new.reserved_to ≡ old.reserved_to
   pub fault : new.fault.kept ≡ old.fault.kept
   pub pins : new.pins ≡ old.pins
+  pub marks : new.marks ≡ old.marks
   pub manifests : new.batches.manifests ≡ old.batches.manifests
 
 -- It can be filled to the end of a segment of this size, and sealed, without memory.
@@ -188,6 +192,10 @@ write_of k (Some v) = writing (v.parts.site.slot + begin_at v k) (bytes_between 
 abbrev pub write_in : List SegmentView → ℕ → ℕ → List Event
 write_in line n k = write_of k (slice_get line n)
 
+-- the mark of the segment, where that buffer begins with its header
+abbrev pub mark_of : ℕ → SegmentView → Option ℤ
+mark_of k v = mark_at (begin_at v k) (bytes_between v.parts.bytes (begin_at v k) (begin_at v (k + 1)))
+
 -- the first sealed buffer of the first segment begins below a place, and can be written
 abbrev pub ready_below : List SegmentView → ℕ → Bool
 ready_below [] to = false
@@ -200,5 +208,6 @@ pub record ChangesDevice {D C : Type 0} (old new : Log D C) : Type 0 where
   pub segments : new.segments ≡ old.segments
   pub reserved : new.reserved_to ≡ old.reserved_to
   pub pins : new.pins ≡ old.pins
+  pub marks : new.marks ≡ old.marks
   pub accountant : new.accountant ≡ old.accountant
   pub batches : new.batches ≡ old.batches

@@ -3,6 +3,7 @@
 //! The others aren't written, so it may lie behind a gap (`specs/ReadBuffer.antt`).
 ghost use Rattle.std.specs.Prelude.{◌≡◌, ◌<◌, ◌≤◌, ◌<ℤ◌, ◌≤ℤ◌, ◌⊎◌, Contains, pos, unsigned_abs, None, true, OnErr, OnOk};
 ghost use Rattle.sled_store.specs.Script.{after_all, Performs};
+ghost use Rattle.sled_core.specs.Account.{account_behind, account_of};
 ghost use Rattle.sled_core.specs.Causes.{HeldAnswers, OnDone};
 ghost use Rattle.sled_core.specs.Fits.{NoneSealed, current_begin, device_of, fault_of, reserved_end, start_of, synced_end, waiting_of};
 ghost use Rattle.sled_core.specs.Fronts.{CameAround, WroteNone};
@@ -11,7 +12,7 @@ ghost use Rattle.sled_core.specs.inside.Marked.{KeepsSegment};
 ghost use Rattle.sled_core.specs.ReadBuffer.{IsUsedUpAt, IsWrittenPlace, SealsAround, WritesAround, held_at, settling};
 ghost use Rattle.sled_core.specs.inside.ReadBuffer.{SettleAnswers};
 ghost use Rattle.sled_core.specs.Stable.{IsNotReserved};
-ghost use Rattle.sled_core.specs.Waiting.{BufferAt, has_place, without_around};
+ghost use Rattle.sled_core.specs.Waiting.{BufferAt, has_place, one_around, without_around};
 
 use crate::logger::Log;
 use sled_codec::result::{Error, Lsn, Result};
@@ -81,6 +82,7 @@ impl<D: Device, C: Checksum> Log<D, C> {
             (D.faults (device_of self.old)) (D.faults (device_of self.new)) }
         ensures start { start_of self.new ≡ start_of self.old }
         ensures without { OnOk result (waiting_of self.new ≡ without_around place (waiting_of self.old)) }
+        ensures account { OnOk result (account_of self.new ≡ account_behind (one_around place (waiting_of self.old)) (account_of self.old)) }
         ensures same { OnErr result ((waiting_of self.new ≡ waiting_of self.old) × WroteNone D.trace self.old self.new) }
         ensures one { ((b : BufferAt) → Contains (waiting_of self.old) b → has_place place b ≡ true) → OnOk result (NoneSealed self.new) }
         ensures segment { KeepsSegment self.old self.new }

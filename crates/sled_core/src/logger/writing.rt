@@ -11,6 +11,7 @@ ghost use Rattle.sled_store.specs.Answers.{Counts, FailsOr};
 ghost use Rattle.sled_store.specs.Blobs.{UnlessFault};
 ghost use Rattle.sled_store.specs.Device.{state_of, Wrote, Synced};
 ghost use Rattle.sled_store.specs.Script.{after_all, Performs};
+ghost use Rattle.sled_core.specs.Account.{account_behind, account_of, written_account};
 ghost use Rattle.sled_core.specs.Among.{AreAmong};
 ghost use Rattle.sled_core.specs.Begun.{SegmentView};
 ghost use Rattle.sled_core.specs.Buffers.{first_open_in, open_in};
@@ -25,10 +26,11 @@ ghost use Rattle.sled_core.specs.inside.Marked.{KeepsSegment};
 ghost use Rattle.sled_core.specs.invariants.Running.{Fits};
 ghost use Rattle.sled_core.specs.Running.{end_below};
 ghost use Rattle.sled_core.specs.Stable.{SparesDevice, SyncsAll};
-ghost use Rattle.sled_core.specs.inside.Turned.{ChangesDevice, IsReadyIn, promoted, ready_below, write_in, written_now};
-ghost use Rattle.sled_core.specs.Waiting.{BufferAt, holds_any, unwritten, without_pending};
+ghost use Rattle.sled_core.specs.inside.Turned.{ChangesDevice, IsReadyIn, mark_of, promoted, ready_below, write_in, written_now};
+ghost use Rattle.sled_core.specs.Waiting.{BufferAt, holds_any, one_pending, unwritten, without_pending};
 
 use crate::logger::Log;
+use crate::logger::joined_marks::mark_at;
 use sled_codec::result::{Error, LogOffset, Lsn, Result};
 use sled_codec::serialization::Checksum;
 use sled_store::Device;
@@ -53,6 +55,7 @@ impl<D: Device, C: Checksum> Log<D, C> {
         ensures calls { OnOk result (D.trace (device_of self.new) ≡ after_all (writing_pending self.old i) (D.trace (device_of self.old))) }
         ensures at_most { Performs (writing_pending self.old i) (D.trace (device_of self.old)) (D.trace (device_of self.new)) }
         ensures written { OnOk result (waiting_of self.new ≡ without_pending i (waiting_of self.old)) }
+        ensures account { OnOk result (account_of self.new ≡ account_behind (one_pending i (waiting_of self.old)) (account_of self.old)) }
         ensures keeps { KeepsLog D.trace C.sum_of self.old self.new }
         ensures start { start_of self.new ≡ start_of self.old }
         ensures heads { AreAmong (heads_of self.new) (heads_of self.old) }
@@ -60,7 +63,7 @@ impl<D: Device, C: Checksum> Log<D, C> {
         ensures answers { Answers result (fault_of self.old) (fault_of self.new) (D.faults (device_of self.old)) (D.faults (device_of self.new)) }
         ensures faulty { (e : IoError) → fault_of self.old ≡ Some e → self.new ≡ self.old }
         ensures err { OnErr result ((synced_end self.new ≡ synced_end self.old) × (waiting_of self.new ≡ waiting_of self.old)
-            × (syncs (D.trace (device_of self.new)) ≡ syncs (D.trace (device_of self.old)))) }
+            × (syncs (D.trace (device_of self.new)) ≡ syncs (D.trace (device_of self.old))) × (account_of self.new ≡ account_of self.old)) }
         ensures refused { UnlessFault result (D.trace (device_of self.old)) (D.trace (device_of self.new)) }
     {
         if let Some(e) = self.fault.kept {
@@ -77,6 +80,8 @@ impl<D: Device, C: Checksum> Log<D, C> {
         ensures writes { write_in (line_of self.now) result.0 result.1 ≡ writing_pending self.now i }
         ensures left { (v : SegmentView) → slice_get (line_of self.now) result.0 ≡ Some v
             → unwritten (set (line_of self.now) result.0 (written_now result.1 v)) ≡ without_pending i (waiting_of self.now) }
+        ensures one { (v : SegmentView) → slice_get (line_of self.now) result.0 ≡ Some v
+            → (b : BufferAt) × (one_pending i (waiting_of self.now) ≡ b ∷ []) × (b.mark ≡ mark_of result.1 v) }
     {
         let place = self.ready.places[i];
         let n = self.segment_of(place);
@@ -230,13 +235,16 @@ impl<D: Device, C: Checksum> Log<D, C> {
     }
 
     /// Writes one of the sealed buffers of a segment, which can be written, and syncs it. Segments that are wholly on the
-    /// device then are left out.
+    /// device then are left out. Where it begins with the header of its segment the mark of that is on the device now,
+    /// and where no pin is out all marks join that are.
     pub(crate) fn write_buffer(&mut self, n: usize, k: usize) -> Result<()>
         requires fault { fault_of self.old ≡ None }
         requires ready { IsReadyIn (line_of self.old) n k }
         ensures line { (v : SegmentView) → slice_get (line_of self.old) n ≡ Some v
             → OnOk result (line_of self.new ≡ promoted (segment_size_of self.old) (set (line_of self.old) n (written_now k v))) }
         ensures same { OnErr result (line_of self.new ≡ line_of self.old) }
+        ensures account { (v : SegmentView) → slice_get (line_of self.old) n ≡ Some v
+            → OnOk result (account_of self.new ≡ written_account (mark_of k v) (account_of self.old)) }
         ensures calls { OnOk result (D.trace (device_of self.new) ≡ after_all (write_in (line_of self.old) n k) (D.trace (device_of self.old))) }
         ensures at_most { Performs (write_in (line_of self.old) n k) (D.trace (device_of self.old)) (D.trace (device_of self.new)) }
         ensures keeps { KeepsLog D.trace C.sum_of self.old self.new }
@@ -245,11 +253,23 @@ impl<D: Device, C: Checksum> Log<D, C> {
         ensures unwritten { OnErr result (WroteNone D.trace self.old self.new) }
     {
         self.write_bytes(n, k)?;
+        let mark = self.mark_of(n, k);
         let s = self.segments.segment_mut(n);
         self.ready.note_written(&s.site, &s.buffer, k);
         s.buffer.mark_written(k);
         self.segments.promote(self.config.config.segment_size);
+        self.marks.note_mark(mark, self.pins > 0);
         Ok(())
+    }
+
+    /// The mark of its segment, where that buffer begins with the header of it.
+    fn mark_of(&self, n: usize, k: usize) -> Option<Lsn>
+        requires ready { IsReadyIn (line_of self.now) n k }
+        ensures { (v : SegmentView) → slice_get (line_of self.now) n ≡ Some v → result ≡ mark_of k v }
+    {
+        let s = self.segments.segment(n);
+        let (from, to) = s.buffer.span(k);
+        mark_at(from, &s.buffer.bytes[from..to])
     }
 
     /// Writes the bytes of that buffer, and syncs them. It keeps a failure of the device.

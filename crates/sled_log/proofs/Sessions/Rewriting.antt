@@ -186,7 +186,7 @@ module _ {D C : Type 0} (view : D → DeviceView) (sum : List ℕ → ℕ) (old 
     eight = let least = mid.log.config.config.least in omega (arith, least)
 
     kept_seen : KeepsSeen mid.log log
-    kept_seen = record { synced = same.synced; noted = same.noted; pins = same.pins }
+    kept_seen = record { synced = same.synced; noted = same.noted; pins = same.pins; account = same.account }
 
     -- A log that kept no place is as it was.
     refused_step : (a b : RunState) (e : Error) → b ≡ a → RewriteAnswers {T = Reservation} (Err e) (fault_of mid.log) (IsUsedUpFor mid.log page 8) (open_for mid.log page 8) (IsLeastOpen mid.log)

@@ -5,7 +5,8 @@ use Rattle.sled_store.proofs.Segments.Elements.{in_rest}
 use Rattle.sled_core.specs.Fillings.{fillings_along}
 use Rattle.sled_core.specs.Heads.{heads_along}
 use Rattle.sled_core.specs.Begun.{SegmentView}
-use Rattle.sled_core.specs.Fits.{AwaitsIn, given_up_of, line_of}
+use Rattle.sled_core.specs.Fits.{AwaitsIn, given_up_of, line_of, open_places}
+use Rattle.sled_core.specs.OpenPlaces.{TakesOutPlaceOf, open_places_along}
 use Rattle.sled_core.specs.Among.{AreAmong}
 use Rattle.sled_core.specs.GivenUp.{given_up_along}
 use Rattle.sled_core.specs.Logged.{in_log}
@@ -40,7 +41,7 @@ returns-in-Ok-clause-ends g c =
     record {
       others = λ H other m holds awaits apart.
           c.give_up.ensures.ends.others H other m (c.remove_own.ensures.keeps.history H holds) (subst (λ (l : List SegmentView). AwaitsIn l other (in_log m)) (sym same) awaits) apart;
-      opens = search rules;
+      opens = subst (λ (l : List SegmentView). TakesOutPlaceOf c.give_up.result c.args.ticket (open_places_along l) (open_places c.give_up.new.self)) same c.give_up.ensures.ends.opens;
       position = search rules;
       buffers = search rules;
       heads = λ h there. subst (λ (l : List SegmentView). Contains (heads_along l) h) same (c.give_up.ensures.ends.heads h there);

@@ -255,13 +255,13 @@ pub returns-in_err-slot-clause-batch : goal.returns-in_err-slot-clause-batch
 returns-in_err-slot-clause-batch g c = refused _ c.from_residual-in_err-slot.result _ c.from_residual-in_err-slot.ensures.1
 
 pub returns-in_err-buffer-clause-rest : goal.returns-in_err-buffer-clause-rest
-returns-in_err-buffer-clause-rest g c = record { config = refl; fault = refl; pins = refl; noted = refl }
+returns-in_err-buffer-clause-rest g c = record { config = refl; fault = refl; pins = refl; marks = refl; noted = refl }
 
 pub returns-in_err-buffer-clause-err : goal.returns-in_err-buffer-clause-err
 returns-in_err-buffer-clause-err g c = all_err c.from_residual.result _ (unchanged_still c.args.self.now)
 
 pub returns-in_err-room_to_close-clause-rest : goal.returns-in_err-room_to_close-clause-rest
-returns-in_err-room_to_close-clause-rest g c = let rest = c.in_err-room_to_close.ensures.rest in record { config = rest.config; fault = rest.fault; pins = rest.pins; noted = rest.noted }
+returns-in_err-room_to_close-clause-rest g c = let rest = c.in_err-room_to_close.ensures.rest in record { config = rest.config; fault = rest.fault; pins = rest.pins; marks = rest.marks; noted = rest.noted }
 
 pub returns-in_err-room_to_close-clause-err : goal.returns-in_err-room_to_close-clause-err
 returns-in_err-room_to_close-clause-err g c = all_err c.from_residual-in_err-room_to_close.result _ (left_alone c.args.self.now c.room_to_close.new.self c.in_err-room_to_close.ensures.line c.in_err-room_to_close.ensures.rest)
@@ -390,7 +390,7 @@ invariant_of-self-2 g c =
 pub returns-clause-rest : goal.returns-clause-rest
 returns-clause-rest g c =
     let rest = c.in_ok-room_to_close.ensures.rest in
-    record { config = c.next.ensures.config ∙ rest.config; fault = rest.fault; pins = rest.pins; noted = rest.noted }
+    record { config = c.next.ensures.config ∙ rest.config; fault = rest.fault; pins = rest.pins; marks = rest.marks; noted = rest.noted }
 
 pub returns-clause-reserved : goal.returns-clause-reserved
 returns-clause-reserved g c = c.in_ok-room_to_close.ensures.rest.reserved
@@ -408,3 +408,6 @@ returns-clause-room g c =
     subst (λ (x : IoBuf). HasRoomIn x (size - 20))
     (sym (last_begun g.C.Checksum.sum_of c.args.self.now c.room_to_close.new.self c.in_ok-room_to_close.ensures.line c.in_ok-room_to_close.ensures.rest (closed_then g w) (is_closed g w) (next g w) (next_at g w)
     c.in_ok-slot.ensures.offset (c.in_ok-buffer.ensures.view (next g w).site refl) c.begin.new.self c.begin.ensures.first c.begin.ensures.behind)) c.in_ok-buffer.ensures.room
+
+pub returns-clause-batch : goal.returns-clause-batch
+returns-clause-batch g c = λ is. let room = c.in_ok-room_to_close.ensures.batch is in record { place = room.place }

@@ -57,7 +57,7 @@ all_flushed sum old new left position fault noted =
     let l = left.left in let s = left.start in
     let there : synced_end new ≡ stable_behind sum (reserved_end old) old = first_left new ∙ (λ i. first_begin (l i) (s i)) in
     let n = noted ∙ ap (λ k. not_whole k (noted_in old)) there in
-    let a = position.position in let b = position.reserved in let e = fault in let f = position.pins in cc
+    let a = position.position in let b = position.reserved in let e = fault in let f = position.pins in let h = left.account in cc
 
 pub returns-clause-status : goal.returns-clause-status
 returns-clause-status g c =

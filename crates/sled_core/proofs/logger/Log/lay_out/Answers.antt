@@ -101,7 +101,7 @@ invariant_of-self g c =
     }
 
 pub returns-clause-rest : goal.returns-clause-rest
-returns-clause-rest g c = record { config = refl; fault = refl; pins = refl; noted = c.begin_manifest.ensures.items }
+returns-clause-rest g c = record { config = refl; fault = refl; pins = refl; marks = refl; noted = c.begin_manifest.ensures.items }
 
 pub returns-clause-line : goal.returns-clause-line
 returns-clause-line g c =

@@ -324,12 +324,12 @@ returns-clause-buffers g c =
     let same = same_buffers mid new c.read_settled.ensures.line in
     let free = read_held sum _ c.args.ptr c.read_settled.result _ _ _ _ c.read_settled.ensures.answers in (
       seals_read place old mid c.read_settled.result new tt (subst (λ z. SealsAround {T = Unit {0}} (Ok tt) z old mid) at c.in_ok-settle_at.ensures.seals) same.0 (same_current mid new c.read_settled.ensures.line) free,
-      around_read place old mid sum c.read_settled.result new tt (subst (λ z. WritesAround {T = Unit {0}} sum (Ok tt) z old mid) at c.in_ok-settle_at.ensures.buffers.0) same.0 same.1 free (segment_same mid new c.read_settled.ensures.line),
+      around_read place old mid sum c.read_settled.result new tt (subst (λ z. WritesAround {T = Unit {0}} sum (Ok tt) z old mid) at c.in_ok-settle_at.ensures.buffers.0) same.0 same.1 c.read_settled.ensures.account free (segment_same mid new c.read_settled.ensures.line),
       came_behind g.D.Device.trace sum old mid new place tt c.read_settled.result (subst (λ z. WritesAround {T = Unit {0}} sum (Ok tt) z old mid) at c.in_ok-settle_at.ensures.buffers.0)
           (subst (λ z. g.D.Device.trace (device_of mid) ≡ after_all (settling sum old z) (g.D.Device.trace (device_of old))) at c.in_ok-settle_at.ensures.calls)
           (subst (λ z. held_at sum old z ≡ None) at c.in_ok-settle_at.ensures.answers.1.0)
           (λ below. ap (λ (l : Log g.row.D.Denot g.row.C.Denot). g.D.Device.trace l.config.device) (subst (λ z. z <ℤ pos (synced_end old) → mid ≡ old) at c.in_ok-settle_at.ensures.still below))
-          same.0 same.1 c.read_settled.ensures.trace,
+          same.0 same.1 c.read_settled.ensures.account c.read_settled.ensures.trace,
     )
 
 pub returns-clause-answers : goal.returns-clause-answers

@@ -45,3 +45,6 @@ returns-clause-writes g c = (its g c).writes
 
 pub returns-clause-left : goal.returns-clause-left
 returns-clause-left g c = (its g c).left
+
+pub returns-clause-one : goal.returns-clause-one
+returns-clause-one g c = (its g c).one

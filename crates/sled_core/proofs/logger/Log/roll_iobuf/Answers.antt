@@ -39,7 +39,7 @@ one_rolled : {D C : Type 0} (sum : List ℕ → ℕ) (old new : Log D C) → hol
     → status_of new ≡ rolled (buffers_of sum old) (start_rolled old) (status_of old)
 one_rolled sum old new any waits start position same =
     let begun : start_of new ≡ start_rolled old = start ∙ sym (ap (λ (o : Bool). if o then start_sealed old else start_of old) any) in
-    let a = position.position in let b = position.reserved in let c = same.synced in let d = same.noted in let e = same.fault in let f = same.pins in cc
+    let a = position.position in let b = position.reserved in let c = same.synced in let d = same.noted in let e = same.fault in let f = same.pins in let h = same.account in cc
 
 -- What the current buffer holds is counted behind where it begins.
 held_is : {D C : Type 0} (log : Log D C) (site : SegmentPosition) (b : IoBuf) → view_at site b ≡ current_of log → length b.bytes.items - b.begin ≡ held_len log

@@ -60,7 +60,7 @@ pub returns-then-is_full_of_open-clause-line : goal.returns-then-is_full_of_open
 returns-then-is_full_of_open-clause-line g c = refl
 
 pub returns-then-is_full_of_open-clause-rest : goal.returns-then-is_full_of_open-clause-rest
-returns-then-is_full_of_open-clause-rest g c = record { config = refl; reserved = refl; fault = refl; pins = refl; accountant = refl; noted = refl }
+returns-then-is_full_of_open-clause-rest g c = record { config = refl; reserved = refl; fault = refl; pins = refl; marks = refl; accountant = refl; noted = refl }
 
 pub returns-in_err-make_room_for-clause-line : goal.returns-in_err-make_room_for-clause-line
 returns-in_err-make_room_for-clause-line g c = refl
@@ -72,10 +72,10 @@ pub returns-in_err-make_room_for-clause-batch : goal.returns-in_err-make_room_fo
 returns-in_err-make_room_for-clause-batch g c = refused _ c.from_residual.result _ c.from_residual.ensures.1
 
 pub returns-in_err-make_room_for-clause-rest : goal.returns-in_err-make_room_for-clause-rest
-returns-in_err-make_room_for-clause-rest g c = record { config = refl; reserved = refl; fault = refl; pins = refl; accountant = refl; noted = c.make_room_for.ensures.items }
+returns-in_err-make_room_for-clause-rest g c = record { config = refl; reserved = refl; fault = refl; pins = refl; marks = refl; accountant = refl; noted = c.make_room_for.ensures.items }
 
 pub returns-clause-rest : goal.returns-clause-rest
-returns-clause-rest g c = record { config = refl; reserved = refl; fault = refl; pins = refl; accountant = refl; noted = c.make_room_for.ensures.items }
+returns-clause-rest g c = record { config = refl; reserved = refl; fault = refl; pins = refl; marks = refl; accountant = refl; noted = c.make_room_for.ensures.items }
 
 -- The last segment is as it was, but for its room.
 module _ {D C : Type 0} (log : Log D C) (s : SegmentBuffer) (there : slice_get (open_segments log.segments) (length log.segments.behind.items) ≡ Some s) (new : IoBuf)

@@ -22,6 +22,7 @@ use Rattle.sled_core.proofs.Line.Settles.{held_stable, stable_written}
 use Rattle.sled_core.proofs.logger.Log.settle.Given.{Over}
 use Rattle.sled_core.proofs.logger.Log.settle.Goals.{then-place-current_begin+in_ok-seal, else-place-current_begin}
 use Rattle.sled_core.proofs.logger.Log.settle.Goals as goal
+use Rattle.sled_core.proofs.Line.AccountBehind.{account_unchanged, on_ok_both}
 
 -- The place is stable.
 
@@ -47,7 +48,7 @@ returns-then-place-synced_end-clause-seals g c = record { still = λ _. refl; ap
 pub returns-then-place-synced_end-clause-buffers : goal.returns-then-place-synced_end-clause-buffers
 returns-then-place-synced_end-clause-buffers g c =
     let below : c.args.place < synced_end c.args.self.now = omega (arith, c.if-place-synced_end.true, c.synced_end.ensures.is) in
-    (record { still = λ _. (refl, refl); written = λ behind. absurd (omega (arith, ints, below, behind)); held = λ is. absurd is; some = tt; marked = none_begun g.C.Checksum.sum_of c.args.self.now c.args.self.now refl (λ h there. there) (λ f there. there) }, tt)
+    (record { still = λ _. (refl, refl, refl); written = λ behind. absurd (omega (arith, ints, below, behind)); held = λ is. absurd is; some = tt; marked = none_begun g.C.Checksum.sum_of c.args.self.now c.args.self.now refl (λ h there. there) (λ f there. there) }, tt)
 
 -- The current buffer could not be sealed.
 
@@ -103,16 +104,17 @@ returns-in_err-seal-clause-seals g c =
 pub returns-in_err-seal-clause-buffers : goal.returns-in_err-seal-clause-buffers
 returns-in_err-seal-clause-buffers g c =
     let e = err_from_is_err_and c.from_residual.result c.from_residual.ensures.1 in
-    let same = same_buffers c.args.self.now c.seal.new.self c.in_err-seal.ensures.err.line in
+    let buffers = same_buffers c.args.self.now c.seal.new.self c.in_err-seal.ensures.err.line in
+    let account = account_unchanged c.args.self.now c.seal.new.self c.in_err-seal.ensures.err in
     rw (e.1, e.2) (
       record {
         still = λ below. absurd (omega (arith, ints, below, c.if-place-synced_end.false, c.synced_end.ensures.is));
         written = λ _. tt;
         held = λ is. absurd (seal_not_held (Unit {0}) (Unit {0}) c.in_err-seal.field-0.0 _ c.in_err-seal.ensures.answers is);
-        some = inl same;
+        some = inl (buffers.0, buffers.1, account);
         marked = (let kept = segment_same c.args.self.now c.seal.new.self c.in_err-seal.ensures.err.line in none_begun g.C.Checksum.sum_of c.args.self.now c.seal.new.self kept.place kept.heads kept.fillings);
       },
-      inl (same, ap (λ (x : RunningConfig g.row.D.Denot g.row.C.Denot). g.D.Device.trace x.device) c.in_err-seal.ensures.err.config, λ _. c.in_err-seal.ensures.err.fault),
+      inl ((buffers.0, buffers.1, account), ap (λ (x : RunningConfig g.row.D.Denot g.row.C.Denot). g.D.Device.trace x.device) c.in_err-seal.ensures.err.config, λ _. c.in_err-seal.ensures.err.fault),
     )
 
 -- The buffer that has the place is sealed now.
@@ -215,6 +217,6 @@ returns-clause-buffers g c =
     let did = c.write_around.ensures in
     let r = c.write_around.result in (
       writes_around g.D.Device.trace g.C.Checksum.sum_of c.args.place c.args.self.now c.if-place-current_begin.self (seals g c) c.write_around.new.self did.start r
-          (omega (arith, c.if-place-synced_end.false, c.synced_end.ensures.is)) did.without (on_err r _ _ (λ failed. failed.0) did.same) did.segment,
+          (omega (arith, c.if-place-synced_end.false, c.synced_end.ensures.is)) (on_ok_both r _ _ _ (λ left account. (left, account)) did.without did.account) (on_err r _ _ (λ failed. (failed.0, failed.1.account)) did.same) did.segment,
       on_err r _ _ (came_sealed g.D.Device.trace g.C.Checksum.sum_of c.args.place c.args.self.now c.if-place-current_begin.self (seals g c) c.write_around.new.self did.start) did.same,
     )

@@ -1,4 +1,4 @@
-use Rattle.std.proofs.Common.{◌≡◌, ◌∙◌, ◌+◌, ◌-ℤ◌, ◌<◌, ◌≤◌, ◌∷◌, ◌++◌, pos, if◌then◌else◌, zero, suc, true, ℕ, List, [], Option, None, Some, length, map, refl, ap, sym, subst, arith, mod-lt, ◌==◌, Bool, false, take}
+use Rattle.std.proofs.Common.{to_z, w64, ◌≡◌, ◌∙◌, ◌+◌, ◌-ℤ◌, ◌<◌, ◌≤◌, ◌∷◌, ◌++◌, pos, if◌then◌else◌, zero, suc, true, ℕ, List, [], Option, None, Some, length, map, refl, ap, sym, subst, arith, mod-lt, ◌==◌, Bool, false, take}
 use Rattle.std.specs.List.{All, Contains}
 use Rattle.std.proofs.lemmas.List.Elements.{All-nil}
 use Rattle.std.proofs.Math.Nat.{suc-mul}
@@ -74,6 +74,7 @@ use Rattle.sled_store.proofs.Traces.ScriptLemmas.{later_performed}
 use Rattle.sled_core.specs.Buffers.{none_open}
 use Rattle.sled_core.specs.inside.Buffers.{records_end}
 use Rattle.sled_core.proofs.logger.Log.start.Goals as goal
+use Rattle.std.proofs.lemmas.Int.{to_z_pos}
 
 -- the only segment has no open reservation
 none_open_one : (v : SegmentView) → none_open v.parts.reserved ≡ true → NoneOpenIn (v ∷ [])
@@ -293,6 +294,7 @@ returns-in-Ok-clause-begins g c =
       noted = ap (λ (bs : List NotedBatch). not_whole (c.in-Ok.beginning.place + c.in-Ok.buffer.written_len) (map batch_of bs)) c.new-in-Ok.ensures.noted;
       kept = ap (λ (bs : List NotedBatch). length bs) c.new-in-Ok.ensures.noted;
       pins = refl;
+      account = (let place : to_z w64 c.stable_place.result ≡ pos (stable_place s.stable) = to_z_pos w64 c.stable_place.result c.stable_place.ensures.small ∙ ap pos c.stable_place.ensures.place in λ i. record { mark = (c.from_place.ensures.joined ∙ place) i; durable = (c.from_place.ensures.durable ∙ place) i; pinned = false });
       fault = refl;
       sized = ap (λ (x : Config). x.segment_size) c.begin.ensures.config;
     }

@@ -11,7 +11,7 @@ use Rattle.sled_core.proofs.Line.CameFar.{on_err_both}
 use Rattle.sled_core.proofs.Line.HeaderMarks.{segment_same, segment_written}
 use Rattle.sled_core.proofs.Line.LogSpans.{same_buffers, written_starts}
 use Rattle.sled_core.proofs.Line.Outcomes.{answers_free, done_free, either, on_ok}
-use Rattle.sled_core.proofs.Line.Settles.{found_early, found_gone, found_held, held_at_found, held_none, inside, is_ready_there, looks, nothing_waits, number_within, settling_found, settling_it, some_held, without_still, wrote_all, wrote_place, wrote_without, written_found}
+use Rattle.sled_core.proofs.Line.Settles.{account_it, account_still, found_early, found_gone, found_held, held_at_found, held_none, inside, is_ready_there, looks, nothing_waits, number_within, settling_found, settling_it, some_held, without_still, wrote_all, wrote_place, wrote_without, written_found}
 use Rattle.sled_core.proofs.logger.Log.write_around.Goals as goal
 
 pub segment-requires : goal.segment-requires
@@ -178,4 +178,23 @@ returns-clause-one g c = λ all.
     on_ok c.write_buffer.result _ _ (λ wrote. wrote_all c.args.self.now c.args.place looked c.around-k.result.0 c.around-k.result.1 c.if-at-buffer.false c.around-k.ensures.there c.around-k.ensures.point c.if-b.false (let none = c.if-b-gt0.false in omega (arith, none)) c.write_buffer.new.self wrote all) (c.write_buffer.ensures.line looked.segment looked.among)
 
 pub returns-then-b-gt0-clause-same : goal.returns-then-b-gt0-clause-same
-returns-then-b-gt0-clause-same g c = (refl, record { synced = refl; still = λ sound. refl })
+returns-then-b-gt0-clause-same g c = (refl, record { synced = refl; still = λ sound. refl; account = refl })
+
+-- The account is that of what was written.
+
+pub returns-then-at-buffer-clause-account : goal.returns-then-at-buffer-clause-account
+returns-then-at-buffer-clause-account g c =
+    let looked = looks c.args.self.now c.args.place c.segment_of-n.result c.segment.result.0 c.segment.result.1.now c.requires.behind c.requires.sealed c.segment_of-n.ensures c.segment.ensures.view c.segment.ensures.place in
+    account_still c.args.self.now c.args.place looked (found_early c.args.self.now c.args.place looked c.if-at-buffer.true)
+
+pub returns-then-b-clause-account : goal.returns-then-b-clause-account
+returns-then-b-clause-account g c =
+    let looked = looks c.args.self.now c.args.place c.segment_of-n.result c.segment.result.0 c.segment.result.1.now c.requires.behind c.requires.sealed c.segment_of-n.ensures c.segment.ensures.view c.segment.ensures.place in
+    account_still c.args.self.now c.args.place looked (found_gone c.args.self.now c.args.place looked c.around-k.result.0 c.around-k.result.1 c.if-at-buffer.false c.around-k.ensures.there c.around-k.ensures.point c.if-b.true)
+
+pub returns-clause-account : goal.returns-clause-account
+returns-clause-account g c =
+    let looked = looks c.args.self.now c.args.place c.segment_of-n.result c.segment.result.0 c.segment.result.1.now c.requires.behind c.requires.sealed c.segment_of-n.ensures c.segment.ensures.view c.segment.ensures.place in
+    on_ok c.write_buffer.result _ _
+    (λ is. is ∙ sym (account_it c.args.self.now c.args.place looked c.around-k.result.0 c.around-k.result.1 c.if-at-buffer.false c.around-k.ensures.there c.around-k.ensures.point c.if-b.false (let none = c.if-b-gt0.false in omega (arith, none))))
+    (c.write_buffer.ensures.account looked.segment looked.among)

@@ -1,4 +1,4 @@
-use Rattle.std.proofs.Common.{◌≡◌, ◌∙◌, List, ℕ, ap, sym, subst, refl, arith, rules, length, deque_len, map, set, true, Option, None, Some, Err, inl, inr}
+use Rattle.std.proofs.Common.{nat_lt, if◌then◌else◌, ◌≡◌, ◌∙◌, List, ℕ, ap, sym, subst, refl, arith, rules, length, deque_len, map, set, true, Option, None, Some, Err, inl, inr}
 use Rattle.std.specs.declared.io.Error.{Error as IoError}
 use Rattle.sled_codec.specs.declared.result.Error.{Error}
 use Rattle.sled_codec.specs.declared.result.Error.TheVariants.{Io, OutOfMemory}
@@ -19,6 +19,7 @@ use Rattle.sled_core.specs.declared.iobuf.Sealed.{Sealed}
 use Rattle.sled_core.specs.declared.logger.ready.ReadyBuffers.{ReadyBuffers}
 use Rattle.sled_core.specs.declared.logger.Log.{Log}
 use Rattle.sled_core.specs.Fronts.{WroteNone}
+use Rattle.sled_core.specs.HeaderMark.{greater_mark}
 use Rattle.sled_core.specs.inside.Fits.{written_to}
 use Rattle.sled_core.specs.Fits.{AwaitsIn, line_of, noted_in, segment_size_of}
 use Rattle.sled_core.specs.invariants.Fits.{Holds}
@@ -50,6 +51,7 @@ use Rattle.sled_core.proofs.Reached.OpenBatch.{not_whole_further}
 use Rattle.sled_core.proofs.Line.WrittenTickets.{awaits_written, given_written, manifests_written, places_written}
 use Rattle.sled_core.proofs.Pending.Logs.{written_ready}
 use Rattle.sled_core.proofs.logger.Log.write_buffer.Goals as goal
+use Rattle.sled_core.proofs.Line.AccountBehind.{account_same}
 
 -- The same batches are noted,
 noted_items : {D C : Type 0} (old mid : Log D C) → ChangesDevice old mid → mid.batches.noted.items ≡ old.batches.noted.items
@@ -80,7 +82,7 @@ returns-in_err-write_bytes-clause-refused g c =
 pub returns-in_err-write_bytes-clause-unwritten : goal.returns-in_err-write_bytes-clause-unwritten
 returns-in_err-write_bytes-clause-unwritten g c =
     let did = c.in_err-write_bytes.ensures in
-    let none : WroteNone g.D.Device.trace c.args.self.now c.write_bytes.new.self = record { synced = did.unsynced; still = did.refused } in
+    let none : WroteNone g.D.Device.trace c.args.self.now c.write_bytes.new.self = record { synced = did.unsynced; still = did.refused; account = account_same c.args.self.now c.write_bytes.new.self did.rest.marks did.rest.pins } in
     all_err c.from_residual.result _ none
 
 pub returns-in_err-write_bytes-clause-keeps : goal.returns-in_err-write_bytes-clause-keeps
@@ -125,7 +127,7 @@ kept : {D C : Type 0} (old mid : Log D C) (n k : ℕ) (r : IsReadyIn (line_of ol
     → (r' : IsReadyIn (line_of mid) n k) × KeepsInvariants mid n k r' now × (open_manifests (line_in now) ≡ mid.batches.manifests) × AreReady (line_in now) ready
 kept old mid n k r rest s there marked is_marked now is ready noted =
     let r' : IsReadyIn (line_of mid) n k = subst (λ (l : List SegmentView). IsReadyIn l n k) (sym (same_line old mid rest)) r in
-    let still : ChangesDevice mid mid = record { config = refl; checksum = refl; segments = refl; reserved = refl; pins = refl; accountant = refl; batches = refl } in
+    let still : ChangesDevice mid mid = record { config = refl; checksum = refl; segments = refl; reserved = refl; pins = refl; marks = refl; accountant = refl; batches = refl } in
     let line = line_after mid mid n k r'.segment still r'.among s there marked is_marked (line_in now) is in
     let same = ap open_manifests line in
     let left = manifests_promoted mid.config.config.segment_size mid.segments.first.site.place (set (line_of mid) n (written_now k r'.segment)) mid.config.config.least (segments_written mid n k r') in
@@ -263,3 +265,16 @@ returns-clause-keeps g c = record {
       }
       );
 }
+
+-- The mark of its segment is on the device, where it begins with the header of that.
+pub returns-clause-account : goal.returns-clause-account
+returns-clause-account g c = λ v among.
+    let mid = c.write_bytes.new.self in
+    let rest = c.in_ok-write_bytes.ensures.rest in
+    let mark = c.mark_of-mark.ensures v (ap (λ (l : List SegmentView). slice_get l c.args.n) (same_line c.args.self.now mid rest) ∙ among) in
+    let did = c.note_mark.ensures in
+    λ i. record {
+      mark = (did.joined ∙ (λ j. if nat_lt 0 (rest.pins j) then (rest.marks j).joined else greater_mark (mark j) (rest.marks j).durable)) i;
+      durable = (did.durable ∙ (λ j. greater_mark (mark j) (rest.marks j).durable)) i;
+      pinned = nat_lt 0 (rest.pins i);
+    }

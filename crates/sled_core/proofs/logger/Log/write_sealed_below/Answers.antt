@@ -1,4 +1,4 @@
-use Rattle.std.proofs.Common.{rules, ◌≡◌, ◌∙◌, ◌+◌, true, sym, refl, arith, w64, SFits}
+use Rattle.std.proofs.Common.{List, ap, take, rules, ◌≡◌, ◌∙◌, ◌+◌, true, sym, refl, arith, w64, SFits}
 use Rattle.std.proofs.lemmas.Int.{to_z-of_z}
 use Rattle.std.proofs.lemmas.Result.{err_from_is_err_and}
 use Rattle.sled_store.proofs.Traces.ScriptLemmas.{performs_whole}
@@ -13,6 +13,9 @@ use Rattle.sled_core.proofs.Line.LogSpans.{leaves_above, same_buffers}
 use Rattle.sled_core.proofs.Line.Outcomes.{all_err}
 use Rattle.sled_core.proofs.logger.Log.write_sealed_below.Given as given
 use Rattle.sled_core.proofs.logger.Log.write_sealed_below.Goals as goal
+use Rattle.sled_core.specs.Account.{account_behind, account_of}
+use Rattle.sled_core.specs.Waiting.{BufferAt}
+use Rattle.sled_core.proofs.Line.AccountBehind.{front_whole}
 
 pub loop-self-init : goal.loop-self-init
 loop-self-init g c = record { advanced = advanced_still g.D.Device.trace g.C.Checksum.sum_of g.D.Device.faults c.args.to c.args.self.now c.requires.fault }
@@ -37,7 +40,7 @@ loop-self-preserved g c =
     let ready : ready_below (line_of mid) c.args.to ≡ true = sym c.has_ready_below.ensures ∙ c.loop-self-test.true in
     record {
       advanced = advanced_further g.D.Device.trace g.C.Checksum.sum_of g.D.Device.faults c.args.to c.args.self.now mid c.write_buffer.new.self c.loop-self.invariant.advanced ready (c.in_ok-write_buffer.ensures.line (first_view mid) refl)
-          c.write_buffer.ensures.keeps.preserves c.write_buffer.ensures.keeps.tickets c.write_buffer.ensures.keeps.position c.in_ok-write_buffer.ensures.calls c.in_ok-write_buffer.ensures.answers.1 c.in_ok-write_buffer.ensures.answers.2;
+          c.write_buffer.ensures.keeps.preserves c.write_buffer.ensures.keeps.tickets c.write_buffer.ensures.keeps.position c.in_ok-write_buffer.ensures.calls c.in_ok-write_buffer.ensures.answers.1 c.in_ok-write_buffer.ensures.answers.2 (c.in_ok-write_buffer.ensures.account (first_view mid) refl);
     }
 
 -- A write failed.
@@ -127,7 +130,7 @@ returns-then-synced_end-to-clause-one g c = λ few. stuck_one g.D.Device.trace g
 pub returns-then-synced_end-to-clause-front : goal.returns-then-synced_end-to-clause-front
 returns-then-synced_end-to-clause-front g c =
     let now = c.loop-self.self in
-    wrote_front g.D.Device.trace g.C.Checksum.sum_of g.D.Device.faults c.args.to c.args.self.now now now c.requires.sealed c.loop-self.invariant.advanced refl refl (record { synced = refl; still = λ sound. refl })
+    wrote_front g.D.Device.trace g.C.Checksum.sum_of g.D.Device.faults c.args.to c.args.self.now now now c.requires.sealed c.loop-self.invariant.advanced refl refl (record { synced = refl; still = λ sound. refl; account = refl })
     (omega (arith, c.synced_end.ensures.is, c.if-synced_end-to.true))
 
 pub returns-then-synced_end-to-clause-idle : goal.returns-then-synced_end-to-clause-idle
@@ -178,6 +181,10 @@ returns-clause-above g c =
     let now = c.loop-self.self in
     leaves_above g.C.Checksum.sum_of c.args.to c.args.self.now now c.requires.sealed c.loop-self.invariant.advanced.start c.loop-self.invariant.advanced.left
     (past_left g.D.Device.trace g.C.Checksum.sum_of g.D.Device.faults c.args.to now (omega (arith, c.synced_end.ensures.is, c.if-synced_end-to.false)))
+    (c.loop-self.invariant.advanced.account
+    ∙ ap (λ (l : List BufferAt). account_behind l (account_of c.args.self.now))
+    (front_whole c.args.to (take c.loop-self.invariant.advanced.count (waiting_of c.args.self.now)) (waiting_of c.args.self.now) (waiting_of now)
+    (past_left g.D.Device.trace g.C.Checksum.sum_of g.D.Device.faults c.args.to now (omega (arith, c.synced_end.ensures.is, c.if-synced_end-to.false))) c.loop-self.invariant.advanced.front))
 
 pub returns-clause-idle : goal.returns-clause-idle
 returns-clause-idle g c = λ _. c.loop-self.invariant.advanced.counted

@@ -1,5 +1,5 @@
 -- The one that is asked for is written, and isn't left.
-use Rattle.std.proofs.Common.{refl, ap, set, ◌≡◌, ◌∙◌}
+use Rattle.std.proofs.Common.{refl, ap, sym, set, ◌≡◌, ◌∙◌, ℤ, List, Option}
 use Rattle.sled_store.proofs.Traces.ScriptLemmas.{performs_nothing}
 use Rattle.sled_core.proofs.Line.Among.{among_same}
 use Rattle.sled_core.proofs.Line.HeaderMarks.{fillings_of_written, heads_of_written}
@@ -8,7 +8,7 @@ use Rattle.sled_core.specs.Heads.{heads_along}
 use Rattle.sled_core.specs.Among.{AreAmong}
 use Rattle.sled_core.specs.Fits.{line_of, segment_size_of, start_of, fillings_of, heads_of}
 use Rattle.sled_core.specs.inside.Turned.{written_now}
-use Rattle.sled_core.specs.Waiting.{unwritten}
+use Rattle.sled_core.specs.Waiting.{BufferAt, unwritten}
 use Rattle.sled_core.proofs.Line.KeptCalls.{log_still}
 use Rattle.sled_core.proofs.Line.Buffers.{unwritten_promoted}
 use Rattle.sled_core.proofs.Line.LogSpans.{same_buffers, written_starts}
@@ -17,6 +17,7 @@ use Rattle.sled_core.proofs.Line.Advanced.{same_synced}
 use Rattle.sled_core.proofs.Line.CameFar.{on_err_both}
 use Rattle.sled_core.proofs.Line.Outcomes.{either, on_ok}
 use Rattle.sled_core.proofs.logger.Log.write_to_log.Goals as goal
+use Rattle.sled_core.specs.Account.{account_behind, account_of, written_account}
 
 pub returns-in-Some-clause-at_most : goal.returns-in-Some-clause-at_most
 returns-in-Some-clause-at_most g c = performs_nothing _ _ _ refl
@@ -74,4 +75,13 @@ pub returns-clause-err : goal.returns-clause-err
 returns-clause-err g c =
     let old = c.args.self.now in
     let new = c.write_buffer.new.self in
-    on_err_both c.write_buffer.result _ _ _ (λ same none. (same_synced old new same, (same_buffers old new same).0, none.synced)) c.write_buffer.ensures.same c.write_buffer.ensures.unwritten
+    on_err_both c.write_buffer.result _ _ _ (λ same none. (same_synced old new same, (same_buffers old new same).0, none.synced, none.account)) c.write_buffer.ensures.same c.write_buffer.ensures.unwritten
+
+pub returns-clause-account : goal.returns-clause-account
+returns-clause-account g c =
+    let old = c.args.self.now in
+    let r = c.ready_at-n.ensures.ready in
+    let one = c.ready_at-n.ensures.one r.segment r.among in
+    on_ok c.write_buffer.result _ _
+    (λ is. is ∙ ap (λ (m : Option ℤ). written_account m (account_of old)) (sym one.2) ∙ ap (λ (l : List BufferAt). account_behind l (account_of old)) (sym one.1))
+    (c.write_buffer.ensures.account r.segment r.among)

@@ -104,7 +104,7 @@ returns-in-Ok-clause-step g c = λ k at asked.
     let same : KeepsAll old.log new = subst (λ x. KeepsAll x new) takes.log c.complete.ensures.same in
     room_does view sum given old c.room_for.ensures.kept k c.args.number _
     (completes view sum old k roomy c.args.number m its.1 mid c.in-Some.field-0 takes new c.apply.new.pages
-    (record { synced = same.synced; noted = same.noted; pins = same.pins }) same.fault (subst (λ x. SamePosition x new) takes.log c.complete.ensures.ends.position) (subst (λ x. KeepsBuffers x new) takes.log c.complete.ensures.ends.buffers)
+    (record { synced = same.synced; noted = same.noted; pins = same.pins; account = same.account }) same.fault (subst (λ x. SamePosition x new) takes.log c.complete.ensures.ends.position) (subst (λ x. KeepsBuffers x new) takes.log c.complete.ensures.ends.buffers)
     (sym (ap (λ x. fault_of x) takes.log) ∙ done.answers)
     (λ t x holds ne. c.complete.ensures.ends.others k.history t x (fits_holds trace sum mid.log k.history k.acknowledged k.floor roomy.unmarked fits) (subst (λ y. Awaits y t x) (sym takes.log) holds) ne)
     (λ j x apart had. safe_on trace sum mid.log new x c.complete.ensures.goes_on (subst (λ y. IsSafe trace sum y x) (sym takes.log) had.stored))
