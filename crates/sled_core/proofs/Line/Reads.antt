@@ -36,7 +36,7 @@ use Rattle.sled_core.specs.Logged.{in_log, logged}
 use Rattle.sled_core.specs.inside.Marked.{KeepsSegment}
 use Rattle.sled_core.specs.ReadBuffer.{IsSettled, IsWrittenPlace, LeavesWritten, ReadAnswers, RefusesPlace, SealsAround, Settles, WritesAround, held_at, settling}
 use Rattle.sled_core.specs.inside.ReadBuffer.{SettleAnswers}
-use Rattle.sled_core.specs.ReadPointer.{GivesBlob, place_read}
+use Rattle.sled_core.specs.ReadPointer.{GivesBlob, place_read, IsDamageAt}
 use Rattle.sled_core.specs.Reading.{IsNoPlace}
 use Rattle.sled_core.specs.invariants.Running.{Fits}
 use Rattle.sled_core.specs.SealedBuffers.{writing}
@@ -226,6 +226,17 @@ err_answers S T sum blobs p PlacesUsedUp lsn stable end held used now before aft
 ]
 err_answers S T sum blobs p (NotReserved at) lsn stable end held used now before after free up answers = (answers.0, answers.1, answers.2, refl, answers.3, answers.4)
 err_answers S T sum blobs p _ lsn stable end held used now before after free up answers = absurd answers.1
+
+-- No damage comes of it.
+pub err_damages : (S : Type 0) (sum : List ℕ → ℕ) (size : ℕ) (s : State) (at : ℤ) (p : DiskPtr) (e : Error) (lsn : ℤ) (stable end : ℕ) (held : Option ℕ)
+    (used : Type 0) (now : Option IoError) (before after : ℕ) → SettleAnswers {T = S} (Err e) lsn stable end held used now before after
+    → IsDamageAt sum size s at p e
+err_damages S sum size s at p (Io e) lsn stable end held used now before after answers = tt
+err_damages S sum size s at p OutOfMemory lsn stable end held used now before after answers = tt
+err_damages S sum size s at p (Held place) lsn stable end held used now before after answers = tt
+err_damages S sum size s at p PlacesUsedUp lsn stable end held used now before after answers = tt
+err_damages S sum size s at p (NotReserved place) lsn stable end held used now before after answers = tt
+err_damages S sum size s at p _ lsn stable end held used now before after answers = absurd answers.1
 
 -- a place is settled as its buffers are written, where it was reserved
 pub settle_answers : {T : Type 0} (r : Result T Error) (lsn : ℤ) (stable end : ℕ) (held : Option ℕ) (used : Type 0) (now : Option IoError) (before after : ℕ) → (lsn <ℤ pos stable) ⊎ (lsn <ℤ pos end) → HeldAnswers r held used None now before after

@@ -35,7 +35,7 @@ use Rattle.sled_core.proofs.Line.BlobReads.{IsReadable, gives_read, readable, re
 use Rattle.sled_core.proofs.Line.KeptReads.{err_waits, gives_at_once, kept_readable}
 use Rattle.sled_core.proofs.Line.LogSpans.{same_buffers}
 use Rattle.sled_core.proofs.Line.HeaderMarks.{segment_same}
-use Rattle.sled_core.proofs.Line.Reads.{above_zero, around_err, around_read, err_answers, err_gives, err_refuses, err_settles, fits_begins, is_settled, read_answers, read_held, read_reserved, read_settles, refuses_none, seals_err, seals_read, settled_blobs, settled_names, settled_record}
+use Rattle.sled_core.proofs.Line.Reads.{above_zero, around_err, around_read, err_answers, err_damages, err_gives, err_refuses, err_settles, fits_begins, is_settled, read_answers, read_held, read_reserved, read_settles, refuses_none, seals_err, seals_read, settled_blobs, settled_names, settled_record}
 use Rattle.sled_core.proofs.Line.Records.{inline_is}
 use Rattle.sled_core.proofs.Line.Settles.{held_stable, stable_up, written_still}
 use Rattle.sled_core.proofs.Read.GivesLemmas.{gives}
@@ -146,6 +146,13 @@ pub returns-in_err-settle_at-clause-undamaged : goal.returns-in_err-settle_at-cl
 returns-in_err-settle_at-clause-undamaged g c = λ H A f U m fits among has place pointer inline.
     let e = err_from_is_err_and c.from_residual.result c.from_residual.ensures.1 in
     rw (e.1, e.2) (err_sound (Unit {0}) LogRead c.in_err-settle_at.field-0.0 _ _ _ _ _ _ _ _ (err_at g c))
+
+pub returns-in_err-settle_at-clause-corrupt : goal.returns-in_err-settle_at-clause-corrupt
+returns-in_err-settle_at-clause-corrupt g c =
+    let e = err_from_is_err_and c.from_residual.result c.from_residual.ensures.1 in
+    let s : State = state_of (g.D.Device.trace (device_of c.settle_at.new.self)) in
+    rw (e.1, e.2) (err_damages (Unit {0}) g.C.Checksum.sum_of (segment_size_of c.args.self.now) s c.args.lsn c.args.ptr c.in_err-settle_at.field-0.0
+    _ _ _ _ _ _ _ _ (err_at g c))
 
 pub returns-in_err-settle_at-clause-blob : goal.returns-in_err-settle_at-clause-blob
 returns-in_err-settle_at-clause-blob g c = λ H A f U m fits zeros.
