@@ -2,7 +2,7 @@
 use Rattle.std.proofs.Common.{None, ◌≡◌, ◌∙◌, ◌<◌, ◌≤◌, ◌+◌, ◌-◌, ◌*◌, ◌/◌, ◌%◌, ◌^◌, ◌-ℤ◌, ap, sym, refl, arith, subst, inl, inr, ℕ, zero, suc, pos, List, [], ◌∷◌, ◌++◌, length, map, Option, Some, false, if◌then◌else◌, Bool}
 use Rattle.std.specs.List.{Contains, slice_get}
 use Rattle.std.specs.declared.io.Error.{Error as IoError}
-use Rattle.std.proofs.Math.Nat.{add-mul-mod_self_right, div-le_self, mul-mod_left, suc-mul}
+use Rattle.std.proofs.Math.Nat.{add-mul-mod_self_right, div-le_self, mod-add-div', mul-mod_left, suc-mul}
 use Rattle.std.proofs.lemmas.List.{length-append, map-append, length-map, take_all}
 use Rattle.std.proofs.lemmas.Bool.Decides.{nat_tests}
 use Rattle.std.proofs.lemmas.List.Elements.{All-head, All-tail}
@@ -254,11 +254,17 @@ module _ (sum : List ℕ → ℕ) (size : ℕ) where
           → HasAccount sum size device.snapshots.file H U (handed_out place m)
       account_next H U has account = account_handed sum size device.snapshots.file H U m account place (is_new has)
 
-      slots_next : HasSlots size (v ∷ vs) device.log.bytes fault m → HasSlots size next device.log.bytes fault (handed_out place m)
-      slots_next has =
+      -- it begins at a multiple of the size
+      begins_multiple : HasSlots size (v ∷ vs) device.log.bytes fault m → place % size ≡ 0
+      begins_multiple has =
           let first = All-head (HasSlot size m) v vs has.taken in
           let begins : v.parts.site.place % size ≡ 0 = ap (λ n. n % size) (sym first.is) ∙ has.own.aligned first.number first.taken in
-          slots_begun m slots size (omega (arith, big)) (closed (v ∷ vs)) device.log.bytes fault place (begun_view sum size m stable (last_of v vs)) (ap (λ n. n % size) ends_there ∙ add-mul-mod_self_right v.parts.site.place (suc (length vs)) size ∙ begins)
+          ap (λ n. n % size) ends_there ∙ add-mul-mod_self_right v.parts.site.place (suc (length vs)) size ∙ begins
+
+      slots_next : HasSlots size (v ∷ vs) device.log.bytes fault m → HasSlots size next device.log.bytes fault (handed_out place m)
+      slots_next has =
+          slots_begun m slots size (omega (arith, big)) (closed (v ∷ vs)) device.log.bytes fault place (begun_view sum size m stable (last_of v vs))
+          (begins_multiple has)
           (ends_there ∙ sym (closed_end (v ∷ vs))) refl refl (closed_slots (v ∷ vs) device.log.bytes fault m has)
 
       next_end : line_end size (v ∷ vs) ≤ line_end size next
@@ -269,9 +275,11 @@ module _ (sum : List ℕ → ℕ) (size : ℕ) where
             let long : suc (length (xs ++ w ∷ [])) ≡ suc (suc (length xs)) = ap suc (length-append xs (w ∷ []) ∙ (let one : length xs + 1 ≡ suc (length xs) = omega arith in one)) in
             omega (arith, lies_there, ends_there, ap (λ n. n * size) long, suc-mul (suc (length xs)) size)
 
-      numbers_next : HasNumbers sum size device m (line_end size (v ∷ vs)) → HasNumbers sum size device (handed_out place m) (line_end size next)
-      numbers_next has =
+      numbers_next : HasSlots size (v ∷ vs) device.log.bytes fault m → HasNumbers sum size device m (line_end size (v ∷ vs))
+          → HasNumbers sum size device (handed_out place m) (line_end size next)
+      numbers_next has_slots has =
           numbers_handed sum size (omega (arith, big)) m (next_within m slots) (next_free m slots) place device (line_end size next)
+          (let aligned = begins_multiple has_slots in omega (arith, mod-add-div' place size, aligned))
           (let same = ends_there in let up = next_end in omega (arith, same, up)) (subst (HasNumbers sum size device m) (sym ends_there) has)
 
       low : stable ≤ written_to (closed (v ∷ vs))
@@ -307,7 +315,7 @@ module _ (sum : List ℕ → ℕ) (size : ℕ) where
         whole = λ none zeros. whole_next (logged H) (fits.whole none zeros);
         own = λ none zeros. own_next sum size (HeaderWasPlaced device.placed) (RecordWasPlaced sum size device.placed) device.log.bytes m stable (v ∷ vs) (fits.own none zeros);
         account = account_next H U fits.slots fits.account;
-        numbers = λ zeros. numbers_next (fits.numbers zeros);
+        numbers = λ zeros. numbers_next fits.slots (fits.numbers zeros);
         in_slots = λ first begins. slots_handed sum size (omega (arith, big)) m (next_within m slots) (next_free m slots) place _ H _ (fits.in_slots first begins);
       }
 

@@ -1,5 +1,5 @@
--- In the slots of a log nothing that is the log's own has a greater number than its segment: so it is where less is own and where
--- slots are marked, and so the slots that tables need keep their numbers.
+-- The slots of a log have the numbers of their segments: so it is where less is own and where slots are marked, and so the slots that tables need keep their
+-- numbers.
 use Rattle.std.proofs.Common.{◌≡◌, ◌∙◌, ◌/◌, ◌<◌, ◌≤◌, ℕ, List, sym, ap, subst, arith, inl, inr}
 use Rattle.std.specs.List.{Contains}
 use Rattle.std.proofs.Math.Nat.{mul-div_cancel}
@@ -12,26 +12,32 @@ use Rattle.sled_store.proofs.Histories.Ascending.{Ascends}
 use Rattle.sled_store.proofs.Histories.EarlierEntries.{entry_earlier}
 use Rattle.sled_store.proofs.Histories.TableParts.{from_table}
 use Rattle.sled_store.proofs.Marks.MarkSteps.{SameSegments}
-use Rattle.sled_core.specs.inside.Numbers.{HasNumbers, HaveSlots, IsInSlot, NoGreater, NumbersStay}
+use Rattle.sled_core.specs.inside.Numbers.{HasNumber, HasNumbers, HaveSlots, IsInSlot, NumbersStay}
 use Rattle.sled_core.proofs.Numbers.OwnLess.{OwnLess}
 use Rattle.sled_core.proofs.Tail.Multiples.{lower_multiple}
 
 module _ (sum : List ℕ → ℕ) (size : ℕ) where
   -- Less is own.
   module _ (t s : State) (less : OwnLess sum size t s) where
+    -- a slot has its number still
+    pub number_less : (k number : ℕ) → HasNumber sum size s k number → HasNumber sum size t k number
+    number_less k number has = record {
+      greatest = λ n at text inside own. has.greatest n at text inside (less.records n at text own);
+      only = λ j at text inside own. has.only j at text inside (less.records number at text own);
+    }
+
     pub numbers_less : (m : Machine) (end : ℕ) → HasNumbers sum size s m end → HasNumbers sum size t m end
     numbers_less m end has = record {
       to_come = λ number at text own. has.to_come number at text (less.records number at text own);
-      taken = λ k used n at text inside own. has.taken k used n at text inside (less.records n at text own);
+      taken = λ k used. number_less k ((slot_at m k).lsn / size) (has.taken k used);
       headers = λ k place mark own. has.headers k place mark (less.headers k place mark own);
       lie = λ number at text own. has.lie number at text (less.records number at text own);
     }
 
     pub stay_less : (H : History) (A : ℕ) → NumbersStay sum size s H A → NumbersStay sum size t H A
     stay_less H A stay = record {
-      entries = λ cut page e up entry n at text inside own. stay.entries cut page e up entry n at text inside (less.records n at text own);
-      later = λ k place mark head up n at text inside own.
-          stay.later k place mark (less.headers k place mark head) up n at text inside (less.records n at text own);
+      entries = λ cut page e up entry. number_less (slot_with size e) (e.place / size) (stay.entries cut page e up entry);
+      later = λ k place mark head up. number_less k (place / size) (stay.later k place mark (less.headers k place mark head) up);
       lie = λ number at text own. stay.lie number at text (less.records number at text own);
     }
 
@@ -57,7 +63,7 @@ module _ (sum : List ℕ → ℕ) (size : ℕ) where
     pub numbers_marked : (s : State) (end : ℕ) → HasNumbers sum size s m end → HasNumbers sum size s n end
     numbers_marked s end has = record {
       to_come = has.to_come;
-      taken = λ k used. subst (λ p. NoGreater sum size s k (p / size)) (sym (same k).lsn) (has.taken k (sym (same k).free ∙ used));
+      taken = λ k used. subst (λ p. HasNumber sum size s k (p / size)) (sym (same k).lsn) (has.taken k (sym (same k).free ∙ used));
       headers = λ k place mark own. let is = has.headers k place mark own in ((same k).free ∙ is.0, (same k).lsn ∙ is.1);
       lie = has.lie;
     }
@@ -73,7 +79,7 @@ module _ (sum : List ℕ → ℕ) (size : ℕ) where
       not_above = has.not_above;
     }
 
-  -- So in the slots that tables need from a place on nothing own has a greater number.
+  -- So the slots that tables need from a place on have their numbers.
   module _ (some : 0 < size) (s : State) (m : Machine) (end : ℕ) (has : HasNumbers sum size s m end) (H : History) (order : Ascends H.messages) (base A : ℕ)
       (slots : HaveSlots sum size base H A m) (low : base ≤ A) where
     -- an entry is in the slot of its segment
@@ -83,15 +89,15 @@ module _ (sum : List ℕ → ℕ) (size : ℕ) where
       | inr over ↦ slots.later e (from_table H cut page e entry).0 (omega (arith, over))
     ]
 
-    none_greater : (e : Message) → IsInSlot size m e → NoGreater sum size s (slot_with size e) (e.place / size)
-    none_greater e is =
+    its_number : (e : Message) → IsInSlot size m e → HasNumber sum size s (slot_with size e) (e.place / size)
+    its_number e is =
         let same : (slot_at m (slot_with size e)).lsn / size ≡ e.place / size = ap (λ p. p / size) is.lsn ∙ mul-div_cancel (e.place / size) some in
-        subst (λ n. NoGreater sum size s (slot_with size e) n) same (has.taken (slot_with size e) is.taken)
+        subst (λ n. HasNumber sum size s (slot_with size e) n) same (has.taken (slot_with size e) is.taken)
 
     pub numbers_stay : NumbersStay sum size s H A
     numbers_stay = record {
-      entries = λ cut page e up entry. none_greater e (entry_in_slot cut page e up entry);
+      entries = λ cut page e up entry. its_number e (entry_in_slot cut page e up entry);
       later = λ k place mark own up.
-          let is = has.headers k place mark own in subst (λ p. NoGreater sum size s k (p / size)) is.1 (has.taken k is.0);
+          let is = has.headers k place mark own in subst (λ p. HasNumber sum size s k (p / size)) is.1 (has.taken k is.0);
       lie = has.lie;
     }

@@ -1,6 +1,7 @@
 -- A write into the slot of a segment, of records of its number alone, and of its header where it begins there: nothing own has a greater number behind it than
 -- before.
 use Rattle.std.proofs.Common.{◌≡◌, ◌∙◌, ◌+◌, ◌*◌, ◌/◌, ◌<◌, ◌≤◌, ℕ, ℤ, pos, false, List, [], ◌∷◌, length, sym, ap, subst, arith, inl, inr}
+use Rattle.std.proofs.Math.Nat.{mod-add-div'}
 use Rattle.std.proofs.lemmas.Bool.{cases_order}
 use Rattle.sled_codec.specs.declared.serialization.message.MessageKind.{MessageKind}
 use Rattle.sled_codec.specs.Record.{IsHeader, IsRecord}
@@ -10,7 +11,8 @@ use Rattle.sled_store.specs.SegmentStates.{Machine, is_free, slot_at}
 use Rattle.sled_store.proofs.Own.ReachedLemmas.{record_some}
 use Rattle.sled_store.proofs.Segments.Elements.{in_cases, in_nothing}
 use Rattle.sled_store.proofs.Segments.FilledLemmas.{slot_before}
-use Rattle.sled_core.specs.inside.Hides.{LiesInSlot}
+use Rattle.sled_core.specs.inside.FreeSlots.{HaveOwn}
+use Rattle.sled_core.specs.inside.Hides.{IsOwnRecord, LiesInSlot}
 use Rattle.sled_core.specs.inside.Numbers.{HasNumbers}
 use Rattle.sled_core.proofs.OwnLog.WrittenOwn.{header_or_written, new, record_or_written}
 
@@ -31,7 +33,7 @@ placed_covers sum size p number lid text laid = elim (in_cases p laid.0 [] laid.
   | inr none ↦ absurd (in_nothing laid.0 none)
 ]
 
-module _ (sum : List ℕ → ℕ) (size : ℕ) (s : State) (m : Machine) (end : ℕ) (has : HasNumbers sum size s m end) (at : ℕ) (asked now : List ℕ)
+module _ (sum : List ℕ → ℕ) (size : ℕ) (s : State) (m : Machine) (end : ℕ) (has : HasNumbers sum size s m end) (slots : HaveOwn size end m) (some : 0 < size) (at : ℕ) (asked now : List ℕ)
     (k place : ℕ) (used : is_free (slot_at m k).state ≡ false) (lsn : (slot_at m k).lsn ≡ place) (below : place < end) (begins : place / size * size ≡ place)
     (low : k * size ≤ at) (high : at + length asked ≤ k * size + size) where
   abbrev its : Placement
@@ -45,6 +47,19 @@ module _ (sum : List ℕ → ℕ) (size : ℕ) (s : State) (m : Machine) (end : 
       let to = covers.ends in
       (omega (arith, from, low), omega (arith, to, high))
 
+  -- it lies in no other one
+  its_slot : (number lid : ℕ) (text : List ℕ) → IsOwnRecord sum size (step (Wrote at asked now) s) number lid text
+      → RecordWasPlaced sum size (its ∷ []) number lid text → (j : ℕ) → LiesInSlot size j lid text → j ≡ k
+  its_slot number lid text own laid j inside =
+      let long = record_some sum text own.kind own.page number own.body own.is in
+      one_slot size j k lid text (omega (arith, long)) inside (lies_there number lid text laid)
+
+  -- no other slot has the segment's number
+  one_number : (j : ℕ) → is_free (slot_at m j).state ≡ false → (slot_at m j).lsn / size ≡ place / size → k ≡ j
+  one_number j taken same =
+      let its = slots.aligned j taken in
+      slots.one k j used taken (let rows = ap (λ n. n * size) same in omega (arith, mod-add-div' (slot_at m j).lsn size, its, rows, begins, lsn))
+
   pub numbers_written : ((number lid : ℕ) (text : List ℕ) → RecordWasPlaced sum size (its ∷ []) number lid text
           → (kind : MessageKind) (page : ℕ) (body : List ℕ) → IsRecord sum text kind page number body → number ≡ place / size)
       → ((j p : ℕ) (mark : ℤ) (text : List ℕ) → IsHeader sum text (pos p) mark → HeaderWasPlaced (its ∷ []) (j * size) text → (j ≡ k) × (p ≡ place))
@@ -56,14 +71,20 @@ module _ (sum : List ℕ → ℕ) (size : ℕ) (s : State) (m : Machine) (end : 
           let is = records number lid text laid own.kind own.page own.body own.is in
           omega (arith, below, begins, ap (λ n. n * size) is))
     ];
-    taken = λ j taken n lid text inside own. elim (record_or_written sum size s at asked now n lid text own) [
-      | inl had ↦ has.taken j taken n lid text inside had
-      | inr laid ↦ (
-          let is = records n lid text laid own.kind own.page own.body own.is in
-          let some = record_some sum text own.kind own.page n own.body own.is in
-          let here : j ≡ k = one_slot size j k lid text (omega (arith, some)) inside (lies_there n lid text laid) in
-          omega (arith, is, ap (λ p. p / size) (ap (λ i. (slot_at m i).lsn) here ∙ lsn)))
-    ];
+    taken = λ j taken. record {
+      greatest = λ n lid text inside own. elim (record_or_written sum size s at asked now n lid text own) [
+        | inl had ↦ (has.taken j taken).greatest n lid text inside had
+        | inr laid ↦ (
+            let is = records n lid text laid own.kind own.page own.body own.is in
+            let here : j ≡ k = its_slot n lid text own laid j inside in
+            omega (arith, is, ap (λ p. p / size) (ap (λ i. (slot_at m i).lsn) here ∙ lsn)))
+      ];
+      only = λ i lid text inside own. let number : ℕ = (slot_at m j).lsn / size in elim (record_or_written sum size s at asked now number lid text own) [
+        | inl had ↦ (has.taken j taken).only i lid text inside had
+        | inr laid ↦ its_slot number lid text own laid i inside
+            ∙ one_number j taken (records number lid text laid own.kind own.page own.body own.is)
+      ];
+    };
     headers = λ j p mark own. elim (header_or_written sum size s at asked now j p mark own) [
       | inl had ↦ has.headers j p mark had
       | inr laid ↦ (

@@ -1,5 +1,5 @@
 -- An empty device is ready for a log in which nothing happened, and whatever a crash leaves of it can be recovered.
-use Rattle.std.proofs.Common.{◌≡◌, ◌≤◌, ◌<◌, ◌*◌, ◌^◌, ◌∙◌, ℕ, ℤ, pos, List, [], length, drop, Option, Some, None, refl, sym, ap, subst, arith, inl, length-take, length-drop}
+use Rattle.std.proofs.Common.{◌/◌, ◌≡◌, ◌≤◌, ◌<◌, ◌*◌, ◌^◌, ◌∙◌, ℕ, ℤ, pos, List, [], length, drop, Option, Some, None, refl, sym, ap, subst, arith, inl, length-take, length-drop}
 use Rattle.sled_codec.specs.History.{no_history}
 use Rattle.sled_codec.specs.Places.{part}
 use Rattle.sled_codec.specs.Record.{IsHeader}
@@ -12,7 +12,8 @@ use Rattle.sled_store.proofs.Segments.Elements.{in_nothing}
 use Rattle.sled_store.specs.Foreign.{RecordWasPlaced}
 use Rattle.sled_core.specs.OwnNames.{IsAnyBlob, IsAnySnapshot}
 use Rattle.sled_core.specs.inside.Hides.{IsOwnRecord}
-use Rattle.sled_core.specs.inside.Numbers.{NumbersStay}
+use Rattle.sled_store.specs.Marks.{slot_with}
+use Rattle.sled_core.specs.inside.Numbers.{HasNumber, NumbersStay}
 use Rattle.sled_core.specs.invariants.Recoverable.{Recoverable}
 use Rattle.sled_core.specs.Recoverable.{LeavesRecoverable}
 use Rattle.sled_core.specs.inside.Lasting.{LeavesRecovering}
@@ -65,10 +66,17 @@ none_own : (sum : List ℕ → ℕ) (size number at : ℕ) (text : List ℕ) →
 unfolding RecordWasPlaced
 none_own sum size number at text own = let laid = own.placed in in_nothing laid.0 laid.1
 
+-- so each slot has any number
+none_numbered : (sum : List ℕ → ℕ) (size k number : ℕ) → HasNumber sum size fresh k number
+none_numbered sum size k number = record {
+  greatest = λ n at text inside own. absurd (none_own sum size n at text own);
+  only = λ j at text inside own. absurd (none_own sum size number at text own);
+}
+
 fresh_numbers : (sum : List ℕ → ℕ) (size : ℕ) → NumbersStay sum size fresh no_history 0
 fresh_numbers sum size = record {
-  entries = λ cut page e up entry n at text inside own. absurd (none_own sum size n at text own);
-  later = λ k place mark own up n at text inside record_own. absurd (none_own sum size n at text record_own);
+  entries = λ cut page e up entry. none_numbered sum size (slot_with size e) (e.place / size);
+  later = λ k place mark own up. none_numbered sum size k (place / size);
   lie = λ number at text own. absurd (none_own sum size number at text own);
 }
 

@@ -1,4 +1,4 @@
--- A slot that is free is handed out to the segment behind all others: nothing that is the log's own in it has a greater number.
+-- A slot that is free is handed out to the segment behind all others: it has that one's number.
 use Rattle.std.proofs.Common.{◌≡◌, ◌≢◌, ◌∙◌, ◌*◌, ◌/◌, ◌%◌, ◌<◌, ◌≤◌, ℕ, true, false, List, length, sym, ap, subst, arith, inl, inr}
 use Rattle.std.proofs.Math.Nat.{mod-add-div'}
 use Rattle.std.proofs.lemmas.Bool.{cases_lt}
@@ -7,7 +7,8 @@ use Rattle.sled_store.specs.Device.{State}
 use Rattle.sled_store.specs.Marks.{slot_with}
 use Rattle.sled_store.specs.SegmentStates.{Machine, SlotState, handed_out, is_free, next_slot, slot_at}
 use Rattle.sled_store.proofs.Segments.FilledLemmas.{slot_before}
-use Rattle.sled_core.specs.inside.Numbers.{HasNumbers, HaveSlots, IsInSlot, NoGreater}
+use Rattle.sled_core.specs.inside.Hides.{IsOwnRecord}
+use Rattle.sled_core.specs.inside.Numbers.{HasNumbers, HaveSlots, HasNumber, IsInSlot}
 use Rattle.sled_core.proofs.Start.OwnSlots.{handed_other, taken_cases}
 
 -- Segments that begin no higher have numbers that are no higher.
@@ -23,6 +24,14 @@ below_number size some n place low = elim (cases_lt (place / size) n) [
 module _ (sum : List ℕ → ℕ) (size : ℕ) where
   -- A slot that is free is handed out, to a segment that begins where the others end.
   module _ (some : 0 < size) (m : Machine) (within : next_slot m ≤ length m.slots) (free : is_free (slot_at m (next_slot m)).state ≡ true) (place : ℕ) where
+    -- a number that is to come is that of the segment that begins there, and nothing is of it
+    number_new : (s : State) (k : ℕ) → place / size * size ≡ place
+        → ((n at : ℕ) (text : List ℕ) → IsOwnRecord sum size s n at text → n * size < place) → HasNumber sum size s k (place / size)
+    number_new s k begins to_come = record {
+      greatest = λ n at text inside own. below_number size some n place (to_come n at text own);
+      only = λ j at text inside own. absurd (let low = to_come (place / size) at text own in omega (arith, low, begins));
+    }
+
     other_slot : (k : ℕ) → is_free (slot_at m k).state ≡ false → k ≢ next_slot m
     other_slot k used same = let both : true ≡ false = sym free ∙ ap (λ j. is_free (slot_at m j).state) (sym same) ∙ used in absurd cc
 
@@ -30,16 +39,15 @@ module _ (sum : List ℕ → ℕ) (size : ℕ) where
     stays_taken : (k : ℕ) → is_free (slot_at m k).state ≡ false → slot_at (handed_out place m) k ≡ slot_at m k
     stays_taken k used = handed_other m within place k (other_slot k used)
 
-    pub numbers_handed : (s : State) (end : ℕ) → place ≤ end → HasNumbers sum size s m place → HasNumbers sum size s (handed_out place m) end
-    numbers_handed s end up has = record {
+    pub numbers_handed : (s : State) (end : ℕ) → place / size * size ≡ place → place ≤ end → HasNumbers sum size s m place → HasNumbers sum size s (handed_out place m) end
+    numbers_handed s end begins up has = record {
       to_come = λ number at text own. let low = has.to_come number at text own in omega (arith, low, up);
       taken = λ k used. elim (taken_cases m within place k used) [
-        | inl new ↦ subst (λ p. NoGreater sum size s k (p / size)) (sym new.0)
-            (λ n at text inside own. below_number size some n place (has.to_come n at text own))
-        | inr old ↦ subst (λ p. NoGreater sum size s k (p / size)) (sym old.0) (has.taken k old.1)
+        | inl new ↦ subst (λ p. HasNumber sum size s k (p / size)) (sym new.0) (number_new s k begins has.to_come)
+        | inr old ↦ subst (λ p. HasNumber sum size s k (p / size)) (sym old.0) (has.taken k old.1)
       ];
-      headers = λ k begins mark own.
-          let is = has.headers k begins mark own in
+      headers = λ k at mark own.
+          let is = has.headers k at mark own in
           let stays = stays_taken k is.0 in (ap (λ (x : SlotState). is_free x.state) stays ∙ is.0, ap (λ (x : SlotState). x.lsn) stays ∙ is.1);
       lie = has.lie;
     }

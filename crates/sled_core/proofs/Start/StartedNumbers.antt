@@ -1,7 +1,7 @@
 -- A log begins: nothing that is the log's own is of a number that is still to come, nor, in the slot of a segment, of a greater one. The slots that the
 -- snapshot
 -- doesn't use were filled with zeros, and in those that it uses the numbers stay.
-use Rattle.std.proofs.Common.{◌≡◌, ◌∙◌, ◌+◌, ◌*◌, ◌/◌, ◌<◌, ◌≤◌, ℕ, ℤ, zero, suc, pos, Bool, true, false, not, if◌then◌else◌, unsigned_abs, List, [], ◌∷◌}
+use Rattle.std.proofs.Common.{◌≡◌, ◌∙◌, ◌+◌, ◌-◌, ◌*◌, ◌/◌, ◌<◌, ◌≤◌, ℕ, ℤ, zero, suc, pos, Bool, true, false, not, if◌then◌else◌, unsigned_abs, List, [], ◌∷◌}
 use Rattle.std.proofs.Common.{◌++◌, length, drop, map, replicate, get_or, Option, None, Some, IfSome, refl, sym, ap, subst, arith, inl, inr}
 use Rattle.std.specs.List.{Contains}
 use Rattle.std.proofs.Math.Nat.{div-mul-le_self, mod-add-div', mul-div_cancel, mul-le-mul_right}
@@ -43,11 +43,12 @@ use Rattle.sled_core.specs.declared.iobuf.SegmentPosition.{SegmentPosition}
 use Rattle.sled_core.specs.inside.Begun.{line_end}
 use Rattle.sled_core.specs.inside.FreeSlots.{HaveOwn}
 use Rattle.sled_core.specs.inside.Hides.{IsOwnHeader, IsOwnRecord, LiesInSlot}
-use Rattle.sled_core.specs.inside.Numbers.{HasNumbers, NoGreater, NumbersStay}
+use Rattle.sled_core.specs.inside.Numbers.{HasNumber, HasNumbers, NumbersStay}
 use Rattle.sled_core.specs.inside.Running.{IsReadyFor}
 use Rattle.sled_core.proofs.Logged.Alike.{table_alike}
 use Rattle.sled_core.proofs.Logged.Messages.{logged_twice}
 use Rattle.sled_core.proofs.Numbers.OwnLess.{OwnLess, less_cut, less_synced, less_then, less_zeros}
+use Rattle.sled_core.proofs.Numbers.Stay.{number_less}
 use Rattle.sled_core.proofs.Numbers.Stood.{own_header_stands, own_record_stands}
 use Rattle.sled_core.proofs.Reached.StartedStands.{slot_needed}
 use Rattle.sled_core.proofs.Read.FoundLemmas.{pos_injective}
@@ -197,7 +198,7 @@ module _ (sum : List ℕ → ℕ) (size : ℕ) (long : 256 ≤ size) (zeros : No
 
   -- In the slot of a segment nothing own has a greater number, and the header there is that of the segment.
   record Keeps (k : ℕ) : Type 0 where
-    bound : NoGreater sum size now k ((slot_at start k).lsn / size)
+    bound : HasNumber sum size now k ((slot_at start k).lsn / size)
     head : (place : ℕ) (mark : ℤ) → IsHeader sum (part log (k * size) 20) (pos place) mark → (slot_at start k).lsn ≡ place
 
   module _ (k : ℕ) (e : HasFound size (length log) some s k) where
@@ -218,10 +219,9 @@ module _ (sum : List ℕ → ℕ) (size : ℕ) (long : 256 ≤ size) (zeros : No
         let its = subst (λ n. IsHeader sum (part log n 20) (pos of.segment.place) of.segment.mark) begins of.found.header in
         let place_is : segment_number_of size e.entry * size ≡ logged_m.1.place / size * size = ap (λ z. unsigned_abs z / size * size) logged_m.3.place in
         record {
-          bound = λ n at text inside own.
-              let low = was.entries stable found_m.0 m (omega arith) found_m.2 n at text (subst (λ j. LiesInSlot size j at text) (sym slot) inside)
-              (less.records n at text own) in
-              omega (arith, low, same);
+          bound = subst (λ n. HasNumber sum size now k n) (sym same)
+              (subst (λ j. HasNumber sum size now j (m.place / size)) slot
+              (number_less sum size now before less (slot_with size m) (m.place / size) (was.entries stable found_m.0 m (omega arith) found_m.2)));
           head = λ place mark header.
               let one = pos_injective of.segment.place place
               (one_header sum (part log (k * size) 20) (pos of.segment.place) of.segment.mark (pos place) mark its header).0 in
@@ -247,9 +247,8 @@ module _ (sum : List ℕ → ℕ) (size : ℕ) (long : 256 ≤ size) (zeros : No
         let own_head : IsOwnHeader sum size before k place mark =
         record { text = part log (k * size) 20; is = header; placed = (ready.own zeros k).header (pos place) mark header } in
         record {
-          bound = λ n at text inside own.
-              let low = was.later k place mark own_head (omega arith) n at text inside (less.records n at text own) in
-              omega (arith, low, ap (λ p. p / size) lsn);
+          bound = subst (λ p. HasNumber sum size now k (p / size)) (sym lsn)
+              (number_less sum size now before less k (place / size) (was.later k place mark own_head (omega arith)));
           head = λ p mark' other. lsn ∙ pos_injective place p (one_header sum (part log (k * size) 20) (pos place) mark (pos p) mark' header other).0;
         }
 
@@ -285,7 +284,7 @@ module _ (sum : List ℕ → ℕ) (size : ℕ) (long : 256 ≤ size) (zeros : No
         let inside = lie number at text own in
         let k : ℕ = inside.0 in
         by_state k (λ free. no_record k number at text free inside.1 own) (λ taken.
-        let low = (keeps k taken).bound number at text inside.1 own in
+        let low = (keeps k taken).bound.greatest number at text inside.1 own in
         let under = has.below k taken in
         let rows = mul-le-mul_right size low in
         omega (arith, rows, div-mul-le_self (slot_at start k).lsn size, under, long));
@@ -307,7 +306,7 @@ module _ (sum : List ℕ → ℕ) (size : ℕ) (long : 256 ≤ size) (zeros : No
         (λ e there. low_active size (length log) some s startable a e (subst (λ (o : Option ℕ). Ends o e) active there)))
     by None none =
         numbers_handed sum size some start (next_within size (length log) s) (next_is_free size (length log) s) (raised size stable) now
-            (raised size stable + size) (omega arith)
+            (raised size stable + size) (ap (λ n. n * size) (mul-div_cancel ((stable + (size - 1)) / size) some)) (omega arith)
         (numbers_started (raised size stable) (own_started size (length log) some s startable (raised size stable)
         (λ e there. low_raised size (length log) some s startable e (subst (λ (o : Option ℕ). Ends o e) none there))))
 
