@@ -7,15 +7,10 @@ pub mod FreedHides
 pub mod FreedSlots
 pub mod Gone
 pub mod GoneAlone
-pub mod Hides
 pub mod KeptHides
-pub mod LineHides
 pub mod NoHarm
 pub mod OutdatedGoes
 pub mod PassedOver
-pub mod Quiet
 pub mod ReadLess
 pub mod ReadsAs
-pub mod RunningHides
 pub mod ShownReads
-pub mod WrittenHides

@@ -37,6 +37,7 @@ pub mod KeptCalls
 pub mod KeptReads
 pub mod Last
 pub mod LineEnds
+pub mod LineHides
 pub mod LogReserves
 pub mod LogSpans
 pub mod LogWrites
@@ -51,9 +52,9 @@ pub mod NeededSlots
 pub mod Nexts
 pub mod NoneLeft
 pub mod Noted
+pub mod NthOpen
 pub mod NumbersKept
 pub mod NumbersWritten
-pub mod NthOpen
 pub mod OfLog
 pub mod OlderSlots
 pub mod OpenBetween
@@ -66,6 +67,7 @@ pub mod Places
 pub mod Positions
 pub mod Prepares
 pub mod Promotes
+pub mod Quiet
 pub mod Reads
 pub mod Records
 pub mod Reserved
@@ -73,6 +75,7 @@ pub mod ReservedInline
 pub mod ReservedWhole
 pub mod Reserves
 pub mod Rewritten
+pub mod RunningHides
 pub mod SealFirst
 pub mod Seals
 pub mod SealsFor
@@ -90,6 +93,8 @@ pub mod Turns
 pub mod Unchanged
 pub mod WholeBuffers
 pub mod WithoutBlob
+pub mod WriteHides
 pub mod Writes
+pub mod WrittenHides
 pub mod WrittenSlots
 pub mod WrittenTickets

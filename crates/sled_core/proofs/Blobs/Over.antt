@@ -24,6 +24,7 @@ use Rattle.sled_core.proofs.Blobs.Leaves.{ChangesAt, with_names, blobs_fit_besid
 use Rattle.sled_core.proofs.Blobs.StaysOwn.{own_same}
 use Rattle.sled_core.proofs.Blobs.Unnamed.{IsUnnamed}
 use Rattle.sled_core.proofs.Flush.FlushLemmas.{holds_over}
+use Rattle.sled_core.proofs.Numbers.HidesAs.{from_names}
 use Rattle.sled_core.proofs.Numbers.OwnLess.{less_same}
 use Rattle.sled_core.proofs.Numbers.Stay.{numbers_less}
 
@@ -178,4 +179,9 @@ module _ (sum : List ℕ → ℕ) (size : ℕ) (device : State) (blobs snapshots
             own_same sum (with_names device blobs snapshots) (with_names sees blobs snapshots) refl refl
             (changes.stay_own (own_same sum sees device refl refl own));
       } in
-      record { shows = fits_over_names sum size sees blobs snapshots fault p same H unnamed A f U noted line m pins fits.shows; file = fits.file }
+      record {
+        shows = fits_over_names sum size sees blobs snapshots fault p same H unnamed A f U noted line m pins fits.shows;
+        file = fits.file;
+        hides = λ none zeros.
+            from_names sum size device (with_names device blobs snapshots) m line (logged H) refl refl changes.same_files (fits.hides none zeros);
+      }

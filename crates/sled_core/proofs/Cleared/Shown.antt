@@ -27,6 +27,12 @@ module _ (size : ℕ) where
     pub as_shown_same : (log : LogState) → IsAsShown size fault m line log → IsAsShown size fault m' line' log
     as_shown_same log is = record { rests = is.rests; same = λ none. same log.bytes ∙ is.same none }
 
+  -- One that keeps none shows the cleared file.
+  pub shown_bytes : (fault : Option IoError) (m : Machine) (line : List SegmentView) (s : State) → fault ≡ None
+      → (shown size fault m line s).log.bytes ≡ cleared size m line s.log.bytes
+  shown_bytes None m line s none = refl
+  shown_bytes (Some e) m line s none = cc
+
   -- A log that keeps a failure shows its device as it is.
   pub shown_faulty : (e : IoError) (now : Option IoError) → now ≡ Some e → (m : Machine) (line : List SegmentView) (s : State) → shown size now m line s ≡ s
   shown_faulty e now is m line s = ap (λ (o : Option IoError). shown size o m line s) is

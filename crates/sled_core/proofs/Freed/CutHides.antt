@@ -17,7 +17,7 @@ use Rattle.sled_core.specs.inside.Cleared.{cleared, is_stale, zeroed}
 use Rattle.sled_core.specs.inside.Hides.{Hides, IsOwnHeader}
 use Rattle.sled_core.proofs.Cleared.Offsets.{zeroed_get, zeroed_long}
 use Rattle.sled_core.proofs.Cleared.Calls.{freed_free}
-use Rattle.sled_core.proofs.Freed.Hides.{hides_less}
+use Rattle.sled_core.proofs.Numbers.Hides.{hides_less}
 use Rattle.sled_core.proofs.Numbers.OwnLess.{OwnLess, less_cut, less_synced}
 use Rattle.sled_core.proofs.OwnLog.WrittenOwn.{header_synced}
 use Rattle.sled_core.proofs.Tail.Multiples.{apart}

@@ -22,7 +22,7 @@ use Rattle.sled_core.specs.inside.Slots.{IsWholeSegment, marked_at}
 use Rattle.sled_core.specs.inside.Tail.{least_place}
 use Rattle.sled_core.proofs.Cleared.Calls.{cleared_freed, freed_free}
 use Rattle.sled_core.proofs.Cleared.Emptied.{IsEmptied}
-use Rattle.sled_core.proofs.Freed.Hides.{gone_less}
+use Rattle.sled_core.proofs.Numbers.Hides.{gone_less}
 use Rattle.sled_core.proofs.Freed.KeptHides.{header_kept, text_kept}
 use Rattle.sled_core.proofs.Freed.ReadLess.{reading_less}
 use Rattle.sled_core.proofs.Tail.Moved.{one_in_slot}

@@ -13,7 +13,7 @@ use Rattle.sled_core.specs.Tail.{Scanned}
 use Rattle.sled_core.specs.inside.Cleared.{cleared}
 use Rattle.sled_core.specs.inside.Hides.{Hides, IsOwnHeader, IsReading, LiesInSlot}
 use Rattle.sled_core.specs.inside.Slots.{marked_at}
-use Rattle.sled_core.proofs.Freed.Hides.{KeepsShown, hides_less}
+use Rattle.sled_core.proofs.Numbers.Hides.{KeepsShown, hides_less}
 use Rattle.sled_core.proofs.Numbers.OwnLess.{OwnLess}
 use Rattle.sled_core.proofs.Reached.KeptStands.{alike_kept}
 use Rattle.sled_core.proofs.Reached.LeftBeside.{truth_alike}

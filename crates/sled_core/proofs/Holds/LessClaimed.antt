@@ -120,4 +120,5 @@ module _ (sum : List ℕ → ℕ) (H : History) (A less f lower : ℕ) (U : List
       in_slots = fits.shows.in_slots;
     };
     file = fits.file;
+    hides = fits.hides;
   }

@@ -5,7 +5,7 @@ use Rattle.std.specs.List.{Contains, slice_get}
 use Rattle.std.proofs.lemmas.Int.{ints}
 use Rattle.sled_codec.specs.History.{AddsBatch, Batch, Batched, History, Message, Step}
 use Rattle.sled_store.specs.Accounts.{machine_of}
-use Rattle.sled_store.specs.Device.{Trace}
+use Rattle.sled_store.specs.Device.{Trace, state_of}
 use Rattle.sled_store.specs.declared.config.RunningConfig.{RunningConfig}
 use Rattle.sled_core.specs.Batches.{LiesInNoFilling, NotesBatchOf, batch_for}
 use Rattle.sled_core.specs.Begun.{SegmentView, line_in, segment_view}
@@ -39,6 +39,8 @@ use Rattle.sled_core.proofs.Line.EntryPlaces.{line_unwritten}
 use Rattle.sled_core.proofs.Holds.Facts.{IsSegment, nth_facts}
 use Rattle.sled_core.proofs.Line.Fillings.{log_off}
 use Rattle.sled_core.proofs.Line.LogSpans.{ended_buffers}
+use Rattle.sled_core.proofs.Line.LineEnds.{end_set}
+use Rattle.sled_core.proofs.Numbers.HidesAs.{from_as}
 use Rattle.sled_core.proofs.Line.Moves.{fits_as, holds_as}
 use Rattle.sled_core.proofs.Reached.ByPlace.{stable_with_batch}
 use Rattle.sled_core.proofs.Reserve.Ranges.{at_there}
@@ -240,5 +242,10 @@ module _ {D C : Type 0} (trace : D → Trace) (sum : List ℕ → ℕ) (old mid 
           noted_history H b,
           subst (λ (x : Batch). AddsBatch H x (noted_history H b)) (λ j. record { low = (sym begins ∙ low_is) j; peg = peg }) (noted_adds H b later),
           fits_as trace sum old new now_config (rest.fault ∙ ended.fault) (with_batch b (noted_in old)) now_noted (set (line_of old) n (ended_now i r (marking sum v.parts.bytes r peg) Manifest v)) (noted_line mid new rest ∙ line) (machine_of old.accountant)
-              (ap machine_of (rest.accountant ∙ ended.accountant)) same_shown fits.file (noted_history H b) A f' U (rest.pins ∙ ended.pins) now,
+              (ap machine_of (rest.accountant ∙ ended.accountant)) same_shown fits.file (noted_history H b) A f' U (rest.pins ∙ ended.pins)
+              (λ whole zeros. from_as sum size (omega (arith, old.config.config.least)) (state_of (trace old.config.device)) (machine_of old.accountant) (machine_of old.accountant)
+              (line_of old) (set (line_of old) n (ended_now i r (marking sum v.parts.bytes r peg) Manifest v)) (logged H) (logged (noted_history H b))
+              (λ j. refl) (λ j. refl) (same_shown (state_of (trace old.config.device)).log.bytes)
+              (omega (arith, end_set size (line_of old) n v (ended_now i r (marking sum v.parts.bytes r peg) Manifest v) f.among refl))
+              (fits.hides whole zeros)) now,
         )

@@ -12,8 +12,8 @@ use Rattle.sled_codec.specs.Record.{short_header}
 use Rattle.sled_store.specs.Foreign.{HeaderWasPlaced, RecordWasPlaced}
 use Rattle.sled_store.specs.Accounts.{AreSlots}
 use Rattle.sled_store.specs.declared.config.RunningConfig.{RunningConfig}
-use Rattle.sled_store.specs.Device.{State, Trace}
-use Rattle.sled_store.specs.SegmentStates.{Machine, handed_out, next_slot}
+use Rattle.sled_store.specs.Device.{State, Trace, state_of}
+use Rattle.sled_store.specs.SegmentStates.{Machine, SlotState, handed_out, next_slot}
 use Rattle.sled_core.proofs.Line.FillingsAlong.{filling_at, fillings_begun, fillings_closed}
 use Rattle.sled_core.proofs.Line.Heads.{heads_begun, heads_closed}
 use Rattle.sled_store.proofs.Segments.Elements.{in_cases}
@@ -75,8 +75,11 @@ use Rattle.sled_core.proofs.Flush.Completed.{grows}
 use Rattle.sled_core.proofs.Line.Entered.{filled_last, last_used_to}
 use Rattle.sled_core.proofs.OwnLog.Calls.{own_next}
 use Rattle.sled_core.proofs.Line.Accounts.{account_handed}
+use Rattle.sled_core.proofs.Start.OwnSlots.{handed_other, handed_there}
 use Rattle.sled_core.proofs.Start.HandedNumbers.{numbers_handed, slots_handed}
+use Rattle.sled_core.specs.inside.Hides.{HidesFrom}
 use Rattle.sled_core.specs.inside.Numbers.{HasNumbers}
+use Rattle.sled_core.proofs.Numbers.HidesAs.{from_begun}
 use Rattle.sled_store.specs.Marks.{IsNewPlace}
 use Rattle.sled_core.proofs.Line.AccountBehind.{account_same}
 
@@ -240,26 +243,24 @@ module _ (sum : List ℕ → ℕ) (size : ℕ) where
           subst (λ p. AreWhole sum size device.log.bytes H p (handed_out place m)) (sym first_there)
           (whole_handed sum size m (next_within m slots) place device.log.bytes H v.parts.site.place (omega (arith, big)) (omega (arith, lies)) are)
 
-      -- it lies behind those of all slots
-      is_new : HasSlots size (v ∷ vs) device.log.bytes fault m → IsNewPlace size place m
-      is_new has =
-          let first = All-head (HasSlot size m) v vs has.taken in
-          let begins : v.parts.site.place % size ≡ 0 = ap (λ n. n % size) (sym first.is) ∙ has.own.aligned first.number first.taken in
-          record {
-            aligned = ap (λ n. n % size) ends_there ∙ add-mul-mod_self_right v.parts.site.place (suc (length vs)) size ∙ begins;
-            above = λ k taken. let low = has.own.below k taken in omega (arith, low, ends_there, big);
-          }
-
-      account_next : (H : History) (U : List Message) → HasSlots size (v ∷ vs) device.log.bytes fault m → HasAccount sum size device.snapshots.file H U m
-          → HasAccount sum size device.snapshots.file H U (handed_out place m)
-      account_next H U has account = account_handed sum size device.snapshots.file H U m account place (is_new has)
-
       -- it begins at a multiple of the size
       begins_multiple : HasSlots size (v ∷ vs) device.log.bytes fault m → place % size ≡ 0
       begins_multiple has =
           let first = All-head (HasSlot size m) v vs has.taken in
           let begins : v.parts.site.place % size ≡ 0 = ap (λ n. n % size) (sym first.is) ∙ has.own.aligned first.number first.taken in
           ap (λ n. n % size) ends_there ∙ add-mul-mod_self_right v.parts.site.place (suc (length vs)) size ∙ begins
+
+      -- it lies behind those of all slots
+      is_new : HasSlots size (v ∷ vs) device.log.bytes fault m → IsNewPlace size place m
+      is_new has =
+          record {
+            aligned = begins_multiple has;
+            above = λ k taken. let low = has.own.below k taken in omega (arith, low, ends_there, big);
+          }
+
+      account_next : (H : History) (U : List Message) → HasSlots size (v ∷ vs) device.log.bytes fault m → HasAccount sum size device.snapshots.file H U m
+          → HasAccount sum size device.snapshots.file H U (handed_out place m)
+      account_next H U has account = account_handed sum size device.snapshots.file H U m account place (is_new has)
 
       slots_next : HasSlots size (v ∷ vs) device.log.bytes fault m → HasSlots size next device.log.bytes fault (handed_out place m)
       slots_next has =
@@ -274,6 +275,14 @@ module _ (sum : List ℕ → ℕ) (size : ℕ) where
         longer (x ∷ xs) w some lies_there =
             let long : suc (length (xs ++ w ∷ [])) ≡ suc (suc (length xs)) = ap suc (length-append xs (w ∷ []) ∙ (let one : length xs + 1 ≡ suc (length xs) = omega arith in one)) in
             omega (arith, lies_there, ends_there, ap (λ n. n * size) long, suc-mul (suc (length xs)) size)
+
+      -- What the file has besides what is shown it may have still.
+      pub from_next : (d : State) (H : History) → HasSlots size (v ∷ vs) device.log.bytes fault m → ShowsSame size m (handed_out place m) (v ∷ vs) next
+          → HidesFrom sum size d m (v ∷ vs) H → HidesFrom sum size d (handed_out place m) next H
+      from_next d H has same =
+          from_begun sum size (omega (arith, big)) d m (handed_out place m) (v ∷ vs) next H H (next_slot m) place
+          (ap (λ (x : SlotState). x.lsn) (handed_there m (next_within m slots) place)) (handed_other m (next_within m slots) place) (same d.log.bytes)
+          ends_there (begins_multiple has) next_end
 
       numbers_next : HasSlots size (v ∷ vs) device.log.bytes fault m → HasNumbers sum size device m (line_end size (v ∷ vs))
           → HasNumbers sum size device (handed_out place m) (line_end size next)
@@ -503,6 +512,8 @@ module _ {D C : Type 0} (trace : D → Trace) (sum : List ℕ → ℕ) (old new 
         history = λ H holds. holds_as trace sum old new rest.config rest.fault (noted_in old) begins_noted _ line _ machine same_shown holds.file H
             (holds_next sum its_size device (fault_of old) (machine_at old) big old.account.slots first behind closes g.short small lies f.place_small (noted_in old) (logged H) holds.shows);
         fits = λ H A f' U fits. fits_as trace sum old new rest.config rest.fault (noted_in old) begins_noted _ line _ machine same_shown fits.file H A f' U rest.pins
+            (λ none zeros. from_next sum its_size device (fault_of old) (machine_at old) big old.account.slots first behind closes g.short small lies
+            f.place_small (noted_in old) (state_of (trace (device_of old))) (logged H) fits.shows.slots same_shown (fits.hides none zeros))
             (fits_next sum its_size device (fault_of old) (machine_at old) big old.account.slots first behind closes g.short small lies f.place_small (noted_in old) (pins_of old) H A f' U fits.shows);
         noted = noted_later old new rest.noted (let same = begins_synced in omega (arith, same));
         kept = kept_same old new rest.noted;

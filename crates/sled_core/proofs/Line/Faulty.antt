@@ -76,6 +76,7 @@ fits_shown_faulty sum noted size device new fault now line m pins H A f U fits e
         in_slots = subst (λ (s : NamesState). HaveSlotsFrom sum size s.file H (stable_below fits.reach H.batches) m) (sym names) fits.in_slots;
       };
       file = as_shown_faulty size e now is m line new.log;
+      hides = λ none zeros. cc;
     }
 
 -- The same, where all that it says is of equal parts.

@@ -12,7 +12,7 @@ use Rattle.sled_codec.specs.History.{Message}
 use Rattle.sled_codec.specs.declared.serialization.message.MessageKind.{MessageKind}
 use Rattle.sled_store.specs.Foreign.{HeaderWasPlaced, RecordWasPlaced}
 use Rattle.sled_store.specs.Accounts.{machine_of}
-use Rattle.sled_store.specs.Device.{Trace}
+use Rattle.sled_store.specs.Device.{Trace, state_of}
 use Rattle.sled_store.specs.SegmentStates.{Machine}
 use Rattle.sled_store.specs.declared.config.RunningConfig.{RunningConfig}
 use Rattle.sled_core.specs.Begun.{SegmentView, segment_view}
@@ -46,6 +46,7 @@ use Rattle.sled_core.proofs.Line.KeptCalls.{goes_on_quietly}
 use Rattle.sled_core.proofs.Holds.Facts.{current_facts}
 use Rattle.sled_core.proofs.Line.Last.{last_changed}
 use Rattle.sled_core.proofs.Line.LineEnds.{end_at_last, end_last, first_at_last, kept_same, noted_later, noted_same}
+use Rattle.sled_core.proofs.Numbers.HidesAs.{from_as}
 use Rattle.sled_core.proofs.Line.Moves.{fits_as, holds_as}
 use Rattle.sled_core.proofs.Line.OpenPlaces.{places_reserved}
 use Rattle.sled_core.proofs.Line.Reserves.{HasPlaceFor, awaits_reserved, line_fits_reserved, line_reserved, slots_reserved}
@@ -225,6 +226,10 @@ module _ {D C : Type 0} (trace : D → Trace) (sum : List ℕ → ℕ) (old new 
           slots = slots_reserved sum its_size more r (line_of old) (shown_of trace old).log.bytes (fault_of old) (machine_at old) holds.shows.slots;
         });
     fits = λ H A f U its. fits_as trace sum old new rest.config rest.fault (noted_in old) kept_noted (at_last (reserved_now more r) (line_of old)) line (machine_at old) machine same_shown its.file H A f U rest.pins
+        (λ none zeros. from_as sum its_size (omega (arith, old.config.config.least)) (state_of (trace (device_of old))) (machine_at old) (machine_at old)
+        (line_of old) (at_last (reserved_now more r) (line_of old)) (logged H) (logged H) (λ k. refl) (λ k. refl)
+        (same_shown (state_of (trace (device_of old))).log.bytes)
+        (omega (arith, end_at_last its_size (reserved_now more r) (λ _. refl) (line_of old))) (its.hides none zeros))
         (record {
           reach = its.shows.reach;
           parts = line_fits_reserved sum its_size more r (shown_of trace old) (fault_of old) its.shows.reach (pins_of old) H A f U v vs fits its.shows.parts;

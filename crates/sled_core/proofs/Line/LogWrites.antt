@@ -43,6 +43,7 @@ use Rattle.sled_core.proofs.Holds.BufferEnds.{written_behind}
 use Rattle.sled_core.proofs.Line.Ends.{line_holds}
 use Rattle.sled_core.proofs.Line.Faulty.{fits_shown_faulty, fits_with_device, holds_faulty, holds_with_device, line_leaves, names_written}
 use Rattle.sled_core.proofs.Line.LineEnds.{end_left, end_set}
+use Rattle.sled_core.proofs.Line.WriteHides.{hides_behind}
 use Rattle.sled_core.proofs.Line.NthOpen.{line_with, nth_same}
 use Rattle.sled_core.proofs.Line.Promotes.{end_promoted, holds_promoted}
 use Rattle.sled_core.proofs.Holds.Facts.{nth_facts}
@@ -345,6 +346,8 @@ module _ {D C : Type 0} (log : Log D C) (n k : ℕ) (r : IsReadyIn (line_of log)
                 (λ zeros. newest_stable sum size _ None (λ i. None) line_left after.0 log.pins H A f U after.1 zeros first begins);
           };
           file = shown_after has fits.file None;
+          hides = λ none zeros. hides_behind sum (noted_in log) size log.config.config.least device log.fault.kept whole zeros slots log.pins H A f U
+              log.segments.first.site.place line (line_segments log) fits.shows (fits.hides whole zeros) n v r.among k r.buffer r.there r.ready;
         }))
 
 -- A call that changed the device alone left the line as it was.

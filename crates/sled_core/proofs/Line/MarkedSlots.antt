@@ -9,6 +9,7 @@ use Rattle.sled_store.specs.declared.config.RunningConfig.{RunningConfig}
 use Rattle.sled_store.specs.Tracked.{at}
 use Rattle.sled_store.proofs.Marks.MarkSteps.{IsSameSegment, SameSegments, same_segment}
 use Rattle.sled_store.proofs.Segments.Elements.{all_from_in}
+use Rattle.sled_core.specs.Logged.{logged}
 use Rattle.sled_core.specs.Begun.{SegmentView, line_in}
 use Rattle.sled_core.specs.declared.logger.Log.{Log}
 use Rattle.sled_core.specs.Fits.{device_of, fault_of, line_of, machine_at, noted_in, pins_of, segment_size_of, synced_end}
@@ -24,6 +25,7 @@ use Rattle.sled_core.proofs.Cleared.Shown.{ShowsSame}
 use Rattle.sled_core.proofs.Holds.RunningLemmas.{fits-pinned}
 use Rattle.sled_core.proofs.Line.KeptCalls.{goes_on_quietly}
 use Rattle.sled_core.proofs.Line.LineEnds.{noted_still}
+use Rattle.sled_core.proofs.Numbers.HidesAs.{from_as}
 use Rattle.sled_core.proofs.Line.Moves.{fits_as, holds_as}
 use Rattle.sled_core.proofs.Numbers.Stay.{numbers_marked, slots_marked}
 use Rattle.sled_core.proofs.Reached.WholeSegments.{whole_at}
@@ -96,7 +98,11 @@ module _ {D C : Type 0} (trace : D → Trace) (sum : List ℕ → ℕ) (old new 
         → HasAccount sum (segment_size_of old) (state_of (trace (device_of old))).snapshots.file H V m → Fits trace sum new H A f V
     unfolding Fits
     fits_marked H A f U V fits fewer account =
-        fits_as trace sum old new rest.config fault_same (noted_in old) noted_same (line_of old) line_same m is same_shown fits.file H A f V rest.pins (record {
+        fits_as trace sum old new rest.config fault_same (noted_in old) noted_same (line_of old) line_same m is same_shown fits.file H A f V rest.pins
+        (λ none zeros. from_as sum (segment_size_of old) (omega (arith, old.config.config.least)) (state_of (trace (device_of old))) (machine_at old) m
+        (line_of old) (line_of old) (logged H) (logged H) (λ k. (same k).free) (λ k. (same k).lsn)
+        (same_shown (state_of (trace (device_of old))).log.bytes) (omega arith) (fits.hides none zeros))
+        (record {
           reach = fits.shows.reach;
           parts = fits-pinned _ _ _ _ _ _ _ _ _ _ H A f U fits.shows.parts (pins_of old) V (λ some. fits.shows.parts.pinned (fewer some));
           batches = fits.shows.batches;

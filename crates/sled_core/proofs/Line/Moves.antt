@@ -1,5 +1,5 @@
 -- A log whose segments are these, over the same device, holds and fits what these do over what was shown, where the same counts for nothing.
-use Rattle.std.proofs.Common.{◌≡◌, sym, subst, ℕ, List, Option}
+use Rattle.std.proofs.Common.{◌≡◌, sym, subst, ℕ, List, Option, None}
 use Rattle.std.specs.declared.io.Error.{Error as IoError}
 use Rattle.sled_codec.specs.History.{Batch, History, Message}
 use Rattle.sled_store.specs.declared.config.RunningConfig.{RunningConfig}
@@ -12,6 +12,8 @@ use Rattle.sled_core.specs.inside.Fits.{HoldsShown, HoldsWith}
 use Rattle.sled_core.specs.Fits.{config_of, device_of, fault_of, line_of, machine_at, noted_in, pins_of, segment_size_of}
 use Rattle.sled_core.specs.Logged.{logged}
 use Rattle.sled_core.specs.invariants.Running.{Fits}
+use Rattle.sled_core.specs.Recoverable.{NoHeaderOfZeros}
+use Rattle.sled_core.specs.inside.Hides.{HidesFrom}
 use Rattle.sled_core.specs.inside.Running.{FitsShown, FitsWith}
 use Rattle.sled_core.specs.inside.Shown.{IsAsShown, shown_of}
 use Rattle.sled_core.proofs.Cleared.Shown.{ShowsSame}
@@ -33,9 +35,10 @@ module _ {D C : Type 0} (trace : D → Trace) (sum : List ℕ → ℕ) (old new 
       file (logged H) holds)))))
 
   pub fits_as : (A f : ℕ) (U : List Message) → pins_of new ≡ pins_of old
+      → (fault_of old ≡ None → NoHeaderOfZeros sum → HidesFrom sum (segment_size_of old) (state_of (trace (device_of old))) m line (logged H))
       → FitsWith sum bs (segment_size_of old) (shown_of trace old) (fault_of old) line m (pins_of old) H A f U → Fits trace sum new H A f U
   unfolding Fits
-  fits_as A f U pins fits =
+  fits_as A f U pins hides fits =
       subst (λ (x : RunningConfig D C). FitsShown sum (noted_in new) x.config.segment_size (state_of (trace x.device)) (fault_of new) (line_of new) (machine_at new) (pins_of new) H A f U) (sym config)
       (subst (λ (e : Option IoError). FitsShown sum (noted_in new) (segment_size_of old) (state_of (trace (device_of old))) e (line_of new) (machine_at new) (pins_of new) H A f U) (sym fault)
       (subst (λ (l : List SegmentView). FitsShown sum (noted_in new) (segment_size_of old) (state_of (trace (device_of old))) (fault_of old) l (machine_at new) (pins_of new) H A f U) (sym is_line)
@@ -43,4 +46,4 @@ module _ {D C : Type 0} (trace : D → Trace) (sum : List ℕ → ℕ) (old new 
       (subst (λ n. FitsShown sum (noted_in new) (segment_size_of old) (state_of (trace (device_of old))) (fault_of old) line m n H A f U) (sym pins)
       (subst (λ (l : List Batch). FitsShown sum l (segment_size_of old) (state_of (trace (device_of old))) (fault_of old) line m (pins_of old) H A f U) (sym noted)
       (fits_shown sum bs (segment_size_of old) (state_of (trace (device_of old))) (fault_of old) (machine_at old) m (line_of old) line same
-      file (pins_of old) H A f U fits))))))
+      file (pins_of old) H A f U hides fits))))))

@@ -72,7 +72,7 @@ module _ (sum : List ℕ → ℕ) (size : ℕ) (big : 256 ≤ size) (device : St
   long = begun sum size big device fault whole v k b there ready place line are n among m slots H holds none Header Header' Own Own'
 
   -- What is written of the segment ends behind its header.
-  written_so : (v.parts.written_len ≡ 0) ⊎ (20 ≤ v.parts.written_len)
+  pub written_so : (v.parts.written_len ≡ 0) ⊎ (20 ≤ v.parts.written_len)
   written_so = elim (cases_lt 0 v.parts.written_len) [
     | inl more ↦ (
         let its : IsOwnSegment sum size Header Own device.log.bytes v.parts.site v.parts.written_len v.parts.sealed =

@@ -6,22 +6,26 @@ use Rattle.std.specs.List.{slice_get}
 use Rattle.std.proofs.Math.Nat.{suc-mul}
 use Rattle.std.proofs.lemmas.Bool.{cases_order}
 use Rattle.sled_codec.specs.History.{Batch, History, Message}
-use Rattle.sled_store.specs.Device.{LogState, State, at_rest}
+use Rattle.sled_store.specs.Device.{LogState, State, Trace, at_rest, state_of}
 use Rattle.sled_store.specs.SegmentStates.{Machine}
 use Rattle.sled_store.proofs.Segments.FilledLemmas.{slot_before}
 use Rattle.sled_core.specs.Begun.{SegmentView}
 use Rattle.sled_core.specs.Logged.{logged}
+use Rattle.sled_core.specs.Recoverable.{NoHeaderOfZeros}
 use Rattle.sled_core.specs.OpenBatches.{stable_below}
 use Rattle.sled_core.specs.Running.{end_below}
 use Rattle.sled_core.specs.inside.Fits.{HoldsLine, HoldsShown, HoldsWith}
 use Rattle.sled_core.specs.inside.FreeSlots.{HasSlot, HasSlots}
 use Rattle.sled_core.specs.inside.Running.{FitsLine, FitsShown, FitsWith}
+use Rattle.sled_core.specs.inside.Hides.{HidesFrom}
 use Rattle.sled_core.specs.inside.Shown.{IsAsShown, shown}
+use Rattle.sled_core.specs.inside.Tail.{least_place}
 use Rattle.sled_core.proofs.Cleared.Offsets.{LineRises, OthersBeside, cleared_itself, segments_apart}
 use Rattle.sled_core.proofs.Cleared.Shown.{ShowsSame, as_shown_same, shown_is, shown_same}
 use Rattle.sled_core.proofs.Holds.RunningLemmas.{fits-acknowledged, fits-pinned}
 use Rattle.sled_core.proofs.Line.Ends.{line_holds, with_part}
 use Rattle.sled_core.proofs.Line.Segments.{AreSegments, nth_segment}
+use Rattle.sled_core.proofs.Numbers.HidesAtRest.{hides_at_rest}
 use Rattle.sled_core.proofs.Sealed.Ended.{ends_rise, ends_up}
 
 -- where the n-th of segments one behind another begins
@@ -67,10 +71,12 @@ module _ (sum : List ℕ → ℕ) (noted : List Batch) (size : ℕ) (device : St
   }
 
   pub fits_shown : (pins : ℕ) (H : History) (A f : ℕ) (U : List Message)
+      → (fault ≡ None → NoHeaderOfZeros sum → HidesFrom sum size device m' line' (logged H))
       → FitsWith sum noted size (shown size fault m line device) fault line' m' pins H A f U → FitsShown sum noted size device fault line' m' pins H A f U
-  fits_shown pins H A f U fits = record {
+  fits_shown pins H A f U hides fits = record {
     shows = subst (λ (d : State). FitsWith sum noted size d fault line' m' pins H A f U) (sym (shown_same size fault m m' line line' same device)) fits;
     file = as_shown_same size fault m m' line line' same device.log file;
+    hides = hides;
   }
 
 -- As yet it is so over the device itself.
@@ -83,8 +89,11 @@ module _ (sum : List ℕ → ℕ) (noted : List Batch) (size : ℕ) (device : St
   fits_real pins H A f U fits =
       subst (λ (d : State). FitsWith sum noted size d fault line m pins H A f U) (shown_is size fault m line device fits.file) fits.shows
 
--- A log that holds a history over its device, as one does that begins, shows the device itself.
-module _ (sum : List ℕ → ℕ) (size : ℕ) (some : 0 < size) (device : State) (m : Machine) (line : List SegmentView) where
+-- A log that holds a history over its device, as one does that begins, shows the device itself, and hides nothing.
+module _ (sum : List ℕ → ℕ) (size : ℕ) (some : 0 < size) (t : Trace) (m : Machine) (line : List SegmentView) where
+  abbrev device : State
+  device = state_of t
+
   begins_shown : (H : History) → HoldsLine sum size device None line H → HasSlots size line device.log.bytes None m
       → IsAsShown size None m line device.log
   begins_shown H holds slots = record {
@@ -111,6 +120,8 @@ module _ (sum : List ℕ → ℕ) (size : ℕ) (some : 0 < size) (device : State
         record {
           shows = subst (λ (d : State). FitsWith sum noted size d None line m pins H A f U) (sym (shown_is size None m line device file)) fits;
           file = file;
+          hides = λ none zeros first begins.
+              hides_at_rest sum size t m line (file.same refl) (file.rests refl) (fits.numbers zeros) fits.slots.own (least_place size first) 0 (logged H);
         }
 
 -- Of segments of which there is one: another count of pins fits, where one is out while there are messages that aren't marked,
@@ -132,6 +143,7 @@ module _ (sum : List ℕ → ℕ) (noted : List Batch) (size : ℕ) (device : St
       in_slots = fits.shows.in_slots;
     };
     file = fits.file;
+    hides = fits.hides;
   }
 
   pub fits_pins : (now : ℕ) → (U ≢ [] → 0 < now) → FitsShown sum noted size device fault (v ∷ vs) m now H A f U

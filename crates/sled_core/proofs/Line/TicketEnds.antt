@@ -1,5 +1,5 @@
 -- The reservation of a ticket ends, whatever is written over the beginning of its record: what is seen of the log then, and what it holds and fits.
-use Rattle.std.proofs.Common.{◌≡◌, ◌∙◌, ◌+◌, ◌-◌, ◌/◌, ◌≤◌, ap, sym, subst, ℕ, pos, false, List, length, set, Ok, Some, ◌<◌, ◌^◌, arith, to_z, of_z, w64, ℤ}
+use Rattle.std.proofs.Common.{◌≡◌, ◌∙◌, ◌+◌, ◌-◌, ◌/◌, ◌≤◌, ap, sym, subst, ℕ, pos, false, List, length, set, Ok, Some, ◌<◌, ◌^◌, arith, to_z, of_z, w64, ℤ, None}
 use lib.Signed.{mag}
 use Rattle.std.specs.Prelude.{unsigned_abs}
 use Rattle.std.specs.List.{slice_get}
@@ -22,6 +22,8 @@ use Rattle.sled_core.specs.invariants.Fits.{Holds}
 use Rattle.sled_core.specs.invariants.Running.{Fits}
 use Rattle.sled_core.specs.inside.Fits.{HoldsWith}
 use Rattle.sled_core.specs.inside.Running.{FitsWith}
+use Rattle.sled_core.specs.Recoverable.{NoHeaderOfZeros}
+use Rattle.sled_core.specs.inside.Hides.{HidesFrom}
 use Rattle.sled_core.specs.inside.Shown.{IsAsShown, shown_of}
 use Rattle.sled_core.specs.OpenBatches.{not_whole}
 use Rattle.sled_core.specs.Keeps.{GoesOn, KeepsOthers}
@@ -161,7 +163,9 @@ module _ {D C : Type 0} {old new : Log D C} {ticket : Reservation} {n index : �
       ticket_holds = holds_ended old new n v e.at.among i r e.at.there e.at.own.open_yet e.text e.short state e.line rest trace sum
 
       -- and fits what they fit.
-      pub ticket_fits : (H : History) (A f : ℕ) (U : List Message)
+      pub ticket_fits : (H' H : History) (A f : ℕ) (U : List Message)
+          → (old.fault.kept ≡ None → NoHeaderOfZeros sum → HidesFrom sum old.config.config.segment_size (state_of (trace old.config.device))
+          (machine_of old.accountant) (line_of old) (logged H'))
           → IsAsShown old.config.config.segment_size old.fault.kept (machine_of old.accountant) (line_of old) (state_of (trace old.config.device)).log
           → FitsWith sum (noted_in old) old.config.config.segment_size (shown_of trace old) old.fault.kept
           (set (line_of old) n (ended_now i r e.text state v)) (machine_of old.accountant) old.pins H A f U

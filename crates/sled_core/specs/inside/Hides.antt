@@ -5,10 +5,12 @@ use Rattle.sled_codec.specs.declared.serialization.message.MessageKind.{MessageK
 use Rattle.sled_codec.specs.History.{History}
 use Rattle.sled_codec.specs.Places.{part}
 use Rattle.sled_codec.specs.Record.{IsHeader, IsRecord}
+use Rattle.sled_codec.specs.Snapshots.{SnapshotModel}
 use Rattle.sled_store.specs.Device.{State}
 use Rattle.sled_store.specs.Foreign.{HeaderWasPlaced, RecordWasPlaced}
 use Rattle.sled_store.specs.SegmentStates.{Machine, is_free, slot_at}
 use Rattle.sled_store.specs.Readers.{Reads}
+use Rattle.sled_store.specs.SnapshotFiles.{BeginsFrom}
 use Rattle.sled_core.specs.declared.iterator.Segment.{Segment}
 use Rattle.sled_core.specs.declared.iterator.scan.ScannedRecord.{ScannedRecord}
 use Rattle.sled_core.specs.Begun.{SegmentView}
@@ -17,6 +19,7 @@ use Rattle.sled_core.specs.inside.Begun.{line_end}
 use Rattle.sled_core.specs.inside.Cleared.{cleared}
 use Rattle.sled_core.specs.inside.Recoverable.{IsMarkOf, IsOfHistory, NothingBehind}
 use Rattle.sled_core.specs.inside.Slots.{marked_at}
+use Rattle.sled_core.specs.inside.Tail.{least_place}
 
 -- What is met in a segment, all of it of the history. Behind a Cap nothing of that begins in the segment.
 pub record IsReading (sum : List ℕ → ℕ) (size : ℕ) (log : List ℕ) (H : History) (s : Segment) : Type 0 where
@@ -87,6 +90,10 @@ pub record Hides (sum : List ℕ → ℕ) (size : ℕ) (s : State) (m : Machine)
       → IsHeader sum (part (cleared size m line s.log.bytes) (k * size) 20) (pos place) mark ⊎ IsGone sum size s m base H k place mark
   -- no two slots have headers of one segment
   pub alone : (j k place : ℕ) (mark other : ℤ) → least ≤ place → IsOwnHeader sum size s j place mark → IsOwnHeader sum size s k place other → j ≡ k
+
+-- So it is from the snapshot on with which a log began. As yet no segment is gone: none ends at 0.
+abbrev pub HidesFrom : (List ℕ → ℕ) → ℕ → State → Machine → List SegmentView → History → Type 0
+HidesFrom sum size s m line H = (first : SnapshotModel) → BeginsFrom sum s.snapshots.file first → Hides sum size s m line (least_place size first) 0 H
 
 -- What is shown of a log file is read of bytes that count: a header that is shown is that of the segment that its slot has, and stands in the file, and so does
 -- each record that a reader of the segment reads.

@@ -13,6 +13,7 @@ use Rattle.sled_core.specs.Begun.{SegmentParts, SegmentView}
 use Rattle.sled_core.specs.inside.Begun.{first_place, line_end}
 use Rattle.sled_core.specs.inside.Fits.{FitsBatches, LogParts, begun_segment, log_parts, parts_in, HoldsIn, written_to}
 use Rattle.sled_core.specs.inside.FreeSlots.{HasSlots}
+use Rattle.sled_core.specs.inside.Hides.{HidesFrom}
 use Rattle.sled_core.specs.Logged.{logged}
 use Rattle.sled_core.specs.inside.Numbers.{HasNumbers, HaveSlotsFrom, NumbersStay}
 use Rattle.sled_core.specs.OpenBatches.{stable_below}
@@ -119,6 +120,8 @@ pub record FitsShown (sum : List ℕ → ℕ) (noted : List Batch) (size : ℕ) 
     (pins : ℕ) (H : History) (A f : ℕ) (U : List Message) : Type 0 where
   pub shows : FitsWith sum noted size (shown size fault m line device) fault line m pins H A f U
   pub file : IsAsShown size fault m line device.log
+  -- and this is what the file has besides
+  pub hides : fault ≡ None → NoHeaderOfZeros sum → HidesFrom sum size device m line (logged H)
 
 -- Snapshot and device are ready for a log that fits this history, the end of what was acknowledged and the floor. Log file and snapshots have records and
 -- tables, so they are ready for the history as the log has it; the blobs have the items of the history itself.

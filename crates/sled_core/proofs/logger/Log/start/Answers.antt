@@ -183,7 +183,8 @@ returns-in-Ok-clause-history g c = λ H ready.
     let names_now = ap (λ (t : Trace). (state_of t).snapshots.file) c.in-Ok.ensures.made ∙ ap (λ (n : NamesState). n.file) (started-snapshots size some old.log.bytes s (g.D.Device.trace c.args.config.device)) in
     let first = c.in-Ok.ensures.buffer in
     let holds = begins_ready g.C.Checksum.sum_of size old now s R c.in-Ok.buffer.bytes.items c.args.config.config.least of_log c.in-Ok.ensures.answers.0 log_now names_now c.in-Ok.beginning c.in-Ok.ensures.beginning first.header first.resumed in
-    holds_begun g.C.Checksum.sum_of _ (let same = ap (λ (x : Config). x.segment_size) c.begin.ensures.config in omega (arith, some, same)) _ _ _ _ R (record {
+    holds_begun g.C.Checksum.sum_of _ (let same = ap (λ (x : Config). x.segment_size) c.begin.ensures.config in omega (arith, some, same))
+    (g.D.Device.trace c.begin.new.config.device) _ _ _ R (record {
       holds = subst (λ (ss : List SegmentBuffer). HoldsLine g.C.Checksum.sum_of c.begin.new.config.config.segment_size now None (line_at (record { place = c.in-Ok.beginning.place; slot = c.in-Ok.beginning.slot }) c.in-Ok.buffer ss) R) (sym c.no_segments.ensures)
           (subst (λ (n : ℕ). HoldsIn g.C.Checksum.sum_of (log_parts n (record { place = c.in-Ok.beginning.place; slot = c.in-Ok.beginning.slot }) now None c.in-Ok.buffer.bytes.items c.in-Ok.buffer.written_len c.in-Ok.buffer.sealed.items c.in-Ok.buffer.reserved.items) [] R)
           (sym (ap (λ (x : Config). x.segment_size) c.begin.ensures.config))
@@ -225,7 +226,7 @@ returns-in-Ok-clause-fits g c = λ H A f ready.
     (start_fits g.C.Checksum.sum_of size (state_of old) now s H A f c.args.config.config.least ready c.in-Ok.ensures.answers.0
     log_now (ap (λ (t : Trace). (state_of t).blobs) c.in-Ok.ensures.made ∙ started-blobs size some (state_of old).log.bytes s old) (ap (λ (t : Trace). (state_of t).snapshots) c.in-Ok.ensures.made ∙ started-snapshots size some (state_of old).log.bytes s old)
     c.in-Ok.beginning c.in-Ok.ensures.beginning c.in-Ok.buffer.bytes.items c.in-Ok.buffer.written_len c.in-Ok.buffer.sealed.items c.in-Ok.buffer.reserved.items first.header first.resumed first.from first.sealed first.reserved)) in
-    fits_begun g.C.Checksum.sum_of _ (omega (arith, some, same)) _ _ _ _ _ H A f [] (record {
+    fits_begun g.C.Checksum.sum_of _ (omega (arith, some, same)) (g.D.Device.trace c.begin.new.config.device) _ _ _ _ H A f [] (record {
       reach = c.in-Ok.beginning.place + c.in-Ok.beginning.offset;
       parts = parts;
       batches = started_batches c.begin.new.config.config.segment_size (view_at (record { place = c.in-Ok.beginning.place; slot = c.in-Ok.beginning.slot }) c.in-Ok.buffer) (map segment_view c.no_segments.result.items) (logged H) c.new-in-Ok.ensures.noted

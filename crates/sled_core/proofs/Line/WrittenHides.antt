@@ -28,7 +28,7 @@ use Rattle.sled_core.specs.inside.Turned.{begin_at, written_now}
 use Rattle.sled_core.proofs.OwnLog.BufferPlaces.{buffer_places}
 use Rattle.sled_core.proofs.Cleared.Offsets.{LineRises, OthersBeside, slot_is, zeroed_long}
 use Rattle.sled_core.proofs.Cleared.Moves.{cleared_written, within}
-use Rattle.sled_core.proofs.Freed.Hides.{gone_less}
+use Rattle.sled_core.proofs.Numbers.Hides.{gone_less}
 use Rattle.sled_core.proofs.Numbers.OwnLess.{less_synced}
 use Rattle.sled_core.proofs.OwnLog.WrittenOwn.{header_or_written, header_synced, record_or_written, record_synced}
 use Rattle.sled_core.proofs.Line.LineEnds.{end_set}

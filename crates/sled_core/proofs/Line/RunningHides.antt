@@ -29,9 +29,9 @@ use Rattle.sled_core.specs.inside.Tail.{least_place}
 use Rattle.sled_core.specs.inside.Turned.{begin_at, next_line, promoted, written_now}
 use Rattle.sled_core.specs.OpenBatches.{stable_below}
 use Rattle.sled_core.proofs.Freed.FreedHides.{hides_freed}
-use Rattle.sled_core.proofs.Freed.LineHides.{hides_left, hides_next}
-use Rattle.sled_core.proofs.Freed.Quiet.{aligned, line_beside, quiet_shown}
-use Rattle.sled_core.proofs.Freed.WrittenHides.{hides_written}
+use Rattle.sled_core.proofs.Line.LineHides.{hides_left, hides_next}
+use Rattle.sled_core.proofs.Line.Quiet.{aligned, line_beside, quiet_shown}
+use Rattle.sled_core.proofs.Line.WrittenHides.{hides_written}
 use Rattle.sled_core.proofs.Holds.Facts.{IsSegment}
 use Rattle.sled_core.proofs.Holds.Nth.{last_get}
 use Rattle.sled_core.proofs.Line.PlacedWrite.{begins_so}
