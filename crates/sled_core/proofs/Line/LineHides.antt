@@ -1,32 +1,22 @@
 -- What a log file has besides what is shown stays so where a segment is begun in a free slot, and where segments that are wholly written leave the line.
-use Rattle.std.proofs.Common.{◌≡◌, ◌≢◌, ◌∙◌, ◌+◌, ◌*◌, ◌/◌, ◌%◌, ◌^◌, ◌≤◌, ◌<◌, ℕ, suc, pos, Some, Bool, true, false, if◌then◌else◌, List, [], ◌∷◌, ◌++◌, length, length-append, set, refl, sym, ap, subst, arith, inl, inr}
-use Rattle.std.specs.List.{slice_get}
-use Rattle.std.proofs.Math.Nat.{mul-le-mul_right, suc-mul}
-use Rattle.std.proofs.lemmas.Bool.{cases_eq, cases_lt}
+use Rattle.std.proofs.Common.{◌≡◌, ◌∙◌, ◌+◌, ◌*◌, ◌/◌, ◌%◌, ◌^◌, ◌≤◌, ◌<◌, ℕ, suc, true, List, [], ◌∷◌, ◌++◌, length, length-append, refl, ap, arith}
+use Rattle.std.proofs.Math.Nat.{suc-mul}
 use Rattle.sled_codec.specs.History.{History}
-use Rattle.sled_codec.specs.Places.{part}
-use Rattle.sled_codec.specs.Record.{IsHeader}
 use Rattle.sled_store.specs.Device.{State}
 use Rattle.sled_store.specs.SegmentStates.{Machine, SlotState, handed_out, is_free, next_slot, slot_at}
-use Rattle.sled_store.proofs.Marks.MarkSteps.{SameSegments}
-use Rattle.sled_core.specs.declared.iobuf.Reserved.{Reserved}
-use Rattle.sled_core.specs.declared.iobuf.ReservationState.{ReservationState}
 use Rattle.sled_core.specs.Begun.{SegmentView, begin_of}
-use Rattle.sled_core.specs.Positions.{is_short}
-use Rattle.sled_core.specs.Waiting.{as_sealed, at_last, closed_now, holds_any, last_of, sealed_now, turned_now}
+use Rattle.sled_core.specs.Waiting.{at_last, closed_now, last_of}
 use Rattle.sled_core.specs.inside.Begun.{line_end}
-use Rattle.sled_core.specs.inside.Cleared.{cleared}
-use Rattle.sled_core.specs.inside.Hides.{Hides, IsOwnRecord}
-use Rattle.sled_core.specs.inside.Turned.{begun_view, ended_now, next_line, promoted, reserved_now}
-use Rattle.sled_core.proofs.Cleared.Calls.{cleared_ended, cleared_marked, cleared_next, cleared_reserved, cleared_sealed}
+use Rattle.sled_core.specs.inside.Hides.{Hides}
+use Rattle.sled_core.specs.inside.Turned.{begun_view, next_line, promoted}
+use Rattle.sled_core.proofs.Cleared.Calls.{cleared_next}
 use Rattle.sled_core.proofs.Cleared.Moves.{cleared_promoted}
 use Rattle.sled_core.proofs.Numbers.HidesAs.{hides_as, hides_begun}
 use Rattle.sled_core.proofs.Line.Closes.{filled_site}
-use Rattle.sled_core.proofs.Line.LineEnds.{end_at_last, end_left, end_set}
+use Rattle.sled_core.proofs.Line.LineEnds.{end_at_last, end_left}
 use Rattle.sled_core.proofs.Line.Segments.{AreSegments}
 use Rattle.sled_core.proofs.Line.Shown.{line_rises}
 use Rattle.sled_core.proofs.Start.OwnSlots.{handed_other, handed_there}
-use Rattle.sled_core.proofs.Tail.Multiples.{put_down}
 
 -- One segment more ends where the next one begins.
 end_put : (size : ℕ) (line : List SegmentView) (v : SegmentView) → 0 < length line → line_end size (line ++ v ∷ []) ≡ line_end size line + size

@@ -1,6 +1,6 @@
 -- A log writes a buffer: what its file has besides what is shown is what it may have behind the call, from the snapshot on with which the log began.
 use Rattle.std.specs.declared.io.Error.{Error as IoError}
-use Rattle.std.proofs.Common.{◌≡◌, ℕ, true, List, [], ◌∷◌, length, map, set, Option, Some, None, refl, sym, ap, subst, arith, ◌≤◌}
+use Rattle.std.proofs.Common.{◌≡◌, ℕ, true, List, [], ◌∷◌, map, set, Option, Some, None, sym, subst, arith, ◌≤◌}
 use Rattle.std.specs.List.{slice_get}
 use Rattle.sled_codec.specs.History.{Batch, History, Message}
 use Rattle.sled_codec.specs.Snapshots.{SnapshotModel}

@@ -6,7 +6,6 @@ use Rattle.std.proofs.lemmas.Bool.{cases_eq, cases_lt}
 use Rattle.sled_codec.specs.History.{History}
 use Rattle.sled_codec.specs.Places.{part}
 use Rattle.sled_codec.specs.Record.{IsHeader}
-use Rattle.sled_codec.specs.Snapshots.{SnapshotModel}
 use Rattle.sled_store.specs.Device.{State}
 use Rattle.sled_store.specs.SegmentStates.{Machine, SlotState, is_free, slot_at}
 use Rattle.sled_store.specs.SnapshotFiles.{BeginsFrom}
@@ -94,7 +93,6 @@ module _ (sum : List ℕ → ℕ) (size : ℕ) (s : State) (least base : ℕ) (H
 
       was_used : (j : ℕ) → j ≢ k → is_free (slot_at m' j).state ≡ false → is_free (slot_at m j).state ≡ false
       was_used j other used = ap (λ (x : SlotState). is_free x.state) (sym (others j other)) ∙ used
-
 
 -- As yet no segment is gone, so it is the same for each history.
 pub hides_whatever : (sum : List ℕ → ℕ) (size : ℕ) → 0 < size → (s : State) (m : Machine) (line : List SegmentView) (least : ℕ) (H H' : History)

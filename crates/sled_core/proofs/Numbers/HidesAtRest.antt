@@ -1,10 +1,10 @@
 -- A log begins: what its file has besides what is shown is what its numbers and its slots leave, as long as all of the file is shown.
-use Rattle.std.proofs.Common.{◌≡◌, ◌∙◌, ◌*◌, ◌/◌, ℕ, pos, List, length, sym, subst, inl}
+use Rattle.std.proofs.Common.{◌≡◌, ◌∙◌, ◌*◌, ℕ, pos, List, length, sym, subst, inl}
 use Rattle.sled_codec.specs.History.{History}
 use Rattle.sled_codec.specs.Places.{part}
 use Rattle.sled_codec.specs.Record.{IsHeader}
 use Rattle.sled_store.specs.Device.{Trace, at_rest, state_of}
-use Rattle.sled_store.specs.SegmentStates.{Machine, slot_at}
+use Rattle.sled_store.specs.SegmentStates.{Machine}
 use Rattle.sled_core.specs.Begun.{SegmentView}
 use Rattle.sled_core.specs.inside.Begun.{line_end}
 use Rattle.sled_core.specs.inside.Cleared.{cleared}

@@ -51,7 +51,7 @@ module _ (sum : List ℕ → ℕ) (size : ℕ) (t : Trace) (bytes : List ℕ) (r
     | inl asked ↦ absurd (in_nothing (p.at, p.bytes) (subst (λ (l : LogState). Contains l.asked (p.at, p.bytes)) rests asked))
     | inr seen ↦ subst (StandsIn at text) (ap (λ (l : LogState). l.settled) rests)
         (All-head (StandsIn at text) (state_of t).log.settled seen.0 (subst (λ (l : List (List ℕ)). HasStood
-            (record { at = p.at; bytes = p.bytes; since = l }) at text) seen.1 stood))
+        (record { at = p.at; bytes = p.bytes; since = l }) at text) seen.1 stood))
   ]
 
   -- So a record that is own stands in it,

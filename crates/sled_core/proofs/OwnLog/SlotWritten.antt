@@ -61,7 +61,7 @@ module _ (sum : List ℕ → ℕ) (size : ℕ) (s : State) (m : Machine) (end : 
       slots.one k j used taken (let rows = ap (λ n. n * size) same in omega (arith, mod-add-div' (slot_at m j).lsn size, its, rows, begins, lsn))
 
   pub numbers_written : ((number lid : ℕ) (text : List ℕ) → RecordWasPlaced sum size (its ∷ []) number lid text
-          → (kind : MessageKind) (page : ℕ) (body : List ℕ) → IsRecord sum text kind page number body → number ≡ place / size)
+      → (kind : MessageKind) (page : ℕ) (body : List ℕ) → IsRecord sum text kind page number body → number ≡ place / size)
       → ((j p : ℕ) (mark : ℤ) (text : List ℕ) → IsHeader sum text (pos p) mark → HeaderWasPlaced (its ∷ []) (j * size) text → (j ≡ k) × (p ≡ place))
       → HasNumbers sum size (step (Wrote at asked now) s) m end
   numbers_written records headers = record {

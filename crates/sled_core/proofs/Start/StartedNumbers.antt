@@ -123,7 +123,7 @@ next_is_free size len s = subst IsFree (sym (next_started size len s)) (elim (fi
   | inl there ↦ (
       let its = All-contains (λ k. (k < slots) × (is_used size s k ≡ false)) free lowest (free_below (is_used size s) slots) there in
       ap (λ (x : SlotState). is_free x.state)
-          (get_or-map-range_with_len (λ j. found_slot size s j (number_in size j (all_entries s))) 0 slots lowest lowest free_slot its.0 (omega arith))
+      (get_or-map-range_with_len (λ j. found_slot size s j (number_in size j (all_entries s))) 0 slots lowest lowest free_slot its.0 (omega arith))
       ∙ free_found size s lowest
       ∙ ap not its.1)
   | inr behind ↦ subst IsFree (sym behind) (ap (λ (x : SlotState). is_free x.state) (get_or_past (found size slots s).slots slots free_slot
@@ -306,7 +306,7 @@ module _ (sum : List ℕ → ℕ) (size : ℕ) (long : 256 ≤ size) (zeros : No
         (λ e there. low_active size (length log) some s startable a e (subst (λ (o : Option ℕ). Ends o e) active there)))
     by None none =
         numbers_handed sum size some start (next_within size (length log) s) (next_is_free size (length log) s) (raised size stable) now
-            (raised size stable + size) (ap (λ n. n * size) (mul-div_cancel ((stable + (size - 1)) / size) some)) (omega arith)
+        (raised size stable + size) (ap (λ n. n * size) (mul-div_cancel ((stable + (size - 1)) / size) some)) (omega arith)
         (numbers_started (raised size stable) (own_started size (length log) some s startable (raised size stable)
         (λ e there. low_raised size (length log) some s startable e (subst (λ (o : Option ℕ). Ends o e) none there))))
 
@@ -315,7 +315,7 @@ module _ (sum : List ℕ → ℕ) (size : ℕ) (long : 256 ≤ size) (zeros : No
   start_numbers same {m} machine v site =
       let place : v.parts.site.place ≡ place_at size stable s.active =
       ap (λ (p : SegmentPosition). p.place) site ∙ begins_place size (slots_of size (length log)) stable
-          (unused size (slots_of size (length log)) s) s.active in
+      (unused size (slots_of size (length log)) s) s.active in
       subst (λ n. HasNumbers sum n now m (line_end n (v ∷ []))) (sym same)
       (subst (λ (x : Machine). HasNumbers sum size now x (line_end size (v ∷ []))) (sym machine)
       (subst (HasNumbers sum size now (begun_machine size (length log) s)) (omega (arith, place)) numbers_begun))
