@@ -14,7 +14,6 @@ use Rattle.sled_store.specs.Device.{Event, Placement, State, Synced, Wrote, step
 use Rattle.sled_store.specs.Foreign.{HeaderWasPlaced}
 use Rattle.sled_store.specs.SegmentStates.{Machine}
 use Rattle.sled_store.specs.inside.Script.{Along}
-use Rattle.sled_store.proofs.Segments.Elements.{in_cases, in_nothing}
 use Rattle.sled_store.proofs.Segments.FilledLemmas.{slot_before}
 use Rattle.sled_core.specs.Begun.{SegmentView}
 use Rattle.sled_core.specs.SealedBuffers.{sealed_count}
@@ -38,7 +37,7 @@ use Rattle.sled_core.proofs.OwnLog.BufferPlaces.{buffer_places}
 use Rattle.sled_core.proofs.Numbers.OwnLess.{less_synced}
 use Rattle.sled_core.proofs.Numbers.Stay.{numbers_less}
 use Rattle.sled_core.proofs.OwnLog.SlotWritten.{numbers_written}
-use Rattle.sled_core.proofs.OwnLog.WrittenOwn.{new}
+use Rattle.sled_core.proofs.OwnLog.WrittenOwn.{new, placed_first}
 use Rattle.sled_core.proofs.Reached.BufferPath.{buffer_header}
 use Rattle.sled_core.proofs.Read.FoundLemmas.{pos_injective}
 use Rattle.sled_core.proofs.Reserve.Ranges.{at_there}
@@ -130,23 +129,18 @@ module _ (sum : List ℕ → ℕ) (size : ℕ) (big : 256 ≤ size) (device : St
 
     headers_placed : (j p : ℕ) (mark : ℤ) (text : List ℕ) → IsHeader sum text (pos p) mark → HeaderWasPlaced (its_write ∷ []) (j * size) text
         → (j ≡ has_slot.number) × (p ≡ v.parts.site.place)
-    unfolding HeaderWasPlaced
-    headers_placed j p mark text header laid = elim (in_cases its_write laid.0 [] laid.1) [
-      | inr nothing ↦ absurd (in_nothing laid.0 nothing)
-      | inl same ↦ (
-          let number : ℕ = has_slot.number in
-          let lies_there = has_slot.lies in
-          let at : slot + begin ≡ j * size = ap (λ (w : Placement). w.at) same ∙ laid.2 in
-          let low = below in
-          let here : j ≡ number = elim (cases_order j number) [
-            | inl is ↦ is
-            | inr (inl lower) ↦ absurd (let far = slot_before size j number lower in omega (arith, far, lies_there, at, big))
-            | inr (inr higher) ↦ absurd (let far = slot_before size number j higher in omega (arith, far, lies_there, at, low))
-          ] in
-          let at_first : begin ≡ 0 = (let rows = ap (λ i. i * size) here in omega (arith, at, lies_there, rows)) in
-          let is : take 20 asked ≡ text = ap (λ (w : Placement). take 20 w.bytes) same ∙ laid.3 in
-          (here, head_is at_first text is p mark header))
-    ]
+    headers_placed j p mark text header laid =
+        let number : ℕ = has_slot.number in
+        let lies_there = has_slot.lies in
+        let its = placed_first its_write (j * size) text laid in
+        let low = below in
+        let here : j ≡ number = elim (cases_order j number) [
+          | inl is ↦ is
+          | inr (inl lower) ↦ absurd (let far = slot_before size j number lower in omega (arith, far, lies_there, its.0, big))
+          | inr (inr higher) ↦ absurd (let far = slot_before size number j higher in omega (arith, far, lies_there, its.0, low))
+        ] in
+        let at_first : begin ≡ 0 = (let rows = ap (λ i. i * size) here in omega (arith, its.0, lies_there, rows)) in
+        (here, head_is at_first text its.1 p mark header)
 
     -- Behind the write it is so still,
     numbers_behind_write : HasNumbers sum size (step (Wrote (slot + begin) asked now) device) m (line_end size line)

@@ -9,12 +9,11 @@ use Rattle.sled_codec.specs.History.{History}
 use Rattle.sled_codec.specs.Places.{part}
 use Rattle.sled_codec.specs.Record.{IsHeader, short_header}
 use Rattle.sled_codec.proofs.Segments.{length-short_header, one_header}
-use Rattle.sled_store.specs.Device.{Placement, State, Synced, Wrote, overwritten, step}
+use Rattle.sled_store.specs.Device.{State, Synced, Wrote, overwritten, step}
 use Rattle.sled_store.specs.Foreign.{Covers, HeaderWasPlaced, RecordWasPlaced}
 use Rattle.sled_store.specs.SegmentStates.{Machine, slot_at}
 use Rattle.sled_store.proofs.LogFile.OverwrittenLemmas.{length-overwritten}
 use Rattle.sled_store.proofs.Own.ReachedLemmas.{record_some}
-use Rattle.sled_store.proofs.Segments.Elements.{in_cases, in_nothing}
 use Rattle.sled_core.specs.declared.iobuf.Reserved.{Reserved}
 use Rattle.sled_core.specs.declared.iobuf.Sealed.{Sealed}
 use Rattle.sled_core.specs.Begun.{SegmentView}
@@ -30,7 +29,8 @@ use Rattle.sled_core.proofs.Cleared.Offsets.{LineRises, OthersBeside, slot_is, z
 use Rattle.sled_core.proofs.Cleared.Moves.{cleared_written, within}
 use Rattle.sled_core.proofs.Numbers.Hides.{gone_less}
 use Rattle.sled_core.proofs.Numbers.OwnLess.{less_synced}
-use Rattle.sled_core.proofs.OwnLog.WrittenOwn.{header_or_written, header_synced, record_or_written, record_synced}
+use Rattle.sled_core.proofs.OwnLog.Placed.{asked_now}
+use Rattle.sled_core.proofs.OwnLog.WrittenOwn.{header_or_written, header_synced, placed_covers, placed_first, record_or_written, record_synced}
 use Rattle.sled_core.proofs.Line.LineEnds.{end_set}
 use Rattle.sled_core.proofs.Read.FoundLemmas.{pos_injective}
 use Rattle.sled_core.proofs.Reserve.Ranges.{chain_grows}
@@ -75,25 +75,6 @@ module _ (shown log : List ℕ) (same : length shown ≡ length log) (at : ℕ) 
           | inl before ↦ outside i below (inl before)
           | inr low ↦ elim (cases_lt (lid + i) (at + length xs)) [ inl high ↦ inside i below low high | inr behind ↦ outside i below (inr behind) ]
         ]
-
--- What a write of its own covers, and the header with which it begins.
-module _ (sum : List ℕ → ℕ) (size : ℕ) (at : ℕ) (xs : List ℕ) where
-  abbrev pub written : Placement
-  written = record { at = at; bytes = xs; since = [] }
-
-  covered : (number lid : ℕ) (text : List ℕ) → RecordWasPlaced sum size (written ∷ []) number lid text → Covers (at, xs) lid text
-  unfolding RecordWasPlaced
-  covered number lid text (write, among, covers, reached, stood) = elim (in_cases written write [] among) [
-    | inl same ↦ subst (λ (w : Placement). Covers (w.at, w.bytes) lid text) (sym same) covers
-    | inr none ↦ absurd (in_nothing write none)
-  ]
-
-  begins_with : (lid : ℕ) (text : List ℕ) → HeaderWasPlaced (written ∷ []) lid text → (at ≡ lid) × (take 20 xs ≡ text)
-  unfolding HeaderWasPlaced
-  begins_with lid text (write, among, here, is, stood) = elim (in_cases written write [] among) [
-    | inl same ↦ (ap (λ (w : Placement). w.at) same ∙ here, ap (λ (w : Placement). take 20 w.bytes) same ∙ is)
-    | inr none ↦ absurd (in_nothing write none)
-  ]
 
 -- What is shown is read of bytes that count (`Quiet: shown_read` says so of a log that runs). The segment has its slot, as each slot that isn't free has its
 -- own (`HasSlots`), and its buffers lie one behind another (`IsSegment`). The buffer's entries stand in its bytes, and where it has the header it begins
@@ -173,15 +154,15 @@ module _ (sum : List ℕ → ℕ) (size : ℕ) (some : 256 ≤ size) (s : State)
 
   -- A record that the write placed is of the segment's number, and lies in its slot.
   module _ (number lid : ℕ) (text : List ℕ) (r : IsOwnRecord sum size behind number lid text)
-      (placed : RecordWasPlaced sum size (written sum size at xs ∷ []) number lid text) where
+      (placed : RecordWasPlaced sum size (asked_now at xs ∷ []) number lid text) where
     its_number : number ≡ place / size
     its_number =
         (buffer_places sum size v.parts.site (ap (λ i. i % size) has.lies ∙ mul-mod_left has.number size) place_small v.parts.bytes begin b.end rows.2 inside
-        (omega (arith, rows.1, rows.2)) begins entries chain stand (written sum size at xs) refl refl number lid text placed r.kind r.page r.body r.is).0
+        (omega (arith, rows.1, rows.2)) begins entries chain stand (asked_now at xs) refl refl number lid text placed r.kind r.page r.body r.is).0
 
     its_slot : (j : ℕ) → LiesInSlot size j lid text → j ≡ has.number
     its_slot j (low, high) =
-        let c = covered sum size at xs number lid text placed in
+        let c = placed_covers sum size (asked_now at xs) number lid text placed in
         let from = c.begins in
         let to = c.ends in
         let lies = has.lies in
@@ -191,7 +172,7 @@ module _ (sum : List ℕ → ℕ) (size : ℕ) (some : 256 ≤ size) (s : State)
 
   -- A record that is own behind the write was own before, or the write placed it.
   old_or_new : (number lid : ℕ) (text : List ℕ) → IsOwnRecord sum size behind number lid text
-      → IsOwnRecord sum size s number lid text ⊎ RecordWasPlaced sum size (written sum size at xs ∷ []) number lid text
+      → IsOwnRecord sum size s number lid text ⊎ RecordWasPlaced sum size (asked_now at xs ∷ []) number lid text
   old_or_new number lid text r = record_or_written sum size s at xs xs number lid text ((less_synced sum size under_way).records number lid text r)
 
   -- And so it is with a header; what the write placed is that of the segment.
@@ -199,7 +180,7 @@ module _ (sum : List ℕ → ℕ) (size : ℕ) (some : 256 ≤ size) (s : State)
     abbrev was : IsOwnHeader sum size under_way j lid mark
     was = (less_synced sum size under_way).headers j lid mark h
 
-    header_old_or_new : IsOwnHeader sum size s j lid mark ⊎ HeaderWasPlaced (written sum size at xs ∷ []) (j * size) was.text
+    header_old_or_new : IsOwnHeader sum size s j lid mark ⊎ HeaderWasPlaced (asked_now at xs ∷ []) (j * size) was.text
     header_old_or_new = header_or_written sum size s at xs xs j lid mark was
 
     header_long : length was.text ≡ 20
@@ -211,7 +192,7 @@ module _ (sum : List ℕ → ℕ) (size : ℕ) (some : 256 ≤ size) (s : State)
       place : lid ≡ v.parts.site.place
       shown : IsHeader sum (part after (j * size) 20) (pos lid) mark
 
-    its_header : HeaderWasPlaced (written sum size at xs ∷ []) (j * size) was.text → IsItsHeader
+    its_header : HeaderWasPlaced (asked_now at xs ∷ []) (j * size) was.text → IsItsHeader
     its_header placed = record {
       slot = here;
       place = pos_injective lid place (one_header sum was.text (pos lid) mark (pos place) (header first).0 was.is
@@ -220,7 +201,7 @@ module _ (sum : List ℕ → ℕ) (size : ℕ) (some : 256 ≤ size) (s : State)
           (sym (ap (part after (j * size)) (sym header_long) ∙ laid (j * size) was.text covers)) was.is;
     } where
       both : (at ≡ j * size) × (take 20 xs ≡ was.text)
-      both = begins_with sum size at xs (j * size) was.text placed
+      both = placed_first (asked_now at xs) (j * size) was.text placed
 
       here : j ≡ has.number
       here =
@@ -296,7 +277,7 @@ module _ (sum : List ℕ → ℕ) (size : ℕ) (some : 256 ≤ size) (s : State)
       | inr new ↦ (
         (let here = ap (λ i. (slot_at m i).lsn) (its_slot number lid text r new j lies) ∙ has.is in
             omega (arith, its_number number lid text r new ∙ ap (λ i. i / size) (sym here))),
-        λ same. laid lid text (covered sum size at xs number lid text new),
+        λ same. laid lid text (placed_covers sum size (asked_now at xs) number lid text new),
       )
     ];
     free = λ i number lid text lies r j used same. elim (old_or_new number lid text r) [

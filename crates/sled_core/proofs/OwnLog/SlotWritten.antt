@@ -1,20 +1,19 @@
 -- A write into the slot of a segment, of records of its number alone, and of its header where it begins there: nothing own has a greater number behind it than
 -- before.
-use Rattle.std.proofs.Common.{◌≡◌, ◌∙◌, ◌+◌, ◌*◌, ◌/◌, ◌<◌, ◌≤◌, ℕ, ℤ, pos, false, List, [], ◌∷◌, length, sym, ap, subst, arith, inl, inr}
+use Rattle.std.proofs.Common.{◌≡◌, ◌∙◌, ◌+◌, ◌*◌, ◌/◌, ◌<◌, ◌≤◌, ℕ, ℤ, pos, false, List, [], ◌∷◌, length, sym, ap, arith, inl, inr}
 use Rattle.std.proofs.Math.Nat.{mod-add-div'}
 use Rattle.std.proofs.lemmas.Bool.{cases_order}
 use Rattle.sled_codec.specs.declared.serialization.message.MessageKind.{MessageKind}
 use Rattle.sled_codec.specs.Record.{IsHeader, IsRecord}
 use Rattle.sled_store.specs.Device.{Placement, State, Wrote, step}
-use Rattle.sled_store.specs.Foreign.{Covers, HeaderWasPlaced, RecordWasPlaced}
+use Rattle.sled_store.specs.Foreign.{HeaderWasPlaced, RecordWasPlaced}
 use Rattle.sled_store.specs.SegmentStates.{Machine, is_free, slot_at}
 use Rattle.sled_store.proofs.Own.ReachedLemmas.{record_some}
-use Rattle.sled_store.proofs.Segments.Elements.{in_cases, in_nothing}
 use Rattle.sled_store.proofs.Segments.FilledLemmas.{slot_before}
 use Rattle.sled_core.specs.inside.FreeSlots.{HaveOwn}
 use Rattle.sled_core.specs.inside.Hides.{IsOwnRecord, LiesInSlot}
 use Rattle.sled_core.specs.inside.Numbers.{HasNumbers}
-use Rattle.sled_core.proofs.OwnLog.WrittenOwn.{header_or_written, new, record_or_written}
+use Rattle.sled_core.proofs.OwnLog.WrittenOwn.{header_or_written, new, placed_covers, record_or_written}
 
 -- what has some length lies in one slot
 one_slot : (size j k at : ℕ) (text : List ℕ) → 0 < length text → LiesInSlot size j at text → LiesInSlot size k at text → j ≡ k
@@ -24,16 +23,8 @@ one_slot size j k at text some here there = elim (cases_order j k) [
   | inr (inr higher) ↦ absurd (let far = slot_before size k j higher in omega (arith, far, there.1, here.0, some))
 ]
 
--- a record that a write placed lies in it
-placed_covers : (sum : List ℕ → ℕ) (size : ℕ) (p : Placement) (number lid : ℕ) (text : List ℕ) → RecordWasPlaced sum size (p ∷ []) number lid text
-    → Covers (p.at, p.bytes) lid text
-unfolding RecordWasPlaced
-placed_covers sum size p number lid text laid = elim (in_cases p laid.0 [] laid.1) [
-  | inl same ↦ subst (λ (w : Placement). Covers (w.at, w.bytes) lid text) (sym same) laid.2
-  | inr none ↦ absurd (in_nothing laid.0 none)
-]
-
-module _ (sum : List ℕ → ℕ) (size : ℕ) (s : State) (m : Machine) (end : ℕ) (has : HasNumbers sum size s m end) (slots : HaveOwn size end m) (some : 0 < size) (at : ℕ) (asked now : List ℕ)
+module _ (sum : List ℕ → ℕ) (size : ℕ) (s : State) (m : Machine) (end : ℕ) (has : HasNumbers sum size s m end) (slots : HaveOwn size end m) (some : 0 < size)
+    (at : ℕ) (asked now : List ℕ)
     (k place : ℕ) (used : is_free (slot_at m k).state ≡ false) (lsn : (slot_at m k).lsn ≡ place) (below : place < end) (begins : place / size * size ≡ place)
     (low : k * size ≤ at) (high : at + length asked ≤ k * size + size) where
   abbrev its : Placement

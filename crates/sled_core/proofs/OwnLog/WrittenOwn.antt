@@ -1,12 +1,28 @@
 -- What is the log's own behind a write: it was own before, or the write placed it. And behind a sync all that is own stands in the file.
-use Rattle.std.proofs.Common.{◌≡◌, ◌⊎◌, ◌*◌, ℕ, ℤ, List, [], ◌∷◌, length, subst, inl, inr}
+use Rattle.std.proofs.Common.{◌≡◌, ◌⊎◌, ◌∙◌, ◌*◌, ℕ, ℤ, List, [], ◌∷◌, length, take, sym, ap, subst, inl, inr}
 use Rattle.sled_codec.specs.Places.{part}
 use Rattle.sled_store.specs.Device.{Placement, State, Synced, Wrote, step}
-use Rattle.sled_store.specs.Foreign.{HeaderWasPlaced, RecordWasPlaced}
+use Rattle.sled_store.specs.Foreign.{Covers, HeaderWasPlaced, RecordWasPlaced}
 use Rattle.sled_store.proofs.Crashes.StoodLemmas.{header_stands, record_stands}
-use Rattle.sled_store.proofs.Segments.Elements.{in_cases, in_first}
+use Rattle.sled_store.proofs.Segments.Elements.{in_cases, in_first, in_nothing}
 use Rattle.sled_core.specs.inside.Hides.{IsOwnHeader, IsOwnRecord}
 use Rattle.std.specs.List.{Contains}
+
+-- What one write placed is a part of it, or its first bytes.
+pub placed_covers : (sum : List ℕ → ℕ) (size : ℕ) (p : Placement) (number lid : ℕ) (text : List ℕ) → RecordWasPlaced sum size (p ∷ []) number lid text
+    → Covers (p.at, p.bytes) lid text
+unfolding RecordWasPlaced
+placed_covers sum size p number lid text laid = elim (in_cases p laid.0 [] laid.1) [
+  | inl same ↦ subst (λ (w : Placement). Covers (w.at, w.bytes) lid text) (sym same) laid.2
+  | inr none ↦ absurd (in_nothing laid.0 none)
+]
+
+pub placed_first : (p : Placement) (lid : ℕ) (text : List ℕ) → HeaderWasPlaced (p ∷ []) lid text → (p.at ≡ lid) × (take 20 p.bytes ≡ text)
+unfolding HeaderWasPlaced
+placed_first p lid text laid = elim (in_cases p laid.0 [] laid.1) [
+  | inl same ↦ (ap (λ (w : Placement). w.at) same ∙ laid.2, ap (λ (w : Placement). take 20 w.bytes) same ∙ laid.3)
+  | inr none ↦ absurd (in_nothing laid.0 none)
+]
 
 module _ (sum : List ℕ → ℕ) (size : ℕ) (s : State) where
   -- Behind a write it was own before, or the write placed it.
